@@ -20,16 +20,16 @@ use Rattle.mm_base.specs.declared.replay_fault.ReplayFault.TheVariants as replay
 use Rattle.mm_recovery.specs.declared.fault.HostFault.TheVariants as host
 use Rattle.std.specs.Prelude.{◌≢◌}
 use Rattle.mm_base.specs.Input.{lines_of}
-use Rattle.mm_host.proofs.Above.{among_input}
+use Rattle.mm_host.proofs.Above.{among_input, unless_full}
 use Rattle.mm_host.specs.AnySlots.{requests_with}
 use Rattle.mm_host.specs.Continuing.{RefusesAs}
 use Rattle.mm_recovery.specs.InitFaults.{store_failed_as}
 use Rattle.mm_host.specs.SessionLines.{IsNoLines}
 use Rattle.mm_host.specs.declared.fault.SessionFault.TheVariants as session
 use Rattle.mm_recovery.specs.declared.init_fault.InitFault.TheVariants as init
-use Rattle.mm_model.specs.History.{first_history}
+use Rattle.mm_model.specs.History.{first_history, History}
 use Rattle.mm_model.specs.InstanceWords.{basic, opt}
-use Rattle.mm_model.specs.Life.{Life, life_of, Live, Lost as LostLife, Spoiled}
+use Rattle.mm_model.specs.Life.{life_of, Lost as LostLife, Spoiled}
 use Rattle.mm_model.specs.Standing.{cell_of}
 use Rattle.mm_model.specs.declared.refusal.Refusal.TheVariants as refused
 use Rattle.mm_module.specs.Meaning.{Meaning}
@@ -201,21 +201,25 @@ closing_ends old new answer can c =
 header_is : (v : Variant) (it : AnyModule) → header_found v (module_with (meaning_of it).id) ≡ Ok (record { variant = v; «module» = it })
 header_is v it = ap (header_found v) (any_is_found it).by_id
 
-refused_ends : (why : Refusal) (how : Life) → how ≢ LostLife → how ≢ Spoiled
-    → RefusesAs {T = Unit {0}} (Err (session.Host (host.Refused why))) how
+refused_ends : (why : Refusal) (variant : Variant) (after : History) → life_of variant after ≢ LostLife → life_of variant after ≢ Spoiled
+    → (why ≡ refused.Full → ⊥) → RefusesAs {T = Unit {0}} (Err (session.Host (host.Refused why))) variant after
     → IsDoneOrFailed (session_status (Err (session.Host (host.Refused why))))
-refused_ends (refused.Device fault) how powered pure r = tt
-refused_ends refused.Lost how powered pure r = absurd (powered r)
-refused_ends refused.Stale how powered pure r = absurd (pure r)
-refused_ends _ how powered pure r = absurd r
+refused_ends (refused.Device fault) variant after powered pure unfull r = tt
+refused_ends refused.Lost variant after powered pure unfull r = absurd (powered r)
+refused_ends refused.Stale variant after powered pure unfull r = absurd (pure r)
+refused_ends refused.Full variant after powered pure unfull r = absurd (unfull refl)
+refused_ends _ variant after powered pure unfull r = absurd r
 
-session_ends : (answer : Result (Unit {0}) SessionFault) (how : Life) → how ≢ LostLife → how ≢ Spoiled → IsNoLines answer
-    → RefusesAs answer how → IsDoneOrFailed (session_status answer)
-session_ends (Err (session.Host (host.Refused why))) how powered pure lines r = refused_ends why how powered pure r
-session_ends (Err (session.Lines (replay.LineLong line))) how powered pure lines r = absurd lines
-session_ends (Err (session.Lines (replay.BadLine line))) how powered pure lines r = absurd lines
-session_ends (Err (session.Lines replay.TooMuch)) how powered pure lines r = absurd lines
-session_ends _ how powered pure lines r = tt
+session_ends : (answer : Result (Unit {0}) SessionFault) (variant : Variant) (after : History) → life_of variant after ≢ LostLife
+    → life_of variant after ≢ Spoiled → IsNoLines answer → (answer ≡ Err (session.Host (host.Refused refused.Full)) → ⊥)
+    → RefusesAs answer variant after → IsDoneOrFailed (session_status answer)
+session_ends (Err (session.Host (host.Refused why))) variant after powered pure lines unfull r =
+    refused_ends why variant after powered pure
+    (λ e. unfull (ap (λ (w : Refusal). Err (session.Host (host.Refused w))) e)) r
+session_ends (Err (session.Lines (replay.LineLong line))) variant after powered pure lines unfull r = absurd lines
+session_ends (Err (session.Lines (replay.BadLine line))) variant after powered pure lines unfull r = absurd lines
+session_ends (Err (session.Lines replay.TooMuch)) variant after powered pure lines unfull r = absurd lines
+session_ends _ variant after powered pure lines unfull r = tt
 
 module _ (old new : Outside) (status : Status) (middle : Standing) where
   abbrev Serves : Result Header Status → Type 0
@@ -239,11 +243,13 @@ module _ (old new : Outside) (status : Status) (middle : Standing) where
   basic_ends it key can s =
       let served = s.0.served in
       let waiting = can.may.fits.waiting in
-      let c = s.1 s.0.between served.answer served.sessions key can.y can.slots can.all can.others can.asked
-      (requests_with waiting (lines_of can.input)) can.may can.follow can.room
-      (among_input served.sessions can.slots waiting can.may.told can.may.fits.is_waiting can.input can.left) in
+      let requests = requests_with waiting (lines_of can.input) in
+      let among = among_input served.sessions can.slots waiting can.may.told can.may.fits.is_waiting can.input can.left in
+      let c = s.1 s.0.between served.answer served.sessions key can.y can.slots can.all can.others can.asked requests can.may can.follow
+      among in
       subst IsDoneOrFailed (sym served.ends)
-      (session_ends served.answer Live (λ e. cc) (λ e. cc) (served.lines can.input can.left can.lines) c.refuses)
+      (session_ends served.answer Basic c.runs.after (λ e. cc) (λ e. cc) (served.lines can.input can.left can.lines)
+      (unless_full served.sessions can.slots waiting can.may.told can.may.fits.is_waiting can.y requests among can.room c) c.refuses)
 
   opt_ends : (it : AnyModule) (key barrier : List ℕ) (can : CanServe (opt (meaning_of it) key barrier) old new)
       → Serves (Ok (record { variant = Opt; «module» = it })) → IsDoneOrFailed status
@@ -251,12 +257,14 @@ module _ (old new : Outside) (status : Status) (middle : Standing) where
       let served = s.0.served in
       let waiting = can.may.fits.waiting in
       let a = can.alone in
-      let c = s.1 s.0.between served.answer served.sessions key barrier can.y can.slots can.all can.others can.asked
-      (requests_with waiting (lines_of can.input)) a.items a.more can.may can.follow can.room
-      (among_input served.sessions can.slots waiting can.may.told can.may.fits.is_waiting can.input can.left) a.shown a.ends a.alone in
+      let requests = requests_with waiting (lines_of can.input) in
+      let among = among_input served.sessions can.slots waiting can.may.told can.may.fits.is_waiting can.input can.left in
+      let c = s.1 s.0.between served.answer served.sessions key barrier can.y can.slots can.all can.others can.asked requests a.items a.more
+      can.may can.follow among a.shown a.ends a.alone in
       subst IsDoneOrFailed (sym served.ends)
-      (session_ends served.answer (life_of Opt c.runs.after) (c.runs.powered a.powered) (c.runs.unspoiled a.nobody)
-      (served.lines can.input can.left can.lines) c.refuses)
+      (session_ends served.answer Opt c.runs.after (c.runs.powered a.powered) (c.runs.unspoiled a.nobody)
+      (served.lines can.input can.left can.lines)
+      (unless_full served.sessions can.slots waiting can.may.told can.may.fits.is_waiting can.y requests among can.room c) c.refuses)
 
   run_ends : (fault : Option StepFault) (found : Result Header Status) → CanRun old new → FindsInstance fault old.standing found
       → Serves found → IsDoneOrFailed status

@@ -1,6 +1,7 @@
 -- When a command isn't refused, by what the objects that it is handed tell.
-use Rattle.std.specs.Prelude.{◌≡◌, ◌≢◌, ◌≤◌, ◌++◌, ℕ, true, List, [], length, Option, Some, Result, Ok}
+use Rattle.std.specs.Prelude.{◌≡◌, ◌≢◌, ◌+◌, ◌≤◌, ◌++◌, ℕ, true, List, [], length, Option, Some, Result, Ok}
 use Rattle.mm_base.specs.Input.{lines_of}
+use Rattle.mm_base.specs.Limits.{last_position}
 use Rattle.mm_check.specs.Checking as checked
 use Rattle.mm_digest.specs.Messages.{zero_bytes}
 use Rattle.mm_call.specs.Premises.{AreShown}
@@ -8,11 +9,11 @@ use Rattle.mm_call.specs.Tied.{standing_items}
 use Rattle.mm_digest.specs.declared.variant.Variant.{Variant}
 use Rattle.mm_digest.specs.declared.variant.Variant.TheVariants.{Basic, Opt}
 use Rattle.mm_host.specs.AnySlots.{AreAskedInTurn, AsksNothingNew, requests_with}
-use Rattle.mm_host.specs.Honest.{HasRoom, MayGoOn}
+use Rattle.mm_host.specs.Honest.{MayGoOn}
 use Rattle.mm_gen.specs.Replayed.{replay_of}
 use Rattle.mm_host.specs.SessionLines.{AreWithin}
 use Rattle.mm_module.specs.Batch.{Batch}
-use Rattle.mm_model.specs.History.{History}
+use Rattle.mm_model.specs.History.{History, total_of}
 use Rattle.mm_model.specs.Instance.{Instance}
 use Rattle.mm_model.specs.InstanceWords.{basic, opt}
 use Rattle.mm_model.specs.Life.{Lost as LostLife, life_of}
@@ -87,6 +88,10 @@ abbrev pub IsAlone : Variant → List (List ℕ) → List (List ℕ) → Instanc
 IsAlone Basic all others i y offer requests before after = Unit {0}
 IsAlone Opt all others i y offer requests before after =
     ExtendsAlone all others i y offer requests before after
+
+-- there is a position for each of these requests behind a history
+abbrev pub HasRoom : History → List (List ℕ) → Type 0
+HasRoom y requests = total_of y.batches + length requests ≤ last_position
 
 -- For a session: the platform stands for a history of the instance, the slots fit it, and what
 -- waits and the lines of the input may follow it, have positions, and are within their limits.

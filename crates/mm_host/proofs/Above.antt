@@ -3,10 +3,12 @@ pub use Rattle.mm_host.specs.Refusing.{CallsInTurn}
 pub use Rattle.mm_host.proofs.ByDigests.{chain_ends, lost_shown, refused_as_offer, shown_lost, shows_loss}
 pub use Rattle.mm_host.proofs.CallsMade.{among_input, chain_of, last_offer, served_calls, SomeChain, some_chain}
 pub use Rattle.mm_host.proofs.Continues.{continues_from, fits_genuine}
-pub use Rattle.mm_host.proofs.InTurn.{calls_reach, pending_for}
-pub use Rattle.mm_host.proofs.Leading.{basic_laws, Laws, Makes, Reaches, reach_same, reach_then, RunsOver-append, Shows, ShowsAt, Stays}
+pub use Rattle.mm_host.proofs.InTurn.{calls_reach, May, pending_for, StandsIn, stepped_by}
+pub use Rattle.mm_host.proofs.Leading.{basic_laws, Laws, Makes, Reaches, reach_same, reach_then, RunsOver-append, same_self, Shows, ShowsAt}
+pub use Rattle.mm_host.proofs.Leading.{Stays}
 pub use Rattle.mm_host.proofs.Leading.{steps_again, steps_fresh}
 pub use Rattle.mm_host.proofs.Lines.{tells_call, TellsCall}
 pub use Rattle.mm_host.proofs.OptLeading.{opt_laws}
+pub use Rattle.mm_host.proofs.Room.{unless_full}
 pub use Rattle.mm_host.proofs.RunningOnce.{by_fault, foreign_of, messages_looked, only_by, register_looked, runs_once_from}
-pub use Rattle.mm_host.proofs.SessionRuns.{line_committed}
+pub use Rattle.mm_host.proofs.SessionRuns.{AreMade, continues_by, IsFirstAsked, IsLineAsked, IsWritten, line_committed}

@@ -74,7 +74,7 @@ pub use Rattle.mm_recovery.specs.Fitting.{first_offer, FitsBy, FitsHistory, Hold
 pub use Rattle.mm_recovery.specs.Last.{IsSized, position_at, snapshot_at}
 pub use Rattle.mm_recovery.specs.Next.{AfterRecord, AsksNext, record_for}
 pub use Rattle.mm_recovery.specs.Recovery.{AnswersAt, AsksIdly, CanRecover, IsGrown, IsRefusedAs, MayHaveCommitted, RecoversTo}
-pub use Rattle.mm_recovery.specs.Resumes.{AfterAsk, AfterFinding, AfterOffer, kept_as, Resumes, started}
+pub use Rattle.mm_recovery.specs.Resumes.{AsksAndKeeps, AfterAsk, AfterFinding, AfterOffer, kept_as, Resumes, started}
 pub use Rattle.mm_recovery.specs.Waiting.{IsWaiting, later}
 pub use Rattle.mm_recovery.specs.declared.fault.HostFault.{HostFault}
 pub use Rattle.mm_recovery.specs.declared.resuming.Resumed.{Resumed}
@@ -83,12 +83,12 @@ pub use Rattle.mm_recovery.proofs.Above.{answered_writes, AnsweredWrites, ask_ex
 pub use Rattle.mm_recovery.proofs.Above.{CameWrites, counted_most, grows, holds_issued, IsGrownBy, IsSame, issued_in_opt, joined, leads_rest}
 pub use Rattle.mm_recovery.proofs.Above.{left_by, length-pending_spelling, Met, new_most, next_came, next_told, NoMore, not_lost, one_more}
 pub use Rattle.mm_recovery.proofs.Above.{one_waiting, opt_grown, opt_met, opt_met_idle, recovers_by, refusal_told, rests, resumes_came}
-pub use Rattle.mm_recovery.proofs.Above.{resumes_told, Saw, saw_two, Told, was_powered}
+pub use Rattle.mm_recovery.proofs.Above.{beyond_none, Enters, fits_on, found_full, IsMade, resumes_told, Saw, saw_two, Told, waiting_most, was_powered}
 pub use Rattle.mm_host.specs.AnySlots.{answered_to, AreAmong, AreAskedInTurn, AsksNothingNew, EndsRun, MayStart, offered_after}
 pub use Rattle.mm_host.specs.AnySlots.{requests_with, RunsOnce, RunsOnceFrom, SessionRunsOnce}
-pub use Rattle.mm_host.specs.Continuing.{answer_reply, ContinuesTo, HasUntold, IsInHand}
+pub use Rattle.mm_host.specs.Continuing.{answer_reply, AreNewFrom, AreToldOnce, ContinuesTo, HasUntold, IsInHand}
 pub use Rattle.mm_host.specs.Continuing.{IsNotBeyond, MayBeUntold, RefusesAs, RunsOver, RunsTo, told_first, told_in}
-pub use Rattle.mm_host.specs.Honest.{ContinuesFrom, HasRoom, MayGoOn, SessionContinues}
+pub use Rattle.mm_host.specs.Honest.{ContinuesFrom, MayGoOn, SessionContinues}
 pub use Rattle.mm_host.specs.Continuing.{waiting_position}
 pub use Rattle.mm_host.specs.Sessions.{comes_as, refusal_text, reply_text, SendsReply, TellsReply, told_cause, lines_served, Place}
 pub use Rattle.mm_host.specs.Sessions.{replies_to, Served, Serves, AfterResume, BeginsWith, ended_as, IsAtRest, most_lines, Sessions}

@@ -53,21 +53,21 @@ continue_over : (variant : Variant) (meaning : Meaning) → IsLawful meaning →
     → (old new : StoreStanding) (left left' received received' : Option (List ℕ)) (result : Result Unit SessionFault)
     → ContinuesFrom variant meaning entry before after old new left left' received received' result
 continue_over Basic meaning lawful entry before after values cell looked old new left left' received received' result =
-    λ s key y slots all others asked requests may f room among.
+    λ s key y slots all others asked requests may f among.
     continues_to (basic_laws meaning lawful key all others asked after may.clear may.apart) s y y slots may.fits.waiting may.told may.honest
     may.fits.is_waiting may.fits.fits requests (record {
       stands = record { spells = may.stands.spells; cell = cell ∙ may.stands.cell; register = tt };
       within = may.within;
       genuine = (starts_by may).genuine;
       same = refl;
-    }) (inl tt) f room among (λ p. p)
+    }) (inl tt) f among (λ p. p)
 continue_over Opt meaning lawful entry before after values cell looked old new left left' received received' result =
-    λ s key barrier y slots all others asked requests items more may f room among known ends shown_so.
+    λ s key barrier y slots all others asked requests items more may f among known ends shown_so.
     let e = enter_by meaning lawful entry before after values cell looked s key barrier y slots all others asked requests items more
     (starts_by may) known ends y.is_open refl shown_so in
     continues_to (opt_laws meaning lawful key barrier all others asked after may.clear may.apart) s (taking y values) y slots
     may.fits.waiting may.told may.honest may.fits.is_waiting (fits_looked meaning key barrier y values slots may.fits.waiting may.fits.fits)
-    requests e.0 e.1 f room among (powered_looked values y)
+    requests e.0 e.1 f among (powered_looked values y)
 
 -- behind a reading of the cell, whether that failed or not
 pub continues_from : (variant : Variant) (meaning : Meaning) → IsLawful meaning

@@ -10,6 +10,8 @@ mod CallsMade
 mod InTurn
 mod LineStep
 mod SessionRuns
+mod Settling
 mod RunningOnce
 mod ByDigests
 mod Continues
+mod Room

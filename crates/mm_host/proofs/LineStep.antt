@@ -10,93 +10,21 @@ use Rattle.mm_host.proofs.Below.{answered_to, AreAskedInTurn, CanRecover, IsGrow
 use Rattle.mm_host.proofs.Below.{AfterRecord, record_for, Place, length-pending_spelling, NoMore, asked_at, left_by, ask_exit}
 use Rattle.mm_host.proofs.Below.{refusal_told, RunsOver, told_first, [], issued_bytes, inr, Met, sealed_of, first_offer, requests_with, IsCall, length}
 use Rattle.mm_host.proofs.Below.{last_position, one_content, one_more, IsSame, subst, suc, ◌≤◌}
+use Rattle.mm_host.proofs.Below.{◌<◌, ◌++◌, false, take, nat_tests, Variant, Batch, Life, StepFault, fault_of, AfterAsk, by_refusal, fits_on, found_full, grows}
+use Rattle.mm_host.proofs.Below.{AreNewFrom, AreToldOnce, RefusesAs, Served, Host, IsRight}
+use Rattle.std.proofs.lemmas.Bool.{cases_lt}
+use Rattle.mm_call.specs.Coming.{Comes}
+use Rattle.mm_call.specs.Coming as coming
+use Rattle.mm_model.specs.declared.refusal.Refusal.TheVariants as refusal
 use Rattle.mm_store.specs.declared.fault.StoreFault.TheVariants as fault
 use Rattle.mm_recovery.specs.declared.fault.HostFault.TheVariants as host
 use Rattle.mm_host.proofs.InTurn.{May, met_between, met_last, StandsIn, stepped_by}
 use Rattle.mm_host.proofs.Lines.{never_stored}
 use Rattle.mm_host.proofs.Leading.{answered_first, Laws, Reaches, same_pending}
-use Rattle.mm_host.proofs.Putting.{IsNext, IsPut, fits_next, put_next, torn_fits, waits_next}
-
--- Between two lines a session stands where a recovery left it, or a line, which is asked as one. The last answer is that of the
--- history's end.
-pub record IsSettledAt (all others : List (List ℕ)) (asked : List Batch) (i : Instance) (at : Place) : Type 0 where
-  pub from : History
-  pub slots : Slots
-  pub waiting : Option Pending
-  pub came : RecoversTo all others asked i from slots waiting at.platform at.store (Ok at.last)
-  pub open came use *
-  pub recorded : waiting_position waiting ≡ position_at at.last
-  pub at_end : position_at at.last ≡ total_of came.after.batches
-
--- What a request comes to, which waits or is a line's.
-pub record CameTo (all others : List (List ℕ)) (asked : List Batch) (i : Instance) (y : History) (waiting : Option Pending)
-    (standing : Standing) (kept : StoreStanding) (came : Result Resumed HostFault) : Type 0 where
-  pub after : History
-  pub stands : StandsFor i standing after
-  pub within : IsWithin all others asked i after
-  pub slots_after : Slots
-  pub honest : kept.is_honest ≡ true
-  pub told : kept.slots ≡ Some slots_after
-  pub fits : IsNotBeyond slots_after (total_of after.batches + 1) → FitsHistory i slots_after after
-  pub whole : came ≢ Err host.Store → FitsHistory i slots_after after
-  pub grown : IsGrown y waiting after
-  pub only : (after.batches ≡ y.batches) ⊎ MayHaveCommitted came
-  pub refuses : (why : Refusal) → came ≡ Err (host.Refused why) → IsRefusedAs why (life_of i.variant after)
-  pub powered : life_of i.variant y ≢ LostLife → life_of i.variant after ≢ LostLife
-
-pub answers_of : (i : Instance) (y after : History) (p : Pending) (answer : Answer) → AnswersAt i y (Some p) after answer
-    → (p.position ≡ total_of after.batches)
-    × (whole answer ≡ answer_on i after (One p.request) (nat_eq p.position (total_of y.batches)))
-answers_of i y after p answer a = let same : a.p ≡ p = same_pending p a.p a.waits in (rw same at a.position, rw same at a.answer_is)
-
-module _ {all others : List (List ℕ)} {asked : List Batch} {i : Instance} {y : History} {slots : Slots} {standing : Standing}
-    {kept : StoreStanding} where
-  abbrev pub came_by : (waiting : Option Pending) (came : Result Resumed HostFault)
-      → RecoversTo all others asked i y slots waiting standing kept came → CameTo all others asked i y waiting standing kept came
-  came_by waiting came r = record {
-    after = r.after;
-    stands = r.stands;
-    within = r.within;
-    slots_after = r.slots_after;
-    honest = r.honest;
-    told = r.told;
-    fits = λ n. r.fits;
-    whole = λ n. r.fits;
-    grown = r.grown;
-    only = r.only;
-    refuses = λ why e. rw e at r.comes;
-    powered = r.powered;
-  }
-
-  -- what waited, and was told
-  pub record Went (waiting : Option Pending) (first : Resumed)
-      (r : RecoversTo all others asked i y slots waiting standing kept (Ok first)) : Type 0 where
-    pub recorded : waiting_position waiting ≡ position_at first
-    pub at_end : position_at first ≡ total_of r.after.batches
-    pub run : RunsOver i.meaning (requests_of y.batches) (told_first waiting first) (requests_of r.after.batches)
-
-  pub went_first : (waiting : Option Pending) (first : Resumed) → FitsBy i slots y waiting
-      → (r : RecoversTo all others asked i y slots waiting standing kept (Ok first)) → Went waiting first r
-  went_first None (Start first) f r = let none : FitsBy i r.slots_after r.after None = rw r.same_wait at r.fits.fits in
-      record { recorded = refl; at_end = sym none.0; run = ap requests_of r.grown }
-  went_first None (Answered answer) f r = let clash : None ≡ Some r.comes.p = r.comes.waits in absurd (cc)
-  went_first (Some p) (Start first) f r = let clash : Some p ≡ None = r.comes.0 in absurd (cc)
-  went_first (Some p) (Answered answer) f r =
-      let a = answers_of i y r.after p answer r.comes in
-      let at : answer.position ≡ total_of r.after.batches = ap (λ (b : BatchAnswer). b.position) a.1 in
-      record { recorded = a.0 ∙ sym at; at_end = at; run = answered_first i y r.after p answer f.0 a.0 a.1 r.grown }
-
-  abbrev pub settled_by : (waiting : Option Pending) (last : Resumed) → FitsBy i slots y waiting
-      → RecoversTo all others asked i y slots waiting standing kept (Ok last)
-      → IsSettledAt all others asked i (record { platform = standing; store = kept; last = last })
-  settled_by waiting last f r = record {
-    from = y;
-    slots = slots;
-    waiting = waiting;
-    came = r;
-    recorded = (went_first waiting last f r).recorded;
-    at_end = (went_first waiting last f r).at_end;
-  }
+use Rattle.mm_host.proofs.Settling.{answers_of, broken_refused, came_by, CameTo, IsSettledAt, refused_in, refused_last, refused_with}
+use Rattle.mm_host.proofs.Settling.{settled_by, went_first}
+use Rattle.mm_host.proofs.Below.{AfterRecord, Enters}
+use Rattle.mm_host.proofs.Putting.{IsNext, IsPut, fits_next, fits_room, full_fits, put_next, torn_fits, waits_next}
 
 module _ {all others : List (List ℕ)} {asked : List Batch} {i : Instance} {final : Standing} (laws : Laws all others asked i final) where
   -- What is known of the history after a call that was answered, where its snapshot is offered for these next.
@@ -107,7 +35,6 @@ module _ {all others : List (List ℕ)} {asked : List Batch} {i : Instance} {fin
   pub record IsReady {at : Place} (s : IsSettledAt all others asked i at) (z : History) (lines : List (List ℕ)) : Type 0 where
     pub between : IsBetween z at.platform (snapshot_at at.last) lines s.after
     pub follow : AreAskedInTurn all asked i z (snapshot_at at.last) lines
-    pub room : total_of s.after.batches + length lines ≤ last_position
 
   pub stands_in : {at : Place} (s : IsSettledAt all others asked i at) (z : History) → IsSame i.variant s.after z
       → StandsIn all others asked i s.after z at.platform (snapshot_at at.last)
@@ -121,14 +48,13 @@ module _ {all others : List (List ℕ)} {asked : List Batch} {i : Instance} {fin
   -- the snapshot of an answer says what the history issues
   ready_on : (z : History) (at : Place) (lines : List (List ℕ)) (s : IsSettledAt all others asked i at)
       → snapshot_at at.last ≡ issued_bytes i s.after → IsBetween z at.platform (issued_bytes i z) lines s.after
-      → AreAskedInTurn all asked i z (issued_bytes i z) lines → total_of s.after.batches + length lines ≤ last_position → IsReady s z lines
-  ready_on z at lines s is between follow room =
+      → AreAskedInTurn all asked i z (issued_bytes i z) lines → IsReady s z lines
+  ready_on z at lines s is between follow =
       let here : issued_bytes i z ≡ snapshot_at at.last =
       sym (is ∙ ap (λ (c : Content). sealed_of i.key c) (laws.issue s.after z between.1)) in
       record {
         between = subst (λ (offer : List ℕ). IsBetween z at.platform offer lines s.after) here between;
         follow = subst (λ (offer : List ℕ). AreAskedInTurn all asked i z offer lines) here follow;
-        room = room;
       }
 
   -- the history once what waits is answered
@@ -147,26 +73,18 @@ module _ {all others : List (List ℕ)} {asked : List Batch} {i : Instance} {fin
       (r : RecoversTo all others asked i y slots waiting standing kept (Ok first))
       → IsBetween (waiting_then z slots waiting) standing (offer_then z slots waiting) lines r.after
       → AreAskedInTurn all asked i z (first_offer slots waiting) (requests_with waiting lines)
-      → total_of y.batches + length (requests_with waiting lines) ≤ last_position
       → IsReady (settled_by waiting first f r) (waiting_then z slots waiting) lines
-  ready_first y z slots None standing kept (Start first) lines f r m follow room = record {
+  ready_first y z slots None standing kept (Start first) lines f r m follow = record {
     between = rw r.comes.1 m;
     follow = rw r.comes.1 follow;
-    room = omega (arith, room, ap total_of r.grown);
   }
-  ready_first y z slots None standing kept (Answered answer) lines f r m follow room =
+  ready_first y z slots None standing kept (Answered answer) lines f r m follow =
       let clash : None ≡ Some r.comes.p = r.comes.waits in absurd (cc)
-  ready_first y z slots (Some p) standing kept (Start first) lines f r m follow room = let clash : Some p ≡ None = r.comes.0 in absurd (cc)
-  ready_first y z slots (Some p) standing kept (Answered answer) lines f r m follow room =
+  ready_first y z slots (Some p) standing kept (Start first) lines f r m follow = let clash : Some p ≡ None = r.comes.0 in absurd (cc)
+  ready_first y z slots (Some p) standing kept (Answered answer) lines f r m follow =
       let a = answers_of i y r.after p answer r.comes in
       ready_on (waiting_then z slots (Some p)) (record { platform = standing; store = kept; last = Answered answer }) lines
       (settled_by (Some p) (Answered answer) f r) (ap (λ (b : BatchAnswer). b.snapshot) a.1) m follow.2
-      (grown_room y r.after p lines r.grown room)
-    where
-      grown_room : (y after : History) (p : Pending) (lines : List (List ℕ)) → IsGrown y (Some p) after
-          → total_of y.batches + suc (length lines) ≤ last_position → total_of after.batches + length lines ≤ last_position
-      grown_room y after p lines (inl same) h = omega (arith, h, ap total_of same)
-      grown_room y after p lines (inr more) h = omega (arith, h, ap total_of more, one_more y.batches p.request)
 
   -- a call that was answered, with others behind it
   pub between_called : (y z : History) (old middle : Standing) (offer : List ℕ) (p : Pending) (answer : Answer) (rest : List (List ℕ))
@@ -193,8 +111,7 @@ module _ {all others : List (List ℕ)} {asked : List Batch} {i : Instance} {fin
       between_called y z old middle offer p answer rest s f may reaches c
   between_told y z old middle offer p (Err why) resumed rest s f may reaches c told = let clash = told why refl in absurd (cc)
 
-  module _ (z : History) (at : Place) (line : List ℕ) (lines : List (List ℕ)) (settled : IsSettledAt all others asked i at)
-      (s : IsReady settled z (line ∷ lines)) (within : MayGrow longest_request line) where
+  module _ (at : Place) (line : List ℕ) (settled : IsSettledAt all others asked i at) (within : MayGrow longest_request line) where
     abbrev y : History
     y = settled.after
 
@@ -213,9 +130,6 @@ module _ {all others : List (List ℕ)} {asked : List Batch} {i : Instance} {fin
     abbrev put : List ℕ → Slots
     put bytes = with_slot settled.slots_after slot bytes
 
-    here : StandsIn all others asked i y z at.platform offer
-    here = stands_in settled z s.between.1
-
     recorded : waiting_position settled.fits.waiting ≡ position
     recorded = ap waiting_position settled.same_wait ∙ settled.recorded
 
@@ -225,13 +139,19 @@ module _ {all others : List (List ℕ)} {asked : List Batch} {i : Instance} {fin
     holds_newest : Holds i y (slot_read settled.slots_after (position % 2)) position
     holds_newest = rw settled.newest settled.holds
 
-    is_next : IsNext position next (pending_spelling next)
-    is_next = record {
+    most : position ≤ last_position
+    most = omega (arith, settled.at_end, fits_room i settled.slots_after y settled.fits)
+
+    spelled : take longest_slot (pending_spelling next) ≡ pending_spelling next
+    spelled = take_all longest_slot (pending_spelling next)
+        (omega (arith, within.short, longest_slot-is, length-pending_spelling next))
+
+    is_next : position < last_position → IsNext position next (pending_spelling next)
+    is_next room = record {
       follows = refl;
-      most = omega (arith, s.room, settled.at_end);
+      most = omega (arith, room);
       line = within;
-      spelled = take_all longest_slot (pending_spelling next)
-          (omega (arith, within.short, longest_slot-is, length-pending_spelling next));
+      spelled = spelled;
     }
 
     offers : slot_read (put (pending_spelling next)) (offer_slot next) ≡ offer
@@ -240,37 +160,36 @@ module _ {all others : List (List ℕ)} {asked : List Batch} {i : Instance} {fin
         ap (λ (m : ℕ). slot_read (put (pending_spelling next)) (m % 2)) back
         ∙ (is_put (pending_spelling next)).snapshots position ∙ settled.newest
 
-    -- once the record is written, the line waits
-    can_ask : (it : Unit {0}) (middle : StoreStanding) → WritesSlot slot (pending_spelling next) at.store middle (Ok it)
-        → CanRecover all others asked i y (put (pending_spelling next)) at.platform middle
-    can_ask it middle w = record {
+    -- once the record is written, the line waits, where there is a position for it
+    enters : (room : position < last_position) (it : Unit {0}) (middle : StoreStanding)
+        → WritesSlot slot (pending_spelling next) at.store middle (Ok it)
+        → Enters all others asked i y (put (pending_spelling next)) at.platform middle
+    enters room it middle w = record {
       honest = w.honest ∙ settled.honest;
       told = w.leaves settled.honest ∙ ap (λ (x : Option Slots). putting slot (pending_spelling next) x) settled.told;
       stands = settled.stands;
       fits = record {
         waiting = Some next;
         is_waiting = waits_next settled.slots_after (put (pending_spelling next)) position (pending_spelling next) settled.fits.waiting next
-            settled.fits.is_waiting (omega (arith, recorded)) is_next (is_put (pending_spelling next));
+            settled.fits.is_waiting (omega (arith, recorded)) (is_next room) (is_put (pending_spelling next));
         fits = fits_next i y (put (pending_spelling next)) position (Some next) refl settled.at_end
             (rw ((is_put (pending_spelling next)).snapshots position) holds_newest);
       };
-      clear = laws.clear;
-      apart = laws.apart;
       within = settled.within;
-      is_asked = (s.follow.0, rw offers s.follow.1);
     }
 
     -- so what it comes to is a recovery, with more that is known of the history where it is gone on with
-    recovered : (More : History → Type 0) (after : Standing) (middle new : StoreStanding) (came : Result Resumed HostFault) (it : Unit {0})
+    recovered : (room : position < last_position) (More : History → Type 0) (after : Standing) (middle new : StoreStanding)
+        (came : Result Resumed HostFault) (it : Unit {0})
         → WritesSlot slot (pending_spelling next) at.store middle (Ok it)
         → (g : AfterRecord i.variant i.meaning at.platform after (Ok it) middle new at.last line came)
         → (o : Met all others asked i y after offer next (whole_in g.asked)) × More o.after
         → (r : RecoversTo all others asked i y (put (pending_spelling next)) (Some next) after new came)
         × IfOk came (λ (resumed : Resumed). More r.after)
-    unfolding can_ask
-    recovered More after middle new came it w g leads =
+    unfolding enters
+    recovered room More after middle new came it w g leads =
         let slots : Slots = put (pending_spelling next) in
-        let can : CanRecover all others asked i y slots at.platform middle = can_ask it middle w in
+        let can : Enters all others asked i y slots at.platform middle = enters room it middle w in
         let o = subst (λ (bytes : List ℕ). (o : Met all others asked i y after bytes next (whole_in g.asked)) × More o.after) (sym offers)
         leads in
         let l = left_by all others asked i y slots at.platform middle can More after next (whole_in g.asked) refl o.0 o.1 in
@@ -293,58 +212,170 @@ module _ {all others : List (List ℕ)} {asked : List Batch} {i : Instance} {fin
       whole = λ n. whole (λ e. n (ap (λ (f : HostFault). Err f) e));
       grown = inl refl;
       only = inl refl;
+      room = omega (arith, most, settled.at_end);
       refuses = λ w e. absurd (never_stored why w (cc));
       powered = λ h. h;
     })
 
-    -- the last line
-    pub line_last : (recorded : Result Unit StoreFault) (middle new : StoreStanding) (came : Result Resumed HostFault)
-        → WritesSlot slot (pending_spelling next) at.store middle recorded
-        → AfterRecord i.variant i.meaning at.platform final recorded middle new at.last line came
+    pub line_unwritten : (why : StoreFault) (middle new : StoreStanding) (came : Result Resumed HostFault)
+        → WritesSlot slot (pending_spelling next) at.store middle (Err why)
+        → AfterRecord i.variant i.meaning at.platform final (Err why) middle new at.last line came
         → CameTo all others asked i y (Some next) final new came
-    line_last (Err fault.Memory) middle new came w g =
+    line_unwritten fault.Memory middle new came w g =
         unwritten fault.Memory middle new came settled.slots_after w.honest g (w.leaves settled.honest ∙ settled.told) (λ n. settled.fits)
         (λ n. settled.fits)
-    line_last (Err fault.Failed) middle new came w g =
+    line_unwritten fault.Failed middle new came w g =
         let left = w.leaves settled.honest in
         unwritten fault.Failed middle new came (put left.0) w.honest g
         (left.1 ∙ ap (λ (x : Option Slots). putting slot left.0 x) settled.told)
         (torn_fits i y settled.slots_after (put left.0) position left.0 settled.fits recorded settled.at_end holds_newest (is_put left.0))
         (λ n. absurd (n refl))
-    line_last (Ok it) middle new came w g =
-        came_by (Some next) came (recovered NoMore final middle new came it w g
-        (met_last laws y z at.platform offer next lines g.asked here s.follow s.between.0 g.asks, tt)).0
 
-    -- a line that was answered, with others behind it
-    abbrev pub then_is : History
-    then_is = answered_to i z offer line
+    -- what is offered says the position of the last answer
+    said_here : (content : Content) → IsRight i offer content → content.position ≡ total_of y.batches
+    said_here content right =
+        sym (ap (λ (c : Content). c.position) (one_content i offer settled.holds.content content settled.holds.right right))
+        ∙ settled.holds.at ∙ settled.at_end
 
-    pub record LineGoes (after : Standing) (new : StoreStanding) (answer : Answer) : Type 0 where
-      pub settled_then : IsSettledAt all others asked i (record { platform = after; store = new; last = Answered answer })
-      pub ready : IsReady settled_then then_is lines
-      pub run : RunsOver i.meaning (requests_of y.batches) (record { line = line; answer = answer } ∷ [])
-          (requests_of settled_then.after.batches)
-      pub powered : life_of i.variant y ≢ LostLife → life_of i.variant settled_then.after ≢ LostLife
+    -- Where that is the last position, nothing is committed, and no answer is given.
+    module _ (full : position ≡ last_position) (standing : Standing) where
+      full_total : total_of y.batches ≡ last_position
+      full_total = sym settled.at_end ∙ full
 
-    pub line_goes : (recorded : Result Unit StoreFault) (after : Standing) (middle new : StoreStanding) (answer : Answer)
-        → Reaches i.variant i after final → WritesSlot slot (pending_spelling next) at.store middle recorded
-        → AfterRecord i.variant i.meaning at.platform after recorded middle new at.last line (Ok (Answered answer))
-        → LineGoes after new answer
-    unfolding can_ask
-    line_goes (Err why) after middle new answer reaches w g =
-        let clash : Ok (Answered answer) ≡ Err (store_fault_as why) = g.2 in absurd (cc)
-    line_goes (Ok it) after middle new answer reaches w g =
-        let r = recovered (IsBetween then_is after (issued_bytes i then_is) lines) after middle new (Ok (Answered answer)) it w g
-        (between_told y z at.platform after offer next g.asked (Answered answer) lines here s.follow s.between.0 reaches g.asks
-        (refusal_told g.asked middle new (Ok (Answered answer)) g.goes)) in
-        let f : FitsBy i (put (pending_spelling next)) y (Some next) = (can_ask it middle w).fits.fits in
-        let a = answers_of i y r.0.after next answer r.0.comes in
-        let total : total_of r.0.after.batches ≡ total_of y.batches + 1 = sym a.0 ∙ ap (λ (n : ℕ). n + 1) settled.at_end in
-        record {
-          settled_then = settled_by (Some next) (Answered answer) f r.0;
-          ready = ready_on then_is (record { platform = after; store = new; last = Answered answer }) lines
-              (settled_by (Some next) (Answered answer) f r.0) (ap (λ (x : BatchAnswer). x.snapshot) a.1) r.1 s.follow.2
-              (omega (arith, total, s.room));
-          run = (went_first (Some next) (Answered answer) f r.0).run;
-          powered = r.0.powered;
-        }
+      full_same : (gives : Result BatchAnswer Refusal) → (m : Met all others asked i y standing offer next gives)
+          → m.after.batches ≡ y.batches
+      full_same gives m = elim m.room [
+        | inl same ↦ same
+        | inr few ↦ elim (grows i y next offer m.after gives m.comes) [
+            | inl same ↦ same
+            | inr more ↦ absurd (omega (arith, few, ap total_of more, one_more y.batches line, full_total))
+          ]
+      ]
+
+      never_answered : (answer : Answer) → (m : Met all others asked i y standing offer next (Ok (whole answer)))
+          → Comes i y offer (One line) m.after (Ok (whole answer)) → ⊥
+      never_answered answer m (coming.kept same answers) =
+          let r = answers (whole answer) refl in
+          omega (arith, r.position, said_here r.content r.right, one_more r.ends.front line, ap total_of r.ends.is)
+      never_answered answer m (coming.grown content right at more answers) =
+          omega (arith, ap total_of more, one_more y.batches line, ap total_of (full_same (Ok (whole answer)) m))
+
+      never_told : (call : Result Answer Refusal) (resumed : Resumed)
+          → ((why : Refusal) → call ≡ Err why → Ok resumed ≡ Err (refusal_fault why))
+          → Met all others asked i y standing offer next (whole_in call) → ⊥
+      never_told (Ok answer) resumed told m = never_answered answer m m.comes
+      never_told (Err why) resumed told m = let clash = told why refl in cc
+
+      full_refused : (why : Refusal) (broken : Option StepFault) → fault_of why ≡ broken
+          → (m : Met all others asked i y standing offer next (Err why))
+          → (why ≡ refusal.Memory) ⊎ RefusesAs {T = Unit} (Err (Host (host.Refused why))) i.variant m.after
+      full_refused why (Some broken) has m = inr (refused_in why i.variant m.after (broken_refused why (life_of i.variant m.after) broken has))
+      full_refused why None none m =
+          let same : m.after.batches ≡ y.batches = full_same (Err why) m in
+          elim (m.judged why refl none) [
+            | inl memory ↦ inl memory
+            | inr found ↦ inr (refused_last why i.variant m.after (ap total_of same ∙ full_total)
+              (found_full i m.after offer line settled.holds.content settled.holds.right
+              (said_here settled.holds.content settled.holds.right ∙ ap total_of (sym same)) (ap total_of same ∙ full_total) why found))
+          ]
+
+    -- so there was a position for a line that is answered
+    room_for : (standing : Standing) (call : Result Answer Refusal) (resumed : Resumed)
+        → ((why : Refusal) → call ≡ Err why → Ok resumed ≡ Err (refusal_fault why))
+        → Met all others asked i y standing offer next (whole_in call) → position < last_position
+    room_for standing call resumed told m = elim (cases_lt position last_position) [
+      | inl room ↦ room
+      | inr full ↦ absurd (never_told (omega (arith, full, most)) standing call resumed told m)
+    ]
+
+    -- And a line that isn't is refused, and nothing changes: what waited goes on to wait.
+    full_last : (full : position ≡ last_position) (middle new : StoreStanding) (came : Result Resumed HostFault)
+        (call : Result Answer Refusal) (it : Unit {0}) → WritesSlot slot (pending_spelling next) at.store middle (Ok it)
+        → AfterAsk call middle new came → Met all others asked i y final offer next (whole_in call)
+        → CameTo all others asked i y (Some next) final new came
+    full_last full middle new came (Ok answer) it w g m = absurd (never_answered full final answer m m.comes)
+    full_last full middle new came (Err why) it w g m =
+        let slots : Slots = put (pending_spelling next) in
+        let same : m.after.batches ≡ y.batches = full_same full final (Err why) m in
+        let still : FitsHistory i slots y =
+        full_fits i y settled.slots_after slots position next settled.fits recorded full refl spelled (is_put (pending_spelling next)) in
+        let fits : FitsHistory i slots m.after = record {
+          waiting = still.waiting;
+          is_waiting = still.is_waiting;
+          fits = fits_on i slots y m.after same m.names still.waiting still.fits;
+        } in
+        let refused = refused_with why i.variant m.after (full_refused full final why (fault_of why) refl m) in
+        rw (g.0, g.1) (record {
+          after = m.after;
+          stands = m.stands;
+          within = m.within;
+          slots_after = slots;
+          honest = w.honest ∙ settled.honest;
+          told = w.leaves settled.honest ∙ ap (λ (x : Option Slots). putting slot (pending_spelling next) x) settled.told;
+          fits = λ n. fits;
+          whole = λ n. fits;
+          grown = inl same;
+          only = inl same;
+          room = omega (arith, full, settled.at_end, ap total_of same);
+          refuses = λ v e.
+              let is : refusal_fault why ≡ host.Refused v = cc in
+              subst (λ (f : HostFault). RefusesAs {T = Unit} (Err (Host f)) i.variant m.after) is refused;
+          powered = m.powered;
+        })
+
+    -- where it may be asked
+    module _ (z : History) (lines : List (List ℕ)) (s : IsReady settled z (line ∷ lines)) where
+      here : StandsIn all others asked i y z at.platform offer
+      here = stands_in settled z s.between.1
+
+      -- the last line, where it is asked
+      pub line_last : (it : Unit {0}) (middle new : StoreStanding) (came : Result Resumed HostFault)
+          → WritesSlot slot (pending_spelling next) at.store middle (Ok it)
+          → AfterRecord i.variant i.meaning at.platform final (Ok it) middle new at.last line came
+          → CameTo all others asked i y (Some next) final new came
+      line_last it middle new came w g =
+          let m = met_last laws y z at.platform offer next lines g.asked here s.follow s.between.0 g.asks in
+          elim (cases_lt position last_position) [
+            | inl room ↦ came_by (Some next) came (recovered (omega (arith, room)) NoMore final middle new came it w g (m, tt)).0
+            | inr full ↦ full_last (omega (arith, full, most)) middle new came g.asked it w g.goes m
+          ]
+
+      -- a line that was answered, with others behind it
+      abbrev pub then_is : History
+      then_is = answered_to i z offer line
+
+      pub record LineGoes (after : Standing) (new : StoreStanding) (answer : Answer) : Type 0 where
+        pub settled_then : IsSettledAt all others asked i (record { platform = after; store = new; last = Answered answer })
+        pub ready : IsReady settled_then then_is lines
+        pub new_here : (answer.again ≡ false) × (answer.position ≡ total_of y.batches + 1)
+        pub total : total_of settled_then.after.batches ≡ total_of y.batches + 1
+        pub run : RunsOver i.meaning (requests_of y.batches) (record { line = line; answer = answer } ∷ [])
+            (requests_of settled_then.after.batches)
+        pub powered : life_of i.variant y ≢ LostLife → life_of i.variant settled_then.after ≢ LostLife
+
+      pub line_goes : (recorded : Result Unit StoreFault) (after : Standing) (middle new : StoreStanding) (answer : Answer)
+          → Reaches i.variant i after final → WritesSlot slot (pending_spelling next) at.store middle recorded
+          → AfterRecord i.variant i.meaning at.platform after recorded middle new at.last line (Ok (Answered answer))
+          → LineGoes after new answer
+      unfolding enters
+      line_goes (Err why) after middle new answer reaches w g =
+          let clash : Ok (Answered answer) ≡ Err (store_fault_as why) = g.2 in absurd (cc)
+      line_goes (Ok it) after middle new answer reaches w g =
+          let told = refusal_told g.asked middle new (Ok (Answered answer)) g.goes in
+          let o = between_told y z at.platform after offer next g.asked (Answered answer) lines here s.follow s.between.0 reaches g.asks told
+          in
+          let room : position < last_position = room_for after g.asked (Answered answer) told o.0 in
+          let r = recovered room (IsBetween then_is after (issued_bytes i then_is) lines) after middle new (Ok (Answered answer)) it w g o in
+          let f : FitsBy i (put (pending_spelling next)) y (Some next) = (enters room it middle w).fits.fits in
+          let a = answers_of i y r.0.after next answer r.0.comes in
+          let total : total_of r.0.after.batches ≡ total_of y.batches + 1 = sym a.0 ∙ ap (λ (n : ℕ). n + 1) settled.at_end in
+          let fresh : nat_eq next.position (total_of y.batches) ≡ false = grind (arith, nat_tests, settled.at_end) in
+          record {
+            settled_then = settled_by (Some next) (Answered answer) f r.0;
+            ready = ready_on then_is (record { platform = after; store = new; last = Answered answer }) lines
+                (settled_by (Some next) (Answered answer) f r.0) (ap (λ (x : BatchAnswer). x.snapshot) a.1) r.1 s.follow.2;
+            new_here = (ap (λ (b : BatchAnswer). b.again) a.1 ∙ fresh, ap (λ (b : BatchAnswer). b.position) a.1 ∙ total);
+            total = total;
+            run = (went_first (Some next) (Answered answer) f r.0).run;
+            powered = r.0.powered;
+          }

@@ -8,7 +8,7 @@ use Rattle.mm_host.proofs.Below.{BatchAnswer, Refusal, counted_part, CallsOn, fo
 use Rattle.mm_host.proofs.Below.{counted_open, asks, Alike, still, grown_by, alike_commit, clean_open, issued_alike, names_after, opened}
 use Rattle.mm_host.proofs.Below.{same_closed, issued_content, answered_at, Hands, hands, IsClear, AreNoGuards, flag_kept, pushed_open}
 use Rattle.mm_host.proofs.Below.{shown_front, Pending, one_more, Met, IsGrownBy, opt_met, opt_met_idle, opt_grown, issued_in_opt}
-use Rattle.mm_host.proofs.Below.{not_lost}
+use Rattle.mm_host.proofs.Below.{◌⊎◌, ◌≤◌, last_position, not_lost}
 use Rattle.mm_seal.specs.declared.snapshot.Place.{Place}
 use Rattle.mm_model.specs.History.{joined}
 use Rattle.mm_model.specs.ListLaws.{each_left}
@@ -107,7 +107,13 @@ module _ (meaning : Meaning) (lawful : IsLawful meaning) (key barrier : List ℕ
   abbrev Handed : Type 0
   Handed = Hands meaning key barrier all others asked y middle final offer p.request (Ok answer) shows.more
 
-  -- no segment is open after it
+  -- no segment is open after it, so it is a repeat
+  room_shut : (after : History) → Alike meaning key barrier y (One p.request) after → after.is_open ≡ false
+      → (after.batches ≡ y.batches) ⊎ (total_of after.batches ≤ last_position)
+  room_shut after (still e) shut = inl (ap (λ (x : History). x.batches) e)
+  room_shut after (grown_by e) shut =
+      let clash : true ≡ false = sym (opened meaning key barrier y after (One p.request) e) ∙ shut in absurd (cc)
+
   between_shut : (h : Handed) → h.left.after.is_open ≡ false → Between
   between_shut h e = (
     record {
@@ -121,6 +127,7 @@ module _ (meaning : Meaning) (lawful : IsLawful meaning) (key barrier : List ℕ
       judged = λ why e. absurd (cc);
       issues = λ answer e. issued_in_opt meaning lawful key barrier h.left.after h.left.within.sound (h.left.clean answer e);
       grown = opt_grown meaning key barrier y h.left.after p h.left.alike;
+      room = room_shut h.left.after h.left.alike e;
       powered = λ w. not_lost h.left.after.is_open _ _ _ (λ f. let clash : true ≡ false = sym f ∙ e in absurd (cc));
     },
     record { items = h.items; known = h.known; more = h.more; ends = h.ends; shown_are = h.shown_are },

@@ -5,6 +5,7 @@ use Rattle.mm_host.proofs.Below.{Pending, ReadsPending, pending_spelling, Slots,
 use Rattle.mm_host.proofs.Below.{IsNotBeyond, waiting_position, FitsHistory, FitsBy, Holds, IsWaiting, later}
 use Rattle.std.proofs.lemmas.Bool.{cases_lt}
 use Rattle.mm_store.proofs.Above.{slot_in-with_slot}
+use Rattle.mm_host.proofs.Below.{beyond_none, waiting_position, waiting_most}
 
 -- slots 2 and 3, in either order
 abbrev AreSides : ℕ → ℕ → Type 0
@@ -175,4 +176,71 @@ torn_fits i y slots other position bytes f h at holds p n = record {
     | inl e ↦ rw e (fits_moved i y slots other position bytes f.waiting p f.fits)
     | inr e ↦ fits_next i y other position n.waiting e at (rw (p.snapshots position) holds)
   ];
+}
+
+-- What waits has one of the positions, and so has what it follows.
+
+pub waits_most : (two three : List ℕ) (w : Option Pending) → IsWaiting two three w → waiting_position w ≤ last_position
+waits_most two three None a = omega arith
+waits_most two three (Some p) a = waiting_most two three (Some p) p a refl
+
+pub fits_most : (i : Instance) (slots : Slots) (y : History) (w : Option Pending) → FitsBy i slots y w
+    → waiting_position w ≤ last_position → total_of y.batches ≤ last_position
+fits_most i slots y None f h = omega (arith, f.0)
+fits_most i slots y (Some p) (inl next, holds) h = omega (arith, next, h)
+fits_most i slots y (Some p) (inr last, holds) h = omega (arith, last.0, h)
+
+pub fits_room : (i : Instance) (slots : Slots) (y : History) → FitsHistory i slots y → total_of y.batches ≤ last_position
+fits_room i slots y f =
+    fits_most i slots y f.waiting f.fits (waits_most (slot_read slots 2) (slot_read slots 3) f.waiting f.is_waiting)
+
+-- A record behind the last position isn't read: what waited goes on to wait.
+
+later_none : (a : Option Pending) → a ≡ later a None
+later_none None = refl
+later_none (Some p) = refl
+
+waits_alone : (slots : Slots) (kept other : ℕ) (here : Option Pending) → AreSides kept other
+    → ReadsPending kept (slot_read slots kept) here → ReadsPending other (slot_read slots other) None
+    → IsWaiting (slot_read slots 2) (slot_read slots 3) here
+waits_alone slots kept other here (inl s) r t = record {
+  in_two = here;
+  in_three = None;
+  reads_two = rw s.0 at r;
+  reads_three = rw s.1 at t;
+  is = later_none here;
+}
+waits_alone slots kept other here (inr s) r t = record {
+  in_two = None;
+  in_three = here;
+  reads_two = rw s.1 at t;
+  reads_three = rw s.0 at r;
+  is = refl;
+}
+
+-- beside what waited
+waits_still : (slots other : Slots) (position : ℕ) (bytes : List ℕ) (w : Option Pending)
+    → IsWaiting (slot_read slots 2) (slot_read slots 3) w → waiting_position w ≡ position
+    → ReadsPending (2 + (position + 1) % 2) (slot_read other (2 + (position + 1) % 2)) None → IsPut slots other position bytes
+    → IsWaiting (slot_read other 2) (slot_read other 3) w
+waits_still slots other position bytes w a at none p =
+    let here : ℕ = 2 + position % 2 in
+    let there : ℕ = 2 + (position + 1) % 2 in
+    let r = reads_of slots here there w (sides position) a in
+    let kept : w ≡ r.here = elim (elsewhere here there position _ _ r.here r.there w r.reads_here r.reads_there refl r.later_of.is
+    r.later_of.over_first) [
+      | inl e ↦ e
+      | inr odd ↦ absurd (omega (arith, odd, at))
+    ] in
+    rw kept (waits_alone other here there r.here (sides position) (rw p.here r.reads_here) none)
+
+pub full_fits : (i : Instance) (y : History) (slots other : Slots) (position : ℕ) (next : Pending) (f : FitsHistory i slots y)
+    → waiting_position f.waiting ≡ position → position ≡ last_position → next.position ≡ position + 1
+    → take longest_slot (pending_spelling next) ≡ pending_spelling next → IsPut slots other position (pending_spelling next)
+    → FitsHistory i other y
+full_fits i y slots other position next f h full at spelled p = record {
+  waiting = f.waiting;
+  is_waiting = waits_still slots other position (pending_spelling next) f.waiting f.is_waiting h
+      (beyond_none (2 + (position + 1) % 2) (slot_read other (2 + (position + 1) % 2)) next (omega (arith, at, full)) (p.next ∙ spelled)) p;
+  fits = fits_moved i y slots other position (pending_spelling next) f.waiting p f.fits;
 }

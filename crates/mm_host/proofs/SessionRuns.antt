@@ -1,35 +1,40 @@
 -- A session by lists, in either variant: from what waited, over the lines, to each of its ends.
 use Rattle.mm_host.proofs.Below.{◌≡◌, ◌≢◌, ◌∙◌, ℕ, List, [], ◌∷◌, ◌++◌, Option, None, Some, Result, Err, refl, ap, inl, inr, ◌⊎◌}
-use Rattle.mm_host.proofs.Below.{Standing, Batch, One, Instance, History, requests_of, Life, LostLife, life_of, requests-push}
+use Rattle.mm_host.proofs.Below.{Standing, Batch, One, Instance, History, requests_of, LostLife, life_of, requests-push}
 use Rattle.mm_host.proofs.Below.{StoreStanding, Pending, Refusal, HostFault, SessionFault, Host, Resumed, ContinuesTo, HasUntold}
-use Rattle.mm_host.proofs.Below.{MayBeUntold, RefusesAs, RunsOver, IsGrown, IsRefusedAs, MayHaveCommitted, SendsReply, comes_as}
+use Rattle.mm_host.proofs.Below.{MayBeUntold, RefusesAs, RunsOver, IsGrown, MayHaveCommitted, SendsReply, comes_as}
 use Rattle.mm_host.proofs.Below.{reply_text, Place, Served, IsAtRest, Ok, Slots, Answered, FitsBy}
-use Rattle.mm_host.proofs.Below.{RecoversTo, record_for, Serves, lines_served, AreAmong, AreAskedInTurn, answered_to, snapshot_at, length}
-use Rattle.mm_host.proofs.Below.{whole_in, slot_read, Answer, CanRecover, IsInHand, told_first, told_in, first_offer, requests_with, ◌+◌, ◌≤◌}
+use Rattle.mm_host.proofs.Below.{RecoversTo, record_for, Serves, lines_served, AreAmong, AreAskedInTurn, answered_to, snapshot_at}
+use Rattle.mm_host.proofs.Below.{whole_in, slot_read, Answer, CanRecover, IsInHand, told_first, told_in, first_offer, requests_with}
+use Rattle.mm_host.proofs.Below.{AreNewFrom, AreToldOnce}
 use Rattle.mm_host.proofs.Below.{offer_slot, Resumes, Sessions, AfterResume, StopsAtOnce, NoMore, left_by, IsCall, IsWaiting, IsSame}
-use Rattle.mm_host.proofs.Below.{recovers_by, Met, IfOk, subst, sym, total_of, last_position, refusal_fault, RunsTo, StandsFor, IsWithin}
+use Rattle.mm_host.proofs.Below.{recovers_by, Met, IfOk, subst, sym, total_of, refusal_fault, RunsTo, StandsFor, IsWithin, Variant}
 use Rattle.mm_host.proofs.Below.{append_assoc, append_cancel_left, true}
-use Rattle.mm_recovery.specs.Recovery.{IsAskedFor}
-use Rattle.mm_host.specs.Sessions.{GoesOn}
+use Rattle.mm_host.specs.Sessions.{GoesOn, ServesLines}
+use Rattle.mm_host.proofs.Below.{◌+◌, ◌%◌, length, Meaning, MayGrow, longest_request, AfterRecord, BeginsWith, ended_as, IsMade, Enters}
+use Rattle.mm_host.proofs.Below.{Lines, Memory, pending_spelling, position_at, ServedOn, StopsInLine, StoreFault, WriteFault, WritesSlot}
 use Rattle.mm_recovery.specs.declared.fault.HostFault.TheVariants as host
 use Rattle.mm_host.proofs.CallsMade.{first_told, InHand, lines_chain, served_calls}
 use Rattle.mm_host.proofs.InTurn.{calls_reach, chain_reaches, ends_reach, May, met_last, StandsIn}
 use Rattle.mm_host.proofs.Leading.{Laws, Reaches, RunsOver-append, same_pending, unspoiled}
-use Rattle.mm_host.proofs.LineStep.{between_told, came_by, CameTo, IsBetween, IsReady, IsSettledAt, line_goes, line_last, ready_first}
-use Rattle.mm_host.proofs.LineStep.{offer_then, settled_by, waiting_then, went_first}
-use Rattle.mm_host.proofs.Lines.{by_told, IsByInput, by_end}
+use Rattle.mm_host.proofs.LineStep.{between_told, IsBetween, IsReady, line_goes, line_last, line_unwritten, ready_first}
+use Rattle.mm_host.proofs.LineStep.{offer_then, waiting_then}
+use Rattle.mm_host.proofs.Settling.{came_by, CameTo, IsSettledAt, once_first, settled_by, went_first}
+use Rattle.mm_host.proofs.Lines.{by_told, IsByInput}
 
 -- what a fault says of what came
 
-refuses_by : (f : HostFault) (life : Life) → ((why : Refusal) → f ≡ host.Refused why → IsRefusedAs why life)
-    → RefusesAs {T = Unit} (Err (Host f)) life
-refuses_by (host.Refused why) how h = h why refl
-refuses_by _ how h = tt
+refuses_by : (f : HostFault) (variant : Variant) (after : History)
+    → ((why : Refusal) → f ≡ host.Refused why → RefusesAs {T = Unit} (Err (Host (host.Refused why))) variant after)
+    → RefusesAs {T = Unit} (Err (Host f)) variant after
+refuses_by (host.Refused why) variant after h = h why refl
+refuses_by _ variant after h = tt
 
 -- at rest it tells of no life
-pub rest_refuses : (result : Result Unit SessionFault) (life : Life) → IsByInput result → RefusesAs result life
-rest_refuses (Err (Host fault)) _ by = absurd by
-rest_refuses _ _ by = tt
+pub rest_refuses : (result : Result Unit SessionFault) (variant : Variant) (after : History) → IsByInput result
+    → RefusesAs result variant after
+rest_refuses (Err (Host fault)) variant after by = absurd by
+rest_refuses _ variant after by = tt
 
 store_came : (came : Result Resumed HostFault) (sent : List ℕ) (fault : SessionFault) → SendsReply came sent (Err fault)
     → came ≡ Err host.Store → fault ≡ Host host.Store
@@ -74,15 +79,21 @@ module _ {all others : List (List ℕ)} {asked : List Batch} {i : Instance} (y :
     powered = powered;
   }
 
+-- where this waited first
+module _ {all others : List (List ℕ)} {asked : List Batch} {i : Instance} (y : History) (first : Option Pending) (told : List Served)
+    (hand : List ℕ → Type 0) where
   -- by what is left of the history and of the slots
   ends_at : {final : Standing} {u : History} {waiting : Option Pending} {came : Result Resumed HostFault} {requests : List (List ℕ)}
       (new : StoreStanding) (result : Result Unit SessionFault) (c : CameTo all others asked i u waiting final new came)
       → (came ≡ Err host.Store → result ≡ Err (Host host.Store)) → RunsOver i.meaning (requests_of y.batches) told requests
+      → AreToldOnce (total_of y.batches) first told
       → (requests_of c.after.batches ≡ requests) ⊎ HasUntold hand result requests (requests_of c.after.batches)
-      → RefusesAs result (life_of i.variant c.after) → (life_of i.variant y ≢ LostLife → life_of i.variant c.after ≢ LostLife)
-      → ContinuesTo all others asked i y final new told hand result
-  ends_at new result c stored run committed refuses powered = record {
-    runs = runs_to c.after c.stands c.within run committed powered;
+      → RefusesAs result i.variant c.after → (life_of i.variant y ≢ LostLife → life_of i.variant c.after ≢ LostLife)
+      → ContinuesTo all others asked i y first final new told hand result
+  ends_at new result c stored run once committed refuses powered = record {
+    runs = runs_to y told hand c.after c.stands c.within run committed powered;
+    once = once;
+    room = c.room;
     slots_after = c.slots_after;
     honest = c.honest;
     slots_told = c.told;
@@ -94,23 +105,25 @@ module _ {all others : List (List ℕ)} {asked : List Batch} {i : Instance} (y :
   -- it rests where it stands
   rests_at : {final : Standing} (at : Place) (new : StoreStanding) (sent : List ℕ) (result : Result Unit SessionFault)
       (s : IsSettledAt all others asked i at) → RunsOver i.meaning (requests_of y.batches) told (requests_of s.after.batches)
+      → AreToldOnce (total_of y.batches) first told
       → (life_of i.variant y ≢ LostLife → life_of i.variant s.after ≢ LostLife) → IsAtRest at final new sent → IsByInput result
-      → ContinuesTo all others asked i y final new told hand result
-  rests_at at new sent result s run powered e by =
-      rw (e.platform, e.store) (ends_at at.store result (came_by s.waiting (Ok at.last) s.came) (λ clash. absurd (cc)) run (inl refl)
-      (rest_refuses result (life_of i.variant s.after) by) powered)
+      → ContinuesTo all others asked i y first final new told hand result
+  rests_at at new sent result s run once powered e by =
+      rw (e.platform, e.store) (ends_at at.store result (came_by s.waiting (Ok at.last) s.came) (λ clash. absurd (cc)) run once (inl refl)
+      (rest_refuses result i.variant s.after by) powered)
 
   -- what came ends it
   stops_with : {final : Standing} (z : History) (waiting : Option Pending) (new : StoreStanding) (came : Result Resumed HostFault)
       (sent : List ℕ) (fault : SessionFault) → RunsOver i.meaning (requests_of y.batches) told (requests_of z.batches)
+      → AreToldOnce (total_of y.batches) first told
       → (life_of i.variant y ≢ LostLife → life_of i.variant z ≢ LostLife) → CameTo all others asked i z waiting final new came
       → ((p : Pending) → waiting ≡ Some p → hand p.request) → SendsReply came sent (Err fault)
-      → ContinuesTo all others asked i y final new told hand (Err fault)
-  stops_with z waiting new came sent fault run powered c h s =
-      ends_at new (Err fault) c (λ e. ap (λ (x : SessionFault). Err x) (store_came came sent fault s e)) run
+      → ContinuesTo all others asked i y first final new told hand (Err fault)
+  stops_with z waiting new came sent fault run once powered c h s =
+      ends_at new (Err fault) c (λ e. ap (λ (x : SessionFault). Err x) (store_came came sent fault s e)) run once
       (waiting_committed z c.after waiting came sent fault hand h s c.only c.grown)
-      (by_told (λ (f : SessionFault). RefusesAs {T = Unit} (Err f) (life_of i.variant c.after)) came sent fault s
-      (λ (f : HostFault) (e : came ≡ Err f). refuses_by f (life_of i.variant c.after) (λ (why : Refusal) (is : f ≡ host.Refused why).
+      (by_told (λ (f : SessionFault). RefusesAs {T = Unit} (Err f) i.variant c.after) came sent fault s
+      (λ (f : HostFault) (e : came ≡ Err f). refuses_by f i.variant c.after (λ (why : Refusal) (is : f ≡ host.Refused why).
       c.refuses why (e ∙ ap (λ (x : HostFault). Err x) is))) (λ n. tt)) (λ p. c.powered (powered p))
 
 -- The lines of a session that are answered, by lists: each grows the history.
@@ -121,16 +134,17 @@ module _ {all others : List (List ℕ)} {asked : List Batch} {i : Instance} {fin
     pub then_is : History
     pub ready : IsReady laws settled then_is rest
     pub run : RunsOver i.meaning (requests_of y.batches) calls (requests_of settled.after.batches)
+    pub once : AreNewFrom (total_of y.batches) calls
     pub powered : life_of i.variant y ≢ LostLife → life_of i.variant settled.after ≢ LostLife
 
   pub lines_come : (z : History) (from to : Place) (calls : List Served) (rest : List (List ℕ)) (s : IsSettledAt all others asked i from)
       → IsReady laws s z (lines_served calls ++ rest) → Serves i.variant i.meaning from calls to
       → Reaches i.variant i to.platform final → AfterLines s.after to calls rest
   lines_come z from to [] rest s ready h reaches =
-      rw h (record { settled = s; then_is = z; ready = ready; run = refl; powered = λ p. p })
+      rw h (record { settled = s; then_is = z; ready = ready; run = refl; once = tt; powered = λ p. p })
   lines_come z from to (c ∷ calls) rest s ready h reaches =
       let next : Place = record { platform = h.platform; store = h.store; last = Answered c.answer } in
-      let b = line_goes laws z from c.line (lines_served calls ++ rest) s ready h.within h.asks.recorded h.platform h.asks.middle h.store
+      let b = line_goes laws from c.line s h.within z (lines_served calls ++ rest) ready h.asks.recorded h.platform h.asks.middle h.store
       c.answer
       (calls_reach laws c.answer.snapshot h.platform to.platform calls
       (served_calls i.variant i.meaning next to calls h.rest) reaches)
@@ -142,11 +156,86 @@ module _ {all others : List (List ℕ)} {asked : List Batch} {i : Instance} {fin
         ready = r.ready;
         run = RunsOver-append i.meaning (requests_of s.after.batches) (requests_of b.settled_then.after.batches)
             (requests_of r.settled.after.batches) (c ∷ []) calls b.run r.run;
+        once = (b.new_here.0, b.new_here.1, subst (λ (n : ℕ). AreNewFrom n calls) b.total r.once);
         powered = λ k. r.powered (b.powered k);
       }
 
+-- A line in hand is one of the requests, where it was asked.
+
+abbrev pub IsWritten : Result Unit StoreFault → Type 0
+IsWritten (Ok it) = Unit {0}
+IsWritten (Err why) = ⊥
+
+abbrev pub IsFirstIn : {variant : Variant} {meaning : Meaning} {number : ℕ} {at : Place} {after : Standing} {new : StoreStanding}
+    {more sent : List ℕ} (rest : List (List ℕ)) (fault : SessionFault)
+    → StopsInLine variant meaning number at after new more sent fault → Type 0
+IsFirstIn rest fault e = IsWritten e.asks.recorded → (next : List (List ℕ)) × (rest ≡ e.line ∷ next)
+
+abbrev pub IsLineAsked : (variant : Variant) (meaning : Meaning) (number : ℕ) (at : Place) (after : Standing) (new : StoreStanding)
+    (left : Option (List ℕ)) (more sent : List ℕ) (rest : List (List ℕ)) (result : Result Unit SessionFault)
+    → ServedOn variant meaning number at after new left more [] sent (ended_as result) → Type 0
+IsLineAsked variant meaning number at after new left more sent rest (Err (Host fault)) e = IsFirstIn rest (Host fault) e
+IsLineAsked variant meaning number at after new left more sent rest (Err (Lines WriteFault)) e = IsFirstIn rest (Lines WriteFault) e
+IsLineAsked variant meaning number at after new left more sent rest _ e = Unit {0}
+
+-- What a session asked, if anything, are the first of these requests: what waited, the lines that were told, and the one in hand.
+module _ {variant : Variant} {meaning : Meaning} {before final : Standing} {old new : StoreStanding}
+    {left left' received received' : Option (List ℕ)} {result : Result Unit SessionFault}
+    (s : Sessions variant meaning before final old new left left' received received' result) (waiting : Option Pending)
+    (requests : List (List ℕ)) where
+  abbrev pub IsFirstAsked : Type 0
+  IsFirstAsked =
+      IsMade variant meaning before s.platform s.resumes.waiting s.resumes.middle s.store s.begun s.resumes.goes
+      → (p : Pending) → waiting ≡ Some p → (rest : List (List ℕ)) × (requests ≡ p.request ∷ rest)
+
+  abbrev pub AreMade : AfterResume variant meaning s.begun s.platform final s.store new left' s.taken s.sent result → Type 0
+  AreMade (inl stops) = IsFirstAsked
+  AreMade (inr g) =
+      (rest : List (List ℕ)) × (lines_served (told_first waiting g.first ++ g.lines.calls) ++ rest ≡ requests)
+      × IsLineAsked variant meaning (length g.lines.calls + 1) g.lines.at final new left' g.lines.more g.lines.last rest result
+      g.lines.ends
+
+-- It ends with a line in hand, which was asked or not, or at rest.
+by_asked : {variant : Variant} {meaning : Meaning} {from : Place} {after : Standing} {new : StoreStanding} {left : Option (List ℕ)}
+    {taken sent : List ℕ} (P : Result Unit SessionFault → Type 0) (rest : List (List ℕ)) (result : Result Unit SessionFault)
+    (l : ServesLines variant meaning 1 from after new left taken sent result)
+    → IsLineAsked variant meaning (length l.calls + 1) l.at after new left l.more l.last rest result l.ends
+    → ((fault : SessionFault) (e : StopsInLine variant meaning (length l.calls + 1) l.at after new l.more l.last fault)
+    → IsFirstIn rest fault e → P (Err fault))
+    → (IsByInput result → IsAtRest l.at after new l.last → P result) → P result
+by_asked P rest (Err (Host fault)) l a line still = line (Host fault) l.ends a
+by_asked P rest (Err (Lines WriteFault)) l a line still = line (Lines WriteFault) l.ends a
+by_asked P rest (Err (Lines Memory)) l a line still = absurd l.ends
+by_asked P rest _ l a line still = still tt l.ends.0
+
+-- the line behind those that were told
+among_next : (told : List Served) (more : List ℕ) {requests : List (List ℕ)}
+    (a : AreAmong told (λ (request : List ℕ). (held : List ℕ) × BeginsWith more request held) requests) (line held : List ℕ)
+    → BeginsWith more line held → (next : List (List ℕ)) × (a.served.0 ≡ line ∷ next)
+among_next told more a line held b =
+    let next = a.in_hand line (held, b) in (
+      next.0,
+      append_cancel_left (lines_served told) a.served.0 (line ∷ next.0)
+          (a.served.1 ∙ sym next.1 ∙ append_assoc (lines_served told) (line ∷ []) next.0),
+    )
+
+-- what the line in hand came to
+module _ {all others : List (List ℕ)} {asked : List Batch} {i : Instance} {final : Standing} (laws : Laws all others asked i final)
+    (at : Place) (settled : IsSettledAt all others asked i at) (z : History) (rest : List (List ℕ)) (ready : IsReady laws settled z rest)
+    (line : List ℕ) (new : StoreStanding) (came : Result Resumed HostFault) (within : MayGrow longest_request line) where
+  line_came : (recorded : Result Unit StoreFault) (middle : StoreStanding)
+      → WritesSlot (2 + (position_at at.last + 1) % 2) (pending_spelling (record_for at.last line)) at.store middle recorded
+      → AfterRecord i.variant i.meaning at.platform final recorded middle new at.last line came
+      → (IsWritten recorded → (next : List (List ℕ)) × (rest ≡ line ∷ next))
+      → CameTo all others asked i settled.after (Some (record_for at.last line)) final new came
+  line_came (Err why) middle records g first = line_unwritten laws at line settled within why middle new came records g
+  line_came (Ok it) middle records g first =
+      let f = first tt in
+      line_last laws at line settled within z f.0 (subst (λ (ls : List (List ℕ)). IsReady laws settled z ls) f.1 ready) it middle new came
+      records g
+
 -- A session by lists, in either variant: from what waited, over the lines, to each of its ends; it starts at a history that is the
--- same as the one of which is asked but for others' values.
+-- same as the one of which is asked but for others' values. What it asked are the first of these requests.
 
 module _ {all others : List (List ℕ)} {asked : List Batch} {i : Instance} {final : Standing} (laws : Laws all others asked i final)
     {before : Standing} {old new : StoreStanding} {left left' received received' : Option (List ℕ)} {result : Result Unit SessionFault}
@@ -156,19 +245,7 @@ module _ {all others : List (List ℕ)} {asked : List Batch} {i : Instance} {fin
     (here : StandsIn all others asked i y z before (first_offer slots waiting))
     (may : May laws y before (first_offer slots waiting) requests)
     (follow : AreAskedInTurn all asked i z (first_offer slots waiting) requests)
-    (room : total_of y.batches + length requests ≤ last_position)
-    (among : AreAmong (told_in waiting s.goes) (IsInHand waiting s.goes) requests) where
-  -- what waits is the first request
-  waits_first : (p : Pending) → waiting ≡ Some p
-      → (goes : AfterResume i.variant i.meaning s.begun s.platform final s.store new left' s.taken s.sent result)
-      → AreAmong (told_in waiting goes) (IsInHand waiting goes) requests → (rest : List (List ℕ)) × (requests ≡ p.request ∷ rest)
-  waits_first p e (inl stops) a = let f = a.in_hand p.request (p, e, refl) in (f.0, sym f.1)
-  waits_first p e (inr g) a =
-      let lines : List (List ℕ) = lines_served g.lines.calls ++ a.served.0 in (
-        lines,
-        sym a.served.1 ∙ first_told s slots waiting slots_told w g a.served.0
-            ∙ ap (λ (v : Option Pending). requests_with v lines) e,
-      )
+    where
 
   -- where that is asked
   record AsksFirst (p : Pending) (rest : List (List ℕ)) : Type 0 where
@@ -187,47 +264,40 @@ module _ {all others : List (List ℕ)} {asked : List Batch} {i : Instance} {fin
             (subst (λ (rs : List (List ℕ)). AreAskedInTurn all asked i z (first_offer slots waiting) rs) is follow);
       }
 
-  is_asked : (v : Option Pending) → waiting ≡ v → IsAskedFor all asked i slots v
-  is_asked None e = tt
-  is_asked (Some p) e =
-      let f = waits_first p e s.goes among in
-      let a = asks_first p f.0 e f.1 in (a.first_follow.0, a.first_follow.1)
-
-  can : CanRecover all others asked i y slots before old
-  can = record {
+  enters : Enters all others asked i y slots before old
+  enters = record {
     honest = honest;
     told = slots_told;
     stands = here.stands;
     fits = record { waiting = waiting; is_waiting = w; fits = fits };
-    clear = laws.clear;
-    apart = laws.apart;
     within = here.within;
-    is_asked = is_asked waiting refl;
   }
 
   -- the recovery, by what a call for what waits comes to
   recovered_by : (More : History → Type 0) (after : Standing) (came : Result Resumed HostFault)
-      → (waiting ≡ None → after ≡ before → More y)
-      → ((p : Pending) (call : Result Answer Refusal) → waiting ≡ Some p
+      → (waiting ≡ None → after ≡ before → More y) → (r : Resumes i.variant i.meaning before after old s.store came)
+      → (IsMade i.variant i.meaning before after r.waiting r.middle s.store came r.goes
+      → (p : Pending) (call : Result Answer Refusal) → waiting ≡ Some p
       → IsCall i.variant i.meaning before after (slot_read slots (offer_slot p)) p.request call
       → ((why : Refusal) → call ≡ Err why → came ≡ Err (refusal_fault why))
       → (o : Met all others asked i y after (slot_read slots (offer_slot p)) p (whole_in call)) × More o.after)
-      → Resumes i.variant i.meaning before after old s.store came
-      → (r : RecoversTo all others asked i y slots waiting after s.store came) × IfOk came (λ (resumed : Resumed). More r.after)
-  unfolding can
-  recovered_by More after came none leads =
-      recovers_by More i.variant all others asked i laws.lawful y slots before after old can s.store came none
-      (λ p call e told c.
-      let o = leads p call e c told in left_by all others asked i y slots before old can More after p (whole_in call) e o.0 o.1)
+      → (v : RecoversTo all others asked i y slots waiting after s.store came) × IfOk came (λ (resumed : Resumed). More v.after)
+  unfolding enters
+  recovered_by More after came none r leads =
+      recovers_by More i.variant all others asked i laws.lawful y slots before after old enters s.store came none r
+      (λ made p call e told c.
+      let o = leads made p call e c told in left_by all others asked i y slots before old enters More after p (whole_in call) e o.0 o.1)
 
   -- it is all
-  recovers_last : Resumes i.variant i.meaning before final old s.store s.begun
-      → RecoversTo all others asked i y slots waiting final s.store s.begun
-  recovers_last r =
-      (recovered_by NoMore final s.begun (λ n e. tt) (λ p call e c told.
-      let f = waits_first p e s.goes among in
+  recovers_last : final ≡ s.platform → IsFirstAsked s waiting requests → RecoversTo all others asked i y slots waiting final s.store s.begun
+  recovers_last same first =
+      subst (λ (x : Standing). RecoversTo all others asked i y slots waiting x s.store s.begun) (sym same)
+      (recovered_by NoMore s.platform s.begun (λ n e. tt) s.resumes (λ made p call e c told.
+      let f = first made p e in
       let a = asks_first p f.0 e f.1 in
-      (met_last laws y z before (slot_read slots (offer_slot p)) p f.0 call a.first_here a.first_follow a.first_may c, tt)) r).0
+      let m = met_last laws y z before (slot_read slots (offer_slot p)) p f.0 call a.first_here a.first_follow a.first_may
+      (subst (λ (x : Standing). IsCall i.variant i.meaning before x (slot_read slots (offer_slot p)) p.request call) (sym same) c) in
+      (subst (λ (x : Standing). Met all others asked i y x (slot_read slots (offer_slot p)) p (whole_in call)) same m, tt))).0
 
   -- or lines come behind it
   recovers_between : (first : Resumed) (lines : List (List ℕ)) → Reaches i.variant i s.platform final → s.begun ≡ Ok first
@@ -244,69 +314,72 @@ module _ {all others : List (List ℕ)} {asked : List Batch} {i : Instance} {fin
       (subst (λ (v : Option Pending). May laws y before (first_offer slots v) requests) n may)) in
       subst (λ (v : Option Pending). IsBetween laws (waiting_then laws z slots v) s.platform (offer_then laws z slots v) lines y) (sym n)
       (rests, here.same))
-      (λ p call e c told.
+      (rw is at s.resumes)
+      (λ made p call e c told.
       let a = asks_first p lines e (all_lines ∙ ap (λ (v : Option Pending). requests_with v lines) e) in
       let b = between_told laws y z before s.platform (slot_read slots (offer_slot p)) p call first lines a.first_here a.first_follow
       a.first_may reaches c told in
       subst (λ (v : Option Pending).
       (o : Met all others asked i y s.platform (slot_read slots (offer_slot p)) p (whole_in call))
       × IsBetween laws (waiting_then laws z slots v) s.platform (offer_then laws z slots v) lines o.after) (sym e) b)
-      (rw is at s.resumes)
+
+  -- nothing was told
+  none_told : (w : Option Pending) → FitsBy i slots y w → AreToldOnce (total_of y.batches) w []
+  none_told None f = tt
+  none_told (Some p) f = tt
 
   -- what waited ends it
   at_once : new ≡ s.store → (e : StopsAtOnce s.begun s.taken s.sent result)
       → RecoversTo all others asked i y slots waiting final s.store s.begun
-      → ContinuesTo all others asked i y final new []
+      → ContinuesTo all others asked i y waiting final new []
       (λ (request : List ℕ). (p : Pending) × (waiting ≡ Some p) × (p.request ≡ request)) result
   at_once same e r =
       let hand : List ℕ → Type 0 = λ request. (p : Pending) × (waiting ≡ Some p) × (p.request ≡ request) in
-      rw e.stops (rw same (stops_with y [] hand y waiting s.store s.begun s.sent e.fault refl (λ p. p) (came_by waiting s.begun r)
+      rw e.stops (rw same (stops_with y waiting [] hand y waiting s.store s.begun s.sent e.fault refl (none_told waiting fits) (λ p. p)
+      (came_by waiting s.begun r)
       (λ p w. (p, w, refl)) e.says))
 
   -- the lines
   serves_on : (g : GoesOn i.variant i.meaning s.begun s.platform final s.store new left' s.taken s.sent result)
-      → AreAmong (told_first waiting g.first ++ g.lines.calls) (InHand g.lines) requests
-      → ContinuesTo all others asked i y final new (told_first waiting g.first ++ g.lines.calls) (InHand g.lines) result
-  serves_on g a =
+      → (rest : List (List ℕ)) → lines_served (told_first waiting g.first ++ g.lines.calls) ++ rest ≡ requests
+      → IsLineAsked i.variant i.meaning (length g.lines.calls + 1) g.lines.at final new left' g.lines.more g.lines.last rest result
+      g.lines.ends
+      → ContinuesTo all others asked i y waiting final new (told_first waiting g.first ++ g.lines.calls) (InHand g.lines) result
+  serves_on g rest served asks_line =
       let l = g.lines in
       let told : List Served = told_first waiting g.first ++ l.calls in
       let from : Place = record { platform = s.platform; store = s.store; last = g.first } in
-      let rest : List (List ℕ) = a.served.0 in
       let lines : List (List ℕ) = lines_served l.calls ++ rest in
-      let all_lines : requests ≡ requests_with waiting lines = sym a.served.1 ∙ first_told s slots waiting slots_told w g rest in
+      let all_lines : requests ≡ requests_with waiting lines = sym served ∙ first_told s slots waiting slots_told w g rest in
       let r = recovers_between g.first lines (chain_reaches laws (lines_chain l)) g.begins all_lines in
       let ready = ready_first laws y z slots waiting s.platform s.store g.first lines fits r.0 r.1
-      (subst (λ (rs : List (List ℕ)). AreAskedInTurn all asked i z (first_offer slots waiting) rs) all_lines follow)
-      (subst (λ (rs : List (List ℕ)). total_of y.batches + length rs ≤ last_position) all_lines room) in
+      (subst (λ (rs : List (List ℕ)). AreAskedInTurn all asked i z (first_offer slots waiting) rs) all_lines follow) in
       let c = lines_come laws (waiting_then laws z slots waiting) from l.at l.calls rest (settled_by waiting g.first fits r.0) ready
       l.serves (ends_reach laws (lines_chain l).ends) in
       let run : RunsOver i.meaning (requests_of y.batches) told (requests_of c.settled.after.batches) =
       RunsOver-append i.meaning (requests_of y.batches) (requests_of r.0.after.batches) (requests_of c.settled.after.batches)
       (told_first waiting g.first) l.calls (went_first waiting g.first fits r.0).run c.run in
-      by_end (λ x. ContinuesTo all others asked i y final new told (InHand l) x) result l
-      (λ fault e.
-      let next = a.in_hand e.line (e.held, e.begins) in
-      let is : rest ≡ e.line ∷ next.0 = append_cancel_left (lines_served told) rest (e.line ∷ next.0)
-      (a.served.1 ∙ sym next.1 ∙ append_assoc (lines_served told) (e.line ∷ []) next.0) in
-      stops_with y told (InHand l) c.settled.after (Some (record_for l.at.last e.line)) new e.came l.last fault run
+      let once : AreToldOnce (total_of y.batches) waiting told = once_first waiting g.first r.0 l.calls c.once in
+      by_asked (λ x. ContinuesTo all others asked i y waiting final new told (InHand l) x) rest result l asks_line
+      (λ fault e first.
+      stops_with y waiting told (InHand l) c.settled.after (Some (record_for l.at.last e.line)) new e.came l.last fault run once
       (λ p. c.powered (r.0.powered p))
-      (line_last laws c.then_is l.at e.line next.0 c.settled
-      (subst (λ (ls : List (List ℕ)). IsReady laws c.settled c.then_is ls) is c.ready) e.begins.within
-      e.asks.recorded e.asks.middle new e.came e.asks.records e.asks.goes)
+      (line_came laws l.at c.settled c.then_is rest c.ready e.line new e.came e.begins.within e.asks.recorded e.asks.middle e.asks.records
+      e.asks.goes first)
       (λ p k. rw (same_pending (record_for l.at.last e.line) p k) (e.held, e.begins)) e.says)
-      (λ by x. rests_at y told (InHand l) l.at new l.last result c.settled run (λ p. c.powered (r.0.powered p)) x by)
+      (λ by x. rests_at y waiting told (InHand l) l.at new l.last result c.settled run once (λ p. c.powered (r.0.powered p)) x by)
 
   ends_by : (goes : AfterResume i.variant i.meaning s.begun s.platform final s.store new left' s.taken s.sent result)
-      → AreAmong (told_in waiting goes) (IsInHand waiting goes) requests
-      → ContinuesTo all others asked i y final new (told_in waiting goes) (IsInHand waiting goes) result
-  ends_by (inl e) a = at_once e.1 e.2 (recovers_last (rw e.0 s.resumes))
-  ends_by (inr g) a = serves_on g a
+      → AreMade s waiting requests goes
+      → ContinuesTo all others asked i y waiting final new (told_in waiting goes) (IsInHand waiting goes) result
+  ends_by (inl e) a = at_once e.1 e.2 (recovers_last e.0 a)
+  ends_by (inr g) a = serves_on g a.0 a.1 a.2
 
   -- of the history of which was asked
-  pub continues_to : (life_of i.variant z ≢ LostLife → life_of i.variant y ≢ LostLife)
-      → ContinuesTo all others asked i z final new (told_in waiting s.goes) (IsInHand waiting s.goes) result
-  continues_to powered =
-      let c = ends_by s.goes among in
+  pub continues_by : AreMade s waiting requests s.goes → (life_of i.variant z ≢ LostLife → life_of i.variant y ≢ LostLife)
+      → ContinuesTo all others asked i z waiting final new (told_in waiting s.goes) (IsInHand waiting s.goes) result
+  continues_by made powered =
+      let c = ends_by s.goes made in
       record {
         runs = record {
           after = c.runs.after;
@@ -319,6 +392,8 @@ module _ {all others : List (List ℕ)} {asked : List Batch} {i : Instance} {fin
           unspoiled = c.runs.unspoiled;
           powered = λ p. c.runs.powered (powered p);
         };
+        once = subst (λ (bs : List Batch). AreToldOnce (total_of bs) waiting (told_in waiting s.goes)) (laws.batches y z here.same) c.once;
+        room = c.room;
         slots_after = c.slots_after;
         honest = c.honest;
         slots_told = c.slots_told;
@@ -326,3 +401,28 @@ module _ {all others : List (List ℕ)} {asked : List Batch} {i : Instance} {fin
         whole = c.whole;
         refuses = c.refuses;
       }
+
+  -- where all that were told, and the one in hand, are the first of the requests
+  line_among : (told : List Served) (number : ℕ) (at : Place) (left : Option (List ℕ)) (more sent : List ℕ)
+      (a : AreAmong told (λ (request : List ℕ). (held : List ℕ) × BeginsWith more request held) requests)
+      → (result : Result Unit SessionFault)
+      → (e : ServedOn i.variant i.meaning number at final new left more [] sent (ended_as result))
+      → IsLineAsked i.variant i.meaning number at final new left more sent a.served.0 result e
+  line_among told number at left more sent a (Err (Host fault)) e = λ written. among_next told more a e.line e.held e.begins
+  line_among told number at left more sent a (Err (Lines WriteFault)) e = λ written. among_next told more a e.line e.held e.begins
+  line_among told number at left more sent a _ e = tt
+
+  made_among : (goes : AfterResume i.variant i.meaning s.begun s.platform final s.store new left' s.taken s.sent result)
+      → AreAmong (told_in waiting goes) (IsInHand waiting goes) requests → AreMade s waiting requests goes
+  made_among (inl e) a = λ made p k. let f = a.in_hand p.request (p, k, refl) in (f.0, sym f.1)
+  made_among (inr g) a = (
+    a.served.0,
+    a.served.1,
+    line_among (told_first waiting g.first ++ g.lines.calls) (length g.lines.calls + 1) g.lines.at left' g.lines.more g.lines.last a result
+        g.lines.ends,
+  )
+
+  pub continues_to : AreAmong (told_in waiting s.goes) (IsInHand waiting s.goes) requests
+      → (life_of i.variant z ≢ LostLife → life_of i.variant y ≢ LostLife)
+      → ContinuesTo all others asked i z waiting final new (told_in waiting s.goes) (IsInHand waiting s.goes) result
+  continues_to among powered = continues_by (made_among s.goes among) powered

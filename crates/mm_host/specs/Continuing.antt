@@ -1,6 +1,6 @@
 -- What a session comes to by lists alone, in either variant: its replies are those of one run of
 -- the module, and the slots that it leaves fit the history that the platform stands for.
-use Rattle.std.specs.Prelude.{◌≡◌, ◌≢◌, ◌+◌, ◌-◌, ◌<◌, ◌≤◌, ℕ, List, [], ◌∷◌, ◌++◌, Option, None, Some, Result, Ok, Err, true, nat_eq}
+use Rattle.std.specs.Prelude.{◌≡◌, ◌≢◌, ◌+◌, ◌-◌, ◌<◌, ◌≤◌, ℕ, List, [], ◌∷◌, ◌++◌, Option, None, Some, Result, Ok, Err, false, true, nat_eq}
 use Rattle.std.specs.Prelude.{if◌then◌else◌, ◌⊎◌}
 use Rattle.std.proofs.Common.{inl, inr}
 use Rattle.std.specs.List.{Contains}
@@ -9,6 +9,7 @@ use Rattle.mm_host.specs.Below.{Commit, first_history, moved, requests_of, total
 use Rattle.mm_host.specs.Below.{life_of, Within, offer_messages, issued, StandsFor, Answer, IsWithin, AreShown, standing_items, StepsOn}
 use Rattle.mm_host.specs.Below.{Reply, Told, StoreStanding, Pending, Slots, slot_read, FitsHistory, AsksIdly, CanRecover, IsRefusedAs}
 use Rattle.mm_host.specs.Below.{MayHaveCommitted, IsWaiting, HostFault, Store, Refused, Resumed, Answered}
+use Rattle.mm_model.specs.declared.refusal.Refusal.TheVariants.{Full}
 use Rattle.mm_host.specs.declared.fault.SessionFault.{SessionFault}
 use Rattle.mm_host.specs.declared.fault.SessionFault.TheVariants.{Host, Lines}
 use Rattle.mm_host.specs.Sessions.{Served, AfterResume, BeginsWith, Sessions}
@@ -64,10 +65,27 @@ MayBeUntold (Ok it) = ⊥
 MayBeUntold {T} (Err (Host fault)) = MayHaveCommitted {T = T} (Err fault)
 MayBeUntold (Err (Lines fault)) = fault ≡ WriteFault
 
--- A refusal is a device's fault; or in Opt it tells how the history has ended.
-abbrev pub RefusesAs : {T : Type 0} → Result T SessionFault → Life → Type 0
-RefusesAs (Err (Host (Refused why))) how = IsRefusedAs why how
-RefusesAs _ _ = Unit {0}
+-- Each of these is new, at the next position, behind so many.
+abbrev pub AreNewFrom : ℕ → List Served → Type 0
+AreNewFrom total [] = Unit {0}
+AreNewFrom total (c ∷ calls) =
+    (c.answer.again ≡ false) × (c.answer.position ≡ total + 1) × AreNewFrom (total + 1) calls
+
+-- Behind so many requests: what waited is told first, at its position, and again exactly where it
+-- was committed before; each line behind it is new.
+abbrev pub AreToldOnce : ℕ → Option Pending → List Served → Type 0
+AreToldOnce total None told = AreNewFrom total told
+AreToldOnce total (Some p) [] = Unit {0}
+AreToldOnce total (Some p) (c ∷ calls) =
+    (c.line ≡ p.request) × (c.answer.position ≡ p.position)
+    × (c.answer.again ≡ nat_eq p.position total) × AreNewFrom p.position calls
+
+-- A refusal is a device's fault; or it is Full, and every position is used up; or in Opt it tells
+-- how the history has ended.
+abbrev pub RefusesAs : {T : Type 0} → Result T SessionFault → Variant → History → Type 0
+RefusesAs (Err (Host (Refused Full))) variant after = total_of after.batches ≡ last_position
+RefusesAs (Err (Host (Refused why))) variant after = IsRefusedAs why (life_of variant after)
+RefusesAs _ variant after = Unit {0}
 
 -- one request more than those told is committed, the one in hand
 pub record HasUntold (hand : List ℕ → Type 0) (result : Result Unit SessionFault)
@@ -93,16 +111,20 @@ module _ (all others : List (List ℕ)) (asked : List Batch) (i : Instance) (y :
     pub unspoiled : others ≡ [] → life_of i.variant after ≢ Spoiled
     pub powered : life_of i.variant y ≢ LostLife → life_of i.variant after ≢ LostLife
 
-  -- The slots fit that history too, so that the session may be gone on with. A refusal is a
-  -- device's fault, or tells how that history has ended.
-  pub record ContinuesTo (standing : Standing) (kept : StoreStanding) (told : List Served)
-      (hand : List ℕ → Type 0) (result : Result Unit SessionFault) : Type 0 where
+  -- What waited is told first, and each line once; no request is behind the last position. The
+  -- slots fit that history too, so that the session may be gone on with. A refusal is a device's
+  -- fault, or Full where every position is used up, or tells how that history has ended.
+  pub record ContinuesTo (waiting : Option Pending) (standing : Standing) (kept : StoreStanding)
+      (told : List Served) (hand : List ℕ → Type 0) (result : Result Unit SessionFault) : Type 0
+    where
     pub runs : RunsTo standing told hand result
     pub open runs use *
+    pub once : AreToldOnce (total_of y.batches) waiting told
+    pub room : total_of runs.after.batches ≤ last_position
     pub slots_after : Slots
     pub honest : kept.is_honest ≡ true
     pub slots_told : kept.slots ≡ Some slots_after
     pub fits : IsNotBeyond slots_after (total_of runs.after.batches + 1) →
         FitsHistory i slots_after runs.after
     pub whole : result ≢ Err (Host Store) → FitsHistory i slots_after runs.after
-    pub refuses : RefusesAs result (life_of i.variant runs.after)
+    pub refuses : RefusesAs result i.variant runs.after

@@ -1,8 +1,7 @@
 -- What a session comes to over an honest store, in either variant: it may be gone on with.
-use Rattle.std.specs.Prelude.{◌≡◌, ◌+◌, ◌≤◌, ℕ, true, List, length, ◌++◌, Option, Some, Result}
-use Rattle.mm_host.specs.Below.{Variant, Basic, Opt, Item, Standing, Batch, Meaning, History, total_of, Instance, basic, opt, IsClear}
+use Rattle.std.specs.Prelude.{◌≡◌, ℕ, true, List, ◌++◌, Option, Some, Result}
+use Rattle.mm_host.specs.Below.{Variant, Basic, Opt, Item, Standing, Batch, Meaning, History, Instance, basic, opt, IsClear}
 use Rattle.mm_host.specs.Below.{AreNoGuards, StandsFor, IsWithin, AreShown, standing_items, StoreStanding, Slots, FitsHistory, first_offer}
-use Rattle.mm_host.specs.Below.{last_position}
 use Rattle.mm_host.specs.declared.fault.SessionFault.{SessionFault}
 use Rattle.mm_host.specs.AnySlots.{AreAmong, AreAskedInTurn, AsksNothingNew}
 use Rattle.mm_host.specs.Continuing.{ContinuesTo, IsInHand, told_in}
@@ -21,13 +20,9 @@ module _ (all others : List (List ℕ)) (asked : List Batch) (i : Instance) (y :
     pub apart : AreNoGuards i.barrier others asked
     pub within : IsWithin all others asked i y
 
--- there is a position for each of these requests behind a history
-abbrev pub HasRoom : History → List (List ℕ) → Type 0
-HasRoom y requests = total_of y.batches + length requests ≤ last_position
-
 -- By whatever steps the session went, from every history that the platform stood for at entry, over
--- an honest store whose slots fit it. The premises are asked of the requests that were made alone:
--- they are among these. Over a platform of Basic under every key; over one of Opt under every key
+-- an honest store whose slots fit it; at every exit. The premises are asked of the requests that
+-- were made alone: they are among these. Over a platform of Basic under every key; over one of Opt under every key
 -- and barrier, where what others did is known by the items that the register shows at the session's
 -- end, unless nothing new is asked.
 abbrev pub ContinuesFrom : Variant → Meaning → Standing → Standing → Standing → StoreStanding
@@ -40,9 +35,8 @@ ContinuesFrom Basic meaning entry before after old new left left' received recei
     (requests : List (List ℕ)) →
     (may : MayGoOn all others asked (basic meaning key) y slots entry old) →
     AreAskedInTurn all asked (basic meaning key) y (first_offer slots may.fits.waiting) requests →
-    HasRoom y requests →
     AreAmong (told_in may.fits.waiting s.goes) (IsInHand may.fits.waiting s.goes) requests →
-    ContinuesTo all others asked (basic meaning key) y after new
+    ContinuesTo all others asked (basic meaning key) y may.fits.waiting after new
     (told_in may.fits.waiting s.goes)
     (IsInHand may.fits.waiting s.goes) result
 ContinuesFrom Opt meaning entry before after old new left left' received received' result =
@@ -52,12 +46,11 @@ ContinuesFrom Opt meaning entry before after old new left left' received receive
     (may : MayGoOn all others asked (opt meaning key barrier) y slots entry old) →
     AreAskedInTurn all asked (opt meaning key barrier) y (first_offer slots may.fits.waiting)
     requests →
-    HasRoom y requests →
     AreAmong (told_in may.fits.waiting s.goes) (IsInHand may.fits.waiting s.goes) requests →
     entry.items ≡ Some items → after.items ≡ Some (standing_items y.is_open items ++ more) →
     ((AsksNothingNew (opt meaning key barrier) y (first_offer slots may.fits.waiting) requests → ⊥)
     → AreShown all others (opt meaning key barrier) y more) →
-    ContinuesTo all others asked (opt meaning key barrier) y after new
+    ContinuesTo all others asked (opt meaning key barrier) y may.fits.waiting after new
     (told_in may.fits.waiting s.goes)
     (IsInHand may.fits.waiting s.goes) result
 

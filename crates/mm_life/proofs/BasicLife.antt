@@ -90,7 +90,7 @@ module _ (meaning : Meaning) (lawful : IsLawful meaning) (key : List ℕ) where
   abbrev NothingSeen : Standing → Part → Standing → Type 0
   NothingSeen old part new = Unit {0}
 
-  basic_life : (all : List (List ℕ)) (asked : List Batch) → IsClear all → LifeLaws all [] asked B NothingSeen
+  pub basic_life : (all : List (List ℕ)) (asked : List Batch) → IsClear all → LifeLaws all [] asked B NothingSeen
   basic_life all asked clear = record {
     laws = λ final. basic_laws meaning lawful key all [] asked final clear (none_foreign B.barrier asked);
     leads = λ old new offer request gives c d s. (_, (c.goes key key d s).stands);
@@ -99,7 +99,7 @@ module _ (meaning : Meaning) (lawful : IsLawful meaning) (key : List ℕ) where
         stays meaning key all [] asked clear y old deed new quiet f stands within;
   }
 
-  all_seen : (all : List (List ℕ)) (asked : List Batch) (clear : IsClear all) (start : Standing) (stages : List Stage)
+  pub all_seen : (all : List (List ℕ)) (asked : List Batch) (clear : IsClear all) (start : Standing) (stages : List Stage)
       → AreSeen (basic_life all asked clear) start stages
   unfolding basic_life
   all_seen all asked clear start [] = tt
@@ -112,7 +112,7 @@ module _ (meaning : Meaning) (lawful : IsLawful meaning) (key : List ℕ) where
       (issued_once B (issued_bytes B first_history) first_history content
       (basic_content meaning lawful key first_history (omega arith)) refl right) (basic_issued meaning key first_history)
 
-  first_within : (all : List (List ℕ)) (asked : List Batch) → Contains all (start_message Basic meaning.id)
+  pub first_within : (all : List (List ℕ)) (asked : List Batch) → Contains all (start_message Basic meaning.id)
       → IsWithin all [] asked B first_history
   first_within all asked started =
       record { sound = record { closed = refl; shut = refl }; outside = tt; listed = (started, tt); batches = tt }

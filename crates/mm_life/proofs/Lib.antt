@@ -9,3 +9,6 @@ mod Offering
 mod OptSeen
 mod OptLife
 mod DoingLaws
+mod HonestSession
+mod HonestLife
+mod HonestLaws

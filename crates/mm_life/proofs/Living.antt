@@ -42,7 +42,7 @@ first_genuine : (i : Instance) (y : History) (issued : List (List ℕ)) (calls :
 first_genuine i y issued [] g u = tt
 first_genuine i y issued (c ∷ calls) g u = λ content right. each_at (IsGenuine i y) issued c.offer g (u content right) content right
 
-listed_left : (all : List (List ℕ)) (asked : List Batch) (i : Instance) (calls more : List Call) → AreListed all asked i (calls ++ more)
+pub listed_left : (all : List (List ℕ)) (asked : List Batch) (i : Instance) (calls more : List Call) → AreListed all asked i (calls ++ more)
     → AreListed all asked i calls
 listed_left all asked i calls more a = record {
   messages = each_left (Contains all) _ _ (rw (flat_map-append (λ (c : Call). right_messages i (One c.request) (right_content i c.offer))
@@ -50,7 +50,7 @@ listed_left all asked i calls more a = record {
   batches = each_left (Contains asked) _ _ (rw (map-append (λ (c : Call). One c.request) calls more) at a.batches);
 }
 
-listed_right : (all : List (List ℕ)) (asked : List Batch) (i : Instance) (calls more : List Call) → AreListed all asked i (calls ++ more)
+pub listed_right : (all : List (List ℕ)) (asked : List Batch) (i : Instance) (calls more : List Call) → AreListed all asked i (calls ++ more)
     → AreListed all asked i more
 listed_right all asked i calls more a = record {
   messages = each_right (Contains all)

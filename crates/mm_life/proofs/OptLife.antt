@@ -197,7 +197,7 @@ module _ (meaning : Meaning) (lawful : IsLawful meaning) (key barrier : List ℕ
   abbrev O : Instance
   O = opt meaning key barrier
 
-  opt_life : (all others : List (List ℕ)) (asked : List Batch) → IsClear all → AreNoGuards barrier others asked
+  pub opt_life : (all others : List (List ℕ)) (asked : List Batch) → IsClear all → AreNoGuards barrier others asked
       → LifeLaws all others asked O (IsSeen all others)
   opt_life all others asked clear apart = record {
     laws = λ final. opt_laws meaning lawful key barrier all others asked final clear apart;
@@ -208,7 +208,7 @@ module _ (meaning : Meaning) (lawful : IsLawful meaning) (key barrier : List ℕ
         stays meaning key barrier all others asked clear y old deed new quiet seen f stands within;
   }
 
-  all_seen : (all others : List (List ℕ)) (asked : List Batch) (clear : IsClear all) (apart : AreNoGuards barrier others asked)
+  pub all_seen : (all others : List (List ℕ)) (asked : List Batch) (clear : IsClear all) (apart : AreNoGuards barrier others asked)
       (start : Standing) (stages : List Stage) → Within (register_messages start stages) all
       → AllByRecursion (Contains others) (others_values stages) → AreSeen (opt_life all others asked clear apart) start stages
   unfolding opt_life
@@ -237,7 +237,7 @@ module _ (meaning : Meaning) (lawful : IsLawful meaning) (key barrier : List ℕ
     register = λ e. absurd (cc);
   }
 
-  first_within : (values all others : List (List ℕ)) (asked : List Batch) → Contains all (start_message Opt meaning.id)
+  pub first_within : (values all others : List (List ℕ)) (asked : List Batch) → Contains all (start_message Opt meaning.id)
       → IsWithin all others asked O (first_on values)
   first_within values all others asked started =
       record { sound = first_sound values; outside = tt; listed = (started, tt); batches = tt }

@@ -45,14 +45,14 @@ first_by i y bytes (c ∷ told) untold is g = g
 first_by i y bytes [] [] is g = tt
 first_by i y bytes [] (c ∷ untold) is g = rw is g
 
-listed_rest : (all : List (List ℕ)) (asked : List Batch) (i : Instance) (c : Call) (calls : List Call) → AreListed all asked i (c ∷ calls)
+pub listed_rest : (all : List (List ℕ)) (asked : List Batch) (i : Instance) (c : Call) (calls : List Call) → AreListed all asked i (c ∷ calls)
     → AreListed all asked i calls
 listed_rest all asked i c calls a = record {
   messages = each_right (Contains all) (right_messages i (One c.request) (right_content i c.offer)) _ a.messages;
   batches = a.batches.1;
 }
 
-listed_first : (all : List (List ℕ)) (asked : List Batch) (i : Instance) (c : Call) (calls : List Call) → AreListed all asked i (c ∷ calls)
+pub listed_first : (all : List (List ℕ)) (asked : List Batch) (i : Instance) (c : Call) (calls : List Call) → AreListed all asked i (c ∷ calls)
     → Within (right_messages i (One c.request) (right_content i c.offer)) all
 listed_first all asked i c calls a = each_left (Contains all) (right_messages i (One c.request) (right_content i c.offer)) _ a.messages
 
@@ -100,7 +100,7 @@ module _ (i : Instance) (leads : CallsLead i) where
   ends_lead {at} {final} {offer} (stops request hand gives c is came t sent fault says ends) =
       leads at final offer request (whole_in gives) c.goes
 
-  chain_leads : {before final : Standing} {offer : List ℕ} {told : List Served} {hand : List ℕ → Type 0} {untold : List Call}
+  pub chain_leads : {before final : Standing} {offer : List ℕ} {told : List Served} {hand : List ℕ → Type 0} {untold : List Call}
       {result : Result Unit SessionFault} → Chain i.variant i.meaning offer before final told hand untold result → Leads i before final
   chain_leads {before} {final} {offer} {told} k = λ d s.
       let first = calls_lead told offer before k.at k.calls d s in
@@ -166,7 +166,7 @@ module _ {all others : List (List ℕ)} {asked : List Batch} {i : Instance} {fin
     pub steps : Steps (requests_of after.batches)
     pub judged : IsLastJudged i after calls
 
-  ends_reach : {at : Standing} {offer : List ℕ} {hand : List ℕ → Type 0} {untold : List Call} {result : Result Unit SessionFault}
+  pub ends_reach : {at : Standing} {offer : List ℕ} {hand : List ℕ → Type 0} {untold : List Call} {result : Result Unit SessionFault}
       → Ends i.variant i.meaning at final offer hand untold result → Reaches i.variant i at final
   ends_reach {at} (rests same none) = reach_same i.variant i at final same
   ends_reach {at} {offer} (stops request hand gives c is came t sent fault says ends) =

@@ -1,4 +1,5 @@
 -- The words that the definitions of this crate take from the crates below.
+pub use Rattle.mm_base.specs.Limits.{last_position}
 pub use Rattle.mm_digest.specs.Messages.{anchored_message, extended_message, start_message, zero_bytes}
 pub use Rattle.mm_digest.specs.declared.variant.Variant.{Variant}
 pub use Rattle.mm_digest.specs.declared.variant.Variant.TheVariants.{Basic, Opt}
@@ -15,6 +16,7 @@ pub use Rattle.mm_model.specs.Chains.{after}
 pub use Rattle.mm_model.specs.History.{History, first_history, requests_of}
 pub use Rattle.mm_model.specs.Instance.{Instance}
 pub use Rattle.mm_model.specs.InstanceWords.{basic, opt}
+pub use Rattle.mm_model.specs.Life.{Lost, Spoiled, life_of}
 pub use Rattle.mm_model.specs.Messages.{AreNoGuards, IsClear, Within, register_trail}
 pub use Rattle.mm_model.specs.Places.{Names}
 pub use Rattle.mm_model.specs.Standing.{IsGenuine, IsRight, StandsFor, issued_bytes}
@@ -38,15 +40,16 @@ pub use Rattle.mm_store.specs.Pending.{Pending}
 pub use Rattle.mm_store.specs.Slots.{Slots, slot_read}
 pub use Rattle.mm_store.specs.declared.fault.StoreFault.{StoreFault}
 pub use Rattle.mm_recovery.specs.Asking.{IsCall}
-pub use Rattle.mm_recovery.specs.Begins.{first_on}
-pub use Rattle.mm_recovery.specs.Fitting.{first_offer}
+pub use Rattle.mm_recovery.specs.Begins.{first_on, first_slots}
+pub use Rattle.mm_recovery.specs.Fitting.{FitsHistory, first_offer}
 pub use Rattle.mm_recovery.specs.Last.{snapshot_at}
 pub use Rattle.mm_recovery.specs.Next.{AfterRecord, AsksNext}
 pub use Rattle.mm_recovery.specs.Resumes.{AfterFinding, AfterOffer, AsksAndKeeps}
 pub use Rattle.mm_recovery.specs.Waiting.{IsWaiting}
 pub use Rattle.mm_recovery.specs.declared.fault.HostFault.{HostFault}
+pub use Rattle.mm_recovery.specs.declared.fault.HostFault.TheVariants.{Store}
 pub use Rattle.mm_recovery.specs.declared.resuming.Resumed.{Resumed}
 pub use Rattle.mm_host.specs.AnySlots.{MayStart}
-pub use Rattle.mm_host.specs.Continuing.{HasUntold, IsInHand, RunsOver, answer_reply, told_in}
+pub use Rattle.mm_host.specs.Continuing.{AreToldOnce, HasUntold, IsInHand, IsNotBeyond, RefusesAs, RunsOver, answer_reply, told_in}
 pub use Rattle.mm_host.specs.Sessions.{AfterResume, Place, Served, ServedOn, Sessions, ended_as}
 pub use Rattle.mm_host.specs.declared.fault.SessionFault.{SessionFault}

@@ -7,3 +7,4 @@ pub mod Premises
 pub mod Laws
 pub mod Staying
 pub mod Doing
+pub mod Honest

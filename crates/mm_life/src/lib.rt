@@ -2,8 +2,10 @@
 //! one list of requests.
 #![tactic(auto)]
 
+mod honest;
 mod laws;
 
+pub use honest::{basic_life_goes_on, opt_life_goes_on};
 pub use laws::{
     basic_life_is_one, deeds_stay, device_calls_are_deeds, lives_keep_promises,
     lives_tell_what_was_said, next_may_start, opt_life_is_one, sessions_offer_slots,

@@ -2,7 +2,8 @@
 pub use Rattle.std.specs.Io.KnownBytes.{Consumes, IsAtEnd}
 pub use Rattle.std.specs.List.{Contains, list_any}
 pub use Rattle.std.specs.Option.{option_map}
-pub use Rattle.std.specs.Prelude.{◌⊎◌, if◌then◌else◌, nat_eq, nat_lt}
+pub use Rattle.std.specs.Prelude.{◌⊎◌, if◌then◌else◌, nat_eq, nat_le, nat_lt}
+pub use Rattle.std.specs.Str.{bytes_eq}
 pub use Rattle.std.proofs.Common.{◌%◌, ◌&&◌, ◌++◌, ◌+◌, ◌-◌, ◌<◌, ◌∙◌, ◌∷◌, ◌≡◌, ◌≢◌, ◌≤◌, [], ap, arith, Bool, drop, Err, false, IfOk, inl}
 pub use Rattle.std.proofs.Common.{inr, length, length-append, length-drop, length-take, List, map, None, Ok, Option, refl, Result, rules}
 pub use Rattle.std.proofs.Common.{Some, subst, suc, sym, take, true, zero, ℕ}
@@ -42,7 +43,7 @@ pub use Rattle.mm_model.specs.Steps.{ask_steps, Reads}
 pub use Rattle.mm_model.specs.declared.answer.Answer.{Answer}
 pub use Rattle.mm_model.specs.declared.answer.BatchAnswer.{BatchAnswer}
 pub use Rattle.mm_model.specs.declared.refusal.Refusal.{Refusal}
-pub use Rattle.mm_model.specs.declared.refusal.Refusal.TheVariants.{Device, Long, Lost, Memory}
+pub use Rattle.mm_model.specs.declared.refusal.Refusal.TheVariants.{Device, Full, Long, Lost, Memory}
 pub use Rattle.mm_model.specs.declared.verdict.Verdict.{Verdict}
 pub use Rattle.mm_model.proofs.Above.{basic_issued, basic_names, opt_issued, opt_names}
 pub use Rattle.mm_call.specs.Asked.{IsAsked, IsWithin}
@@ -56,18 +57,18 @@ pub use Rattle.mm_call.specs.Found.{Found, found_at, found_by_verdict}
 pub use Rattle.mm_call.specs.FoundWords.{found_unless_wanting, found_with, is_fresh}
 pub use Rattle.mm_call.specs.Leaving.{Blames, whole, whole_in}
 pub use Rattle.mm_call.specs.Levels.{all_made, by_digests, by_lists}
-pub use Rattle.mm_call.specs.MoveLaws.{same_batches}
+pub use Rattle.mm_call.specs.MoveLaws.{more_batches, same_batches}
 pub use Rattle.mm_call.specs.OfferLaws.{basic_content, one_content, opt_content}
 pub use Rattle.mm_call.specs.Order.{admitted}
 pub use Rattle.mm_call.specs.OrderWords.{weighed}
 pub use Rattle.mm_call.specs.Premises.{AreAsked, AreShown, IsIdle}
 pub use Rattle.mm_call.specs.Refusals.{fault_in, fault_of, OrMemory}
 pub use Rattle.mm_call.specs.Standing.{counted_by, instance_by}
-pub use Rattle.mm_call.specs.WalkLaws.{seen_none}
+pub use Rattle.mm_call.specs.WalkLaws.{batch, call_commits, Commits, nothing, seen_none}
 pub use Rattle.mm_call.specs.declared.ended.Ended.{Ended}
 pub use Rattle.mm_call.proofs.Above.{Alike, alike_call, AllMay, answered_clean_as, ask_may, asked_for, asked_idle, bare, basic_asked}
 pub use Rattle.mm_call.proofs.Above.{basic_comes, before, ends_result, Given, names_after, names_made, opt_comes as comes, refused_result}
-pub use Rattle.mm_call.proofs.Above.{stands_at, steps_give}
+pub use Rattle.mm_call.proofs.Above.{fresh_found, found_with_tells, stands_at, steps_give, unlacked, unless_lost, weighed_tells}
 pub use Rattle.mm_basic.specs.Asks.{acts_for, answer_in, basic_call, StepsAnswered as BasicAnswered, StepsBy as BasicSteps}
 pub use Rattle.mm_basic.specs.Asks.{StepsRefused as BasicRefused}
 pub use Rattle.mm_opt.specs.Asks.{opt_call, ReadsOn, StepsAnswered, StepsBy, StepsFrom, WritesAtMostOnce}
@@ -83,7 +84,7 @@ pub use Rattle.mm_recovery.specs.Begins.{Begins, BlamesDevice, first_on, first_s
 pub use Rattle.mm_recovery.specs.CellWrites.{CallWrites, is_open_after, IsNewAt, IsNewOf, LeavesFlag, LeavesOpen, new_by, new_first, openings}
 pub use Rattle.mm_recovery.specs.CellWrites.{RequestWrites, TellsFlag, WritesByOpening, WritesFor}
 pub use Rattle.mm_recovery.specs.Faults.{refusal_fault, store_fault_as}
-pub use Rattle.mm_recovery.specs.Fitting.{first_offer, FitsBy, Holds, IsAwaited, offer_slot}
+pub use Rattle.mm_recovery.specs.Fitting.{first_offer, FitsBy, FitsHistory, Holds, IsAwaited, offer_slot}
 pub use Rattle.mm_recovery.specs.Init.{AfterLooking, AfterPuts, AfterTaking, Devices, first_puts, Inits, instance_from, LooksAtCell, Put}
 pub use Rattle.mm_recovery.specs.Init.{PutsAll, SetsUp, TakesBytes, written_as}
 pub use Rattle.mm_recovery.specs.Next.{AfterRecord, AsksNext}

@@ -7,9 +7,9 @@ use Rattle.mm_recovery.proofs.Below.{by_digests, AreAsked, AreShown, IsIdle, fau
 use Rattle.mm_recovery.proofs.Below.{names_made, basic_comes, comes, Comes, Alike, alike_call, names_after, answered_clean_as}
 use Rattle.mm_recovery.proofs.Below.{Pending, IsRefusedAs, Bool, true, false, map, guard, Entry, Value, Move, Foreign, Reset}
 use Rattle.mm_recovery.proofs.Below.{committed, joined, renamed, are_own, has_value, is_empty, life_by, IsAllowed, ask_steps, Found}
-use Rattle.mm_recovery.proofs.Below.{found_unless_wanting, is_fresh, all_made, before, AllMay, ask_may}
+use Rattle.mm_recovery.proofs.Below.{found_unless_wanting, is_fresh, all_made, before, AllMay, ask_may, last_position, total_of, ◌≤◌}
 use Rattle.mm_call.specs.Tied.{standing_items}
-use Rattle.mm_recovery.proofs.Refusing.{grows, MayRefuse, IsOffered, offered_then, found_refused, keeps_refused, judged_refused}
+use Rattle.mm_recovery.proofs.Refusing.{grows, MayRefuse, IsOffered, offered_then, found_refused, has_room, keeps_refused, judged_refused}
 use Rattle.mm_recovery.proofs.Slots.{IsIssued, issued_in_basic, issued_in_opt}
 use Rattle.mm_call.specs.AlongLaws.{GoesAlong, EachMove, walk_along}
 use Rattle.mm_call.specs.WalkLaws.{made-append}
@@ -111,6 +111,7 @@ pub record Met (all others : List (List ℕ)) (asked : List Batch) (i : Instance
       → (why ≡ Memory) ⊎ (found_at i (by_lists i) after (One p.request) offer ≡ Err why)
   pub issues : (answer : BatchAnswer) → gives ≡ Ok answer → IsIssued i after
   pub grown : IsGrownBy i y (Some p) after
+  pub room : (after.batches ≡ y.batches) ⊎ (total_of after.batches ≤ last_position)
   pub powered : life_of i.variant y ≢ LostLife → life_of i.variant after ≢ LostLife
 
 faulted : (why : Refusal) (life : Life) (broken : StepFault) → fault_of why ≡ Some broken → IsRefusedAs why life
@@ -151,6 +152,7 @@ module _ (all others : List (List ℕ)) (asked : List Batch) (i : Instance) (y :
         judged = λ why e none. judged_refused (by_lists i) i y c (One p.request) offer why e none;
         issues = issues;
         grown = grown;
+        room = has_room i y c p.request offer;
         powered = powered;
       })
 

@@ -7,6 +7,7 @@ use Rattle.mm_recovery.proofs.Below.{last_position, IsFit, HostFault, Resumed, S
 use Rattle.mm_recovery.proofs.Below.{kept_as, AfterAsk, AfterOffer, AfterFinding, Resumes, IsCall, offer_slot, Holds, FitsBy, IsAskedFor}
 use Rattle.mm_recovery.proofs.Below.{AnswersAt, CanRecover, IsGrown, AsksIdly, ComesTo, MayHaveCommitted, Recovers, RecoversTo, one_reading}
 use Rattle.mm_recovery.proofs.Below.{AfterTwo, AfterThree}
+use Rattle.mm_recovery.proofs.Below.{FitsHistory, IsWithin}
 use Rattle.mm_recovery.specs.Last.{position_at, snapshot_at}
 use Rattle.mm_recovery.specs.declared.resuming.Resumed.TheVariants.{Answered}
 use Rattle.mm_recovery.proofs.Slots.{IsElsewhere, elsewhere_same, elsewhere_put, seen_put, holds_issued}
@@ -180,9 +181,22 @@ pub refusal_told : (call : Result Answer Refusal) (old new : StoreStanding) (res
     → AfterAsk call old new result → (why : Refusal) → call ≡ Err why → result ≡ Err (refusal_fault why)
 refusal_told call old new result g why e = grind (arith, g, e)
 
+-- What is asked of a start, but for the request that waits: of that where it is asked.
+pub record Enters (all others : List (List ℕ)) (asked : List Batch) (i : Instance) (y : History) (slots : Slots) (standing : Standing)
+    (kept : StoreStanding) : Type 0 where
+  pub honest : kept.is_honest ≡ true
+  pub told : kept.slots ≡ Some slots
+  pub stands : StandsFor i standing y
+  pub fits : FitsHistory i slots y
+  pub within : IsWithin all others asked i y
+
+abbrev entered : {all others : List (List ℕ)} {asked : List Batch} {i : Instance} {y : History} {slots : Slots} {standing : Standing}
+    {kept : StoreStanding} → CanRecover all others asked i y slots standing kept → Enters all others asked i y slots standing kept
+entered can = record { honest = can.honest; told = can.told; stands = can.stands; fits = can.fits; within = can.within }
+
 -- it leads on from slots that fit
 module _ (all others : List (List ℕ)) (asked : List Batch) (i : Instance) (y : History) (slots : Slots) (before : Standing)
-    (old : StoreStanding) (can : CanRecover all others asked i y slots before old) where
+    (old : StoreStanding) (can : Enters all others asked i y slots before old) where
   fits_at : (p : Pending) → can.fits.waiting ≡ Some p → FitsBy i slots y (Some p)
   fits_at p e = subst (λ (w : Option Pending). FitsBy i slots y w) e can.fits.fits
 
@@ -197,7 +211,9 @@ module _ (all others : List (List ℕ)) (asked : List Batch) (i : Instance) (y :
   pub offered_at : (p : Pending) → can.fits.waiting ≡ Some p → IsOffered i y p (slot_read slots (offer_slot p))
   offered_at p e = offered_by i y slots p (waits_at p e) (fits_at p e)
 
-  -- what an honest store's slots ask of the call for what waits
+-- what an honest store's slots ask of the call for what waits
+module _ (all others : List (List ℕ)) (asked : List Batch) (i : Instance) (y : History) (slots : Slots) (before : Standing)
+    (old : StoreStanding) (can : CanRecover all others asked i y slots before old) where
   pub asked_at : (p : Pending) → can.fits.waiting ≡ Some p → AreAsked all others asked i y (slot_read slots (offer_slot p)) (One p.request)
   asked_at p e =
       let a : IsAskedFor all asked i slots (Some p) = subst (λ (w : Option Pending). IsAskedFor all asked i slots w) e can.is_asked in
@@ -206,13 +222,25 @@ module _ (all others : List (List ℕ)) (asked : List Batch) (i : Instance) (y :
         apart = can.apart;
         within = can.within;
         is_asked = a.0;
-        genuine = genuine_by i y (slot_read slots (offer_slot p)) (p.position - 1) (fits_at p e).1;
+        genuine = genuine_by i y (slot_read slots (offer_slot p)) (p.position - 1)
+            (fits_at all others asked i y slots before old (entered can) p e).1;
         offered = a.1;
       }
 
+-- what waits was asked
+abbrev pub MadeOf : Result (List ℕ) StoreFault → Type 0
+MadeOf (Ok offer) = Unit {0}
+MadeOf (Err why) = ⊥
+
+abbrev pub IsMade : (variant : Variant) (meaning : Meaning) (before after : Standing) (waiting : Result (Option Pending) StoreFault)
+    (old new : StoreStanding) (result : Result Resumed HostFault) → AfterFinding variant meaning before after waiting old new result → Type 0
+IsMade variant meaning before after (Ok (Some p)) old new result g = MadeOf g.offer
+IsMade variant meaning before after (Ok None) old new result g = ⊥
+IsMade variant meaning before after (Err why) old new result g = ⊥
+
 module _ (More : History → Type 0) (variant : Variant) (all others : List (List ℕ)) (asked : List Batch) (i : Instance)
     (lawful : IsLawful i.meaning) (y : History) (slots : Slots) (before after : Standing) (first : StoreStanding)
-    (can : CanRecover all others asked i y slots before first) where
+    (can : Enters all others asked i y slots before first) (Made : Type 0) where
   abbrev Came : StoreStanding → Result Resumed HostFault → Type 0
   Came new result = Recovered More all others asked i y slots can.fits.waiting after new result
 
@@ -253,12 +281,12 @@ module _ (More : History → Type 0) (variant : Variant) (all others : List (Lis
       rw (g.1, g.2) (still_exit why middle g.0 t h)
 
   offer_exit : (offer : Result (List ℕ) StoreFault) (old middle new : StoreStanding) (p : Pending) (result : Result Resumed HostFault)
-      → LeadsOn More all others asked variant i y slots can.fits.waiting before after result → can.fits.waiting ≡ Some p
-      → old.slots ≡ Some slots → old.is_honest ≡ true → ReadsSlot (offer_slot p) old middle offer
+      → (MadeOf offer → Made) → (Made → LeadsOn More all others asked variant i y slots can.fits.waiting before after result)
+      → can.fits.waiting ≡ Some p → old.slots ≡ Some slots → old.is_honest ≡ true → ReadsSlot (offer_slot p) old middle offer
       → AfterOffer variant i.meaning before after offer middle new p result → Came new result
-  offer_exit (Err why) old middle new p result leads e t h r g = failed_exit why middle new result (r.slots ∙ t) (r.honest ∙ h) g
-  offer_exit (Ok offer) old middle new p result leads e t h r g =
-      let l = leads p g.asked e (refusal_told g.asked middle new result g.goes)
+  offer_exit (Err why) old middle new p result made leads e t h r g = failed_exit why middle new result (r.slots ∙ t) (r.honest ∙ h) g
+  offer_exit (Ok offer) old middle new p result made leads e t h r g =
+      let l = leads (made tt) p g.asked e (refusal_told g.asked middle new result g.goes)
       (subst (λ (x : List ℕ). IsCall variant i.meaning before after x p.request g.asked) (r.gives slots t) g.asks) in
       ask_exit More all others asked i lawful y slots can.fits.waiting p after g.asked middle new result l.0 l.1 g.asks.fits (r.honest ∙ h)
       (r.slots ∙ t) g.goes
@@ -277,23 +305,30 @@ module _ (More : History → Type 0) (variant : Variant) (all others : List (Lis
       one_waiting (slot_read slots 2) (slot_read slots 3) can.fits.waiting found can.fits.is_waiting (s.waiting found refl)
 
   found_exit : (waiting : Result (Option Pending) StoreFault) (middle new : StoreStanding) (result : Result Resumed HostFault)
-      → (can.fits.waiting ≡ None → after ≡ before → More y)
-      → LeadsOn More all others asked variant i y slots can.fits.waiting before after result → Saw slots first middle waiting
-      → AfterFinding variant i.meaning before after waiting middle new result → Came new result
-  found_exit (Err why) middle new result m leads s g = failed_exit why middle new result s.told (s.honest ∙ can.honest) g
-  found_exit (Ok None) middle new result m leads s g =
+      → (can.fits.waiting ≡ None → after ≡ before → More y) → Saw slots first middle waiting
+      → (g : AfterFinding variant i.meaning before after waiting middle new result)
+      → (IsMade variant i.meaning before after waiting middle new result g → Made)
+      → (Made → LeadsOn More all others asked variant i y slots can.fits.waiting before after result) → Came new result
+  found_exit (Err why) middle new result m s g made leads = failed_exit why middle new result s.told (s.honest ∙ can.honest) g
+  found_exit (Ok None) middle new result m s g made leads =
       rw g.1.gives
       (start_exit g.1.zero middle new m (waits_by middle None s) g.0 s.told (s.honest ∙ can.honest) g.1.reads)
-  found_exit (Ok (Some p)) middle new result m leads s g =
-      offer_exit g.offer middle g.middle new p result leads (waits_by middle (Some p) s) s.told (s.honest ∙ can.honest) g.reads g.goes
+  found_exit (Ok (Some p)) middle new result m s g made leads =
+      offer_exit g.offer middle g.middle new p result made leads (waits_by middle (Some p) s) s.told (s.honest ∙ can.honest) g.reads g.goes
 
-  -- the whole call, in either variant
-  pub recovers_by : (new : StoreStanding) (result : Result Resumed HostFault) → (can.fits.waiting ≡ None → after ≡ before → More y)
-      → LeadsOn More all others asked variant i y slots can.fits.waiting before after result
-      → Resumes variant i.meaning before after first new result → Came new result
-  recovers_by new result m leads r =
-      found_exit r.waiting r.middle new result m leads
-      (saw_two slots r.finds.two first r.finds.middle r.middle r.waiting can.told r.finds.reads r.finds.goes) r.goes
+-- the whole call, in either variant; `leads` is asked where what waits was asked
+pub recovers_by : (More : History → Type 0) (variant : Variant) (all others : List (List ℕ)) (asked : List Batch) (i : Instance)
+    → IsLawful i.meaning → (y : History) (slots : Slots) (before after : Standing) (first : StoreStanding)
+    (can : Enters all others asked i y slots before first) (new : StoreStanding) (result : Result Resumed HostFault)
+    → (can.fits.waiting ≡ None → after ≡ before → More y)
+    → (r : Resumes variant i.meaning before after first new result)
+    → (IsMade variant i.meaning before after r.waiting r.middle new result r.goes
+    → LeadsOn More all others asked variant i y slots can.fits.waiting before after result)
+    → Recovered More all others asked i y slots can.fits.waiting after new result
+recovers_by More variant all others asked i lawful y slots before after first can new result m r leads =
+    found_exit More variant all others asked i lawful y slots before after first can
+    (IsMade variant i.meaning before after r.waiting r.middle new result r.goes) r.waiting r.middle new result m
+    (saw_two slots r.finds.two first r.finds.middle r.middle r.waiting can.told r.finds.reads r.finds.goes) r.goes (λ x. x) leads
 
 -- Nothing more is asked to be known.
 abbrev pub NoMore : History → Type 0
@@ -304,14 +339,14 @@ pub recovers : (variant : Variant) (meaning : Meaning) → IsLawful meaning
     → Resumes variant meaning before after old new result → Recovers variant meaning before after old new result
 recovers Basic meaning lawful before after old new result r = λ key y slots all others asked can.
     let i : Instance = basic meaning key in
-    (recovers_by NoMore Basic all others asked i lawful y slots before after old can new result (λ n e. tt)
-    (λ p call e told c. left_by all others asked i y slots before old can NoMore after p (whole_in call) e
+    (recovers_by NoMore Basic all others asked i lawful y slots before after old (entered can) new result (λ n e. tt) r
+    (λ made p call e told c. left_by all others asked i y slots before old (entered can) NoMore after p (whole_in call) e
     (basic_met meaning lawful key all others asked y before after (slot_read slots (offer_slot p)) p (whole_in call) c.goes can.stands
-    (asked_at all others asked i y slots before old can p e)) tt) r).0
+    (asked_at all others asked i y slots before old can p e)) tt)).0
 recovers Opt meaning lawful before after old new result r = λ key barrier y slots all others asked items more can known ends shown_so.
     let i : Instance = opt meaning key barrier in
-    (recovers_by NoMore Opt all others asked i lawful y slots before after old can new result (λ n e. tt)
-    (λ p call e told c. left_by all others asked i y slots before old can NoMore after p (whole_in call) e
+    (recovers_by NoMore Opt all others asked i lawful y slots before after old (entered can) new result (λ n e. tt) r
+    (λ made p call e told c. left_by all others asked i y slots before old (entered can) NoMore after p (whole_in call) e
     (opt_met meaning lawful key barrier all others asked y before after (slot_read slots (offer_slot p)) p (whole_in call) c.goes
     can.stands (asked_at all others asked i y slots before old can p e) items more known ends
-    (λ busy. shown_so (λ k. busy (subst (λ (w : Option Pending). AsksIdly i y slots w) e k)))) tt) r).0
+    (λ busy. shown_so (λ k. busy (subst (λ (w : Option Pending). AsksIdly i y slots w) e k)))) tt)).0

@@ -9,7 +9,8 @@ use Rattle.mm_recovery.proofs.Below.{ended_by, given_for, called, Course, End, F
 use Rattle.mm_recovery.proofs.Below.{reading_steps, Found, found_by_verdict, found_at, found_with, found_unless_wanting, is_fresh, by_lists}
 use Rattle.mm_call.specs.Levels.{Level}
 use Rattle.mm_recovery.proofs.Below.{all_made, admitted, same_batches, seen_none, fault_of, IsWaiting}
-use Rattle.mm_recovery.proofs.Below.{IsRefusedAs}
+use Rattle.mm_recovery.proofs.Below.{IsRefusedAs, call_commits, fresh_found, unlacked, found_with_tells, weighed_tells, unless_lost}
+use Rattle.mm_recovery.proofs.Below.{more_batches, Commits, nothing, batch, bytes_eq, nat_le, Full}
 use Rattle.mm_call.specs.Answers.{answer_on}
 use Rattle.std.proofs.lemmas.Bool.{le-leb}
 use Rattle.std.proofs.lemmas.Slice.Eq.{bytes_eq-Decides}
@@ -124,6 +125,39 @@ admitted_here : (life : Life) (content : Content) (here repeat : Bool) → (here
     → FindsAs life content (admitted (judged life here repeat) true)
 admitted_here ends content here repeat h = grind (arith, h)
 
+-- what is found of a right offer, by whether the position is the last one, and by whether there is a next one
+found_of : (i : Instance) (s : History) (offer request : List ℕ) (content : Content) → IsRight i offer content
+    → found_at i (by_lists i) s (One request) offer
+    ≡ (if is_lost (life_of i.variant s) then Err Lost else found_with content
+    (admitted (judged (life_of i.variant s) (nat_eq content.position (total_of s.batches))
+    (nat_eq (content.position + 1) (total_of s.batches) && is_last s.batches (One request)))
+    (nat_le (content.position + 1) last_position)))
+found_of i s offer request content right =
+    let parts : parts_of i.variant i.meaning.id offer ≡ Ok (offered_of i.key content) =
+    ap (λ (bytes : List ℕ). parts_of i.variant i.meaning.id bytes) right.sealed
+    ∙ sealed_parts i.key content i.variant i.meaning.id right.formed right.variant right.id in
+    ap (λ (x : Result Snapshot PartsFault).
+    if is_lost (life_of i.variant s) then Err Lost else found_by_verdict i (by_lists i) s (One request) x) parts
+    ∙ rw (right.state, (bytes_eq-Decides (tag_of i.key content) (tag_of i.key content)).1 refl) refl
+
+-- Behind the last position a new request is refused as Full, or as the life says.
+refused_full : (life : Life) (content : Content) (here repeat fits : Bool) (why : Refusal) → here ≡ true → fits ≡ false
+    → (if is_lost life then Err Lost else found_with content (admitted (judged life here repeat) fits)) ≡ Err why
+    → (why ≡ Full) ⊎ IsRefusedAs why life
+refused_full ends content here repeat fits why h f e = grind (arith, h, f, e)
+
+beyond : (n m : ℕ) → n ≡ m → nat_le (n + 1) m ≡ false
+beyond n m e = grind (arith, nat_tests, e)
+
+pub found_full : (i : Instance) (s : History) (offer request : List ℕ) (content : Content) → IsRight i offer content
+    → content.position ≡ total_of s.batches → total_of s.batches ≡ last_position → (why : Refusal)
+    → found_at i (by_lists i) s (One request) offer ≡ Err why → (why ≡ Full) ⊎ IsRefusedAs why (life_of i.variant s)
+found_full i s offer request content right at full why e =
+    refused_full (life_of i.variant s) content (nat_eq content.position (total_of s.batches))
+    (nat_eq (content.position + 1) (total_of s.batches) && is_last s.batches (One request))
+    (nat_le (content.position + 1) last_position) why (eq_same content.position (total_of s.batches) at)
+    (beyond content.position last_position (at ∙ full)) (sym (found_of i s offer request content right) ∙ e)
+
 pub found_refused : (i : Instance) (s : History) (p : Pending) (offer : List ℕ) (o : IsOffered i s p offer) (why : Refusal)
     → found_at i (by_lists i) s (One p.request) offer ≡ Err why → IsRefusedAs why (life_of i.variant s)
 found_refused i s p offer o why e =
@@ -190,3 +224,51 @@ pub keeps_refused : (i : Instance) (y : History) (c : Course) (b : Batch) (offer
 keeps_refused i y c b offer why e none =
     ap (λ (z : History). z.batches) (left_seen (by_lists i) i y c b offer why e none).0
     ∙ same_batches i (seen_in c.fates (reading_steps i.variant) 1) y (seen_none c.fates (reading_steps i.variant) 1)
+
+-- Where a call commits there was a position for it.
+
+admitted_room : (life : Life) (here repeat fits again : Bool) → admitted (judged life here repeat) fits ≡ Ok again → again ≡ false
+    → (here ≡ true) × (fits ≡ true)
+admitted_room ends here repeat fits again e new = grind (arith, e, new)
+
+within_last : (n total : ℕ) → nat_eq n total ≡ true → nat_le (n + 1) last_position ≡ true → total + 1 ≤ last_position
+within_last n total here fits = grind (arith, nat_tests, here, fits)
+
+module _ (i : Instance) (s : History) (request : List ℕ) where
+  room_from : (parts : Result Snapshot PartsFault) (found : Found) → found_by_verdict i (by_lists i) s (One request) parts ≡ Ok found
+      → found.again ≡ false → total_of s.batches + 1 ≤ last_position
+  room_from (Err why) found e new = grind (arith, e)
+  room_from (Ok snapshot) found e new =
+      let content : Content = snapshot.content in
+      let t = found_with_tells content _ found e in
+      let w = weighed_tells (i.meaning.is_spelled content.state) (bytes_eq snapshot.tag (tag_of i.key content)) _ _ found.again t.1 in
+      let a = admitted_room (life_of i.variant s) (nat_eq content.position (total_of s.batches))
+      (nat_eq (content.position + 1) (total_of s.batches) && is_last s.batches (One request))
+      (nat_le (content.position + 1) last_position) found.again w.2 new in
+      within_last content.position (total_of s.batches) a.0 a.1
+
+  room_at : (offer : List ℕ) (found : Found) → found_at i (by_lists i) s (One request) offer ≡ Ok found → found.again ≡ false
+      → total_of s.batches + 1 ≤ last_position
+  room_at offer found e new =
+      room_from (parts_of i.variant i.meaning.id offer) found (unless_lost (is_lost (life_of i.variant s)) _ found e) new
+
+module _ (i : Instance) (y : History) (c : Course) (request offer : List ℕ) where
+  room_by : (w : Walked) (found : Result Found Refusal)
+      → found_unless_wanting (found_at i (by_lists i) (seen_at i (by_lists i) y c) (One request) offer) c.lacks ≡ found
+      → Commits (One request) (is_fresh found) w
+      → ((all_made (by_lists i) y w.moves).batches ≡ y.batches) ⊎ (total_of (all_made (by_lists i) y w.moves).batches ≤ last_position)
+  room_by w found is (nothing none unless) = inl (same_batches i w.moves y none)
+  room_by w found is (batch one fresh) =
+      let f = fresh_found found fresh in
+      let seen : (seen_at i (by_lists i) y c).batches ≡ y.batches =
+      same_batches i (seen_in c.fates (reading_steps i.variant) 1) y (seen_none c.fates (reading_steps i.variant) 1) in
+      let fits = room_at i (seen_at i (by_lists i) y c) request offer f.0 (unlacked _ c.lacks f.0 (is ∙ f.1)) f.2 in
+      inr (omega (arith, fits, ap total_of seen, ap total_of (more_batches i w.moves y (One request) one), one_more y.batches request))
+
+  pub has_room : ((called i (by_lists i) y c offer (One request)).state.batches ≡ y.batches)
+      ⊎ (total_of (called i (by_lists i) y c offer (One request)).state.batches ≤ last_position)
+  has_room =
+      let found : Result Found Refusal =
+      found_unless_wanting (found_at i (by_lists i) (seen_at i (by_lists i) y c) (One request) offer) c.lacks in
+      room_by (walk c.fates 1 (ask_steps i.variant y.is_open (is_fresh found) (One request))) found refl
+      (call_commits i.variant c.fates y.is_open (is_fresh found) (One request))

@@ -79,7 +79,7 @@ same_batches i y m e = grind (arith, e)
 
 module _ (i : Instance) (slots : Slots) (y z : History) (same : z.batches ≡ y.batches)
     (names : (content : Content) → Names i y content → Names i z content) where
-  fits_on : (waiting : Option Pending) → FitsBy i slots y waiting → FitsBy i slots z waiting
+  pub fits_on : (waiting : Option Pending) → FitsBy i slots y waiting → FitsBy i slots z waiting
   fits_on None f = (ap total_of same ∙ f.0, holds_on i y z names (slot_read slots 0) 0 f.1)
   fits_on (Some p) f = (awaited_then y z p same f.0, holds_on i y z names (slot_read slots (offer_slot p)) _ f.1)
 

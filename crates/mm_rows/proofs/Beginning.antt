@@ -5,7 +5,7 @@ use Rattle.mm_rows.proofs.Below.{Cached, Sheets, Slots, Torn, TwoCell, kept_in_p
 use Rattle.mm_host.proofs.Above.{fits_genuine}
 use Rattle.mm_host.specs.AnySlots.{AreAskedInTurn, MayStart, requests_with, SessionRunsOnce}
 use Rattle.mm_host.specs.Continuing.{ContinuesTo, IsInHand, told_in}
-use Rattle.mm_host.specs.Honest.{HasRoom, MayGoOn, SessionContinues}
+use Rattle.mm_host.specs.Honest.{MayGoOn, SessionContinues}
 use Rattle.mm_recovery.specs.Fitting.{first_offer}
 use Rattle.mm_store.specs.Pending.{Pending}
 use Rattle.mm_rows.specs.FirstSession.{BeginsAndServes, CanBegin}
@@ -44,7 +44,7 @@ continues_to : (all others : List (List ℕ)) (asked : List Batch) (meaning : Me
     (result : Result Unit SessionFault) (s : StartsInMemory Basic meaning middle store left left')
     (it : Served meaning middle after store new input input' received received' result) →
     CanBegin all others asked (basic meaning (take 32 s.secrets)) (lines_of input) →
-    ContinuesTo all others asked (basic meaning (take 32 s.secrets)) first_history (two_cells after) (kept_in_pages new)
+    ContinuesTo all others asked (basic meaning (take 32 s.secrets)) first_history None (two_cells after) (kept_in_pages new)
     (told_in None it.session.goes) (IsInHand None it.session.goes) result
 unfolding may_go_on
 continues_to all others asked meaning middle after store new left left' input input' received received' result s it can =
@@ -56,8 +56,6 @@ continues_to all others asked meaning middle after store new left left' input in
     (requests_with first.fits.waiting (lines_of input)) =
     subst (λ (w : Option Pending). AreAskedInTurn all asked i first_history (first_offer slots w) (requests_with w (lines_of input)))
     (sym first.nothing_waits) can.follow in
-    let room : HasRoom first_history (requests_with first.fits.waiting (lines_of input)) =
-    subst (λ (w : Option Pending). HasRoom first_history (requests_with w (lines_of input))) (sym first.nothing_waits) can.room in
     let start : MayStart all others asked i first_history slots (two_cells middle) (kept_in_pages store) = record {
       told = may.told;
       waiting = first.fits.waiting;
@@ -70,10 +68,10 @@ continues_to all others asked meaning middle after store new left left' input in
     } in
     let made = (it.once it.session (take 32 s.secrets) first_history slots all others asked
     (requests_with first.fits.waiting (lines_of input)) start follow).made input refl in
-    subst (λ (waiting : Option Pending). ContinuesTo all others asked i first_history (two_cells after) (kept_in_pages new)
+    subst (λ (waiting : Option Pending). ContinuesTo all others asked i first_history waiting (two_cells after) (kept_in_pages new)
     (told_in waiting it.session.goes) (IsInHand waiting it.session.goes) result) first.nothing_waits
     (it.continues it.session (take 32 s.secrets) first_history slots all others asked
-    (requests_with first.fits.waiting (lines_of input)) may follow room made)
+    (requests_with first.fits.waiting (lines_of input)) may follow made)
 
 pub begins_and_serves : (meaning : Meaning) (middle after : TwoCell Torn) (store new : Cached Sheets)
     (left left' input input' received received' : List ℕ) (result : Result Unit SessionFault) →

@@ -12,7 +12,6 @@ use Rattle.mm_model.specs.History.{first_history}
 use Rattle.mm_model.specs.Messages.{IsClear, AreNoGuards}
 use Rattle.mm_host.specs.AnySlots.{AreAskedInTurn}
 use Rattle.mm_host.specs.Continuing.{ContinuesTo, IsInHand, told_in}
-use Rattle.mm_host.specs.Honest.{HasRoom}
 use Rattle.mm_recovery.specs.Begins.{first_slots}
 use Rattle.mm_recovery.specs.Fitting.{first_offer}
 use Rattle.mm_host.specs.Sessions.{Sessions}
@@ -24,14 +23,13 @@ use Rattle.mm_twocell.specs.declared.pair.TwoCell.{TwoCell}
 use Rattle.mm_rows.specs.Devices.{kept_in_pages, two_cells}
 
 -- What is asked of the lines: they are asked one after another from the first history, with what a
--- new store offers first; there are positions for them; and no two messages of this share a digest.
+-- new store offers first; and no two messages of this share a digest.
 pub record CanBegin (all others : List (List ℕ)) (asked : List Batch) (i : Instance)
     (lines : List (List ℕ)) : Type 0 where
   pub clear : IsClear all
   pub apart : AreNoGuards i.barrier others asked
   pub started : Contains all (start_message i.variant i.meaning.id)
   pub follow : AreAskedInTurn all asked i first_history (first_offer (first_slots i) None) lines
-  pub room : HasRoom first_history lines
 
 -- 64 bytes were taken, of which the first 32 are the key; and a session of Basic was held. What it
 -- told is one run of the module from the empty list, and so on. Nothing is asked of the devices.
@@ -48,6 +46,6 @@ pub record BeginsAndServes (meaning : Meaning) (after : TwoCell Torn) (new : Cac
       (Some input) (Some input') (Some received) (Some received') result
   pub continues : (all others : List (List ℕ)) (asked : List Batch)
       → CanBegin all others asked (basic meaning (take 32 secrets)) (lines_of input) →
-      ContinuesTo all others asked (basic meaning (take 32 secrets)) first_history (two_cells after)
+      ContinuesTo all others asked (basic meaning (take 32 secrets)) first_history None (two_cells after)
       (kept_in_pages new)
       (told_in None session.goes) (IsInHand None session.goes) result

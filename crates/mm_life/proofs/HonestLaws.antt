@@ -1,0 +1,46 @@
+-- A life over the store of a first start is gone on with, in each variant.
+use Rattle.std.specs.List.{Contains}
+use Rattle.std.proofs.Common.{ℕ, List, []}
+use Rattle.mm_digest.specs.declared.variant.Variant.TheVariants.{Basic, Opt}
+use Rattle.mm_module.specs.Batch.{Batch}
+use Rattle.mm_model.specs.History.{first_history}
+use Rattle.mm_model.specs.Instance.{Instance}
+use Rattle.mm_model.specs.InstanceWords.{basic, opt}
+use Rattle.mm_model.specs.ListLaws.{each_left, each_right, each_self}
+use Rattle.mm_recovery.specs.Begins.{first_on, first_slots}
+use Rattle.mm_recovery.proofs.Above.{is_first}
+use Rattle.mm_life.specs.Honest.{BasicLifeGoesOn, OptLifeGoesOn}
+use Rattle.mm_life.specs.Premises.{life_batches, life_messages, opt_messages, others_values, register_messages}
+use Rattle.mm_life.proofs.BasicLife as basic_proofs
+use Rattle.mm_life.proofs.OptLife as opt_proofs
+use Rattle.mm_life.proofs.HonestLife.{life_goes}
+
+pub basic_goes_on : BasicLifeGoesOn
+basic_goes_on meaning lawful key start kept stages f stands honest told over clear chance =
+    let i : Instance = basic meaning key in
+    let all : List (List ℕ) = life_messages i start stages f in
+    let asked : List Batch = life_batches i start stages f in
+    let itself = each_self [] all in
+    let first = is_first Basic meaning key i.barrier [] lawful in
+    life_goes (basic_proofs.basic_life meaning lawful key all asked clear) stages first_history kept (first_slots i) start f honest
+    told stands
+    (basic_proofs.first_within meaning lawful key all asked itself.0) first.fits over
+    (basic_proofs.all_seen meaning lawful key all asked clear start stages) chance
+    (record { messages = itself.1; batches = each_self [] asked })
+
+pub opt_goes_on : OptLifeGoesOn
+opt_goes_on meaning lawful key barrier values start kept stages f stands honest told over clear apart chance =
+    let i : Instance = opt meaning key barrier in
+    let all : List (List ℕ) = opt_messages i start stages f in
+    let asked : List Batch = life_batches i start stages f in
+    let others : List (List ℕ) = others_values stages in
+    let front : List (List ℕ) = life_messages i start stages f in
+    let back : List (List ℕ) = register_messages start stages in
+    let itself = each_self [] all in
+    let calls = each_left (Contains all) front back itself in
+    let first = is_first Opt meaning key barrier values lawful in
+    life_goes (opt_proofs.opt_life meaning lawful key barrier all others asked clear apart) stages (first_on values) kept (first_slots i) start f
+    honest told stands (opt_proofs.first_within meaning lawful key barrier values all others asked calls.0) first.fits over
+    (opt_proofs.all_seen meaning lawful key barrier all others asked clear apart start stages
+    (each_right (Contains all) front back itself) (each_self [] others)) chance
+    (record { messages = calls.1; batches = each_self [] asked })

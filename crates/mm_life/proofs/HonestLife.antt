@@ -1,0 +1,232 @@
+-- A life over one honest store, part after part, in either variant.
+use Rattle.std.proofs.Common.{◌≡◌, ◌≢◌, ◌≤◌, ◌+◌, ◌-◌, ◌∙◌, ◌⊎◌, ℕ, Bool, true, false, List, [], ◌∷◌, ◌++◌, Option, None, Some, Result, Err, length}
+use Rattle.std.proofs.Common.{arith, refl, sym, ap, inl, inr, length-append}
+use Rattle.mm_platform.specs.Standing.{Standing}
+use Rattle.mm_module.specs.Batch.{Batch, One}
+use Rattle.mm_module.specs.Meaning.{Meaning}
+use Rattle.mm_model.specs.History.{History, requests_of, total_of}
+use Rattle.mm_model.specs.Instance.{Instance}
+use Rattle.mm_model.specs.Standing.{StandsFor}
+use Rattle.mm_call.specs.Asked.{IsWithin}
+use Rattle.mm_call.proofs.Above.{requests-push}
+use Rattle.mm_schedule.specs.Machine.{StepsOn}
+use Rattle.mm_schedule.specs.declared.reply.Reply.TheVariants.{Told}
+use Rattle.mm_store.specs.Pending.{Pending}
+use Rattle.mm_store.specs.Slots.{Slots}
+use Rattle.mm_recovery.specs.Fitting.{FitsBy, FitsHistory}
+use Rattle.mm_recovery.specs.declared.fault.HostFault.TheVariants.{Store}
+use Rattle.mm_recovery.proofs.Above.{fits_on}
+use Rattle.mm_host.specs.Continuing.{ContinuesTo, HasUntold, IsInHand, IsNotBeyond, RunsOver, answer_reply, told_in}
+use Rattle.mm_host.specs.Sessions.{Served}
+use Rattle.mm_host.specs.declared.fault.SessionFault.{SessionFault}
+use Rattle.mm_host.specs.declared.fault.SessionFault.TheVariants.{Host}
+use Rattle.mm_host.proofs.Above.{calls_reach}
+use Rattle.mm_life.specs.Deeds.{Call, Calls, Checkpoints, Deed, DeedLeads, Extends, LosesPower}
+use Rattle.mm_life.specs.Honest.{AreNoChance, BeginsOver, GoesOnFrom, GoesOnOver, IsGoneOnWith, IsNextOrLast, IsOverOneStore, LeavesNoChance}
+use Rattle.mm_life.specs.Honest.{PartGoesOn, kept_behind, reached, Waits}
+use Rattle.mm_store.specs.Kept.{StoreStanding}
+use Rattle.mm_life.specs.SessionCalls.{first_bytes, told_by}
+use Rattle.mm_life.specs.Stages.{Does, Holds, IsLife, Part, PartLeads, Program, Stage, end_of, life_calls, part_calls}
+use Rattle.mm_life.specs.Staying.{IsNoCall, Stays}
+use Rattle.mm_life.proofs.Chains.{session_chain}
+use Rattle.mm_life.proofs.HonestSession.{goes_on}
+use Rattle.mm_life.proofs.Living.{AreSeen, LifeLaws, listed_left, listed_right}
+use Rattle.mm_life.proofs.OneCall.{AreListed}
+use Rattle.mm_life.proofs.Sessions.{chain_leads, ends_reach}
+
+-- what waits is the next request or the last
+
+none_of : (requests : List (List ℕ)) → length requests ≡ 0 → requests ≡ []
+none_of [] e = refl
+none_of (x ∷ requests) e = absurd (omega (arith, e))
+
+next_or_last : (i : Instance) (slots : Slots) (y : History) (waiting : Option Pending) → FitsBy i slots y waiting
+    → IsNextOrLast (requests_of y.batches) waiting
+next_or_last i slots y None f = none_of (requests_of y.batches) f.0
+next_or_last i slots y (Some p) (inl next, holds) = inl next
+next_or_last i slots y (Some p) (inr last, holds) =
+    inr (last.0, requests_of last.1.front, sym (requests-push last.1.front (One p.request)) ∙ ap requests_of last.1.is)
+
+-- what a session told reaches no further than its requests
+
+told_most : (meaning : Meaning) (again : Bool) (requests after : List (List ℕ)) (line : List ℕ) (before : ℕ) (outputs : List (List ℕ))
+    → StepsOn meaning requests (One line) (Told again before outputs) after → before + 1 ≤ length after
+told_most meaning false requests after line before outputs s =
+    omega (arith, s.counted, ap (λ (xs : List (List ℕ)). length xs) s.grown, length-append requests (line ∷ []))
+told_most meaning true requests after line before outputs s =
+    omega (
+      arith,
+      s.1.counted,
+      ap (λ (xs : List (List ℕ)). length xs) s.1.grown,
+      length-append s.0 (line ∷ []),
+      ap (λ (xs : List (List ℕ)). length xs) s.2,
+    )
+
+calls_reached : (meaning : Meaning) (waiting : Option Pending) (c : Served) (calls : List Served) (requests after : List (List ℕ))
+    → RunsOver meaning requests (c ∷ calls) after → reached waiting (c ∷ calls) ≤ length after
+calls_reached meaning waiting c [] requests after r =
+    omega (
+      arith,
+      told_most meaning c.answer.again requests r.0 c.line (c.answer.position - 1) (c.answer.output ∷ []) r.1,
+      ap (λ (xs : List (List ℕ)). length xs) r.2,
+    )
+calls_reached meaning waiting c (next ∷ calls) requests after r = calls_reached meaning waiting next calls r.0 after r.2
+
+reached_most : (meaning : Meaning) (waiting : Option Pending) (told : List Served) (requests between : List (List ℕ))
+    → IsNextOrLast requests waiting → RunsOver meaning requests told between → reached waiting told ≤ length between
+reached_most meaning None [] requests between w r = omega arith
+reached_most meaning (Some p) [] requests between (inl next) r = omega (arith, next, ap (λ (xs : List (List ℕ)). length xs) r)
+reached_most meaning (Some p) [] requests between (inr last) r = omega (arith, last.0, ap (λ (xs : List (List ℕ)). length xs) r)
+reached_most meaning waiting (c ∷ calls) requests between w r = calls_reached meaning waiting c calls requests between r
+
+committed_most : (hand : List ℕ → Type 0) (result : Result Unit SessionFault) (between after : List (List ℕ))
+    → (after ≡ between) ⊎ HasUntold hand result between after → length between ≤ length after
+committed_most hand result between after (inl same) = omega (arith, ap (λ (xs : List (List ℕ)). length xs) same)
+committed_most hand result between after (inr u) =
+    omega (arith, ap (λ (xs : List (List ℕ)). length xs) u.grown, length-append between (u.request ∷ []))
+
+beyond_less : (slots : Slots) (n m : ℕ) → n ≤ m → IsNotBeyond slots (n + 1) → IsNotBeyond slots (m + 1)
+beyond_less slots n m h b = record { waiting = b.waiting; is_waiting = b.is_waiting; most = omega (arith, h, b.most) }
+
+-- the store failed, or not
+store_failed : (result : Result Unit SessionFault) → (result ≡ Err (Host Store)) ⊎ (result ≢ Err (Host Store))
+store_failed (Err (Host Store)) = inl refl
+store_failed _ = inr (λ e. cc)
+
+module _ {all others : List (List ℕ)} {asked : List Batch} {i : Instance} {IsSeen : Standing → Part → Standing → Type 0}
+    (life : LifeLaws all others asked i IsSeen) where
+  -- where a part leads, from a history that the slots fit
+  record PartGone (y : History) (kept : StoreStanding) (old : Standing) (part : Part) (new : Standing)
+      (f : PartLeads i.variant i.meaning old part new) : Type 0 where
+    after : History
+    stands : StandsFor i new after
+    within : IsWithin all others asked i after
+    goes : PartGoesOn others i old part new f (requests_of y.batches) (requests_of after.batches)
+    honest : (kept_behind kept part).is_honest ≡ true
+    left : Slots
+    told : (kept_behind kept part).slots ≡ Some left
+    fits : FitsHistory i left after
+
+  module _ (y : History) (kept : StoreStanding) (slots : Slots) (old : Standing) (p : Program) (new : Standing)
+      (s : PartLeads i.variant i.meaning old (Holds p) new) (told : p.old.slots ≡ Some slots) (fits : FitsHistory i slots y)
+      (chance : LeavesNoChance i.variant i.meaning old (Holds p) new s) where
+    abbrev On : Type 0
+    On =
+        ContinuesTo all others asked i y fits.waiting new p.new (told_in fits.waiting s.goes) (IsInHand fits.waiting s.goes) p.result
+
+    waits : IsNextOrLast (requests_of y.batches) fits.waiting
+    waits = next_or_last i slots y fits.waiting fits.fits
+
+    fits_then : (c : On) → FitsHistory i c.slots_after c.runs.after
+    fits_then c = elim (store_failed p.result) [
+      | inl failed ↦ c.fits (beyond_less c.slots_after (reached fits.waiting (told_in fits.waiting s.goes)) (total_of c.runs.after.batches)
+        (omega (arith, reached_most i.meaning fits.waiting (told_in fits.waiting s.goes) (requests_of y.batches) c.runs.requests waits
+        c.runs.run, committed_most (IsInHand fits.waiting s.goes) p.result c.runs.requests (requests_of c.runs.after.batches)
+        c.runs.committed))
+        (chance failed fits.waiting (record { shown = slots; told = told; is_waiting = fits.is_waiting }) c.slots_after c.slots_told))
+      | inr whole ↦ c.whole whole
+    ]
+
+    program_gone : StandsFor i old y → On → PartGone y kept old (Holds p) new s
+    program_gone stands c = record {
+      after = c.runs.after;
+      stands = c.runs.stands;
+      within = c.runs.within;
+      goes = (
+        fits.waiting,
+        record { shown = slots; told = told; is_waiting = fits.is_waiting },
+        record {
+          waits = waits;
+          steps = record { between = c.runs.requests; run = c.runs.run; committed = c.runs.committed };
+          once = c.once;
+          room = c.room;
+          entered = record { history = y; stands = stands; holds = refl };
+          left = record { history = c.runs.after; stands = c.runs.stands; holds = refl };
+          refuses = c.refuses;
+          powered = c.runs.powered;
+          unspoiled = c.runs.unspoiled;
+        },
+      );
+      honest = c.honest;
+      left = c.slots_after;
+      told = c.slots_told;
+      fits = fits_then c;
+    }
+
+  deed_gone : (y : History) (kept : StoreStanding) (slots : Slots) (old : Standing) (deed : Deed) (new : Standing)
+      (f : DeedLeads i.variant i.meaning old deed new) → kept.is_honest ≡ true → kept.slots ≡ Some slots → FitsHistory i slots y
+      → Stays all others asked i y new → PartGone y kept old (Does deed) new f
+  deed_gone y kept slots old deed new f honest told fits s = record {
+    after = s.after;
+    stands = s.stands;
+    within = s.within;
+    goes = ap requests_of s.batches;
+    honest = honest;
+    left = slots;
+    told = told;
+    fits = record {
+      waiting = fits.waiting;
+      is_waiting = fits.is_waiting;
+      fits = fits_on i slots y s.after s.batches s.names fits.waiting fits.fits;
+    };
+  }
+
+  part_goes : (y : History) (kept : StoreStanding) (slots : Slots) (old : Standing) (part : Part) (new : Standing)
+      (f : PartLeads i.variant i.meaning old part new) → kept.is_honest ≡ true → kept.slots ≡ Some slots
+      → StandsFor i old y → IsWithin all others asked i y → FitsHistory i slots y → BeginsOver kept part → IsSeen old part new
+      → LeavesNoChance i.variant i.meaning old part new f → AreListed all asked i (part_calls i.variant i.meaning old part new f)
+      → PartGone y kept old part new f
+  part_goes y kept slots old (Holds p) new s honest told stands within fits begins seen chance listed =
+      let laws = life.laws new in
+      let k = session_chain s in
+      let reaches = calls_reach laws (first_bytes s) old k.at (told_by s) k.calls (ends_reach laws k.ends) in
+      let shows = life.shows y old (Holds p) new seen stands reaches (chain_leads i life.leads k) in
+      let here : p.old.slots ≡ Some slots = begins.1 ∙ told in
+      program_gone y kept slots old p new s here fits chance stands
+      (goes_on laws s y slots here (begins.0 ∙ honest) stands within fits shows listed)
+  part_goes y kept slots old (Does (Calls c)) new f honest told stands within fits begins seen chance listed = absurd begins
+  part_goes y kept slots old (Does (Extends values)) new f honest told stands within fits begins seen chance listed =
+      deed_gone y kept slots old (Extends values) new f honest told fits (life.stays y old (Extends values) new tt seen f stands within)
+  part_goes y kept slots old (Does LosesPower) new f honest told stands within fits begins seen chance listed =
+      deed_gone y kept slots old LosesPower new f honest told fits (life.stays y old LosesPower new tt seen f stands within)
+  part_goes y kept slots old (Does (Checkpoints said)) new f honest told stands within fits begins seen chance listed =
+      deed_gone y kept slots old (Checkpoints said) new f honest told fits (life.stays y old (Checkpoints said) new tt seen f stands within)
+
+  pub life_goes : (stages : List Stage) (y : History) (kept : StoreStanding) (slots : Slots) (start : Standing)
+      (f : IsLife i.variant i.meaning start stages) → kept.is_honest ≡ true → kept.slots ≡ Some slots
+      → StandsFor i start y → IsWithin all others asked i y → FitsHistory i slots y → IsOverOneStore kept stages
+      → AreSeen life start stages → AreNoChance i.variant i.meaning start stages f
+      → AreListed all asked i (life_calls i.variant i.meaning start stages f)
+      → IsGoneOnWith all others asked i (requests_of y.batches) kept start stages f
+  life_goes [] y kept slots start f honest told stands within fits over seen chance listed = record {
+    after = requests_of y.batches;
+    goes = refl;
+    history = y;
+    holds = refl;
+    stands = stands;
+    within = within;
+    honest = honest;
+    left = slots;
+    told = told;
+    fits = fits;
+  }
+  life_goes (stage ∷ stages) y kept slots start f honest told stands within fits over seen chance listed =
+      let calls : List Call = part_calls i.variant i.meaning start stage.part stage.after f.0 in
+      let more : List Call = life_calls i.variant i.meaning stage.after stages f.1 in
+      let p = part_goes y kept slots start stage.part stage.after f.0 honest told stands within fits over.0 seen.0 chance.0
+      (listed_left all asked i calls more listed) in
+      let r = life_goes stages p.after (kept_behind kept stage.part) p.left stage.after f.1 p.honest p.told p.stands p.within p.fits
+      over.1 seen.1 chance.1
+      (listed_right all asked i calls more listed) in
+      record {
+        after = r.after;
+        goes = (requests_of p.after.batches, p.goes, r.goes);
+        history = r.history;
+        holds = r.holds;
+        stands = r.stands;
+        within = r.within;
+        honest = r.honest;
+        left = r.left;
+        told = r.told;
+        fits = r.fits;
+      }

@@ -1,0 +1,232 @@
+-- A session over an honest store, by the calls that it made: it goes on from a history that the slots fit.
+use Rattle.std.specs.List.{Contains}
+use Rattle.std.proofs.Common.{◌≡◌, ◌∙◌, ◌⊎◌, ℕ, true, List, [], ◌∷◌, ◌++◌, map, Option, None, Some, Result, Ok, Err, refl, sym, subst, inl, inr}
+use Rattle.mm_base.specs.declared.replay_fault.ReplayFault.TheVariants.{WriteFault}
+use Rattle.mm_digest.specs.declared.variant.Variant.{Variant}
+use Rattle.mm_platform.specs.Standing.{Standing}
+use Rattle.mm_module.specs.Batch.{Batch, One}
+use Rattle.mm_module.specs.Meaning.{Meaning}
+use Rattle.mm_model.specs.History.{History}
+use Rattle.mm_model.specs.Instance.{Instance}
+use Rattle.mm_model.specs.Standing.{StandsFor}
+use Rattle.mm_call.specs.Asked.{IsWithin}
+use Rattle.mm_call.specs.Leaving.{whole}
+use Rattle.mm_store.specs.Calls.{ReadsSlot}
+use Rattle.mm_store.specs.Kept.{StoreStanding}
+use Rattle.mm_store.specs.Pending.{Pending}
+use Rattle.mm_store.specs.Slots.{Slots, slot_read}
+use Rattle.mm_store.specs.declared.fault.StoreFault.{StoreFault}
+use Rattle.mm_recovery.specs.Faults.{store_fault_as}
+use Rattle.mm_recovery.specs.Fitting.{FitsHistory, first_offer, offer_slot}
+use Rattle.mm_recovery.specs.Next.{AfterRecord}
+use Rattle.mm_recovery.specs.Resumes.{AfterFinding, AfterOffer, started}
+use Rattle.mm_recovery.specs.Waiting.{IsWaiting}
+use Rattle.mm_recovery.specs.declared.fault.HostFault.{HostFault}
+use Rattle.mm_recovery.specs.declared.resuming.Resumed.{Resumed}
+use Rattle.mm_recovery.proofs.Above.{IsMade, MadeOf, Saw, one_waiting, saw_two}
+use Rattle.mm_host.specs.AnySlots.{AreAskedInTurn, answered_to, offered_after}
+use Rattle.mm_host.specs.Continuing.{ContinuesTo, IsInHand, told_in}
+use Rattle.mm_host.specs.Sessions.{AfterResume, Place, Served, ServedOn, Sessions, ended_as, lines_served}
+use Rattle.mm_host.specs.declared.fault.SessionFault.{SessionFault}
+use Rattle.mm_host.specs.declared.fault.SessionFault.TheVariants.{Host, Lines}
+use Rattle.mm_host.proofs.Above.{AreMade, CallsInTurn, IsLineAsked, IsWritten, Laws, Shows, StandsIn, calls_reach, continues_by}
+use Rattle.mm_host.proofs.Above.{fits_genuine, pending_for, same_self, stepped_by}
+use Rattle.mm_life.specs.Deeds.{Call}
+use Rattle.mm_life.specs.SessionCalls.{bytes_of, first_bytes, first_calls, found_waiting, InHandOf, last_calls, offered_calls, offered_first}
+use Rattle.mm_life.specs.SessionCalls.{recorded_calls, session_calls, told_by, told_calls, untold_calls}
+use Rattle.mm_life.proofs.Chains.{Chain, Ends, call_of, rests, session_chain, stops}
+use Rattle.mm_life.proofs.OneCall.{AreListed, makes_call}
+use Rattle.mm_life.proofs.Sessions.{ends_reach, listed_first, listed_rest}
+
+-- what was asked, by the calls that were made
+abbrev pub requests_in : List Call → List (List ℕ)
+requests_in calls = map (λ c. c.request) calls
+
+module _ {all others : List (List ℕ)} {asked : List Batch} {i : Instance} {final : Standing} (laws : Laws all others asked i final) where
+  asked_last : (z : History) (at : Standing) (offer : List ℕ) (hand : List ℕ → Type 0) (untold : List Call)
+      (result : Result Unit SessionFault) → Ends i.variant i.meaning at final offer hand untold result → AreListed all asked i untold
+      → AreAskedInTurn all asked i z offer (requests_in untold)
+  asked_last z at offer hand untold result (rests same none) listed = rw none tt
+  asked_last z at offer hand untold result (stops request h gives c is came t sent fault says ends) listed =
+      let made : Call = call_of offer request gives in
+      let l : AreListed all asked i (made ∷ []) = rw is at listed in
+      rw is (l.batches.0, listed_first all asked i made [] l, tt)
+
+  asked_in_turn : (told : List Served) (y z : History) (old at : Standing) (offer : List ℕ) (hand : List ℕ → Type 0) (untold : List Call)
+      (result : Result Unit SessionFault) → CallsInTurn i.variant i.meaning offer old told at
+      → Ends i.variant i.meaning at final (offered_after offer told) hand untold result → StandsIn all others asked i y z old offer
+      → Shows i.variant all others i y old final → AreListed all asked i (told_calls offer told ++ untold)
+      → AreAskedInTurn all asked i z offer (lines_served told ++ requests_in untold)
+  asked_in_turn [] y z old at offer hand untold result h ends s shows listed = asked_last z at offer hand untold result ends listed
+  asked_in_turn (c ∷ told) y z old at offer hand untold result h ends s shows listed =
+      let made : Call = call_of offer c.line (Ok c.answer) in
+      let rest : List Call = told_calls c.answer.snapshot told ++ untold in
+      let then_is : History = answered_to i z offer c.line in
+      let first = listed_first all asked i made rest listed in
+      let m = laws.met y old h.0 offer (pending_for c.line) (whole c.answer)
+      (makes_call laws old h.0 offer c.line y (Ok (whole c.answer)) h.1.goes s.stands s.within s.genuine listed.batches.0 first) shows
+      (calls_reach laws c.answer.snapshot h.0 at told h.2 (ends_reach laws ends)) in
+      let t = stepped_by laws y z old h.0 offer (pending_for c.line) c.answer s h.1.fits m.0 m.0.comes in (
+        listed.batches.0,
+        first,
+        subst (λ (bytes : List ℕ). AreAskedInTurn all asked i then_is bytes (lines_served told ++ requests_in untold)) t.next
+            (asked_in_turn told m.0.after then_is h.0 at c.answer.snapshot hand untold result h.2 ends t.here m.1
+            (listed_rest all asked i made rest listed)),
+      )
+
+-- What a start offers: what the slots show for what waits in them; or nothing was asked, and no line is read.
+data Opens (variant : Variant) (meaning : Meaning) (before after : Standing) (slots : Slots) (waiting : Option Pending)
+    (found : Result (Option Pending) StoreFault) (middle new : StoreStanding) (came : Result Resumed HostFault)
+    (g : AfterFinding variant meaning before after found middle new came) : Type 0 where
+  unasked : (IsMade variant meaning before after found middle new came g → ⊥) → ((first : Resumed) → came ≡ Ok first → ⊥)
+      → Opens variant meaning before after slots waiting found middle new came g
+  offers : offered_first variant meaning before after found middle new came g ≡ first_offer slots waiting → found_waiting found ≡ waiting
+      → Opens variant meaning before after slots waiting found middle new came g
+
+module _ (variant : Variant) (meaning : Meaning) (before after : Standing) (slots : Slots) where
+  never_ok : (why : StoreFault) (came : Result Resumed HostFault) → came ≡ Err (store_fault_as why)
+      → (first : Resumed) → came ≡ Ok first → ⊥
+  never_ok why came e first is = let clash : Ok first ≡ Err (store_fault_as why) = sym is ∙ e in cc
+
+  zero_shown : (zero : Result (List ℕ) StoreFault) (old new : StoreStanding) (came : Result Resumed HostFault)
+      → old.slots ≡ Some slots → ReadsSlot 0 old new zero → came ≡ started zero
+      → (bytes_of variant meaning before after zero ≡ slot_read slots 0) ⊎ ((first : Resumed) → came ≡ Ok first → ⊥)
+  zero_shown (Ok bytes) old new came told r e = inl (r.gives slots told)
+  zero_shown (Err why) old new came told r e = inr (never_ok why came e)
+
+  offer_shown : (offer : Result (List ℕ) StoreFault) (first old new : StoreStanding) (p : Pending) (came : Result Resumed HostFault)
+      → AfterOffer variant meaning before after offer old new p came → first.slots ≡ Some slots → ReadsSlot (offer_slot p) first old offer
+      → (bytes_of variant meaning before after offer ≡ slot_read slots (offer_slot p))
+      ⊎ ((MadeOf offer → ⊥) × ((first : Resumed) → came ≡ Ok first → ⊥))
+  offer_shown (Ok bytes) first old new p came g told r = inl (r.gives slots told)
+  offer_shown (Err why) first old new p came g told r = inr (λ m. m, never_ok why came g.2)
+
+  opens_found : (found : Option Pending) (middle new : StoreStanding) (came : Result Resumed HostFault)
+      (g : AfterFinding variant meaning before after (Ok found) middle new came) → middle.slots ≡ Some slots
+      → Opens variant meaning before after slots found (Ok found) middle new came g
+  opens_found None middle new came g told = elim (zero_shown g.1.zero middle new came told g.1.reads g.1.gives) [
+    | inl is ↦ offers is refl
+    | inr never ↦ unasked (λ m. m) never
+  ]
+  opens_found (Some p) middle new came g told = elim (offer_shown g.offer middle g.middle new p came g.goes told g.reads) [
+    | inl is ↦ offers is refl
+    | inr none ↦ unasked none.0 none.1
+  ]
+
+  opens_by : (waiting : Option Pending) (found : Result (Option Pending) StoreFault) (first middle new : StoreStanding)
+      (came : Result Resumed HostFault) (g : AfterFinding variant meaning before after found middle new came)
+      → IsWaiting (slot_read slots 2) (slot_read slots 3) waiting → Saw slots first middle found
+      → Opens variant meaning before after slots waiting found middle new came g
+  opens_by waiting (Err why) first middle new came g w s = unasked (λ m. m) (never_ok why came g.2)
+  opens_by waiting (Ok found) first middle new came g w s =
+      subst (λ (v : Option Pending). Opens variant meaning before after slots v (Ok found) middle new came g)
+      (one_waiting (slot_read slots 2) (slot_read slots 3) found waiting (s.waiting found refl) w)
+      (opens_found found middle new came g s.told)
+
+-- Where a call was made, it is the first or the last one.
+module _ (variant : Variant) (meaning : Meaning) (before after : Standing) where
+  offer_made : (offer : Result (List ℕ) StoreFault) (old new : StoreStanding) (p : Pending) (came : Result Resumed HostFault)
+      (g : AfterOffer variant meaning before after offer old new p came) → MadeOf offer
+      → requests_in (offered_calls variant meaning before after offer old new p came g) ≡ p.request ∷ []
+  offer_made (Ok bytes) old new p came g m = refl
+  offer_made (Err why) old new p came g m = absurd m
+
+  first_made : (found : Result (Option Pending) StoreFault) (middle new : StoreStanding) (came : Result Resumed HostFault)
+      (g : AfterFinding variant meaning before after found middle new came) → IsMade variant meaning before after found middle new came g
+      → (p : Pending) → found_waiting found ≡ Some p
+      → requests_in (first_calls variant meaning before after found middle new came g) ≡ p.request ∷ []
+  first_made (Ok (Some q)) middle new came g m p e =
+      let same : q ≡ p = cc in
+      subst (λ (x : Pending). requests_in (offered_calls variant meaning before after g.offer g.middle new q came g.goes) ≡ x.request ∷ [])
+      same (offer_made g.offer g.middle new q came g.goes m)
+  first_made (Ok None) middle new came g m p e = absurd m
+  first_made (Err why) middle new came g m p e = absurd m
+
+  record_made : (recorded : Result Unit StoreFault) (old new : StoreStanding) (last : Resumed) (line : List ℕ)
+      (came : Result Resumed HostFault)
+      (g : AfterRecord variant meaning before after recorded old new last line came) → IsWritten recorded
+      → requests_in (recorded_calls variant meaning before after recorded old new last line came g) ≡ line ∷ []
+  record_made (Ok it) old new last line came g m = refl
+  record_made (Err why) old new last line came g m = absurd m
+
+module _ (variant : Variant) (meaning : Meaning) (number : ℕ) (at : Place) (after : Standing) (new : StoreStanding)
+    (left : Option (List ℕ)) (more sent : List ℕ) where
+  line_made : (result : Result Unit SessionFault) (e : ServedOn variant meaning number at after new left more [] sent (ended_as result))
+      → IsLineAsked variant meaning number at after new left more sent
+      (requests_in (last_calls variant meaning number at after new left more sent result e)) result e
+  line_made (Err (Host fault)) e =
+      λ m. ([], record_made variant meaning at.platform after e.asks.recorded e.asks.middle new at.last e.line e.came e.asks.goes m)
+  line_made (Err (Lines WriteFault)) e =
+      λ m. ([], record_made variant meaning at.platform after e.asks.recorded e.asks.middle new at.last e.line e.came e.asks.goes m)
+  line_made _ e = tt
+
+module _ {variant : Variant} {meaning : Meaning} {before after : Standing} {old new : StoreStanding}
+    {left left' received received' : Option (List ℕ)} {result : Result Unit SessionFault}
+    (s : Sessions variant meaning before after old new left left' received received' result) (waiting : Option Pending) where
+  abbrev Goes : Type 0
+  Goes = AfterResume variant meaning s.begun s.platform after s.store new left' s.taken s.sent result
+
+  abbrev Made : Type 0
+  Made = IsMade variant meaning before s.platform s.resumes.waiting s.resumes.middle s.store s.begun s.resumes.goes
+
+  none_made : (goes : Goes) → (Made → ⊥) → ((first : Resumed) → s.begun ≡ Ok first → ⊥) → AreMade s waiting [] goes
+  none_made (inl e) unmade never = λ m p k. absurd (unmade m)
+  none_made (inr g) unmade never = absurd (never g.first g.begins)
+
+  all_made : (goes : Goes) → found_waiting s.resumes.waiting ≡ waiting
+      → AreMade s waiting (lines_served (told_in waiting goes) ++ requests_in (untold_calls s goes)) goes
+  all_made (inl e) is = λ m p k. (
+    [],
+    first_made variant meaning before s.platform s.resumes.waiting s.resumes.middle s.store s.begun s.resumes.goes m p (is ∙ k),
+  )
+  all_made (inr g) is = (
+    requests_in (untold_calls s (inr g)),
+    refl,
+    line_made variant meaning _ g.lines.at after new left' g.lines.more g.lines.last result g.lines.ends,
+  )
+
+module _ {all others : List (List ℕ)} {asked : List Batch} {i : Instance} {final : Standing} (laws : Laws all others asked i final)
+    {before : Standing} {old new : StoreStanding} {left left' received received' : Option (List ℕ)} {result : Result Unit SessionFault}
+    (s : Sessions i.variant i.meaning before final old new left left' received received' result) (y : History) (slots : Slots)
+    (told : old.slots ≡ Some slots) (honest : old.is_honest ≡ true) (stands : StandsFor i before y)
+    (within : IsWithin all others asked i y) (fits : FitsHistory i slots y) (shows : Shows i.variant all others i y before final) where
+  abbrev On : Type 0
+  On =
+      ContinuesTo all others asked i y fits.waiting final new (told_in fits.waiting s.goes) (IsInHand fits.waiting s.goes) result
+
+  here : StandsIn all others asked i y y before (first_offer slots fits.waiting)
+  here = record {
+    stands = stands;
+    within = within;
+    genuine = fits_genuine i slots y fits.waiting fits.fits;
+    same = same_self i.variant y;
+  }
+
+  on_by : (requests : List (List ℕ)) → AreAskedInTurn all asked i y (first_offer slots fits.waiting) requests
+      → AreMade s fits.waiting requests s.goes → On
+  on_by requests follow made =
+      continues_by laws s y y slots fits.waiting told honest fits.is_waiting fits.fits requests here (inl shows) follow made (λ p. p)
+
+  on_offers : AreListed all asked i (session_calls s) → first_bytes s ≡ first_offer slots fits.waiting
+      → found_waiting s.resumes.waiting ≡ fits.waiting → On
+  on_offers listed is found =
+      let untold : List Call = untold_calls s s.goes in
+      let k = subst (λ (bytes : List ℕ). Chain i.variant i.meaning bytes before final (told_in fits.waiting s.goes) (InHandOf s) untold result)
+      is (subst (λ (w : Option Pending). Chain i.variant i.meaning (first_bytes s) before final (told_in w s.goes) (InHandOf s) untold
+      result) found (session_chain s)) in
+      let l = subst (λ (bytes : List ℕ). AreListed all asked i (told_calls bytes (told_in fits.waiting s.goes) ++ untold)) is
+      (subst (λ (w : Option Pending). AreListed all asked i (told_calls (first_bytes s) (told_in w s.goes) ++ untold)) found listed) in
+      on_by (lines_served (told_in fits.waiting s.goes) ++ requests_in untold)
+      (asked_in_turn laws (told_in fits.waiting s.goes) y y before k.at (first_offer slots fits.waiting) (InHandOf s) untold result k.calls
+      k.ends here shows l) (all_made s fits.waiting s.goes found)
+
+  pub goes_on : AreListed all asked i (session_calls s) → On
+  goes_on listed =
+      let r = s.resumes in
+      by_opens (opens_by i.variant i.meaning before s.platform slots fits.waiting r.waiting old r.middle s.store s.begun r.goes
+      fits.is_waiting (saw_two slots r.finds.two old r.finds.middle r.middle r.waiting told r.finds.reads r.finds.goes))
+    where
+      by_opens : Opens i.variant i.meaning before s.platform slots fits.waiting s.resumes.waiting s.resumes.middle s.store s.begun
+          s.resumes.goes → On
+      by_opens (unasked unmade never) = on_by [] tt (none_made s fits.waiting s.goes unmade never)
+      by_opens (offers is found) = on_offers listed is found
