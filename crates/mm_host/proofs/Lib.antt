@@ -12,4 +12,5 @@ mod LineStep
 mod SessionRuns
 mod RunningOnce
 mod ByDigests
+mod NextRefused
 mod Continues
