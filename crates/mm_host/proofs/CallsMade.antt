@@ -140,7 +140,7 @@ module _ (variant : Variant) (meaning : Meaning) (before after : Standing) (offe
     pub told : (lines : List Served) (rest : List (List ℕ))
         → lines_served (told_first waiting first ++ lines) ++ rest ≡ requests_with waiting (lines_served lines ++ rest)
 
-  pub first_calls : (waiting : Option Pending) (first : Resumed) → Begun variant meaning before after offer waiting (Ok first)
+  first_calls : (waiting : Option Pending) (first : Resumed) → Begun variant meaning before after offer waiting (Ok first)
       → FirstCalls waiting first
   first_calls waiting first (failed same why e) = let clash : Ok first ≡ Err (store_fault_as why) = e in absurd (cc)
   first_calls waiting first (starts same none e) =
@@ -170,7 +170,7 @@ module _ {variant : Variant} {meaning : Meaning} {before after : Standing} {old 
     (s : Sessions variant meaning before after old new left left' received received' result) where
   -- a session that began so
   module _ (offer : List ℕ) (waiting : Option Pending) (begun_by : Begun variant meaning before s.platform offer waiting s.begun) where
-    first_by : (first : Resumed) → s.begun ≡ Ok first → FirstCalls variant meaning before s.platform offer waiting first
+    pub first_by : (first : Resumed) → s.begun ≡ Ok first → FirstCalls variant meaning before s.platform offer waiting first
     first_by first e =
         first_calls variant meaning before s.platform offer waiting first
         (rw e at begun_by)

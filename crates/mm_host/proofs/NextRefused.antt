@@ -30,7 +30,7 @@ use Rattle.mm_store.specs.declared.fault.StoreFault.TheVariants as store
 use Rattle.mm_host.specs.Refusing.{IsNext}
 use Rattle.mm_host.specs.Sessions.{GoesOn, ServesLines}
 use Rattle.mm_host.proofs.ByDigests.{call_leaves, calls_leave}
-use Rattle.mm_host.proofs.CallsMade.{Begun, begun_told, failed, first_calls, last_offer, repeats, served_calls, starts}
+use Rattle.mm_host.proofs.CallsMade.{Begun, begun_told, failed, first_by, last_offer, repeats, served_calls, starts}
 use Rattle.mm_host.proofs.Lines.{asks, by_told, fails, IsRead, length-lines_served, line_tries, lines_in, next_line, read_of, Tries}
 use Rattle.mm_host.proofs.RunningOnce.{by_fault}
 use Rattle.std.specs.Result.{result_map_both}
@@ -38,7 +38,8 @@ use Rattle.std.specs.Result.{result_map_both}
 -- Digests at which one platform stands find the same.
 
 -- the cell tells the digest and the flag
-cells_same : (i : Instance) (standing : Standing) (d e : Digests) → StandsAt i standing d → StandsAt i standing e → cell_at i d ≡ cell_at i e
+cells_same : (i : Instance) (standing : Standing) (d e : Digests) → StandsAt i standing d → StandsAt i standing e
+    → cell_at i d ≡ cell_at i e
 cells_same i standing d e a b =
     let both : Some (cell_spelling (cell_at i d)) ≡ Some (cell_spelling (cell_at i e)) = sym a.cell ∙ b.cell in
     cell_spelling-injective (cell_at i d) (cell_at i e) a.spells b.spells (cc)
@@ -267,7 +268,7 @@ module _ {variant : Variant} {meaning : Meaning} {before after : Standing} {old 
   in_hand_by fault e (inr g) request h =
       let l = g.lines in
       let read = read_of left left' input s.taken left_told s.consumed in
-      let f = first_calls variant meaning before s.platform first waiting g.first (rw g.begins at (begun_told s slots waiting slots_told w)) in
+      let f = first_by s first waiting (begun_told s slots waiting slots_told w) g.first g.begins in
       record {
         lines = lines_served l.calls ++ request ∷ [];
         asked = f.told l.calls (request ∷ []);
@@ -308,7 +309,7 @@ module _ {variant : Variant} {meaning : Meaning} {before after : Standing} {old 
     lines_ends g n judged =
         let l = g.lines in
         let read = read_of left left' input s.taken left_told s.consumed in
-        let f = first_calls variant meaning before s.platform first waiting g.first (rw g.begins at (begun_told s slots waiting slots_told w)) in
+        let f = first_by s first waiting (begun_told s slots waiting slots_told w) g.first g.begins in
         let lines_are : n.lines ≡ lines_served l.calls ++ request ∷ [] =
         requests_cancel waiting n.lines (lines_served l.calls ++ request ∷ []) (sym n.asked ∙ f.told l.calls (request ∷ [])) in
         let all : lines_served l.calls ++ lines_of (l.more ++ read.rest) ≡ lines_served l.calls ++ request ∷ n.first.0 =
