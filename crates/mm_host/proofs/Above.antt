@@ -8,6 +8,7 @@ pub use Rattle.mm_host.proofs.Leading.{basic_laws, Laws, Makes, Reaches, reach_s
 pub use Rattle.mm_host.proofs.Leading.{Stays}
 pub use Rattle.mm_host.proofs.Leading.{steps_again, steps_fresh}
 pub use Rattle.mm_host.proofs.Lines.{tells_call, TellsCall}
+pub use Rattle.mm_host.proofs.NextRefused.{IsFaulty, next_in_hand, next_refused, RefusesOrFails}
 pub use Rattle.mm_host.proofs.OptLeading.{opt_laws}
 pub use Rattle.mm_host.proofs.Room.{unless_full}
 pub use Rattle.mm_host.proofs.RunningOnce.{by_fault, foreign_of, messages_looked, only_by, register_looked, runs_once_from}
