@@ -8,6 +8,7 @@ use Rattle.std.proofs.Common.{inl, inr}
 use Rattle.std.proofs.Math.Seq.{take-append_seam}
 use Rattle.mm_digest.specs.declared.variant.Variant.{Variant}
 use Rattle.mm_model.specs.History.{first_history}
+use Rattle.mm_model.specs.Instance.{Instance}
 use Rattle.mm_module.specs.Meaning.{Meaning}
 use Rattle.mm_modules.specs.Modules.{meaning_of}
 use Rattle.mm_modules.specs.declared.any.AnyModule.{AnyModule}
