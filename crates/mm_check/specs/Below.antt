@@ -33,12 +33,12 @@ pub use Rattle.mm_run.specs.Premises.{IsClearRun, IsGenuineEvent, IsGenuineRun, 
 pub use Rattle.mm_evidence.specs.Evidence.{HasEvidence, IsForged}
 pub use Rattle.mm_expect.specs.Numbered.{numbered_event}
 pub use Rattle.mm_expect.specs.Traced.{IsAfter}
-pub use Rattle.mm_play.specs.Kept.{most_kept}
-pub use Rattle.mm_replay.specs.Schedule.{Running, after_event, first_running, running_outcome}
-pub use Rattle.mm_play.specs.Counting.{Taken, begins_fewer, few_events, no_answer, same_answer, taken}
-pub use Rattle.mm_play.specs.Events.{EventPlayer, event_answer, header_answer}
+pub use Rattle.mm_replay.specs.Schedule.{Running, after_event, first_running, is_too_much, replay_stage, running_outcome, stage_of}
+pub use Rattle.mm_play.specs.Counting.{no_answer, same_answer}
 pub use Rattle.mm_play.specs.Play.{Told, run, run_of}
 pub use Rattle.mm_play.specs.Plays.{ForWhole, IsTailShort}
+pub use Rattle.mm_play.specs.Stage.{running}
+pub use Rattle.mm_play.specs.StageLaws.{few_left}
 pub use Rattle.mm_play.specs.Takes.{IsFrontOf}
 pub use Rattle.mm_play.specs.declared.player.Refused.{Refused}
 pub use Rattle.mm_play.specs.declared.player.Refused.TheVariants.{Bad, Much}

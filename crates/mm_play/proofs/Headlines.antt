@@ -9,10 +9,9 @@ use Rattle.mm_play.specs.Headed.{Headed, More, Begins}
 use Rattle.mm_play.specs.Headline.{EventPlayer, Lead, IsNextLine, IsOver, IsLeft, WentOut, AreAnswered}
 use Rattle.mm_play.specs.Stage.{EventStage, EventSteps, HeadStage, running, LineStage, AtHeading, InEvents, head_answer, line_answer, line_closing}
 use Rattle.mm_play.specs.Shown.{begun_by, Shows}
-use Rattle.mm_play.proofs.Events.{none_answered}
 use Rattle.mm_play.proofs.Eventing.{AreShort, AnsweredEvents, IsOverIn, is_short, answered_events, much_over, bad_none}
 use Rattle.mm_play.proofs.Halting.{ComesTo, comes, comes_so, bad_at}
-use Rattle.mm_play.proofs.Runs.{first_answered, FirstAnswered}
+use Rattle.mm_play.proofs.Runs.{first_answered, FirstAnswered, none_answered}
 use Rattle.mm_play.proofs.Splitting.{whole_input, unbroken_lines, unbroken_tail}
 
 lead_more : {G H : Type 0} (head : G → List ℕ → Option (Headed G H)) (at next : G) (line : List ℕ) (lines : List (List ℕ)) (to : Headed G H)
