@@ -22,14 +22,14 @@ pub lives_on_one_store : BasicLifeGoesOn → (meaning : Meaning) → IsLawful me
     → LivesOnOneStore meaning before after new first first' second second' received received' one two
 lives_on_one_store law meaning lawful before started begun middle empty after between new first first' second second' received told
     received' one two life = record {
-  started = started;
-  begun = begun;
-  middle = middle;
-  empty = empty;
-  between = between;
-  told = told;
-  life = life;
-  goes = λ cell slots here honest shown f clear chance.
-      law meaning lawful (take 32 begun.secrets) started.platform started.store _ f (begun.stands cell [] here refl)
-      (begun.honest ∙ honest) (begun.stores slots honest shown) ((refl, refl), (tt, ((refl, refl), tt))) clear chance;
-}
+      started = started;
+      begun = begun;
+      middle = middle;
+      empty = empty;
+      between = between;
+      told = told;
+      life = life;
+      goes = λ cell slots here honest shown f clear chance.
+          law meaning lawful (take 32 begun.secrets) started.platform started.store _ f (begun.stands cell [] here refl)
+          (begun.honest ∙ honest) (begun.stores slots honest shown) ((refl, refl), (tt, ((refl, refl), tt))) clear chance;
+    }

@@ -33,14 +33,7 @@ pub enum Unheld {
 
 /// A first start of an instance of Basic, and a session; then power is lost and comes back; and a session over the
 /// store that the first one left.
-pub fn live_on_one_store<
-    M: Module,
-    P: Platform,
-    T: Store,
-    E: Source,
-    S: Source,
-    K: Sink,
->(
+pub fn live_on_one_store<M: Module, P: Platform, T: Store, E: Source, S: Source, K: Sink>(
     alloc: Global,
     module: &M,
     platform: &mut P,
