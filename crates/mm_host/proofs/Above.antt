@@ -12,4 +12,5 @@ pub use Rattle.mm_host.proofs.NextRefused.{IsFaulty, next_in_hand, next_refused,
 pub use Rattle.mm_host.proofs.OptLeading.{opt_laws}
 pub use Rattle.mm_host.proofs.Room.{unless_full}
 pub use Rattle.mm_host.proofs.RunningOnce.{by_fault, foreign_of, messages_looked, only_by, register_looked, runs_once_from}
-pub use Rattle.mm_host.proofs.SessionRuns.{AreMade, continues_by, IsFirstAsked, IsLineAsked, IsWritten, line_committed}
+pub use Rattle.mm_host.proofs.Made.{AreMade, IsLineAsked, IsWritten}
+pub use Rattle.mm_host.proofs.SessionRuns.{continues_by, line_committed}

@@ -9,6 +9,7 @@ mod OptLeading
 mod CallsMade
 mod InTurn
 mod LineStep
+mod Made
 mod SessionRuns
 mod Settling
 mod RunningOnce

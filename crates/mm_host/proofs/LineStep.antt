@@ -1,17 +1,17 @@
 -- What a line comes to by lists, from where a session stands.
-use Rattle.mm_host.proofs.Below.{◌≡◌, ◌≢◌, ◌∙◌, ◌+◌, ◌-◌, ◌%◌, ℕ, true, List, Option, None, Some, Result, Ok, Err, IfOk, refl, sym, ap}
-use Rattle.mm_host.proofs.Below.{inl, arith, ◌⊎◌, nat_eq, take_all, MayGrow, longest_request, Standing, Batch, One, parts_of, Content}
-use Rattle.mm_host.proofs.Below.{Instance, History, requests_of, total_of, LostLife, life_of, issued, StandsFor, IsRight, Answer}
-use Rattle.mm_host.proofs.Below.{BatchAnswer, Refusal, answer_on, IsWithin, right_content, whole, whole_in, right_of, listed_by}
+use Rattle.mm_host.proofs.Below.{◌≡◌, ◌≢◌, ◌∙◌, ◌+◌, ◌-◌, ◌%◌, ℕ, List, Option, None, Some, Result, Ok, Err, IfOk, refl, sym, ap}
+use Rattle.mm_host.proofs.Below.{inl, arith, ◌⊎◌, nat_eq, take_all, MayGrow, longest_request, Standing, Batch, One, Content}
+use Rattle.mm_host.proofs.Below.{Instance, History, requests_of, total_of, LostLife, life_of, IsRight, Answer}
+use Rattle.mm_host.proofs.Below.{BatchAnswer, Refusal, whole, whole_in}
 use Rattle.mm_host.proofs.Below.{StoreFault, WritesSlot, putting, StoreStanding, Pending, pending_spelling, Slots, longest_slot}
 use Rattle.mm_host.proofs.Below.{slot_read, with_slot, longest_slot-is, HostFault, Resumed, Start, Answered, IsNotBeyond}
-use Rattle.mm_host.proofs.Below.{waiting_position, refusal_fault, store_fault_as, FitsHistory, FitsBy, Holds, offer_slot, ◌∷◌, AnswersAt}
-use Rattle.mm_host.proofs.Below.{answered_to, AreAskedInTurn, CanRecover, IsGrown, MayHaveCommitted, RecoversTo, IsRefusedAs, position_at, snapshot_at}
-use Rattle.mm_host.proofs.Below.{AfterRecord, record_for, Place, length-pending_spelling, NoMore, asked_at, left_by, ask_exit}
-use Rattle.mm_host.proofs.Below.{refusal_told, RunsOver, told_first, [], issued_bytes, inr, Met, sealed_of, first_offer, requests_with, IsCall, length}
-use Rattle.mm_host.proofs.Below.{last_position, one_content, one_more, IsSame, subst, suc, ◌≤◌}
-use Rattle.mm_host.proofs.Below.{◌<◌, ◌++◌, false, take, nat_tests, Variant, Batch, Life, StepFault, fault_of, AfterAsk, by_refusal, fits_on, found_full, grows}
-use Rattle.mm_host.proofs.Below.{AreNewFrom, AreToldOnce, RefusesAs, Served, Host, IsRight}
+use Rattle.mm_host.proofs.Below.{waiting_position, refusal_fault, store_fault_as, FitsHistory, FitsBy, Holds, offer_slot, ◌∷◌}
+use Rattle.mm_host.proofs.Below.{answered_to, AreAskedInTurn, RecoversTo, position_at, snapshot_at}
+use Rattle.mm_host.proofs.Below.{AfterRecord, record_for, Place, length-pending_spelling, NoMore, left_by, ask_exit}
+use Rattle.mm_host.proofs.Below.{refusal_told, RunsOver, [], issued_bytes, inr, Met, sealed_of, first_offer, requests_with, IsCall}
+use Rattle.mm_host.proofs.Below.{last_position, one_content, one_more, IsSame, subst, ◌≤◌}
+use Rattle.mm_host.proofs.Below.{◌<◌, false, take, nat_tests, Batch, StepFault, fault_of, AfterAsk, fits_on, found_full, grows}
+use Rattle.mm_host.proofs.Below.{RefusesAs, Host, IsRight}
 use Rattle.std.proofs.lemmas.Bool.{cases_lt}
 use Rattle.mm_call.specs.Coming.{Comes}
 use Rattle.mm_call.specs.Coming as coming
@@ -20,7 +20,7 @@ use Rattle.mm_store.specs.declared.fault.StoreFault.TheVariants as fault
 use Rattle.mm_recovery.specs.declared.fault.HostFault.TheVariants as host
 use Rattle.mm_host.proofs.InTurn.{May, met_between, met_last, StandsIn, stepped_by}
 use Rattle.mm_host.proofs.Lines.{never_stored}
-use Rattle.mm_host.proofs.Leading.{answered_first, Laws, Reaches, same_pending}
+use Rattle.mm_host.proofs.Leading.{Laws, Reaches}
 use Rattle.mm_host.proofs.Settling.{answers_of, broken_refused, came_by, CameTo, IsSettledAt, refused_in, refused_last, refused_with}
 use Rattle.mm_host.proofs.Settling.{settled_by, went_first}
 use Rattle.mm_host.proofs.Below.{AfterRecord, Enters}
@@ -247,9 +247,9 @@ module _ {all others : List (List ℕ)} {asked : List Batch} {i : Instance} {fin
       full_same gives m = elim m.room [
         | inl same ↦ same
         | inr few ↦ elim (grows i y next offer m.after gives m.comes) [
-            | inl same ↦ same
-            | inr more ↦ absurd (omega (arith, few, ap total_of more, one_more y.batches line, full_total))
-          ]
+          | inl same ↦ same
+          | inr more ↦ absurd (omega (arith, few, ap total_of more, one_more y.batches line, full_total))
+        ]
       ]
 
       never_answered : (answer : Answer) → (m : Met all others asked i y standing offer next (Ok (whole answer)))
@@ -275,8 +275,8 @@ module _ {all others : List (List ℕ)} {asked : List Batch} {i : Instance} {fin
           elim (m.judged why refl none) [
             | inl memory ↦ inl memory
             | inr found ↦ inr (refused_last why i.variant m.after (ap total_of same ∙ full_total)
-              (found_full i m.after offer line settled.holds.content settled.holds.right
-              (said_here settled.holds.content settled.holds.right ∙ ap total_of (sym same)) (ap total_of same ∙ full_total) why found))
+                (found_full i m.after offer line settled.holds.content settled.holds.right
+                (said_here settled.holds.content settled.holds.right ∙ ap total_of (sym same)) (ap total_of same ∙ full_total) why found))
           ]
 
     -- so there was a position for a line that is answered

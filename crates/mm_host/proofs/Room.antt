@@ -1,7 +1,7 @@
 -- Where there is a position for each request, none is refused as Full.
 use Rattle.mm_host.proofs.Below.{◌≡◌, ◌+◌, ◌-◌, ◌≤◌, ℕ, Bool, true, false, List, [], ◌∷◌, ◌++◌, Option, Some, Result, Err, length, arith, ap}
 use Rattle.mm_host.proofs.Below.{inl, inr, length-append, last_position, Variant, Standing, Batch, One, Meaning, Instance, History, total_of}
-use Rattle.mm_host.proofs.Below.{StepsOn, StoreStanding, Pending, Slots, slot_read, IsWaiting, first_offer, offered_after, Served, lines_served}
+use Rattle.mm_host.proofs.Below.{StepsOn, StoreStanding, Pending, Slots, slot_read, IsWaiting, Served, lines_served}
 use Rattle.mm_host.proofs.Below.{AreAmong, ContinuesTo, IsInHand, RunsOver, SessionFault, Host, Sessions, told_in}
 use Rattle.mm_host.proofs.CallsMade.{chain_of, Ends, rests, stops}
 use Rattle.mm_host.proofs.Lines.{length-lines_served}
@@ -38,7 +38,7 @@ module _ {variant : Variant} {meaning : Meaning} {before final : Standing} {old 
   few : result ≡ Err (Host (host.Refused Full)) → length c.runs.requests ≡ last_position
   few full = elim c.runs.committed [
     | inl same ↦ let used : total_of c.runs.after.batches ≡ last_position = rw full at c.refuses in
-      omega (arith, used, ap (λ (xs : List (List ℕ)). length xs) same)
+        omega (arith, used, ap (λ (xs : List (List ℕ)). length xs) same)
     | inr untold ↦ let clash : false ≡ true = rw full at untold.untold in absurd (cc)
   ]
 

@@ -5,20 +5,21 @@ use Rattle.mm_host.proofs.Below.{StoreStanding, Pending, Refusal, HostFault, Ses
 use Rattle.mm_host.proofs.Below.{MayBeUntold, RefusesAs, RunsOver, IsGrown, MayHaveCommitted, SendsReply, comes_as}
 use Rattle.mm_host.proofs.Below.{reply_text, Place, Served, IsAtRest, Ok, Slots, Answered, FitsBy}
 use Rattle.mm_host.proofs.Below.{RecoversTo, record_for, Serves, lines_served, AreAmong, AreAskedInTurn, answered_to, snapshot_at}
-use Rattle.mm_host.proofs.Below.{whole_in, slot_read, Answer, CanRecover, IsInHand, told_first, told_in, first_offer, requests_with}
+use Rattle.mm_host.proofs.Below.{whole_in, slot_read, Answer, IsInHand, told_first, told_in, first_offer, requests_with}
 use Rattle.mm_host.proofs.Below.{AreNewFrom, AreToldOnce}
-use Rattle.mm_host.proofs.Below.{offer_slot, Resumes, Sessions, AfterResume, StopsAtOnce, NoMore, left_by, IsCall, IsWaiting, IsSame}
+use Rattle.mm_host.proofs.Below.{offer_slot, Resumes, Sessions, AfterResume, StopsAtOnce, NoMore, left_by, IsCall, IsWaiting}
 use Rattle.mm_host.proofs.Below.{recovers_by, Met, IfOk, subst, sym, total_of, refusal_fault, RunsTo, StandsFor, IsWithin, Variant}
-use Rattle.mm_host.proofs.Below.{append_assoc, append_cancel_left, true}
-use Rattle.mm_host.specs.Sessions.{GoesOn, ServesLines}
-use Rattle.mm_host.proofs.Below.{◌+◌, ◌%◌, length, Meaning, MayGrow, longest_request, AfterRecord, BeginsWith, ended_as, IsMade, Enters}
-use Rattle.mm_host.proofs.Below.{Lines, Memory, pending_spelling, position_at, ServedOn, StopsInLine, StoreFault, WriteFault, WritesSlot}
+use Rattle.mm_host.proofs.Below.{true}
+use Rattle.mm_host.specs.Sessions.{GoesOn}
+use Rattle.mm_host.proofs.Below.{◌+◌, ◌%◌, length, MayGrow, longest_request, AfterRecord, BeginsWith, ended_as, IsMade, Enters}
+use Rattle.mm_host.proofs.Below.{Lines, pending_spelling, position_at, ServedOn, StoreFault, WriteFault, WritesSlot}
 use Rattle.mm_recovery.specs.declared.fault.HostFault.TheVariants as host
 use Rattle.mm_host.proofs.CallsMade.{first_told, InHand, lines_chain, served_calls}
 use Rattle.mm_host.proofs.InTurn.{calls_reach, chain_reaches, ends_reach, May, met_last, StandsIn}
 use Rattle.mm_host.proofs.Leading.{Laws, Reaches, RunsOver-append, same_pending, unspoiled}
 use Rattle.mm_host.proofs.LineStep.{between_told, IsBetween, IsReady, line_goes, line_last, line_unwritten, ready_first}
 use Rattle.mm_host.proofs.LineStep.{offer_then, waiting_then}
+use Rattle.mm_host.proofs.Made.{among_next, AreMade, by_asked, IsFirstAsked, IsLineAsked, IsWritten}
 use Rattle.mm_host.proofs.Settling.{came_by, CameTo, IsSettledAt, once_first, settled_by, went_first}
 use Rattle.mm_host.proofs.Lines.{by_told, IsByInput}
 
@@ -160,65 +161,6 @@ module _ {all others : List (List ℕ)} {asked : List Batch} {i : Instance} {fin
         powered = λ k. r.powered (b.powered k);
       }
 
--- A line in hand is one of the requests, where it was asked.
-
-abbrev pub IsWritten : Result Unit StoreFault → Type 0
-IsWritten (Ok it) = Unit {0}
-IsWritten (Err why) = ⊥
-
-abbrev pub IsFirstIn : {variant : Variant} {meaning : Meaning} {number : ℕ} {at : Place} {after : Standing} {new : StoreStanding}
-    {more sent : List ℕ} (rest : List (List ℕ)) (fault : SessionFault)
-    → StopsInLine variant meaning number at after new more sent fault → Type 0
-IsFirstIn rest fault e = IsWritten e.asks.recorded → (next : List (List ℕ)) × (rest ≡ e.line ∷ next)
-
-abbrev pub IsLineAsked : (variant : Variant) (meaning : Meaning) (number : ℕ) (at : Place) (after : Standing) (new : StoreStanding)
-    (left : Option (List ℕ)) (more sent : List ℕ) (rest : List (List ℕ)) (result : Result Unit SessionFault)
-    → ServedOn variant meaning number at after new left more [] sent (ended_as result) → Type 0
-IsLineAsked variant meaning number at after new left more sent rest (Err (Host fault)) e = IsFirstIn rest (Host fault) e
-IsLineAsked variant meaning number at after new left more sent rest (Err (Lines WriteFault)) e = IsFirstIn rest (Lines WriteFault) e
-IsLineAsked variant meaning number at after new left more sent rest _ e = Unit {0}
-
--- What a session asked, if anything, are the first of these requests: what waited, the lines that were told, and the one in hand.
-module _ {variant : Variant} {meaning : Meaning} {before final : Standing} {old new : StoreStanding}
-    {left left' received received' : Option (List ℕ)} {result : Result Unit SessionFault}
-    (s : Sessions variant meaning before final old new left left' received received' result) (waiting : Option Pending)
-    (requests : List (List ℕ)) where
-  abbrev pub IsFirstAsked : Type 0
-  IsFirstAsked =
-      IsMade variant meaning before s.platform s.resumes.waiting s.resumes.middle s.store s.begun s.resumes.goes
-      → (p : Pending) → waiting ≡ Some p → (rest : List (List ℕ)) × (requests ≡ p.request ∷ rest)
-
-  abbrev pub AreMade : AfterResume variant meaning s.begun s.platform final s.store new left' s.taken s.sent result → Type 0
-  AreMade (inl stops) = IsFirstAsked
-  AreMade (inr g) =
-      (rest : List (List ℕ)) × (lines_served (told_first waiting g.first ++ g.lines.calls) ++ rest ≡ requests)
-      × IsLineAsked variant meaning (length g.lines.calls + 1) g.lines.at final new left' g.lines.more g.lines.last rest result
-      g.lines.ends
-
--- It ends with a line in hand, which was asked or not, or at rest.
-by_asked : {variant : Variant} {meaning : Meaning} {from : Place} {after : Standing} {new : StoreStanding} {left : Option (List ℕ)}
-    {taken sent : List ℕ} (P : Result Unit SessionFault → Type 0) (rest : List (List ℕ)) (result : Result Unit SessionFault)
-    (l : ServesLines variant meaning 1 from after new left taken sent result)
-    → IsLineAsked variant meaning (length l.calls + 1) l.at after new left l.more l.last rest result l.ends
-    → ((fault : SessionFault) (e : StopsInLine variant meaning (length l.calls + 1) l.at after new l.more l.last fault)
-    → IsFirstIn rest fault e → P (Err fault))
-    → (IsByInput result → IsAtRest l.at after new l.last → P result) → P result
-by_asked P rest (Err (Host fault)) l a line still = line (Host fault) l.ends a
-by_asked P rest (Err (Lines WriteFault)) l a line still = line (Lines WriteFault) l.ends a
-by_asked P rest (Err (Lines Memory)) l a line still = absurd l.ends
-by_asked P rest _ l a line still = still tt l.ends.0
-
--- the line behind those that were told
-among_next : (told : List Served) (more : List ℕ) {requests : List (List ℕ)}
-    (a : AreAmong told (λ (request : List ℕ). (held : List ℕ) × BeginsWith more request held) requests) (line held : List ℕ)
-    → BeginsWith more line held → (next : List (List ℕ)) × (a.served.0 ≡ line ∷ next)
-among_next told more a line held b =
-    let next = a.in_hand line (held, b) in (
-      next.0,
-      append_cancel_left (lines_served told) a.served.0 (line ∷ next.0)
-          (a.served.1 ∙ sym next.1 ∙ append_assoc (lines_served told) (line ∷ []) next.0),
-    )
-
 -- what the line in hand came to
 module _ {all others : List (List ℕ)} {asked : List Batch} {i : Instance} {final : Standing} (laws : Laws all others asked i final)
     (at : Place) (settled : IsSettledAt all others asked i at) (z : History) (rest : List (List ℕ)) (ready : IsReady laws settled z rest)
@@ -245,184 +187,183 @@ module _ {all others : List (List ℕ)} {asked : List Batch} {i : Instance} {fin
     (here : StandsIn all others asked i y z before (first_offer slots waiting))
     (may : May laws y before (first_offer slots waiting) requests)
     (follow : AreAskedInTurn all asked i z (first_offer slots waiting) requests)
-    where
+  where
+    -- where that is asked
+    record AsksFirst (p : Pending) (rest : List (List ℕ)) : Type 0 where
+      first_here : StandsIn all others asked i y z before (slot_read slots (offer_slot p))
+      first_may : May laws y before (slot_read slots (offer_slot p)) (p.request ∷ rest)
+      first_follow : AreAskedInTurn all asked i z (slot_read slots (offer_slot p)) (p.request ∷ rest)
 
-  -- where that is asked
-  record AsksFirst (p : Pending) (rest : List (List ℕ)) : Type 0 where
-    first_here : StandsIn all others asked i y z before (slot_read slots (offer_slot p))
-    first_may : May laws y before (slot_read slots (offer_slot p)) (p.request ∷ rest)
-    first_follow : AreAskedInTurn all asked i z (slot_read slots (offer_slot p)) (p.request ∷ rest)
+    asks_first : (p : Pending) (rest : List (List ℕ)) → waiting ≡ Some p → requests ≡ p.request ∷ rest → AsksFirst p rest
+    asks_first p rest e is =
+        let offer : first_offer slots waiting ≡ slot_read slots (offer_slot p) = ap (first_offer slots) e in
+        record {
+          first_here = subst (λ (bytes : List ℕ). StandsIn all others asked i y z before bytes) offer here;
+          first_may = subst (λ (bytes : List ℕ). May laws y before bytes (p.request ∷ rest)) offer
+              (subst (λ (rs : List (List ℕ)). May laws y before (first_offer slots waiting) rs) is may);
+          first_follow = subst (λ (bytes : List ℕ). AreAskedInTurn all asked i z bytes (p.request ∷ rest)) offer
+              (subst (λ (rs : List (List ℕ)). AreAskedInTurn all asked i z (first_offer slots waiting) rs) is follow);
+        }
 
-  asks_first : (p : Pending) (rest : List (List ℕ)) → waiting ≡ Some p → requests ≡ p.request ∷ rest → AsksFirst p rest
-  asks_first p rest e is =
-      let offer : first_offer slots waiting ≡ slot_read slots (offer_slot p) = ap (first_offer slots) e in
-      record {
-        first_here = subst (λ (bytes : List ℕ). StandsIn all others asked i y z before bytes) offer here;
-        first_may = subst (λ (bytes : List ℕ). May laws y before bytes (p.request ∷ rest)) offer
-            (subst (λ (rs : List (List ℕ)). May laws y before (first_offer slots waiting) rs) is may);
-        first_follow = subst (λ (bytes : List ℕ). AreAskedInTurn all asked i z bytes (p.request ∷ rest)) offer
-            (subst (λ (rs : List (List ℕ)). AreAskedInTurn all asked i z (first_offer slots waiting) rs) is follow);
-      }
+    enters : Enters all others asked i y slots before old
+    enters = record {
+      honest = honest;
+      told = slots_told;
+      stands = here.stands;
+      fits = record { waiting = waiting; is_waiting = w; fits = fits };
+      within = here.within;
+    }
 
-  enters : Enters all others asked i y slots before old
-  enters = record {
-    honest = honest;
-    told = slots_told;
-    stands = here.stands;
-    fits = record { waiting = waiting; is_waiting = w; fits = fits };
-    within = here.within;
-  }
+    -- the recovery, by what a call for what waits comes to
+    recovered_by : (More : History → Type 0) (after : Standing) (came : Result Resumed HostFault)
+        → (waiting ≡ None → after ≡ before → More y) → (r : Resumes i.variant i.meaning before after old s.store came)
+        → (IsMade i.variant i.meaning before after r.waiting r.middle s.store came r.goes
+        → (p : Pending) (call : Result Answer Refusal) → waiting ≡ Some p
+        → IsCall i.variant i.meaning before after (slot_read slots (offer_slot p)) p.request call
+        → ((why : Refusal) → call ≡ Err why → came ≡ Err (refusal_fault why))
+        → (o : Met all others asked i y after (slot_read slots (offer_slot p)) p (whole_in call)) × More o.after)
+        → (v : RecoversTo all others asked i y slots waiting after s.store came) × IfOk came (λ (resumed : Resumed). More v.after)
+    unfolding enters
+    recovered_by More after came none r leads =
+        recovers_by More i.variant all others asked i laws.lawful y slots before after old enters s.store came none r
+        (λ made p call e told c.
+        let o = leads made p call e c told in left_by all others asked i y slots before old enters More after p (whole_in call) e o.0 o.1)
 
-  -- the recovery, by what a call for what waits comes to
-  recovered_by : (More : History → Type 0) (after : Standing) (came : Result Resumed HostFault)
-      → (waiting ≡ None → after ≡ before → More y) → (r : Resumes i.variant i.meaning before after old s.store came)
-      → (IsMade i.variant i.meaning before after r.waiting r.middle s.store came r.goes
-      → (p : Pending) (call : Result Answer Refusal) → waiting ≡ Some p
-      → IsCall i.variant i.meaning before after (slot_read slots (offer_slot p)) p.request call
-      → ((why : Refusal) → call ≡ Err why → came ≡ Err (refusal_fault why))
-      → (o : Met all others asked i y after (slot_read slots (offer_slot p)) p (whole_in call)) × More o.after)
-      → (v : RecoversTo all others asked i y slots waiting after s.store came) × IfOk came (λ (resumed : Resumed). More v.after)
-  unfolding enters
-  recovered_by More after came none r leads =
-      recovers_by More i.variant all others asked i laws.lawful y slots before after old enters s.store came none r
-      (λ made p call e told c.
-      let o = leads made p call e c told in left_by all others asked i y slots before old enters More after p (whole_in call) e o.0 o.1)
+    -- it is all
+    recovers_last : final ≡ s.platform → IsFirstAsked s waiting requests → RecoversTo all others asked i y slots waiting final s.store s.begun
+    recovers_last same first =
+        subst (λ (x : Standing). RecoversTo all others asked i y slots waiting x s.store s.begun) (sym same)
+        (recovered_by NoMore s.platform s.begun (λ n e. tt) s.resumes (λ made p call e c told.
+        let f = first made p e in
+        let a = asks_first p f.0 e f.1 in
+        let m = met_last laws y z before (slot_read slots (offer_slot p)) p f.0 call a.first_here a.first_follow a.first_may
+        (subst (λ (x : Standing). IsCall i.variant i.meaning before x (slot_read slots (offer_slot p)) p.request call) (sym same) c) in
+        (subst (λ (x : Standing). Met all others asked i y x (slot_read slots (offer_slot p)) p (whole_in call)) same m, tt))).0
 
-  -- it is all
-  recovers_last : final ≡ s.platform → IsFirstAsked s waiting requests → RecoversTo all others asked i y slots waiting final s.store s.begun
-  recovers_last same first =
-      subst (λ (x : Standing). RecoversTo all others asked i y slots waiting x s.store s.begun) (sym same)
-      (recovered_by NoMore s.platform s.begun (λ n e. tt) s.resumes (λ made p call e c told.
-      let f = first made p e in
-      let a = asks_first p f.0 e f.1 in
-      let m = met_last laws y z before (slot_read slots (offer_slot p)) p f.0 call a.first_here a.first_follow a.first_may
-      (subst (λ (x : Standing). IsCall i.variant i.meaning before x (slot_read slots (offer_slot p)) p.request call) (sym same) c) in
-      (subst (λ (x : Standing). Met all others asked i y x (slot_read slots (offer_slot p)) p (whole_in call)) same m, tt))).0
+    -- or lines come behind it
+    recovers_between : (first : Resumed) (lines : List (List ℕ)) → Reaches i.variant i s.platform final → s.begun ≡ Ok first
+        → requests ≡ requests_with waiting lines → (r : RecoversTo all others asked i y slots waiting s.platform s.store (Ok first))
+        × IsBetween laws (waiting_then laws z slots waiting) s.platform (offer_then laws z slots waiting) lines r.after
+    recovers_between first lines reaches is all_lines =
+        recovered_by (IsBetween laws (waiting_then laws z slots waiting) s.platform (offer_then laws z slots waiting) lines) s.platform
+        (Ok first)
+        (λ n e.
+        let rests : May laws y s.platform (slot_read slots 0) lines =
+        subst (λ (x : Standing). May laws y x (slot_read slots 0) lines) (sym e)
+        (subst (λ (rs : List (List ℕ)). May laws y before (slot_read slots 0) rs)
+        (all_lines ∙ ap (λ (v : Option Pending). requests_with v lines) n)
+        (subst (λ (v : Option Pending). May laws y before (first_offer slots v) requests) n may)) in
+        subst (λ (v : Option Pending). IsBetween laws (waiting_then laws z slots v) s.platform (offer_then laws z slots v) lines y) (sym n)
+        (rests, here.same))
+        (rw is at s.resumes)
+        (λ made p call e c told.
+        let a = asks_first p lines e (all_lines ∙ ap (λ (v : Option Pending). requests_with v lines) e) in
+        let b = between_told laws y z before s.platform (slot_read slots (offer_slot p)) p call first lines a.first_here a.first_follow
+        a.first_may reaches c told in
+        subst (λ (v : Option Pending).
+        (o : Met all others asked i y s.platform (slot_read slots (offer_slot p)) p (whole_in call))
+        × IsBetween laws (waiting_then laws z slots v) s.platform (offer_then laws z slots v) lines o.after) (sym e) b)
 
-  -- or lines come behind it
-  recovers_between : (first : Resumed) (lines : List (List ℕ)) → Reaches i.variant i s.platform final → s.begun ≡ Ok first
-      → requests ≡ requests_with waiting lines → (r : RecoversTo all others asked i y slots waiting s.platform s.store (Ok first))
-      × IsBetween laws (waiting_then laws z slots waiting) s.platform (offer_then laws z slots waiting) lines r.after
-  recovers_between first lines reaches is all_lines =
-      recovered_by (IsBetween laws (waiting_then laws z slots waiting) s.platform (offer_then laws z slots waiting) lines) s.platform
-      (Ok first)
-      (λ n e.
-      let rests : May laws y s.platform (slot_read slots 0) lines =
-      subst (λ (x : Standing). May laws y x (slot_read slots 0) lines) (sym e)
-      (subst (λ (rs : List (List ℕ)). May laws y before (slot_read slots 0) rs)
-      (all_lines ∙ ap (λ (v : Option Pending). requests_with v lines) n)
-      (subst (λ (v : Option Pending). May laws y before (first_offer slots v) requests) n may)) in
-      subst (λ (v : Option Pending). IsBetween laws (waiting_then laws z slots v) s.platform (offer_then laws z slots v) lines y) (sym n)
-      (rests, here.same))
-      (rw is at s.resumes)
-      (λ made p call e c told.
-      let a = asks_first p lines e (all_lines ∙ ap (λ (v : Option Pending). requests_with v lines) e) in
-      let b = between_told laws y z before s.platform (slot_read slots (offer_slot p)) p call first lines a.first_here a.first_follow
-      a.first_may reaches c told in
-      subst (λ (v : Option Pending).
-      (o : Met all others asked i y s.platform (slot_read slots (offer_slot p)) p (whole_in call))
-      × IsBetween laws (waiting_then laws z slots v) s.platform (offer_then laws z slots v) lines o.after) (sym e) b)
+    -- nothing was told
+    none_told : (w : Option Pending) → FitsBy i slots y w → AreToldOnce (total_of y.batches) w []
+    none_told None f = tt
+    none_told (Some p) f = tt
 
-  -- nothing was told
-  none_told : (w : Option Pending) → FitsBy i slots y w → AreToldOnce (total_of y.batches) w []
-  none_told None f = tt
-  none_told (Some p) f = tt
+    -- what waited ends it
+    at_once : new ≡ s.store → (e : StopsAtOnce s.begun s.taken s.sent result)
+        → RecoversTo all others asked i y slots waiting final s.store s.begun
+        → ContinuesTo all others asked i y waiting final new []
+        (λ (request : List ℕ). (p : Pending) × (waiting ≡ Some p) × (p.request ≡ request)) result
+    at_once same e r =
+        let hand : List ℕ → Type 0 = λ request. (p : Pending) × (waiting ≡ Some p) × (p.request ≡ request) in
+        rw e.stops (rw same (stops_with y waiting [] hand y waiting s.store s.begun s.sent e.fault refl (none_told waiting fits) (λ p. p)
+        (came_by waiting s.begun r)
+        (λ p w. (p, w, refl)) e.says))
 
-  -- what waited ends it
-  at_once : new ≡ s.store → (e : StopsAtOnce s.begun s.taken s.sent result)
-      → RecoversTo all others asked i y slots waiting final s.store s.begun
-      → ContinuesTo all others asked i y waiting final new []
-      (λ (request : List ℕ). (p : Pending) × (waiting ≡ Some p) × (p.request ≡ request)) result
-  at_once same e r =
-      let hand : List ℕ → Type 0 = λ request. (p : Pending) × (waiting ≡ Some p) × (p.request ≡ request) in
-      rw e.stops (rw same (stops_with y waiting [] hand y waiting s.store s.begun s.sent e.fault refl (none_told waiting fits) (λ p. p)
-      (came_by waiting s.begun r)
-      (λ p w. (p, w, refl)) e.says))
+    -- the lines
+    serves_on : (g : GoesOn i.variant i.meaning s.begun s.platform final s.store new left' s.taken s.sent result)
+        → (rest : List (List ℕ)) → lines_served (told_first waiting g.first ++ g.lines.calls) ++ rest ≡ requests
+        → IsLineAsked i.variant i.meaning (length g.lines.calls + 1) g.lines.at final new left' g.lines.more g.lines.last rest result
+        g.lines.ends
+        → ContinuesTo all others asked i y waiting final new (told_first waiting g.first ++ g.lines.calls) (InHand g.lines) result
+    serves_on g rest served asks_line =
+        let l = g.lines in
+        let told : List Served = told_first waiting g.first ++ l.calls in
+        let from : Place = record { platform = s.platform; store = s.store; last = g.first } in
+        let lines : List (List ℕ) = lines_served l.calls ++ rest in
+        let all_lines : requests ≡ requests_with waiting lines = sym served ∙ first_told s slots waiting slots_told w g rest in
+        let r = recovers_between g.first lines (chain_reaches laws (lines_chain l)) g.begins all_lines in
+        let ready = ready_first laws y z slots waiting s.platform s.store g.first lines fits r.0 r.1
+        (subst (λ (rs : List (List ℕ)). AreAskedInTurn all asked i z (first_offer slots waiting) rs) all_lines follow) in
+        let c = lines_come laws (waiting_then laws z slots waiting) from l.at l.calls rest (settled_by waiting g.first fits r.0) ready
+        l.serves (ends_reach laws (lines_chain l).ends) in
+        let run : RunsOver i.meaning (requests_of y.batches) told (requests_of c.settled.after.batches) =
+        RunsOver-append i.meaning (requests_of y.batches) (requests_of r.0.after.batches) (requests_of c.settled.after.batches)
+        (told_first waiting g.first) l.calls (went_first waiting g.first fits r.0).run c.run in
+        let once : AreToldOnce (total_of y.batches) waiting told = once_first waiting g.first r.0 l.calls c.once in
+        by_asked (λ x. ContinuesTo all others asked i y waiting final new told (InHand l) x) rest result l asks_line
+        (λ fault e first.
+        stops_with y waiting told (InHand l) c.settled.after (Some (record_for l.at.last e.line)) new e.came l.last fault run once
+        (λ p. c.powered (r.0.powered p))
+        (line_came laws l.at c.settled c.then_is rest c.ready e.line new e.came e.begins.within e.asks.recorded e.asks.middle e.asks.records
+        e.asks.goes first)
+        (λ p k. rw (same_pending (record_for l.at.last e.line) p k) (e.held, e.begins)) e.says)
+        (λ by x. rests_at y waiting told (InHand l) l.at new l.last result c.settled run once (λ p. c.powered (r.0.powered p)) x by)
 
-  -- the lines
-  serves_on : (g : GoesOn i.variant i.meaning s.begun s.platform final s.store new left' s.taken s.sent result)
-      → (rest : List (List ℕ)) → lines_served (told_first waiting g.first ++ g.lines.calls) ++ rest ≡ requests
-      → IsLineAsked i.variant i.meaning (length g.lines.calls + 1) g.lines.at final new left' g.lines.more g.lines.last rest result
-      g.lines.ends
-      → ContinuesTo all others asked i y waiting final new (told_first waiting g.first ++ g.lines.calls) (InHand g.lines) result
-  serves_on g rest served asks_line =
-      let l = g.lines in
-      let told : List Served = told_first waiting g.first ++ l.calls in
-      let from : Place = record { platform = s.platform; store = s.store; last = g.first } in
-      let lines : List (List ℕ) = lines_served l.calls ++ rest in
-      let all_lines : requests ≡ requests_with waiting lines = sym served ∙ first_told s slots waiting slots_told w g rest in
-      let r = recovers_between g.first lines (chain_reaches laws (lines_chain l)) g.begins all_lines in
-      let ready = ready_first laws y z slots waiting s.platform s.store g.first lines fits r.0 r.1
-      (subst (λ (rs : List (List ℕ)). AreAskedInTurn all asked i z (first_offer slots waiting) rs) all_lines follow) in
-      let c = lines_come laws (waiting_then laws z slots waiting) from l.at l.calls rest (settled_by waiting g.first fits r.0) ready
-      l.serves (ends_reach laws (lines_chain l).ends) in
-      let run : RunsOver i.meaning (requests_of y.batches) told (requests_of c.settled.after.batches) =
-      RunsOver-append i.meaning (requests_of y.batches) (requests_of r.0.after.batches) (requests_of c.settled.after.batches)
-      (told_first waiting g.first) l.calls (went_first waiting g.first fits r.0).run c.run in
-      let once : AreToldOnce (total_of y.batches) waiting told = once_first waiting g.first r.0 l.calls c.once in
-      by_asked (λ x. ContinuesTo all others asked i y waiting final new told (InHand l) x) rest result l asks_line
-      (λ fault e first.
-      stops_with y waiting told (InHand l) c.settled.after (Some (record_for l.at.last e.line)) new e.came l.last fault run once
-      (λ p. c.powered (r.0.powered p))
-      (line_came laws l.at c.settled c.then_is rest c.ready e.line new e.came e.begins.within e.asks.recorded e.asks.middle e.asks.records
-      e.asks.goes first)
-      (λ p k. rw (same_pending (record_for l.at.last e.line) p k) (e.held, e.begins)) e.says)
-      (λ by x. rests_at y waiting told (InHand l) l.at new l.last result c.settled run once (λ p. c.powered (r.0.powered p)) x by)
+    ends_by : (goes : AfterResume i.variant i.meaning s.begun s.platform final s.store new left' s.taken s.sent result)
+        → AreMade s waiting requests goes
+        → ContinuesTo all others asked i y waiting final new (told_in waiting goes) (IsInHand waiting goes) result
+    ends_by (inl e) a = at_once e.1 e.2 (recovers_last e.0 a)
+    ends_by (inr g) a = serves_on g a.0 a.1 a.2
 
-  ends_by : (goes : AfterResume i.variant i.meaning s.begun s.platform final s.store new left' s.taken s.sent result)
-      → AreMade s waiting requests goes
-      → ContinuesTo all others asked i y waiting final new (told_in waiting goes) (IsInHand waiting goes) result
-  ends_by (inl e) a = at_once e.1 e.2 (recovers_last e.0 a)
-  ends_by (inr g) a = serves_on g a.0 a.1 a.2
+    -- of the history of which was asked
+    pub continues_by : AreMade s waiting requests s.goes → (life_of i.variant z ≢ LostLife → life_of i.variant y ≢ LostLife)
+        → ContinuesTo all others asked i z waiting final new (told_in waiting s.goes) (IsInHand waiting s.goes) result
+    continues_by made powered =
+        let c = ends_by s.goes made in
+        record {
+          runs = record {
+            after = c.runs.after;
+            stands = c.runs.stands;
+            within = c.runs.within;
+            requests = c.runs.requests;
+            run = subst (λ (bs : List Batch). RunsOver i.meaning (requests_of bs) (told_in waiting s.goes) c.runs.requests)
+                (laws.batches y z here.same) c.runs.run;
+            committed = c.runs.committed;
+            unspoiled = c.runs.unspoiled;
+            powered = λ p. c.runs.powered (powered p);
+          };
+          once = subst (λ (bs : List Batch). AreToldOnce (total_of bs) waiting (told_in waiting s.goes)) (laws.batches y z here.same) c.once;
+          room = c.room;
+          slots_after = c.slots_after;
+          honest = c.honest;
+          slots_told = c.slots_told;
+          fits = c.fits;
+          whole = c.whole;
+          refuses = c.refuses;
+        }
 
-  -- of the history of which was asked
-  pub continues_by : AreMade s waiting requests s.goes → (life_of i.variant z ≢ LostLife → life_of i.variant y ≢ LostLife)
-      → ContinuesTo all others asked i z waiting final new (told_in waiting s.goes) (IsInHand waiting s.goes) result
-  continues_by made powered =
-      let c = ends_by s.goes made in
-      record {
-        runs = record {
-          after = c.runs.after;
-          stands = c.runs.stands;
-          within = c.runs.within;
-          requests = c.runs.requests;
-          run = subst (λ (bs : List Batch). RunsOver i.meaning (requests_of bs) (told_in waiting s.goes) c.runs.requests)
-              (laws.batches y z here.same) c.runs.run;
-          committed = c.runs.committed;
-          unspoiled = c.runs.unspoiled;
-          powered = λ p. c.runs.powered (powered p);
-        };
-        once = subst (λ (bs : List Batch). AreToldOnce (total_of bs) waiting (told_in waiting s.goes)) (laws.batches y z here.same) c.once;
-        room = c.room;
-        slots_after = c.slots_after;
-        honest = c.honest;
-        slots_told = c.slots_told;
-        fits = c.fits;
-        whole = c.whole;
-        refuses = c.refuses;
-      }
+    -- where all that were told, and the one in hand, are the first of the requests
+    line_among : (told : List Served) (number : ℕ) (at : Place) (left : Option (List ℕ)) (more sent : List ℕ)
+        (a : AreAmong told (λ (request : List ℕ). (held : List ℕ) × BeginsWith more request held) requests)
+        → (result : Result Unit SessionFault)
+        → (e : ServedOn i.variant i.meaning number at final new left more [] sent (ended_as result))
+        → IsLineAsked i.variant i.meaning number at final new left more sent a.served.0 result e
+    line_among told number at left more sent a (Err (Host fault)) e = λ written. among_next told more a e.line e.held e.begins
+    line_among told number at left more sent a (Err (Lines WriteFault)) e = λ written. among_next told more a e.line e.held e.begins
+    line_among told number at left more sent a _ e = tt
 
-  -- where all that were told, and the one in hand, are the first of the requests
-  line_among : (told : List Served) (number : ℕ) (at : Place) (left : Option (List ℕ)) (more sent : List ℕ)
-      (a : AreAmong told (λ (request : List ℕ). (held : List ℕ) × BeginsWith more request held) requests)
-      → (result : Result Unit SessionFault)
-      → (e : ServedOn i.variant i.meaning number at final new left more [] sent (ended_as result))
-      → IsLineAsked i.variant i.meaning number at final new left more sent a.served.0 result e
-  line_among told number at left more sent a (Err (Host fault)) e = λ written. among_next told more a e.line e.held e.begins
-  line_among told number at left more sent a (Err (Lines WriteFault)) e = λ written. among_next told more a e.line e.held e.begins
-  line_among told number at left more sent a _ e = tt
+    made_among : (goes : AfterResume i.variant i.meaning s.begun s.platform final s.store new left' s.taken s.sent result)
+        → AreAmong (told_in waiting goes) (IsInHand waiting goes) requests → AreMade s waiting requests goes
+    made_among (inl e) a = λ made p k. let f = a.in_hand p.request (p, k, refl) in (f.0, sym f.1)
+    made_among (inr g) a = (
+      a.served.0,
+      a.served.1,
+      line_among (told_first waiting g.first ++ g.lines.calls) (length g.lines.calls + 1) g.lines.at left' g.lines.more g.lines.last a result
+          g.lines.ends,
+    )
 
-  made_among : (goes : AfterResume i.variant i.meaning s.begun s.platform final s.store new left' s.taken s.sent result)
-      → AreAmong (told_in waiting goes) (IsInHand waiting goes) requests → AreMade s waiting requests goes
-  made_among (inl e) a = λ made p k. let f = a.in_hand p.request (p, k, refl) in (f.0, sym f.1)
-  made_among (inr g) a = (
-    a.served.0,
-    a.served.1,
-    line_among (told_first waiting g.first ++ g.lines.calls) (length g.lines.calls + 1) g.lines.at left' g.lines.more g.lines.last a result
-        g.lines.ends,
-  )
-
-  pub continues_to : AreAmong (told_in waiting s.goes) (IsInHand waiting s.goes) requests
-      → (life_of i.variant z ≢ LostLife → life_of i.variant y ≢ LostLife)
-      → ContinuesTo all others asked i z waiting final new (told_in waiting s.goes) (IsInHand waiting s.goes) result
-  continues_to among powered = continues_by (made_among s.goes among) powered
+    pub continues_to : AreAmong (told_in waiting s.goes) (IsInHand waiting s.goes) requests
+        → (life_of i.variant z ≢ LostLife → life_of i.variant y ≢ LostLife)
+        → ContinuesTo all others asked i z waiting final new (told_in waiting s.goes) (IsInHand waiting s.goes) result
+    continues_to among powered = continues_by (made_among s.goes among) powered

@@ -1,25 +1,21 @@
 -- Where a session stands between two lines, and what a request comes to.
-use Rattle.mm_host.proofs.Below.{◌≡◌, ◌≢◌, ◌∙◌, ◌+◌, ◌-◌, ◌%◌, ℕ, true, List, Option, None, Some, Result, Ok, Err, IfOk, refl, sym, ap}
-use Rattle.mm_host.proofs.Below.{inl, arith, ◌⊎◌, nat_eq, take_all, MayGrow, longest_request, Standing, Batch, One, parts_of, Content}
-use Rattle.mm_host.proofs.Below.{Instance, History, requests_of, total_of, LostLife, life_of, issued, StandsFor, IsRight, Answer}
-use Rattle.mm_host.proofs.Below.{BatchAnswer, Refusal, answer_on, IsWithin, right_content, whole, whole_in, right_of, listed_by}
-use Rattle.mm_host.proofs.Below.{StoreFault, WritesSlot, putting, StoreStanding, Pending, pending_spelling, Slots, longest_slot}
-use Rattle.mm_host.proofs.Below.{slot_read, with_slot, longest_slot-is, HostFault, Resumed, Start, Answered, IsNotBeyond}
-use Rattle.mm_host.proofs.Below.{waiting_position, refusal_fault, store_fault_as, FitsHistory, FitsBy, Holds, offer_slot, ◌∷◌, AnswersAt}
-use Rattle.mm_host.proofs.Below.{answered_to, AreAskedInTurn, CanRecover, IsGrown, MayHaveCommitted, RecoversTo, IsRefusedAs, position_at, snapshot_at}
-use Rattle.mm_host.proofs.Below.{AfterRecord, record_for, Place, length-pending_spelling, NoMore, asked_at, left_by, ask_exit}
-use Rattle.mm_host.proofs.Below.{refusal_told, RunsOver, told_first, [], issued_bytes, inr, Met, sealed_of, first_offer, requests_with, IsCall, length}
-use Rattle.mm_host.proofs.Below.{last_position, one_content, one_more, IsSame, subst, suc, ◌≤◌}
-use Rattle.mm_host.proofs.Below.{◌<◌, ◌++◌, false, take, nat_tests, Variant, Batch, Life, StepFault, fault_of, AfterAsk, by_refusal, fits_on, found_full, grows}
-use Rattle.mm_host.proofs.Below.{AreNewFrom, AreToldOnce, RefusesAs, Served, Host, IsRight}
-use Rattle.std.proofs.lemmas.Bool.{cases_lt}
+use Rattle.mm_host.proofs.Below.{◌≡◌, ◌≢◌, ◌∙◌, ◌+◌, ℕ, true, List, Option, None, Some, Result, Ok, Err, refl, sym, ap}
+use Rattle.mm_host.proofs.Below.{inl, arith, ◌⊎◌, nat_eq, Standing, Batch, One}
+use Rattle.mm_host.proofs.Below.{Instance, History, requests_of, total_of, LostLife, life_of, StandsFor, Answer}
+use Rattle.mm_host.proofs.Below.{BatchAnswer, Refusal, answer_on, IsWithin, whole}
+use Rattle.mm_host.proofs.Below.{StoreStanding, Pending, Slots}
+use Rattle.mm_host.proofs.Below.{HostFault, Resumed, Start, Answered, IsNotBeyond}
+use Rattle.mm_host.proofs.Below.{waiting_position, refusal_fault, FitsHistory, FitsBy, AnswersAt}
+use Rattle.mm_host.proofs.Below.{IsGrown, MayHaveCommitted, RecoversTo, IsRefusedAs, position_at}
+use Rattle.mm_host.proofs.Below.{Place}
+use Rattle.mm_host.proofs.Below.{RunsOver, told_first, inr}
+use Rattle.mm_host.proofs.Below.{last_position, subst, ◌≤◌}
+use Rattle.mm_host.proofs.Below.{◌++◌, Variant, Batch, Life, StepFault, fault_of, by_refusal}
+use Rattle.mm_host.proofs.Below.{AreNewFrom, AreToldOnce, RefusesAs, Served, Host}
 use Rattle.mm_model.specs.declared.refusal.Refusal.TheVariants as refusal
-use Rattle.mm_store.specs.declared.fault.StoreFault.TheVariants as fault
 use Rattle.mm_recovery.specs.declared.fault.HostFault.TheVariants as host
-use Rattle.mm_host.proofs.InTurn.{May, met_between, met_last, StandsIn, stepped_by}
-use Rattle.mm_host.proofs.Lines.{never_stored}
-use Rattle.mm_host.proofs.Leading.{answered_first, Laws, Reaches, same_pending}
-use Rattle.mm_host.proofs.Putting.{IsNext, IsPut, fits_next, fits_room, full_fits, put_next, torn_fits, waits_next}
+use Rattle.mm_host.proofs.Leading.{answered_first, same_pending}
+use Rattle.mm_host.proofs.Putting.{fits_room}
 
 -- Between two lines a session stands where a recovery left it, or a line, which is asked as one. The last answer is that of the
 -- history's end.

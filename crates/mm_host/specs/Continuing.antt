@@ -1,18 +1,17 @@
 -- What a session comes to by lists alone, in either variant: its replies are those of one run of
 -- the module, and the slots that it leaves fit the history that the platform stands for.
-use Rattle.std.specs.Prelude.{◌≡◌, ◌≢◌, ◌+◌, ◌-◌, ◌<◌, ◌≤◌, ℕ, List, [], ◌∷◌, ◌++◌, Option, None, Some, Result, Ok, Err, false, true, nat_eq}
-use Rattle.std.specs.Prelude.{if◌then◌else◌, ◌⊎◌}
+use Rattle.std.specs.Prelude.{◌≡◌, ◌≢◌, ◌+◌, ◌-◌, ◌≤◌, ℕ, List, [], ◌∷◌, ◌++◌, Option, None, Some, Result, Ok, Err, false, true, nat_eq}
+use Rattle.std.specs.Prelude.{◌⊎◌}
 use Rattle.std.proofs.Common.{inl, inr}
-use Rattle.std.specs.List.{Contains}
-use Rattle.mm_host.specs.Below.{lines_of, last_position, WriteFault, Variant, Basic, Opt, Item, Standing, Batch, One, Meaning, History}
-use Rattle.mm_host.specs.Below.{Commit, first_history, moved, requests_of, total_of, Instance, basic, opt, Life, Spoiled, LostLife}
-use Rattle.mm_host.specs.Below.{life_of, Within, offer_messages, issued, StandsFor, Answer, IsWithin, AreShown, standing_items, StepsOn}
-use Rattle.mm_host.specs.Below.{Reply, Told, StoreStanding, Pending, Slots, slot_read, FitsHistory, AsksIdly, CanRecover, IsRefusedAs}
+use Rattle.mm_host.specs.Below.{last_position, WriteFault, Variant, Standing, Batch, One, Meaning, History}
+use Rattle.mm_host.specs.Below.{requests_of, total_of, Instance, Spoiled, LostLife}
+use Rattle.mm_host.specs.Below.{life_of, StandsFor, Answer, IsWithin, StepsOn}
+use Rattle.mm_host.specs.Below.{Reply, Told, StoreStanding, Pending, Slots, slot_read, FitsHistory, IsRefusedAs}
 use Rattle.mm_host.specs.Below.{MayHaveCommitted, IsWaiting, HostFault, Store, Refused, Resumed, Answered}
 use Rattle.mm_model.specs.declared.refusal.Refusal.TheVariants.{Full}
 use Rattle.mm_host.specs.declared.fault.SessionFault.{SessionFault}
 use Rattle.mm_host.specs.declared.fault.SessionFault.TheVariants.{Host, Lines}
-use Rattle.mm_host.specs.Sessions.{Served, AfterResume, BeginsWith, Sessions}
+use Rattle.mm_host.specs.Sessions.{Served, AfterResume, BeginsWith}
 
 -- the position of what waits, and 0 where nothing does
 abbrev pub waiting_position : Option Pending → ℕ
@@ -117,14 +116,14 @@ module _ (all others : List (List ℕ)) (asked : List Batch) (i : Instance) (y :
   pub record ContinuesTo (waiting : Option Pending) (standing : Standing) (kept : StoreStanding)
       (told : List Served) (hand : List ℕ → Type 0) (result : Result Unit SessionFault) : Type 0
     where
-    pub runs : RunsTo standing told hand result
-    pub open runs use *
-    pub once : AreToldOnce (total_of y.batches) waiting told
-    pub room : total_of runs.after.batches ≤ last_position
-    pub slots_after : Slots
-    pub honest : kept.is_honest ≡ true
-    pub slots_told : kept.slots ≡ Some slots_after
-    pub fits : IsNotBeyond slots_after (total_of runs.after.batches + 1) →
-        FitsHistory i slots_after runs.after
-    pub whole : result ≢ Err (Host Store) → FitsHistory i slots_after runs.after
-    pub refuses : RefusesAs result i.variant runs.after
+      pub runs : RunsTo standing told hand result
+      pub open runs use *
+      pub once : AreToldOnce (total_of y.batches) waiting told
+      pub room : total_of runs.after.batches ≤ last_position
+      pub slots_after : Slots
+      pub honest : kept.is_honest ≡ true
+      pub slots_told : kept.slots ≡ Some slots_after
+      pub fits : IsNotBeyond slots_after (total_of runs.after.batches + 1) →
+          FitsHistory i slots_after runs.after
+      pub whole : result ≢ Err (Host Store) → FitsHistory i slots_after runs.after
+      pub refuses : RefusesAs result i.variant runs.after

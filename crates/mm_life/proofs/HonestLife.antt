@@ -120,10 +120,14 @@ module _ {all others : List (List ℕ)} {asked : List Batch} {i : Instance} {IsS
     fits_then : (c : On) → FitsHistory i c.slots_after c.runs.after
     fits_then c = elim (store_failed p.result) [
       | inl failed ↦ c.fits (beyond_less c.slots_after (reached fits.waiting (told_in fits.waiting s.goes)) (total_of c.runs.after.batches)
-        (omega (arith, reached_most i.meaning fits.waiting (told_in fits.waiting s.goes) (requests_of y.batches) c.runs.requests waits
-        c.runs.run, committed_most (IsInHand fits.waiting s.goes) p.result c.runs.requests (requests_of c.runs.after.batches)
-        c.runs.committed))
-        (chance failed fits.waiting (record { shown = slots; told = told; is_waiting = fits.is_waiting }) c.slots_after c.slots_told))
+          (omega (
+            arith,
+            reached_most i.meaning fits.waiting (told_in fits.waiting s.goes) (requests_of y.batches) c.runs.requests waits
+                c.runs.run,
+            committed_most (IsInHand fits.waiting s.goes) p.result c.runs.requests (requests_of c.runs.after.batches)
+                c.runs.committed,
+          ))
+          (chance failed fits.waiting (record { shown = slots; told = told; is_waiting = fits.is_waiting }) c.slots_after c.slots_told))
       | inr whole ↦ c.whole whole
     ]
 

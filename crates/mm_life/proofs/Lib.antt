@@ -12,3 +12,4 @@ mod DoingLaws
 mod HonestSession
 mod HonestLife
 mod HonestLaws
+mod HonestCaller

@@ -8,3 +8,4 @@ pub mod Laws
 pub mod Staying
 pub mod Doing
 pub mod Honest
+pub mod OneStore

@@ -1,0 +1,35 @@
+-- A first start, a session, a loss of power, and a session over the same store, over any devices.
+use Rattle.std.proofs.Common.{◌∙◌, ℕ, List, [], ◌∷◌, Option, Result, refl, take}
+use Rattle.mm_digest.specs.declared.variant.Variant.TheVariants.{Basic}
+use Rattle.mm_platform.specs.Standing.{Standing}
+use Rattle.mm_module.specs.Meaning.{IsLawful, Meaning}
+use Rattle.mm_store.specs.Kept.{StoreStanding}
+use Rattle.mm_recovery.specs.Begins.{Begins}
+use Rattle.mm_recovery.specs.Init.{Devices}
+use Rattle.mm_host.specs.declared.fault.SessionFault.{SessionFault}
+use Rattle.mm_life.specs.Deeds.{LosesPower}
+use Rattle.mm_life.specs.Honest.{BasicLifeGoesOn}
+use Rattle.mm_life.specs.OneStore.{LivesOnOneStore, session_stage}
+use Rattle.mm_life.specs.Stages.{Does, IsLife}
+
+pub lives_on_one_store : BasicLifeGoesOn → (meaning : Meaning) → IsLawful meaning → (before started : Devices)
+    → Begins Basic meaning before started → (middle empty after : Standing) (between new : StoreStanding)
+    (first first' second second' received told received' : Option (List ℕ)) (one two : Result Unit SessionFault)
+    → IsLife Basic meaning started.platform
+    (session_stage started.store between first first' received told one middle
+    ∷ record { part = Does LosesPower; after = empty }
+    ∷ session_stage between new second second' told received' two after ∷ [])
+    → LivesOnOneStore meaning before after new first first' second second' received received' one two
+lives_on_one_store law meaning lawful before started begun middle empty after between new first first' second second' received told
+    received' one two life = record {
+      started = started;
+      begun = begun;
+      middle = middle;
+      empty = empty;
+      between = between;
+      told = told;
+      life = life;
+      goes = λ cell slots here honest shown f clear chance.
+          law meaning lawful (take 32 begun.secrets) started.platform started.store _ f (begun.stands cell [] here refl)
+          (begun.honest ∙ honest) (begun.stores slots honest shown) ((refl, refl), (tt, ((refl, refl), tt))) clear chance;
+    }

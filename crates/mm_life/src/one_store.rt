@@ -1,0 +1,84 @@
+//! A life over any devices and one store: a first start, a session, a loss of power, and a session over what the first
+//! one left.
+
+ghost use Rattle.std.specs.Prelude.{IfOk};
+ghost use Rattle.mm_recovery.specs.Init.{devices};
+ghost use Rattle.mm_life.specs.OneStore.{LivesOnOneStore};
+
+use crate::honest::basic_life_goes_on;
+use crate::laws::device_calls_are_deeds;
+use mm_base::{Sink, Source};
+use mm_digest::Variant;
+use mm_host::{InitFault, SessionFault, init, session};
+use mm_module::Module;
+use mm_platform::{Platform, StepFault};
+use mm_store::Store;
+use std::alloc::Global;
+
+/// How two sessions ended.
+#[derive(Debug, Drop)]
+pub struct BothSessions {
+    pub first: Result<(), SessionFault>,
+    pub second: Result<(), SessionFault>,
+}
+
+/// Why there weren't two sessions.
+#[derive(Clone, Copy, Debug, PartialEq, Eq)]
+pub enum Unheld {
+    /// The first start failed.
+    Starting(InitFault),
+    /// The platform failed when it was to lose its power.
+    LosingPower(StepFault),
+}
+
+/// A first start of an instance of Basic, and a session; then power is lost and comes back; and a session over the
+/// store that the first one left.
+pub fn live_on_one_store<M: Module, P: Platform, T: Store, E: Source, S: Source, K: Sink>(
+    alloc: Global,
+    module: &M,
+    platform: &mut P,
+    store: &mut T,
+    entropy: &mut E,
+    first_input: &mut S,
+    second_input: &mut S,
+    out: &mut K,
+) -> Result<BothSessions, Unheld>
+    ensures { IfOk result (λ both. LivesOnOneStore (M.meaning «module».now)
+        (devices (P.standing platform.old) (T.kept store.old) (E.left entropy.old)
+        (E.faults entropy.old)) (P.standing platform.new) (T.kept store.new)
+        (S.left first_input.old) (S.left first_input.new) (S.left second_input.old)
+        (S.left second_input.new) (K.received out.old) (K.received out.new) both.first
+        both.second) }
+{
+    basic_life_goes_on();
+    device_calls_are_deeds();
+    match init(alloc, Variant::Basic, module, platform, store, entropy) {
+        Err(fault) => Err(Unheld::Starting(fault)),
+        Ok(()) => {
+            let first = session(
+                alloc,
+                Variant::Basic,
+                module,
+                platform,
+                store,
+                first_input,
+                out,
+            );
+            match platform.cycle() {
+                Err(fault) => Err(Unheld::LosingPower(fault)),
+                Ok(()) => {
+                    let second = session(
+                        alloc,
+                        Variant::Basic,
+                        module,
+                        platform,
+                        store,
+                        second_input,
+                        out,
+                    );
+                    Ok(BothSessions { first, second })
+                }
+            }
+        }
+    }
+}
