@@ -1,5 +1,5 @@
 -- A life over one honest store, part after part, in either variant.
-use Rattle.std.proofs.Common.{◌≡◌, ◌≢◌, ◌≤◌, ◌+◌, ◌-◌, ◌∙◌, ◌⊎◌, ℕ, Bool, true, false, List, [], ◌∷◌, ◌++◌, Option, None, Some, Result, Err, length}
+use Rattle.std.proofs.Common.{◌≡◌, ◌≢◌, ◌≤◌, ◌+◌, ◌-◌, ◌∙◌, ◌⊎◌, ℕ, Bool, true, false, List, [], ◌∷◌, Option, None, Some, Result, Err, length}
 use Rattle.std.proofs.Common.{arith, refl, sym, ap, inl, inr, length-append}
 use Rattle.mm_platform.specs.Standing.{Standing}
 use Rattle.mm_module.specs.Batch.{Batch, One}
@@ -16,18 +16,18 @@ use Rattle.mm_store.specs.Slots.{Slots}
 use Rattle.mm_recovery.specs.Fitting.{FitsBy, FitsHistory}
 use Rattle.mm_recovery.specs.declared.fault.HostFault.TheVariants.{Store}
 use Rattle.mm_recovery.proofs.Above.{fits_on}
-use Rattle.mm_host.specs.Continuing.{ContinuesTo, HasUntold, IsInHand, IsNotBeyond, RunsOver, answer_reply, told_in}
+use Rattle.mm_host.specs.Continuing.{ContinuesTo, HasUntold, IsInHand, IsNotBeyond, RunsOver, told_in}
 use Rattle.mm_host.specs.Sessions.{Served}
 use Rattle.mm_host.specs.declared.fault.SessionFault.{SessionFault}
 use Rattle.mm_host.specs.declared.fault.SessionFault.TheVariants.{Host}
 use Rattle.mm_host.proofs.Above.{calls_reach}
 use Rattle.mm_life.specs.Deeds.{Call, Calls, Checkpoints, Deed, DeedLeads, Extends, LosesPower}
-use Rattle.mm_life.specs.Honest.{AreNoChance, BeginsOver, GoesOnFrom, GoesOnOver, IsGoneOnWith, IsNextOrLast, IsOverOneStore, LeavesNoChance}
-use Rattle.mm_life.specs.Honest.{PartGoesOn, kept_behind, reached, Waits}
+use Rattle.mm_life.specs.Honest.{AreNoChance, BeginsOver, IsGoneOnWith, IsNextOrLast, IsOverOneStore, LeavesNoChance}
+use Rattle.mm_life.specs.Honest.{PartGoesOn, kept_behind, reached}
 use Rattle.mm_store.specs.Kept.{StoreStanding}
 use Rattle.mm_life.specs.SessionCalls.{first_bytes, told_by}
-use Rattle.mm_life.specs.Stages.{Does, Holds, IsLife, Part, PartLeads, Program, Stage, end_of, life_calls, part_calls}
-use Rattle.mm_life.specs.Staying.{IsNoCall, Stays}
+use Rattle.mm_life.specs.Stages.{Does, Holds, IsLife, Part, PartLeads, Program, Stage, life_calls, part_calls}
+use Rattle.mm_life.specs.Staying.{Stays}
 use Rattle.mm_life.proofs.Chains.{session_chain}
 use Rattle.mm_life.proofs.HonestSession.{goes_on}
 use Rattle.mm_life.proofs.Living.{AreSeen, LifeLaws, listed_left, listed_right}

@@ -1,10 +1,9 @@
 -- A session over an honest store, by the calls that it made: it goes on from a history that the slots fit.
-use Rattle.std.specs.List.{Contains}
 use Rattle.std.proofs.Common.{◌≡◌, ◌∙◌, ◌⊎◌, ℕ, true, List, [], ◌∷◌, ◌++◌, map, Option, None, Some, Result, Ok, Err, refl, sym, subst, inl, inr}
 use Rattle.mm_base.specs.declared.replay_fault.ReplayFault.TheVariants.{WriteFault}
 use Rattle.mm_digest.specs.declared.variant.Variant.{Variant}
 use Rattle.mm_platform.specs.Standing.{Standing}
-use Rattle.mm_module.specs.Batch.{Batch, One}
+use Rattle.mm_module.specs.Batch.{Batch}
 use Rattle.mm_module.specs.Meaning.{Meaning}
 use Rattle.mm_model.specs.History.{History}
 use Rattle.mm_model.specs.Instance.{Instance}
@@ -33,7 +32,7 @@ use Rattle.mm_host.proofs.Above.{AreMade, CallsInTurn, IsLineAsked, IsWritten, L
 use Rattle.mm_host.proofs.Above.{fits_genuine, pending_for, same_self, stepped_by}
 use Rattle.mm_life.specs.Deeds.{Call}
 use Rattle.mm_life.specs.SessionCalls.{bytes_of, first_bytes, first_calls, found_waiting, InHandOf, last_calls, offered_calls, offered_first}
-use Rattle.mm_life.specs.SessionCalls.{recorded_calls, session_calls, told_by, told_calls, untold_calls}
+use Rattle.mm_life.specs.SessionCalls.{recorded_calls, session_calls, told_calls, untold_calls}
 use Rattle.mm_life.proofs.Chains.{Chain, Ends, call_of, rests, session_chain, stops}
 use Rattle.mm_life.proofs.OneCall.{AreListed, makes_call}
 use Rattle.mm_life.proofs.Sessions.{ends_reach, listed_first, listed_rest}
