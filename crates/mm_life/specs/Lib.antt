@@ -3,7 +3,9 @@ pub mod Deeds
 pub mod SessionCalls
 pub mod Stages
 pub mod OneList
+pub mod Idle
 pub mod Premises
 pub mod Laws
 pub mod Staying
 pub mod Doing
+pub mod Writes
