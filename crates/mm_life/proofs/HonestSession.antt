@@ -9,7 +9,7 @@ use Rattle.mm_model.specs.History.{History}
 use Rattle.mm_model.specs.Instance.{Instance}
 use Rattle.mm_model.specs.Standing.{StandsFor}
 use Rattle.mm_call.specs.Asked.{IsWithin}
-use Rattle.mm_call.specs.Leaving.{whole}
+use Rattle.mm_call.specs.Leaving.{whole, whole_in}
 use Rattle.mm_store.specs.Calls.{ReadsSlot}
 use Rattle.mm_store.specs.Kept.{StoreStanding}
 use Rattle.mm_store.specs.Pending.{Pending}
@@ -28,14 +28,14 @@ use Rattle.mm_host.specs.Continuing.{ContinuesTo, IsInHand, told_in}
 use Rattle.mm_host.specs.Sessions.{AfterResume, Place, Served, ServedOn, Sessions, ended_as, lines_served}
 use Rattle.mm_host.specs.declared.fault.SessionFault.{SessionFault}
 use Rattle.mm_host.specs.declared.fault.SessionFault.TheVariants.{Host, Lines}
-use Rattle.mm_host.proofs.Above.{AreMade, CallsInTurn, IsLineAsked, IsWritten, Laws, Shows, StandsIn, calls_reach, continues_by}
+use Rattle.mm_host.proofs.Above.{AreMade, CallsInTurn, IsLineAsked, IsWritten, Laws, Shows, StandsIn, calls_reach, continues_by, May}
 use Rattle.mm_host.proofs.Above.{fits_genuine, pending_for, same_self, stepped_by}
 use Rattle.mm_life.specs.Deeds.{Call}
 use Rattle.mm_life.specs.SessionCalls.{bytes_of, first_bytes, first_calls, found_waiting, InHandOf, last_calls, offered_calls, offered_first}
 use Rattle.mm_life.specs.SessionCalls.{recorded_calls, session_calls, told_calls, untold_calls}
 use Rattle.mm_life.proofs.Chains.{Chain, Ends, call_of, rests, session_chain, stops}
 use Rattle.mm_life.proofs.OneCall.{AreListed, makes_call}
-use Rattle.mm_life.proofs.Sessions.{ends_reach, listed_first, listed_rest}
+use Rattle.mm_life.proofs.Sessions.{AreIdle, ends_reach, listed_first, listed_rest}
 
 -- what was asked, by the calls that were made
 abbrev pub requests_in : List Call → List (List ℕ)
@@ -72,6 +72,44 @@ module _ {all others : List (List ℕ)} {asked : List Batch} {i : Instance} {fin
             (asked_in_turn told m.0.after then_is h.0 at c.answer.snapshot hand untold result h.2 ends t.here m.1
             (listed_rest all asked i made rest listed)),
       )
+
+  -- at most one call was made, and it minds no register
+  abbrev pub AreStill : History → Standing → List Call → Type 0
+  AreStill y before calls = ((calls ≡ []) ⊎ ((c : Call) × (calls ≡ c ∷ []))) × AreIdle laws y before calls
+
+  -- these are asked, whatever others do
+  abbrev AreAskedStill : History → Standing → List ℕ → List (List ℕ) → Type 0
+  AreAskedStill y before offer requests = AreAskedInTurn all asked i y offer requests × May laws y before offer requests
+
+  still_last : (y : History) (before : Standing) (offer : List ℕ) (hand : List ℕ → Type 0) (untold : List Call)
+      (result : Result Unit SessionFault) → Ends i.variant i.meaning before final offer hand untold result
+      → StandsIn all others asked i y y before offer → AreListed all asked i untold → AreStill y before untold
+      → AreAskedStill y before offer (requests_in untold)
+  still_last y before offer hand untold result (rests same none) s listed still = rw none (tt, inr tt)
+  still_last y before offer hand untold result (stops request h gives c is came t sent fault says ends) s listed still =
+      let made : Call = call_of offer request gives in
+      let l : AreListed all asked i (made ∷ []) = rw is at listed in
+      let first = listed_first all asked i made [] l in
+      let m = makes_call laws before final offer request y (whole_in gives) c.goes s.stands s.within s.genuine l.batches.0 first in
+      rw is ((l.batches.0, first, tt), inr (still.1 made is final m, refl))
+
+  asked_still : (y : History) (before : Standing) (offer : List ℕ) (told : List Served) (hand : List ℕ → Type 0) (untold : List Call)
+      (result : Result Unit SessionFault) → Chain i.variant i.meaning offer before final told hand untold result
+      → StandsIn all others asked i y y before offer → AreListed all asked i (told_calls offer told ++ untold)
+      → AreStill y before (told_calls offer told ++ untold) → AreAskedStill y before offer (lines_served told ++ requests_in untold)
+  asked_still y before offer [] hand untold result k s listed still =
+      still_last y before offer hand untold result
+      (subst (λ (x : Standing). Ends i.variant i.meaning x final offer hand untold result) k.calls k.ends) s listed still
+  asked_still y before offer (c ∷ []) hand untold result k s listed still =
+      let made : Call = call_of offer c.line (Ok c.answer) in
+      let none : untold ≡ [] = elim still.0 [ inl e ↦ absurd (cc) | inr one ↦ cc (one.1) ] in
+      let one : made ∷ untold ≡ made ∷ [] = cc in
+      let first = listed_first all asked i made untold listed in
+      let m = makes_call laws before k.calls.0 offer c.line y (Ok (whole c.answer)) k.calls.1.goes s.stands s.within s.genuine
+      listed.batches.0 first in
+      rw none ((listed.batches.0, first, tt), inr (still.1 made one k.calls.0 m, refl))
+  asked_still y before offer (c ∷ next ∷ told) hand untold result k s listed still =
+      elim still.0 [ inl e ↦ absurd (cc) | inr one ↦ let clash = one.1 in absurd (cc) ]
 
 -- What a start offers: what the slots show for what waits in them; or nothing was asked, and no line is read.
 data Opens (variant : Variant) (meaning : Meaning) (before after : Standing) (slots : Slots) (waiting : Option Pending)
@@ -188,7 +226,8 @@ module _ {all others : List (List ℕ)} {asked : List Batch} {i : Instance} {fin
     {before : Standing} {old new : StoreStanding} {left left' received received' : Option (List ℕ)} {result : Result Unit SessionFault}
     (s : Sessions i.variant i.meaning before final old new left left' received received' result) (y : History) (slots : Slots)
     (told : old.slots ≡ Some slots) (honest : old.is_honest ≡ true) (stands : StandsFor i before y)
-    (within : IsWithin all others asked i y) (fits : FitsHistory i slots y) (shows : Shows i.variant all others i y before final) where
+    (within : IsWithin all others asked i y) (fits : FitsHistory i slots y)
+    (seen : Shows i.variant all others i y before final ⊎ AreStill laws y before (session_calls s)) where
   abbrev On : Type 0
   On =
       ContinuesTo all others asked i y fits.waiting final new (told_in fits.waiting s.goes) (IsInHand fits.waiting s.goes) result
@@ -201,10 +240,13 @@ module _ {all others : List (List ℕ)} {asked : List Batch} {i : Instance} {fin
     same = same_self i.variant y;
   }
 
-  on_by : (requests : List (List ℕ)) → AreAskedInTurn all asked i y (first_offer slots fits.waiting) requests
+  on_by : (requests : List (List ℕ)) → AreAskedStill laws y before (first_offer slots fits.waiting) requests
       → AreMade s fits.waiting requests s.goes → On
   on_by requests follow made =
-      continues_by laws s y y slots fits.waiting told honest fits.is_waiting fits.fits requests here (inl shows) follow made (λ p. p)
+      continues_by laws s y y slots fits.waiting told honest fits.is_waiting fits.fits requests here follow.1 follow.0 made (λ p. p)
+
+  none_follow : AreAskedStill laws y before (first_offer slots fits.waiting) []
+  none_follow = elim seen [ inl shows ↦ (tt, inl shows) | inr still ↦ (tt, inr tt) ]
 
   on_offers : AreListed all asked i (session_calls s) → first_bytes s ≡ first_offer slots fits.waiting
       → found_waiting s.resumes.waiting ≡ fits.waiting → On
@@ -215,9 +257,20 @@ module _ {all others : List (List ℕ)} {asked : List Batch} {i : Instance} {fin
       result) found (session_chain s)) in
       let l = subst (λ (bytes : List ℕ). AreListed all asked i (told_calls bytes (told_in fits.waiting s.goes) ++ untold)) is
       (subst (λ (w : Option Pending). AreListed all asked i (told_calls (first_bytes s) (told_in w s.goes) ++ untold)) found listed) in
+      let still_by = λ (still : AreStill laws y before (session_calls s)).
+      subst (λ (bytes : List ℕ). AreStill laws y before (told_calls bytes (told_in fits.waiting s.goes) ++ untold)) is
+      (subst (λ (w : Option Pending). AreStill laws y before (told_calls (first_bytes s) (told_in w s.goes) ++ untold)) found still) in
       on_by (lines_served (told_in fits.waiting s.goes) ++ requests_in untold)
-      (asked_in_turn laws (told_in fits.waiting s.goes) y y before k.at (first_offer slots fits.waiting) (InHandOf s) untold result k.calls
-      k.ends here shows l) (all_made s fits.waiting s.goes found)
+      (elim seen [
+        | inl shows ↦ (
+          asked_in_turn laws (told_in fits.waiting s.goes) y y before k.at (first_offer slots fits.waiting) (InHandOf s) untold result
+              k.calls k.ends here shows l,
+          inl shows,
+        )
+        | inr still ↦
+            asked_still laws y before (first_offer slots fits.waiting) (told_in fits.waiting s.goes) (InHandOf s) untold result k here l
+            (still_by still)
+      ]) (all_made s fits.waiting s.goes found)
 
   pub goes_on : AreListed all asked i (session_calls s) → On
   goes_on listed =
@@ -227,5 +280,5 @@ module _ {all others : List (List ℕ)} {asked : List Batch} {i : Instance} {fin
     where
       by_opens : Opens i.variant i.meaning before s.platform slots fits.waiting s.resumes.waiting s.resumes.middle s.store s.begun
           s.resumes.goes → On
-      by_opens (unasked unmade never) = on_by [] tt (none_made s fits.waiting s.goes unmade never)
+      by_opens (unasked unmade never) = on_by [] none_follow (none_made s fits.waiting s.goes unmade never)
       by_opens (offers is found) = on_offers listed is found

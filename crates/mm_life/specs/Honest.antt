@@ -157,9 +157,10 @@ OptLifeGoesOn =
     kept.is_honest ≡ true → kept.slots ≡ Some (first_slots (opt meaning key barrier)) →
     IsOverOneStore kept stages →
     IsClear (opt_messages (opt meaning key barrier) start stages f) →
-    AreNoGuards barrier (others_values stages)
+    AreNoGuards barrier (others_values (opt meaning key barrier) start stages f)
     (life_batches (opt meaning key barrier) start stages f) →
     AreNoChance Opt meaning start stages f →
-    IsGoneOnWith (opt_messages (opt meaning key barrier) start stages f) (others_values stages)
+    IsGoneOnWith (opt_messages (opt meaning key barrier) start stages f)
+    (others_values (opt meaning key barrier) start stages f)
     (life_batches (opt meaning key barrier) start stages f) (opt meaning key barrier) [] kept start
     stages f
