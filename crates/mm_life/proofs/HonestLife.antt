@@ -25,7 +25,8 @@ use Rattle.mm_life.specs.Deeds.{Call, Calls, Checkpoints, Deed, DeedLeads, Exten
 use Rattle.mm_life.specs.Honest.{AreNoChance, BeginsOver, IsGoneOnWith, IsNextOrLast, IsOverOneStore, LeavesNoChance}
 use Rattle.mm_life.specs.Honest.{PartGoesOn, kept_behind, reached}
 use Rattle.mm_store.specs.Kept.{StoreStanding}
-use Rattle.mm_life.specs.SessionCalls.{first_bytes, session_calls, told_by}
+use Rattle.mm_life.specs.OneList.{PartSteps, SessionSteps}
+use Rattle.mm_life.specs.SessionCalls.{first_bytes, InHandOf, session_calls, told_by}
 use Rattle.mm_life.specs.Stages.{Does, Holds, IsLife, Part, PartLeads, Program, Stage, life_calls, part_calls}
 use Rattle.mm_life.specs.Staying.{IsNoCall, Stays}
 use Rattle.mm_life.proofs.Chains.{session_chain}
@@ -102,6 +103,7 @@ module _ {all others : List (List ℕ)} {asked : List Batch} {i : Instance} {IsS
     stands : StandsFor i new after
     within : IsWithin all others asked i after
     goes : PartGoesOn others i old part new f (requests_of y.batches) (requests_of after.batches)
+    steps : PartSteps i.variant i.meaning old part new f (requests_of y.batches) (requests_of after.batches)
     honest : (kept_behind kept part).is_honest ≡ true
     left : Slots
     told : (kept_behind kept part).slots ≡ Some left
@@ -131,8 +133,9 @@ module _ {all others : List (List ℕ)} {asked : List Batch} {i : Instance} {IsS
       | inr whole ↦ c.whole whole
     ]
 
-    program_gone : StandsFor i old y → On → PartGone y kept old (Holds p) new s
-    program_gone stands c = record {
+    program_gone : StandsFor i old y → (c : On) → SessionSteps i.meaning (requests_of y.batches) (told_by s) (InHandOf s) p.result
+        (requests_of c.runs.after.batches) → PartGone y kept old (Holds p) new s
+    program_gone stands c steps = record {
       after = c.runs.after;
       stands = c.runs.stands;
       within = c.runs.within;
@@ -151,6 +154,7 @@ module _ {all others : List (List ℕ)} {asked : List Batch} {i : Instance} {IsS
           unspoiled = c.runs.unspoiled;
         },
       );
+      steps = steps;
       honest = c.honest;
       left = c.slots_after;
       told = c.slots_told;
@@ -159,12 +163,15 @@ module _ {all others : List (List ℕ)} {asked : List Batch} {i : Instance} {IsS
 
   deed_gone : (y : History) (kept : StoreStanding) (slots : Slots) (old : Standing) (deed : Deed) (new : Standing)
       (f : DeedLeads i.variant i.meaning old deed new) → kept.is_honest ≡ true → kept.slots ≡ Some slots → FitsHistory i slots y
-      → Stays all others asked i y new → PartGone y kept old (Does deed) new f
-  deed_gone y kept slots old deed new f honest told fits s = record {
+      → (s : Stays all others asked i y new)
+      → PartSteps i.variant i.meaning old (Does deed) new f (requests_of y.batches) (requests_of s.after.batches)
+      → PartGone y kept old (Does deed) new f
+  deed_gone y kept slots old deed new f honest told fits s steps = record {
     after = s.after;
     stands = s.stands;
     within = s.within;
     goes = ap requests_of s.batches;
+    steps = steps;
     honest = honest;
     left = slots;
     told = told;
@@ -198,15 +205,18 @@ module _ {all others : List (List ℕ)} {asked : List Batch} {i : Instance} {IsS
         )
       ] in
       let here : p.old.slots ≡ Some slots = begins.1 ∙ told in
-      program_gone y kept slots old p new s here fits chance stands
-      (goes_on laws s y slots here (begins.0 ∙ honest) stands within fits seen_so listed)
+      let on = goes_on laws s y slots here (begins.0 ∙ honest) stands within fits seen_so listed in
+      program_gone y kept slots old p new s here fits chance stands on.0 on.1
   part_goes y kept slots old (Does (Calls c)) new f honest told stands within fits begins seen chance listed = absurd begins
   part_goes y kept slots old (Does (Extends values)) new f honest told stands within fits begins seen chance listed =
-      deed_gone y kept slots old (Extends values) new f honest told fits (deed_stays y old (Extends values) new tt seen f stands within)
+      let on = deed_stays y old (Extends values) new tt seen f stands within in
+      deed_gone y kept slots old (Extends values) new f honest told fits on (ap requests_of on.batches)
   part_goes y kept slots old (Does LosesPower) new f honest told stands within fits begins seen chance listed =
-      deed_gone y kept slots old LosesPower new f honest told fits (deed_stays y old LosesPower new tt seen f stands within)
+      let on = deed_stays y old LosesPower new tt seen f stands within in
+      deed_gone y kept slots old LosesPower new f honest told fits on (ap requests_of on.batches)
   part_goes y kept slots old (Does (Checkpoints said)) new f honest told stands within fits begins seen chance listed =
-      deed_gone y kept slots old (Checkpoints said) new f honest told fits (deed_stays y old (Checkpoints said) new tt seen f stands within)
+      let on = deed_stays y old (Checkpoints said) new tt seen f stands within in
+      deed_gone y kept slots old (Checkpoints said) new f honest told fits on (ap requests_of on.batches)
 
   pub life_goes : (stages : List Stage) (y : History) (kept : StoreStanding) (slots : Slots) (start : Standing)
       (f : IsLife i.variant i.meaning start stages) → kept.is_honest ≡ true → kept.slots ≡ Some slots
@@ -217,6 +227,7 @@ module _ {all others : List (List ℕ)} {asked : List Batch} {i : Instance} {IsS
   life_goes [] y kept slots start f honest told stands within fits over seen chance listed = record {
     after = requests_of y.batches;
     goes = refl;
+    follows = refl;
     history = y;
     holds = refl;
     stands = stands;
@@ -237,6 +248,7 @@ module _ {all others : List (List ℕ)} {asked : List Batch} {i : Instance} {IsS
       record {
         after = r.after;
         goes = (requests_of p.after.batches, p.goes, r.goes);
+        follows = (requests_of p.after.batches, p.steps, r.follows);
         history = r.history;
         holds = r.holds;
         stands = r.stands;
