@@ -5,11 +5,11 @@ pub use Rattle.mm_host.proofs.CallsMade.{among_input, chain_of, last_offer, serv
 pub use Rattle.mm_host.proofs.Continues.{continues_from, fits_genuine}
 pub use Rattle.mm_host.proofs.InTurn.{calls_reach, May, pending_for, StandsIn, stepped_by}
 pub use Rattle.mm_host.proofs.Leading.{basic_laws, Laws, Makes, Reaches, reach_same, reach_then, RunsOver-append, same_self, Shows, ShowsAt}
-pub use Rattle.mm_host.proofs.Leading.{Stays}
-pub use Rattle.mm_host.proofs.Leading.{steps_again, steps_fresh}
-pub use Rattle.mm_host.proofs.Lines.{tells_call, TellsCall}
+pub use Rattle.mm_host.proofs.Leading.{Stays, steps_again, steps_fresh, unspoiled}
+pub use Rattle.mm_host.proofs.Lines.{by_told, tells_call, TellsCall}
 pub use Rattle.mm_host.proofs.NextRefused.{IsFaulty, next_in_hand, next_refused, RefusesOrFails}
 pub use Rattle.mm_host.proofs.OptLeading.{opt_laws}
+pub use Rattle.mm_host.proofs.Putting.{fits_room}
 pub use Rattle.mm_host.proofs.Room.{unless_full}
 pub use Rattle.mm_host.proofs.RunningOnce.{by_fault, foreign_of, messages_looked, only_by, register_looked, runs_once_from}
 pub use Rattle.mm_host.proofs.Made.{AreMade, IsLineAsked, IsWritten}

@@ -1,6 +1,6 @@
 -- Basic: a life is one whole.
 use Rattle.std.specs.List.{Contains}
-use Rattle.std.proofs.Common.{◌≡◌, ◌∙◌, ℕ, List, [], ◌∷◌, map, arith, refl, ap, subst}
+use Rattle.std.proofs.Common.{◌≡◌, ◌∙◌, ℕ, List, [], ◌∷◌, map, arith, refl, ap, subst, inl}
 use Rattle.mm_digest.specs.Messages.{start_message}
 use Rattle.mm_digest.specs.declared.variant.Variant.TheVariants.{Basic}
 use Rattle.mm_seal.specs.Snapshot.{Content}
@@ -29,7 +29,7 @@ use Rattle.mm_life.specs.Deeds.{Call, Calls, Checkpoints, Deed, DeedLeads, Exten
 use Rattle.mm_life.specs.Laws.{BasicLifeIsOne}
 use Rattle.mm_life.specs.Premises.{life_batches, life_messages}
 use Rattle.mm_life.specs.Staying.{BasicDeedsStay, IsNoCall, Stays}
-use Rattle.mm_life.specs.Stages.{Part, Stage, life_calls}
+use Rattle.mm_life.specs.Stages.{IsLife, Part, Stage, life_calls}
 use Rattle.mm_life.specs.Below.{Checkpointed, CheckpointRefusal}
 use Rattle.std.specs.Prelude.{Result}
 use Rattle.mm_life.proofs.Living.{AreSeen, LifeLaws, lives}
@@ -90,20 +90,27 @@ module _ (meaning : Meaning) (lawful : IsLawful meaning) (key : List ℕ) where
   abbrev NothingSeen : Standing → Part → Standing → Type 0
   NothingSeen old part new = Unit {0}
 
-  pub basic_life : (all : List (List ℕ)) (asked : List Batch) → IsClear all → LifeLaws all [] asked B NothingSeen
+  -- so no part need be still
+  abbrev NoneStill : Standing → List Call → Type 0
+  NoneStill old calls = ⊥
+
+  pub basic_life : (all : List (List ℕ)) (asked : List Batch) → IsClear all → LifeLaws all [] asked B NothingSeen NoneStill
   basic_life all asked clear = record {
     laws = λ final. basic_laws meaning lawful key all [] asked final clear (none_foreign B.barrier asked);
     leads = λ old new offer request gives c d s. (_, (c.goes key key d s).stands);
     shows = λ y old part final seen stands reaches leads. tt;
     stays = λ y old deed new quiet seen f stands within.
         stays meaning key all [] asked clear y old deed new quiet f stands within;
+    few = λ old calls still. absurd still;
+    idles = λ y old new c still makes. absurd still;
+    stays_still = λ y old deed new quiet still f stands within. absurd still;
   }
 
   pub all_seen : (all : List (List ℕ)) (asked : List Batch) (clear : IsClear all) (start : Standing) (stages : List Stage)
-      → AreSeen (basic_life all asked clear) start stages
+      (f : IsLife Basic meaning start stages) → AreSeen (basic_life all asked clear) start stages f
   unfolding basic_life
-  all_seen all asked clear start [] = tt
-  all_seen all asked clear start (stage ∷ stages) = (tt, all_seen all asked clear stage.after stages)
+  all_seen all asked clear start [] f = tt
+  all_seen all asked clear start (stage ∷ stages) f = (inl tt, all_seen all asked clear stage.after stages f.1)
 
   -- what was issued at the first start names its end
   first_genuine : IsGenuine B first_history (issued_bytes B first_history)
@@ -130,7 +137,7 @@ basic_is_one meaning lawful key start stages f stands clear untagged =
     let asked : List Batch = life_batches i start stages f in
     let itself = each_self [] all in
     let l = (lives (basic_life meaning lawful key all asked clear) stages first_history (issued_bytes i first_history ∷ []) start f stands
-    (first_within meaning lawful key all asked itself.0) (all_seen meaning lawful key all asked clear start stages)
+    (first_within meaning lawful key all asked itself.0) (all_seen meaning lawful key all asked clear start stages f)
     (first_genuine meaning lawful key, tt) untagged (record { messages = itself.1; batches = each_self [] asked })).0 in
     record {
       requests = _;

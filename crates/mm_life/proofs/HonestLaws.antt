@@ -25,7 +25,7 @@ basic_goes_on meaning lawful key start kept stages f stands honest told over cle
     life_goes (basic_proofs.basic_life meaning lawful key all asked clear) stages first_history kept (first_slots i) start f honest
     told stands
     (basic_proofs.first_within meaning lawful key all asked itself.0) first.fits over
-    (basic_proofs.all_seen meaning lawful key all asked clear start stages) chance
+    (basic_proofs.all_seen meaning lawful key all asked clear start stages f) chance
     (record { messages = itself.1; batches = each_self [] asked })
 
 pub opt_goes_on : OptLifeGoesOn
@@ -33,14 +33,14 @@ opt_goes_on meaning lawful key barrier values start kept stages f stands honest 
     let i : Instance = opt meaning key barrier in
     let all : List (List ℕ) = opt_messages i start stages f in
     let asked : List Batch = life_batches i start stages f in
-    let others : List (List ℕ) = others_values stages in
+    let others : List (List ℕ) = others_values i start stages f in
     let front : List (List ℕ) = life_messages i start stages f in
-    let back : List (List ℕ) = register_messages start stages in
+    let back : List (List ℕ) = register_messages i start stages f in
     let itself = each_self [] all in
     let calls = each_left (Contains all) front back itself in
     let first = is_first Opt meaning key barrier values lawful in
     life_goes (opt_proofs.opt_life meaning lawful key barrier all others asked clear apart) stages (first_on values) kept (first_slots i) start f
     honest told stands (opt_proofs.first_within meaning lawful key barrier values all others asked calls.0) first.fits over
-    (opt_proofs.all_seen meaning lawful key barrier all others asked clear apart start stages
+    (opt_proofs.all_seen meaning lawful key barrier all others asked clear apart start stages f
     (each_right (Contains all) front back itself) (each_self [] others)) chance
     (record { messages = calls.1; batches = each_self [] asked })

@@ -1,6 +1,6 @@
 -- A life over one honest store, part after part, in either variant.
-use Rattle.std.proofs.Common.{◌≡◌, ◌≢◌, ◌≤◌, ◌+◌, ◌-◌, ◌∙◌, ◌⊎◌, ℕ, Bool, true, false, List, [], ◌∷◌, ◌++◌, Option, None, Some, Result, Err, length}
-use Rattle.std.proofs.Common.{arith, refl, sym, ap, inl, inr, length-append}
+use Rattle.std.proofs.Common.{◌≡◌, ◌≢◌, ◌≤◌, ◌+◌, ◌-◌, ◌∙◌, ◌⊎◌, ℕ, Bool, true, false, List, [], ◌∷◌, Option, None, Some, Result, Err, length}
+use Rattle.std.proofs.Common.{arith, refl, sym, ap, subst, inl, inr, length-append}
 use Rattle.mm_platform.specs.Standing.{Standing}
 use Rattle.mm_module.specs.Batch.{Batch, One}
 use Rattle.mm_module.specs.Meaning.{Meaning}
@@ -16,20 +16,21 @@ use Rattle.mm_store.specs.Slots.{Slots}
 use Rattle.mm_recovery.specs.Fitting.{FitsBy, FitsHistory}
 use Rattle.mm_recovery.specs.declared.fault.HostFault.TheVariants.{Store}
 use Rattle.mm_recovery.proofs.Above.{fits_on}
-use Rattle.mm_host.specs.Continuing.{ContinuesTo, HasUntold, IsInHand, IsNotBeyond, RunsOver, answer_reply, told_in}
+use Rattle.mm_host.specs.Continuing.{ContinuesTo, HasUntold, IsInHand, IsNotBeyond, RunsOver, told_in}
 use Rattle.mm_host.specs.Sessions.{Served}
 use Rattle.mm_host.specs.declared.fault.SessionFault.{SessionFault}
 use Rattle.mm_host.specs.declared.fault.SessionFault.TheVariants.{Host}
-use Rattle.mm_host.proofs.Above.{calls_reach}
+use Rattle.mm_host.proofs.Above.{Shows, calls_reach}
 use Rattle.mm_life.specs.Deeds.{Call, Calls, Checkpoints, Deed, DeedLeads, Extends, LosesPower}
-use Rattle.mm_life.specs.Honest.{AreNoChance, BeginsOver, GoesOnFrom, GoesOnOver, IsGoneOnWith, IsNextOrLast, IsOverOneStore, LeavesNoChance}
-use Rattle.mm_life.specs.Honest.{PartGoesOn, kept_behind, reached, Waits}
+use Rattle.mm_life.specs.Honest.{AreNoChance, BeginsOver, IsGoneOnWith, IsNextOrLast, IsOverOneStore, LeavesNoChance}
+use Rattle.mm_life.specs.Honest.{PartGoesOn, kept_behind, reached}
 use Rattle.mm_store.specs.Kept.{StoreStanding}
-use Rattle.mm_life.specs.SessionCalls.{first_bytes, told_by}
-use Rattle.mm_life.specs.Stages.{Does, Holds, IsLife, Part, PartLeads, Program, Stage, end_of, life_calls, part_calls}
+use Rattle.mm_life.specs.OneList.{PartSteps, SessionSteps}
+use Rattle.mm_life.specs.SessionCalls.{first_bytes, InHandOf, session_calls, told_by}
+use Rattle.mm_life.specs.Stages.{Does, Holds, IsLife, Part, PartLeads, Program, Stage, life_calls, part_calls}
 use Rattle.mm_life.specs.Staying.{IsNoCall, Stays}
 use Rattle.mm_life.proofs.Chains.{session_chain}
-use Rattle.mm_life.proofs.HonestSession.{goes_on}
+use Rattle.mm_life.proofs.HonestSession.{AreStill, goes_on}
 use Rattle.mm_life.proofs.Living.{AreSeen, LifeLaws, listed_left, listed_right}
 use Rattle.mm_life.proofs.OneCall.{AreListed}
 use Rattle.mm_life.proofs.Sessions.{chain_leads, ends_reach}
@@ -94,7 +95,7 @@ store_failed (Err (Host Store)) = inl refl
 store_failed _ = inr (λ e. cc)
 
 module _ {all others : List (List ℕ)} {asked : List Batch} {i : Instance} {IsSeen : Standing → Part → Standing → Type 0}
-    (life : LifeLaws all others asked i IsSeen) where
+    {IsStill : Standing → List Call → Type 0} (life : LifeLaws all others asked i IsSeen IsStill) where
   -- where a part leads, from a history that the slots fit
   record PartGone (y : History) (kept : StoreStanding) (old : Standing) (part : Part) (new : Standing)
       (f : PartLeads i.variant i.meaning old part new) : Type 0 where
@@ -102,6 +103,7 @@ module _ {all others : List (List ℕ)} {asked : List Batch} {i : Instance} {IsS
     stands : StandsFor i new after
     within : IsWithin all others asked i after
     goes : PartGoesOn others i old part new f (requests_of y.batches) (requests_of after.batches)
+    steps : PartSteps i.variant i.meaning old part new f (requests_of y.batches) (requests_of after.batches)
     honest : (kept_behind kept part).is_honest ≡ true
     left : Slots
     told : (kept_behind kept part).slots ≡ Some left
@@ -131,8 +133,9 @@ module _ {all others : List (List ℕ)} {asked : List Batch} {i : Instance} {IsS
       | inr whole ↦ c.whole whole
     ]
 
-    program_gone : StandsFor i old y → On → PartGone y kept old (Holds p) new s
-    program_gone stands c = record {
+    program_gone : StandsFor i old y → (c : On) → SessionSteps i.meaning (requests_of y.batches) (told_by s) (InHandOf s) p.result
+        (requests_of c.runs.after.batches) → PartGone y kept old (Holds p) new s
+    program_gone stands c steps = record {
       after = c.runs.after;
       stands = c.runs.stands;
       within = c.runs.within;
@@ -151,6 +154,7 @@ module _ {all others : List (List ℕ)} {asked : List Batch} {i : Instance} {IsS
           unspoiled = c.runs.unspoiled;
         },
       );
+      steps = steps;
       honest = c.honest;
       left = c.slots_after;
       told = c.slots_told;
@@ -159,12 +163,15 @@ module _ {all others : List (List ℕ)} {asked : List Batch} {i : Instance} {IsS
 
   deed_gone : (y : History) (kept : StoreStanding) (slots : Slots) (old : Standing) (deed : Deed) (new : Standing)
       (f : DeedLeads i.variant i.meaning old deed new) → kept.is_honest ≡ true → kept.slots ≡ Some slots → FitsHistory i slots y
-      → Stays all others asked i y new → PartGone y kept old (Does deed) new f
-  deed_gone y kept slots old deed new f honest told fits s = record {
+      → (s : Stays all others asked i y new)
+      → PartSteps i.variant i.meaning old (Does deed) new f (requests_of y.batches) (requests_of s.after.batches)
+      → PartGone y kept old (Does deed) new f
+  deed_gone y kept slots old deed new f honest told fits s steps = record {
     after = s.after;
     stands = s.stands;
     within = s.within;
     goes = ap requests_of s.batches;
+    steps = steps;
     honest = honest;
     left = slots;
     told = told;
@@ -175,36 +182,52 @@ module _ {all others : List (List ℕ)} {asked : List Batch} {i : Instance} {IsS
     };
   }
 
+  deed_stays : (y : History) (old : Standing) (deed : Deed) (new : Standing) → IsNoCall deed → IsSeen old (Does deed) new ⊎ IsStill old []
+      → DeedLeads i.variant i.meaning old deed new → StandsFor i old y → IsWithin all others asked i y → Stays all others asked i y new
+  deed_stays y old deed new quiet (inl seen) f stands within = life.stays y old deed new quiet seen f stands within
+  deed_stays y old deed new quiet (inr still) f stands within = life.stays_still y old deed new quiet still f stands within
+
   part_goes : (y : History) (kept : StoreStanding) (slots : Slots) (old : Standing) (part : Part) (new : Standing)
       (f : PartLeads i.variant i.meaning old part new) → kept.is_honest ≡ true → kept.slots ≡ Some slots
-      → StandsFor i old y → IsWithin all others asked i y → FitsHistory i slots y → BeginsOver kept part → IsSeen old part new
+      → StandsFor i old y → IsWithin all others asked i y → FitsHistory i slots y → BeginsOver kept part
+      → IsSeen old part new ⊎ IsStill old (part_calls i.variant i.meaning old part new f)
       → LeavesNoChance i.variant i.meaning old part new f → AreListed all asked i (part_calls i.variant i.meaning old part new f)
       → PartGone y kept old part new f
   part_goes y kept slots old (Holds p) new s honest told stands within fits begins seen chance listed =
       let laws = life.laws new in
       let k = session_chain s in
       let reaches = calls_reach laws (first_bytes s) old k.at (told_by s) k.calls (ends_reach laws k.ends) in
-      let shows = life.shows y old (Holds p) new seen stands reaches (chain_leads i life.leads k) in
+      let seen_so : Shows i.variant all others i y old new ⊎ AreStill laws y old (session_calls s) = elim seen [
+        | inl shown ↦ inl (life.shows y old (Holds p) new shown stands reaches (chain_leads i life.leads k))
+        | inr still ↦ inr (
+          life.few old (session_calls s) still,
+          λ c one middle makes. life.idles y old middle c (subst (λ (calls : List Call). IsStill old calls) one still) makes,
+        )
+      ] in
       let here : p.old.slots ≡ Some slots = begins.1 ∙ told in
-      program_gone y kept slots old p new s here fits chance stands
-      (goes_on laws s y slots here (begins.0 ∙ honest) stands within fits shows listed)
+      let on = goes_on laws s y slots here (begins.0 ∙ honest) stands within fits seen_so listed in
+      program_gone y kept slots old p new s here fits chance stands on.0 on.1
   part_goes y kept slots old (Does (Calls c)) new f honest told stands within fits begins seen chance listed = absurd begins
   part_goes y kept slots old (Does (Extends values)) new f honest told stands within fits begins seen chance listed =
-      deed_gone y kept slots old (Extends values) new f honest told fits (life.stays y old (Extends values) new tt seen f stands within)
+      let on = deed_stays y old (Extends values) new tt seen f stands within in
+      deed_gone y kept slots old (Extends values) new f honest told fits on (ap requests_of on.batches)
   part_goes y kept slots old (Does LosesPower) new f honest told stands within fits begins seen chance listed =
-      deed_gone y kept slots old LosesPower new f honest told fits (life.stays y old LosesPower new tt seen f stands within)
+      let on = deed_stays y old LosesPower new tt seen f stands within in
+      deed_gone y kept slots old LosesPower new f honest told fits on (ap requests_of on.batches)
   part_goes y kept slots old (Does (Checkpoints said)) new f honest told stands within fits begins seen chance listed =
-      deed_gone y kept slots old (Checkpoints said) new f honest told fits (life.stays y old (Checkpoints said) new tt seen f stands within)
+      let on = deed_stays y old (Checkpoints said) new tt seen f stands within in
+      deed_gone y kept slots old (Checkpoints said) new f honest told fits on (ap requests_of on.batches)
 
   pub life_goes : (stages : List Stage) (y : History) (kept : StoreStanding) (slots : Slots) (start : Standing)
       (f : IsLife i.variant i.meaning start stages) → kept.is_honest ≡ true → kept.slots ≡ Some slots
       → StandsFor i start y → IsWithin all others asked i y → FitsHistory i slots y → IsOverOneStore kept stages
-      → AreSeen life start stages → AreNoChance i.variant i.meaning start stages f
+      → AreSeen life start stages f → AreNoChance i.variant i.meaning start stages f
       → AreListed all asked i (life_calls i.variant i.meaning start stages f)
       → IsGoneOnWith all others asked i (requests_of y.batches) kept start stages f
   life_goes [] y kept slots start f honest told stands within fits over seen chance listed = record {
     after = requests_of y.batches;
     goes = refl;
+    follows = refl;
     history = y;
     holds = refl;
     stands = stands;
@@ -225,6 +248,7 @@ module _ {all others : List (List ℕ)} {asked : List Batch} {i : Instance} {IsS
       record {
         after = r.after;
         goes = (requests_of p.after.batches, p.goes, r.goes);
+        follows = (requests_of p.after.batches, p.steps, r.follows);
         history = r.history;
         holds = r.holds;
         stands = r.stands;

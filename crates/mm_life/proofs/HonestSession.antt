@@ -1,23 +1,22 @@
 -- A session over an honest store, by the calls that it made: it goes on from a history that the slots fit.
-use Rattle.std.specs.List.{Contains}
 use Rattle.std.proofs.Common.{◌≡◌, ◌∙◌, ◌⊎◌, ℕ, true, List, [], ◌∷◌, ◌++◌, map, Option, None, Some, Result, Ok, Err, refl, sym, subst, inl, inr}
 use Rattle.mm_base.specs.declared.replay_fault.ReplayFault.TheVariants.{WriteFault}
 use Rattle.mm_digest.specs.declared.variant.Variant.{Variant}
 use Rattle.mm_platform.specs.Standing.{Standing}
-use Rattle.mm_module.specs.Batch.{Batch, One}
+use Rattle.mm_module.specs.Batch.{Batch}
 use Rattle.mm_module.specs.Meaning.{Meaning}
 use Rattle.mm_model.specs.History.{History}
 use Rattle.mm_model.specs.Instance.{Instance}
 use Rattle.mm_model.specs.Standing.{StandsFor}
 use Rattle.mm_call.specs.Asked.{IsWithin}
-use Rattle.mm_call.specs.Leaving.{whole}
+use Rattle.mm_call.specs.Leaving.{whole, whole_in}
 use Rattle.mm_store.specs.Calls.{ReadsSlot}
 use Rattle.mm_store.specs.Kept.{StoreStanding}
 use Rattle.mm_store.specs.Pending.{Pending}
 use Rattle.mm_store.specs.Slots.{Slots, slot_read}
 use Rattle.mm_store.specs.declared.fault.StoreFault.{StoreFault}
 use Rattle.mm_recovery.specs.Faults.{store_fault_as}
-use Rattle.mm_recovery.specs.Fitting.{FitsHistory, first_offer, offer_slot}
+use Rattle.mm_recovery.specs.Fitting.{FitsBy, FitsHistory, first_offer, offer_slot}
 use Rattle.mm_recovery.specs.Next.{AfterRecord}
 use Rattle.mm_recovery.specs.Resumes.{AfterFinding, AfterOffer, started}
 use Rattle.mm_recovery.specs.Waiting.{IsWaiting}
@@ -29,14 +28,20 @@ use Rattle.mm_host.specs.Continuing.{ContinuesTo, IsInHand, told_in}
 use Rattle.mm_host.specs.Sessions.{AfterResume, Place, Served, ServedOn, Sessions, ended_as, lines_served}
 use Rattle.mm_host.specs.declared.fault.SessionFault.{SessionFault}
 use Rattle.mm_host.specs.declared.fault.SessionFault.TheVariants.{Host, Lines}
-use Rattle.mm_host.proofs.Above.{AreMade, CallsInTurn, IsLineAsked, IsWritten, Laws, Shows, StandsIn, calls_reach, continues_by}
+use Rattle.mm_host.proofs.Above.{AreMade, CallsInTurn, IsLineAsked, IsWritten, Laws, Shows, StandsIn, calls_reach, continues_by, May}
 use Rattle.mm_host.proofs.Above.{fits_genuine, pending_for, same_self, stepped_by}
+use Rattle.std.proofs.Common.{Bool, ap}
+use Rattle.mm_model.specs.History.{requests_of, total_of}
+use Rattle.mm_store.specs.declared.fault.StoreFault.TheVariants as fault
+use Rattle.mm_host.specs.Continuing.{AreToldOnce, RefusesAs}
+use Rattle.mm_host.proofs.Above.{by_told, fits_room, unspoiled}
+use Rattle.mm_life.specs.OneList.{SessionSteps}
 use Rattle.mm_life.specs.Deeds.{Call}
 use Rattle.mm_life.specs.SessionCalls.{bytes_of, first_bytes, first_calls, found_waiting, InHandOf, last_calls, offered_calls, offered_first}
-use Rattle.mm_life.specs.SessionCalls.{recorded_calls, session_calls, told_by, told_calls, untold_calls}
+use Rattle.mm_life.specs.SessionCalls.{recorded_calls, session_calls, told_calls, untold_calls}
 use Rattle.mm_life.proofs.Chains.{Chain, Ends, call_of, rests, session_chain, stops}
 use Rattle.mm_life.proofs.OneCall.{AreListed, makes_call}
-use Rattle.mm_life.proofs.Sessions.{ends_reach, listed_first, listed_rest}
+use Rattle.mm_life.proofs.Sessions.{AreIdle, ends_reach, listed_first, listed_rest}
 
 -- what was asked, by the calls that were made
 abbrev pub requests_in : List Call → List (List ℕ)
@@ -74,52 +79,95 @@ module _ {all others : List (List ℕ)} {asked : List Batch} {i : Instance} {fin
             (listed_rest all asked i made rest listed)),
       )
 
--- What a start offers: what the slots show for what waits in them; or nothing was asked, and no line is read.
-data Opens (variant : Variant) (meaning : Meaning) (before after : Standing) (slots : Slots) (waiting : Option Pending)
+  -- at most one call was made, and it minds no register
+  abbrev pub AreStill : History → Standing → List Call → Type 0
+  AreStill y before calls = ((calls ≡ []) ⊎ ((c : Call) × (calls ≡ c ∷ []))) × AreIdle laws y before calls
+
+  -- these are asked, whatever others do
+  abbrev AreAskedStill : History → Standing → List ℕ → List (List ℕ) → Type 0
+  AreAskedStill y before offer requests = AreAskedInTurn all asked i y offer requests × May laws y before offer requests
+
+  still_last : (y : History) (before : Standing) (offer : List ℕ) (hand : List ℕ → Type 0) (untold : List Call)
+      (result : Result Unit SessionFault) → Ends i.variant i.meaning before final offer hand untold result
+      → StandsIn all others asked i y y before offer → AreListed all asked i untold → AreStill y before untold
+      → AreAskedStill y before offer (requests_in untold)
+  still_last y before offer hand untold result (rests same none) s listed still = rw none (tt, inr tt)
+  still_last y before offer hand untold result (stops request h gives c is came t sent fault says ends) s listed still =
+      let made : Call = call_of offer request gives in
+      let l : AreListed all asked i (made ∷ []) = rw is at listed in
+      let first = listed_first all asked i made [] l in
+      let m = makes_call laws before final offer request y (whole_in gives) c.goes s.stands s.within s.genuine l.batches.0 first in
+      rw is ((l.batches.0, first, tt), inr (still.1 made is final m, refl))
+
+  asked_still : (y : History) (before : Standing) (offer : List ℕ) (told : List Served) (hand : List ℕ → Type 0) (untold : List Call)
+      (result : Result Unit SessionFault) → Chain i.variant i.meaning offer before final told hand untold result
+      → StandsIn all others asked i y y before offer → AreListed all asked i (told_calls offer told ++ untold)
+      → AreStill y before (told_calls offer told ++ untold) → AreAskedStill y before offer (lines_served told ++ requests_in untold)
+  asked_still y before offer [] hand untold result k s listed still =
+      still_last y before offer hand untold result
+      (subst (λ (x : Standing). Ends i.variant i.meaning x final offer hand untold result) k.calls k.ends) s listed still
+  asked_still y before offer (c ∷ []) hand untold result k s listed still =
+      let made : Call = call_of offer c.line (Ok c.answer) in
+      let none : untold ≡ [] = elim still.0 [ inl e ↦ absurd (cc) | inr one ↦ cc (one.1) ] in
+      let one : made ∷ untold ≡ made ∷ [] = cc in
+      let first = listed_first all asked i made untold listed in
+      let m = makes_call laws before k.calls.0 offer c.line y (Ok (whole c.answer)) k.calls.1.goes s.stands s.within s.genuine
+      listed.batches.0 first in
+      rw none ((listed.batches.0, first, tt), inr (still.1 made one k.calls.0 m, refl))
+  asked_still y before offer (c ∷ next ∷ told) hand untold result k s listed still =
+      elim still.0 [ inl e ↦ absurd (cc) | inr one ↦ let clash = one.1 in absurd (cc) ]
+
+-- What a start came to where the store failed, or memory was wanting, before anything was asked.
+record Rests (before after : Standing) (slots : Slots) (honest : Bool) (new : StoreStanding) (came : Result Resumed HostFault) : Type 0 where
+  same : after ≡ before
+  told : new.slots ≡ Some slots
+  is_honest : new.is_honest ≡ honest
+  why : StoreFault
+  is : came ≡ Err (store_fault_as why)
+
+-- It rests; or what the slots show was offered first, for what waits in them.
+data Opens (variant : Variant) (meaning : Meaning) (before after : Standing) (slots : Slots) (honest : Bool) (waiting : Option Pending)
     (found : Result (Option Pending) StoreFault) (middle new : StoreStanding) (came : Result Resumed HostFault)
     (g : AfterFinding variant meaning before after found middle new came) : Type 0 where
-  unasked : (IsMade variant meaning before after found middle new came g → ⊥) → ((first : Resumed) → came ≡ Ok first → ⊥)
-      → Opens variant meaning before after slots waiting found middle new came g
+  unasked : Rests before after slots honest new came → Opens variant meaning before after slots honest waiting found middle new came g
   offers : offered_first variant meaning before after found middle new came g ≡ first_offer slots waiting → found_waiting found ≡ waiting
-      → Opens variant meaning before after slots waiting found middle new came g
+      → Opens variant meaning before after slots honest waiting found middle new came g
 
 module _ (variant : Variant) (meaning : Meaning) (before after : Standing) (slots : Slots) where
-  never_ok : (why : StoreFault) (came : Result Resumed HostFault) → came ≡ Err (store_fault_as why)
-      → (first : Resumed) → came ≡ Ok first → ⊥
-  never_ok why came e first is = let clash : Ok first ≡ Err (store_fault_as why) = sym is ∙ e in cc
-
-  zero_shown : (zero : Result (List ℕ) StoreFault) (old new : StoreStanding) (came : Result Resumed HostFault)
+  zero_shown : (zero : Result (List ℕ) StoreFault) (old new : StoreStanding) (came : Result Resumed HostFault) → after ≡ before
       → old.slots ≡ Some slots → ReadsSlot 0 old new zero → came ≡ started zero
-      → (bytes_of variant meaning before after zero ≡ slot_read slots 0) ⊎ ((first : Resumed) → came ≡ Ok first → ⊥)
-  zero_shown (Ok bytes) old new came told r e = inl (r.gives slots told)
-  zero_shown (Err why) old new came told r e = inr (never_ok why came e)
+      → (bytes_of variant meaning before after zero ≡ slot_read slots 0) ⊎ Rests before after slots old.is_honest new came
+  zero_shown (Ok bytes) old new came same told r e = inl (r.gives slots told)
+  zero_shown (Err why) old new came same told r e =
+      inr (record { same = same; told = r.slots ∙ told; is_honest = r.honest; why = why; is = e })
 
   offer_shown : (offer : Result (List ℕ) StoreFault) (first old new : StoreStanding) (p : Pending) (came : Result Resumed HostFault)
       → AfterOffer variant meaning before after offer old new p came → first.slots ≡ Some slots → ReadsSlot (offer_slot p) first old offer
-      → (bytes_of variant meaning before after offer ≡ slot_read slots (offer_slot p))
-      ⊎ ((MadeOf offer → ⊥) × ((first : Resumed) → came ≡ Ok first → ⊥))
+      → (bytes_of variant meaning before after offer ≡ slot_read slots (offer_slot p)) ⊎ Rests before after slots first.is_honest new came
   offer_shown (Ok bytes) first old new p came g told r = inl (r.gives slots told)
-  offer_shown (Err why) first old new p came g told r = inr (λ m. m, never_ok why came g.2)
+  offer_shown (Err why) first old new p came g told r =
+      rw g.1 (inr (record { same = g.0; told = r.slots ∙ told; is_honest = r.honest; why = why; is = g.2 }))
 
   opens_found : (found : Option Pending) (middle new : StoreStanding) (came : Result Resumed HostFault)
       (g : AfterFinding variant meaning before after (Ok found) middle new came) → middle.slots ≡ Some slots
-      → Opens variant meaning before after slots found (Ok found) middle new came g
-  opens_found None middle new came g told = elim (zero_shown g.1.zero middle new came told g.1.reads g.1.gives) [
+      → Opens variant meaning before after slots middle.is_honest found (Ok found) middle new came g
+  opens_found None middle new came g told = elim (zero_shown g.1.zero middle new came g.0 told g.1.reads g.1.gives) [
     | inl is ↦ offers is refl
-    | inr never ↦ unasked (λ m. m) never
+    | inr rest ↦ unasked rest
   ]
   opens_found (Some p) middle new came g told = elim (offer_shown g.offer middle g.middle new p came g.goes told g.reads) [
     | inl is ↦ offers is refl
-    | inr none ↦ unasked none.0 none.1
+    | inr rest ↦ unasked rest
   ]
 
   opens_by : (waiting : Option Pending) (found : Result (Option Pending) StoreFault) (first middle new : StoreStanding)
       (came : Result Resumed HostFault) (g : AfterFinding variant meaning before after found middle new came)
       → IsWaiting (slot_read slots 2) (slot_read slots 3) waiting → Saw slots first middle found
-      → Opens variant meaning before after slots waiting found middle new came g
-  opens_by waiting (Err why) first middle new came g w s = unasked (λ m. m) (never_ok why came g.2)
+      → Opens variant meaning before after slots middle.is_honest waiting found middle new came g
+  opens_by waiting (Err why) first middle new came g w s =
+      unasked (rw g.1 (record { same = g.0; told = s.told; is_honest = refl; why = why; is = g.2 }))
   opens_by waiting (Ok found) first middle new came g w s =
-      subst (λ (v : Option Pending). Opens variant meaning before after slots v (Ok found) middle new came g)
+      subst (λ (v : Option Pending). Opens variant meaning before after slots middle.is_honest v (Ok found) middle new came g)
       (one_waiting (slot_read slots 2) (slot_read slots 3) found waiting (s.waiting found refl) w)
       (opens_found found middle new came g s.told)
 
@@ -166,13 +214,6 @@ module _ {variant : Variant} {meaning : Meaning} {before after : Standing} {old 
   abbrev Goes : Type 0
   Goes = AfterResume variant meaning s.begun s.platform after s.store new left' s.taken s.sent result
 
-  abbrev Made : Type 0
-  Made = IsMade variant meaning before s.platform s.resumes.waiting s.resumes.middle s.store s.begun s.resumes.goes
-
-  none_made : (goes : Goes) → (Made → ⊥) → ((first : Resumed) → s.begun ≡ Ok first → ⊥) → AreMade s waiting [] goes
-  none_made (inl e) unmade never = λ m p k. absurd (unmade m)
-  none_made (inr g) unmade never = absurd (never g.first g.begins)
-
   all_made : (goes : Goes) → found_waiting s.resumes.waiting ≡ waiting
       → AreMade s waiting (lines_served (told_in waiting goes) ++ requests_in (untold_calls s goes)) goes
   all_made (inl e) is = λ m p k. (
@@ -189,10 +230,13 @@ module _ {all others : List (List ℕ)} {asked : List Batch} {i : Instance} {fin
     {before : Standing} {old new : StoreStanding} {left left' received received' : Option (List ℕ)} {result : Result Unit SessionFault}
     (s : Sessions i.variant i.meaning before final old new left left' received received' result) (y : History) (slots : Slots)
     (told : old.slots ≡ Some slots) (honest : old.is_honest ≡ true) (stands : StandsFor i before y)
-    (within : IsWithin all others asked i y) (fits : FitsHistory i slots y) (shows : Shows i.variant all others i y before final) where
-  abbrev On : Type 0
-  On =
-      ContinuesTo all others asked i y fits.waiting final new (told_in fits.waiting s.goes) (IsInHand fits.waiting s.goes) result
+    (within : IsWithin all others asked i y) (fits : FitsHistory i slots y)
+    (seen : Shows i.variant all others i y before final ⊎ AreStill laws y before (session_calls s)) where
+  abbrev OnBy : AfterResume i.variant i.meaning s.begun s.platform final s.store new left' s.taken s.sent result → Type 0
+  OnBy goes =
+      (c : ContinuesTo all others asked i y fits.waiting final new (told_in fits.waiting goes) (IsInHand fits.waiting goes) result)
+      × SessionSteps i.meaning (requests_of y.batches) (told_in (found_waiting s.resumes.waiting) goes)
+      (IsInHand (found_waiting s.resumes.waiting) goes) result (requests_of c.runs.after.batches)
 
   here : StandsIn all others asked i y y before (first_offer slots fits.waiting)
   here = record {
@@ -202,13 +246,9 @@ module _ {all others : List (List ℕ)} {asked : List Batch} {i : Instance} {fin
     same = same_self i.variant y;
   }
 
-  on_by : (requests : List (List ℕ)) → AreAskedInTurn all asked i y (first_offer slots fits.waiting) requests
-      → AreMade s fits.waiting requests s.goes → On
-  on_by requests follow made =
-      continues_by laws s y y slots fits.waiting told honest fits.is_waiting fits.fits requests here (inl shows) follow made (λ p. p)
-
+  -- what was asked goes on
   on_offers : AreListed all asked i (session_calls s) → first_bytes s ≡ first_offer slots fits.waiting
-      → found_waiting s.resumes.waiting ≡ fits.waiting → On
+      → found_waiting s.resumes.waiting ≡ fits.waiting → OnBy s.goes
   on_offers listed is found =
       let untold : List Call = untold_calls s s.goes in
       let k = subst (λ (bytes : List ℕ). Chain i.variant i.meaning bytes before final (told_in fits.waiting s.goes) (InHandOf s) untold result)
@@ -216,17 +256,78 @@ module _ {all others : List (List ℕ)} {asked : List Batch} {i : Instance} {fin
       result) found (session_chain s)) in
       let l = subst (λ (bytes : List ℕ). AreListed all asked i (told_calls bytes (told_in fits.waiting s.goes) ++ untold)) is
       (subst (λ (w : Option Pending). AreListed all asked i (told_calls (first_bytes s) (told_in w s.goes) ++ untold)) found listed) in
-      on_by (lines_served (told_in fits.waiting s.goes) ++ requests_in untold)
-      (asked_in_turn laws (told_in fits.waiting s.goes) y y before k.at (first_offer slots fits.waiting) (InHandOf s) untold result k.calls
-      k.ends here shows l) (all_made s fits.waiting s.goes found)
+      let requests : List (List ℕ) = lines_served (told_in fits.waiting s.goes) ++ requests_in untold in
+      let follow : AreAskedStill laws y before (first_offer slots fits.waiting) requests = elim seen [
+        | inl shows ↦ (
+          asked_in_turn laws (told_in fits.waiting s.goes) y y before k.at (first_offer slots fits.waiting) (InHandOf s) untold result
+              k.calls k.ends here shows l,
+          inl shows,
+        )
+        | inr still ↦
+            asked_still laws y before (first_offer slots fits.waiting) (told_in fits.waiting s.goes) (InHandOf s) untold result k here l
+            (subst (λ (bytes : List ℕ). AreStill laws y before (told_calls bytes (told_in fits.waiting s.goes) ++ untold)) is
+            (subst (λ (w : Option Pending). AreStill laws y before (told_calls (first_bytes s) (told_in w s.goes) ++ untold)) found still))
+      ] in
+      let c = continues_by laws s y y slots fits.waiting told honest fits.is_waiting fits.fits requests here follow.1 follow.0
+      (all_made s fits.waiting s.goes found) (λ p. p) in (
+        c,
+        subst (λ (w : Option Pending). SessionSteps i.meaning (requests_of y.batches) (told_in w s.goes) (IsInHand w s.goes) result
+            (requests_of c.runs.after.batches)) (sym found)
+            (record { between = c.runs.requests; run = c.runs.run; committed = c.runs.committed }),
+      )
 
-  pub goes_on : AreListed all asked i (session_calls s) → On
+  -- where nothing was, all is as before
+  stored_refuses : (why : StoreFault) → RefusesAs {T = Unit} (Err (Host (store_fault_as why))) i.variant y
+  stored_refuses fault.Memory = tt
+  stored_refuses fault.Failed = tt
+
+  none_told : (w : Option Pending) → FitsBy i slots y w → AreToldOnce (total_of y.batches) w []
+  none_told None f = tt
+  none_told (Some p) f = tt
+
+  on_rests : (goes : AfterResume i.variant i.meaning s.begun s.platform final s.store new left' s.taken s.sent result) → (kept : Bool)
+      → kept ≡ true → Rests before s.platform slots kept s.store s.begun → OnBy goes
+  on_rests (inr g) kept e r =
+      let clash : Ok g.first ≡ Err (store_fault_as r.why) = sym g.begins ∙ r.is in absurd (cc)
+  on_rests (inl ended) kept e r = (
+    record {
+      runs = record {
+        after = y;
+        stands = subst (λ (x : Standing). StandsFor i x y) (sym (ended.0 ∙ r.same)) stands;
+        within = within;
+        requests = requests_of y.batches;
+        run = refl;
+        committed = inl refl;
+        unspoiled = unspoiled i.variant others y within.sound within.outside;
+        powered = λ p. p;
+      };
+      once = none_told fits.waiting fits.fits;
+      room = fits_room i slots y fits;
+      slots_after = slots;
+      honest = ap (λ (k : StoreStanding). k.is_honest) ended.1 ∙ r.is_honest ∙ e;
+      slots_told = ap (λ (k : StoreStanding). k.slots) ended.1 ∙ r.told;
+      fits = λ n. fits;
+      whole = λ n. fits;
+      refuses = subst (λ (x : Result Unit SessionFault). RefusesAs x i.variant y) (sym ended.2.stops)
+          (by_told (λ (f : SessionFault). RefusesAs {T = Unit} (Err f) i.variant y) s.begun s.sent ended.2.fault ended.2.says
+          (λ (w : HostFault) (came : s.begun ≡ Err w).
+          let same : store_fault_as r.why ≡ w = host_same s.begun (store_fault_as r.why) w r.is came in
+          subst (λ (f : HostFault). RefusesAs {T = Unit} (Err (Host f)) i.variant y) same (stored_refuses r.why)) (λ n. tt));
+    },
+    record { between = requests_of y.batches; run = refl; committed = inl refl },
+  )
+    where
+      host_same : (came : Result Resumed HostFault) (a b : HostFault) → came ≡ Err a → came ≡ Err b → a ≡ b
+      host_same came a b e f = cc
+
+  pub goes_on : AreListed all asked i (session_calls s) → OnBy s.goes
   goes_on listed =
       let r = s.resumes in
-      by_opens (opens_by i.variant i.meaning before s.platform slots fits.waiting r.waiting old r.middle s.store s.begun r.goes
-      fits.is_waiting (saw_two slots r.finds.two old r.finds.middle r.middle r.waiting told r.finds.reads r.finds.goes))
+      let saw = saw_two slots r.finds.two old r.finds.middle r.middle r.waiting told r.finds.reads r.finds.goes in
+      by_opens (saw.honest ∙ honest)
+      (opens_by i.variant i.meaning before s.platform slots fits.waiting r.waiting old r.middle s.store s.begun r.goes fits.is_waiting saw)
     where
-      by_opens : Opens i.variant i.meaning before s.platform slots fits.waiting s.resumes.waiting s.resumes.middle s.store s.begun
-          s.resumes.goes → On
-      by_opens (unasked unmade never) = on_by [] tt (none_made s fits.waiting s.goes unmade never)
-      by_opens (offers is found) = on_offers listed is found
+      by_opens : s.resumes.middle.is_honest ≡ true → Opens i.variant i.meaning before s.platform slots s.resumes.middle.is_honest
+          fits.waiting s.resumes.waiting s.resumes.middle s.store s.begun s.resumes.goes → OnBy s.goes
+      by_opens e (unasked rest) = on_rests s.goes s.resumes.middle.is_honest e rest
+      by_opens e (offers is found) = on_offers listed is found

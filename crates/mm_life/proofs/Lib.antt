@@ -7,9 +7,16 @@ mod Tellings
 mod NextStart
 mod Offering
 mod OptSeen
+mod Idling
 mod OptLife
 mod DoingLaws
 mod HonestSession
 mod HonestLife
 mod HonestLaws
 mod HonestCaller
+mod Standings
+mod CallCounts
+mod ClosingCounts
+mod Longer
+mod Writing
+pub mod Above

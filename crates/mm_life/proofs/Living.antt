@@ -1,6 +1,6 @@
 -- A life, part after part, in either variant.
 use Rattle.std.specs.List.{AllByRecursion, Contains, flat_map}
-use Rattle.std.proofs.Common.{◌≡◌, ℕ, List, [], ◌∷◌, ◌++◌, refl, ap, append_assoc}
+use Rattle.std.proofs.Common.{◌≡◌, ◌⊎◌, ℕ, List, [], ◌∷◌, ◌++◌, refl, ap, append_assoc, subst, inl, inr}
 use Rattle.std.proofs.lemmas.Grind.{flat_map-append}
 use Rattle.std.proofs.lemmas.List.{append-nil, map-append}
 use Rattle.mm_platform.specs.Standing.{Standing}
@@ -12,28 +12,36 @@ use Rattle.mm_model.specs.Standing.{IsGenuine, StandsFor}
 use Rattle.mm_call.specs.Asked.{IsWithin, right_messages}
 use Rattle.mm_call.specs.Found.{right_content}
 use Rattle.mm_call.specs.Leaving.{whole_in}
+use Rattle.mm_call.specs.Premises.{IsIdle}
 use Rattle.mm_recovery.specs.Asking.{IsCall}
 use Rattle.mm_call.proofs.Above.{each_at}
-use Rattle.mm_host.proofs.Above.{Laws, Reaches, Shows, pending_for}
+use Rattle.mm_recovery.proofs.Above.{Met}
+use Rattle.mm_host.proofs.Above.{Laws, Makes, Reaches, Shows, pending_for}
 use Rattle.mm_life.specs.Deeds.{Call, Calls, Checkpoints, Deed, DeedLeads, Extends, LosesPower}
 use Rattle.mm_life.specs.OneList.{FollowsOn, IsLastJudged, PartSteps}
 use Rattle.mm_life.specs.Premises.{AreUntagged, IsFirstUntagged, issued_in, requests_asked, snapshots_of}
-use Rattle.mm_life.specs.SessionCalls.{InHandOf, first_bytes, told_by, untold_calls}
+use Rattle.mm_life.specs.SessionCalls.{InHandOf, first_bytes, session_calls, told_by, untold_calls}
 use Rattle.mm_life.specs.Staying.{IsNoCall, Stays}
-use Rattle.mm_life.specs.Stages.{Does, Holds, IsLife, Part, PartLeads, Stage, end_of, latest_calls, life_calls, part_calls}
+use Rattle.mm_life.specs.Stages.{Does, Holds, IsLife, Part, PartLeads, Program, Stage, end_of, latest_calls, life_calls, part_calls}
 use Rattle.mm_life.proofs.Chains.{session_chain}
 use Rattle.mm_life.proofs.OneCall.{AreListed, all_genuine, issues_genuine, makes_call, met_judged, met_steps}
-use Rattle.mm_life.proofs.Sessions.{CallsLead, IsFirstGenuine, Leads, Lived, chain_lives}
+use Rattle.mm_life.proofs.Sessions.{CallsLead, IsFirstGenuine, Leads, Lived, chain_idles, chain_lives}
 
 -- What a life takes from its variant: the laws of calls up to a part's end; what is asked of a part by what stands before and
--- behind it; and so what the register shows there; and what other deeds leave.
+-- behind it; and so what the register shows there; and what other deeds leave. Of a part that is still nothing is asked: at most one
+-- call is made in it, which minds no register.
 pub record LifeLaws (all others : List (List ℕ)) (asked : List Batch) (i : Instance)
-    (IsSeen : Standing → Part → Standing → Type 0) : Type 0 where
+    (IsSeen : Standing → Part → Standing → Type 0) (IsStill : Standing → List Call → Type 0) : Type 0 where
   pub laws : (final : Standing) → Laws all others asked i final
   pub leads : CallsLead i
   pub shows : (y : History) (old : Standing) (part : Part) (final : Standing) → IsSeen old part final → StandsFor i old y
       → Reaches i.variant i old final → Leads i old final → Shows i.variant all others i y old final
   pub stays : (y : History) (old : Standing) (deed : Deed) (new : Standing) → IsNoCall deed → IsSeen old (Does deed) new
+      → DeedLeads i.variant i.meaning old deed new → StandsFor i old y → IsWithin all others asked i y → Stays all others asked i y new
+  pub few : (old : Standing) (calls : List Call) → IsStill old calls → (calls ≡ []) ⊎ ((c : Call) × (calls ≡ c ∷ []))
+  pub idles : (y : History) (old new : Standing) (c : Call) → IsStill old (c ∷ [])
+      → Makes all others asked i y old new c.offer (pending_for c.request) (whole_in c.gives) → IsIdle i y c.offer (One c.request)
+  pub stays_still : (y : History) (old : Standing) (deed : Deed) (new : Standing) → IsNoCall deed → IsStill old []
       → DeedLeads i.variant i.meaning old deed new → StandsFor i old y → IsWithin all others asked i y → Stays all others asked i y new
 
 -- nobody else made a tag, so what is offered first is genuine
@@ -61,7 +69,7 @@ listed_right all asked i calls more a = record {
 }
 
 module _ {all others : List (List ℕ)} {asked : List Batch} {i : Instance} {IsSeen : Standing → Part → Standing → Type 0}
-    (life : LifeLaws all others asked i IsSeen) where
+    {IsStill : Standing → List Call → Type 0} (life : LifeLaws all others asked i IsSeen IsStill) where
   -- one part of a life
   abbrev PartLived : History → (old : Standing) (part : Part) (new : Standing) → PartLeads i.variant i.meaning old part new → Type 0
   PartLived y old part new f =
@@ -69,15 +77,21 @@ module _ {all others : List (List ℕ)} {asked : List Batch} {i : Instance} {IsS
       (λ after. PartSteps i.variant i.meaning old part new f (requests_of y.batches) after)
 
   call_lives : (y : History) (old new : Standing) (c : Call) (f : IsCall i.variant i.meaning old new c.offer c.request c.gives)
-      → StandsFor i old y → IsWithin all others asked i y → IsSeen old (Does (Calls c)) new → IsFirstGenuine i y (c ∷ [])
+      → StandsFor i old y → IsWithin all others asked i y → IsSeen old (Does (Calls c)) new ⊎ IsStill old (c ∷ [])
+      → IsFirstGenuine i y (c ∷ [])
       → AreListed all asked i (c ∷ []) → PartLived y old (Does (Calls c)) new f
   call_lives y old new c f stands within seen first listed =
       let laws = life.laws new in
-      let m = laws.met_last y old c.offer (pending_for c.request) (whole_in c.gives)
-      (makes_call laws old new c.offer c.request y (whole_in c.gives) f.goes stands within first listed.batches.0
-      (each_left (Contains all) (right_messages i (One c.request) (right_content i c.offer)) [] listed.messages))
-      (life.shows y old (Does (Calls c)) new seen stands (laws.reach old new c.offer c.request (whole_in c.gives) f.goes)
-      (life.leads old new c.offer c.request (whole_in c.gives) f.goes)) in
+      let makes = makes_call laws old new c.offer c.request y (whole_in c.gives) f.goes stands within first listed.batches.0
+      (each_left (Contains all) (right_messages i (One c.request) (right_content i c.offer)) [] listed.messages) in
+      let m : Met all others asked i y new c.offer (pending_for c.request) (whole_in c.gives) = elim seen [
+        | inl shown ↦
+            laws.met_last y old c.offer (pending_for c.request) (whole_in c.gives) makes
+            (life.shows y old (Does (Calls c)) new shown stands (laws.reach old new c.offer c.request (whole_in c.gives) f.goes)
+            (life.leads old new c.offer c.request (whole_in c.gives) f.goes))
+        | inr still ↦
+            laws.idle y old new c.offer (pending_for c.request) (whole_in c.gives) makes (life.idles y old new c still makes)
+      ] in
       record {
         after = m.after;
         stands = m.stands;
@@ -101,25 +115,45 @@ module _ {all others : List (List ℕ)} {asked : List Batch} {i : Instance} {IsS
     judged = tt;
   }
 
-  part_lives : (y : History) (old : Standing) (part : Part) (new : Standing) (f : PartLeads i.variant i.meaning old part new)
-      → StandsFor i old y → IsWithin all others asked i y → IsSeen old part new
-      → IsFirstGenuine i y (part_calls i.variant i.meaning old part new f)
-      → AreListed all asked i (part_calls i.variant i.meaning old part new f) → PartLived y old part new f
-  part_lives y old (Holds p) new f stands within seen first listed =
+  -- what is asked of a part: what stands behind it is seen, or it is still
+  abbrev pub IsSeenOrStill : (old : Standing) (part : Part) (new : Standing) → PartLeads i.variant i.meaning old part new → Type 0
+  IsSeenOrStill old part new f = IsSeen old part new ⊎ IsStill old (part_calls i.variant i.meaning old part new f)
+
+  session_lives : (y : History) (old : Standing) (p : Program) (new : Standing) (f : PartLeads i.variant i.meaning old (Holds p) new)
+      → StandsFor i old y → IsWithin all others asked i y → IsSeenOrStill old (Holds p) new f
+      → IsFirstGenuine i y (part_calls i.variant i.meaning old (Holds p) new f)
+      → AreListed all asked i (part_calls i.variant i.meaning old (Holds p) new f) → PartLived y old (Holds p) new f
+  session_lives y old p new f stands within (inl seen) first listed =
       chain_lives (life.laws new) y old (first_bytes f) (told_by f) (InHandOf f) (untold_calls f f.goes) p.result (session_chain f) stands
       within first listed life.leads (λ reaches leads. life.shows y old (Holds p) new seen stands reaches leads)
+  session_lives y old p new f stands within (inr still) first listed =
+      chain_idles (life.laws new) y old (first_bytes f) (told_by f) (InHandOf f) (untold_calls f f.goes) p.result (session_chain f) stands
+      within first listed (life.few old (session_calls f) still)
+      (λ c one middle makes. life.idles y old middle c (subst (λ (calls : List Call). IsStill old calls) one still) makes)
+
+  deed_lives : (y : History) (old : Standing) (deed : Deed) (new : Standing) → IsNoCall deed
+      → DeedLeads i.variant i.meaning old deed new → StandsFor i old y → IsWithin all others asked i y
+      → IsSeen old (Does deed) new ⊎ IsStill old [] → Lived (life.laws new) y new [] (λ after. after ≡ requests_of y.batches)
+  deed_lives y old deed new quiet f stands within (inl seen) = stays_lives y new (life.stays y old deed new quiet seen f stands within)
+  deed_lives y old deed new quiet f stands within (inr still) =
+      stays_lives y new (life.stays_still y old deed new quiet still f stands within)
+
+  part_lives : (y : History) (old : Standing) (part : Part) (new : Standing) (f : PartLeads i.variant i.meaning old part new)
+      → StandsFor i old y → IsWithin all others asked i y → IsSeenOrStill old part new f
+      → IsFirstGenuine i y (part_calls i.variant i.meaning old part new f)
+      → AreListed all asked i (part_calls i.variant i.meaning old part new f) → PartLived y old part new f
+  part_lives y old (Holds p) new f stands within seen first listed = session_lives y old p new f stands within seen first listed
   part_lives y old (Does (Calls c)) new f stands within seen first listed = call_lives y old new c f stands within seen first listed
   part_lives y old (Does (Extends values)) new f stands within seen first listed =
-      stays_lives y new (life.stays y old (Extends values) new tt seen f stands within)
-  part_lives y old (Does LosesPower) new f stands within seen first listed =
-      stays_lives y new (life.stays y old LosesPower new tt seen f stands within)
+      deed_lives y old (Extends values) new tt f stands within seen
+  part_lives y old (Does LosesPower) new f stands within seen first listed = deed_lives y old LosesPower new tt f stands within seen
   part_lives y old (Does (Checkpoints said)) new f stands within seen first listed =
-      stays_lives y new (life.stays y old (Checkpoints said) new tt seen f stands within)
+      deed_lives y old (Checkpoints said) new tt f stands within seen
 
   -- what is asked of each part by what stands before and behind it
-  abbrev pub AreSeen : Standing → List Stage → Type 0
-  AreSeen start [] = Unit {0}
-  AreSeen start (stage ∷ stages) = IsSeen start stage.part stage.after × AreSeen stage.after stages
+  abbrev pub AreSeen : (start : Standing) (stages : List Stage) → IsLife i.variant i.meaning start stages → Type 0
+  AreSeen start [] f = Unit {0}
+  AreSeen start (stage ∷ stages) f = IsSeenOrStill start stage.part stage.after f.0 × AreSeen stage.after stages f.1
 
   -- a life from a history
   pub record Lives (y : History) (issued : List (List ℕ)) (start : Standing) (stages : List Stage)
@@ -139,7 +173,7 @@ module _ {all others : List (List ℕ)} {asked : List Batch} {i : Instance} {IsS
   judged_last start stage (next ∷ stages) f y z same here later = later
 
   pub lives : (stages : List Stage) (y : History) (issued : List (List ℕ)) (start : Standing)
-      (f : IsLife i.variant i.meaning start stages) → StandsFor i start y → IsWithin all others asked i y → AreSeen start stages
+      (f : IsLife i.variant i.meaning start stages) → StandsFor i start y → IsWithin all others asked i y → AreSeen start stages f
       → AllByRecursion (IsGenuine i y) issued → AreUntagged i issued start stages f
       → AreListed all asked i (life_calls i.variant i.meaning start stages f)
       → (l : Lives y issued start stages f) × (stages ≡ [] → l.after ≡ y)

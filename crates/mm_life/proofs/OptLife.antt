@@ -1,8 +1,8 @@
 -- Opt: a life is one whole.
 use Rattle.std.specs.List.{AllByRecursion, Contains}
 use Rattle.std.specs.Option.{option_map, option_map_or}
-use Rattle.std.specs.Prelude.{Result}
-use Rattle.std.proofs.Common.{◌≡◌, ◌∙◌, ◌++◌, ℕ, Bool, true, false, List, [], ◌∷◌, Option, Some, map, fold, arith, refl, sym, ap, subst, inl}
+use Rattle.std.specs.Prelude.{Err, Ok, Result, ◌&&◌, if◌then◌else◌, not}
+use Rattle.std.proofs.Common.{◌≡◌, ◌⊎◌, ◌∙◌, ◌++◌, ℕ, Bool, true, false, List, [], ◌∷◌, Option, Some, map, fold, arith, refl, sym, ap, subst, inl, inr}
 use Rattle.mm_digest.specs.Messages.{extended_of, start_message}
 use Rattle.mm_digest.specs.declared.variant.Variant.TheVariants.{Opt}
 use Rattle.mm_seal.specs.Snapshot.{Content}
@@ -19,7 +19,11 @@ use Rattle.mm_model.specs.Messages.{AreNoGuards, IsClear, Within}
 use Rattle.mm_model.specs.Moves.{Digests, digests_of}
 use Rattle.mm_model.specs.Places.{Names}
 use Rattle.mm_model.specs.Sound.{IsSound}
-use Rattle.mm_model.specs.Standing.{IsGenuine, StandsFor, issued_bytes}
+use Rattle.mm_model.specs.Standing.{IsGenuine, StandsFor, cell_of, issued_bytes}
+use Rattle.mm_model.specs.declared.answer.Answer.{Answer}
+use Rattle.mm_model.specs.declared.refusal.Refusal.{Refusal}
+use Rattle.mm_model.specs.declared.refusal.Refusal.TheVariants.{Device, Memory}
+use Rattle.mm_call.specs.Leaving.{whole_in}
 use Rattle.mm_model.proofs.Above.{opt_issued}
 use Rattle.mm_call.specs.Asked.{IsWithin, moves_messages}
 use Rattle.mm_call.specs.Levels.{all_made, by_digests, by_lists}
@@ -37,12 +41,14 @@ use Rattle.mm_callers.proofs.Above.{check_goes_on, check_leaves}
 use Rattle.mm_host.proofs.Above.{Reaches, ShowsAt, foreign_of, messages_looked, opt_laws}
 use Rattle.mm_recovery.specs.Begins.{first_on}
 use Rattle.mm_life.specs.Below.{CheckpointRefusal, Checkpointed}
-use Rattle.mm_life.specs.Deeds.{Calls, Checkpoints, Deed, DeedLeads, Extends, LosesPower}
+use Rattle.mm_life.specs.Deeds.{Call, Calls, Checkpoints, Deed, DeedLeads, Extends, LosesPower}
+use Rattle.mm_life.specs.Idle.{has_open, is_idle, is_old}
 use Rattle.mm_life.specs.Laws.{OptLifeIsOne}
 use Rattle.mm_life.specs.Premises.{closing_messages, life_batches, life_messages, opt_messages, others_values}
-use Rattle.mm_life.specs.Premises.{register_messages, shown_messages}
+use Rattle.mm_life.specs.Premises.{register_messages, shown_messages, unless_idle}
 use Rattle.mm_life.specs.Staying.{IsNoCall, IsSeen, OptDeedsStay, Stays}
-use Rattle.mm_life.specs.Stages.{Does, Part, Stage}
+use Rattle.mm_life.specs.Stages.{Does, IsLife, Part, Stage, part_calls}
+use Rattle.mm_life.proofs.Idling.{IsNotNew, is_idle_where, open_told}
 use Rattle.mm_life.proofs.Living.{AreSeen, LifeLaws, lives}
 use Rattle.mm_life.proofs.OptSeen.{items_told, seen_closing, seen_open, seen_shut}
 use Rattle.mm_life.proofs.Sessions.{Leads}
@@ -79,7 +85,7 @@ module _ (meaning : Meaning) (key barrier : List ℕ) (all others : List (List �
 
   -- others extend the register
   module _ (y : History) (old new : Standing) (values : List (List ℕ)) (cell : new.cell ≡ old.cell)
-      (beside_is : new.items ≡ beside values old.items) (seen : IsSeen all others old (Does (Extends values)) new)
+      (beside_is : new.items ≡ beside values old.items) (seen : y.is_open ≡ true → IsSeen all others old (Does (Extends values)) new)
       (stands : StandsFor I old y) (within : IsWithin all others asked I y) where
     abbrev z : History
     z = taking y values
@@ -106,7 +112,7 @@ module _ (meaning : Meaning) (key barrier : List ℕ) (all others : List (List �
         let d : Digests = digests_of I y in
         let told = items_told meaning key barrier old.items (register_value_of I y) stands.register in
         let a : AreShown all others I y (map foreign_item values) =
-        seen_open meaning key barrier all others y old (Does (Extends values)) new seen stands told.0 (map foreign_item values) told.1 e
+        seen_open meaning key barrier all others y old (Does (Extends values)) new (seen e) stands told.0 (map foreign_item values) told.1 e
         (beside_is ∙ ap (λ (xs : Option (List Item)). beside values xs) told.1) in
         let listed : Within (moves_messages I y (map Foreign values)) all =
         rw (messages_looked meaning key barrier values y, ← counted_open y e) (rw (foreign_values values) at a.messages) in
@@ -155,7 +161,7 @@ module _ (meaning : Meaning) (key barrier : List ℕ) (all others : List (List �
 
   -- a checkpoint is made
   module _ (y : History) (old new : Standing) (said : Result Checkpointed CheckpointRefusal) (k : ChecksOn old new said)
-      (seen : IsSeen all others old (Does (Checkpoints said)) new) (stands : StandsFor I old y)
+      (seen : y.is_open ≡ true → IsSeen all others old (Does (Checkpoints said)) new) (stands : StandsFor I old y)
       (within : IsWithin all others asked I y) where
     stays_left : (items more : List Item) → old.items ≡ Some items → new.items ≡ Some (standing_items y.is_open items ++ more)
         → (y.is_open ≡ true → AreShown all others I y more × MayClose all I y more) → Stays all others asked I y new
@@ -174,9 +180,9 @@ module _ (meaning : Meaning) (key barrier : List ℕ) (all others : List (List �
         by_flag true e items known more ends =
             stays_left items more known (ends ∙ ap (λ (f : Bool). Some (standing_items f items ++ more)) (sym e))
             (λ _. (
-              seen_open meaning key barrier all others y old (Does (Checkpoints said)) new seen stands items more known e ends,
-              seen_closing meaning key barrier all others y old (Does (Checkpoints said)) new seen stands items more known e
-                  (rw (stands.cell, ends) at seen.closings),
+              seen_open meaning key barrier all others y old (Does (Checkpoints said)) new (seen e) stands items more known e ends,
+              seen_closing meaning key barrier all others y old (Does (Checkpoints said)) new (seen e) stands items more known e
+                  (rw (stands.cell, ends) at (seen e).closings),
             ))
         by_flag false e items known more ends =
             stays_left items (items ++ more) known
@@ -186,45 +192,90 @@ module _ (meaning : Meaning) (key barrier : List ℕ) (all others : List (List �
     stays_checked : Stays all others asked I y new
     stays_checked = stays_by y.is_open refl
 
-  stays : (y : History) (old : Standing) (deed : Deed) (new : Standing) → IsNoCall deed → IsSeen all others old (Does deed) new
+  stays : (y : History) (old : Standing) (deed : Deed) (new : Standing) → IsNoCall deed
+      → (y.is_open ≡ true → IsSeen all others old (Does deed) new)
       → DeedLeads Opt meaning old deed new → StandsFor I old y → IsWithin all others asked I y → Stays all others asked I y new
   stays y old (Calls c) new quiet seen f stands within = absurd quiet
   stays y old (Extends values) new quiet seen f stands within = stays_extended y old new values f.0 f.1 seen stands within
   stays y old LosesPower new quiet seen f stands within = stays_emptied y old new f.0 f.1 stands within
   stays y old (Checkpoints said) new quiet seen f stands within = stays_checked y old new said f seen stands within
 
+-- a part is still where it is idle
+abbrev IsStill : Standing → List Call → Type 0
+IsStill old calls = is_idle old calls ≡ true
+
+idle_parts : (a b : Bool) → (not a && b) ≡ true → (a ≡ false) × (b ≡ true)
+idle_parts true b e = absurd (cc)
+idle_parts false b e = (refl, e)
+
+few_still : (old : Standing) (calls : List Call) → IsStill old calls → (calls ≡ []) ⊎ ((c : Call) × (calls ≡ c ∷ []))
+few_still old [] e = inl refl
+few_still old (c ∷ []) e = inr (c, refl)
+few_still old (c ∷ next ∷ calls) e = let clash : false ≡ true = (idle_parts (has_open old) false e).1 in absurd (cc)
+
+-- an idle part asks nothing new
+old_not_new : (gives : Result Answer Refusal) → is_old gives ≡ true → IsNotNew (whole_in gives)
+old_not_new (Ok answer) e = e
+old_not_new (Err Memory) e = absurd (cc)
+old_not_new (Err (Device fault)) e = absurd (cc)
+old_not_new (Err _) e = (refl, λ same. cc)
+
 module _ (meaning : Meaning) (lawful : IsLawful meaning) (key barrier : List ℕ) where
   abbrev O : Instance
   O = opt meaning key barrier
 
+  is_shut : (y : History) (old : Standing) → StandsFor O old y → has_open old ≡ false → y.is_open ≡ false
+  is_shut y old s shut =
+      sym (open_told old y.is_open (record { cell = cell_of O y; is_cell = s.spells; tells = s.cell; shows = refl })) ∙ shut
+
   pub opt_life : (all others : List (List ℕ)) (asked : List Batch) → IsClear all → AreNoGuards barrier others asked
-      → LifeLaws all others asked O (IsSeen all others)
+      → LifeLaws all others asked O (IsSeen all others) IsStill
   opt_life all others asked clear apart = record {
     laws = λ final. opt_laws meaning lawful key barrier all others asked final clear apart;
     leads = λ old new offer request gives c d s. (_, (c.goes key barrier d s).stands);
     shows = λ y old part final seen stands reaches leads.
         shows_by meaning key barrier all others asked clear y old part final y.is_open refl seen stands reaches leads;
     stays = λ y old deed new quiet seen f stands within.
-        stays meaning key barrier all others asked clear y old deed new quiet seen f stands within;
+        stays meaning key barrier all others asked clear y old deed new quiet (λ _. seen) f stands within;
+    few = few_still;
+    idles = λ y old new c still makes.
+        let parts = idle_parts _ _ still in
+        is_idle_where meaning key barrier all others asked y old new c.offer c.request (whole_in c.gives) makes.goes makes.stands
+        makes.asks (is_shut y old makes.stands parts.0) (old_not_new c.gives parts.1);
+    stays_still = λ y old deed new quiet still f stands within.
+        stays meaning key barrier all others asked clear y old deed new quiet
+        (λ e. let shut = is_shut y old stands (idle_parts _ _ still).0 in
+        let clash : true ≡ false = sym e ∙ shut in absurd (cc)) f stands within;
   }
 
+  seen_unless : (all others : List (List ℕ)) (old : Standing) (part : Part) (new : Standing) (calls : List Call) (idle : Bool)
+      → is_idle old calls ≡ idle
+      → Within (if idle then [] else shown_messages new.items ++ closing_messages part old.cell new.items) all
+      → AllByRecursion (Contains others) (if idle then [] else option_map_or foreign_items new.items [])
+      → IsSeen all others old part new ⊎ IsStill old calls
+  seen_unless all others old part new calls true e w v = inr e
+  seen_unless all others old part new calls false e w v = inl (record {
+    registers = each_left (Contains all) (shown_messages new.items) (closing_messages part old.cell new.items) w;
+    values = v;
+    closings = each_right (Contains all) (shown_messages new.items) (closing_messages part old.cell new.items) w;
+  })
+
   pub all_seen : (all others : List (List ℕ)) (asked : List Batch) (clear : IsClear all) (apart : AreNoGuards barrier others asked)
-      (start : Standing) (stages : List Stage) → Within (register_messages start stages) all
-      → AllByRecursion (Contains others) (others_values stages) → AreSeen (opt_life all others asked clear apart) start stages
+      (start : Standing) (stages : List Stage) (f : IsLife Opt meaning start stages) → Within (register_messages O start stages f) all
+      → AllByRecursion (Contains others) (others_values O start stages f) → AreSeen (opt_life all others asked clear apart) start stages f
   unfolding opt_life
-  all_seen all others asked clear apart start [] w v = tt
-  all_seen all others asked clear apart start (stage ∷ stages) w v =
-      let shown : List (List ℕ) = shown_messages stage.after.items in
-      let closing : List (List ℕ) = closing_messages stage.part start.cell stage.after.items in
-      let rest : List (List ℕ) = register_messages stage.after stages in
-      let front = each_left (Contains all) (shown ++ closing) rest w in (
-        record {
-          registers = each_left (Contains all) shown closing front;
-          values = each_left (Contains others) (option_map_or foreign_items stage.after.items []) (others_values stages) v;
-          closings = each_right (Contains all) shown closing front;
-        },
-        all_seen all others asked clear apart stage.after stages (each_right (Contains all) (shown ++ closing) rest w)
-            (each_right (Contains others) (option_map_or foreign_items stage.after.items []) (others_values stages) v),
+  all_seen all others asked clear apart start [] f w v = tt
+  all_seen all others asked clear apart start (stage ∷ stages) f w v =
+      let calls : List Call = part_calls Opt meaning start stage.part stage.after f.0 in
+      let shown : List (List ℕ) =
+      unless_idle start calls (shown_messages stage.after.items ++ closing_messages stage.part start.cell stage.after.items) in
+      let values : List (List ℕ) = unless_idle start calls (option_map_or foreign_items stage.after.items []) in (
+        seen_unless all others start stage.part stage.after calls (is_idle start calls) refl
+            (each_left (Contains all) shown (register_messages O stage.after stages f.1) w)
+            (each_left (Contains others) values (others_values O stage.after stages f.1) v),
+        all_seen all others asked clear apart stage.after stages f.1
+            (each_right (Contains all) shown (register_messages O stage.after stages f.1) w)
+            (each_right (Contains others) values (others_values O stage.after stages f.1) v),
       )
 
   -- the first history, on a register that others extended
@@ -251,7 +302,7 @@ module _ (meaning : Meaning) (lawful : IsLawful meaning) (key barrier : List ℕ
 
 pub opt_deeds_stay : OptDeedsStay
 opt_deeds_stay meaning key barrier all others asked y old deed new clear quiet seen f stands within =
-    stays meaning key barrier all others asked clear y old deed new quiet seen f stands within
+    stays meaning key barrier all others asked clear y old deed new quiet (λ _. seen) f stands within
 
 pub opt_is_one : OptLifeIsOne
 unfolding opt_life
@@ -259,14 +310,14 @@ opt_is_one meaning lawful key barrier values start stages f stands clear apart u
     let i : Instance = opt meaning key barrier in
     let all : List (List ℕ) = opt_messages i start stages f in
     let asked : List Batch = life_batches i start stages f in
-    let others : List (List ℕ) = others_values stages in
+    let others : List (List ℕ) = others_values i start stages f in
     let front : List (List ℕ) = life_messages i start stages f in
-    let back : List (List ℕ) = register_messages start stages in
+    let back : List (List ℕ) = register_messages i start stages f in
     let itself = each_self [] all in
     let calls = each_left (Contains all) front back itself in
     let l = (lives (opt_life meaning lawful key barrier all others asked clear apart) stages (first_on values)
     (issued_bytes i first_history ∷ []) start f stands (first_within meaning lawful key barrier values all others asked calls.0)
-    (all_seen meaning lawful key barrier all others asked clear apart start stages (each_right (Contains all) front back itself)
+    (all_seen meaning lawful key barrier all others asked clear apart start stages f (each_right (Contains all) front back itself)
     (each_self [] others)) (first_genuine meaning lawful key barrier values, tt) untagged
     (record { messages = calls.1; batches = each_self [] asked })).0 in
     record {

@@ -1,6 +1,6 @@
 -- A session of a life: its calls one after another, and how it ends, from a history that the platform stands for.
 use Rattle.std.specs.List.{AllByRecursion, Contains}
-use Rattle.std.proofs.Common.{◌≡◌, ℕ, List, [], ◌∷◌, ◌++◌, Result, Ok, Err, refl, inl}
+use Rattle.std.proofs.Common.{◌≡◌, ◌⊎◌, ℕ, List, [], ◌∷◌, ◌++◌, Result, Ok, Err, ◌∙◌, refl, sym, subst, inl, inr}
 use Rattle.std.proofs.lemmas.Grind.{flat_map-append}
 use Rattle.mm_seal.specs.Snapshot.{Content}
 use Rattle.mm_digest.specs.declared.variant.Variant.{Variant}
@@ -14,6 +14,7 @@ use Rattle.mm_model.specs.Messages.{Within}
 use Rattle.mm_model.specs.Moves.{Digests}
 use Rattle.mm_model.specs.Places.{Names}
 use Rattle.mm_model.specs.Standing.{IsGenuine, StandsFor}
+use Rattle.mm_model.specs.declared.answer.Answer.{Answer}
 use Rattle.mm_model.specs.declared.answer.BatchAnswer.{BatchAnswer}
 use Rattle.mm_model.specs.declared.refusal.Refusal.{Refusal}
 use Rattle.mm_call.specs.Asked.{IsWithin, right_messages}
@@ -21,12 +22,13 @@ use Rattle.mm_call.specs.CallsOn.{CallsOn}
 use Rattle.mm_call.specs.Found.{right_content}
 use Rattle.mm_call.specs.Leaving.{whole, whole_in}
 use Rattle.mm_call.specs.Standing.{StandsAt}
-use Rattle.mm_recovery.proofs.Above.{grows}
+use Rattle.mm_call.specs.Premises.{IsIdle}
+use Rattle.mm_recovery.proofs.Above.{Met, grows}
 use Rattle.mm_host.specs.AnySlots.{offered_after}
 use Rattle.mm_host.specs.Continuing.{RunsOver}
 use Rattle.mm_host.specs.Sessions.{Served}
 use Rattle.mm_host.specs.declared.fault.SessionFault.{SessionFault}
-use Rattle.mm_host.proofs.Above.{CallsInTurn, Laws, Reaches, Shows, calls_reach, line_committed, only_by, pending_for, reach_same}
+use Rattle.mm_host.proofs.Above.{CallsInTurn, Laws, Makes, Reaches, Shows, calls_reach, line_committed, only_by, pending_for, reach_same}
 use Rattle.mm_life.specs.Deeds.{Call}
 use Rattle.mm_life.specs.OneList.{IsLastJudged, SessionSteps}
 use Rattle.mm_life.specs.Premises.{issued_in, snapshots_of}
@@ -38,6 +40,10 @@ use Rattle.mm_life.proofs.OneCall.{AreListed, all_genuine, answer_steps, issue_g
 abbrev pub IsFirstGenuine : Instance → History → List Call → Type 0
 IsFirstGenuine i y [] = Unit {0}
 IsFirstGenuine i y (c ∷ calls) = IsGenuine i y c.offer
+
+none_first : (i : Instance) (y : History) (calls : List Call) → calls ≡ [] → IsFirstGenuine i y calls
+none_first i y [] e = tt
+none_first i y (c ∷ calls) e = absurd (cc)
 
 first_by : (i : Instance) (y : History) (bytes : List ℕ) (told : List Served) (untold : List Call)
     → IsFirstOffered (offered_after bytes told) untold → IsGenuine i y bytes → IsFirstGenuine i y (told_calls bytes told ++ untold)
@@ -107,13 +113,20 @@ module _ (i : Instance) (leads : CallsLead i) where
       ends_lead k.ends first.0 first.1
 
 module _ {all others : List (List ℕ)} {asked : List Batch} {i : Instance} {final : Standing} (laws : Laws all others asked i final) where
+  -- what is known of the call that wasn't told: what the register shows, or that it minds none
+  abbrev MayEnd : History → Standing → List ℕ → List Call → Type 0
+  MayEnd y at offer untold =
+      (request : List ℕ) (gives : Result Answer Refusal) → untold ≡ call_of offer request gives ∷ []
+      → Makes all others asked i y at final offer (pending_for request) (whole_in gives)
+      → Shows i.variant all others i y at final ⊎ IsIdle i y offer (One request)
+
   -- behind the calls that were told
   record Turned (y : History) (at : Standing) (offer : List ℕ) (told : List Served) (untold : List Call) : Type 0 where
     after : History
     stands : StandsFor i at after
     within : IsWithin all others asked i after
     names : (content : Content) → Names i y content → Names i after content
-    shows : Shows i.variant all others i after at final
+    may : MayEnd after at (offered_after offer told) untold
     run : RunsOver i.meaning (requests_of y.batches) told (requests_of after.batches)
     issued : AllByRecursion (IsGenuine i after) (snapshots_of (told_calls offer told))
     first : IsFirstGenuine i after untold
@@ -129,7 +142,7 @@ module _ {all others : List (List ℕ)} {asked : List Batch} {i : Instance} {fin
     stands = rw h stands;
     within = within;
     names = λ content n. n;
-    shows = rw h shows;
+    may = λ request gives one m. inl (rw h shows);
     run = refl;
     issued = tt;
     first = first;
@@ -149,7 +162,7 @@ module _ {all others : List (List ℕ)} {asked : List Batch} {i : Instance} {fin
         stands = r.stands;
         within = r.within;
         names = λ content n. r.names content (m.0.names content n);
-        shows = r.shows;
+        may = r.may;
         run = (requests_of m.0.after.batches, answer_steps i y m.0.after offer c.line c.answer m.0.comes, r.run);
         issued = (λ content right. r.names content (g content right), r.issued);
         first = r.first;
@@ -203,9 +216,13 @@ module _ {all others : List (List ℕ)} {asked : List Batch} {i : Instance} {fin
         let made : Call = call_of (offered_after offer told) request gives in
         let first : IsGenuine i r.after (offered_after offer told) = rw is at r.first in
         let listed : AreListed all asked i (made ∷ []) = rw is at r.listed in
-        let m = laws.met_last r.after at (offered_after offer told) (pending_for request) (whole_in gives)
-        (makes_call laws at final (offered_after offer told) request r.after (whole_in gives) c.goes r.stands r.within first
-        listed.batches.0 (listed_first all asked i made [] listed)) r.shows in
+        let makes = makes_call laws at final (offered_after offer told) request r.after (whole_in gives) c.goes r.stands r.within first
+        listed.batches.0 (listed_first all asked i made [] listed) in
+        let m : Met all others asked i r.after final (offered_after offer told) (pending_for request) (whole_in gives) =
+        elim (r.may request gives is makes) [
+          | inl shows ↦ laws.met_last r.after at (offered_after offer told) (pending_for request) (whole_in gives) makes shows
+          | inr idle ↦ laws.idle r.after at final (offered_after offer told) (pending_for request) (whole_in gives) makes idle
+        ] in
         let given = issues_genuine laws at final (offered_after offer told) request gives r.after c m in
         record {
           after = m.after;
@@ -237,3 +254,52 @@ module _ {all others : List (List ℕ)} {asked : List Batch} {i : Instance} {fin
       ended y offer k.at told hand untold
       (turns told y before k.at offer untold k.calls reaches (offered_by k.ends) stands within first listed
       (shows (calls_reach laws offer before k.at told k.calls reaches) (chain_leads i leads k))) result k.ends
+
+  -- a session that made at most one call, which minds no register
+  abbrev pub AreIdle : History → Standing → List Call → Type 0
+  AreIdle y before calls =
+      (c : Call) → calls ≡ c ∷ [] → (new : Standing)
+      → Makes all others asked i y before new c.offer (pending_for c.request) (whole_in c.gives) → IsIdle i y c.offer (One c.request)
+
+  pub chain_idles : (y : History) (before : Standing) (offer : List ℕ) (told : List Served) (hand : List ℕ → Type 0)
+      (untold : List Call) (result : Result Unit SessionFault)
+      → Chain i.variant i.meaning offer before final told hand untold result → StandsFor i before y → IsWithin all others asked i y
+      → IsFirstGenuine i y (told_calls offer told ++ untold) → AreListed all asked i (told_calls offer told ++ untold)
+      → (let calls = told_calls offer told ++ untold in (calls ≡ []) ⊎ ((c : Call) × (calls ≡ c ∷ [])))
+      → AreIdle y before (told_calls offer told ++ untold)
+      → Lived y final (told_calls offer told ++ untold)
+      (λ after. SessionSteps i.meaning (requests_of y.batches) told hand result after)
+  chain_idles y before offer [] hand untold result k stands within first listed few idle =
+      ended y offer k.at [] hand untold (record {
+        after = y;
+        stands = rw k.calls stands;
+        within = within;
+        names = λ content n. n;
+        may = λ request gives one m. inr (idle (call_of offer request gives) one final
+            (subst (λ (x : Standing). Makes all others asked i y x final offer (pending_for request) (whole_in gives)) k.calls m));
+        run = refl;
+        issued = tt;
+        first = first;
+        listed = listed;
+      }) result k.ends
+  chain_idles y before offer (c ∷ []) hand untold result k stands within first listed few idle =
+      let made : Call = call_of offer c.line (Ok c.answer) in
+      let none : untold ≡ [] = elim few [ inl e ↦ absurd (cc) | inr one ↦ cc (one.1) ] in
+      let one : made ∷ untold ≡ made ∷ [] = cc in
+      let call = k.calls.1 in
+      let makes = makes_call laws before k.calls.0 offer c.line y (Ok (whole c.answer)) call.goes stands within first listed.batches.0
+      (listed_first all asked i made untold listed) in
+      let m = laws.idle y before k.calls.0 offer (pending_for c.line) (Ok (whole c.answer)) makes (idle made one k.calls.0 makes) in
+      ended y offer k.at (c ∷ []) hand untold (record {
+        after = m.after;
+        stands = rw k.calls.2 m.stands;
+        within = m.within;
+        names = m.names;
+        may = λ request gives is made_so. let clash : [] ≡ call_of c.answer.snapshot request gives ∷ [] = sym none ∙ is in absurd (cc);
+        run = (requests_of m.after.batches, answer_steps i y m.after offer c.line c.answer m.comes, refl);
+        issued = (issue_genuine laws before k.calls.0 offer c.line c.answer y call m, tt);
+        first = none_first i m.after untold none;
+        listed = listed_rest all asked i made untold listed;
+      }) result k.ends
+  chain_idles y before offer (c ∷ next ∷ told) hand untold result k stands within first listed few idle =
+      elim few [ inl e ↦ absurd (cc) | inr one ↦ let clash = one.1 in absurd (cc) ]

@@ -7,7 +7,7 @@ use Rattle.mm_life.specs.Below.{Pending, Slots, slot_read, IsWaiting, IsInHand, 
 use Rattle.mm_life.specs.Below.{StoreStanding, AreToldOnce, FitsHistory, IsNotBeyond, RefusesAs, Store}
 use Rattle.mm_host.specs.declared.fault.SessionFault.TheVariants.{Host}
 use Rattle.mm_life.specs.Deeds.{Calls}
-use Rattle.mm_life.specs.OneList.{SessionSteps}
+use Rattle.mm_life.specs.OneList.{FollowsOn, SessionSteps}
 use Rattle.mm_life.specs.Premises.{life_batches, life_messages, opt_messages, others_values}
 use Rattle.mm_life.specs.Stages.{Does, Holds, IsLife, Part, PartLeads, Stage, end_of}
 
@@ -114,14 +114,15 @@ GoesOnFrom others i start (stage ∷ stages) f requests after =
     × PartGoesOn others i start stage.part stage.after f.0 requests between
     × GoesOnFrom others i stage.after stages f.1 between after
 
--- A life goes on over one store, from these requests: there is one list that all of it follows; and
--- at its end the platform stands for a history of this list, which the slots fit: so the next
--- session may go on from there.
+-- A life goes on over one store, from these requests: there is one list that all of it follows; so
+-- what a module promises of a life holds of it (`LivesKeepPromises`). And at its end the platform
+-- stands for a history of this list, which the slots fit: so the next session may go on from there.
 pub record IsGoneOnWith (all others : List (List ℕ)) (asked : List Batch) (i : Instance)
     (requests : List (List ℕ)) (kept : StoreStanding) (start : Standing) (stages : List Stage)
     (f : IsLife i.variant i.meaning start stages) : Type 0 where
   pub after : List (List ℕ)
   pub goes : GoesOnFrom others i start stages f requests after
+  pub follows : FollowsOn i.variant i.meaning start stages f requests after
   pub history : History
   pub holds : requests_of history.batches ≡ after
   pub stands : StandsFor i (end_of start stages) history
@@ -157,9 +158,10 @@ OptLifeGoesOn =
     kept.is_honest ≡ true → kept.slots ≡ Some (first_slots (opt meaning key barrier)) →
     IsOverOneStore kept stages →
     IsClear (opt_messages (opt meaning key barrier) start stages f) →
-    AreNoGuards barrier (others_values stages)
+    AreNoGuards barrier (others_values (opt meaning key barrier) start stages f)
     (life_batches (opt meaning key barrier) start stages f) →
     AreNoChance Opt meaning start stages f →
-    IsGoneOnWith (opt_messages (opt meaning key barrier) start stages f) (others_values stages)
+    IsGoneOnWith (opt_messages (opt meaning key barrier) start stages f)
+    (others_values (opt meaning key barrier) start stages f)
     (life_batches (opt meaning key barrier) start stages f) (opt meaning key barrier) [] kept start
     stages f

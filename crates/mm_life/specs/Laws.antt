@@ -32,18 +32,20 @@ BasicLifeIsOne =
 
 -- Opt, from a register that others had extended by these values: the same, where besides the
 -- messages by which the register's items went into it share no digest, as it shows them behind each
--- part, and no value of others is the guard of a request that was asked.
+-- part, and no value of others is the guard of a request that was asked. Nothing of this is asked
+-- of a part in which no segment is open and nothing new is asked.
 abbrev pub OptLifeIsOne : Type 0
 OptLifeIsOne =
     (meaning : Meaning) → IsLawful meaning → (key barrier : List ℕ) (values : List (List ℕ))
     (start : Standing) (stages : List Stage) (f : IsLife Opt meaning start stages) →
     StandsFor (opt meaning key barrier) start (first_on values) →
     IsClear (opt_messages (opt meaning key barrier) start stages f) →
-    AreNoGuards barrier (others_values stages)
+    AreNoGuards barrier (others_values (opt meaning key barrier) start stages f)
     (life_batches (opt meaning key barrier) start stages f) →
     AreUntagged (opt meaning key barrier)
     (issued_bytes (opt meaning key barrier) first_history ∷ []) start stages f →
-    IsOneWhole (opt_messages (opt meaning key barrier) start stages f) (others_values stages)
+    IsOneWhole (opt_messages (opt meaning key barrier) start stages f)
+    (others_values (opt meaning key barrier) start stages f)
     (life_batches (opt meaning key barrier) start stages f) (opt meaning key barrier)
     (issued_over (opt meaning key barrier) start stages f) start stages f
 

@@ -1,11 +1,12 @@
 -- What is asked of a life, all of it of bytes and of calls that were made.
-use Rattle.std.specs.Prelude.{ℕ, List, [], ◌∷◌, ◌++◌, drop, map, take, Option, Some, Result, Ok, Err}
+use Rattle.std.specs.Prelude.{ℕ, List, [], ◌∷◌, ◌++◌, drop, map, take, Option, Some, Result, Ok, Err, if◌then◌else◌}
 use Rattle.std.specs.List.{Contains, flat_map}
 use Rattle.std.specs.Option.{option_map_or}
 use Rattle.mm_life.specs.Below.{anchored_message, extended_message, start_message, zero_bytes, Content, Item, Standing}
 use Rattle.mm_life.specs.Below.{item_values, Batch, One, after, Instance, register_trail, IsRight, right_messages}
 use Rattle.mm_life.specs.Below.{right_content, foreign_items, Answer, Refusal}
 use Rattle.mm_life.specs.Deeds.{Call, Checkpoints}
+use Rattle.mm_life.specs.Idle.{is_idle}
 use Rattle.mm_life.specs.Stages.{Does, IsLife, Part, Stage, life_calls, part_calls}
 
 -- the snapshots that these calls issued, told or not
@@ -46,8 +47,9 @@ call_messages i calls =
     start_message i.variant i.meaning.id
     ∷ flat_map (λ c. right_messages i (One c.request) (right_content i c.offer)) calls
 
--- In Opt, behind each part of a life: those by which the register's items went into it; and of a
--- checkpoint those by which it may close the segment in front of, between and behind these.
+-- In Opt, behind each part of a life that isn't idle: those by which the register's items went into
+-- it; and of a checkpoint those by which it may close the segment in front of, between and behind
+-- these.
 abbrev pub shown_messages : Option (List Item) → List (List ℕ)
 shown_messages items = option_map_or (λ shown. register_trail (item_values shown)) items []
 
@@ -66,16 +68,28 @@ closing_messages (Does (Checkpoints said)) (Some cell) (Some items) =
     closings (digest_in cell) zero_bytes (item_values items)
 closing_messages _ _ _ = []
 
-abbrev pub register_messages : Standing → List Stage → List (List ℕ)
-register_messages start [] = []
-register_messages start (stage ∷ stages) =
-    shown_messages stage.after.items
-    ++ closing_messages stage.part start.cell stage.after.items
-    ++ register_messages stage.after stages
+-- nothing of a part that is idle
+abbrev pub unless_idle : Standing → List Call → List (List ℕ) → List (List ℕ)
+unless_idle old calls asked = if is_idle old calls then [] else asked
 
--- the values by which others extended the register, as it shows them behind each part
-abbrev pub others_values : List Stage → List (List ℕ)
-others_values stages = flat_map (λ stage. option_map_or foreign_items stage.after.items []) stages
+abbrev pub register_messages : (i : Instance) (start : Standing) (stages : List Stage)
+    → IsLife i.variant i.meaning start stages → List (List ℕ)
+register_messages i start [] f = []
+register_messages i start (stage ∷ stages) f =
+    unless_idle start (part_calls i.variant i.meaning start stage.part stage.after f.0)
+    (shown_messages stage.after.items
+    ++ closing_messages stage.part start.cell stage.after.items)
+    ++ register_messages i stage.after stages f.1
+
+-- the values by which others extended the register, as it shows them behind each part that isn't
+-- idle
+abbrev pub others_values : (i : Instance) (start : Standing) (stages : List Stage)
+    → IsLife i.variant i.meaning start stages → List (List ℕ)
+others_values i start [] f = []
+others_values i start (stage ∷ stages) f =
+    unless_idle start (part_calls i.variant i.meaning start stage.part stage.after f.0)
+    (option_map_or foreign_items stage.after.items [])
+    ++ others_values i stage.after stages f.1
 
 abbrev pub life_batches : (i : Instance) (start : Standing) (stages : List Stage)
     → IsLife i.variant i.meaning start stages → List Batch
@@ -87,4 +101,4 @@ life_messages i start stages f = call_messages i (life_calls i.variant i.meaning
 
 abbrev pub opt_messages : (i : Instance) (start : Standing) (stages : List Stage)
     → IsLife i.variant i.meaning start stages → List (List ℕ)
-opt_messages i start stages f = life_messages i start stages f ++ register_messages start stages
+opt_messages i start stages f = life_messages i start stages f ++ register_messages i start stages f

@@ -2,6 +2,7 @@
 
 ghost use Rattle.mm_life.specs.Doing.{CyclesAreDeeds, ReadsAreDeeds};
 ghost use Rattle.mm_life.specs.Staying.{BasicDeedsStay, OptDeedsStay};
+ghost use Rattle.mm_life.specs.Writes.{BasicLivesWriteOnce, OptLivesWriteOnce};
 ghost use Rattle.mm_life.specs.Laws.{BasicLifeIsOne, LivesKeepPromises, LivesTellWhatWasSaid, NextMayStart, OptLifeIsOne, SessionsOfferSlots};
 
 use mm_schedule::laws::{runs_keep_promises, tells_what_was_said};
@@ -55,3 +56,10 @@ pub fn lives_keep_promises()
 {
     runs_keep_promises();
 }
+
+/// How often the cell is written over a life: in Basic once for each request that was told for the first time, and in Opt
+/// once for each segment that was opened or closed; and at most once for what was in hand at each stop.
+pub fn lives_write_once()
+    ensures basic { BasicLivesWriteOnce }
+    ensures opt { OptLivesWriteOnce }
+{}

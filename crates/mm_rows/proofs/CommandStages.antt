@@ -55,7 +55,7 @@ sees_it variant it held found bytes same id formed spelled sees =
     sees.found_is ∙ ap instance_found read ∙ (λ j. header_found (same j) (module_with (id j)))
     ∙ ap (header_found variant) (any_is_found it).by_id
 
-finds_it : (variant : Variant) (it : AnyModule) (held : Held) (fault : Option StepFault) (before : Standing) (found : Result Header Status)
+pub finds_it : (variant : Variant) (it : AnyModule) (held : Held) (fault : Option StepFault) (before : Standing) (found : Result Header Status)
     → held.variant ≡ variant → held.«module» ≡ (meaning_of it).id → IsCell held → before.cell ≡ Some (cell_spelling held) → fault ≡ None
     → FindsInstance fault before found → found ≡ Ok (record { variant = variant; «module» = it })
 finds_it variant it held (Some fault) before found same id formed told none finds = cc

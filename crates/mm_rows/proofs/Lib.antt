@@ -4,3 +4,6 @@ mod Beginning
 mod OldCopies
 mod WholeLives
 mod CommandStages
+mod CommandLists
+mod CommandsKeeping
+mod HostRuns

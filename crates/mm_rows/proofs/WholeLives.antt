@@ -45,7 +45,7 @@ first_seen i short = take_all longest_slot (issued_bytes i first_history) (fits_
 first_in : (bytes : List ℕ) (more : List (List ℕ)) → Contains (bytes ∷ more) bytes
 first_in bytes more = (0, omega arith, refl)
 
-first_is_old : (i : Instance) → length (issued_bytes i first_history) ≤ 1048690 → (y : History) → IsFirstStore i y → FirstSlotsAreOld i
+pub first_is_old : (i : Instance) → length (issued_bytes i first_history) ≤ 1048690 → (y : History) → IsFirstStore i y → FirstSlotsAreOld i
 first_is_old i short y first more waiting w content right =
     let slots : Slots = first_slots i in
     let none : waiting ≡ None = one_waiting (slot_read slots 2) (slot_read slots 3) waiting first.fits.waiting w first.fits.is_waiting
@@ -54,7 +54,7 @@ first_is_old i short y first more waiting w content right =
     rw offers (first_in (issued_bytes i first_history) more)
 
 -- what a session offers first is what its slots show
-first_by : (i : Instance) (issued : List (List ℕ)) (bytes : List ℕ) (calls : List Call) → IsUntagged i issued bytes
+pub first_by : (i : Instance) (issued : List (List ℕ)) (bytes : List ℕ) (calls : List Call) → IsUntagged i issued bytes
     → IsFirstOffered bytes calls → IsFirstUntagged i issued calls
 first_by i issued bytes [] u o = tt
 first_by i issued bytes (c ∷ calls) u o = rw o u
@@ -77,10 +77,10 @@ module _ (offers : SessionsOfferSlots) (i : Instance) (issued : List (List ℕ))
   start_untagged slots is old = copy_untagged (subst (λ (x : Slots). IsOldCopy i issued x) (sym is) old)
 
 -- the first snapshots are short
-basic_short : (meaning : Meaning) → IsLawful meaning → (key : List ℕ) → length (issued_bytes (basic meaning key) first_history) ≤ 1048690
+pub basic_short : (meaning : Meaning) → IsLawful meaning → (key : List ℕ) → length (issued_bytes (basic meaning key) first_history) ≤ 1048690
 basic_short meaning lawful key = sealed_of-most _ _ (basic_content meaning lawful key first_history (omega arith))
 
-opt_short : (meaning : Meaning) → IsLawful meaning → (key barrier : List ℕ)
+pub opt_short : (meaning : Meaning) → IsLawful meaning → (key barrier : List ℕ)
     → length (issued_bytes (opt meaning key barrier) first_history) ≤ 1048690
 opt_short meaning lawful key barrier = sealed_of-most _ _ (opt_content meaning lawful key barrier first_history (omega arith))
 

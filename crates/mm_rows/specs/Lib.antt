@@ -5,3 +5,6 @@ pub mod FirstSession
 pub mod OldCopy
 pub mod Lives
 pub mod CommandLives
+pub mod Commands
+pub mod CommandPromises
+pub mod Verbs

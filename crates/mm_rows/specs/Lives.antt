@@ -80,14 +80,15 @@ abbrev pub IsWholeInOpt : Instance → TwoCell Torn → Stage → List Stage →
 IsWholeInOpt i start stage stages copy =
     (f : IsLife i.variant i.meaning (two_cells start) (stage ∷ stages)) →
     IsClear (opt_messages i (two_cells start) (stage ∷ stages) f) →
-    AreNoGuards i.barrier (others_values (stage ∷ stages))
+    AreNoGuards i.barrier (others_values i (two_cells start) (stage ∷ stages) f)
     (life_batches i (two_cells start) (stage ∷ stages) f) →
     IsOldCopy i
     (issued_bytes i first_history
     ∷ snapshots_of (part_calls i.variant i.meaning (two_cells start) stage.part stage.after f.0))
     copy →
     IsOneWhole (opt_messages i (two_cells start) (stage ∷ stages) f)
-    (others_values (stage ∷ stages)) (life_batches i (two_cells start) (stage ∷ stages) f) i
+    (others_values i (two_cells start) (stage ∷ stages) f)
+    (life_batches i (two_cells start) (stage ∷ stages) f) i
     (issued_over i (two_cells start) (stage ∷ stages) f) (two_cells start) (stage ∷ stages) f
 
 -- The slots of the first start are an old copy, whatever else was issued: so where they are put

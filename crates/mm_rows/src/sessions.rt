@@ -41,7 +41,7 @@ pub fn start<M: Module>(
 }
 
 // A memory has its 209 bytes, so that a cell is told.
-fn tells_cell(platform: &TwoCell<MemRaw>)
+pub(crate) fn tells_cell(platform: &TwoCell<MemRaw>)
     ensures { (cell : List ℕ) × ((two_cells platform.now).cell ≡ Some cell) }
 {
     let bytes = platform.raw().bytes();

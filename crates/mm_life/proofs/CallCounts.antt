@@ -1,0 +1,245 @@
+-- What the calls of a part of a life were to write: by what they told, and by the last one.
+use Rattle.std.proofs.Common.{◌≡◌, ◌≤◌, ◌∙◌, ◌+◌, ℕ, zero, suc, Bool, true, false, List, [], ◌∷◌, Option, None, Some, Result}
+use Rattle.std.proofs.Common.{Ok, Err, arith, refl, sym, ap, subst, inl, inr}
+use Rattle.mm_base.specs.declared.replay_fault.ReplayFault.TheVariants.{WriteFault}
+use Rattle.mm_digest.specs.declared.variant.Variant.{Variant}
+use Rattle.mm_digest.specs.declared.variant.Variant.TheVariants.{Basic, Opt}
+use Rattle.mm_platform.specs.Standing.{Standing}
+use Rattle.mm_platform.specs.declared.fault.StepFault.{StepFault}
+use Rattle.mm_module.specs.Meaning.{Meaning}
+use Rattle.mm_model.specs.declared.answer.Answer.{Answer}
+use Rattle.mm_model.specs.declared.refusal.Refusal.{Refusal}
+use Rattle.mm_model.specs.declared.refusal.Refusal.TheVariants.{Device}
+use Rattle.mm_call.specs.Refusals.{fault_of}
+use Rattle.mm_call.specs.Standing.{counted_by}
+use Rattle.mm_store.specs.declared.fault.StoreFault.{StoreFault}
+use Rattle.mm_store.specs.declared.fault.StoreFault.TheVariants as store
+use Rattle.mm_recovery.specs.Asking.{IsCall}
+use Rattle.mm_recovery.specs.CellWrites.{TellsFlag, WritesFor, is_open_after, new_by, openings}
+use Rattle.mm_recovery.specs.Faults.{refusal_fault, store_fault_as}
+use Rattle.mm_recovery.specs.declared.fault.HostFault.{HostFault}
+use Rattle.mm_recovery.specs.declared.resuming.Resumed.{Resumed}
+use Rattle.mm_recovery.proofs.Above.{AnsweredWrites, both_writes, joined, leads_rest, new_most, rests}
+use Rattle.mm_host.specs.Sessions.{SendsReply, Served, comes_as}
+use Rattle.mm_host.specs.declared.fault.SessionFault.{SessionFault}
+use Rattle.mm_host.specs.declared.fault.SessionFault.TheVariants.{Host, Lines}
+use Rattle.mm_host.proofs.Above.{CallsInTurn, TellsCall}
+use Rattle.mm_life.specs.Deeds.{Call}
+use Rattle.mm_life.specs.Idle.{has_open}
+use Rattle.mm_life.specs.OneList.{call_replies, told_replies}
+use Rattle.mm_life.specs.Writes.{call_stop}
+use Rattle.mm_life.specs.Writes.{fault_stop, host_stop, new_replies, refusal_stop, session_stop}
+use Rattle.mm_life.specs.Writes.{turned, turned_unless}
+use Rattle.mm_life.proofs.Chains.{Ends, rests as at_rest, stops}
+use Rattle.mm_life.proofs.Idling.{open_told}
+
+-- What was answered or refused, and told so, came to a stop where a request may be in hand.
+module _ (came : Result Resumed HostFault) (sent : List ℕ) (fault : SessionFault) (says : SendsReply came sent (Err fault)) where
+  stop_by : ((why : HostFault) → came ≡ Err why → host_stop why ≡ 1) → session_stop (Err fault) ≡ 1
+  stop_by h = elim says [
+    | inl s ↦ by_came came refl s.1
+    | inr s ↦
+        let is : fault ≡ Lines WriteFault = cc in ap (λ (f : SessionFault). session_stop (Err f)) is
+  ]
+    where
+      by_came : (it : Result Resumed HostFault) → came ≡ it → (let r : Result Resumed SessionFault = Err fault in r ≡ comes_as it)
+          → session_stop (Err fault) ≡ 1
+      by_came (Ok resumed) e s = absurd (cc)
+      by_came (Err why) e s =
+          let is : fault ≡ Host why = cc in ap (λ (f : SessionFault). session_stop (Err f)) is ∙ h why e
+
+  store_stop : (why : StoreFault) → host_stop (store_fault_as why) ≡ 1
+  store_stop store.Memory = refl
+  store_stop store.Failed = refl
+
+  stop_answered : (answer : Answer) → TellsCall (Ok answer) came → session_stop (Err fault) ≡ 1
+  stop_answered answer (inl told) = stop_by (λ why e. absurd (cc))
+  stop_answered answer (inr failed) =
+      stop_by (λ why e. let is : why ≡ store_fault_as failed.0 = cc in ap host_stop is ∙ store_stop failed.0)
+
+  device_stop : (why : Refusal) (broken : StepFault) → fault_of why ≡ Some broken → host_stop (refusal_fault why) ≡ 1
+  device_stop (Device f) broken e = refl
+  device_stop _ broken e = absurd (cc)
+
+  stop_refused : (why : Refusal) (broken : StepFault) → fault_of why ≡ Some broken → TellsCall (Err why) came
+      → session_stop (Err fault) ≡ 1
+  stop_refused why broken e t =
+      stop_by (λ came_to is. let same : came_to ≡ refusal_fault why = cc in ap host_stop same ∙ device_stop why broken e)
+
+-- What the last call of a part, or none, was to write; without a stop it leaves the cell.
+pub record LastWrites (variant : Variant) (at final : Standing) (stop : ℕ) : Type 0 where
+  pub in_hand : ℕ
+  pub few : in_hand ≤ stop
+  pub writes : WritesFor variant in_hand at final
+  pub still : stop ≡ 0 → final.cell ≡ at.cell
+
+last_none : (variant : Variant) (at final : Standing) (stop : ℕ) → final ≡ at → LastWrites variant at final stop
+last_none variant at final stop same = record {
+  in_hand = 0;
+  few = omega arith;
+  writes = rests variant at final same;
+  still = λ z. ap (λ (x : Standing). x.cell) same;
+}
+
+module _ {variant : Variant} {meaning : Meaning} where
+  last_refused : (at final : Standing) (offer request : List ℕ) (why : Refusal) (stop : ℕ) (broken : Option StepFault)
+      → IsCall variant meaning at final offer request (Err why) → fault_of why ≡ broken
+      → ((f : StepFault) → broken ≡ Some f → stop ≡ 1) → LastWrites variant at final stop
+  last_refused at final offer request why stop None c e h =
+      let none : c.counts.requests ≡ 0 = rw e at c.counts.new in record {
+        in_hand = c.counts.requests;
+        few = omega (arith, none);
+        writes = c.counts.writes;
+        still = λ z. (c.untouched e).cell;
+      }
+  last_refused at final offer request why stop (Some f) c e h =
+      let one : c.counts.requests ≤ 1 = rw e at c.counts.new in
+      let stopped : stop ≡ 1 = h f refl in
+      record {
+        in_hand = c.counts.requests;
+        few = omega (arith, one, stopped);
+        writes = c.counts.writes;
+        still = λ z. absurd (omega (arith, stopped, z));
+      }
+
+  last_answered : (at final : Standing) (offer request : List ℕ) (answer : Answer) (stop : ℕ)
+      → IsCall variant meaning at final offer request (Ok answer) → stop ≡ 1 → LastWrites variant at final stop
+  last_answered at final offer request answer stop c stopped =
+      let one = new_most answer.again c.counts.requests c.counts.new in
+      record {
+        in_hand = c.counts.requests;
+        few = omega (arith, one, stopped);
+        writes = c.counts.writes;
+        still = λ z. absurd (omega (arith, stopped, z));
+      }
+
+  pub ends_writes : {at final : Standing} {offer : List ℕ} {hand : List ℕ → Type 0} {calls : List Call} {result : Result Unit SessionFault}
+      → Ends variant meaning at final offer hand calls result → LastWrites variant at final (session_stop result)
+  ends_writes {at} {final} {result = result} (at_rest same none) = last_none variant at final (session_stop result) same
+  ends_writes {at} {final} {offer} (stops request h gives c is came t sent fault says ends) =
+      subst (λ (r : Result Unit SessionFault). LastWrites variant at final (session_stop r)) (sym ends) (by_gives gives c t)
+    where
+      by_gives : (gives : Result Answer Refusal) → IsCall variant meaning at final offer request gives → TellsCall gives came
+          → LastWrites variant at final (session_stop (Err fault))
+      by_gives (Ok answer) c t =
+          last_answered at final offer request answer (session_stop (Err fault)) c (stop_answered came sent fault says answer t)
+      by_gives (Err why) c t =
+          last_refused at final offer request why (session_stop (Err fault)) (fault_of why) c refl
+          (λ f e. stop_refused came sent fault says why f e t)
+
+-- one that was answered
+call_answered : (variant : Variant) {meaning : Meaning} {old new : Standing} {offer request : List ℕ} {answer : Answer}
+    → IsCall variant meaning old new offer request (Ok answer) → AnsweredWrites variant (new_by answer.again) old new
+call_answered Basic {old = old} {new = new} c =
+    record { writes = subst (λ (n : ℕ). WritesFor Basic n old new) c.counts.new c.counts.writes; leads = tt }
+call_answered Opt {old = old} {new = new} c = record {
+  writes = subst (λ (n : ℕ). WritesFor Opt n old new) c.counts.new c.counts.writes;
+  leads = inr (rw c.counts.new at c.counts.leaves);
+}
+
+-- What a part's calls were to write: those that told so many requests for the first time, and the last one.
+pub record CallsWrite (variant : Variant) (old new : Standing) (told stop : ℕ) : Type 0 where
+  pub at : Standing
+  pub answered : AnsweredWrites variant told old at
+  pub last : LastWrites variant at new stop
+
+module _ (variant : Variant) (meaning : Meaning) where
+  pub told_write : (told : List Served) (offer : List ℕ) (before at : Standing) → CallsInTurn variant meaning offer before told at
+      → AnsweredWrites variant (new_replies (told_replies told)) before at
+  told_write [] offer before at h =
+      record { writes = rests variant before at h; leads = leads_rest variant before at h }
+  told_write (c ∷ told) offer before at h =
+      both_writes variant (new_by c.answer.again) (new_replies (told_replies told)) before h.0 at (call_answered variant h.1)
+      (told_write told c.answer.snapshot h.0 at h.2)
+
+  pub call_writes : (old new : Standing) (offer request : List ℕ) (gives : Result Answer Refusal)
+      → IsCall variant meaning old new offer request gives → CallsWrite variant old new (new_replies (call_replies gives)) (call_stop gives)
+  call_writes old new offer request (Ok answer) c =
+      let more : new_by answer.again ≡ new_by answer.again + 0 = omega arith in
+      record {
+        at = new;
+        answered = subst (λ (n : ℕ). AnsweredWrites variant n old new) more (call_answered variant c);
+        last = last_none variant new new 0 refl;
+      }
+  call_writes old new offer request (Err why) c = record {
+    at = old;
+    answered = record { writes = rests variant old old refl; leads = leads_rest variant old old refl };
+    last = last_refused old new offer request why (refusal_stop why) (fault_of why) c refl
+        (λ f e. ap fault_stop e);
+  }
+
+-- the count of a part, from what was due and in hand
+pub record Counts (old new : Standing) (stop due : ℕ) : Type 0 where
+  pub in_hand : ℕ
+  pub few : in_hand ≤ stop
+  pub writes : new.writes ≡ counted_by (due + in_hand) old.writes
+
+pub counts_by : (old new : Standing) (stop due in_hand written : ℕ) → in_hand ≤ stop → written ≡ due + in_hand
+    → new.writes ≡ counted_by written old.writes → Counts old new stop due
+counts_by old new stop due in_hand written few is writes =
+    record { in_hand = in_hand; few = few; writes = subst (λ (n : ℕ). new.writes ≡ counted_by n old.writes) is writes }
+
+-- Basic: a call writes the cell where it told a request for the first time
+pub basic_counts : (old new : Standing) (told stop : ℕ) → CallsWrite Basic old new told stop → Counts old new stop told
+basic_counts old new told stop c = record {
+  in_hand = c.last.in_hand;
+  few = c.last.few;
+  writes = joined Basic told c.last.in_hand old c.at new c.answered.leads c.answered.writes c.last.writes;
+}
+
+-- Opt: by the flag
+pub turned_same : (flag : Bool) → turned flag flag ≡ 0
+turned_same true = refl
+turned_same false = refl
+
+turned_by : (flag : Bool) (n : ℕ) → openings flag n ≡ turned flag (is_open_after flag n)
+turned_by true zero = refl
+turned_by true (suc n) = refl
+turned_by false zero = refl
+turned_by false (suc n) = refl
+
+after_none : (flag : Bool) → is_open_after flag 0 ≡ flag
+after_none true = refl
+after_none false = refl
+
+openings_most : (flag : Bool) (n : ℕ) → openings flag n ≤ 1
+openings_most true n = omega arith
+openings_most false zero = omega arith
+openings_most false (suc n) = omega arith
+
+-- a part without a stop was to write the cell where it turned the flag
+pub turning : (stop : ℕ) (before after : Bool) (old new : Standing) (written : ℕ) → written ≤ 1 → (stop ≡ 0 → written ≡ turned before after)
+    → new.writes ≡ counted_by written old.writes → Counts old new stop (turned_unless stop before after)
+turning zero before after old new written most whole writes =
+    let is = whole refl in
+    counts_by old new 0 (turned before after) 0 written (omega arith) (omega (arith, is)) writes
+turning (suc stop) before after old new written most whole writes =
+    counts_by old new (suc stop) 0 written written (omega (arith, most)) (omega arith) writes
+
+module _ (old new : Standing) (told stop : ℕ) (c : CallsWrite Opt old new told stop) (flag : Bool) (t : TellsFlag old flag) where
+  abbrev n : ℕ
+  n = told + c.last.in_hand
+
+  flag_then : TellsFlag c.at (is_open_after flag told)
+  flag_then = elim c.answered.leads [
+    | inl none ↦ rw (none.0, none.1, after_none flag) t
+    | inr leads ↦ leads.leaves flag t
+  ]
+
+  flag_new : stop ≡ 0 → TellsFlag new (is_open_after flag told)
+  flag_new z =
+      let f = flag_then in
+      record { cell = f.cell; is_cell = f.is_cell; tells = c.last.still z ∙ f.tells; shows = f.shows }
+
+  opt_whole : stop ≡ 0 → openings flag n ≡ turned (has_open old) (has_open new)
+  opt_whole z =
+      let few = c.last.few in
+      let none : n ≡ told = omega (arith, few, z) in
+      ap (openings flag) none ∙ turned_by flag told
+      ∙ ap (λ (x : Bool). turned x (is_open_after flag told)) (sym (open_told old flag t))
+      ∙ ap (λ (x : Bool). turned (has_open old) x) (sym (open_told new (is_open_after flag told) (flag_new z)))
+
+  pub opt_counts : Counts old new stop (turned_unless stop (has_open old) (has_open new))
+  opt_counts =
+      let w = joined Opt told c.last.in_hand old c.at new c.answered.leads c.answered.writes c.last.writes in
+      turning stop (has_open old) (has_open new) old new (openings flag n) (openings_most flag n) opt_whole (w.opens flag t)

@@ -1,0 +1,125 @@
+-- How much longer a life makes its list of requests.
+use Rattle.std.specs.Prelude.{IsSome}
+use Rattle.std.proofs.Common.{◌≡◌, ◌≤◌, ◌∙◌, ◌+◌, ℕ, Bool, true, false, List, [], ◌∷◌, ◌++◌, Option, None, Some, Result}
+use Rattle.std.proofs.Common.{Ok, Err, length, length-append, arith, refl, ap, inl, inr}
+use Rattle.mm_base.specs.declared.replay_fault.ReplayFault.{ReplayFault}
+use Rattle.mm_digest.specs.declared.variant.Variant.{Variant}
+use Rattle.mm_platform.specs.Standing.{Standing}
+use Rattle.mm_platform.specs.declared.fault.StepFault.{StepFault}
+use Rattle.mm_module.specs.Batch.{One}
+use Rattle.mm_module.specs.Meaning.{Meaning}
+use Rattle.mm_model.specs.declared.answer.Answer.{Answer}
+use Rattle.mm_model.specs.declared.refusal.Refusal.{Refusal}
+use Rattle.mm_call.specs.Refusals.{fault_of}
+use Rattle.mm_schedule.specs.Machine.{StepsOn}
+use Rattle.mm_schedule.specs.declared.reply.Reply.{Reply}
+use Rattle.mm_schedule.specs.declared.reply.Reply.TheVariants.{Told}
+use Rattle.mm_recovery.specs.CellWrites.{new_by}
+use Rattle.mm_recovery.specs.Recovery.{MayHaveCommitted}
+use Rattle.mm_recovery.specs.declared.fault.HostFault.{HostFault}
+use Rattle.mm_recovery.specs.declared.fault.HostFault.TheVariants.{Refused}
+use Rattle.mm_host.specs.Continuing.{MayBeUntold, RunsOver}
+use Rattle.mm_host.specs.Sessions.{Served}
+use Rattle.mm_host.specs.declared.fault.SessionFault.{SessionFault}
+use Rattle.mm_host.specs.declared.fault.SessionFault.TheVariants.{Host, Lines}
+use Rattle.mm_life.specs.Deeds.{Calls, Checkpoints, Extends, LosesPower}
+use Rattle.mm_life.specs.OneList.{CallSteps, FollowsOn, PartSteps, SessionSteps, call_replies, life_replies, part_replies, told_replies}
+use Rattle.mm_life.specs.SessionCalls.{InHandOf, told_by}
+use Rattle.mm_life.specs.Stages.{Does, Holds, IsLife, Part, PartLeads, Stage}
+use Rattle.mm_life.specs.Writes.{call_stop, checkpoint_stop}
+use Rattle.mm_life.specs.Writes.{fault_stop, host_stop, new_replies, part_stop, refusal_stop, session_stop, stops_in}
+
+pub new_append : (xs ys : List Reply) → new_replies (xs ++ ys) ≡ new_replies xs + new_replies ys
+new_append [] ys = omega arith
+new_append (x ∷ xs) ys = let rest = new_append xs ys in omega (arith, rest)
+
+-- The list: the requests that were told for the first time, and at most one more at each stop.
+pub record IsLonger (before after : List (List ℕ)) (told stop : ℕ) : Type 0 where
+  pub kept : ℕ
+  pub few : kept ≤ stop
+  pub listed : length after ≡ length before + (told + kept)
+
+longer_none : (before after : List (List ℕ)) (stop : ℕ) → after ≡ before → IsLonger before after 0 stop
+longer_none before after stop e =
+    let same : length after ≡ length before = ap length e in
+    record { kept = 0; few = omega arith; listed = omega (arith, same) }
+
+longer_one : (before after : List (List ℕ)) (request : List ℕ) (stop : ℕ) → stop ≡ 1 → after ≡ before ++ request ∷ []
+    → IsLonger before after 0 stop
+longer_one before after request stop one e =
+    let more : length after ≡ length before + length (request ∷ []) = ap length e ∙ length-append before (request ∷ []) in
+    record { kept = 1; few = omega (arith, one); listed = omega (arith, more) }
+
+refused_untold : (broken : Option StepFault) → IsSome broken → fault_stop broken ≡ 1
+refused_untold None u = absurd (cc)
+refused_untold (Some fault) u = refl
+
+host_untold : (fault : HostFault) → MayHaveCommitted {T = Unit} (Err fault) → host_stop fault ≡ 1
+host_untold (Refused why) u = refused_untold (fault_of why) u
+host_untold _ u = refl
+
+untold_stop : (result : Result Unit SessionFault) → MayBeUntold result → session_stop result ≡ 1
+untold_stop (Ok it) u = absurd u
+untold_stop (Err (Host fault)) u = host_untold fault u
+untold_stop (Err (Lines fault)) u = ap (λ (f : ReplayFault). session_stop (Err (Lines f))) u
+
+module _ (meaning : Meaning) where
+  step_longer : (again : Bool) (position : ℕ) (outputs : List (List ℕ)) (request : List ℕ) (before after : List (List ℕ))
+      → StepsOn meaning before (One request) (Told again position outputs) after → length after ≡ length before + new_by again
+  step_longer false position outputs request before after s =
+      ap length s.grown ∙ length-append before (request ∷ [])
+  step_longer true position outputs request before after s =
+      let same : length after ≡ length before = ap length s.2 in omega (arith, same)
+
+  run_longer : (told : List Served) (before after : List (List ℕ)) → RunsOver meaning before told after
+      → length after ≡ length before + new_replies (told_replies told)
+  run_longer [] before after run = let same : length after ≡ length before = ap length run in omega (arith, same)
+  run_longer (c ∷ told) before after run =
+      let first = step_longer c.answer.again _ _ c.line before run.0 run.1 in
+      let rest = run_longer told run.0 after run.2 in
+      omega (arith, first, rest)
+
+  session_longer : (told : List Served) (hand : List ℕ → Type 0) (result : Result Unit SessionFault) (before after : List (List ℕ))
+      → SessionSteps meaning before told hand result after → IsLonger before after (new_replies (told_replies told)) (session_stop result)
+  session_longer told hand result before after s =
+      let run = run_longer told before s.between s.run in
+      let more : IsLonger s.between after 0 (session_stop result) = elim s.committed [
+        | inl same ↦ longer_none s.between after (session_stop result) same
+        | inr untold ↦
+            longer_one s.between after untold.request (session_stop result) (untold_stop result untold.untold) untold.grown
+      ] in
+      record { kept = more.kept; few = more.few; listed = omega (arith, run, more.listed) }
+
+  call_longer : (request : List ℕ) (gives : Result Answer Refusal) (before after : List (List ℕ))
+      → CallSteps meaning before request gives after → IsLonger before after (new_replies (call_replies gives)) (call_stop gives)
+  call_longer request (Ok answer) before after s =
+      let more = step_longer answer.again _ _ request before after s in
+      record { kept = 0; few = omega arith; listed = omega (arith, more) }
+  call_longer request (Err why) before after (inl same) = longer_none before after (refusal_stop why) same
+  call_longer request (Err why) before after (inr untold) =
+      longer_one before after request (refusal_stop why) (refused_untold (fault_of why) untold.0) untold.1
+
+module _ (variant : Variant) (meaning : Meaning) where
+  part_longer : (old : Standing) (part : Part) (new : Standing) (f : PartLeads variant meaning old part new)
+      (before after : List (List ℕ)) → PartSteps variant meaning old part new f before after
+      → IsLonger before after (new_replies (part_replies variant meaning old part new f)) (part_stop part)
+  part_longer old (Holds p) new f before after s = session_longer meaning (told_by f) (InHandOf f) p.result before after s
+  part_longer old (Does (Calls c)) new f before after s = call_longer meaning c.request c.gives before after s
+  part_longer old (Does (Extends values)) new f before after s = longer_none before after 0 s
+  part_longer old (Does LosesPower) new f before after s = longer_none before after 0 s
+  part_longer old (Does (Checkpoints said)) new f before after s = longer_none before after (checkpoint_stop said) s
+
+  pub life_longer : (stages : List Stage) (start : Standing) (f : IsLife variant meaning start stages) (before after : List (List ℕ))
+      → FollowsOn variant meaning start stages f before after
+      → IsLonger before after (new_replies (life_replies variant meaning start stages f)) (stops_in stages)
+  life_longer [] start f before after s = longer_none before after 0 s
+  life_longer (stage ∷ stages) start f before after s =
+      let here = part_longer start stage.part stage.after f.0 before s.0 s.1 in
+      let later = life_longer stages stage.after f.1 s.0 after s.2 in
+      let sum = new_append (part_replies variant meaning start stage.part stage.after f.0)
+      (life_replies variant meaning stage.after stages f.1) in
+      record {
+        kept = here.kept + later.kept;
+        few = omega (arith, here.few, later.few);
+        listed = omega (arith, here.listed, later.listed, sum);
+      }

@@ -1,0 +1,83 @@
+-- What a module promises holds of the commands of the program, run one after another.
+use Rattle.std.specs.Prelude.{◌≡◌, ℕ, List, [], ◌∷◌, Some}
+use Rattle.std.specs.List.{AllByRecursion}
+use Rattle.mm_digest.specs.declared.variant.Variant.TheVariants.{Basic, Opt}
+use Rattle.mm_life.specs.Laws.{issued_over}
+use Rattle.mm_life.specs.OneList.{IsOneWhole, life_replies}
+use Rattle.mm_life.specs.Premises.{AreUntagged, life_batches, life_messages, opt_messages, others_values}
+use Rattle.mm_life.specs.Stages.{IsLife, Stage}
+use Rattle.mm_model.specs.History.{first_history}
+use Rattle.mm_model.specs.Instance.{Instance}
+use Rattle.mm_model.specs.Messages.{AreNoGuards, IsClear}
+use Rattle.mm_model.specs.Standing.{issued_bytes}
+use Rattle.mm_module.specs.Batch.{Batch}
+use Rattle.mm_modules.specs.Modules.{meaning_of}
+use Rattle.mm_modules.specs.declared.any.AnyModule.{AnyModule}
+use Rattle.mm_platform.specs.Standing.{Standing}
+use Rattle.mm_recovery.specs.Begins.{Begins, ShowsValues, first_slots}
+use Rattle.mm_recovery.specs.Init.{Devices, instance_from}
+use Rattle.mm_schedule.specs.Promises.{Promises}
+use Rattle.mm_rows.specs.Commands.{AreLife, AreRun, HaveRun, Ran}
+
+-- the store of each command holds the first slots, put back whatever it held before
+abbrev pub HoldFirstSlots : Instance → List Ran → Type 0
+HoldFirstSlots i commands =
+    AllByRecursion (λ r. r.old.kept.slots ≡ Some (first_slots i)) commands
+
+-- The life is one whole, and what its sessions told keeps what the module promises, on its one list
+-- of requests.
+pub record KeepsPromise (it : AnyModule) (i : Instance) (all others : List (List ℕ))
+    (asked : List Batch) (start : Standing) (stages : List Stage)
+    (f : IsLife i.variant i.meaning start stages) : Type 0 where
+  pub whole : IsOneWhole all others asked i (issued_over i start stages f) start stages f
+  pub kept : Promises it whole.requests (life_replies i.variant i.meaning start stages f)
+
+-- The commands are a life. It keeps the promise where this holds, which says that messages share no
+-- digest, and where nobody else made a tag of what a store offers first; or the store holds the
+-- first slots again.
+pub record LivesWell (it : AnyModule) (i : Instance) (start : Standing) (commands : List Ran)
+    (messages : (stages : List Stage) → IsLife i.variant i.meaning start stages → List (List ℕ))
+    (others : (stages : List Stage) → IsLife i.variant i.meaning start stages → List (List ℕ))
+    : Type 0 where
+  pub are : AreLife i.variant i.meaning start commands
+  pub open are use *
+  pub keeps : IsClear (messages stages life) →
+      AreNoGuards i.barrier (others stages life) (life_batches i start stages life) →
+      AreUntagged i (issued_bytes i first_history ∷ []) start stages life →
+      KeepsPromise it i (messages stages life) (others stages life)
+      (life_batches i start stages life) start stages life
+  pub untagged : HoldFirstSlots i commands →
+      AreUntagged i (issued_bytes i first_history ∷ []) start stages life
+
+-- In Basic, behind a first start that began an instance, whatever commands are run: with the first
+-- slots put back before each of them, nothing but clear messages is asked.
+abbrev pub BasicCommandsKeepPromises : Type 0
+BasicCommandsKeepPromises =
+    (it : AnyModule) (before after : Devices) (begins : Begins Basic (meaning_of it) before after)
+    (cell : List ℕ) (commands : List Ran) → before.platform.cell ≡ Some cell →
+    AreRun after.platform commands →
+    (let i = instance_from Basic (meaning_of it) begins.secrets in
+    LivesWell it i after.platform commands
+    (λ stages f. life_messages i after.platform stages f) (λ stages f. []))
+
+-- In Opt too, from the values that the register showed, where no value of others is a guard.
+abbrev pub OptCommandsKeepPromises : Type 0
+OptCommandsKeepPromises =
+    (it : AnyModule) (before after : Devices) (begins : Begins Opt (meaning_of it) before after)
+    (cell : List ℕ) (values : List (List ℕ)) (commands : List Ran) →
+    before.platform.cell ≡ Some cell → ShowsValues Opt after.platform values →
+    AreRun after.platform commands →
+    (let i = instance_from Opt (meaning_of it) begins.secrets in
+    LivesWell it i after.platform commands
+    (λ stages f. opt_messages i after.platform stages f)
+    (λ stages f. others_values i after.platform stages f))
+
+-- An instance of Basic was started, and then so many commands were run over its platform, whatever
+-- the host did to the slots between them, and whatever it handed them: they live well.
+pub record LivesUnderHost (it : AnyModule) (end : Standing) (rounds : ℕ) : Type 0 where
+  pub secrets : List ℕ
+  pub start : Standing
+  pub ran : HaveRun start end rounds
+  pub lives : (let i = instance_from Basic (meaning_of it) secrets in
+      LivesWell it i start ran.commands (λ stages f. life_messages i start stages f)
+      (λ stages f. []))

@@ -1,0 +1,136 @@
+-- Commands of the program, run one after another over one platform.
+use Rattle.std.specs.Prelude.{◌≡◌, ◌⊎◌, ℕ, List, [], ◌∷◌, ◌++◌, Option, Some, Result, length}
+use Rattle.std.specs.List.{AllByRecursion}
+use Rattle.std.specs.Option.{option_map}
+use Rattle.mm_app.specs.Commands.{DoesOrLacks, UsesPlatform}
+use Rattle.mm_app.specs.Outside.{Outside}
+use Rattle.mm_app.specs.Running.{session_status}
+use Rattle.mm_app.specs.declared.status.Status.{Status}
+use Rattle.mm_call.specs.Standing.{instance_by}
+use Rattle.mm_digest.specs.declared.variant.Variant.{Variant}
+use Rattle.mm_host.specs.declared.fault.SessionFault.{SessionFault}
+use Rattle.mm_life.specs.Deeds.{Deed}
+use Rattle.mm_life.specs.Stages.{Does, IsLife, Stage}
+use Rattle.mm_life.specs.Staying.{IsNoCall}
+use Rattle.mm_model.specs.History.{History}
+use Rattle.mm_model.specs.Standing.{StandsFor}
+use Rattle.mm_module.specs.Meaning.{Meaning}
+use Rattle.mm_modules.specs.Modules.{meaning_of}
+use Rattle.mm_modules.specs.declared.any.AnyModule.{AnyModule}
+use Rattle.mm_platform.specs.Standing.{Standing}
+use Rattle.mm_platform.specs.Steps.{beside}
+use Rattle.mm_recovery.specs.Begins.{Begins, ShowsValues}
+use Rattle.mm_recovery.specs.Init.{Devices, devices}
+use Rattle.mm_schedule.specs.declared.header.Header.{Header}
+use Rattle.mm_seal.specs.Cell.{blank_cell}
+use Rattle.mm_words.specs.declared.command.Command.{Command}
+use Rattle.mm_words.specs.declared.command.Command.TheVariants.{Init, Run}
+use Rattle.mm_rows.specs.CommandLives.{look_stage, session_stage}
+
+-- a command that was run: what the objects told that it was handed, before and behind it; and how
+-- it ended
+pub record Ran : Type 0 where
+  pub command : Command
+  pub old : Outside
+  pub new : Outside
+  pub status : Status
+
+-- What the program's clauses say of it: it was done, or memory was wanting before; and a platform
+-- that it doesn't use is as before.
+pub record IsRun (r : Ran) : Type 0 where
+  pub does : DoesOrLacks r.command r.old r.new r.status
+  pub unused : (UsesPlatform r.command → ⊥) → r.new.standing ≡ r.old.standing
+
+-- Between two commands the cell stays. Others may extend the register, or power be lost; the
+-- platform's counts may begin anew.
+pub record IsMetAgain (old new : Standing) : Type 0 where
+  pub cell : new.cell ≡ old.cell
+  pub items : ((values : List (List ℕ)) × (new.items ≡ beside values old.items))
+      ⊎ (new.items ≡ option_map (λ _. []) old.items)
+
+-- Commands are run one after another over one platform, from where it stands. The store of each,
+-- its input, its entropy and its output are any: whatever the host hands it.
+abbrev pub AreRun : Standing → List Ran → Type 0
+AreRun start [] = Unit {0}
+AreRun start (r ∷ commands) =
+    IsMetAgain start r.old.standing × IsRun r × AreRun r.new.standing commands
+
+-- no call is made in these stages, and no request told
+abbrev pub IsQuiet : Stage → Type 0
+IsQuiet stage = (deed : Deed) × (stage.part ≡ Does deed) × IsNoCall deed
+
+-- A session was held over the command's own store, input and output, and ended as its status says.
+pub record HoldsSession (r : Ran) (stages : List Stage) : Type 0 where
+  pub values : List (List ℕ)
+  pub middle : Standing
+  pub between : Option (List ℕ)
+  pub result : Result (Unit {0}) SessionFault
+  pub are : stages ≡ look_stage values middle
+      ∷ session_stage r.old.kept r.new.kept r.old.left r.new.left r.old.received between result
+      r.new.standing ∷ []
+  pub ends : r.status ≡ session_status result
+
+-- What a command is of a life: a `run` may hold a session, and every other is quiet.
+abbrev pub AreStagesOf : Ran → Command → List Stage → Type 0
+AreStagesOf r Run stages = AllByRecursion IsQuiet stages ⊎ HoldsSession r stages
+AreStagesOf r _ stages = AllByRecursion IsQuiet stages
+
+-- The stages are those of the commands, one after another, each behind what was met before it.
+abbrev pub AreStagesOfAll : List Ran → List Stage → Type 0
+AreStagesOfAll [] stages = stages ≡ []
+AreStagesOfAll (r ∷ commands) stages =
+    (met : Stage) × (here : List Stage) × (later : List Stage) × (stages ≡ met ∷ here ++ later)
+    × IsQuiet met × AreStagesOf r r.command here × AreStagesOfAll commands later
+
+-- They are one life of this variant and module, from this standing on.
+pub record AreLife (variant : Variant) (meaning : Meaning) (start : Standing)
+    (commands : List Ran) : Type 0 where
+  pub stages : List Stage
+  pub life : IsLife variant meaning start stages
+  pub stages_of : AreStagesOfAll commands stages
+
+-- So it is of each list of commands, from any history of an instance for which the platform stands.
+abbrev pub CommandsAreLife : Type 0
+CommandsAreLife =
+    (it : AnyModule) (variant : Variant) (key barrier : List ℕ) (y : History) (start : Standing)
+    (commands : List Ran) →
+    StandsFor (instance_by variant (meaning_of it) key barrier) start y → AreRun start commands →
+    AreLife variant (meaning_of it) start commands
+
+-- what a first start works with, of what the objects of a command tell
+abbrev pub devices_of : Outside → Devices
+devices_of o = devices o.standing o.kept o.entropy o.takes
+
+-- An instance was begun by one of the commands, an `init`: those before it left the cell blank, and
+-- those behind it are its life, where the register is told in Opt.
+pub record Began (commands : List Ran) : Type 0 where
+  pub before : List Ran
+  pub begun : Ran
+  pub behind : List Ran
+  pub are : commands ≡ before ++ begun ∷ behind
+  pub header : Header
+  pub is : begun.command ≡ Init header
+  pub begins : Begins header.variant (meaning_of header.«module») (devices_of begun.old)
+      (devices_of begun.new)
+  pub blank : begun.old.standing.cell ≡ Some blank_cell
+  pub life : (values : List (List ℕ)) → ShowsValues header.variant begun.new.standing values →
+      AreLife header.variant (meaning_of header.«module») begun.new.standing behind
+
+-- From a blank cell the commands leave it blank, or they begin an instance and are its life.
+abbrev pub CommandsFromBlank : Type 0
+CommandsFromBlank =
+    (start : Standing) (commands : List Ran) → start.cell ≡ Some blank_cell
+    → AreRun start commands
+    → AllByRecursion (λ r. r.new.standing.cell ≡ Some blank_cell) commands ⊎ Began commands
+
+-- where the platform stands behind these commands
+abbrev pub standing_behind : Standing → List Ran → Standing
+standing_behind start [] = start
+standing_behind start (r ∷ commands) = standing_behind r.new.standing commands
+
+-- So many commands were run, whatever the host did between them.
+pub record HaveRun (start end : Standing) (rounds : ℕ) : Type 0 where
+  pub commands : List Ran
+  pub counted : length commands ≡ rounds
+  pub run : AreRun start commands
+  pub ends : end ≡ standing_behind start commands
