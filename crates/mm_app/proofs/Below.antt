@@ -25,8 +25,6 @@ pub use Rattle.mm_schedule.specs.Headers.{header_at}
 pub use Rattle.mm_schedule.specs.declared.header.Header.{Header}
 pub use Rattle.mm_play.specs.Plays.{ForWhole, is_read_fault, is_write_fault, IsBlamed, IsUnrefused, Settles}
 pub use Rattle.mm_play.specs.Takes.{IsFrontOf}
-pub use Rattle.mm_play.specs.Tells.{AnswersFirst, anywhere, before_line, PlaysWhole, TellsBy}
-pub use Rattle.mm_play.proofs.Above.{not_ok}
 pub use Rattle.mm_store.specs.Kept.{StoreStanding}
 pub use Rattle.mm_words.specs.declared.command.Command.{Command}
 pub use Rattle.mm_words.specs.declared.command.Command.TheVariants.{Bulk, Check, Checkpoint, Gen, Help, Init, Power, Receipts, Replay, Run}

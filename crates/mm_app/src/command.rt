@@ -122,7 +122,7 @@ pub fn memoir<P: Platform, T: Store, S: Source, E: Source, K: Sink>(
         → CanBeDone command old new → IsDoneOrFailed result }
 
     // The headline: which lines of a schedule are answered, by the status, and what is written; it is one run of the
-    // module on one list of requests, as far as the premises hold.
+    // module on one list of requests, in each first part of the events that gives no evidence.
     ensures headline { SpellsCommand Replay (map (λ s. s.now) words.now)
         → ReplaysOneRun (S.left input.old) (S.left input.new) (K.received out.old)
         (K.received out.new) result }

@@ -15,7 +15,7 @@ pub use Rattle.std.proofs.lemmas.Grind.{flat_map-append}
 pub use Rattle.std.proofs.lemmas.List.{drop_all, length-map, length-take, map-append, take_more, length-drop}
 pub use Rattle.std.proofs.lemmas.List.Elements.{Contains-append_cases, Contains-append_left, Contains-append_right, Contains-push}
 pub use Rattle.std.proofs.lemmas.List.Elements.{Contains-push_cases}
-pub use Rattle.std.proofs.lemmas.List.Folds.{list_any-append, list_any_at}
+pub use Rattle.std.proofs.lemmas.List.Folds.{list_any-append}
 pub use Rattle.std.proofs.lemmas.Map.Text.{is_eq-slice_cmp}
 pub use Rattle.std.proofs.lemmas.Option.{get_or_from_slice_get, slice_get_read, slice_get_within}
 pub use Rattle.std.proofs.lemmas.Slice.Eq.{bytes_eq-Decides}
@@ -47,9 +47,10 @@ pub use Rattle.mm_run.specs.Folds.{closing_reply, course_of, reply_of, way_of}
 pub use Rattle.mm_run.specs.Held.{world_of, world_barrier, world_key}
 pub use Rattle.mm_run.specs.Premises.{AreGenuine, batches_of, event_messages, foreign_of, IsClearRun, IsGenuineEvent, IsGenuineRun}
 pub use Rattle.mm_run.specs.Premises.{messages_from, moves_of}
-pub use Rattle.mm_run.specs.Premises.{AreApart, asked_batches, foreign_values, run_messages, ask_moves, asking_messages}
+pub use Rattle.mm_run.specs.Premises.{AreApart, asked_batches, foreign_values, run_messages}
+pub use Rattle.mm_run.proofs.Above.{ask_moves, asking_messages}
 pub use Rattle.mm_run.proofs.Above.{goes_on, in_any_way, short_size}
-pub use Rattle.mm_evidence.proofs.Above.{any_in, any_some, event_apart, event_or, genuine_or, names_by}
+pub use Rattle.mm_evidence.proofs.Above.{any_in, any_some, event_apart, event_offer, event_or, genuine_or, names_by}
 pub use Rattle.mm_expect.specs.Numbered.{messages_if, messages_where, numbered_event}
 pub use Rattle.mm_play.proofs.Above.{for_whole, not_ok, ok_same, outcome_of, plays_err, plays_ok}
 pub use Rattle.mm_replay.specs.Schedule.{after_event, is_too_much, replay_stage, Running, running_outcome, stage_of}

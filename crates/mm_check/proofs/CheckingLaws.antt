@@ -17,7 +17,7 @@ use Rattle.std.specs.Io.KnownBytes.{Appends}
 use Rattle.mm_play.specs.Plays.{ForWhole, Settles, Plays, IsBlamed, is_write_fault}
 use Rattle.mm_check.specs.Checking.{compare_line}
 use Rattle.mm_check.specs.Checks.{IsChecked, AreTested, check_lines, check_run, JudgesBy, Judges, ChecksRunBy, ChecksRun}
-use Rattle.mm_check.specs.Counting.{compared, reads}
+use Rattle.mm_check.specs.Counting.{compared, headed_by, reads}
 use Rattle.mm_check.proofs.ComparingLaws.{with_end, verdicts_on}
 
 -- a line was answered, and the run goes on behind it
@@ -101,15 +101,10 @@ events_ran heading (line ∷ lines) n p r it h c =
           ends_here r (line ∷ lines) (map with_end lines) it (inr (lines, ap (λ (l : List ℕ). l ∷ lines) s.0, refl))
           (verdicts_on r.header r.events lines it (subst (λ (s : CheckStage). Concludes s it) ends c))
       | inr t ↦ event_first r line lines t.event it t.read
-          (events_ran heading lines (n + 1) p (with_event r line t.event) it (subst (Answers on p) t.said a.2) c)
+          (events_ran heading lines (n + 1) p (with_event r line t.event) it (subst (Answers on p) (sym t.said) a.2) c)
     ]
 
 -- whole lines that were all answered, and the verdicts at their end
-
-headed_by : (found : Option Header) (answer : List ℕ × CheckStage) → headed found ≡ Ok answer
-    → (header : Header) × (found ≡ Some header) × (([], InEvents (first_read header)) ≡ answer)
-headed_by None answer h = absurd (no_answer Bad answer.0 answer.1 h)
-headed_by (Some header) answer h = (header, refl, same_answer ([], InEvents (first_read header)) answer h)
 
 lines_checked : (lines : List (List ℕ)) (p : CheckStage) (it : Verdicts) → (check_lines lines).outcome ≡ Ok p → Concludes p it
     → IsChecked lines it

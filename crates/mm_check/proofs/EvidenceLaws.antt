@@ -6,7 +6,7 @@ use Rattle.mm_check.proofs.Below.{guard, own_values, Opt, History, Instance, fir
 use Rattle.mm_check.proofs.Below.{expected, first_issued, foreign_of, foreign_values, asked_batches, run_messages, first_where}
 use Rattle.mm_check.proofs.Below.{message_digests, both_more, shared_with, shared_in, is_zero, zero_in, numbered, numbered_from, is_secured}
 use Rattle.mm_check.proofs.Below.{secured_in, secured_by, IsForgedAt, IsFirstForged, Decides, premise_by, PremiseIsFixed, Premise, any_some}
-use Rattle.mm_check.proofs.Below.{event_apart, event_or, genuine_or}
+use Rattle.mm_check.proofs.Below.{event_apart, event_offer, event_or, genuine_or}
 use Rattle.std.specs.List.{IsDistinct}
 use Rattle.std.proofs.lemmas.Bool.{both_ways}
 use Rattle.std.proofs.lemmas.List.Elements.{All-contains, All-from_recursion}
@@ -14,7 +14,8 @@ use Rattle.std.proofs.lemmas.Map.Keys.{IsDistinct-head, IsDistinct-tail}
 use Rattle.mm_seal.specs.Snapshot.{Content}
 use Rattle.mm_model.specs.Places.{Names}
 use Rattle.mm_history.specs.Naming.{IsDecided, is_named}
-use Rattle.mm_evidence.specs.Evidence.{collision, forgery, guarded, zero_digest}
+use Rattle.mm_evidence.specs.Evidence.{clash, collision, forgery, guarded, IsForged, zero_digest}
+use Rattle.mm_schedule.specs.Events.{Ask, Checkpoint, Extend, Power}
 use Rattle.mm_check.specs.Evidence.{EvidenceIsHeld, IsEvidence, IsForgeryAt, IsSecuredAt, IsSharedAt, IsToldByEvidence, IsZeroAt}
 use Rattle.mm_check.specs.declared.verdicts.Premise.TheVariants.{Held, Shared, Zero, Secured, Forged}
 use Rattle.mm_check.proofs.ClearLaws.{all_once, any_map, first_in, run_same, same_in}
@@ -206,48 +207,41 @@ module _ (i : Instance) (events : List Event) where
 
   pub evidence_held : EvidenceIsHeld i events
   evidence_held Held e = inl refl
-  evidence_held (Shared first second) e = inr (collision (record {
-    first = e.one;
-    second = e.other;
-    first_listed = among e.before e.one (e.between ++ e.other ∷ e.after) e.split;
-    second_listed = among (e.before ++ e.one ∷ e.between) e.other e.after
-        (e.split ∙ sym (append_assoc e.before (e.one ∷ e.between) (e.other ∷ e.after)));
-    differs = e.differs;
-    one_digest = e.one_digest;
-  }))
-  evidence_held (Zero message) e = inr (zero_digest (record {
-    message = e.message;
-    listed = among e.before e.message e.after e.split;
-    is_zero = e.is_zero;
-  }))
-  evidence_held (Secured event) e = inr (guarded e.in_opt (record {
-    value = e.value;
-    batch = e.batch;
-    brought = brought_in e.before e.event e.after e.value e.split e.brought;
-    asked = e.asked;
-    is_guard = e.is_guard;
-  }))
-  evidence_held (Forged event) e = inr (forgery (record {
-    before = e.before;
-    event = e.event;
-    later = e.after;
-    split = e.split;
-    forged = e.forged;
-  }))
+  evidence_held (Shared first second) e = inr (clash (collision e.one e.other (among e.before e.one (e.between ++ e.other ∷ e.after) e.split)
+  (among (e.before ++ e.one ∷ e.between) e.other e.after (e.split ∙ sym (append_assoc e.before (e.one ∷ e.between) (e.other ∷ e.after))))
+  e.differs e.one_digest))
+  evidence_held (Zero message) e = inr (clash (zero_digest e.message (among e.before e.message e.after e.split) e.is_zero))
+  evidence_held (Secured event) e =
+      inr (clash (guarded e.in_opt e.value e.batch (brought_in e.before e.event e.after e.value e.split e.brought) e.asked e.is_guard))
+  evidence_held (Forged event) e = inr (forgery e.before e.after e.meddles e.stop e.offer e.batch e.split e.forged)
+
+  -- an event that offers what is forged asks
+  forged_by_asking : (before : List Event) (event : Event) (after : List Event) (number : ℕ) → events ≡ before ++ event ∷ after
+      → number ≡ length before + 1 → IsForged i (expected i before).state (event_offer (expected i before).issued event)
+      → IsForgeryAt i events number
+  forged_by_asking before (Ask meddles stop offer batch) after number split place forged = record {
+    before = before;
+    meddles = meddles;
+    stop = stop;
+    offer = offer;
+    batch = batch;
+    after = after;
+    split = split;
+    place = place;
+    forged = forged;
+  }
+  forged_by_asking before (Checkpoint meddles stop) after number split place forged =
+      let none : None ≡ Some forged.bytes = forged.offers in cc
+  forged_by_asking before Power after number split place forged = let none : None ≡ Some forged.bytes = forged.offers in cc
+  forged_by_asking before (Extend value) after number split place forged = let none : None ≡ Some forged.bytes = forged.offers in cc
 
 -- of an instance whose names are decided
 module _ (i : Instance) (named : (y : History) (content : Content) → IsDecided (is_named i y content) (Names i y content)) where
   forgery_at : (events : List Event) (event : ℕ) → IsForgedAt i events event → IsForgeryAt i events event
   forgery_at events event h =
       let it = expected i h.before in
-      record {
-        before = h.before;
-        event = h.event;
-        after = h.after;
-        split = h.split;
-        place = h.place;
-        forged = elim (event_or i named it.state it.issued h.event) [ inl f ↦ f | inr genuine ↦ absurd (h.forged genuine) ];
-      }
+      forged_by_asking i events h.before h.event h.after event h.split h.place
+      (elim (event_or i named it.state it.issued h.event) [ inl f ↦ f | inr genuine ↦ absurd (h.forged genuine) ])
 
   told_evidence : (events : List Event) (premise : Premise) → Decides i events premise → IsEvidence i events premise
   told_evidence events Held d = d

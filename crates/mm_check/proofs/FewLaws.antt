@@ -27,7 +27,7 @@ use Rattle.mm_call.specs.Called.{ended_by, position_of, seen_at, called}
 use Rattle.mm_call.specs.CalledWords.{kept_at}
 use Rattle.mm_call.specs.Checkpoints.{Closing, Stops, checkpointed}
 use Rattle.mm_schedule.specs.declared.reply.Way.{Way}
-use Rattle.mm_run.specs.Folds.{broken_reply}
+use Rattle.mm_run.proofs.Above.{broken_reply}
 
 -- none, or few
 unless_few : {A : Type 0} (long : Bool) (xs : List A) (n : ℕ) → length xs ≤ n → length (cond long [] xs) ≤ n

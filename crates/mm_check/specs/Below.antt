@@ -16,25 +16,29 @@ pub use Rattle.mm_model.specs.Instance.{Instance}
 pub use Rattle.mm_model.specs.Long.{is_long}
 pub use Rattle.mm_model.specs.Messages.{IsClear}
 pub use Rattle.mm_call.specs.Levels.{by_lists}
-pub use Rattle.mm_schedule.specs.Events.{Event, event_of}
+pub use Rattle.mm_platform.specs.declared.plan.Meddle.{Meddle}
+pub use Rattle.mm_platform.specs.declared.plan.Stop.{Stop}
+pub use Rattle.mm_schedule.specs.Events.{Ask, Event, event_of}
 pub use Rattle.mm_schedule.specs.Grammar.{event_at}
 pub use Rattle.mm_schedule.specs.Headers.{header_at}
 pub use Rattle.mm_schedule.specs.Replies.{end_line, lines_of_reply}
 pub use Rattle.mm_schedule.specs.declared.event.Event.{Event as CodeEvent}
+pub use Rattle.mm_schedule.specs.declared.event.Offer.{Offer}
 pub use Rattle.mm_schedule.specs.declared.header.Header.{Header}
 pub use Rattle.mm_schedule.specs.declared.reply.Reply.{Reply}
 pub use Rattle.mm_run.specs.Folds.{Followed, event_outcome, expected, first_issued, replies_by_digests}
 pub use Rattle.mm_run.specs.Held.{world_of}
+pub use Rattle.mm_run.specs.Offered.{offered_bytes}
 pub use Rattle.mm_run.specs.Premises.{IsClearRun, IsGenuineEvent, IsGenuineRun, foreign_of, asked_batches, run_messages}
-pub use Rattle.mm_evidence.specs.Evidence.{event_offer, HasEvidence, IsForged}
+pub use Rattle.mm_evidence.specs.Evidence.{HasEvidence, IsForged}
 pub use Rattle.mm_expect.specs.Numbered.{numbered_event}
 pub use Rattle.mm_expect.specs.Traced.{IsAfter}
-pub use Rattle.mm_play.specs.Kept.{most_kept}
-pub use Rattle.mm_replay.specs.Schedule.{Running, after_event, first_running, running_outcome}
-pub use Rattle.mm_play.specs.Counting.{Taken, begins_fewer, few_events, no_answer, same_answer, taken}
-pub use Rattle.mm_play.specs.Events.{EventPlayer, event_answer, header_answer}
+pub use Rattle.mm_replay.specs.Schedule.{Running, after_event, first_running, is_too_much, replay_stage, running_outcome, stage_of}
+pub use Rattle.mm_play.specs.Counting.{no_answer, same_answer}
 pub use Rattle.mm_play.specs.Play.{Told, run, run_of}
 pub use Rattle.mm_play.specs.Plays.{ForWhole, IsTailShort}
+pub use Rattle.mm_play.specs.Stage.{running}
+pub use Rattle.mm_play.specs.StageLaws.{few_left}
 pub use Rattle.mm_play.specs.Takes.{IsFrontOf}
 pub use Rattle.mm_play.specs.declared.player.Refused.{Refused}
 pub use Rattle.mm_play.specs.declared.player.Refused.TheVariants.{Bad, Much}

@@ -2,10 +2,10 @@
 -- recorded lines.
 use Rattle.std.specs.Prelude.{ℕ, ◌+◌, ◌-◌, Bool, false, nat_le, not, List, [], ◌∷◌, ◌++◌, codes, length, Option, None, Some, Result, Ok}
 use Rattle.std.specs.Prelude.{Err, if◌then◌else◌}
-use Rattle.std.specs.List.{slice_get, sum_by}
+use Rattle.std.specs.List.{slice_get}
 use Rattle.std.specs.Str.{bytes_eq}
-use Rattle.mm_check.specs.Below.{most_events, Event, event_at, lines_of_reply, Header, world_of, Running, first_running, most_kept, running_outcome}
-use Rattle.mm_check.specs.Below.{after_event, EventPlayer, event_answer, header_answer, Refused, Much}
+use Rattle.mm_check.specs.Below.{most_events, Event, event_at, lines_of_reply, Header, world_of, Running, first_running, running_outcome}
+use Rattle.mm_check.specs.Below.{after_event, is_too_much, Refused, Bad, Much}
 use Rattle.mm_check.specs.Listing.{first_then}
 use Rattle.mm_check.specs.Numbering.{expected_lines}
 
@@ -70,24 +70,16 @@ pub data CheckStage : Type 0 where
   InEvents : Read → CheckStage
   InReplies : Compared → CheckStage
 
--- what is done with events
-abbrev pub checking : EventPlayer Event Read CheckStage
-checking = record {
-  among = λ r. InEvents r;
-  event_in = λ r. event_at;
-  reply = λ r event. [];
-  after = with_event;
-  events = λ r. r.running.events;
-  bytes = λ r. r.running.read;
-  kept = λ r. sum_by length r.running.issued;
-  room = most_kept;
-}
-
+-- behind the header, if it is one
 abbrev pub headed : Option Header → Result (List ℕ × CheckStage) Refused
-headed found = header_answer first_read checking.among found
+headed None = Err Bad
+headed (Some header) = Ok ([], InEvents (first_read header))
 
+-- an event is read, unless it is one too many
 abbrev pub read_event : Read → List ℕ → Option Event → Result (List ℕ × CheckStage) Refused
-read_event r line found = event_answer checking r line found
+read_event r line None = Err Bad
+read_event r line (Some event) =
+    if is_too_much r.running line then Err Much else Ok ([], InEvents (with_event r line event))
 
 -- a line among the events
 abbrev pub read_line : Read → List ℕ → Result (List ℕ × CheckStage) Refused

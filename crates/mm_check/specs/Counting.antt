@@ -1,12 +1,12 @@
 -- A recorded run ends: each answered line leaves fewer.
-use Rattle.std.specs.Prelude.{◌≡◌, ◌⊎◌, ℕ, ◌+◌, ◌<◌, ◌^◌, Bool, true, false, nat_le, List, [], Option, Result, Ok, Err, if◌then◌else◌}
-use Rattle.std.proofs.Common.{refl, sym, subst, inl, inr, arith}
+use Rattle.std.specs.Prelude.{◌≡◌, ◌⊎◌, ℕ, ◌+◌, ◌<◌, ◌^◌, Bool, true, false, nat_le, List, [], Option, None, Some, Result, Ok, Err, if◌then◌else◌}
+use Rattle.std.proofs.Common.{refl, subst, inl, inr, arith}
 use Rattle.std.proofs.lemmas.Bool.Decides.{nat_tests}
 use Rattle.std.proofs.lemmas.Slice.Eq.{bytes_eq-Decides}
 use Rattle.std.specs.Str.{bytes_eq}
-use Rattle.mm_check.specs.Below.{most_events, event_at, Header, begins_fewer, few_events, no_answer, same_answer, taken, Taken, Refused}
-use Rattle.mm_check.specs.Below.{Much}
-use Rattle.mm_check.specs.Checking.{Read, first_read, Compared, first_compared, after_compared, CheckStage, AtHeader, InEvents, InReplies, checking, read_event, read_line, compare_line, check_answer, check_left, most_recorded, section_line}
+use Rattle.mm_check.specs.Below.{event_at, Event, Header, few_left, is_too_much, no_answer, replay_stage, running, same_answer, stage_of, Refused}
+use Rattle.mm_check.specs.Below.{Bad, Much}
+use Rattle.mm_check.specs.Checking.{Read, first_read, with_event, Compared, first_compared, after_compared, CheckStage, AtHeader, InEvents, InReplies, headed, read_event, read_line, compare_line, check_answer, check_left, most_recorded, section_line}
 
 few_recorded : (count : ℕ) → nat_le most_recorded count ≡ false → count < most_recorded
 few_recorded count h = grind (arith, nat_tests)
@@ -18,6 +18,13 @@ unless_much : (much : Bool) (said answer : List ℕ × CheckStage)
 unless_much true said answer h = absurd (no_answer Much answer.0 answer.1 h)
 unless_much false said answer h = (refl, same_answer said answer h)
 
+-- a header line was answered
+pub headed_by : (found : Option Header) (answer : List ℕ × CheckStage) → headed found ≡ Ok answer
+    → (header : Header) × (found ≡ Some header) × (([], InEvents (first_read header)) ≡ answer)
+headed_by None answer h = absurd (no_answer Bad answer.0 answer.1 h)
+headed_by (Some header) answer h =
+    (header, refl, same_answer ([], InEvents (first_read header)) answer h)
+
 -- a recorded line was compared
 pub compared : (c : Compared) (line : List ℕ) (answer : List ℕ × CheckStage)
     → compare_line c line ≡ Ok answer
@@ -25,10 +32,25 @@ pub compared : (c : Compared) (line : List ℕ) (answer : List ℕ × CheckStage
 compared c line answer h =
     unless_much (nat_le most_recorded c.count) ([], InReplies (after_compared c line)) answer h
 
+-- an event was read
+pub record ReadsEvent (r : Read) (line : List ℕ) (answer : List ℕ × CheckStage) : Type 0 where
+  pub event : Event
+  pub read : event_at line ≡ Some event
+  pub few : is_too_much r.running line ≡ false
+  pub said : ([], InEvents (with_event r line event)) ≡ answer
+
+event_read : (r : Read) (line : List ℕ) (answer : List ℕ × CheckStage) (found : Option Event)
+    → event_at line ≡ found → read_event r line found ≡ Ok answer → ReadsEvent r line answer
+event_read r line answer None is h = absurd (no_answer Bad answer.0 answer.1 h)
+event_read r line answer (Some event) is h =
+    let m =
+    unless_much (is_too_much r.running line) ([], InEvents (with_event r line event)) answer h in
+    record { event = event; read = is; few = m.0; said = m.1 }
+
 -- a line among the events began the section, or was an event
 abbrev pub Reads : Read → List ℕ → List ℕ × CheckStage → Type 0
 Reads r line answer = ((line ≡ section_line) × (([], InReplies (first_compared r)) ≡ answer))
-    ⊎ Taken checking r line answer
+    ⊎ ReadsEvent r line answer
 
 reads_by : (r : Read) (line : List ℕ) (section : Bool) (answer : List ℕ × CheckStage)
     → bytes_eq line section_line ≡ section
@@ -39,7 +61,7 @@ reads_by r line true answer is h = inl (
   (bytes_eq-Decides line section_line).0 is,
   same_answer ([], InReplies (first_compared r)) answer h,
 )
-reads_by r line false answer is h = inr (taken checking r line answer h)
+reads_by r line false answer is h = inr (event_read r line answer (event_at line) refl h)
 
 pub reads : (r : Read) (line : List ℕ) (answer : List ℕ × CheckStage)
     → read_line r line ≡ Ok answer → Reads r line answer
@@ -50,13 +72,14 @@ pub check_counts_down : (heading : List ℕ → Option Header) (it next : CheckS
     (line reply : List ℕ)
     → check_answer heading it line ≡ Ok (reply, next) → check_left next < check_left it
 check_counts_down heading AtHeader next line reply h =
-    begins_fewer check_left (most_events + most_recorded + 2) first_read checking.among
-    (λ header. omega arith) (heading line) reply next h
+    let d = headed_by (heading line) (reply, next) h in
+    subst (λ (a : List ℕ × CheckStage). check_left a.1 < check_left AtHeader) d.2 (omega arith)
 check_counts_down heading (InEvents r) next line reply h =
     let So : List ℕ × CheckStage → Type 0 = λ a. check_left a.1 < check_left (InEvents r) in
+    let at = running (stage_of r.running) r.running.read in
     elim (reads r line (reply, next) h) [
       | inl section ↦ subst So section.1 (omega arith)
-      | inr t ↦ subst So (sym t.said) (omega (arith, few_events checking r line t.few))
+      | inr t ↦ subst So t.said (omega (arith, few_left replay_stage at line t.few))
     ]
 check_counts_down heading (InReplies c) next line reply h =
     let a = compared c line (reply, next) h in

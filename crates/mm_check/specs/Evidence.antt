@@ -2,8 +2,8 @@
 -- of events.
 use Rattle.std.specs.Prelude.{◌≡◌, ◌≢◌, ℕ, ◌+◌, List, ◌∷◌, ◌++◌, length, ◌⊎◌}
 use Rattle.std.specs.List.{Contains}
-use Rattle.mm_check.specs.Below.{sha256, zero_bytes, Opt, Batch, guard, Instance, Event, expected, foreign_of}
-use Rattle.mm_check.specs.Below.{IsClearRun, IsGenuineRun, asked_batches, event_offer, HasEvidence, IsForged}
+use Rattle.mm_check.specs.Below.{sha256, zero_bytes, Opt, Batch, guard, Instance, Meddle, Stop, Offer, Ask, Event, expected, foreign_of}
+use Rattle.mm_check.specs.Below.{IsClearRun, IsGenuineRun, asked_batches, offered_bytes, HasEvidence, IsForged}
 use Rattle.mm_check.specs.Numbering.{Decides, numbered}
 use Rattle.mm_check.specs.declared.verdicts.Premise.{Premise}
 use Rattle.mm_check.specs.declared.verdicts.Premise.TheVariants.{Held, Shared, Zero, Secured, Forged}
@@ -47,12 +47,15 @@ pub record IsSecuredAt (i : Instance) (events : List Event) (number : ℕ) : Typ
 -- What the event of this number offers is forged, by the history before it.
 pub record IsForgeryAt (i : Instance) (events : List Event) (number : ℕ) : Type 0 where
   pub before : List Event
-  pub event : Event
+  pub meddles : List Meddle
+  pub stop : Stop
+  pub offer : Offer
+  pub batch : Batch
   pub after : List Event
-  pub split : events ≡ before ++ event ∷ after
+  pub split : events ≡ before ++ Ask meddles stop offer batch ∷ after
   pub place : number ≡ length before + 1
   pub forged : IsForged i (expected i before).state
-      (event_offer (expected i before).issued event)
+      (offered_bytes (expected i before).issued offer)
 
 -- What is told is evidence, by its numbers; or that the premises hold.
 abbrev pub IsEvidence : Instance → List Event → Premise → Type 0

@@ -1,10 +1,10 @@
 -- The words and laws that the proofs of this crate take from specs/ and from the crates below.
-pub use Rattle.std.specs.Bool.{Decides, IsTrue}
+pub use Rattle.std.specs.Bool.{Decides}
 pub use Rattle.std.specs.List.{AllByRecursion, Contains, list_any}
 pub use Rattle.std.specs.Prelude.{not, slice_get}
 pub use Rattle.std.specs.Str.{bytes_eq}
-pub use Rattle.std.proofs.Common.{◌&&◌, ◌++◌, ◌+◌, ◌-◌, ◌∙◌, ◌∷◌, ◌≡◌, ◌≢◌, ◌≤◌, ◌⊎◌, [], ap, append_assoc, arith, Bool, false, get_or}
-pub use Rattle.std.proofs.Common.{inl, inr, length, List, None, Ok, Option, refl, Some, subst, sym, true, ℕ}
+pub use Rattle.std.proofs.Common.{◌&&◌, ◌++◌, ◌-◌, ◌∙◌, ◌∷◌, ◌≡◌, ◌≢◌, ◌≤◌, ◌⊎◌, [], ap, append_assoc, Bool, false}
+pub use Rattle.std.proofs.Common.{inl, inr, length, List, None, Option, refl, Some, subst, sym, true, ℕ}
 pub use Rattle.std.proofs.lemmas.Bool.{both_ways}
 pub use Rattle.std.proofs.lemmas.Bool.Decides.{Decides-and, Decides-not}
 pub use Rattle.std.proofs.lemmas.List.{append-nil}
@@ -13,45 +13,35 @@ pub use Rattle.std.proofs.lemmas.List.Folds.{Any-from_list_any, list_any_at}
 pub use Rattle.std.proofs.lemmas.Option.{get_or_from_slice_get, slice_get_within}
 pub use Rattle.std.proofs.lemmas.Slice.Eq.{bytes_eq-Decides}
 pub use Rattle.sha2.specs.Sha256.{sha256}
-pub use Rattle.mm_base.specs.Limits.{last_position, limit_of}
-pub use Rattle.mm_digest.specs.LengthLaws.{length-zero_bytes}
+pub use Rattle.mm_base.specs.Limits.{last_position}
 pub use Rattle.mm_digest.specs.Messages.{zero_bytes}
 pub use Rattle.mm_digest.specs.declared.variant.Variant.{Variant}
 pub use Rattle.mm_digest.specs.declared.variant.Variant.TheVariants.{Basic, Opt}
 pub use Rattle.mm_seal.specs.Parts.{parts_of}
-pub use Rattle.mm_seal.specs.SealLaws.{sealed_once, sealed_parts}
-pub use Rattle.mm_seal.specs.Snapshot.{Content, IsContent, IsPlace, offered_of, tag_of}
-pub use Rattle.mm_seal.specs.declared.snapshot.Place.{Place}
-pub use Rattle.mm_seal.specs.declared.snapshot.Place.TheVariants.{Basic as InBasic, Opt as InOpt}
+pub use Rattle.mm_seal.specs.Snapshot.{Content}
 pub use Rattle.mm_module.specs.Batch.{Batch}
-pub use Rattle.mm_module.specs.Meaning.{IsLawful, Meaning, state_after}
-pub use Rattle.mm_module.specs.RunLaws.{state_after-is_spelled}
-pub use Rattle.mm_model.specs.BatchLaws.{total-append}
-pub use Rattle.mm_model.specs.ChainLaws.{length-anchor_of, length-register_of, length-summary_of}
+pub use Rattle.mm_module.specs.Meaning.{IsLawful, Meaning}
 pub use Rattle.mm_model.specs.Chains.{guard}
-pub use Rattle.mm_model.specs.History.{first_history, History, requests_of, total_of}
+pub use Rattle.mm_model.specs.History.{first_history, History, total_of}
 pub use Rattle.mm_model.specs.Instance.{Instance}
-pub use Rattle.mm_model.specs.InstanceWords.{basic, opt}
 pub use Rattle.mm_model.specs.Messages.{AreNoGuards, IsClear}
-pub use Rattle.mm_model.specs.Places.{at_anchor, in_closed, in_current, IsPlaceOf, Names}
+pub use Rattle.mm_model.specs.Places.{Names}
 pub use Rattle.mm_model.specs.Standing.{IsGenuine, IsRight}
 pub use Rattle.mm_call.specs.Found.{right_content}
 pub use Rattle.mm_call.specs.Levels.{by_lists}
-pub use Rattle.mm_call.specs.OfferLaws.{one_content, right_is, right_of}
+pub use Rattle.mm_call.specs.OfferLaws.{one_content, right_of}
 pub use Rattle.mm_call.specs.Standing.{instance_by}
-pub use Rattle.mm_platform.specs.declared.plan.Meddle.{Meddle}
-pub use Rattle.mm_platform.specs.declared.plan.Stop.{Stop}
 pub use Rattle.mm_schedule.specs.Events.{Ask, Checkpoint, Event, Extend, Power}
 pub use Rattle.mm_schedule.specs.declared.event.Offer.{Offer}
 pub use Rattle.mm_schedule.specs.declared.event.Offer.TheVariants.{Flip, Last, Number, Raw}
 pub use Rattle.mm_history.specs.Naming.{BasicNamesAreDecided, is_named, IsDecided, OptNamesAreDecided}
-pub use Rattle.mm_run.specs.Folds.{event_outcome, expected, first_issued, followed, Followed, replies_by_digests}
+pub use Rattle.mm_run.specs.Folds.{event_outcome, expected, first_issued, followed, Followed}
 pub use Rattle.mm_run.specs.Laws.{IsIssued, IssuedNamePositions}
 pub use Rattle.mm_run.specs.Offered.{offered_bytes}
-pub use Rattle.mm_run.specs.OneRun.{FrontsAreOneRun, IsOneRun}
-pub use Rattle.mm_run.specs.Premises.{AreApart, AreApartIn, AreGenuine, asked_batches, foreign_values, IsClearRun, IsGenuineEvent}
+pub use Rattle.mm_run.specs.OneRun.{FrontsAreOneRun}
+pub use Rattle.mm_run.specs.Premises.{AreApartIn, AreGenuine, asked_batches, foreign_values, IsClearRun, IsGenuineEvent}
 pub use Rattle.mm_run.specs.Premises.{IsGenuineOffer, IsGenuineRun, run_messages}
-pub use Rattle.mm_evidence.specs.Evidence.{collision, event_offer, forgery, guarded, HasCollision, HasEvidence, HasForgery, HasGuard}
-pub use Rattle.mm_evidence.specs.Evidence.{HasZero, IsForged, IsUnbroken, RunsUntil, StopsAt, zero_digest}
-pub use Rattle.mm_evidence.specs.Laws.{ForgedAreNew, FrontsAreLongest, IsDecidedRun, IsLongest, IsMadeUp, IsOneRunOrEvidence}
+pub use Rattle.mm_evidence.specs.Evidence.{clash, collision, forgery, guarded, HasClash, HasEvidence, IsForged, zero_digest}
+pub use Rattle.mm_evidence.specs.Laws.{ForgedAreNew, FrontsAreLongest, IsDecidedRun, IsMadeUp, IsOneRunOrEvidence}
+pub use Rattle.mm_evidence.specs.Laws.{IsUnbroken, RunsUntil, StopsAt}
 pub use Rattle.mm_evidence.specs.Laws.{RepliesAreOneRun}

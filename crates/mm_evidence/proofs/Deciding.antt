@@ -1,14 +1,15 @@
 -- A run meets the premises or gives evidence, and never both.
 use Rattle.mm_evidence.proofs.Below.{IsClear}
 use Rattle.mm_evidence.proofs.Below.{◌≡◌, ◌≢◌, ◌∙◌, ◌&&◌, ◌⊎◌, ◌++◌, ◌∷◌, ap, Bool, true, false, List, [], ℕ, Option, None, Some, inl, inr}
-use Rattle.mm_evidence.proofs.Below.{refl, sym, subst, Ok, not, Decides, Decides-and, Decides-not, Contains, bytes_eq, bytes_eq-Decides}
-use Rattle.mm_evidence.proofs.Below.{sha256, zero_bytes, Variant, Basic, Opt, parts_of, sealed_parts, Content, offered_of, tag_of, Batch}
+use Rattle.mm_evidence.proofs.Below.{refl, sym, subst, not, Decides, Decides-and, Decides-not, Contains, bytes_eq, bytes_eq-Decides}
+use Rattle.mm_evidence.proofs.Below.{sha256, zero_bytes, Variant, Basic, Opt, parts_of, Content, Batch}
 use Rattle.mm_evidence.proofs.Below.{Meaning, guard, first_history, History, Instance, AreNoGuards, Names, IsGenuine, IsRight}
-use Rattle.mm_evidence.proofs.Below.{right_content, by_lists, one_content, right_is, right_of, instance_by, Ask, Checkpoint, Event, Extend}
+use Rattle.mm_evidence.proofs.Below.{right_content, by_lists, one_content, right_of, instance_by, Ask, Checkpoint, Event, Extend}
 use Rattle.mm_evidence.proofs.Below.{Power, is_named, IsDecided, BasicNamesAreDecided, OptNamesAreDecided, event_outcome}
-use Rattle.mm_evidence.proofs.Below.{first_issued, followed, Followed, AreApart, AreGenuine, asked_batches, foreign_values, IsClearRun}
-use Rattle.mm_evidence.proofs.Below.{IsGenuineEvent, IsGenuineOffer, IsGenuineRun, run_messages, collision, event_offer, forgery, guarded}
-use Rattle.mm_evidence.proofs.Below.{HasCollision, HasEvidence, HasGuard, HasZero, IsForged, zero_digest, IsDecidedRun}
+use Rattle.mm_evidence.proofs.Below.{expected, first_issued, followed, Followed, AreApartIn, AreGenuine, asked_batches, foreign_values, IsClearRun}
+use Rattle.mm_evidence.proofs.Below.{IsGenuineEvent, IsGenuineOffer, IsGenuineRun, run_messages, clash, collision, forgery, guarded}
+use Rattle.mm_evidence.proofs.Below.{HasClash, HasEvidence, IsForged, offered_bytes, zero_digest, IsDecidedRun}
+use Rattle.mm_run.proofs.Above.{said_of}
 use Rattle.mm_evidence.proofs.Search.{found_or_none, pair_or_none}
 
 -- the digests of messages
@@ -27,76 +28,74 @@ same_or_not m n = by_answer (bytes_eq m n) refl
     by_answer true e = inl ((bytes_eq-Decides m n).0 e)
     by_answer false e = inr (λ s. let t = (bytes_eq-Decides m n).1 s in cc)
 
-collision_or : (ms : List (List ℕ))
-    → HasCollision ms ⊎ ((m n : List ℕ) → Contains ms m → Contains ms n → sha256 m ≡ sha256 n → m ≡ n)
-collision_or ms = elim (pair_or_none clashes ms ms) [
-  | inl f ↦ let d = (clashes-Decides f.0 f.1).0 f.4 in inl (record {
-    first = f.0;
-    second = f.1;
-    first_listed = f.2;
-    second_listed = f.3;
-    differs = d.1;
-    one_digest = d.0;
-  })
-  | inr none ↦ inr (λ m n hm hn e. elim (same_or_not m n) [
-    | inl same ↦ same
-    | inr differ ↦ absurd (none m n hm hn ((clashes-Decides m n).1 (e, differ)))
-  ])
-]
+-- what clashes, or that nothing does
 
-zero_or : (ms : List (List ℕ)) → HasZero ms ⊎ ((m : List ℕ) → Contains ms m → sha256 m ≢ zero_bytes)
-zero_or ms = elim (found_or_none (λ m. bytes_eq (sha256 m) zero_bytes) ms) [
-  | inl f ↦ inl (record { message = f.0; listed = f.1; is_zero = (bytes_eq-Decides (sha256 f.0) zero_bytes).0 f.2 })
-  | inr none ↦ inr (λ m h e. none m h ((bytes_eq-Decides (sha256 m) zero_bytes).1 e))
-]
+module _ (i : Instance) (messages values : List (List ℕ)) (batches : List Batch) where
+  abbrev Clash : Type 0
+  Clash = HasClash i messages values batches
 
--- the values of others
+  collision_or : Clash ⊎ ((m n : List ℕ) → Contains messages m → Contains messages n → sha256 m ≡ sha256 n → m ≡ n)
+  collision_or = elim (pair_or_none clashes messages messages) [
+    | inl f ↦ let d = (clashes-Decides f.0 f.1).0 f.4 in inl (collision f.0 f.1 f.2 f.3 d.1 d.0)
+    | inr none ↦ inr (λ m n hm hn e. elim (same_or_not m n) [
+      | inl same ↦ same
+      | inr differ ↦ absurd (none m n hm hn ((clashes-Decides m n).1 (e, differ)))
+    ])
+  ]
 
-pub guard_or : (barrier : List ℕ) (values : List (List ℕ)) (batches : List Batch)
-    → HasGuard barrier values batches ⊎ AreNoGuards barrier values batches
-guard_or barrier values batches = elim (pair_or_none (λ v b. bytes_eq v (guard barrier b)) values batches) [
-  | inl f ↦ inl (record {
-    value = f.0;
-    batch = f.1;
-    brought = f.2;
-    asked = f.3;
-    is_guard = (bytes_eq-Decides f.0 (guard barrier f.1)).0 f.4;
-  })
-  | inr none ↦ inr (λ v b hv hb e. none v b hv hb ((bytes_eq-Decides v (guard barrier b)).1 e))
-]
+  zero_or : Clash ⊎ ((m : List ℕ) → Contains messages m → sha256 m ≢ zero_bytes)
+  zero_or = elim (found_or_none (λ m. bytes_eq (sha256 m) zero_bytes) messages) [
+    | inl f ↦ inl (zero_digest f.0 f.1 ((bytes_eq-Decides (sha256 f.0) zero_bytes).0 f.2))
+    | inr none ↦ inr (λ m h e. none m h ((bytes_eq-Decides (sha256 m) zero_bytes).1 e))
+  ]
 
-apart_or : (variant : Variant) (i : Instance) (events : List Event)
-    → ((variant ≡ Opt) × HasGuard i.barrier (foreign_values events) (asked_batches events)) ⊎ AreApart variant i events
-apart_or Basic i events = inr (λ is. absurd (cc))
-apart_or Opt i events = elim (guard_or i.barrier (foreign_values events) (asked_batches events)) [
-  | inl g ↦ inl (refl, g)
-  | inr none ↦ inr (λ is. none)
-]
+  guard_or : i.variant ≡ Opt → Clash ⊎ AreNoGuards i.barrier values batches
+  guard_or is = elim (pair_or_none (λ v b. bytes_eq v (guard i.barrier b)) values batches) [
+    | inl f ↦ inl (guarded is f.0 f.1 f.2 f.3 ((bytes_eq-Decides f.0 (guard i.barrier f.1)).0 f.4))
+    | inr none ↦ inr (λ v b hv hb e. none v b hv hb ((bytes_eq-Decides v (guard i.barrier b)).1 e))
+  ]
 
-pub messages_or : (ms : List (List ℕ)) → (HasCollision ms ⊎ HasZero ms) ⊎ IsClear ms
-messages_or ms = elim (collision_or ms) [
-  | inl c ↦ inl (inl c)
-  | inr apart ↦ elim (zero_or ms) [ inl z ↦ inl (inr z) | inr nonzero ↦ inr (record { apart = apart; nonzero = nonzero }) ]
-]
+  apart_or : (variant : Variant) → i.variant ≡ variant → Clash ⊎ AreApartIn variant i values batches
+  apart_or Basic is = inr (λ opt. absurd (cc))
+  apart_or Opt is = elim (guard_or is) [ inl g ↦ inl g | inr none ↦ inr (λ opt. none) ]
+
+  pub clash_or : Clash ⊎ (IsClear messages × AreApartIn i.variant i values batches)
+  clash_or = elim collision_or [
+    | inl c ↦ inl c
+    | inr apart ↦ elim zero_or [
+      | inl z ↦ inl z
+      | inr nonzero ↦ elim (apart_or i.variant refl) [
+        | inl g ↦ inl g
+        | inr none ↦ inr (record { apart = apart; nonzero = nonzero }, none)
+      ]
+    ]
+  ]
+
+  pub clash_apart : IsClear messages → AreApartIn i.variant i values batches → Clash → ⊥
+  clash_apart clear apart (collision first second in_first in_second differs one) = differs (clear.apart first second in_first in_second one)
+  clash_apart clear apart (zero_digest message listed is) = clear.nonzero message listed is
+  clash_apart clear apart (guarded is value batch brought asked same) = apart is value batch brought asked same
 
 clear_or : (i : Instance) (events : List Event) → HasEvidence i events ⊎ IsClearRun i events
-clear_or i events = elim (messages_or (run_messages i events)) [
-  | inl (inl c) ↦ inl (collision c)
-  | inl (inr z) ↦ inl (zero_digest z)
-  | inr clear ↦ elim (apart_or i.variant i events) [
-    | inl g ↦ inl (guarded g.0 g.1)
-    | inr none ↦ inr (record { clear = clear; apart = none })
-  ]
+clear_or i events = elim (clash_or i (run_messages i events) (foreign_values events) (asked_batches events)) [
+  | inl c ↦ inl (clash c)
+  | inr fine ↦ inr (record { clear = fine.0; apart = fine.1 })
 ]
 
 -- what is offered
 
-said_of : (i : Instance) (bytes : List ℕ) (content : Content) → IsRight i bytes content → right_content i bytes ≡ Some content
-said_of i bytes content right =
-    let parts : parts_of i.variant i.meaning.id bytes ≡ Ok (offered_of i.key content) = ap (parts_of i.variant i.meaning.id) right.sealed
-    ∙ sealed_parts i.key content i.variant i.meaning.id right.formed right.variant right.id in
-    right_is i (parts_of i.variant i.meaning.id bytes) (offered_of i.key content) parts right.state
-    ((bytes_eq-Decides (tag_of i.key content) (tag_of i.key content)).1 refl)
+-- the bytes that an event offers, if it asks
+abbrev pub event_offer : List (List ℕ) → Event → Option (List ℕ)
+event_offer issued (Ask meddles stop offer b) = offered_bytes issued offer
+event_offer issued event = None
+
+-- an event that offers what is forged asks
+pub forgery_by : (i : Instance) (events before : List Event) (event : Event) (later : List Event) → events ≡ before ++ event ∷ later
+    → IsForged i (expected i before).state (event_offer (expected i before).issued event) → HasEvidence i events
+forgery_by i events before (Ask meddles stop offer b) later split forged = forgery before later meddles stop offer b split forged
+forgery_by i events before (Checkpoint meddles stop) later split forged = let clash : None ≡ Some forged.bytes = forged.offers in cc
+forgery_by i events before Power later split forged = let clash : None ≡ Some forged.bytes = forged.offers in cc
+forgery_by i events before (Extend value) later split forged = let clash : None ≡ Some forged.bytes = forged.offers in cc
 
 -- of an instance whose names are decided
 module _ (i : Instance) (named : (y : History) (content : Content) → IsDecided (is_named i y content) (Names i y content)) where
@@ -157,7 +156,7 @@ module _ (i : Instance) (named : (y : History) (content : Content) → IsDecided
   decided_or events = elim (clear_or i events) [
     | inl e ↦ inr e
     | inr clear ↦ elim (genuine_or events first_history (first_issued i)) [
-      | inl f ↦ inr (forgery (record { before = f.before; event = f.event; later = f.later; split = f.split; forged = f.forged }))
+      | inl f ↦ inr (forgery_by i events f.before f.event f.later f.split f.forged)
       | inr genuine ↦ inl (clear, genuine)
     ]
   ]
@@ -184,12 +183,11 @@ module _ (i : Instance) where
       let o = event_outcome i (by_lists i) y issued x in genuine_apart before event later o.state o.issued genuine.1 forged
 
   both_apart : (events : List Event) → IsClearRun i events → IsGenuineRun i events → HasEvidence i events → ⊥
-  both_apart events clear genuine (collision c) =
-      c.differs (clear.clear.apart c.first c.second c.first_listed c.second_listed c.one_digest)
-  both_apart events clear genuine (zero_digest z) = clear.clear.nonzero z.message z.listed z.is_zero
-  both_apart events clear genuine (guarded is g) = clear.apart is g.value g.batch g.brought g.asked g.is_guard
-  both_apart events clear genuine (forgery f) = genuine_apart f.before f.event f.later first_history (first_issued i)
-      (subst (λ (es : List Event). AreGenuine i first_history (first_issued i) es) f.split genuine) f.forged
+  both_apart events clear genuine (clash c) =
+      clash_apart i (run_messages i events) (foreign_values events) (asked_batches events) clear.clear clear.apart c
+  both_apart events clear genuine (forgery before later meddles stop offer batch split forged) =
+      genuine_apart before (Ask meddles stop offer batch) later first_history (first_issued i)
+      (subst (λ (es : List Event). AreGenuine i first_history (first_issued i) es) split genuine) forged
 
 -- names are decided in either variant
 pub names_by : BasicNamesAreDecided → OptNamesAreDecided → (variant : Variant) (meaning : Meaning) (key barrier : List ℕ)

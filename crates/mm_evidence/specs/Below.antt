@@ -1,23 +1,19 @@
 -- The words that the definitions of this crate take from the crates below.
 pub use Rattle.sha2.specs.Sha256.{sha256}
-pub use Rattle.mm_base.specs.Limits.{last_position}
 pub use Rattle.mm_digest.specs.Messages.{zero_bytes}
-pub use Rattle.mm_digest.specs.declared.variant.Variant.{Variant}
 pub use Rattle.mm_digest.specs.declared.variant.Variant.TheVariants.{Opt}
 pub use Rattle.mm_seal.specs.Snapshot.{Content}
 pub use Rattle.mm_module.specs.Batch.{Batch}
-pub use Rattle.mm_module.specs.Meaning.{IsLawful, Meaning}
 pub use Rattle.mm_model.specs.Chains.{guard}
-pub use Rattle.mm_model.specs.History.{History, total_of}
+pub use Rattle.mm_model.specs.History.{History}
 pub use Rattle.mm_model.specs.Instance.{Instance}
 pub use Rattle.mm_model.specs.Places.{Names}
 pub use Rattle.mm_model.specs.Standing.{IsRight}
-pub use Rattle.mm_call.specs.Standing.{instance_by}
 pub use Rattle.mm_platform.specs.declared.plan.Meddle.{Meddle}
 pub use Rattle.mm_platform.specs.declared.plan.Stop.{Stop}
 pub use Rattle.mm_schedule.specs.Events.{Ask, Event}
 pub use Rattle.mm_schedule.specs.declared.event.Offer.{Offer}
-pub use Rattle.mm_schedule.specs.declared.event.Offer.TheVariants.{Flip, Last, Number, Raw}
+pub use Rattle.mm_schedule.specs.declared.event.Offer.TheVariants.{Flip, Raw}
 pub use Rattle.mm_run.specs.Folds.{expected, replies_by_digests}
 pub use Rattle.mm_run.specs.Offered.{offered_bytes}
 pub use Rattle.mm_run.specs.OneRun.{IsOneRun}

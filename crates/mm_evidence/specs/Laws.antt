@@ -4,7 +4,27 @@ use Rattle.std.specs.List.{Contains}
 use Rattle.mm_evidence.specs.Below.{Instance, Event, Offer, Flip, Raw}
 use Rattle.mm_evidence.specs.Below.{expected, replies_by_digests, IsOneRun}
 use Rattle.mm_evidence.specs.Below.{IsClearRun, IsGenuineRun, offered_bytes}
-use Rattle.mm_evidence.specs.Evidence.{HasEvidence, IsForged, IsUnbroken, RunsUntil}
+use Rattle.mm_evidence.specs.Evidence.{HasEvidence, IsForged}
+
+-- Behind these events there is none, or the next one gives evidence.
+abbrev pub StopsAt : Instance → List Event → List Event → Type 0
+StopsAt i front [] = Unit {0}
+StopsAt i front (event ∷ later) = HasEvidence i (front ++ event ∷ [])
+
+-- These are the events before the first one that gives evidence.
+pub record IsUnbroken (i : Instance) (events front : List Event) : Type 0 where
+  pub rest : List Event
+  pub split : events ≡ front ++ rest
+  pub clean : (first : List Event) (event : Event) (later : List Event)
+      → front ≡ first ++ event ∷ later → HasEvidence i (first ++ event ∷ []) → ⊥
+  pub stops : StopsAt i front rest
+
+-- Of each first part of the events something holds, up to the first event that gives evidence.
+pub record RunsUntil (i : Instance) (events : List Event) (Holds : List Event → Type 0) : Type 0
+  where
+    pub front : List Event
+    pub unbroken : IsUnbroken i events front
+    pub one_run : (first later : List Event) → front ≡ first ++ later → Holds first
 
 -- A run meets the premises, or gives evidence; and never both.
 pub record IsDecidedRun (i : Instance) (events : List Event) : Type 0 where

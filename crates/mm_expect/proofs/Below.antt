@@ -13,9 +13,9 @@ pub use Rattle.mm_digest.specs.declared.variant.Variant.{Variant}
 pub use Rattle.mm_digest.specs.declared.variant.Variant.TheVariants.{Basic, Opt}
 pub use Rattle.mm_seal.specs.Body.{content_of}
 pub use Rattle.mm_seal.specs.Parts.{parts_of}
-pub use Rattle.mm_seal.specs.Snapshot.{Content, IsContent, IsPlace, offered_of, Snapshot, tag_of}
+pub use Rattle.mm_seal.specs.Snapshot.{Content, Snapshot, tag_of}
 pub use Rattle.mm_seal.specs.declared.snapshot.PartsFault.{PartsFault}
-pub use Rattle.mm_seal.specs.declared.snapshot.Place.TheVariants.{Basic as InBasic, Opt as InOpt}
+pub use Rattle.mm_seal.specs.declared.snapshot.Place.TheVariants.{Opt as InOpt}
 pub use Rattle.mm_platform.specs.StandingWords.{due}
 pub use Rattle.mm_platform.specs.Steps.{fault_at, is_made_at}
 pub use Rattle.mm_platform.specs.declared.fault.StepFault.{StepFault}
@@ -25,11 +25,11 @@ pub use Rattle.mm_platform.specs.declared.plan.Stop.TheVariants.{Fail}
 pub use Rattle.mm_module.specs.Batch.{Batch, members_of, normal, size_of}
 pub use Rattle.mm_module.specs.Batches.{batch_of}
 pub use Rattle.mm_module.specs.Meaning.{IsLawful, Meaning, outputs_from, state_after}
-pub use Rattle.mm_module.specs.RunLaws.{length-outputs_from, state_after-append, state_after-is_spelled, state_from-is_spelled}
+pub use Rattle.mm_module.specs.RunLaws.{length-outputs_from, state_after-append, state_from-is_spelled}
 pub use Rattle.mm_modules.specs.Modules.{meaning_of}
 pub use Rattle.mm_modules.specs.ModulesLaws.{any_is_lawful}
 pub use Rattle.mm_modules.specs.declared.any.AnyModule.{AnyModule}
-pub use Rattle.mm_model.specs.BatchLaws.{is_last_of, is_last_tells, total-append, total-push}
+pub use Rattle.mm_model.specs.BatchLaws.{is_last_of, is_last_tells, total-push}
 pub use Rattle.mm_model.specs.Chains.{guard, register_of}
 pub use Rattle.mm_model.specs.History.{Close, Commit, committed, first_history, Foreign, History, Move, moved, requests_of, total_of, Value}
 pub use Rattle.mm_model.specs.HistoryWords.{cell_digest_of, values_of}
@@ -38,9 +38,9 @@ pub use Rattle.mm_model.specs.InstanceWords.{basic, opt}
 pub use Rattle.mm_model.specs.Judge.{is_last, judge, judged}
 pub use Rattle.mm_model.specs.Life.{has_value, is_empty, is_lost, Life, life_by, life_of, Live}
 pub use Rattle.mm_model.specs.Long.{is_long}
-pub use Rattle.mm_model.specs.Places.{at_anchor, in_closed, in_current, IsPlaceOf, issued_place, Names}
+pub use Rattle.mm_model.specs.Places.{issued_place, Names}
 pub use Rattle.mm_model.specs.PlacesWords.{digest_of}
-pub use Rattle.mm_model.specs.Standing.{IsGenuine, IsRight, issued_bytes}
+pub use Rattle.mm_model.specs.Standing.{IsGenuine, issued_bytes}
 pub use Rattle.mm_model.specs.Steps.{ask_steps, checkpoint_steps, Reads, Step, Writes}
 pub use Rattle.mm_model.specs.declared.refusal.Refusal.{Refusal}
 pub use Rattle.mm_call.specs.AlongLaws.{checkpoint_none, closes-append, closes-foreign, ClosesNone, reading_none, shut_along, walk_along}
@@ -69,13 +69,13 @@ pub use Rattle.mm_history.specs.Marks.{closed_marks, emptied, grown, linked_mark
 pub use Rattle.mm_history.specs.Naming.{IsDecided}
 pub use Rattle.mm_history.specs.declared.marks.Marks.{Marks}
 pub use Rattle.mm_run.specs.Folds.{after_stop, closing_then, course_of, event_outcome, expected, first_issued, Followed, followed}
-pub use Rattle.mm_run.specs.Folds.{moves_then, Outcome, reply_of, snapshots_of, way_of, broken_reply, plan_of, told_reply}
+pub use Rattle.mm_run.specs.Folds.{moves_then, Outcome, reply_of, snapshots_of, way_of, plan_of}
 pub use Rattle.mm_run.specs.Held.{world_of, world_barrier, world_key}
 pub use Rattle.mm_run.specs.Laws.{IsIssued}
 pub use Rattle.mm_run.specs.Offered.{offered_bytes}
 pub use Rattle.mm_run.specs.Premises.{IsGenuineEvent}
 pub use Rattle.mm_run.proofs.Above.{basic_issued_named, closing_all, goes_on, in_any_way, last_steps, opt_issued_named, printed_closing}
-pub use Rattle.mm_run.proofs.Above.{short_outputs, then_all}
+pub use Rattle.mm_run.proofs.Above.{short_outputs, then_all, broken_reply, told_reply}
 pub use Rattle.mm_expect.specs.Calls.{Admits, again_in, CallsBy, changes_on, ChangesBy, changing_from, changing_steps, ending_of, GoesOnNew}
 pub use Rattle.mm_expect.specs.Calls.{new_ending, reached}
 pub use Rattle.mm_expect.specs.Coming.{called_on, moves_if, WentByCall, WentByEvent}

@@ -28,7 +28,7 @@ pub use Rattle.mm_run.specs.Held.{world_of}
 pub use Rattle.mm_replay.specs.Progress.{running}
 pub use Rattle.mm_replay.specs.Schedule.{after_event, among, at_header, first_running, is_too_much, ReplayStage, Running, running_outcome}
 pub use Rattle.mm_replay.specs.Schedule.{schedule_answer, schedule_closing}
-pub use Rattle.mm_replay.specs.Text.{text_of_replies, texts_of}
+pub use Rattle.mm_replay.specs.Text.{text_of_replies}
 pub use Rattle.mm_gen.specs.Laws.{IsEventLine, IsSchedule}
 pub use Rattle.mm_gen.specs.Limits.{is_over, IsLimited}
 pub use Rattle.mm_gen.specs.LineBreaks.{is_break, line_at}

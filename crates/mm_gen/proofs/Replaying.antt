@@ -1,10 +1,10 @@
 -- A replay of a generated schedule, from its header line to its end.
 use Rattle.mm_gen.proofs.Below.{◌≡◌, ◌∙◌, ◌≤◌, ◌+◌, ℕ, Bool, true, false, List, [], ◌∷◌, length, map, Result, Ok, Err, Some, refl}
 use Rattle.mm_gen.proofs.Below.{sym, ap, arith, lit≤, IfOk, AllByRecursion, nat_tests, recursion_from_All, longest_line}
-use Rattle.mm_gen.proofs.Below.{most_events, Variant, Basic, Opt, name_of, any_is_found, Header, Event, event_at, header_at, header_text}
+use Rattle.mm_gen.proofs.Below.{most_events, Variant, Basic, Opt, name_of, any_is_found, Header, Event, event_at, header_text}
 use Rattle.mm_gen.proofs.Below.{variant_text, header-read, spelled_is_read, IsEventLine, schedule_lines, replies_by_digests}
 use Rattle.mm_gen.proofs.Below.{world_of, Running, ReplayStage, among, at_header, after_event, first_running, is_too_much, running_outcome}
-use Rattle.mm_gen.proofs.Below.{schedule_answer, schedule_closing, texts_of, text_of_replies, IsLimited, is_over, SumsUp, BulkFault, Memory}
+use Rattle.mm_gen.proofs.Below.{schedule_answer, schedule_closing, text_of_replies, IsLimited, is_over, SumsUp, BulkFault, Memory}
 use Rattle.mm_gen.proofs.Below.{TooMuch, Summary}
 use Rattle.std.proofs.Common.{nat_lt, length-append}
 use Rattle.mm_base.specs.declared.replay_fault.ReplayFault.TheVariants as fault
@@ -15,6 +15,7 @@ use Rattle.std.specs.Prelude.{◌||◌}
 use Rattle.mm_gen.proofs.Below.{subst}
 use Rattle.mm_gen.specs.Sums.{bulk_summary}
 use Rattle.mm_gen.proofs.Tallying.{events_of, events_read, left_of}
+use Rattle.std.specs.List.{flat_map}
 
 -- the replay of event lines, of which the first has this number
 abbrev lines_run : ℕ → Running → List (List ℕ) → Told ReplayStage
@@ -32,7 +33,7 @@ goes number r line more event short is room = rw (fits line short, is, room) ref
 -- all these lines are answered
 record AreAnswered (number : ℕ) (r : Running) (lines : List (List ℕ)) (events : List Event) : Type 0 where
   last : Running
-  ran : lines_run number r lines ≡ told (texts_of (left_of r events).replies) (Ok (among last))
+  ran : lines_run number r lines ≡ told (flat_map text_of_replies (left_of r events).replies) (Ok (among last))
   digests : last.digests ≡ (left_of r events).state
   issued : last.issued ≡ (left_of r events).issued
 

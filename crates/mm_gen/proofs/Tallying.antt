@@ -4,7 +4,7 @@ use Rattle.mm_gen.proofs.Below.{arith, append_assoc, append-nil, Option, None, i
 use Rattle.mm_gen.proofs.Below.{position_or_len, ne_eqb, nat_tests, length-append, recursion_from_All, sha256, IsUnbroken, lines_joined}
 use Rattle.mm_gen.proofs.Below.{longest_line, most_events, Header, Event, event_at, header_text, end_line, spelled_is_read, IsEventLine}
 use Rattle.mm_gen.proofs.Below.{schedule_lines, schedule_text, Followed, followed, replies_by_digests, world_of, Running, after_event}
-use Rattle.mm_gen.proofs.Below.{first_running, is_too_much, running_outcome, texts_of, text_of_replies, IsLimited, is_over, is_break, SumsUp}
+use Rattle.mm_gen.proofs.Below.{first_running, is_too_much, running_outcome, text_of_replies, IsLimited, is_over, is_break, SumsUp}
 use Rattle.mm_gen.proofs.Below.{BulkFault, Memory, TooMuch, Summary}
 use Rattle.std.specs.Prelude.{Some, Err}
 use Rattle.std.proofs.Math.Seq.{take-append_seam, drop-append-add}
@@ -18,6 +18,7 @@ use Rattle.mm_gen.specs.Limits.{RunsLine}
 use Rattle.mm_gen.specs.Sums.{counted_reply, counts_of, no_counts, total}
 use Rattle.mm_gen.specs.LineBreaks.{line_at}
 use Rattle.mm_gen.specs.declared.counts.Counts.{Counts}
+use Rattle.std.specs.List.{flat_map}
 
 -- ---- the first line
 
@@ -59,7 +60,7 @@ left_of r events = followed (world_of r.header) (by_digests (world_of r.header))
 
 -- the whole is what was counted and written, and then what is left
 record Rests (r : Running) (counts : Counts) (text : List ℕ) (left whole : Followed Digests) : Type 0 where
-  replies : text ++ texts_of left.replies ≡ texts_of whole.replies
+  replies : text ++ flat_map text_of_replies left.replies ≡ flat_map text_of_replies whole.replies
   counted : fold counted_reply counts left.replies ≡ counts_of whole.replies
   state : left.state ≡ whole.state
   issued : left.issued ≡ whole.issued
@@ -174,7 +175,7 @@ module _ (lines : List (List ℕ)) where
       → (is_over (first_running r.header) lines ≡ false) × SumsUp r.header lines (so_far r counts text)
   ended_at [] are rest r counts text going none =
       let rests = going.rests in
-      let written : text ≡ texts_of (replies_by_digests (world_of r.header) going.all).replies = sym (append-nil text) ∙ rests.replies in
+      let written : text ≡ flat_map text_of_replies (replies_by_digests (world_of r.header) going.all).replies = sym (append-nil text) ∙ rests.replies in
       let numbered = rests.counted in let state = rests.state in let issued = rests.issued in (
         sym going.over,
         record { events = going.all; read = going.whole; told = rw (sym state, sym issued, sym numbered, sym written) refl },

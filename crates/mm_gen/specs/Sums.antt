@@ -1,6 +1,6 @@
 -- What a schedule comes to: its replies counted by their kinds, and digested.
 use Rattle.std.specs.Prelude.{◌≡◌, ℕ, ◌+◌, true, false, List, ◌++◌, length, map, Some}
-use Rattle.std.specs.List.{fold}
+use Rattle.std.specs.List.{flat_map, fold}
 use Rattle.sha2.specs.Sha256.{sha256}
 use Rattle.mm_schedule.specs.declared.header.Header.{Header}
 use Rattle.mm_schedule.specs.Events.{Event}
@@ -11,7 +11,7 @@ use Rattle.mm_schedule.specs.declared.reply.Reply.TheVariants.{Told, No, Kept, N
 use Rattle.mm_run.specs.Folds.{Followed, replies_by_digests}
 use Rattle.mm_run.specs.Held.{world_of}
 use Rattle.mm_model.specs.Moves.{Digests}
-use Rattle.mm_replay.specs.Text.{texts_of}
+use Rattle.mm_replay.specs.Text.{text_of_replies}
 use Rattle.mm_gen.specs.declared.counts.Counts.{Counts}
 use Rattle.mm_gen.specs.declared.summary.Summary.{Summary}
 
@@ -43,7 +43,7 @@ bulk_summary run = record {
   issued = length run.issued;
   replies =
       record {
-        bytes = sha256 (texts_of run.replies ++ end_line run.state.count (length run.issued));
+        bytes = sha256 (flat_map text_of_replies run.replies ++ end_line run.state.count (length run.issued));
       };
 }
 

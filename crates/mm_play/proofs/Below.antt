@@ -16,7 +16,7 @@ pub use Rattle.mm_play.specs.Play.{after_writing, and_then, answered, closed, en
 pub use Rattle.mm_play.specs.Play.{Told, told}
 pub use Rattle.mm_play.specs.Plays.{ForWhole, IsUnrefused, Plays, Settles}
 pub use Rattle.mm_play.specs.Takes.{IsFrontOf}
-pub use Rattle.mm_play.specs.Tells.{Answered, AnswersFirst, anywhere, before_line, Finished, PlaysWhole, RefusesMuch, TellsBy}
+pub use Rattle.mm_play.specs.Tells.{Answered, AnswersFirst, anywhere, before_line, Finished, RefusesMuch, TellsBy}
 pub use Rattle.mm_play.specs.Turns.{Advances, Answers, IsSent, PlayedOn, PlaysNext, SendsDue, SendsThen}
 pub use Rattle.mm_play.specs.declared.player.Refused.{Refused}
 pub use Rattle.mm_play.specs.declared.player.Refused.TheVariants.{Bad, Much}

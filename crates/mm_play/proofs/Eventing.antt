@@ -1,19 +1,38 @@
 -- A run over lines of a heading and of events, by the events in them.
-use Rattle.mm_play.proofs.Below.{◌≡◌, ◌∙◌, ◌+◌, ◌≤◌, ◌<◌, ℕ, Bool, true, false, nat_lt, List, [], ◌∷◌, ◌++◌, length, map}
+use Rattle.mm_play.proofs.Below.{◌≡◌, ◌∙◌, ◌+◌, ◌≤◌, ◌<◌, ◌||◌, ℕ, Bool, true, false, nat_le, nat_lt, List, [], ◌∷◌, ◌++◌, length, map}
 use Rattle.mm_play.proofs.Below.{Result, Ok, Err, Option, None, Some, refl, sym, ap, subst, arith, inl, inr, ◌⊎◌, sum_by, nat_tests}
 use Rattle.mm_play.proofs.Below.{most_events, Refused, Bad, Much, told, run, AllByRecursion, longest_line}
 use Rattle.mm_play.specs.Counting.{same_answer, no_answer}
 use Rattle.mm_play.specs.Kept.{most_kept}
 use Rattle.mm_play.specs.Stage.{EventStage, EventSteps, HeadStage, Running, running, LineStage, InEvents, is_over, event_answer, line_answer, answer_by}
 use Rattle.mm_play.specs.Shown.{behind, replies, TakesEvents}
-use Rattle.mm_play.proofs.Events.{none_answered, sums_more, over_of, not_over, no_line}
-use Rattle.mm_play.proofs.Runs.{first_answered}
+use Rattle.mm_play.proofs.Runs.{first_answered, none_answered}
+use Rattle.std.proofs.lemmas.List.Sums.{sum_by-append}
 
 pub is_short : (n : ℕ) → nat_lt longest_line n ≡ false → n ≤ longest_line
 is_short n h = grind (arith, nat_tests)
 
 abbrev pub AreShort : List (List ℕ) → Type 0
 AreShort lines = AllByRecursion (λ line. length line ≤ longest_line) lines
+
+-- the bytes of one more line
+sums_more : (line : List ℕ) (lines : List (List ℕ)) → sum_by length (line ∷ lines) ≡ length line + sum_by length lines
+sums_more line lines =
+    let one : sum_by length (line ∷ []) ≡ length line = omega arith in
+    let both : sum_by length (line ∷ lines) ≡ sum_by length (line ∷ []) + sum_by length lines = sum_by-append length (line ∷ []) lines in
+    omega (arith, one, both)
+
+-- no line is behind the last
+no_line : (before : List (List ℕ)) (line : List ℕ) (after : List (List ℕ)) → [] ≡ before ++ line ∷ after → ⊥
+no_line [] line after h = cc
+no_line (first ∷ before) line after h = cc
+
+-- whether an event is one too many, in numbers
+over_of : (done most size room : ℕ) → (nat_le most done || nat_lt room size) ≡ true → (most ≤ done) ⊎ (room < size)
+over_of done most size room h = grind (arith, nat_tests)
+
+not_over : (done most size room : ℕ) → (nat_le most done || nat_lt room size) ≡ false → (most ≤ done) ⊎ (room < size) → ⊥
+not_over done most size room h over = grind (arith, nat_tests)
 
 module _ {G E R : Type 0} (heads : HeadStage G R) (s : EventStage R) (steps : EventSteps E R) (takes : TakesEvents steps s) where
   abbrev P : Type 0

@@ -1,19 +1,16 @@
 -- Why a run over an input stops, of an input of which some first bytes are known.
 use Rattle.mm_play.proofs.Below.{◌≡◌, ◌∙◌, ◌+◌, ◌<◌, ℕ, Bool, true, false, cond, List, [], ◌∷◌, ◌++◌, length, nat_lt, Result, Ok, Err}
-use Rattle.mm_play.proofs.Below.{Option, None, Some, refl, sym, ap, subst, append-nil, append_assoc, arith, inl, inr, ◌⊎◌, nat_tests}
+use Rattle.mm_play.proofs.Below.{Option, None, Some, refl, sym, ap, subst, append-nil, append_assoc, arith, inl, inr, ◌⊎◌}
 use Rattle.mm_play.proofs.Below.{IsUnbroken, lines_of, tail_of, lines_joined, ReplayFault, BadLine, LineLong, TooMuch}
-use Rattle.mm_play.proofs.Below.{longest_line, Refused, Bad, Much, Told, told, stopped, after_writing, answered, run, ended, closed, goes_on, run_from}
+use Rattle.mm_play.proofs.Below.{longest_line, Refused, Bad, Much, Told, told, stopped, after_writing, run, ended, closed, goes_on, run_from}
 use Rattle.mm_play.proofs.Below.{run_of, ForWhole}
 use Rattle.std.proofs.lemmas.List.Elements.{All-append, All-replicate}
 use Rattle.std.specs.Prelude.{replicate, ◌≢◌}
 use Rattle.std.proofs.Common.{length-append}
 use Rattle.std.proofs.lemmas.List.{length-replicate}
 use Rattle.std.specs.Io.KnownBytes.{IsAtEnd}
-use Rattle.mm_play.proofs.Runs.{outcome_of, run_from-joined, run_from-long}
+use Rattle.mm_play.proofs.Runs.{is_longer, Long, outcome_of, Refuses, Replies, run_from-joined, run_from-long, Turned, turned}
 use Rattle.mm_play.proofs.Splitting.{whole_input, unbroken_lines, unbroken_tail}
-
-is_longer : (n : ℕ) → nat_lt longest_line n ≡ true → longest_line < n
-is_longer n h = grind (arith, nat_tests)
 
 module _ {P : Type 0} (answer : P → List ℕ → Result (List ℕ × P) Refused) where
   -- the first of these lines is why a run stops
@@ -67,37 +64,17 @@ module _ {P : Type 0} (answer : P → List ℕ → Result (List ℕ × P) Refuse
     stops = subst (λ n. Stops n h.next h.line fault) (omega arith) h.stops;
   }
 
-  -- what the first of some lines comes to, with the reason
-  data TurnedBy (number : ℕ) (player : P) (line : List ℕ) (lines : List (List ℕ)) (t : Told P) : Type 0 where
-    TooLong : longest_line < length line → t ≡ stopped (LineLong number) → TurnedBy number player line lines t
-    IsBad : answer player line ≡ Err Bad → t ≡ stopped (BadLine number) → TurnedBy number player line lines t
-    IsMuch : answer player line ≡ Err Much → t ≡ stopped TooMuch → TurnedBy number player line lines t
-    Answers : (reply : List ℕ × P) → nat_lt longest_line (length line) ≡ false → answer player line ≡ Ok reply
-        → t ≡ after_writing reply.0 (run answer (number + 1) reply.1 lines) → TurnedBy number player line lines t
-
-  turned_by : (number : ℕ) (player : P) (line : List ℕ) (lines : List (List ℕ))
-      → TurnedBy number player line lines (run answer number player (line ∷ lines))
-  turned_by number player line lines = by (nat_lt longest_line (length line)) refl (answer player line) refl
-    where
-      by : (long : Bool) → nat_lt longest_line (length line) ≡ long → (said : Result (List ℕ × P) Refused) → answer player line ≡ said
-          → TurnedBy number player line lines
-          (cond long (stopped (LineLong number)) (answered (λ next. run answer (number + 1) next lines) number said))
-      by true is said so = TooLong (is_longer (length line) is) refl
-      by false is (Err Bad) so = IsBad so refl
-      by false is (Err Much) so = IsMuch so refl
-      by false is (Ok reply) so = Answers reply is so refl
-
   pub ran_by : (lines : List (List ℕ)) (number : ℕ) (player : P)
       → (let t = run answer number player lines in RanBy number player lines t.written t.outcome)
   ran_by [] number player = refl
-  ran_by (line ∷ lines) number player = by (λ next. ran_by lines (number + 1) next) (turned_by number player line lines)
+  ran_by (line ∷ lines) number player = by (λ next. ran_by lines (number + 1) next) (turned answer number player line lines)
     where
       by : {t : Told P} → ((next : P) → RanIn (number + 1) next lines (run answer (number + 1) next lines))
-          → TurnedBy number player line lines t → RanIn number player (line ∷ lines) t
-      by on (TooLong long is) = rw is (halts_first number player line lines (LineLong number) (refl, long))
-      by on (IsBad said is) = rw is (halts_first number player line lines (BadLine number) (refl, said))
-      by on (IsMuch said is) = rw is (halts_first number player line lines TooMuch said)
-      by on (Answers reply short said is) = rw is (more_ran number player line lines reply _ _ short said (on reply.1))
+          → Turned answer number player line lines t → RanIn number player (line ∷ lines) t
+      by on (Long long is) = rw is (halts_first number player line lines (LineLong number) (refl, long))
+      by on (Refuses Bad said is) = rw is (halts_first number player line lines (BadLine number) (refl, said))
+      by on (Refuses Much said is) = rw is (halts_first number player line lines TooMuch said)
+      by on (Replies reply short said is) = rw is (more_ran number player line lines reply _ _ short said (on reply.1))
 
   -- the bytes behind the last line stop a run
   abbrev pub TailStops : List ℕ → ℕ → ReplayFault → Type 0

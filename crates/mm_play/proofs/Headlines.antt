@@ -6,13 +6,12 @@ use Rattle.mm_play.proofs.Below.{Refused, Bad, Much, told, run, run_of, ForWhole
 use Rattle.mm_base.specs.InputLaws.{joined-append}
 use Rattle.mm_play.specs.Counting.{same_answer, no_answer}
 use Rattle.mm_play.specs.Headed.{Headed, More, Begins}
-use Rattle.mm_play.specs.Headline.{EventPlayer, Lead, IsNextLine, IsOver, IsLeft, WentOut, IsUnbegun, AreAnswered}
+use Rattle.mm_play.specs.Headline.{EventPlayer, Lead, IsNextLine, IsOver, IsLeft, WentOut, AreAnswered}
 use Rattle.mm_play.specs.Stage.{EventStage, EventSteps, HeadStage, running, LineStage, AtHeading, InEvents, head_answer, line_answer, line_closing}
 use Rattle.mm_play.specs.Shown.{begun_by, Shows}
-use Rattle.mm_play.proofs.Events.{none_answered}
 use Rattle.mm_play.proofs.Eventing.{AreShort, AnsweredEvents, IsOverIn, is_short, answered_events, much_over, bad_none}
 use Rattle.mm_play.proofs.Halting.{ComesTo, comes, comes_so, bad_at}
-use Rattle.mm_play.proofs.Runs.{first_answered, FirstAnswered}
+use Rattle.mm_play.proofs.Runs.{first_answered, FirstAnswered, none_answered}
 use Rattle.mm_play.proofs.Splitting.{whole_input, unbroken_lines, unbroken_tail}
 
 lead_more : {G H : Type 0} (head : G → List ℕ → Option (Headed G H)) (at next : G) (line : List ℕ) (lines : List (List ℕ)) (to : Headed G H)
@@ -148,10 +147,6 @@ module _ {G H E S R : Type 0} (p : EventPlayer G H E S) (heads : HeadStage G R) 
   all_short at lines written last (inr e) = subst AreShort (sym e.split) (short_append e.front e.others e.short e.answers.short)
 
   module _ (Holds : H → List E → (List E → S) → Type 0) (holds : (header : H) (events : List E) → Holds header events (shown header)) where
-    -- what is told where no events have begun, and where they have
-    abbrev unbegun : (lines : List (List ℕ)) (written : List ℕ) (last : P) → StillHeading p.start lines written last → IsUnbegun p lines
-    unbegun lines written last h = record { at = h.to; leads = h.leads }
-
     -- one too many behind the first events, in numbers
     over_shown : (header : H) (before : List (List ℕ)) (events : List E) (line : List ℕ)
         → IsOver before (p.kept (shown header events)) line
@@ -196,8 +191,8 @@ module _ {G H E S R : Type 0} (p : EventPlayer G H E S) (heads : HeadStage G R) 
     -- how it ended, where these lines were answered
     module _ (left : Option (List ℕ)) (after stop sent : List ℕ) {T : Type 0} (result : Result T ReplayFault) (done : List (List ℕ)) where
       abbrev Continues : Type 0
-      Continues = ((it : IsUnbegun p done)
-          × IsLeft left after (length done) (λ line. p.head it.at line ≡ None) (λ line. ⊥) result
+      Continues = ((at : G) × Lead p.head p.start done (More at)
+          × IsLeft left after (length done) (λ line. p.head at line ≡ None) (λ line. ⊥) result
           × WentOut after [] None stop sent result)
           ⊎ ((it : AreAnswered p Holds done)
           × IsLeft left after (length done) (λ line. p.event_in it.header line ≡ None)
@@ -214,7 +209,7 @@ module _ {G H E S R : Type 0} (p : EventPlayer G H E S) (heads : HeadStage G R) 
           → ((text : List ℕ) (end : Option (List ℕ)) → written ≡ text → closing last ≡ end → WentOut after text end stop sent result)
           → Continues
       continues written last (inl h) at_head at_events went =
-          inl (unbegun done written last h, at_head h, went [] None h.silent (ap closing h.stands))
+          inl (h.to, h.leads, at_head h, went [] None h.silent (ap closing h.stands))
       continues written last (inr e) at_head at_events went =
           inr (
             begun_so done written last e,

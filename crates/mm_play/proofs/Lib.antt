@@ -4,7 +4,6 @@ mod Runs
 mod Turning
 mod Stands
 mod Telling
-mod Events
 mod Staging
 mod Splitting
 mod Halting

@@ -9,6 +9,9 @@ use Rattle.mm_play.proofs.Below.{answered, run, ended, goes_on, and_then, run_fr
 is_long : {n : ℕ} → longest_line < n → nat_lt longest_line n ≡ true
 is_long h = grind (arith, nat_tests)
 
+pub is_longer : (n : ℕ) → nat_lt longest_line n ≡ true → longest_line < n
+is_longer n h = grind (arith, nat_tests)
+
 is_short : {n : ℕ} → n ≤ longest_line → nat_lt longest_line n ≡ false
 is_short h = grind (arith, nat_tests)
 
@@ -36,7 +39,7 @@ module _ {P : Type 0} (answer : P → List ℕ → Result (List ℕ × P) Refuse
     (lines : List (List ℕ)) where
   -- what the first of some lines comes to
   pub data Turned (t : Told P) : Type 0 where
-    Long : t ≡ stopped (LineLong number) → Turned t
+    Long : longest_line < length line → t ≡ stopped (LineLong number) → Turned t
     Refuses : (why : Refused) → answer player line ≡ Err why → t ≡ stopped (refusal_at number why) → Turned t
     Replies : (reply : List ℕ × P) → nat_lt longest_line (length line) ≡ false → answer player line ≡ Ok reply
         → t ≡ after_writing reply.0 (run answer (number + 1) reply.1 lines) → Turned t
@@ -46,7 +49,7 @@ module _ {P : Type 0} (answer : P → List ℕ → Result (List ℕ × P) Refuse
     where
       by : (long : Bool) → nat_lt longest_line (length line) ≡ long → (said : Result (List ℕ × P) Refused) → answer player line ≡ said
           → Turned (cond long (stopped (LineLong number)) (answered (λ next. run answer (number + 1) next lines) number said))
-      by true short said is = Long refl
+      by true long said is = Long (is_longer (length line) long) refl
       by false short (Err why) is = Refuses why is refl
       by false short (Ok reply) is = Replies reply short is refl
 
@@ -64,7 +67,7 @@ module _ {P : Type 0} (answer : P → List ℕ → Result (List ℕ × P) Refuse
   first_answered written last h = by turned
     where
       by : Turned (run answer number player (line ∷ lines)) → FirstAnswered written last
-      by (Long is) = cc (outcome_of (sym is ∙ h))
+      by (Long _ is) = cc (outcome_of (sym is ∙ h))
       by (Refuses why _ is) = cc (outcome_of (sym is ∙ h))
       by (Replies reply short replied is) =
           let t = run answer (number + 1) reply.1 lines in
@@ -76,6 +79,11 @@ module _ {P : Type 0} (answer : P → List ℕ → Result (List ℕ × P) Refuse
             ran = told_is t t.written (Ok last) refl (outcome_of (sym is ∙ h));
             whole = written_of (sym h ∙ is);
           }
+
+-- there is no line
+pub none_answered : {P : Type 0} (answer : P → List ℕ → Result (List ℕ × P) Refused) (number : ℕ) (player : P) (written : List ℕ) (last : P)
+    → run answer number player [] ≡ told written (Ok last) → (written ≡ []) × (last ≡ player)
+none_answered answer number player written last h = (sym (written_of h), sym (ok_same player last (outcome_of h)))
 
 -- the run over these lines, and then over more
 pub run-append : {P : Type 0} (answer : P → List ℕ → Result (List ℕ × P) Refused) (number : ℕ) (player : P) (lines more : List (List ℕ))

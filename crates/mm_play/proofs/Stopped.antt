@@ -136,9 +136,10 @@ module _ {G H E S : Type 0} (p : EventPlayer G H E S) (All Less : H → List E �
         split = t.split;
         short = t.short;
         continues = elim t.continues [
-          | inl (it, left_so, went) ↦ inl (
-            record { at = it.at; leads = it.leads },
-            left_bare left' t.behind (length t.done) (λ line. p.head it.at line ≡ None) (λ line. ⊥) result left_so,
+          | inl (at, leads, left_so, went) ↦ inl (
+            at,
+            leads,
+            left_bare left' t.behind (length t.done) (λ line. p.head at line ≡ None) (λ line. ⊥) result left_so,
             went_on t.behind [] None t.sent sends.sent stop result silent front went,
           )
           | inr (it, left_so, went) ↦ inr (
@@ -164,5 +165,5 @@ lacked_events p Holds {left = left} sends = record {
   behind = [];
   split = refl;
   short = tt;
-  continues = inl (record { at = p.start; leads = refl }, tt, (sends.sent, (sends.unsent, sym sends.parts), refl));
+  continues = inl (p.start, refl, tt, (sends.sent, (sends.unsent, sym sends.parts), refl));
 }

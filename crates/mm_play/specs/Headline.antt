@@ -78,12 +78,6 @@ WentOut behind text last stop sent (Err WriteFault) = IsFrontOf sent text
 WentOut behind text last stop sent (Err _) =
     (stopped : List ℕ) × IsFrontOf stopped stop × (sent ≡ text ++ stopped)
 
--- The lines are some of a heading that isn't whole.
-pub record IsUnbegun {G H E S : Type 0} (p : EventPlayer G H E S) (lines : List (List ℕ)) : Type 0
-  where
-    pub at : G
-    pub leads : Lead p.head p.start lines (More at)
-
 -- The lines name a header, and an event in each behind it; none of these is one too many. And what
 -- is shown of the events, and of each first part of them, holds.
 pub record AreAnswered {G H E S : Type 0} (p : EventPlayer G H E S)
@@ -102,7 +96,8 @@ pub record AreAnswered {G H E S : Type 0} (p : EventPlayer G H E S)
   pub holds : Holds header events shown
 
 -- A play of an input that ended so: the first lines of what was taken were answered, none of them
--- too long; and by the end it says what is left, and what went out.
+-- too long. They are some of a heading that isn't whole, or a heading and events; and by the end it
+-- says what is left, and what went out.
 pub record TellsEvents {G H E S T : Type 0} (p : EventPlayer G H E S)
     (Holds : H → List E → (List E → S) → Type 0) (left left' received received' : Option (List ℕ))
     (stop : List ℕ) (result : Result T ReplayFault) : Type 0 where
@@ -114,8 +109,8 @@ pub record TellsEvents {G H E S T : Type 0} (p : EventPlayer G H E S)
   pub behind : List ℕ
   pub split : taken ≡ lines_joined done ++ behind
   pub short : AllByRecursion (λ line. IsUnbroken line × (length line ≤ longest_line)) done
-  pub continues : ((it : IsUnbegun p done)
-      × IsLeft left' behind (length done) (λ line. p.head it.at line ≡ None) (λ line. ⊥) result
+  pub continues : ((at : G) × Lead p.head p.start done (More at)
+      × IsLeft left' behind (length done) (λ line. p.head at line ≡ None) (λ line. ⊥) result
       × WentOut behind [] None stop sent result)
       ⊎ ((it : AreAnswered p Holds done)
       × IsLeft left' behind (length done) (λ line. p.event_in it.header line ≡ None)

@@ -4,7 +4,6 @@ pub mod Plays
 pub mod Turns
 pub mod Tells
 pub mod Counting
-pub mod Events
 pub mod Headed
 pub mod Kept
 pub mod Stage

@@ -1,6 +1,6 @@
 -- A command among its events, as contracts see it.
 use Rattle.std.specs.Prelude.{◌≡◌, ℕ, ◌+◌, true, false, List, length, Option, None, Some, Result, Ok, Err}
-use Rattle.mm_play.specs.Stage.{EventStage, Running, running, is_over}
+use Rattle.mm_play.specs.Stage.{EventStage, LacksLine, Running, running, is_over}
 use Rattle.mm_play.specs.declared.player.Refused.TheVariants.{Bad, Much}
 use Rattle.mm_play.specs.declared.player.ReplyFault.{ReplyFault}
 use Rattle.mm_play.specs.declared.player.ReplyFault.TheVariants as fault
@@ -16,15 +16,24 @@ IsRefusal answer fault.Memory = Unit {0}
 IsRefusal answer (fault.Refused Bad) = answer ≡ None
 IsRefusal answer (fault.Refused Much) = (found : List ℕ × _) × (answer ≡ Some found)
 
--- A line was answered, or refused, and then nothing has changed.
-abbrev pub RepliesTo : {S : Type 0} → EventStage S → List ℕ → Running S → Running S
-    → Result (List ℕ) ReplyFault → Type 0
-RepliesTo s line old new (Ok reply) =
+-- Memory was wanting for a line: it isn't counted, and where it would be one too many it isn't
+-- played either.
+pub record LacksMemory {S : Type 0} (s : EventStage S) (wants : S → List ℕ → S → Type 0)
+    (line : List ℕ) (old new : Running S) : Type 0 where
+  pub uncounted : new.read ≡ old.read
+  pub unplayed : is_over s old line ≡ true → new.stage ≡ old.stage
+  pub lacks : LacksLine (wants old.stage line new.stage) (s.answer old.stage line) old.stage
+      new.stage
+
+-- A line was answered, or refused, and then nothing has changed; or memory was wanting.
+abbrev pub RepliesTo : {S : Type 0} → EventStage S → (S → List ℕ → S → Type 0) → List ℕ
+    → Running S → Running S → Result (List ℕ) ReplyFault → Type 0
+RepliesTo s wants line old new (Ok reply) =
     (is_over s old line ≡ false) × (stage : _) × (s.answer old.stage line ≡ Some (reply, stage))
     × (new ≡ running stage (old.read + length line))
-RepliesTo s line old new (Err fault.Memory) = Unit {0}
-RepliesTo s line old new (Err (fault.Refused Bad)) =
+RepliesTo s wants line old new (Err fault.Memory) = LacksMemory s wants line old new
+RepliesTo s wants line old new (Err (fault.Refused Bad)) =
     (s.answer old.stage line ≡ None) × (new ≡ old)
-RepliesTo s line old new (Err (fault.Refused Much)) =
+RepliesTo s wants line old new (Err (fault.Refused Much)) =
     (is_over s old line ≡ true) × (found : _) × (s.answer old.stage line ≡ Some found)
     × (new ≡ old)

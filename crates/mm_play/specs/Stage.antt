@@ -1,6 +1,6 @@
 -- A command over events, line by line: the lines of its heading, and then an event in each line,
 -- until one is too many.
-use Rattle.std.specs.Prelude.{◌≡◌, ℕ, ◌+◌, ◌-◌, ◌^◌, min, Bool, ◌||◌, nat_le, nat_lt, List, [], length, Option, None, Some, Result, Ok, Err, if◌then◌else◌}
+use Rattle.std.specs.Prelude.{◌≡◌, ℕ, ◌+◌, ◌-◌, ◌^◌, min, Bool, ◌||◌, nat_le, nat_lt, List, [], length, Option, None, Some, Result, Ok, Err, ◌⊎◌, if◌then◌else◌}
 use Rattle.mm_base.specs.Limits.{most_events}
 use Rattle.mm_play.specs.Headed.{Headed, More, Begins}
 use Rattle.mm_play.specs.Kept.{most_kept}
@@ -91,13 +91,25 @@ module _ {H R : Type 0} (heads : HeadStage H R) (s : EventStage R) where
   lines_left (AtHeading heading) = most_events + 1 + heads.left heading
   lines_left (InEvents r) = most_events - s.events r.stage
 
--- The event that a line spells was answered; where it spells none, nothing has changed.
-abbrev pub PlaysEvent : {R : Type 0} → Option (List ℕ × R) → R → R → Result (List ℕ) ReplyFault
+-- Memory was wanting for the event that a line spells.
+abbrev pub wants_in : {E R : Type 0} → EventSteps E R → (R → E → R → Type 0) → R → List ℕ → R
     → Type 0
-PlaysEvent answer old new (Ok reply) = answer ≡ Some (reply, new)
-PlaysEvent answer old new (Err fault.Memory) = Unit {0}
-PlaysEvent answer old new (Err (fault.Refused Bad)) = (answer ≡ None) × (new ≡ old)
-PlaysEvent answer old new (Err (fault.Refused Much)) = ⊥
+wants_in steps wants old line new =
+    (event : _) × (steps.event_in old line ≡ Some event) × wants old event new
+
+-- Memory was wanting for a line: to read it, and nothing has changed; for its event, as `wants`
+-- says; or for its reply, and the event was played.
+abbrev pub LacksLine : {R : Type 0} → Type 0 → Option (List ℕ × R) → R → R → Type 0
+LacksLine wants answer old new =
+    (new ≡ old) ⊎ (wants ⊎ ((reply : List ℕ) × (answer ≡ Some (reply, new))))
+
+-- The event that a line spells was answered; where it spells none, nothing has changed.
+abbrev pub PlaysEvent : {R : Type 0} → Type 0 → Option (List ℕ × R) → R → R
+    → Result (List ℕ) ReplyFault → Type 0
+PlaysEvent wants answer old new (Ok reply) = answer ≡ Some (reply, new)
+PlaysEvent wants answer old new (Err fault.Memory) = LacksLine wants answer old new
+PlaysEvent wants answer old new (Err (fault.Refused Bad)) = (answer ≡ None) × (new ≡ old)
+PlaysEvent wants answer old new (Err (fault.Refused Much)) = ⊥
 
 -- A line of the heading was taken: it is the last, and the events begin; or more are to come.
 abbrev pub TakesHead : {H R : Type 0} → Option (Headed H R) → H → Result (Option R) ReplyFault
@@ -107,9 +119,3 @@ TakesHead found new (Ok (Some stage)) = found ≡ Some (Begins stage)
 TakesHead found new (Err fault.Memory) = Unit {0}
 TakesHead found new (Err (fault.Refused Bad)) = found ≡ None
 TakesHead found new (Err (fault.Refused Much)) = ⊥
-
--- A line that was refused has changed nothing.
-abbrev pub LeavesIfRefused : {A P : Type 0} → P → P → Result A ReplyFault → Type 0
-LeavesIfRefused old new (Ok reply) = Unit {0}
-LeavesIfRefused old new (Err fault.Memory) = Unit {0}
-LeavesIfRefused old new (Err (fault.Refused why)) = new ≡ old

@@ -6,7 +6,7 @@ use Rattle.mm_base.specs.declared.replay_fault.ReplayFault.TheVariants.{Memory, 
 use Rattle.mm_play.specs.declared.player.Refused.{Refused}
 use Rattle.mm_play.specs.declared.player.Refused.TheVariants.{Much}
 use Rattle.mm_play.specs.Play.{told, run}
-use Rattle.mm_play.specs.Plays.{ForWhole, IsTailShort, Plays}
+use Rattle.mm_play.specs.Plays.{ForWhole, IsTailShort}
 use Rattle.mm_play.specs.Takes.{IsFrontOf}
 
 -- Some first lines were answered, and there it stopped.
@@ -81,14 +81,3 @@ module _ {P : Type 0} (answer : P → List ℕ → Result (List ℕ × P) Refuse
 abbrev pub IsReported : {P R F : Type 0} → (P → R → Type 0) → P → Result R F → Type 0
 IsReported reports next (Ok report) = reports next report
 IsReported reports next (Err fault) = Unit {0}
-
--- A call played an input from this player on. What it took and wrote fits its answer line by line,
--- and tells as a whole what it means.
-pub record PlaysWhole {P R : Type 0} (answer : P → List ℕ → Result (List ℕ × P) Refused)
-    (closing : P → Option (List ℕ)) (first : P) (reports : P → R → Type 0)
-    (some all : List (List ℕ) → List ℕ → Type 0) (much : List (List ℕ) → List (List ℕ) → Type 0)
-    (left left' received received' : Option (List ℕ)) (result : Result R ReplayFault) : Type 0 where
-  pub next : P
-  pub plays : Plays answer closing first next left left' received received' result
-  pub told : TellsBy some all much left' plays.taken plays.sent result
-  pub reported : IsReported reports next result

@@ -24,8 +24,7 @@ pub struct Progress<S: Drop> {
 
 impl<S: Stage + Drop> Progress<S> {
     ghost use Rattle.mm_play.specs.Progress.{RepliesTo, running_in, IsRefusal};
-    ghost use Rattle.mm_play.specs.Stage.{InEvents, LeavesIfRefused, event_answer, is_over, running};
-    ghost use Rattle.mm_play.specs.Takes.{GivesReply};
+    ghost use Rattle.mm_play.specs.Stage.{is_over, running};
 
     /// A stage at its first event.
     pub fn new(stage: S) -> Progress<S>
@@ -65,10 +64,11 @@ impl<S: Stage + Drop> Progress<S> {
 
     /// The reply to an event line, as text. `Refused::Much` comes exactly where it is event 20,001, or where the event
     /// lines and what is kept have more than 268,435,456 bytes; it isn't played then. After a refusal nothing has
-    /// changed.
+    /// changed. After want of memory the line isn't counted, and the stage is as `Stage::play` leaves it then.
     pub fn reply_to_line(&mut self, alloc: Global, line: &[u8]) -> Result<Bytes, ReplyFault>
         requires { length line.now ≤ longest_line }
-        ensures { RepliesTo S.plays line.now (running_in self.old) (running_in self.new) result }
+        ensures { RepliesTo S.plays S.wants line.now (running_in self.old) (running_in self.new)
+            result }
     {
         if self.is_full(line) {
             return Err(self.refusal(alloc, line));

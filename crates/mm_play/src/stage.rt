@@ -15,6 +15,9 @@ pub trait Stage {
     /// What it does with events.
     ghost plays: { EventStage Self };
 
+    /// What stands where memory was wanting for the event of a line: before, the line, and then.
+    ghost wants: { Self → List ℕ → Self → Type 0 };
+
     /// How many events were played.
     fn events(&self) -> u32
         ensures { result ≡ plays.events self.now };
@@ -28,12 +31,14 @@ pub trait Stage {
         ensures { IfOk result (λ is. is ≡ is_some (plays.answer self.now line.now)) };
 
     /// Plays the event that a line spells, one of at most 20,000, and gives its reply as text. `Refused::Bad` comes
-    /// exactly where the line spells none.
+    /// exactly where the line spells none. Where memory is wanting for the line nothing has changed; for its event, the
+    /// stage is as `wants` says; for its reply, the event was played.
     fn play(&mut self, alloc: Global, line: &[u8]) -> Result<Bytes, ReplyFault>
         requires short { length line.now ≤ longest_line }
         requires few { plays.events self.old < most_events }
         requires room { plays.kept self.old ≤ most_kept }
-        ensures { PlaysEvent (plays.answer self.old line.now) self.old self.new result };
+        ensures { PlaysEvent (wants self.old line.now self.new) (plays.answer self.old line.now)
+            self.old self.new result };
 
     /// What is written last.
     fn last_lines(&self, alloc: Global) -> Result<Bytes, Memory>

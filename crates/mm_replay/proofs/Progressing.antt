@@ -3,8 +3,14 @@ use Rattle.mm_replay.proofs.Below.{◌≡◌, ◌∙◌, ◌+◌, ◌-◌, ◌^�
 use Rattle.mm_replay.proofs.Below.{subst, arith, sum_by, slice_get, slice_get_past, Meddle, Stop, reading_steps, course_of}
 use Rattle.mm_replay.proofs.Below.{count_none, Event, Ask, Power, Reply, Digests, Held, instance_of}
 use Rattle.mm_replay.proofs.Below.{having_read, Follows, Wants, Issues}
-use Rattle.mm_replay.specs.Replaying.{replayed_in, KeepsWorld}
-use Rattle.mm_replay.specs.Schedule.{after, Replayed}
+use Rattle.mm_replay.specs.Replaying.{replayed_in, KeepsWorld, WantsEvent}
+use Rattle.mm_replay.specs.Schedule.{after, Replayed, replaying}
+use Rattle.mm_schedule.specs.Grammar.{event_at}
+use Rattle.mm_play.specs.Stage.{answer_by, answer_to, PlaysEvent, wants_in}
+use Rattle.mm_play.specs.declared.player.Refused.TheVariants.{Bad, Much}
+use Rattle.mm_play.specs.declared.player.ReplyFault.{ReplyFault}
+use Rattle.mm_play.specs.declared.player.ReplyFault.TheVariants as fault
+use Rattle.std.specs.Prelude.{Err, Ok, Result}
 use Rattle.mm_replay.proofs.Below.{◌*◌, issues}
 use Rattle.std.proofs.Common.{length-append}
 use Rattle.std.proofs.lemmas.List.Sums.{sum_by-append}
@@ -84,6 +90,22 @@ keeps_still event old new events issued k w =
       one_each = omega (arith, ap (λ (x : List (List ℕ)). length x) s.issued, k.one_each);
       fits = omega (arith, s.count, k.fits);
     }
+
+pub event_wants : (old : Replayed) (event : Event) (was now : Held) (events : ℕ) → replayed_in was events ≡ old → Wants event was now
+    → WantsEvent old event (replayed_in now events)
+event_wants old event was now events view w =
+    subst (λ (r : Replayed). WantsEvent r event (replayed_in now events)) view (was, now, refl, w, refl)
+
+-- what was done with the event of a line was done with the line
+pub line_played : (old new : Replayed) (line : List ℕ) (event : Event) (result : Result (List ℕ) ReplyFault) → event_at line ≡ Some event
+    → PlaysEvent (WantsEvent old event new) (answer_by replaying old (Some event)) old new result
+    → PlaysEvent (wants_in replaying WantsEvent old line new) (answer_to replaying old line) old new result
+line_played old new line event (Ok reply) is h = ap (answer_by replaying old) is ∙ h
+line_played old new line event (Err fault.Memory) is (inl same) = inl same
+line_played old new line event (Err fault.Memory) is (inr (inl w)) = inr (inl (event, is, w))
+line_played old new line event (Err fault.Memory) is (inr (inr h)) = inr (inr (h.0, ap (answer_by replaying old) is ∙ h.1))
+line_played old new line event (Err (fault.Refused Bad)) is h = (ap (answer_by replaying old) is ∙ h.0, h.1)
+line_played old new line event (Err (fault.Refused Much)) is h = h
 
 -- an event was followed: no more was committed and issued than it can
 pub keeps_on : (old new : Held) (event : Event) (said : Reply) (r : Replayed) (events issued n added : ℕ) → KeepsWorld old events issued

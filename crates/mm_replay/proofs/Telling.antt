@@ -3,8 +3,11 @@ use Rattle.mm_replay.proofs.Below.{◌≡◌, ◌∙◌, ℕ, suc, List, [], ◌
 use Rattle.mm_replay.proofs.Below.{Event, end_line, Reply, promises-kept, Followed, followed, replies_by_digests, world_of, by_digests, sum_by}
 use Rattle.mm_replay.proofs.Below.{meaning_by, option_map}
 use Rattle.std.specs.Prelude.{take}
+use Rattle.std.specs.List.{flat_map}
+use Rattle.std.proofs.Common.{inl, inr}
 use Rattle.std.proofs.Math.Seq.{take-append_seam}
 use Rattle.mm_digest.specs.declared.variant.Variant.{Variant}
+use Rattle.mm_model.specs.History.{first_history}
 use Rattle.mm_model.specs.Instance.{Instance}
 use Rattle.mm_module.specs.Meaning.{Meaning}
 use Rattle.mm_modules.specs.Modules.{meaning_of}
@@ -15,13 +18,15 @@ use Rattle.mm_schedule.specs.Headers.{header_at}
 use Rattle.mm_schedule.specs.Machine.{Runs}
 use Rattle.mm_run.specs.Folds.{event_outcome, first_digests, first_issued}
 use Rattle.mm_run.specs.Held.{world_key, world_barrier}
+use Rattle.mm_run.specs.Laws.{SchedulesGoOn}
 use Rattle.mm_run.specs.OneRun.{IsOneRun, FrontsAreOneRun}
 use Rattle.mm_call.specs.Levels.{Level}
 use Rattle.mm_evidence.proofs.Above.{none_is_one, runs_until}
 use Rattle.mm_evidence.specs.Laws.{IsDecidedRun}
 use Rattle.mm_call.specs.Standing.{instance_by}
-use Rattle.mm_replay.specs.Text.{text_of_replies, texts_of}
-use Rattle.mm_replay.specs.Headline.{IsByDigests, IsPromisedRun, replayed, Shown, shown_by_digests}
+use Rattle.mm_replay.specs.Text.{text_of_replies}
+use Rattle.mm_replay.specs.Headline.{IsByDigests, IsPromisedRun, replayed, Shown, shown_by_digests, shown_of}
+use Rattle.mm_replay.specs.Laws.{OneRunUntilEvidence, PremisesGiveOneRun, ReplaysGoOn}
 use Rattle.mm_replay.specs.Schedule.{begun, outcome_of, replay_heads, replay_stage, Replayed, replaying}
 use Rattle.mm_replay.specs.declared.heading.HeaderLine.{HeaderLine}
 
@@ -72,20 +77,39 @@ by_digests_so law decided header events = record {
         first_replies front (replies_by_digests i events).replies it.replies
         (followed i (by_digests i) it.state it.issued later).replies (ap (λ (f : Followed Digests). f.replies) own.0)
         (one_each i (by_digests i) front (first_digests i) (first_issued i));
-    unless_evidence =
-        let i : Instance = world_of header in
-        let known = decided header.variant (meaning_of header.«module») world_key world_barrier in
-        runs_until i known events (λ front. IsPromisedRun i header.«module» front (shown_by_digests header front))
-        (promised_run header.variant header.«module» world_key world_barrier [] (shown_by_digests header []) (none_is_one i known))
-        (λ front later is clear genuine.
-        let own = law header.variant (meaning_of header.«module») world_key world_barrier events front later is in
-        promised_run header.variant header.«module» world_key world_barrier front (shown_by_digests header front)
-        (own.1 clear genuine));
-    one_run = λ front later is clear genuine.
-        let own = law header.variant (meaning_of header.«module») world_key world_barrier events front later is in
-        promised_run header.variant header.«module» world_key world_barrier front (shown_by_digests header front) (own.1 clear genuine);
+    none = promised_run header.variant header.«module» world_key world_barrier [] (shown_by_digests header [])
+        (none_is_one (world_of header) known);
+    unless_evidence = λ front later is. elim (known front).decided [
+      | inl p ↦
+          let own = law header.variant (meaning_of header.«module») world_key world_barrier events front later is in
+          inl (promised_run header.variant header.«module» world_key world_barrier front (shown_by_digests header front) (own.1 p.0 p.1))
+      | inr evidence ↦ inr evidence
+    ];
   };
 }
+  where
+    known : (es : List Event) → IsDecidedRun (world_of header) es
+    known = decided header.variant (meaning_of header.«module») world_key world_barrier
+
+-- what follows of it
+
+pub premises_give : RunsAreDecided → PremisesGiveOneRun
+premises_give decided header events shown one front later is clear genuine = elim (one.unless_evidence front later is) [
+  | inl run ↦ run
+  | inr evidence ↦ absurd ((decided header.variant (meaning_of header.«module») world_key world_barrier front).apart clear genuine evidence)
+]
+
+pub until_evidence : RunsAreDecided → OneRunUntilEvidence
+until_evidence decided header events shown one =
+    runs_until (world_of header) (decided header.variant (meaning_of header.«module») world_key world_barrier) events
+    (λ front. IsPromisedRun (world_of header) header.«module» front (shown front)) one.none
+    (premises_give decided header events shown one)
+
+pub replays_go_on : SchedulesGoOn → ReplaysGoOn
+replays_go_on law header events shown exact front rest is =
+    let i = world_of header in
+    let go = law i front rest first_history (first_digests i) (first_issued i) in
+    (exact.exact front, exact.exact events ∙ ap (λ (es : List Event). shown_by_digests header es) is ∙ ap shown_of go.1)
 
 -- what stands behind events, and what was written
 abbrev followed_in : Replayed → List Event → Followed Digests
@@ -99,7 +123,7 @@ issued_behind : (events : List Event) (r : Replayed) → (behind replaying r eve
 issued_behind [] r = refl
 issued_behind (event ∷ events) r = issued_behind events (replaying.after r event)
 
-texts_behind : (events : List Event) (r : Replayed) → texts_of (followed_in r events).replies ≡ replies replaying r events
+texts_behind : (events : List Event) (r : Replayed) → flat_map text_of_replies (followed_in r events).replies ≡ replies replaying r events
 texts_behind [] r = refl
 texts_behind (event ∷ events) r =
     ap (λ (text : List ℕ). text_of_replies (outcome_of r event).reply ++ text) (texts_behind events (replaying.after r event))

@@ -1,8 +1,9 @@
 -- What is told of a whole replay.
-use Rattle.std.specs.Prelude.{◌≡◌, ℕ, List, ◌++◌, length, take}
-use Rattle.std.specs.List.{sum_by}
+use Rattle.std.specs.Prelude.{◌≡◌, ◌⊎◌, ℕ, List, [], ◌++◌, length, take}
+use Rattle.std.specs.List.{flat_map, sum_by}
 use Rattle.std.specs.Option.{option_map}
 use Rattle.mm_model.specs.Instance.{Instance}
+use Rattle.mm_model.specs.Moves.{Digests}
 use Rattle.mm_modules.specs.declared.any.AnyModule.{AnyModule}
 use Rattle.mm_schedule.specs.declared.header.Header.{Header}
 use Rattle.mm_schedule.specs.Events.{Event}
@@ -11,14 +12,13 @@ use Rattle.mm_schedule.specs.Headers.{header_at}
 use Rattle.mm_schedule.specs.Promises.{Promises}
 use Rattle.mm_schedule.specs.Replies.{end_line}
 use Rattle.mm_schedule.specs.declared.reply.Reply.{Reply}
-use Rattle.mm_run.specs.Folds.{replies_by_digests}
+use Rattle.mm_run.specs.Folds.{Followed, replies_by_digests}
 use Rattle.mm_run.specs.Held.{world_of}
 use Rattle.mm_run.specs.OneRun.{IsOneRun}
-use Rattle.mm_evidence.specs.Evidence.{RunsUntil}
-use Rattle.mm_run.specs.Premises.{IsClearRun, IsGenuineRun}
+use Rattle.mm_evidence.specs.Evidence.{HasEvidence}
 use Rattle.mm_play.specs.Headed.{Begins}
 use Rattle.mm_play.specs.Headline.{EventPlayer}
-use Rattle.mm_replay.specs.Text.{texts_of}
+use Rattle.mm_replay.specs.Text.{text_of_replies}
 use Rattle.mm_replay.specs.declared.heading.HeaderLine.{HeaderLine}
 
 -- what is shown of events: the replies to them, how many requests were committed, and the snapshots
@@ -35,7 +35,7 @@ replayed = record {
   start = record {};
   head = λ at line. option_map (λ header. Begins header) (header_at line);
   event_in = λ header. event_at;
-  text = λ events shown. texts_of shown.replies;
+  text = λ events shown. flat_map text_of_replies shown.replies;
   last = λ shown. end_line shown.committed (length shown.issued);
   kept = λ shown. sum_by length shown.issued;
 }
@@ -47,29 +47,26 @@ pub record IsPromisedRun (i : Instance) («module» : AnyModule) (events : List 
   pub run : IsOneRun i events shown.replies shown.committed shown.issued
   pub promised : Promises «module» run.requests shown.replies
 
--- The headline. Each event has one reply, and the first events have the first ones. And each first
--- part of the events is one run, up to the first event at which one holds evidence in hand: two
--- different messages of the run with one digest, a message with digest zero, a value of others that
--- is the guard of a batch, or an offer that is forged. So it is of each first part that meets the
--- premises.
+-- The headline. Each event has one reply, and the first events have the first ones. No event at all
+-- is one run; and each first part of the events is one, or one holds evidence in hand: two different
+-- messages of the run with one digest, a message with digest zero, a value of others that is the
+-- guard of a batch, or an offer that is forged.
 pub record AreOneRun (header : Header) (events : List Event) (shown : List Event → Shown) : Type 0
   where
     pub each : length (shown events).replies ≡ length events
     pub first : (front later : List Event) → events ≡ front ++ later
         → (shown front).replies ≡ take (length front) (shown events).replies
-    pub unless_evidence : RunsUntil (world_of header) events
-        (λ front. IsPromisedRun (world_of header) header.«module» front (shown front))
-    pub one_run : (front later : List Event) → events ≡ front ++ later
-        → IsClearRun (world_of header) front → IsGenuineRun (world_of header) front
+    pub none : IsPromisedRun (world_of header) header.«module» [] (shown [])
+    pub unless_evidence : (front later : List Event) → events ≡ front ++ later
         → IsPromisedRun (world_of header) header.«module» front (shown front)
+        ⊎ HasEvidence (world_of header) front
 
 -- what is shown of events by digests, as the code computes them
+abbrev pub shown_of : Followed Digests → Shown
+shown_of it = record { replies = it.replies; committed = it.state.count; issued = it.issued }
+
 abbrev pub shown_by_digests : Header → List Event → Shown
-shown_by_digests header events = record {
-  replies = (replies_by_digests (world_of header) events).replies;
-  committed = (replies_by_digests (world_of header) events).state.count;
-  issued = (replies_by_digests (world_of header) events).issued;
-}
+shown_by_digests header events = shown_of (replies_by_digests (world_of header) events)
 
 -- With no premise what is shown is that by digests.
 pub record IsByDigests (header : Header) (events : List Event) (shown : List Event → Shown)

@@ -3,5 +3,6 @@ pub mod Schedule
 pub mod ScheduleLaws
 pub mod Replaying
 pub mod Headline
+pub mod Laws
 pub mod Progress
 pub mod Replays

@@ -2,7 +2,8 @@
 use Rattle.std.specs.Prelude.{◌≡◌, ◌≤◌, ◌<◌, ◌+◌, ◌*◌, ◌^◌, ℕ, length}
 use Rattle.std.specs.List.{sum_by}
 use Rattle.mm_base.specs.Limits.{most_events, most_members}
-use Rattle.mm_run.specs.Held.{Held}
+use Rattle.mm_run.specs.Held.{Held, Wants}
+use Rattle.mm_schedule.specs.Events.{Event}
 use Rattle.mm_replay.specs.Schedule.{Replayed}
 
 abbrev pub replayed_in : Held → ℕ → Replayed
@@ -12,6 +13,12 @@ replayed_in world events = record {
   issued = world.issued;
   events = events;
 }
+
+-- Memory was wanting for an event: so it was in its world, and the event isn't counted.
+abbrev pub WantsEvent : Replayed → Event → Replayed → Type 0
+WantsEvent old event new =
+    (was : Held) × (now : Held) × (replayed_in was old.events ≡ old) × Wants event was now
+    × (replayed_in now old.events ≡ new)
 
 -- The world has issued snapshots of so many bytes, and no more of them, and committed no more
 -- requests, than so many events can.

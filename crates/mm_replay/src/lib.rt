@@ -2,6 +2,7 @@
 #![tactic(auto)]
 
 mod heading;
+mod laws;
 mod progress;
 mod put;
 mod replaying;
@@ -9,6 +10,7 @@ mod report;
 mod schedules;
 
 pub use heading::HeaderLine;
+pub use laws::{replays_are_one_run, replays_go_on};
 pub use progress::Progress;
 pub use put::put_reply;
 pub use replaying::Replaying;

@@ -1,6 +1,6 @@
 //! A replay among its events.
 
-ghost use Rattle.std.specs.Prelude.{◌≡◌, ◌≤◌, ◌<◌, ◌+◌, ◌*◌, ◌^◌, length, IfOk, OnOk, ◌++◌, false, ℕ, List, Some, None, slice_get};
+ghost use Rattle.std.specs.Prelude.{◌≡◌, ◌≤◌, ◌<◌, ◌+◌, ◌*◌, ◌^◌, length, IfOk, OnErr, OnOk, ◌++◌, false, ℕ, List, Some, None, slice_get};
 ghost use Rattle.std.specs.List.{sum_by};
 ghost use Rattle.mm_base.specs.Limits.{longest_line, most_events, most_members};
 ghost use Rattle.mm_play.specs.Kept.{most_kept};
@@ -55,6 +55,7 @@ impl Replaying {
     ghost use Rattle.mm_schedule.specs.Texts as texts;
     ghost use Rattle.mm_schedule.specs.Replies.{IsPrintable, end_line};
     ghost use Rattle.mm_play.specs.Stage.{PlaysEvent, answer_by};
+    ghost use Rattle.mm_replay.specs.Replaying.{WantsEvent};
 
     /// A replay at its first event.
     pub fn new(alloc: Global, header: &Header) -> Result<Replaying, Memory>
@@ -72,7 +73,7 @@ impl Replaying {
         })
     }
 
-    /// Plays an event in the world.
+    /// Plays an event in the world. After want of memory it isn't counted, and all is as the world leaves it then.
     #[inline(always)]
     pub fn event(&mut self, event: &Event) -> Result<Reply, Memory>
         requires few { self.old.events < most_events }
@@ -81,6 +82,7 @@ impl Replaying {
             (λ reply. reply ≡ (outcome_of self.old (event_of event.now)).reply) }
         ensures printable { IfOk result IsPrintable }
         ensures after { OnOk result (self.new ≡ after self.old (event_of event.now)) }
+        ensures wants { OnErr result (WantsEvent self.old (event_of event.now) self.new) }
     {
         let before = self.world.issued();
         let reply = self.world.event(event)?;
@@ -99,6 +101,8 @@ impl Replaying {
         ensures printable { IfOk result IsPrintable }
         ensures after { OnOk result
             (self.new ≡ after self.old (texts.event_in (meddles_of meddles.now) text.entry)) }
+        ensures wants { OnErr result (WantsEvent self.old
+            (texts.event_in (meddles_of meddles.now) text.entry) self.new) }
     {
         let before = self.world.issued();
         let reply = self.world.event_in_line(meddles, text)?;
@@ -116,8 +120,9 @@ impl Replaying {
     ) -> Result<Bytes, ReplyFault>
         requires few { self.old.events < most_events }
         requires room { sum_by length self.old.issued ≤ most_kept }
-        ensures { PlaysEvent (answer_by replaying self.old
-            (Some (texts.event_in (meddles_of meddles.now) text.entry))) self.old self.new result }
+        ensures { let event = texts.event_in (meddles_of meddles.now) text.entry in
+            PlaysEvent (WantsEvent self.old event self.new)
+            (answer_by replaying self.old (Some event)) self.old self.new result }
     {
         let reply = match self.event_in_line(meddles, text) {
             Ok(reply) => reply,
@@ -154,10 +159,14 @@ impl Replaying {
 }
 
 impl Stage for Replaying {
-    ghost use Rattle.mm_replay.specs.Schedule.{replay_stage};
+    ghost use Rattle.mm_play.specs.Stage.{wants_in};
+    ghost use Rattle.mm_replay.specs.Replaying.{WantsEvent};
+    ghost use Rattle.mm_replay.specs.Schedule.{replay_stage, replaying};
     ghost use Rattle.mm_replay.specs.ScheduleLaws.{counts_on};
 
     ghost plays = { replay_stage };
+
+    ghost wants = { wants_in replaying WantsEvent };
 
     fn events(&self) -> u32 {
         self.events

@@ -7,4 +7,6 @@ pub use Rattle.mm_run.proofs.FirstBytes.{clear_within}
 pub use Rattle.mm_run.proofs.FrontRuns.{goes_on}
 pub use Rattle.mm_run.proofs.MetPremises.{anchor_nil}
 pub use Rattle.mm_run.proofs.Naming.{basic_events_keep_names, basic_issued_named, last_steps, opt_events_keep_names, opt_issued_named}
+pub use Rattle.mm_run.proofs.Parts.{ask_moves, asking_messages, broken_reply, stopped_reply, told_reply}
+pub use Rattle.mm_run.proofs.RightOffers.{issued_names, said_of}
 pub use Rattle.mm_run.proofs.Running.{event_steps}

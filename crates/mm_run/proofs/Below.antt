@@ -81,13 +81,13 @@ pub use Rattle.mm_schedule.specs.declared.event.Offer.TheVariants.{Last}
 pub use Rattle.mm_schedule.specs.declared.reply.Reply.{Reply}
 pub use Rattle.mm_schedule.specs.declared.reply.Way.{Way}
 pub use Rattle.mm_run.specs.Folds.{after_stop, asked, closed_outcome, closing_reply, closing_then, course_of, event_outcome, expected}
-pub use Rattle.mm_run.specs.Folds.{first_digests, first_issued, followed, Followed, followed_by, moves_then, Outcome, outcome_by}
-pub use Rattle.mm_run.specs.Folds.{replies_by_digests, reply_of, snapshots_of, uncalled, way_of, broken_reply}
+pub use Rattle.mm_run.specs.Folds.{first_digests, first_issued, followed, Followed, moves_then, Outcome, outcome_by}
+pub use Rattle.mm_run.specs.Folds.{replies_by_digests, reply_of, snapshots_of, uncalled, way_of}
 pub use Rattle.mm_run.specs.Held.{world_barrier, world_key}
 pub use Rattle.mm_run.specs.Laws.{after_two_segments, AgreesThroughout, continued, ExpectedRuns, IsExpected, IsIssued, IssuedNamePositions}
 pub use Rattle.mm_run.specs.Laws.{one_ask, two_segments}
 pub use Rattle.mm_run.specs.Offered.{flipped, offered_bytes}
 pub use Rattle.mm_run.specs.OneEvent.{EventsAgree, EventsKeepNames, IsSameOutcome, IsSoundIn, Keeps, KeepsNames}
 pub use Rattle.mm_run.specs.Premises.{AreApartIn, AreGenuine, batches_of, event_messages, foreign_of, IsClearRun, IsGenuineEvent}
-pub use Rattle.mm_run.specs.Premises.{IsGenuineRun, messages_from, moves_of, ask_moves, asked_batches, asking_messages, foreign_values}
+pub use Rattle.mm_run.specs.Premises.{IsGenuineRun, messages_from, moves_of, asked_batches, foreign_values}
 pub use Rattle.mm_run.specs.Premises.{IsGenuineOffer, run_messages}

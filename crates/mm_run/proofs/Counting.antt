@@ -1,6 +1,7 @@
 -- What an event comes to, in either variant: at most 64 requests are committed, the reply can be printed, and at most one
 -- snapshot is issued.
-use Rattle.mm_run.proofs.Below.{found_with_tells, unless_lost, bytes_eq, tag_of, kept_at, commits, broken_reply}
+use Rattle.mm_run.proofs.Below.{found_with_tells, unless_lost, bytes_eq, tag_of, kept_at, commits}
+use Rattle.mm_run.proofs.Parts.{broken_reply}
 use Rattle.mm_run.proofs.Below.{◌≡◌, ℕ, ◌+◌, ◌≤◌, Bool, true, false, List, [], ◌∷◌, ◌++◌, length, IsTrue, Option, None, Some, Result, Ok}
 use Rattle.mm_run.proofs.Below.{Err, refl, sym, ap, subst, arith, length-append, All, nat_tests}
 use Rattle.mm_run.proofs.Below.{All-nil, All-cons, last_position, longest_request, most_members, Variant, Basic, Opt, Meaning, IsLawful}

@@ -6,8 +6,9 @@ use Rattle.mm_run.proofs.Below.{all_made, right_content, Called, called, Checkpo
 use Rattle.mm_run.proofs.Below.{IsSameCheckpoint, moves_messages, right_messages, IsSameCall, Event, Ask, Checkpoint, Power, Extend, Reply}
 use Rattle.mm_run.proofs.Below.{offered_bytes, Outcome, way_of, course_of, reply_of, snapshots_of, outcome_by}
 use Rattle.mm_run.proofs.Below.{uncalled, asked, closing_reply, closed_outcome, event_outcome, followed, moves_of}
-use Rattle.mm_run.proofs.Below.{event_messages, messages_from, foreign_of, batches_of, AreGenuine, ask_moves}
-use Rattle.mm_run.proofs.Below.{asking_messages, foreign_values, asked_batches, IsGenuineOffer, AgreesThroughout, Keeps, IsSameOutcome}
+use Rattle.mm_run.proofs.Below.{event_messages, messages_from, foreign_of, batches_of, AreGenuine}
+use Rattle.mm_run.proofs.Below.{foreign_values, asked_batches, IsGenuineOffer, AgreesThroughout, Keeps, IsSameOutcome}
+use Rattle.mm_run.proofs.Parts.{ask_moves, asking_messages}
 use Rattle.mm_run.proofs.Below.{start_message, first_history, first_digests, first_issued, run_messages, expected, replies_by_digests}
 use Rattle.mm_run.proofs.Below.{IsGenuineRun, each_self}
 use Rattle.mm_run.specs.OneEvent.{IsEventWithin}

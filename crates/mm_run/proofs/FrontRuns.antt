@@ -1,6 +1,6 @@
 -- A schedule goes on from what stands after its first events; and each first part of it is one run, where it meets the premises.
-use Rattle.mm_run.proofs.Below.{ℕ, ◌≡◌, List, [], ◌∷◌, ◌++◌, refl, sym, ap, ◌∙◌, add_assoc, zero-add, append_assoc, Instance, History}
-use Rattle.mm_run.proofs.Below.{Event, Level, by_lists, Outcome, event_outcome, Followed, followed_by, followed, moves_messages}
+use Rattle.mm_run.proofs.Below.{ℕ, ◌+◌, ◌≡◌, List, [], ◌∷◌, ◌++◌, refl, sym, ap, ◌∙◌, add_assoc, zero-add, append_assoc, Instance, History}
+use Rattle.mm_run.proofs.Below.{Event, Level, by_lists, Outcome, event_outcome, Followed, followed, moves_messages}
 use Rattle.mm_run.proofs.Below.{event_messages, moves_of, messages_from, continued, subst, Contains-append_left, Contains, flat_map}
 use Rattle.mm_run.proofs.Below.{by_digests, start_message, Variant, instance_by, Meaning, first_history, requests_of, IsClear, Runs, Reply}
 use Rattle.mm_run.proofs.Below.{expected}
@@ -20,6 +20,15 @@ nothing_first s issued f = λ j. record {
   replies = f.replies;
   steps = sym (zero-add f.steps) j;
   writes = sym (zero-add f.writes) j;
+}
+
+abbrev followed_by : {S : Type 0} → Outcome S → Followed S → Followed S
+followed_by o rest = record {
+  state = rest.state;
+  issued = rest.issued;
+  replies = o.reply ∷ rest.replies;
+  steps = o.steps + rest.steps;
+  writes = o.writes + rest.writes;
 }
 
 event_first : {S : Type 0} (o : Outcome S) (f g : Followed S) → followed_by o (continued f g) ≡ continued (followed_by o f) g

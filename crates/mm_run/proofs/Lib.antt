@@ -1,5 +1,7 @@
 pub mod Above
 mod Below
+mod Parts
+mod RightOffers
 mod FrontRuns
 mod Following
 mod Expecting

@@ -12,7 +12,8 @@ use Rattle.mm_run.proofs.Below.{requests_of, total_of, judge, life_of, is_lost, 
 use Rattle.mm_run.proofs.Below.{first_sound, reads_zero, opt_issued, Called, called, called_with, Found, found_by_verdict, found_with}
 use Rattle.mm_run.proofs.Below.{weighed, Outcome, followed, event_outcome, outcome_by, expected, first_issued, world_barrier, two_segments}
 use Rattle.mm_run.proofs.Below.{after_two_segments, moves_of, event_messages, messages_from, IsGenuineEvent, AreGenuine, each_at, Option}
-use Rattle.mm_run.proofs.Below.{Some, offered_bytes, asked, ask_moves, asking_messages, IsGenuineOffer}
+use Rattle.mm_run.proofs.Below.{Some, offered_bytes, asked, IsGenuineOffer}
+use Rattle.mm_run.proofs.Parts.{ask_moves, asking_messages}
 use Rattle.mm_digest.specs.Messages.{start_of, zero_bytes, extended_of}
 use Rattle.mm_model.specs.Chains.{anchor_of, register_of}
 use Rattle.mm_run.proofs.FirstBytes.{basic_clear, basic_listed, basic_messages, clear_within, five, guard_first, AreListed, five_guard}

@@ -16,18 +16,17 @@ pub use Rattle.mm_model.specs.InstanceWords.{basic, opt}
 pub use Rattle.mm_model.specs.Long.{is_long}
 pub use Rattle.mm_model.specs.Messages.{AreNoGuards, IsClear, Within}
 pub use Rattle.mm_model.specs.Moves.{Digests}
-pub use Rattle.mm_model.specs.Places.{Names}
+pub use Rattle.mm_model.specs.Places.{Names, issued}
 pub use Rattle.mm_model.specs.Sound.{IsSound}
-pub use Rattle.mm_model.specs.Standing.{IsGenuine, issued_bytes}
+pub use Rattle.mm_model.specs.Standing.{IsGenuine}
 pub use Rattle.mm_model.specs.Steps.{Reads}
-pub use Rattle.mm_model.specs.declared.answer.BatchAnswer.{BatchAnswer}
 pub use Rattle.mm_model.specs.declared.refusal.Refusal.{Refusal}
 pub use Rattle.mm_call.specs.Asked.{IsWithin, moves_messages, right_messages}
 pub use Rattle.mm_call.specs.Called.{Answers, Breaks, Called, Ending, Refuses, called, called_by, reading_steps, seen_at}
 pub use Rattle.mm_call.specs.Checkpoints.{Checkpointed, Closes, Closing, HasNone, LostPower, NoSegment, Stops, checkpointed}
 pub use Rattle.mm_call.specs.Courses.{Course, planned, walk}
 pub use Rattle.mm_call.specs.Found.{right_content}
-pub use Rattle.mm_call.specs.Levels.{Agrees, Level, all_made, by_digests, by_lists}
+pub use Rattle.mm_call.specs.Levels.{Agrees, Level, by_digests, by_lists}
 pub use Rattle.mm_call.specs.Standing.{counted_by, instance_by}
 pub use Rattle.mm_schedule.specs.Events.{Ask, Checkpoint, Event, Extend, Power}
 pub use Rattle.mm_schedule.specs.Machine.{Runs, Steps}

@@ -1,10 +1,10 @@
 -- A schedule followed by a level: each event's reply, and what stands after it.
-use Rattle.std.specs.Prelude.{ℕ, ◌+◌, ◌-◌, Bool, false, List, [], ◌∷◌, ◌++◌, length, Option, None, Some, Err, if◌then◌else◌}
+use Rattle.std.specs.Prelude.{ℕ, ◌+◌, ◌-◌, false, List, [], ◌∷◌, ◌++◌, length, fold, Option, None, Some, Err, if◌then◌else◌}
 use Rattle.std.specs.Option.{option_map_or}
-use Rattle.mm_run.specs.Below.{zero_bytes, start_of, Plan, BatchAnswer, Meddle, Stop, Cut, Drop, Batch, One, normal, History, Move, Foreign}
-use Rattle.mm_run.specs.Below.{PowerMove, first_history, Instance, is_long, Digests, issued_bytes, Reads, Refusal, Ending, Answers, Refuses}
+use Rattle.mm_run.specs.Below.{zero_bytes, start_of, sealed_of, Plan, Meddle, Stop, Cut, Drop, Batch, One, normal, History, Move, Foreign}
+use Rattle.mm_run.specs.Below.{PowerMove, first_history, Instance, is_long, Digests, issued, Reads, Refusal, Ending, Answers, Refuses}
 use Rattle.mm_run.specs.Below.{Breaks, Called, called, called_by, Closing, Closes, HasNone, NoSegment, LostPower, Stops, Checkpointed}
-use Rattle.mm_run.specs.Below.{checkpointed, Course, planned, walk, Level, all_made, by_lists, by_digests, Event, Ask, Checkpoint, Power}
+use Rattle.mm_run.specs.Below.{checkpointed, Course, planned, walk, Level, by_lists, by_digests, Event, Ask, Checkpoint, Power}
 use Rattle.mm_run.specs.Below.{Extend, Cause, Reply, Way}
 use Rattle.mm_model.specs.declared.refusal.Refusal.TheVariants as refusal
 use Rattle.mm_schedule.specs.declared.reply.Way.TheVariants as way
@@ -52,20 +52,14 @@ cause_of refusal.Blank = cause.Blank
 cause_of refusal.Cell = cause.Cell
 cause_of why = cause.Long
 
--- the reply that tells an answer
-abbrev pub told_reply : BatchAnswer → Reply
-told_reply answer =
-    reply.Told answer.again (answer.position - length answer.outputs) answer.outputs
-
--- a call that was broken off: with the position after its batch, if that was committed
-abbrev pub broken_reply : Way → Option ℕ → Reply
-broken_reply how kept = option_map_or (λ position. reply.Kept how position) kept (reply.Nothing how)
-
--- the reply to a call
+-- the reply to a call: its answer; or, where it was broken off, the position after its batch, if
+-- that was committed
 abbrev pub reply_of : Way → Ending → Reply
-reply_of how (Answers answer) = told_reply answer
+reply_of how (Answers answer) =
+    reply.Told answer.again (answer.position - length answer.outputs) answer.outputs
 reply_of how (Refuses why) = reply.No (cause_of why)
-reply_of how (Breaks fault kept) = broken_reply how kept
+reply_of how (Breaks fault kept) =
+    option_map_or (λ position. reply.Kept how position) kept (reply.Nothing how)
 
 -- an answer hands out a snapshot
 abbrev pub snapshots_of : Ending → List (List ℕ)
@@ -80,7 +74,7 @@ moves_then stop ending = []
 -- what a call comes to in a schedule
 abbrev pub outcome_by : {S : Type 0} → Level S → Stop → List (List ℕ) → Called S → Outcome S
 outcome_by level stop issued o = record {
-  state = all_made level o.state (moves_then stop o.ending);
+  state = fold level.made o.state (moves_then stop o.ending);
   issued = issued ++ snapshots_of o.ending;
   reply = reply_of (way_of stop) o.ending;
   steps = o.steps;
@@ -116,17 +110,13 @@ asked_in_vain level s issued meddles stop why (Some bytes) b =
     if is_long b then uncalled s issued (reply.No cause.Long)
     else reads_only level s issued meddles stop why
 
--- a checkpoint that was broken off: whether its segment was closed
-abbrev pub stopped_reply : Way → Bool → Reply
-stopped_reply how closed = if closed then reply.Closed how else reply.Nothing how
-
--- the reply to a checkpoint
+-- the reply to a checkpoint: where it was broken off, whether its segment was closed
 abbrev pub closing_reply : Way → Closing → Reply
 closing_reply how Closes = reply.Checkpointed
 closing_reply how HasNone = reply.No cause.Kind
 closing_reply how NoSegment = reply.No cause.Segment
 closing_reply how LostPower = reply.No cause.Lost
-closing_reply how (Stops fault closed) = stopped_reply how closed
+closing_reply how (Stops fault closed) = if closed then reply.Closed how else reply.Nothing how
 
 abbrev pub closing_then : Stop → Closing → List Move
 closing_then stop (Stops fault closed) = after_stop stop
@@ -136,7 +126,7 @@ closing_then stop closing = []
 abbrev pub closed_outcome : {S : Type 0} → Level S → Stop → List (List ℕ) → Checkpointed S
     → Outcome S
 closed_outcome level stop issued o = record {
-  state = all_made level o.state (closing_then stop o.ending);
+  state = fold level.made o.state (closing_then stop o.ending);
   issued = issued;
   reply = closing_reply (way_of stop) o.ending;
   steps = o.steps;
@@ -172,26 +162,23 @@ pub record Followed (S : Type 0) : Type 0 where
   pub steps : ℕ
   pub writes : ℕ
 
-abbrev pub followed_by : {S : Type 0} → Outcome S → Followed S → Followed S
-followed_by o rest = record {
-  state = rest.state;
-  issued = rest.issued;
-  replies = o.reply ∷ rest.replies;
-  steps = o.steps + rest.steps;
-  writes = o.writes + rest.writes;
-}
-
 abbrev pub followed : {S : Type 0} → Instance → Level S → S → List (List ℕ) → List Event
     → Followed S
 followed i level s issued [] =
     record { state = s; issued = issued; replies = []; steps = 0; writes = 0 }
 followed i level s issued (event ∷ events) =
-    let o = event_outcome i level s issued event in followed_by o
-    (followed i level o.state o.issued events)
+    let o = event_outcome i level s issued event in
+    let rest = followed i level o.state o.issued events in record {
+      state = rest.state;
+      issued = rest.issued;
+      replies = o.reply ∷ rest.replies;
+      steps = o.steps + rest.steps;
+      writes = o.writes + rest.writes;
+    }
 
 -- the first snapshot of an instance, and its first digests
 abbrev pub first_issued : Instance → List (List ℕ)
-first_issued i = issued_bytes i first_history ∷ []
+first_issued i = sealed_of i.key (issued i first_history) ∷ []
 
 abbrev pub first_digests : Instance → Digests
 first_digests i =

@@ -2,37 +2,29 @@
 -- the run.
 use Rattle.std.specs.Prelude.{◌≡◌, ℕ, List, [], ◌∷◌, ◌++◌, Option, IfSome, map, flat_map, if◌then◌else◌}
 use Rattle.std.specs.Option.{option_map_or}
-use Rattle.mm_run.specs.Below.{start_message, Variant, Opt, Meddle, Stop, Batch, normal, History, Move, Foreign, PowerMove}
+use Rattle.mm_run.specs.Below.{start_message, Variant, Opt, Batch, normal, History, Move, Foreign, PowerMove}
 use Rattle.mm_run.specs.Below.{first_history, Instance, is_long, IsClear, AreNoGuards, IsGenuine, moves_messages, right_messages}
 use Rattle.mm_run.specs.Below.{called, checkpointed}
 use Rattle.mm_run.specs.Below.{right_content, by_lists, Event, Ask, Checkpoint, Power, Extend}
 use Rattle.mm_run.specs.Offered.{offered_bytes}
 use Rattle.mm_run.specs.Folds.{course_of, event_outcome, first_issued}
 
--- the moves of a call that is asked
-abbrev pub ask_moves : Instance → History → List Meddle → Stop → Option (List ℕ) → Batch → List Move
-ask_moves i y meddles stop offered b =
-    option_map_or (λ bytes. if is_long b then []
-    else (called i (by_lists i) y (course_of stop meddles) bytes (normal b)).moves) offered []
-
 -- the moves of an event's call, by lists. The loss of power after one that was cut has no messages.
 abbrev pub moves_of : Instance → History → List (List ℕ) → Event → List Move
 moves_of i y issued (Ask meddles stop offer b) =
-    ask_moves i y meddles stop (offered_bytes issued offer) b
+    option_map_or (λ bytes. if is_long b then []
+    else (called i (by_lists i) y (course_of stop meddles) bytes (normal b)).moves)
+    (offered_bytes issued offer) []
 moves_of i y issued (Checkpoint meddles stop) =
     (checkpointed i (by_lists i) y (course_of stop meddles)).moves
 moves_of i y issued Power = PowerMove ∷ []
 moves_of i y issued (Extend value) = Foreign value ∷ []
 
--- the messages of what is asked of a right offer, where the batch isn't too long
-abbrev pub asking_messages : Instance → Option (List ℕ) → Batch → List (List ℕ)
-asking_messages i offered b =
-    option_map_or (λ bytes. if is_long b then []
-    else right_messages i (normal b) (right_content i bytes)) offered []
-
+-- the messages of what an event asks of a right offer, where the batch isn't too long
 abbrev pub event_messages : Instance → List (List ℕ) → Event → List (List ℕ)
 event_messages i issued (Ask meddles stop offer b) =
-    asking_messages i (offered_bytes issued offer) b
+    option_map_or (λ bytes. if is_long b then []
+    else right_messages i (normal b) (right_content i bytes)) (offered_bytes issued offer) []
 event_messages i issued event = []
 
 -- the messages of events from a history on, event by event: those of what is asked, then those of

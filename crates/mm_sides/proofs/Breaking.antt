@@ -1,12 +1,12 @@
 -- A run of both sides meets the premises or gives evidence, and never both.
 use Rattle.mm_sides.proofs.Below.{ℕ, ◌≡◌, ◌&&◌, ◌++◌, ◌∷◌, Bool, false, List, [], Option, None, Some, Result, Ok, Err, inl, inr}
-use Rattle.mm_sides.proofs.Below.{refl, sym, ap, subst, Contains, bytes_eq, bytes_eq-Decides, nat_eq, Variant, Basic, Opt, Batch, Content}
+use Rattle.mm_sides.proofs.Below.{refl, sym, ap, subst, Contains, bytes_eq, bytes_eq-Decides, nat_eq, Content}
 use Rattle.mm_sides.proofs.Below.{History, Instance, Refusal, TicketContent, Event, offered_bytes}
 use Rattle.mm_sides.proofs.Below.{Role, Live, Retired, Waiting, Blank, Effect, Invites, Leaves, Enters, Notes, no_notes}
-use Rattle.mm_sides.proofs.Below.{First, Which, key_of, Pair, instance_on, Side, Both, lists_move, first_lists, history_now}
+use Rattle.mm_sides.proofs.Below.{First, Which, key_of, Pair, instance_on, Both, lists_move, first_lists, history_now}
 use Rattle.mm_sides.proofs.Below.{Invite, Retire, Accept, ticket_in, Act, Plain, Moves, BothEvent, both_outcome, both_followed}
 use Rattle.mm_sides.proofs.Below.{noted_if, IsGenuineTo, IsGenuineHere, IsGenuineIn, AreGenuineFrom, IsNew}
-use Rattle.mm_sides.proofs.Below.{IsOurs, IsOursOffered, IsOursIn, AreFreshFrom, both_messages, both_others, both_batches, AreApartIn}
+use Rattle.mm_sides.proofs.Below.{IsOurs, IsOursOffered, IsOursIn, AreFreshFrom, both_messages, both_others, both_batches}
 use Rattle.std.proofs.Common.{◌⊎◌}
 use Rattle.std.specs.Bool.{Decides}
 use Rattle.std.proofs.lemmas.Bool.Decides.{Decides-and, Decides-eqb}
@@ -15,12 +15,15 @@ use Rattle.mm_seal.specs.declared.snapshot.Place.TheVariants.{Basic as InBasic, 
 use Rattle.mm_digest.specs.declared.digest.Digest.{Digest}
 use Rattle.mm_model.specs.Places.{Names}
 use Rattle.mm_history.specs.Naming.{BasicNamesAreDecided, is_named, IsDecided, OptNamesAreDecided}
-use Rattle.mm_evidence.specs.Evidence.{HasGuard}
-use Rattle.mm_evidence.proofs.Above.{event_apart, event_or, found_or_none, guard_or, messages_or, names_by, offer_apart, offer_or}
+use Rattle.mm_platform.specs.declared.plan.Meddle.{Meddle}
+use Rattle.mm_platform.specs.declared.plan.Stop.{Stop}
+use Rattle.mm_schedule.specs.Events.{Ask, Checkpoint, Extend, Power}
+use Rattle.mm_schedule.specs.declared.event.Offer.{Offer}
+use Rattle.mm_run.specs.Premises.{IsGenuineOffer}
+use Rattle.mm_evidence.specs.Evidence.{IsForged}
+use Rattle.mm_evidence.proofs.Above.{clash_apart, clash_or, found_or_none, names_by, offer_apart, offer_or}
 use Rattle.mm_sides.specs.Both.{facing}
-use Rattle.mm_sides.specs.Evidence.{breach, collision, forged, guarded, HasPairEvidence, invited, IsBreach, IsForeign}
-use Rattle.mm_sides.specs.Evidence.{IsForeignIn, IsForeignOffered, IsForgedHere, IsForgedPlain, IsForgedTo}
-use Rattle.mm_sides.specs.Evidence.{IsInvitedAgain, notes_after, PairsAreDecided, ticket, zero_digest}
+use Rattle.mm_sides.specs.Evidence.{accepted, asked, breach, clash, HasPairEvidence, invited, IsBreach, notes_after, PairsAreDecided, retired}
 use Rattle.mm_sides.specs.Premises.{IsClearPair, IsFreshPair, IsGenuinePair, IsGenuinePlain}
 
 -- tickets are compared
@@ -82,94 +85,103 @@ contains_or same decides xs x = elim (found_or_none (same x) xs) [
   | inr none ↦ inr (λ there. none x there ((decides x x).1 refl))
 ]
 
--- nonces and tickets
+-- what an event breaks, or that it breaks nothing
 
-new_or : (notes : Notes) (effect : Option Effect) → IsInvitedAgain notes effect ⊎ IsNew notes effect
-new_or notes (Some (Invites nonce)) = contains_or bytes_eq bytes_eq-Decides notes.invited nonce
-new_or notes (Some (Leaves t)) = inr tt
-new_or notes (Some (Enters t)) = inr tt
-new_or notes None = inr tt
+module _ (pair : Pair) (both : Both History History) (notes : Notes) (event : BothEvent) where
+  abbrev here : Both History History
+  here = facing event.which both
 
-ours_by : (notes : Notes) (read : Result TicketContent Refusal) → IsForeign notes read ⊎ IsOurs notes read
-ours_by notes (Ok t) = elim (contains_or same_ticket ticket-Decides notes.retired t) [ inl ours ↦ inr ours | inr none ↦ inl none ]
-ours_by notes (Err why) = inr tt
+  abbrev at_side : Instance
+  at_side = instance_on pair event.which
 
-ours_offered : (pair : Pair) (notes : Notes) (bytes : Option (List ℕ)) → IsForeignOffered pair notes bytes ⊎ IsOursOffered pair notes bytes
-ours_offered pair notes None = inr tt
-ours_offered pair notes (Some bytes) = ours_by notes (ticket_in pair bytes)
+  abbrev Breach : Type 0
+  Breach = IsBreach pair both notes event
 
-ours_or : (pair : Pair) (tickets : List (List ℕ)) (notes : Notes) (act : Act)
-    → IsForeignIn pair tickets notes act ⊎ IsOursIn pair tickets notes act
-ours_or pair tickets notes (Plain event) = inr tt
-ours_or pair tickets notes (Moves meddles stop (Accept offer)) = ours_offered pair notes (offered_bytes tickets offer)
-ours_or pair tickets notes (Moves meddles stop (Invite nonce)) = inr tt
-ours_or pair tickets notes (Moves meddles stop (Retire nonce offer)) = inr tt
+  new_or : (effect : Option Effect) → (both_outcome lists_move pair both event).effect ≡ effect → Breach ⊎ IsNew notes effect
+  new_or (Some (Invites nonce)) is = elim (contains_or bytes_eq bytes_eq-Decides notes.invited nonce) [
+    | inl again ↦ inl (invited nonce is again)
+    | inr new ↦ inr new
+  ]
+  new_or (Some (Leaves t)) is = inr tt
+  new_or (Some (Enters t)) is = inr tt
+  new_or None is = inr tt
 
-new_apart : (notes : Notes) (effect : Option Effect) → IsInvitedAgain notes effect → IsNew notes effect → ⊥
-new_apart notes (Some (Invites nonce)) again new = new again
-new_apart notes (Some (Leaves t)) again new = again
-new_apart notes (Some (Enters t)) again new = again
-new_apart notes None again new = again
+  module _ (meddles : List Meddle) (stop : Stop) (offer : Offer) (is : event.act ≡ Moves meddles stop (Accept offer)) where
+    ours_by : (bytes : List ℕ) → offered_bytes both.tickets offer ≡ Some bytes → (read : Result TicketContent Refusal)
+        → ticket_in pair bytes ≡ read → Breach ⊎ IsOurs notes read
+    ours_by bytes offers (Ok t) reads = elim (contains_or same_ticket ticket-Decides notes.retired t) [
+      | inl ours ↦ inr ours
+      | inr none ↦ inl (accepted meddles stop offer bytes t is offers reads none)
+    ]
+    ours_by bytes offers (Err why) reads = inr tt
 
-ours_by_apart : (notes : Notes) (read : Result TicketContent Refusal) → IsForeign notes read → IsOurs notes read → ⊥
-ours_by_apart notes (Ok t) foreign ours = foreign ours
-ours_by_apart notes (Err why) foreign ours = foreign
+    ours_offered : (bytes : Option (List ℕ)) → offered_bytes both.tickets offer ≡ bytes → Breach ⊎ IsOursOffered pair notes bytes
+    ours_offered None offers = inr tt
+    ours_offered (Some bytes) offers = ours_by bytes offers (ticket_in pair bytes) refl
 
-ours_offered_apart : (pair : Pair) (notes : Notes) (bytes : Option (List ℕ)) → IsForeignOffered pair notes bytes
-    → IsOursOffered pair notes bytes → ⊥
-ours_offered_apart pair notes None foreign ours = foreign
-ours_offered_apart pair notes (Some bytes) foreign ours = ours_by_apart notes (ticket_in pair bytes) foreign ours
+  ours_or : (act : Act) → event.act ≡ act → Breach ⊎ IsOursIn pair both.tickets notes act
+  ours_or (Plain e) is = inr tt
+  ours_or (Moves meddles stop (Accept offer)) is = ours_offered meddles stop offer is (offered_bytes both.tickets offer) refl
+  ours_or (Moves meddles stop (Invite nonce)) is = inr tt
+  ours_or (Moves meddles stop (Retire nonce offer)) is = inr tt
 
-ours_apart : (pair : Pair) (tickets : List (List ℕ)) (notes : Notes) (act : Act) → IsForeignIn pair tickets notes act
-    → IsOursIn pair tickets notes act → ⊥
-ours_apart pair tickets notes (Plain event) foreign ours = foreign
-ours_apart pair tickets notes (Moves meddles stop (Accept offer)) foreign ours =
-    ours_offered_apart pair notes (offered_bytes tickets offer) foreign ours
-ours_apart pair tickets notes (Moves meddles stop (Invite nonce)) foreign ours = foreign
-ours_apart pair tickets notes (Moves meddles stop (Retire nonce offer)) foreign ours = foreign
+  -- offers, of an instance whose names are decided
+  module _ (named : (y : History) (content : Content) → IsDecided (is_named at_side y content) (Names at_side y content)) where
+    module _ (meddles : List Meddle) (stop : Stop) (nonce : List ℕ) (offer : Offer) (is : event.act ≡ Moves meddles stop (Retire nonce offer))
+        where
+      stood : (here.first.role ≡ Live) ⊎ ((left : List ℕ) × (here.first.role ≡ Retired left))
+          → Breach ⊎ IsGenuineOffer at_side (history_now here) (offered_bytes here.first.issued offer)
+      stood role = elim (offer_or at_side named (history_now here) (offered_bytes here.first.issued offer)) [
+        | inl f ↦ inl (retired meddles stop nonce offer is role f)
+        | inr fine ↦ inr fine
+      ]
 
--- offers, of an instance whose names are decided
+      genuine_to : (role : Role) → here.first.role ≡ role
+          → Breach ⊎ IsGenuineTo role at_side (history_now here) (offered_bytes here.first.issued offer)
+      genuine_to Live at = stood (inl at)
+      genuine_to (Retired left) at = stood (inr (left, at))
+      genuine_to Blank at = inr tt
+      genuine_to (Waiting awaited) at = inr tt
 
-module _ (i : Instance) (named : (y : History) (content : Content) → IsDecided (is_named i y content) (Names i y content)) where
-  genuine_to : (role : Role) (now : History) (offered : Option (List ℕ)) → IsForgedTo role i now offered ⊎ IsGenuineTo role i now offered
-  genuine_to Live now offered = offer_or i named now offered
-  genuine_to (Retired nonce) now offered = offer_or i named now offered
-  genuine_to Blank now offered = inr tt
-  genuine_to (Waiting nonce) now offered = inr tt
+    genuine_plain : (e : Event) → event.act ≡ Plain e → (role : Role) → here.first.role ≡ role
+        → Breach ⊎ IsGenuinePlain role at_side here.first e
+    genuine_plain (Ask meddles stop offer b) is Live at = elim (offer_or at_side named here.first.at (offered_bytes here.first.issued offer)) [
+      | inl f ↦ inl (asked meddles stop offer b is at f)
+      | inr fine ↦ inr fine
+    ]
+    genuine_plain (Checkpoint meddles stop) is Live at = inr tt
+    genuine_plain Power is Live at = inr tt
+    genuine_plain (Extend value) is Live at = inr tt
+    genuine_plain e is (Retired left) at = inr tt
+    genuine_plain e is Blank at = inr tt
+    genuine_plain e is (Waiting awaited) at = inr tt
 
-  genuine_plain : (role : Role) (side : Side History) (event : Event) → IsForgedPlain role i side event ⊎ IsGenuinePlain role i side event
-  genuine_plain Live side event = event_or i named side.at side.issued event
-  genuine_plain (Retired nonce) side event = inr tt
-  genuine_plain Blank side event = inr tt
-  genuine_plain (Waiting nonce) side event = inr tt
+    genuine_here : (act : Act) → event.act ≡ act → Breach ⊎ IsGenuineHere at_side here act
+    genuine_here (Plain e) is = genuine_plain e is here.first.role refl
+    genuine_here (Moves meddles stop (Retire nonce offer)) is = genuine_to meddles stop nonce offer is here.first.role refl
+    genuine_here (Moves meddles stop (Invite nonce)) is = inr tt
+    genuine_here (Moves meddles stop (Accept offer)) is = inr tt
 
-  genuine_here : (both : Both History History) (act : Act) → IsForgedHere i both act ⊎ IsGenuineHere i both act
-  genuine_here both (Plain event) = genuine_plain both.first.role both.first event
-  genuine_here both (Moves meddles stop (Retire nonce offer)) =
-      genuine_to both.first.role (history_now both) (offered_bytes both.first.issued offer)
-  genuine_here both (Moves meddles stop (Invite nonce)) = inr tt
-  genuine_here both (Moves meddles stop (Accept offer)) = inr tt
+  -- never both
+  stood_apart : (offered : Option (List ℕ)) → (here.first.role ≡ Live) ⊎ ((left : List ℕ) × (here.first.role ≡ Retired left))
+      → IsForged at_side (history_now here) offered → IsGenuineTo here.first.role at_side (history_now here) offered → ⊥
+  stood_apart offered (inl at) f genuine = offer_apart at_side (history_now here) offered f
+      (subst (λ (r : Role). IsGenuineTo r at_side (history_now here) offered) at genuine)
+  stood_apart offered (inr (left, at)) f genuine = offer_apart at_side (history_now here) offered f
+      (subst (λ (r : Role). IsGenuineTo r at_side (history_now here) offered) at genuine)
 
-module _ (i : Instance) where
-  to_apart : (role : Role) (now : History) (offered : Option (List ℕ)) → IsForgedTo role i now offered → IsGenuineTo role i now offered → ⊥
-  to_apart Live now offered f genuine = offer_apart i now offered f genuine
-  to_apart (Retired nonce) now offered f genuine = offer_apart i now offered f genuine
-  to_apart Blank now offered f genuine = f
-  to_apart (Waiting nonce) now offered f genuine = f
-
-  plain_apart : (role : Role) (side : Side History) (event : Event) → IsForgedPlain role i side event
-      → IsGenuinePlain role i side event → ⊥
-  plain_apart Live side event f genuine = event_apart i side.at side.issued event f genuine
-  plain_apart (Retired nonce) side event f genuine = f
-  plain_apart Blank side event f genuine = f
-  plain_apart (Waiting nonce) side event f genuine = f
-
-  here_apart : (both : Both History History) (act : Act) → IsForgedHere i both act → IsGenuineHere i both act → ⊥
-  here_apart both (Plain event) f genuine = plain_apart both.first.role both.first event f genuine
-  here_apart both (Moves meddles stop (Retire nonce offer)) f genuine =
-      to_apart both.first.role (history_now both) (offered_bytes both.first.issued offer) f genuine
-  here_apart both (Moves meddles stop (Invite nonce)) f genuine = f
-  here_apart both (Moves meddles stop (Accept offer)) f genuine = f
+  breach_apart : Breach → IsGenuineIn pair both event → IsNew notes (both_outcome lists_move pair both event).effect
+      → IsOursIn pair both.tickets notes event.act → ⊥
+  breach_apart (asked meddles stop offer b is at f) genuine new ours =
+      let here_is = subst (IsGenuineHere at_side here) is genuine in
+      offer_apart at_side here.first.at (offered_bytes here.first.issued offer) f
+      (subst (λ (r : Role). IsGenuinePlain r at_side here.first (Ask meddles stop offer b)) at here_is)
+  breach_apart (retired meddles stop nonce offer is at f) genuine new ours =
+      stood_apart (offered_bytes here.first.issued offer) at f (subst (IsGenuineHere at_side here) is genuine)
+  breach_apart (invited nonce is again) genuine new ours = subst (IsNew notes) is new again
+  breach_apart (accepted meddles stop offer bytes t is offers reads foreign) genuine new ours =
+      let offered = subst (IsOursIn pair both.tickets notes) is ours in
+      let read = subst (IsOursOffered pair notes) offers offered in foreign (subst (IsOurs notes) reads read)
 
 -- a schedule of both sides
 
@@ -192,12 +204,12 @@ module _ (pair : Pair) where
     breach_or [] both notes = inr (tt, tt)
     breach_or (event ∷ events) both notes =
         let o = both_outcome lists_move pair both event in
-        elim (genuine_here (instance_on pair event.which) (named event.which) (facing event.which both) event.act) [
-          | inl f ↦ inl (breach_first both notes event events (forged f))
-          | inr genuine ↦ elim (new_or notes o.effect) [
-            | inl again ↦ inl (breach_first both notes event events (invited again))
-            | inr new ↦ elim (ours_or pair both.tickets notes event.act) [
-              | inl foreign ↦ inl (breach_first both notes event events (ticket foreign))
+        elim (genuine_here pair both notes event (named event.which) event.act refl) [
+          | inl b ↦ inl (breach_first both notes event events b)
+          | inr genuine ↦ elim (new_or pair both notes event o.effect refl) [
+            | inl b ↦ inl (breach_first both notes event events b)
+            | inr new ↦ elim (ours_or pair both notes event event.act refl) [
+              | inl b ↦ inl (breach_first both notes event events b)
               | inr ours ↦ elim (breach_or events o.both (noted_if o.effect notes)) [
                 | inl b ↦ inl (record {
                   before = event ∷ b.before;
@@ -212,57 +224,33 @@ module _ (pair : Pair) where
           ]
         ]
 
-  breach_apart : (both : Both History History) (notes : Notes) (event : BothEvent) → IsBreach pair both notes event
-      → IsGenuineIn pair both event → IsNew notes (both_outcome lists_move pair both event).effect
-      → IsOursIn pair both.tickets notes event.act → ⊥
-  breach_apart both notes event (forged f) genuine new ours =
-      here_apart (instance_on pair event.which) (facing event.which both) event.act f genuine
-  breach_apart both notes event (invited again) genuine new ours =
-      new_apart notes (both_outcome lists_move pair both event).effect again new
-  breach_apart both notes event (ticket foreign) genuine new ours = ours_apart pair both.tickets notes event.act foreign ours
-
   breaks_apart : (before : List BothEvent) (event : BothEvent) (later : List BothEvent) (both : Both History History) (notes : Notes)
       → AreGenuineFrom pair both (before ++ event ∷ later) → AreFreshFrom pair both notes (before ++ event ∷ later)
       → IsBreach pair (both_followed lists_move pair both before).both (notes_after pair both notes before) event → ⊥
-  breaks_apart [] event later both notes genuine fresh b = breach_apart both notes event b genuine.0 fresh.0 fresh.1
+  breaks_apart [] event later both notes genuine fresh b = breach_apart pair both notes event b genuine.0 fresh.0 fresh.1
   breaks_apart (x ∷ before) event later both notes genuine fresh b =
       let o = both_outcome lists_move pair both x in
       breaks_apart before event later o.both (noted_if o.effect notes) genuine.1 fresh.2 b
 
   pair_apart : (events : List BothEvent) → IsClearPair pair events → IsGenuinePair pair events → IsFreshPair pair events
       → HasPairEvidence pair events → ⊥
-  pair_apart events clear genuine fresh (collision c) =
-      c.differs (clear.clear.apart c.first c.second c.first_listed c.second_listed c.one_digest)
-  pair_apart events clear genuine fresh (zero_digest z) = clear.clear.nonzero z.message z.listed z.is_zero
-  pair_apart events clear genuine fresh (guarded is g) = clear.apart is g.value g.batch g.brought g.asked g.is_guard
-  pair_apart events clear genuine fresh (breach b) = breaks_apart b.before b.event b.later (first_lists pair) no_notes
-      (subst (AreGenuineFrom pair (first_lists pair)) b.split genuine) (subst (AreFreshFrom pair (first_lists pair) no_notes) b.split fresh)
-      b.breach
-
-apart_in : (variant : Variant) (i : Instance) (values : List (List ℕ)) (batches : List Batch)
-    → ((variant ≡ Opt) × HasGuard i.barrier values batches) ⊎ AreApartIn variant i values batches
-apart_in Basic i values batches = inr (λ is. absurd (cc))
-apart_in Opt i values batches = elim (guard_or i.barrier values batches) [ inl g ↦ inl (refl, g) | inr none ↦ inr (λ is. none) ]
+  pair_apart events clear genuine fresh (clash c) =
+      clash_apart (instance_on pair First) (both_messages pair events) (both_others events) (both_batches events) clear.clear clear.apart c
+  pair_apart events clear genuine fresh (breach before event later split b) = breaks_apart before event later (first_lists pair) no_notes
+      (subst (AreGenuineFrom pair (first_lists pair)) split genuine) (subst (AreFreshFrom pair (first_lists pair) no_notes) split fresh) b
 
 pub pairs_decided : BasicNamesAreDecided → OptNamesAreDecided → PairsAreDecided
 pairs_decided basic opt pair events = record {
-  decided = elim (messages_or (both_messages pair events)) [
-    | inl (inl c) ↦ inr (collision c)
-    | inl (inr z) ↦ inr (zero_digest z)
-    | inr clear ↦ elim (apart_in i.variant i (both_others events) (both_batches events)) [
-      | inl g ↦ inr (guarded g.0 g.1)
-      | inr apart ↦ elim (breach_or pair named events (first_lists pair) no_notes) [
-        | inl b ↦ inr (breach (record { before = b.before; event = b.event; later = b.later; split = b.split; breach = b.broken }))
-        | inr fine ↦ inl (record { clear = clear; apart = apart }, fine.0, fine.1)
-      ]
+  decided = elim (clash_or (instance_on pair First) (both_messages pair events) (both_others events) (both_batches events)) [
+    | inl c ↦ inr (clash c)
+    | inr clear ↦ elim (breach_or pair named events (first_lists pair) no_notes) [
+      | inl b ↦ inr (breach b.before b.event b.later b.split b.broken)
+      | inr fine ↦ inl (record { clear = clear.0; apart = clear.1 }, fine.0, fine.1)
     ]
   ];
   apart = pair_apart pair events;
 }
   where
-    i : Instance
-    i = instance_on pair First
-
     named : (which : Which) (y : History) (content : Content)
         → IsDecided (is_named (instance_on pair which) y content) (Names (instance_on pair which) y content)
     named which = names_by basic opt pair.variant pair.meaning (key_of pair which) pair.barrier

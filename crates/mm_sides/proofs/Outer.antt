@@ -13,7 +13,7 @@ use Rattle.mm_platform.specs.StandingWords.{due}
 use Rattle.mm_call.specs.CalledWords.{kept_at}
 use Rattle.mm_schedule.specs.Machine.{StepsOn, AsksNone, Steps}
 use Rattle.mm_schedule.specs.declared.reply.Way.{Way}
-use Rattle.mm_run.specs.Folds.{broken_reply}
+use Rattle.mm_run.proofs.Above.{broken_reply}
 use Rattle.mm_sides.proofs.Below.{way_of}
 use Rattle.mm_model.specs.MessagesWords.{move_messages}
 

@@ -1,7 +1,6 @@
 -- The words that the definitions of this crate take from the crates below.
 pub use Rattle.mm_digest.specs.Messages.{start_message}
 pub use Rattle.mm_digest.specs.declared.variant.Variant.{Variant}
-pub use Rattle.mm_digest.specs.declared.variant.Variant.TheVariants.{Opt}
 pub use Rattle.mm_seal.specs.Parts.{parts_of}
 pub use Rattle.mm_seal.specs.Snapshot.{Content, Snapshot, sealed_of, tag_of}
 pub use Rattle.mm_seal.specs.declared.snapshot.PartsFault.{PartsFault}
@@ -28,7 +27,7 @@ pub use Rattle.mm_model.specs.declared.verdict.Verdict.TheVariants.{Fresh, Stale
 pub use Rattle.mm_call.specs.Asked.{moves_messages}
 pub use Rattle.mm_call.specs.Courses.{Done, End, Fails, Fate, walk}
 pub use Rattle.mm_call.specs.Found.{right_content}
-pub use Rattle.mm_call.specs.Levels.{Agrees, Level, all_made, by_digests, by_lists}
+pub use Rattle.mm_call.specs.Levels.{Agrees, Level, by_digests, by_lists}
 pub use Rattle.mm_call.specs.OrderWords.{weighed}
 pub use Rattle.mm_call.specs.Standing.{instance_by}
 pub use Rattle.mm_move.specs.Tickets.{TaggedTicket, TicketContent, place_at, sealed_ticket, summary_in, ticket_of, ticket_tag}
@@ -42,4 +41,4 @@ pub use Rattle.mm_run.specs.Folds.{Outcome, after_stop, course_of, event_in_vain
 pub use Rattle.mm_run.specs.Laws.{IsIssued}
 pub use Rattle.mm_run.specs.Offered.{offered_bytes}
 pub use Rattle.mm_run.specs.Premises.{IsGenuineEvent, batches_of, event_messages, foreign_of, moves_of, AreApartIn, IsGenuineOffer}
-pub use Rattle.mm_evidence.specs.Evidence.{event_offer, HasCollision, HasGuard, HasZero, IsForged}
+pub use Rattle.mm_evidence.specs.Evidence.{HasClash, IsForged}

@@ -1,8 +1,8 @@
 -- A schedule of both sides: each event's reply, and what stands after it.
 use Rattle.std.specs.Prelude.{ℕ, ◌+◌, ◌-◌, Bool, true, false, List, [], ◌∷◌, ◌++◌, length, Option, None, Some, Result, Ok, Err}
-use Rattle.std.specs.Prelude.{if◌then◌else◌}
+use Rattle.std.specs.Prelude.{fold, if◌then◌else◌}
 use Rattle.mm_sides.specs.Below.{sealed_of, StepFault, Meddle, Stop, History, Move, Instance, Digests, Step, Reads, Refusal, End, Done}
-use Rattle.mm_sides.specs.Below.{Fails, Fate, walk, all_made, sealed_ticket, Event, Reply, Way, Outcome, way_of, after_stop, course_of}
+use Rattle.mm_sides.specs.Below.{Fails, Fate, walk, sealed_ticket, Event, Reply, Way, Outcome, way_of, after_stop, course_of}
 use Rattle.mm_sides.specs.Below.{event_outcome, event_in_vain, offered_bytes}
 use Rattle.mm_model.specs.declared.refusal.Refusal.TheVariants as refusal
 use Rattle.mm_sides.specs.Roles.{Role, Blank, Live, Waiting, Retired, Effect, Invites, Leaves, Enters, Notes, noted}
@@ -112,7 +112,7 @@ abbrev pub brought_to : {S A : Type 0} → Mover S A → Instance → S → List
     → S
 brought_to mover i at meddles stop steps =
     let walked = walk (course_of stop meddles).fates 1 steps in
-    all_made (mover.level i) (all_made (mover.level i) at walked.moves)
+    fold (mover.level i).made (fold (mover.level i).made at walked.moves)
     (stopped_moves stop walked.broken)
 
 -- what an effect makes of both sides

@@ -1,7 +1,7 @@
 -- Each slot is where its own fold leaves it; and a run of slots takes events line by line.
 use Rattle.mm_slots.proofs.Below.{◌≡◌, ◌∙◌, ◌+◌, ◌==◌, ℕ, zero, suc, Bool, true, false, cond, List, [], ◌∷◌, ◌++◌, map, Option, Some, refl}
 use Rattle.mm_slots.proofs.Below.{sym, ap, arith, append-nil, slice_get, option_map, option_map_or, eqb-true, append_assoc, Instance}
-use Rattle.mm_slots.proofs.Below.{Action, SlotEvent, Power, At, Said, Slot, Turned, Met, Acts, Loses, turned, acted, folded, followed_by}
+use Rattle.mm_slots.proofs.Below.{Action, SlotEvent, Power, At, Said, Slot, Turned, Met, Acts, Loses, turned, acted, folded}
 use Rattle.mm_slots.proofs.Below.{Row, instance_of, row_after, by_place, after_event, cuts_all, met_in, met_by, Answer, PowerLost, Says}
 use Rattle.mm_slots.proofs.Below.{said_at, answers_to, answers, said_for, SlotsAreAlone, length, None, ◌>>=◌, flat_map-append}
 use Rattle.mm_slots.proofs.Below.{answer_text, answers_text, event_at, Running, playing, after_events}
@@ -20,6 +20,15 @@ pub row_behind : (rows : List Row) (event : SlotEvent) (n : ℕ) (row : Row) →
 row_behind rows event n row is =
     by_place_get (λ number row. row_after row (met_in number rows event)) 0 rows n n (omega arith)
     ∙ ap (λ (found : Option Row). option_map (λ r. row_after r (met_in n rows event)) found) is
+
+-- what comes first, and then the rest
+abbrev pub followed_by : Turned → Turned → Turned
+followed_by first rest = record {
+  slot = rest.slot;
+  said = first.said ++ rest.said;
+  events = first.events ++ rest.events;
+  replies = first.replies ++ rest.replies;
+}
 
 followed_assoc : (a b c : Turned) → followed_by a (followed_by b c) ≡ followed_by (followed_by a b) c
 followed_assoc a b c = λ j. record {

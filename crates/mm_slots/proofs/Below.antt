@@ -64,7 +64,7 @@ pub use Rattle.mm_slots.specs.Plays.{Reports}
 pub use Rattle.mm_slots.specs.Rows.{ActsAt, AllFit, FitsWithin, Follows, IsInside, KeepsAll, LosesAll, LosesAt, LosesIf, LosesUnless}
 pub use Rattle.mm_slots.specs.Rows.{only_at, others_lose, row_in, rows_in, Tells, touched, Touches}
 pub use Rattle.mm_slots.specs.Slot.{acted, acted_by, Acts, Asks, beginning, begun, event_by, first_slot, Flight, flying, folded}
-pub use Rattle.mm_slots.specs.Slot.{followed_by, joined, Loses, merely, Met, outcome_in, plays, Slot, slot_instance, so_far, stepped}
+pub use Rattle.mm_slots.specs.Slot.{joined, Loses, merely, Met, outcome_in, plays, Slot, slot_instance, so_far, stepped}
 pub use Rattle.mm_slots.specs.Slot.{stop_at, Turned, turned, unpowered}
 pub use Rattle.mm_slots.specs.Slots.{all_cycled, selected_of, Slots}
 pub use Rattle.mm_slots.specs.Stage.{kept_in, playing, Running}

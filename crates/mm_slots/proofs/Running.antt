@@ -1,9 +1,10 @@
 -- The calls of a slot that are over are a schedule, told by digests; and what is said for it has their replies.
-use Rattle.mm_slots.proofs.Below.{◌≡◌, ◌∙◌, ℕ, Bool, true, false, List, [], ◌∷◌, ◌++◌, length, Option, None, Some, refl, sym, ap, subst}
+use Rattle.mm_slots.proofs.Below.{◌≡◌, ◌∙◌, ℕ, Bool, true, false, List, [], ◌∷◌, ◌++◌, Option, None, Some, refl, sym, ap, subst}
 use Rattle.mm_slots.proofs.Below.{Variant, Basic, Opt, Batch, One, Meaning, Instance, first_history, requests_of, is_long, Digests}
 use Rattle.mm_slots.proofs.Below.{by_digests, instance_by, Event, Offer, Runs, Followed, followed, expected, replies_by_digests}
 use Rattle.mm_slots.proofs.Below.{offered_bytes, is_nothing, Action, Slot, Flight, Turned, Met, Acts, Loses, turned, acted_by, begun}
-use Rattle.mm_slots.proofs.Below.{stepped, outcome_in, so_far, folded, followed_by, first_slot, SlotRuns, SlotsRun, ◌+◌, ap₂, if◌then◌else◌}
+use Rattle.mm_slots.proofs.Below.{stepped, outcome_in, so_far, folded, first_slot, SlotRuns, SlotsRun, ◌+◌, ap₂, if◌then◌else◌}
+use Rattle.mm_slots.proofs.Alone.{followed_by}
 use Rattle.mm_slots.proofs.Below.{flat_map, flat_map-append, Ask, Reply, Begun, Going, Asks, beginning, flying, merely, plays}
 use Rattle.mm_slots.specs.declared.event.Action.TheVariants as action
 use Rattle.mm_platform.specs.declared.plan.Stop.TheVariants as stop

@@ -1,5 +1,5 @@
 -- Slots show of events what is told of whole slots.
-use Rattle.mm_slots.proofs.Below.{◌≡◌, ◌∙◌, ◌≤◌, ◌<◌, ℕ, Bool, true, false, cond, ◌||◌, ◌==◌, List, [], ◌∷◌, ◌++◌, length, nat_lt, Option, None}
+use Rattle.mm_slots.proofs.Below.{◌≡◌, ◌∙◌, ◌≤◌, ◌<◌, ℕ, Bool, true, false, cond, ◌||◌, ◌==◌, List, [], ◌∷◌, ◌++◌, nat_lt, Option, None}
 use Rattle.mm_slots.proofs.Below.{Some, refl, sym, ap, subst, arith, codes, slice_get, option_map, nat_tests, Header, after_prefix, number_at}
 use Rattle.mm_slots.proofs.Below.{rising_from, SlotEvent, end_lines, event_at, SlotsRun, playing, kept_in, Row, first_row, first_rows, answers}
 use Rattle.mm_slots.proofs.Below.{met_by, after_events, meaning_of}
@@ -12,11 +12,13 @@ use Rattle.mm_evidence.specs.Laws.{IsDecidedRun}
 use Rattle.mm_module.specs.Meaning.{Meaning}
 use Rattle.mm_run.specs.Premises.{IsClearRun, IsGenuineRun}
 use Rattle.mm_schedule.specs.Events.{Event}
-use Rattle.std.proofs.Common.{inl, inr}
+use Rattle.std.proofs.Common.{append_assoc, inl, inr}
 use Rattle.mm_slots.specs.Headline.{AreSlotRuns, IsRunOfSlot, IsSlotRun, slotted}
+use Rattle.mm_slots.specs.Laws.{PremisesGiveSlotRuns, SlotsGoOn}
 use Rattle.mm_slots.specs.Slot.{slot_after, slot_instance}
+use Rattle.mm_slots.specs.Table.{after_event, answers_to}
+use Rattle.std.proofs.lemmas.List.{append-nil}
 use Rattle.mm_slots.proofs.Below.{Answer, ◌+◌}
-use Rattle.std.specs.Prelude.{min}
 use Rattle.mm_slots.specs.Stage.{begun, slots_heads, slots_stage}
 use Rattle.mm_slots.proofs.Alone.{alone, by_place_get, bound, length-by_place, takes, rows_behind, texts_behind}
 
@@ -58,7 +60,6 @@ slot_told law decided headers events number header is = record {
       let it = slot_after header number (met_by number (first_rows headers) events) in
       let d = decided header.variant (meaning_of header.«module») (rising_from number) (rising_from (128 + number)) it.events in
       elim d.decided [ inl p ↦ inl (slot_run law headers events number header p.0 p.1) | inr e ↦ inr e ];
-  one_run = slot_run law headers events number header;
 }
 
 -- the headline, of each slot and of each first part of the events
@@ -66,6 +67,38 @@ pub are_slot_runs : SlotsRun → RunsAreDecided → (headers : List Header) (eve
     → AreSlotRuns headers events (shown_in headers)
 are_slot_runs law decided headers events front later split =
     (refl, λ number header is. slot_told law decided headers front number header is)
+
+-- what follows of it
+
+pub premises_give : RunsAreDecided → PremisesGiveSlotRuns
+premises_give decided headers events shown runs front later is number header at clear genuine =
+    let it = slot_after header number (met_by number (first_rows headers) front) in
+    let d = decided header.variant (meaning_of header.«module») (rising_from number) (rising_from (128 + number)) it.events in
+    elim (((runs front later is).1 number header at).unless_evidence) [
+      | inl run ↦ run
+      | inr evidence ↦ absurd (d.apart clear genuine evidence)
+    ]
+
+answers-append : (front rest : List SlotEvent) (rows : List Row)
+    → answers rows (front ++ rest) ≡ answers rows front ++ answers (after_events rows front) rest
+answers-append [] rest rows = refl
+answers-append (event ∷ front) rest rows =
+    ap (λ (said : List Answer). answers_to rows event ++ said) (answers-append front rest (after_event rows event))
+    ∙ sym (append_assoc (answers_to rows event) (answers (after_event rows event) front) _)
+
+after-append : (front rest : List SlotEvent) (rows : List Row)
+    → after_events rows (front ++ rest) ≡ after_events (after_events rows front) rest
+after-append [] rest rows = refl
+after-append (event ∷ front) rest rows = after-append front rest (after_event rows event)
+
+pub slots_go_on : SlotsGoOn
+slots_go_on headers events shown runs front rest is =
+    let rows = first_rows headers in
+    let all = (runs events [] (sym (append-nil events))).0 in
+    let first = (runs front rest is).0 in
+    all ∙ ap (shown_in headers) is
+    ∙ (λ j. (answers-append front rest rows j, after-append front rest rows j))
+    ∙ ap (λ (it : List Answer × List Row). (it.0 ++ answers it.1 rest, after_events it.1 rest)) (sym first)
 
 pub shows : Shows slotted slots_heads slots_stage playing begun shown_in
 shows = record {

@@ -2,7 +2,6 @@
 use Rattle.std.specs.Prelude.{◌≡◌, ℕ, List, ◌++◌, length, Some, slice_get, ◌⊎◌}
 use Rattle.std.specs.List.{sum_by}
 use Rattle.mm_schedule.specs.declared.header.Header.{Header}
-use Rattle.mm_run.specs.Premises.{IsClearRun, IsGenuineRun}
 use Rattle.mm_evidence.specs.Evidence.{HasEvidence}
 use Rattle.mm_play.specs.Headline.{EventPlayer}
 use Rattle.mm_replay.specs.Headline.{IsPromisedRun}
@@ -38,14 +37,12 @@ IsRunOfSlot number header it =
 -- What a slot is told is what its own fold says, with no premise. And its calls that are over are
 -- one run of its module, or one holds evidence in hand: two different messages of the slot's run
 -- with one digest, one with digest zero, a value of others that is the guard of a batch, or an
--- offer that is forged. So they are one run where the premises hold.
+-- offer that is forged.
 pub record IsSlotRun (number : ℕ) (header : Header) (told : List Answer) (it : Turned) : Type 0
   where
     pub own : said_for number told ≡ it.said
     pub unless_evidence : IsRunOfSlot number header it
         ⊎ HasEvidence (slot_instance header number) it.events
-    pub one_run : IsClearRun (slot_instance header number) it.events
-        → IsGenuineRun (slot_instance header number) it.events → IsRunOfSlot number header it
 
 -- The headline, of each first part of the events, and of each slot. A slot's fold is over what it
 -- meets itself, and knows no other slot.

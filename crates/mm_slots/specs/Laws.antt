@@ -1,7 +1,8 @@
 -- The laws of slots.
-use Rattle.std.specs.Prelude.{◌≡◌, ℕ, List, [], ◌∷◌, Some, slice_get}
+use Rattle.std.specs.Prelude.{◌≡◌, ℕ, List, [], ◌∷◌, ◌++◌, Some, slice_get}
 use Rattle.std.specs.List.{flat_map}
 use Rattle.mm_model.specs.Instance.{Instance}
+use Rattle.mm_schedule.specs.declared.header.Header.{Header}
 use Rattle.mm_schedule.specs.declared.reply.Reply.{Reply}
 use Rattle.mm_schedule.specs.declared.reply.Reply.TheVariants as reply
 use Rattle.mm_call.specs.Standing.{instance_by}
@@ -12,8 +13,9 @@ use Rattle.mm_run.specs.Premises.{IsClearRun, IsGenuineRun}
 use Rattle.mm_slots.specs.declared.event.SlotEvent.{SlotEvent}
 use Rattle.mm_slots.specs.declared.said.Said.{Said}
 use Rattle.mm_slots.specs.declared.said.Said.TheVariants.{Replied}
-use Rattle.mm_slots.specs.Slot.{Slot, Turned, Met, folded, first_slot}
-use Rattle.mm_slots.specs.Table.{Row, instance_of, row_after, after_events, answers, met_by, said_for}
+use Rattle.mm_slots.specs.Slot.{Slot, Turned, Met, folded, first_slot, slot_after, slot_instance}
+use Rattle.mm_slots.specs.Table.{Answer, Row, instance_of, row_after, after_events, answers, first_rows, met_by, said_for}
+use Rattle.mm_slots.specs.Headline.{AreSlotRuns, IsRunOfSlot}
 
 -- A slot of a table is where its own fold leaves it, and what is said for it is what its fold says:
 -- over what it meets, and over nothing else.
@@ -43,6 +45,27 @@ SlotsRun = (variant : Variant) (meaning : Meaning) (key barrier : List ℕ) (met
     let i = instance_by variant meaning key barrier in
     let it = folded i (first_slot i) mets in
     IsClearRun i it.events → IsGenuineRun i it.events → SlotRuns i it
+
+-- So the headline says of each slot, and of each first part of the events: a premise that breaks
+-- later costs nothing of it.
+abbrev pub PremisesGiveSlotRuns : Type 0
+PremisesGiveSlotRuns =
+    (headers : List Header) (events : List SlotEvent)
+    (shown : List SlotEvent → List Answer × List Row) → AreSlotRuns headers events shown
+    → (front later : List SlotEvent) → events ≡ front ++ later
+    → (number : ℕ) (header : Header) → slice_get headers number ≡ Some header →
+    let it = slot_after header number (met_by number (first_rows headers) front) in
+    IsClearRun (slot_instance header number) it.events
+    → IsGenuineRun (slot_instance header number) it.events → IsRunOfSlot number header it
+
+-- All that is shown is that of each first part of the events, and then of the rest.
+abbrev pub SlotsGoOn : Type 0
+SlotsGoOn =
+    (headers : List Header) (events : List SlotEvent)
+    (shown : List SlotEvent → List Answer × List Row) → AreSlotRuns headers events shown
+    → (front rest : List SlotEvent) → events ≡ front ++ rest →
+    let it : List Answer × List Row = shown front in
+    shown events ≡ (it.0 ++ answers it.1 rest, after_events it.1 rest)
 
 -- a reply to a call: neither that of a loss of power, nor that of a value of others
 abbrev pub to_call : Reply → List Reply

@@ -175,19 +175,17 @@ abbrev pub turned : Instance → Slot → Met → Turned
 turned i slot (Acts what) = acted i slot what
 turned i slot Loses = unpowered i slot
 
-abbrev pub followed_by : Turned → Turned → Turned
-followed_by first rest = record {
-  slot = rest.slot;
-  said = first.said ++ rest.said;
-  events = first.events ++ rest.events;
-  replies = first.replies ++ rest.replies;
-}
-
 -- what a slot comes to that meets these one after another
 abbrev pub folded : Instance → Slot → List Met → Turned
 folded i slot [] = record { slot = slot; said = []; events = []; replies = [] }
 folded i slot (met ∷ more) =
-    followed_by (turned i slot met) (folded i (turned i slot met).slot more)
+    let first = turned i slot met in
+    let rest = folded i first.slot more in record {
+      slot = rest.slot;
+      said = first.said ++ rest.said;
+      events = first.events ++ rest.events;
+      replies = first.replies ++ rest.replies;
+    }
 
 -- the instance in the slot with this number: its key begins with this byte, and its barrier 128
 -- bytes higher

@@ -1,5 +1,5 @@
 -- Slots line by line: the first line, a header line for each slot, and then the events.
-use Rattle.std.specs.Prelude.{ℕ, ◌+◌, ◌-◌, Bool, nat_lt, min, List, [], ◌∷◌, ◌++◌, length, Option, Result, if◌then◌else◌}
+use Rattle.std.specs.Prelude.{◌≡◌, ℕ, ◌+◌, ◌-◌, Bool, nat_lt, min, List, [], ◌∷◌, ◌++◌, length, Option, Result, if◌then◌else◌}
 use Rattle.std.specs.List.{sum_by}
 use Rattle.std.specs.Option.{option_map}
 use Rattle.mm_schedule.specs.declared.header.Header.{Header}
@@ -11,7 +11,7 @@ use Rattle.mm_play.specs.declared.player.Refused.{Refused}
 use Rattle.mm_slots.specs.declared.event.SlotEvent.{SlotEvent}
 use Rattle.mm_slots.specs.Answers.{answers_text, end_lines}
 use Rattle.mm_slots.specs.Grammar.{first_at, event_at}
-use Rattle.mm_slots.specs.Table.{Row, first_rows, after_event, answers_to}
+use Rattle.mm_slots.specs.Table.{EventWants, Row, first_rows, after_event, answers_to}
 
 -- what stands between two events: the slots, and how many events were followed
 pub record Running : Type 0 where
@@ -27,6 +27,10 @@ kept_in rows = sum_by (λ (row : Row). sum_by length row.slot.issued) rows
 
 abbrev pub after : Running → SlotEvent → Running
 after r event = record { rows = after_event r.rows event; events = r.events + 1 }
+
+-- Memory was wanting for an event, or for its answer. It counts all the same.
+abbrev pub WantsEvent : Running → SlotEvent → Running → Type 0
+WantsEvent old event new = EventWants event old.rows new.rows × (new.events ≡ old.events + 1)
 
 -- what is done with events
 abbrev pub playing : EventSteps SlotEvent Running

@@ -1,8 +1,9 @@
 //! The laws of slots, each the contract of a function that does nothing.
 
 ghost use Rattle.mm_slots.specs.Laws.{SlotsAreAlone, SlotsRun};
-ghost use Rattle.mm_slots.specs.Laws.{SlotsTellReplies};
+ghost use Rattle.mm_slots.specs.Laws.{PremisesGiveSlotRuns, SlotsGoOn, SlotsTellReplies};
 
+use mm_evidence::premises_or_evidence;
 use mm_run::{basic_is_expected, expected_runs, opt_is_expected, schedules_go_on};
 
 /// Each slot is where its own fold leaves it, over what it meets itself, and so is what is said for it: whatever happens
@@ -21,6 +22,19 @@ pub fn slots_run()
     expected_runs();
     schedules_go_on();
 }
+
+/// What is told of slots is one run of the module of each, in each first part of the events in which its calls meet the
+/// premises.
+pub fn slots_are_runs()
+    ensures { PremisesGiveSlotRuns }
+{
+    premises_or_evidence();
+}
+
+/// All that is told of slots is that of each first part of the events, and then of the rest.
+pub fn slots_go_on()
+    ensures { SlotsGoOn }
+{}
 
 /// The replies to calls that are said for a slot are those that its fold gives, and so those of which `slots_run` speaks.
 pub fn slots_tell_replies()

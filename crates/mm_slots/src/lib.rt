@@ -24,7 +24,7 @@ mod whole;
 pub use event::{Action, Breaking, SlotEvent};
 pub use flight::{Asking, Closing, Flight};
 pub use heads::Heads;
-pub use laws::{slots_are_alone, slots_run, slots_tell_replies};
+pub use laws::{slots_are_alone, slots_are_runs, slots_go_on, slots_run, slots_tell_replies};
 pub use opening::Opening;
 pub use platform::SlotPlatform;
 pub use put::{put_answer, put_power, put_slot_end};

@@ -1,6 +1,6 @@
 //! Slots among their events.
 
-ghost use Rattle.std.specs.Prelude.{◌≡◌, ◌≤◌, ◌<◌, ◌+◌, ◌++◌, ◌^◌, Some, Err, length, IfOk, OnOk};
+ghost use Rattle.std.specs.Prelude.{◌≡◌, ◌≤◌, ◌<◌, ◌+◌, ◌++◌, ◌^◌, Some, Err, length, IfOk, OnErr, OnOk};
 ghost use Rattle.mm_base.specs.Limits.{longest_line, most_events};
 
 use crate::event::SlotEvent;
@@ -42,7 +42,7 @@ impl SlotsStage {
     ghost use Rattle.mm_slots.specs.Answers.{answers_text, end_lines};
     ghost use Rattle.mm_slots.specs.Plays.{committed_in, issued_in};
     ghost use Rattle.mm_slots.specs.Rows.{IsInside};
-    ghost use Rattle.mm_slots.specs.Stage.{after, begun, playing};
+    ghost use Rattle.mm_slots.specs.Stage.{WantsEvent, after, begun, playing};
     ghost use Rattle.mm_slots.specs.Table.{answers_to};
 
     /// Slots at their first event, one for each header.
@@ -60,13 +60,14 @@ impl SlotsStage {
         })
     }
 
-    // Follows an event, and answers it as text. It counts also where memory is wanting.
+    // Follows an event, and answers it as text. It counts also where memory is wanting, for it or for the answer.
     fn follow(&mut self, alloc: Global, event: SlotEvent) -> Result<Bytes, Memory>
         requires inside { IsInside (length self.old.rows) event }
         requires few { self.old.events < most_events }
         ensures after { OnOk result (self.new ≡ after self.old event) }
         ensures answers { IfOk result (λ text. text
             ≡ answers_text (answers_to self.old.rows event)) }
+        ensures wants { OnErr result (WantsEvent self.old event self.new) }
     {
         self.events += 1;
         follow(alloc, &mut self.platform, self.slots.as_mut_slice(), event)
@@ -99,10 +100,13 @@ impl SlotsStage {
 }
 
 impl Stage for SlotsStage {
-    ghost use Rattle.mm_slots.specs.Stage.{slots_stage};
+    ghost use Rattle.mm_play.specs.Stage.{wants_in};
+    ghost use Rattle.mm_slots.specs.Stage.{WantsEvent, playing, slots_stage};
     ghost use Rattle.mm_slots.specs.StageLaws.{counts_on};
 
     ghost plays = { slots_stage };
+
+    ghost wants = { wants_in playing WantsEvent };
 
     fn events(&self) -> u32 {
         self.events

@@ -60,7 +60,8 @@ pub use Rattle.mm_schedule.specs.declared.header.Header.{Header}
 pub use Rattle.mm_schedule.specs.declared.reply.Reply.{Reply}
 pub use Rattle.mm_schedule.proofs.Above.{promises-kept}
 pub use Rattle.mm_run.specs.Folds.{after_stop, asked_in_vain, course_of, event_in_vain, event_outcome, first_digests, Outcome, outcome_by}
-pub use Rattle.mm_run.specs.Folds.{reads_only, uncalled, way_of, broken_reply, plan_of}
+pub use Rattle.mm_run.specs.Folds.{reads_only, uncalled, way_of, plan_of}
+pub use Rattle.mm_run.proofs.Above.{broken_reply}
 pub use Rattle.mm_run.specs.Held.{world_barrier, world_key}
 pub use Rattle.mm_run.specs.Offered.{offered_bytes}
 pub use Rattle.mm_run.proofs.Above.{few_committed, issues_one, printable}
@@ -71,7 +72,7 @@ pub use Rattle.mm_sides.specs.Folds.{BothFollowed, BothReply, brought_to, Denied
 pub use Rattle.mm_sides.specs.Folds.{is_written, move_ended, move_outcome, move_steps, moved_if, Moves, noted_if, plain_on, handed}
 pub use Rattle.mm_sides.specs.Folds.{refused_where, retiring, stopped_moves, told, unissued}
 pub use Rattle.mm_sides.specs.Both.{history_now}
-pub use Rattle.mm_sides.specs.Laws.{IsOneFrom, OneIsLive, PairsAgreeThroughout, PairsGoOn, plain_events, plain_replies}
+pub use Rattle.mm_sides.specs.Laws.{IsOneFrom, OneIsLive, PairsAgreeThroughout, plain_events, plain_replies}
 pub use Rattle.mm_sides.specs.Laws.{SidesRunAsOne}
 pub use Rattle.mm_sides.specs.Moves.{Accept, accepted_on, Command, entered_again, entered_as, FoundMove, Gone, Invite, invited_on, left_by}
 pub use Rattle.mm_sides.specs.Moves.{MoveCause, offered_to, Open, Refused, Retire, retired_on, stands_here, ticket_by, ticket_in}

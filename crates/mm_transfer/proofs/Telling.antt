@@ -1,18 +1,21 @@
 -- Both sides show of events what is told of a whole transfer.
-use Rattle.mm_transfer.proofs.Below.{◌≡◌, ◌∙◌, ℕ, List, [], ◌∷◌, ◌++◌, Option, None, Some, refl, sym, ap, subst, History}
+use Rattle.mm_transfer.proofs.Below.{◌≡◌, ◌∙◌, ℕ, List, [], ◌∷◌, ◌++◌, refl, sym, ap, subst, History}
 use Rattle.mm_transfer.proofs.Below.{requests_of, Digests, Header, promises-kept, Role, Notes, no_notes, Pair, Both, digests_move, lists_move}
 use Rattle.mm_transfer.proofs.Below.{first_lists, BothEvent, BothReply, BothFollowed, both_outcome, both_followed, both_expected}
 use Rattle.mm_transfer.proofs.Below.{both_by_digests, noted_if, IsOneFrom, PairsAgreeThroughout, OneIsLive, SidesRunAsOne, plain_events}
 use Rattle.mm_transfer.proofs.Below.{plain_replies, history_now, pair_of, Running, begun, playing, kept_in, running_text, both_end_line}
 use Rattle.mm_transfer.proofs.Below.{IsOneTransfer}
 use Rattle.std.proofs.Common.{inl, inr}
+use Rattle.std.proofs.lemmas.List.{append-nil}
 use Rattle.mm_play.specs.Shown.{behind, replies, Shows}
 use Rattle.mm_schedule.specs.Machine.{Runs}
 use Rattle.mm_sides.specs.Evidence.{PairsAreDecided}
+use Rattle.mm_sides.specs.Laws.{both_continued, PairsGoOn}
 use Rattle.mm_sides.specs.Order.{AtMostOne}
 use Rattle.mm_sides.specs.Premises.{IsClearPair, IsGenuinePair, IsFreshPair}
 use Rattle.mm_transfer.specs.Answers.{answers_text}
 use Rattle.mm_transfer.specs.Headline.{AreOneTransfer, moved}
+use Rattle.mm_transfer.specs.Laws.{PremisesGiveOneTransfer, TransfersGoOn}
 use Rattle.mm_transfer.specs.Stage.{transfer_heads, transfer_stage}
 
 -- the laws of both sides
@@ -64,8 +67,21 @@ pub are_one_transfer : SideLaws → (header : Header) (events : List BothEvent) 
 are_one_transfer laws header events front later split = (
   refl,
   elim (laws.decided (pair_of header) front).decided [ inl p ↦ inl (one_transfer laws header front p.0 p.1 p.2) | inr e ↦ inr e ],
-  λ clear genuine fresh. one_transfer laws header front clear genuine fresh,
 )
+
+-- what follows of it
+
+pub premises_give : PairsAreDecided → PremisesGiveOneTransfer
+premises_give decided header events shown one front later is clear genuine fresh = elim (one front later is).1 [
+  | inl run ↦ run
+  | inr evidence ↦ absurd ((decided (pair_of header) front).apart clear genuine fresh evidence)
+]
+
+pub transfers_go_on : PairsGoOn → TransfersGoOn
+transfers_go_on law header events shown one front rest is =
+    let pair = pair_of header in
+    (one events [] (sym (append-nil events))).0 ∙ ap (λ (es : List BothEvent). both_by_digests pair es) is ∙ (law pair front rest).1
+    ∙ ap (λ (it : BothFollowed Digests ℕ). both_continued it (both_followed digests_move pair it.both rest)) (sym (one front rest is).0)
 
 -- what stands behind events, and what was written
 abbrev followed_in : Running → List BothEvent → BothFollowed Digests ℕ

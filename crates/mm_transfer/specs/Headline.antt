@@ -5,8 +5,7 @@ use Rattle.std.specs.Option.{option_map}
 use Rattle.mm_play.specs.Headed.{Begins}
 use Rattle.mm_play.specs.Headline.{EventPlayer}
 use Rattle.mm_transfer.specs.Below.{meaning_of, Digests, Runs, Promises, Header, first_lists, BothEvent, BothFollowed, both_expected}
-use Rattle.mm_transfer.specs.Below.{both_by_digests, IsOneFrom, plain_events, plain_replies, AtMostOne, IsClearPair, IsGenuinePair}
-use Rattle.mm_transfer.specs.Below.{IsFreshPair, no_notes}
+use Rattle.mm_transfer.specs.Below.{both_by_digests, IsOneFrom, plain_events, plain_replies, AtMostOne, no_notes}
 use Rattle.mm_sides.specs.Evidence.{HasPairEvidence}
 use Rattle.mm_transfer.specs.Answers.{answers_text, end_line}
 use Rattle.mm_transfer.specs.Grammar.{event_at, first_at}
@@ -46,12 +45,9 @@ pub record IsOneTransfer (header : Header) (events : List BothEvent)
 -- The headline. With no premise what is shown is by digests; and each first part of the events is
 -- one transfer, or one holds evidence in hand: two different messages of it with one digest, one
 -- with digest zero, a value of others that is the guard of a batch, an offer that is forged, a
--- nonce that was invited twice, or a right ticket that the module didn't leave by. So it is one
--- transfer where the premises hold.
+-- nonce that was invited twice, or a right ticket that the module didn't leave by.
 abbrev pub AreOneTransfer : Header → List BothEvent → (List BothEvent → BothFollowed Digests ℕ)
     → Type 0
 AreOneTransfer header events shown = (front later : List BothEvent) → events ≡ front ++ later
     → (shown front ≡ both_by_digests (pair_of header) front)
     × (IsOneTransfer header front (shown front) ⊎ HasPairEvidence (pair_of header) front)
-    × (IsClearPair (pair_of header) front → IsGenuinePair (pair_of header) front
-    → IsFreshPair (pair_of header) front → IsOneTransfer header front (shown front))

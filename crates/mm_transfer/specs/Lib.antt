@@ -16,5 +16,6 @@ pub mod Between
 pub mod Acting
 pub mod Sides
 pub mod Headline
+pub mod Laws
 pub mod Plays
 pub mod StageLaws

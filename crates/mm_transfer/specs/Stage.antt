@@ -1,5 +1,5 @@
 -- A transfer line by line: the first line, and then the events.
-use Rattle.std.specs.Prelude.{◌≤◌, ◌*◌, ℕ, ◌+◌, List, length, Option, Result}
+use Rattle.std.specs.Prelude.{◌≡◌, ◌≤◌, ◌*◌, ℕ, ◌+◌, List, length, Option, Result}
 use Rattle.std.specs.List.{sum_by}
 use Rattle.std.specs.Option.{option_map}
 use Rattle.mm_play.specs.Headed.{Headed, Begins}
@@ -11,6 +11,7 @@ use Rattle.mm_transfer.specs.Answers.{answer_text, end_line}
 use Rattle.mm_transfer.specs.Grammar.{first_at, event_at}
 use Rattle.mm_transfer.specs.Pairs.{pair_of}
 use Rattle.mm_transfer.specs.Replies.{reply_said}
+use Rattle.mm_transfer.specs.Wanting.{Wants}
 use Rattle.mm_transfer.specs.declared.opening.FirstLine.{FirstLine}
 
 -- what stands between two events, by digests: the header, both sides, and how many events were
@@ -34,6 +35,12 @@ running_outcome r event = both_outcome digests_move (pair_of r.header) r.both ev
 
 abbrev pub after : Running → BothEvent → Running
 after r event = record r { both = (running_outcome r event).both; events = r.events + 1 }
+
+-- Memory was wanting for an event, which isn't counted.
+abbrev pub WantsEvent : Running → BothEvent → Running → Type 0
+WantsEvent old event new =
+    (new.header ≡ old.header) × Wants (pair_of old.header) event old.both new.both
+    × (new.events ≡ old.events)
 
 -- the line that answers an event
 abbrev pub running_text : Running → BothEvent → List ℕ

@@ -5,6 +5,7 @@
 mod between;
 mod commands;
 mod event;
+mod laws;
 mod moving;
 mod opening;
 mod put;
@@ -17,6 +18,7 @@ mod stage;
 mod whole;
 
 pub use event::{Act, Command, SideEvent, Which};
+pub use laws::{transfers_are_one_run, transfers_go_on};
 pub use mm_move::{Accepted, Invited, Link, MoveRefusal, accept, invite, retire};
 pub use opening::FirstLine;
 pub use put::{put_answer, put_end};

@@ -1,6 +1,6 @@
 //! Both sides among their events.
 
-ghost use Rattle.std.specs.Prelude.{◌≡◌, ◌≤◌, ◌<◌, ◌+◌, ◌++◌, ◌∷◌, [], length, IfOk, OnOk};
+ghost use Rattle.std.specs.Prelude.{◌≡◌, ◌≤◌, ◌<◌, ◌+◌, ◌++◌, ◌∷◌, [], length, IfOk, OnErr, OnOk};
 ghost use Rattle.mm_base.specs.Limits.{longest_line, most_events};
 
 use crate::event::{SideEvent, Which};
@@ -36,7 +36,7 @@ impl Model for TransferStage {
 impl TransferStage {
     ghost use Rattle.mm_transfer.specs.Events.{side_event_of};
     ghost use Rattle.mm_transfer.specs.Replies.{reply_said, IsSayable};
-    ghost use Rattle.mm_transfer.specs.Stage.{after, begun, both_end_line, running_outcome};
+    ghost use Rattle.mm_transfer.specs.Stage.{WantsEvent, after, begun, both_end_line, running_outcome};
 
     /// Both sides at their first event.
     pub fn new(alloc: Global, header: &Header) -> Result<TransferStage, Memory>
@@ -46,13 +46,14 @@ impl TransferStage {
         Ok(TransferStage { sides, events: 0 })
     }
 
-    // Follows an event on its side.
+    // Follows an event on its side. After want of memory it isn't counted.
     fn event(&mut self, alloc: Global, event: &SideEvent) -> Result<MoveReply, Memory>
         requires { self.old.events < most_events }
         ensures reply { IfOk result (λ reply. reply
             ≡ reply_said (running_outcome self.old (side_event_of event.now)).reply) }
         ensures sayable { IfOk result IsSayable }
         ensures after { OnOk result (self.new ≡ after self.old (side_event_of event.now)) }
+        ensures wants { OnErr result (WantsEvent self.old (side_event_of event.now) self.new) }
     {
         let reply = self.sides.event(alloc, event)?;
         self.events += 1;
@@ -91,10 +92,13 @@ impl TransferStage {
 }
 
 impl Stage for TransferStage {
-    ghost use Rattle.mm_transfer.specs.Stage.{transfer_stage};
+    ghost use Rattle.mm_play.specs.Stage.{wants_in};
+    ghost use Rattle.mm_transfer.specs.Stage.{WantsEvent, playing, transfer_stage};
     ghost use Rattle.mm_transfer.specs.StageLaws.{counts_on};
 
     ghost plays = { transfer_stage };
+
+    ghost wants = { wants_in playing WantsEvent };
 
     fn events(&self) -> u32 {
         self.events

@@ -59,7 +59,8 @@ pub use Rattle.mm_flight.specs.Asks.{AskFinishes, begun, FinishedAsk}
 pub use Rattle.mm_flight.specs.declared.ask.AskCall.{AskCall}
 pub use Rattle.mm_run.specs.Folds.{after_stop, cause_of, closed_outcome, closing_reply, closing_then, course_of, first_digests}
 pub use Rattle.mm_run.specs.Folds.{first_issued, moves_then, Outcome, outcome_by, reads_only, reply_of, snapshots_of, uncalled, way_of}
-pub use Rattle.mm_run.specs.Folds.{broken_reply, plan_of, stopped_reply}
+pub use Rattle.mm_run.proofs.Above.{broken_reply, stopped_reply}
+pub use Rattle.mm_run.specs.Folds.{plan_of}
 pub use Rattle.mm_run.specs.Held.{first_held, Follows, Held, outcome_in, Wants, world_of}
 pub use Rattle.mm_run.proofs.Above.{count-made, grown, printed, sizes_of, world_few}
 pub use Rattle.mm_world.specs.Asks.{AsksAs, Came, ChecksAs, HasRead, Lacks, quiet_as}

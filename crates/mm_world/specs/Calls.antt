@@ -1,6 +1,7 @@
 -- What a call over the platform of a world comes to.
-use Rattle.std.specs.Prelude.{◌≡◌, ℕ, ◌==◌, ◌&&◌, Bool, true, false, length, Option, None, Some, Result, Ok, Err, IsErr, is_some}
+use Rattle.std.specs.Prelude.{◌≡◌, ℕ, ◌-◌, ◌==◌, ◌&&◌, Bool, true, false, length, Option, None, Some, Result, Ok, Err, IsErr, is_some}
 use Rattle.std.specs.Prelude.{if◌then◌else◌}
+use Rattle.std.specs.Option.{option_map_or}
 use Rattle.mm_base.specs.declared.fault.Memory.{Memory}
 use Rattle.mm_platform.specs.declared.plan.Stop.{Stop}
 use Rattle.mm_platform.specs.declared.plan.Stop.TheVariants as stop
@@ -21,7 +22,7 @@ use Rattle.mm_schedule.specs.declared.reply.Cause.{Cause}
 use Rattle.mm_schedule.specs.declared.reply.Cause.TheVariants as cause
 use Rattle.mm_schedule.specs.declared.reply.Reply.{Reply}
 use Rattle.mm_schedule.specs.declared.reply.Reply.TheVariants as reply
-use Rattle.mm_run.specs.Folds.{way_of, cause_of, told_reply, broken_reply, stopped_reply}
+use Rattle.mm_run.specs.Folds.{way_of, cause_of}
 use Rattle.mm_world.specs.declared.call.Called.{Called}
 
 -- a call that was refused
@@ -31,7 +32,7 @@ refused_call cause = record { reply = reply.No cause; snapshot = None; committed
 -- a call that was answered
 abbrev pub answered_call : BatchAnswer → Called
 answered_call answer = record {
-  reply = told_reply answer;
+  reply = reply.Told answer.again (answer.position - length answer.outputs) answer.outputs;
   snapshot = Some answer.snapshot;
   committed = if answer.again then 0 else length answer.outputs;
 }
@@ -44,7 +45,8 @@ size_if None size = 0
 -- a call that was broken off: whether it had committed its batch of this size, up to a position
 abbrev pub broken_as : Stop → Option ℕ → ℕ → Called
 broken_as stop kept size = record {
-  reply = broken_reply (way_of stop) kept;
+  reply = option_map_or (λ position. reply.Kept (way_of stop) position) kept
+      (reply.Nothing (way_of stop));
   snapshot = None;
   committed = size_if kept size;
 }
@@ -109,7 +111,8 @@ abbrev pub told_closing : Stop → Result Checkpointed CheckpointRefusal → Rep
 told_closing stop (Ok Done) = reply.Checkpointed
 told_closing stop (Ok NoSegment) = reply.No cause.Segment
 told_closing stop (Err closing.Lost) = reply.No cause.Lost
-told_closing stop (Err (closing.Device fault)) = stopped_reply (way_of stop) (closes_at stop)
+told_closing stop (Err (closing.Device fault)) =
+    if closes_at stop then reply.Closed (way_of stop) else reply.Nothing (way_of stop)
 told_closing stop (Err closing.Kind) = reply.No cause.Kind
 told_closing stop (Err closing.Blank) = reply.No cause.Blank
 told_closing stop (Err closing.Cell) = reply.No cause.Cell

@@ -1,0 +1,39 @@
+-- What follows of what is told of a whole replay.
+use Rattle.std.specs.Prelude.{◌≡◌, List, ◌++◌}
+use Rattle.mm_schedule.specs.declared.header.Header.{Header}
+use Rattle.mm_schedule.specs.Events.{Event}
+use Rattle.mm_model.specs.Moves.{Digests}
+use Rattle.mm_call.specs.Levels.{by_digests}
+use Rattle.mm_run.specs.Folds.{Followed, followed, replies_by_digests}
+use Rattle.mm_run.specs.Held.{world_of}
+use Rattle.mm_run.specs.Laws.{continued}
+use Rattle.mm_run.specs.Premises.{IsClearRun, IsGenuineRun}
+use Rattle.mm_evidence.specs.Laws.{RunsUntil}
+use Rattle.mm_replay.specs.Headline.{AreOneRun, IsByDigests, IsPromisedRun, Shown, shown_of}
+
+-- Of each first part of the events that meets the premises the headline says one run: a premise
+-- that breaks later costs nothing of it.
+abbrev pub PremisesGiveOneRun : Type 0
+PremisesGiveOneRun =
+    (header : Header) (events : List Event) (shown : List Event → Shown)
+    → AreOneRun header events shown → (front later : List Event) → events ≡ front ++ later
+    → IsClearRun (world_of header) front → IsGenuineRun (world_of header) front
+    → IsPromisedRun (world_of header) header.«module» front (shown front)
+
+-- And so it does of each up to the first event that gives evidence.
+abbrev pub OneRunUntilEvidence : Type 0
+OneRunUntilEvidence =
+    (header : Header) (events : List Event) (shown : List Event → Shown)
+    → AreOneRun header events shown
+    → RunsUntil (world_of header) events
+    (λ front. IsPromisedRun (world_of header) header.«module» front (shown front))
+
+-- The whole replay is that of each first part of the events, and then of the rest.
+abbrev pub ReplaysGoOn : Type 0
+ReplaysGoOn =
+    (header : Header) (events : List Event) (shown : List Event → Shown)
+    → IsByDigests header events shown → (front rest : List Event) → events ≡ front ++ rest →
+    let i = world_of header in
+    let it : Followed Digests = replies_by_digests i front in
+    (shown front ≡ shown_of it) × (shown events ≡ shown_of (continued it
+    (followed i (by_digests i) it.state it.issued rest)))

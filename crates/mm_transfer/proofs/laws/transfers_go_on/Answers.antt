@@ -1,0 +1,5 @@
+use Rattle.mm_transfer.proofs.Telling.{transfers_go_on}
+use Rattle.mm_transfer.proofs.laws.transfers_go_on.Goals as goal
+
+pub returns : goal.returns
+returns c = transfers_go_on c.both_go_on.ensures

@@ -1,0 +1,23 @@
+-- What follows of what is told of a whole transfer.
+use Rattle.std.specs.Prelude.{◌≡◌, ℕ, List, ◌++◌}
+use Rattle.mm_transfer.specs.Below.{Digests, Header, BothEvent, BothFollowed, IsClearPair, IsGenuinePair, IsFreshPair}
+use Rattle.mm_transfer.specs.Below.{both_continued, both_followed, digests_move}
+use Rattle.mm_transfer.specs.Pairs.{pair_of}
+use Rattle.mm_transfer.specs.Headline.{AreOneTransfer, IsOneTransfer}
+
+-- Of each first part of the events that meets the premises the headline says one transfer: a
+-- premise that breaks later costs nothing of it.
+abbrev pub PremisesGiveOneTransfer : Type 0
+PremisesGiveOneTransfer =
+    (header : Header) (events : List BothEvent) (shown : List BothEvent → BothFollowed Digests ℕ)
+    → AreOneTransfer header events shown → (front later : List BothEvent) → events ≡ front ++ later
+    → IsClearPair (pair_of header) front → IsGenuinePair (pair_of header) front
+    → IsFreshPair (pair_of header) front → IsOneTransfer header front (shown front)
+
+-- The whole transfer is that of each first part of the events, and then of the rest.
+abbrev pub TransfersGoOn : Type 0
+TransfersGoOn =
+    (header : Header) (events : List BothEvent) (shown : List BothEvent → BothFollowed Digests ℕ)
+    → AreOneTransfer header events shown → (front rest : List BothEvent) → events ≡ front ++ rest →
+    let it : BothFollowed Digests ℕ = shown front in
+    shown events ≡ both_continued it (both_followed digests_move (pair_of header) it.both rest)
