@@ -7,6 +7,7 @@ pub use Rattle.mm_host.proofs.InTurn.{calls_reach, May, pending_for, StandsIn, s
 pub use Rattle.mm_host.proofs.Leading.{basic_laws, Laws, Makes, Reaches, reach_same, reach_then, RunsOver-append, same_self, Shows, ShowsAt}
 pub use Rattle.mm_host.proofs.Leading.{Stays, steps_again, steps_fresh, unspoiled}
 pub use Rattle.mm_host.proofs.Lines.{by_told, tells_call, TellsCall}
+pub use Rattle.mm_host.proofs.NextRefused.{IsFaulty, next_in_hand, next_refused, RefusesOrFails}
 pub use Rattle.mm_host.proofs.OptLeading.{opt_laws}
 pub use Rattle.mm_host.proofs.Putting.{fits_room}
 pub use Rattle.mm_host.proofs.Room.{unless_full}

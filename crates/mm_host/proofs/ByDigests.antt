@@ -1,8 +1,8 @@
 -- How a session ends by digests, over any store; and what is refused there.
 use Rattle.mm_host.proofs.Below.{◌≡◌, ◌∙◌, ℕ, Bool, true, false, List, [], ◌∷◌, Result, Ok, Err, refl, sym, ap, inl, inr, ◌⊎◌, arith}
 use Rattle.mm_host.proofs.Below.{None, Variant, Standing, One, Meaning, Instance, Digests, Answer, Refusal, SessionFault, Host, IsCall}
-use Rattle.mm_host.proofs.Below.{offered_after, Served, Sessions, StandsAt, StoreStanding, Option, whole_in, found_at, by_digests, fault_of}
-use Rattle.mm_host.proofs.Below.{IsInHand, parts_of, Batch}
+use Rattle.mm_host.proofs.Below.{offered_after, Served, StandsAt, whole_in, found_at, by_digests, fault_of}
+use Rattle.mm_host.proofs.Below.{parts_of, Batch}
 use Rattle.std.specs.Prelude.{◌&&◌, ◌+◌, if◌then◌else◌, nat_le}
 use Rattle.std.specs.Result.{result_map_both}
 use Rattle.std.specs.Str.{bytes_eq}
@@ -24,8 +24,8 @@ use Rattle.mm_model.specs.declared.verdict.Verdict.{Verdict}
 use Rattle.mm_model.specs.declared.verdict.Verdict.TheVariants.{Lost}
 use Rattle.mm_recovery.proofs.Above.{judged_refused}
 use Rattle.mm_recovery.specs.declared.fault.HostFault.TheVariants as host
-use Rattle.mm_host.specs.Refusing.{CallsInTurn, EndsAt, IsOfOffer, IsRefusedBy}
-use Rattle.mm_host.proofs.CallsMade.{Chain, Ends, rests, SomeChain, some_chain, stops}
+use Rattle.mm_host.specs.Refusing.{CallsInTurn, EndsAt, IsOfOffer}
+use Rattle.mm_host.proofs.CallsMade.{Chain, Ends, rests, stops}
 use Rattle.mm_host.proofs.Lines.{asks, fails, never_refused, told_refused}
 use Rattle.mm_host.proofs.RunningOnce.{by_fault, call_refused}
 
@@ -34,13 +34,13 @@ module _ (variant : Variant) (meaning : Meaning) (key barrier : List ℕ) where
   i = instance_by variant meaning key barrier
 
   -- where the platform stands after a call, and that a refusal is that of the offer there
-  record CallLeaves (new : Standing) (offer request : List ℕ) (call : Result Answer Refusal) : Type 0 where
-    digests : Digests
-    stands : StandsAt i new digests
-    judged : (why : Refusal) → call ≡ Err why → fault_of why ≡ None
+  pub record CallLeaves (new : Standing) (offer request : List ℕ) (call : Result Answer Refusal) : Type 0 where
+    pub digests : Digests
+    pub stands : StandsAt i new digests
+    pub judged : (why : Refusal) → call ≡ Err why → fault_of why ≡ None
         → (why ≡ refusal.Memory) ⊎ (found_at i (by_digests i) digests (One request) offer ≡ Err why)
 
-  call_leaves : (old new : Standing) (offer request : List ℕ) (call : Result Answer Refusal)
+  pub call_leaves : (old new : Standing) (offer request : List ℕ) (call : Result Answer Refusal)
       → IsCall variant meaning old new offer request call → (d : Digests) → StandsAt i old d → CallLeaves new offer request call
   call_leaves old new offer request call c d s =
       let g = c.goes.goes key barrier d s in
@@ -52,11 +52,11 @@ module _ (variant : Variant) (meaning : Meaning) (key barrier : List ℕ) where
       }
 
   -- the digests after calls that were answered
-  record StandsSomewhere (standing : Standing) : Type 0 where
-    digests : Digests
-    stands : StandsAt i standing digests
+  pub record StandsSomewhere (standing : Standing) : Type 0 where
+    pub digests : Digests
+    pub stands : StandsAt i standing digests
 
-  calls_leave : (offer : List ℕ) (before at : Standing) (told : List Served) → CallsInTurn variant meaning offer before told at
+  pub calls_leave : (offer : List ℕ) (before at : Standing) (told : List Served) → CallsInTurn variant meaning offer before told at
       → (d : Digests) → StandsAt i before d → StandsSomewhere at
   calls_leave offer before at [] same d s = rw same (record { digests = d; stands = s })
   calls_leave offer before at (c ∷ told) h d s =

@@ -132,12 +132,12 @@ module _ (variant : Variant) (meaning : Meaning) (before after : Standing) where
 
 module _ (variant : Variant) (meaning : Meaning) (before after : Standing) (offer : List ℕ) where
   -- what waited was answered, or nothing did
-  record FirstCalls (waiting : Option Pending) (first : Resumed) : Type 0 where
-    calls : (lines : List Served) (at : Standing) → CallsInTurn variant meaning (snapshot_at first) after lines at
+  pub record FirstCalls (waiting : Option Pending) (first : Resumed) : Type 0 where
+    pub calls : (lines : List Served) (at : Standing) → CallsInTurn variant meaning (snapshot_at first) after lines at
         → CallsInTurn variant meaning offer before (told_first waiting first ++ lines) at
-    offers : (lines : List Served)
+    pub offers : (lines : List Served)
         → offered_after offer (told_first waiting first ++ lines) ≡ offered_after (snapshot_at first) lines
-    told : (lines : List Served) (rest : List (List ℕ))
+    pub told : (lines : List Served) (rest : List (List ℕ))
         → lines_served (told_first waiting first ++ lines) ++ rest ≡ requests_with waiting (lines_served lines ++ rest)
 
   first_calls : (waiting : Option Pending) (first : Resumed) → Begun variant meaning before after offer waiting (Ok first)
@@ -170,7 +170,7 @@ module _ {variant : Variant} {meaning : Meaning} {before after : Standing} {old 
     (s : Sessions variant meaning before after old new left left' received received' result) where
   -- a session that began so
   module _ (offer : List ℕ) (waiting : Option Pending) (begun_by : Begun variant meaning before s.platform offer waiting s.begun) where
-    first_by : (first : Resumed) → s.begun ≡ Ok first → FirstCalls variant meaning before s.platform offer waiting first
+    pub first_by : (first : Resumed) → s.begun ≡ Ok first → FirstCalls variant meaning before s.platform offer waiting first
     first_by first e =
         first_calls variant meaning before s.platform offer waiting first
         (rw e at begun_by)
@@ -217,7 +217,7 @@ module _ {variant : Variant} {meaning : Meaning} {before after : Standing} {old 
   -- over a store that tells its slots
   module _ (slots : Slots) (waiting : Option Pending) (slots_told : old.slots ≡ Some slots)
       (w : IsWaiting (slot_read slots 2) (slot_read slots 3) waiting) where
-    begun_told : Begun variant meaning before s.platform (first_offer slots waiting) waiting s.begun
+    pub begun_told : Begun variant meaning before s.platform (first_offer slots waiting) waiting s.begun
     begun_told =
         let r = s.resumes in
         begun_found variant meaning before s.platform slots r.waiting s.begun waiting old r.middle s.store w

@@ -14,5 +14,6 @@ mod SessionRuns
 mod Settling
 mod RunningOnce
 mod ByDigests
+mod NextRefused
 mod Continues
 mod Room

@@ -1,9 +1,11 @@
 -- The calls that a session makes, whatever the slots hold; and why it is refused, by the digests at
 -- which its platform stands then.
-use Rattle.std.specs.Prelude.{◌≡◌, ℕ, List, [], ◌∷◌, IsSome, Result, Ok, Err, ◌⊎◌}
+use Rattle.std.specs.Prelude.{◌≡◌, ◌≤◌, ℕ, List, [], ◌∷◌, ◌++◌, length, IsSome, Option, Result, Ok, Err, ◌⊎◌}
 use Rattle.mm_host.specs.Below.{Variant, Standing, Meaning, One, Instance, Refusal, found_at, fault_of, Refused}
+use Rattle.mm_host.specs.Below.{Pending, lines_of, longest_request}
 use Rattle.mm_recovery.specs.Asking.{IsCall}
-use Rattle.mm_host.specs.Sessions.{Served}
+use Rattle.mm_host.specs.AnySlots.{AreFirstOf, requests_with}
+use Rattle.mm_host.specs.Sessions.{Served, lines_served, most_lines}
 use Rattle.mm_model.specs.Moves.{Digests}
 use Rattle.mm_call.specs.Levels.{by_digests}
 use Rattle.mm_call.specs.Standing.{StandsAt}
@@ -28,6 +30,17 @@ IsOfOffer refusal.Tag = Unit {0}
 IsOfOffer refusal.Stale = Unit {0}
 IsOfOffer refusal.Full = Unit {0}
 IsOfOffer _ = ⊥
+
+-- This request is next behind those that were told: it is the last of what waits and some first
+-- lines of the input, of which there are no more than a session serves; and it is no longer than a
+-- line.
+pub record IsNext (waiting : Option Pending) (input : List ℕ) (told : List Served)
+    (request : List ℕ) : Type 0 where
+  pub lines : List (List ℕ)
+  pub asked : lines_served told ++ request ∷ [] ≡ requests_with waiting lines
+  pub first : AreFirstOf lines (lines_of input)
+  pub few : length lines ≤ most_lines
+  pub short : length request ≤ longest_request
 
 -- The request in hand was refused: by a device's fault; or so as this offer is at these digests.
 pub record IsRefusedBy (i : Instance) (d : Digests) (offer : List ℕ) (hand : List ℕ → Type 0)
