@@ -22,9 +22,9 @@ module _ (all others : List (List ℕ)) (asked : List Batch) (i : Instance) (y :
 
 -- By whatever steps the session went, from every history that the platform stood for at entry, over
 -- an honest store whose slots fit it; at every exit. The premises are asked of the requests that
--- were made alone: they are among these. Over a platform of Basic under every key; over one of Opt under every key
--- and barrier, where what others did is known by the items that the register shows at the session's
--- end, unless nothing new is asked.
+-- were made alone: they are among these. Over a platform of Basic under every key; over one of Opt
+-- under every key and barrier, where what others did is known by the items that the register shows
+-- at the session's end, unless nothing new is asked.
 abbrev pub ContinuesFrom : Variant → Meaning → Standing → Standing → Standing → StoreStanding
     → StoreStanding → Option (List ℕ) → Option (List ℕ)
     → Option (List ℕ)

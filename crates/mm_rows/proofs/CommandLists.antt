@@ -8,7 +8,9 @@ use Rattle.mm_app.specs.Commands.{DoesOrLacks, UsesPlatform}
 use Rattle.mm_app.specs.Power.{LosesPower as CommandLosesPower}
 use Rattle.mm_app.specs.Running.{FindsInstance, RunsInstance, ServesIfFound, instance_found}
 use Rattle.mm_app.specs.Starting.{StartsInstance}
+use Rattle.mm_app.specs.Telling.{EndsAtOnce}
 use Rattle.mm_app.specs.declared.status.Status.{Status}
+use Rattle.mm_app.specs.declared.status.Status.TheVariants.{Memory}
 use Rattle.mm_call.specs.Standing.{StandsAt, cell_at, instance_by}
 use Rattle.mm_call.proofs.Above.{stands_at}
 use Rattle.mm_digest.specs.declared.variant.Variant.{Variant}
@@ -63,9 +65,19 @@ nothing_beside (Some xs) = ap (λ (x : List Item). Some x) (sym (append-nil xs))
 behind_met : (met : Stage) (here later : List Stage) → met ∷ (here ++ later) ≡ met ∷ here ++ later
 behind_met met here later = refl
 
-quiet_of : (r : Ran) (command : Command) (stages : List Stage) → AllByRecursion IsQuiet stages → AreStagesOf r command stages
-quiet_of r Run stages q = inl q
-quiet_of r _ stages q = q
+-- quiet stages are those of a command
+abbrev QuietOf : Ran → Command → Type 0
+QuietOf r command = (stages : List Stage) → AllByRecursion IsQuiet stages → AreStagesOf r command stages
+
+lacking_of : (r : Ran) (command : Command) → EndsAtOnce r.old r.new Memory r.status → QuietOf r command
+lacking_of r Run e = λ stages q. inl (record {
+  quiet = q;
+  kept = e.still.kept;
+  unread = e.still.left;
+  end = Memory;
+  stops = e.stops;
+})
+lacking_of r _ e = λ stages q. q
 
 -- a cell that is read isn't blank
 held_not_blank : (held : Held) → ReadsCell (cell_spelling held) (Ok held) → cell_spelling held ≡ blank_cell → ⊥
@@ -94,20 +106,20 @@ module _ (reads : ReadsAreDeeds) (cycles : CyclesAreDeeds) (it : AnyModule) (var
     ends : end_of r.old.standing here ≡ r.new.standing
     stages_of : AreStagesOf r command here
 
-  quiet_ran : (r : Ran) (command : Command) (deed : Deed) → IsNoCall deed → DeedLeads variant M r.old.standing deed r.new.standing
+  quiet_ran : (r : Ran) (command : Command) → QuietOf r command → (deed : Deed) → IsNoCall deed → DeedLeads variant M r.old.standing deed r.new.standing
       → OneRan r command
-  quiet_ran r command deed quiet f =
+  quiet_ran r command says deed quiet f =
       let stages : List Stage = record { part = Does deed; after = r.new.standing } ∷ [] in
       record {
         here = stages;
         life = (f, tt);
         ends = refl;
-        stages_of = quiet_of r command stages ((deed, refl, quiet), tt);
+        stages_of = says stages ((deed, refl, quiet), tt);
       }
 
-  same_ran : (r : Ran) (command : Command) → r.new.standing ≡ r.old.standing → OneRan r command
-  same_ran r command same =
-      quiet_ran r command (Extends []) tt (
+  same_ran : (r : Ran) (command : Command) → QuietOf r command → r.new.standing ≡ r.old.standing → OneRan r command
+  same_ran r command says same =
+      quiet_ran r command says (Extends []) tt (
         ap (λ (s : Standing). s.cell) same,
         ap (λ (s : Standing). s.items) same ∙ nothing_beside r.old.standing.items,
       )
@@ -130,7 +142,7 @@ module _ (reads : ReadsAreDeeds) (cycles : CyclesAreDeeds) (it : AnyModule) (var
       let l = s.steps.looks in
       let is = looked_at header s.steps.platform s.steps.is_blank (devices_of r.old) (devices_of r.new) s.answer (cell_at I d)
       stands.cell (stands.spells, refl) l s.steps.goes in
-      quiet_ran r (Init header) (Extends l.goes.others) tt
+      quiet_ran r (Init header) (λ stages q. q) (Extends l.goes.others) tt
       (subst (λ (x : Standing). DeedLeads variant M r.old.standing (Extends l.goes.others) x) (sym is)
       (reads variant M r.old.standing s.steps.platform _ l.goes))
 
@@ -151,7 +163,8 @@ module _ (reads : ReadsAreDeeds) (cycles : CyclesAreDeeds) (it : AnyModule) (var
         → ServesIfFound found middle r.new.standing r.old.kept r.new.kept r.old.left r.new.left r.old.received r.new.received
         r.old.reads r.new.reads r.old.writes r.new.writes r.status → OneRan r Run
     run_by (Err end) is s =
-        quiet_ran r Run (Extends values) tt
+        quiet_ran r Run (λ stages q. inl (record { quiet = q; kept = s.kept; unread = s.unread; end = end; stops = s.stops }))
+        (Extends values) tt
         (subst (λ (x : Standing). DeedLeads variant M r.old.standing (Extends values) x) (sym s.standing) looks)
     run_by (Ok header) is s =
         let session : Sessions variant M middle r.new.standing r.old.kept r.new.kept r.old.left r.new.left r.old.received s.between
@@ -171,6 +184,8 @@ module _ (reads : ReadsAreDeeds) (cycles : CyclesAreDeeds) (it : AnyModule) (var
             result = s.served.answer;
             are = refl;
             ends = s.served.ends;
+            count = s.count;
+            stops = s.stops;
           });
         }
 
@@ -185,18 +200,18 @@ module _ (reads : ReadsAreDeeds) (cycles : CyclesAreDeeds) (it : AnyModule) (var
   power_ran : (r : Ran) → CommandLosesPower r.old.standing r.new.standing r.old.received r.new.received r.old.writes r.new.writes r.status
       → OneRan r Power
   power_ran r l = elim (cycles variant M r.old.standing r.new.standing l.fault l.cycles).failed [
-    | inl lost ↦ quiet_ran r Power LosesPower tt lost
-    | inr kept ↦ quiet_ran r Power (Extends []) tt kept
+    | inl lost ↦ quiet_ran r Power (λ stages q. q) LosesPower tt lost
+    | inr kept ↦ quiet_ran r Power (λ stages q. q) (Extends []) tt kept
   ]
 
   ran_by : (r : Ran) (command : Command) → DoesOrLacks command r.old r.new r.status
       → ((UsesPlatform command → ⊥) → r.new.standing ≡ r.old.standing) → (d : Digests) → StandsAt I r.old.standing d → OneRan r command
-  ran_by r command (inr none) unused d s = same_ran r command none.still.standing
+  ran_by r command (inr none) unused d s = same_ran r command (lacking_of r command none) none.still.standing
   ran_by r (Init header) (inl does) unused d s = init_ran r header does d s
   ran_by r Run (inl does) unused d s = run_ran r does d s
-  ran_by r Checkpoint (inl does) unused d s = quiet_ran r Checkpoint (deeds.Checkpoints does.answer) tt does.goes
+  ran_by r Checkpoint (inl does) unused d s = quiet_ran r Checkpoint (λ stages q. q) (deeds.Checkpoints does.answer) tt does.goes
   ran_by r Power (inl does) unused d s = power_ran r does
-  ran_by r command (inl does) unused d s = same_ran r command (unused (λ used. used))
+  ran_by r command (inl does) unused d s = same_ran r command (λ stages q. q) (unused (λ used. used))
 
   -- what was met before a command
   record Met (start now : Standing) : Type 0 where

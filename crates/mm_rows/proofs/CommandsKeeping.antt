@@ -44,7 +44,7 @@ module _ (slots : Slots) where
 
   one_over : (r : Ran) (command : Command) (stages : List Stage) → AreStagesOf r command stages → r.old.kept.slots ≡ Some slots
       → StartOver slots stages
-  one_over r Run stages (inl quiet) told = all_quiet stages quiet
+  one_over r Run stages (inl none) told = all_quiet stages none.quiet
   one_over r Run stages (inr session) told = rw session.are (tt, (told, tt))
   one_over r _ stages quiet told = all_quiet stages quiet
 

@@ -5,6 +5,7 @@ use Rattle.std.specs.Option.{option_map}
 use Rattle.mm_app.specs.Commands.{DoesOrLacks, UsesPlatform}
 use Rattle.mm_app.specs.Outside.{Outside}
 use Rattle.mm_app.specs.Running.{session_status}
+use Rattle.mm_app.specs.Telling.{StopsAs, TellsStop}
 use Rattle.mm_app.specs.declared.status.Status.{Status}
 use Rattle.mm_call.specs.Standing.{instance_by}
 use Rattle.mm_digest.specs.declared.variant.Variant.{Variant}
@@ -59,7 +60,17 @@ AreRun start (r ∷ commands) =
 abbrev pub IsQuiet : Stage → Type 0
 IsQuiet stage = (deed : Deed) × (stage.part ≡ Does deed) × IsNoCall deed
 
--- A session was held over the command's own store, input and output, and ended as its status says.
+-- No session was held: the store and the input are as before, and but for a stop line nothing was
+-- written.
+pub record HoldsNone (r : Ran) (stages : List Stage) : Type 0 where
+  pub quiet : AllByRecursion IsQuiet stages
+  pub kept : r.new.kept ≡ r.old.kept
+  pub unread : r.new.left ≡ r.old.left
+  pub end : Status
+  pub stops : StopsAs end r.old.received r.new.received r.old.writes r.new.writes r.status
+
+-- A session was held over the command's own store, input and output; it ended as the status says,
+-- and behind what it told only the stop line was written.
 pub record HoldsSession (r : Ran) (stages : List Stage) : Type 0 where
   pub values : List (List ℕ)
   pub middle : Standing
@@ -69,10 +80,12 @@ pub record HoldsSession (r : Ran) (stages : List Stage) : Type 0 where
       ∷ session_stage r.old.kept r.new.kept r.old.left r.new.left r.old.received between result
       r.new.standing ∷ []
   pub ends : r.status ≡ session_status result
+  pub count : ℕ
+  pub stops : TellsStop between r.new.received count r.new.writes r.status
 
--- What a command is of a life: a `run` may hold a session, and every other is quiet.
+-- What a command is of a life: a `run` holds a session or none, and every other is quiet.
 abbrev pub AreStagesOf : Ran → Command → List Stage → Type 0
-AreStagesOf r Run stages = AllByRecursion IsQuiet stages ⊎ HoldsSession r stages
+AreStagesOf r Run stages = HoldsNone r stages ⊎ HoldsSession r stages
 AreStagesOf r _ stages = AllByRecursion IsQuiet stages
 
 -- The stages are those of the commands, one after another, each behind what was met before it.

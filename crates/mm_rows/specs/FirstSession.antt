@@ -46,6 +46,6 @@ pub record BeginsAndServes (meaning : Meaning) (after : TwoCell Torn) (new : Cac
       (Some input) (Some input') (Some received) (Some received') result
   pub continues : (all others : List (List ℕ)) (asked : List Batch)
       → CanBegin all others asked (basic meaning (take 32 secrets)) (lines_of input) →
-      ContinuesTo all others asked (basic meaning (take 32 secrets)) first_history None (two_cells after)
-      (kept_in_pages new)
+      ContinuesTo all others asked (basic meaning (take 32 secrets)) first_history None
+      (two_cells after) (kept_in_pages new)
       (told_in None session.goes) (IsInHand None session.goes) result
