@@ -3,12 +3,9 @@ use Rattle.mm_app.proofs.Below.{◌≡◌, ◌∙◌, ℕ, Bool, true, false, Li
 use Rattle.mm_app.proofs.Below.{◌<◌, arith, Command, Init, Run, ReplayFault, DoesOrLacks, Outside, EndsAtOnce, Status, Memory, Usage}
 use Rattle.mm_app.proofs.Below.{status_by, status_of, Tells, Refusal, one_command}
 use Rattle.std.specs.Prelude.{◌≢◌, Some}
-use Rattle.mm_base.specs.Input.{lines_of}
 use Rattle.mm_base.specs.declared.fault.WriteFault as write
-use Rattle.mm_host.specs.AnySlots.{requests_with}
 use Rattle.mm_host.specs.Refusing.{IsOfOffer}
 use Rattle.mm_platform.specs.Standing.{Item}
-use Rattle.mm_recovery.specs.Fitting.{first_offer}
 use Rattle.mm_recovery.specs.Waiting.{IsWaiting}
 use Rattle.mm_seal.specs.Cell.{blank_cell}
 use Rattle.mm_store.specs.Pending.{Pending}
@@ -53,12 +50,20 @@ held_told (Ok text) received received' writes writes' status end t is held =
     let clash : true ≡ false = sym held ∙ ap tells_held (sym is ∙ t.ends) ∙ text_unheld t.result in absurd (cc)
 held_told (Err why) received received' writes writes' status end t is held = ap (λ (s : Status). Err s) (sym t.ends ∙ is)
 
--- what a refused request of `run` was
-abbrev pub IsRefusedRun : (old new : Outside) (cell : List ℕ) → Refusal → Type 0
-IsRefusedRun old new cell why =
-    (slots : Slots) (waiting : Option Pending) (input : List ℕ) → old.kept.slots ≡ Some slots →
-    IsWaiting (slot_read slots 2) (slot_read slots 3) waiting → old.left ≡ Some input →
-    RefusesNext cell old.standing new.standing (first_offer slots waiting) (requests_with waiting (lines_of input)) why
+-- what is told of an offer that was refused
+abbrev pub TellsOffer : Command → (old new : Outside) → Status → List ℕ → Refusal → Type 0
+TellsOffer command old new status cell why =
+    (status ≡ Refused why → (command ≡ Run) × IsOfOffer why)
+    × ((slots : Slots) (waiting : Option Pending) (input : List ℕ) → old.kept.slots ≡ Some slots →
+    IsWaiting (slot_read slots 2) (slot_read slots 3) waiting → old.left ≡ Some input → IsExactlyWhere ((command ≡ Run)
+    × RefusesNext cell old.standing new.standing old.kept new.kept old.left new.left old.received slots waiting input status why)
+    (Refused why) status)
+
+-- another command, or another status
+pub none_offered : (command : Command) (old new : Outside) (status : Status) (cell : List ℕ) (why : Refusal) → (status ≡ Refused why → ⊥)
+    → (command ≡ Run → ⊥) → TellsOffer command old new status cell why
+none_offered command old new status cell why not other =
+    (λ is. absurd (not is), λ slots waiting input slots_told w left. nowhere not (λ h. other h.0))
 
 -- where a command ends with each status
 pub record Holding (command : Command) (old new : Outside) (status : Status) : Type 0 where
@@ -73,7 +78,7 @@ pub record Holding (command : Command) (old new : Outside) (status : Status) : T
   pub lost : (cell : List ℕ) (items : List Item) → old.standing.cell ≡ Some cell → old.standing.items ≡ Some items
       → IsExactlyWhere (MayBeLost command status × HasLostPower new.standing) Lost status
   pub refused : (cell : List ℕ) (items : List Item) (why : Refusal) → old.standing.cell ≡ Some cell → old.standing.items ≡ Some items
-      → status ≡ Refused why → (command ≡ Run) × IsOfOffer why × IsRefusedRun old new cell why
+      → TellsOffer command old new status cell why
 
 -- a command that uses no device
 pub quiet_holding : (command : Command) (old new : Outside) (status : Status) → tells_held status ≡ false → (NeedsInstance command → ⊥)
@@ -89,7 +94,8 @@ quiet_holding command old new status quiet needs starts reads finds lost =
       kind = λ cell told. nowhere (unlike Kind refl) (finds cell);
       short = λ cell secrets got told left. nowhere (unlike (Short got) refl) (λ h. starts h.0.0);
       lost = λ cell items told shown. nowhere (unlike Lost refl) (λ h. lost h.0);
-      refused = λ cell items why told shown is. absurd (unlike (Refused why) refl is);
+      refused = λ cell items why told shown.
+          none_offered command old new status cell why (unlike (Refused why) refl) (λ e. needs (subst NeedsInstance (sym e) tt));
     }
 
 pub played_unheld : {T : Type 0} (answer : Result T ReplayFault) → tells_held (status_of answer) ≡ false
@@ -107,7 +113,10 @@ fault_holding command old new status f = record {
   kind = λ cell told. by_fault_where f (λ h. h);
   short = λ cell secrets got told left. by_fault_where f (λ h. h);
   lost = λ cell items told shown. by_fault_where f (λ h. h);
-  refused = λ cell items why told shown is. absurd (subst EndsByFault is f);
+  refused = λ cell items why told shown. (
+    λ is. absurd (subst EndsByFault is f),
+    λ slots waiting input slots_told w left. by_fault_where f (λ h. h),
+  );
 }
 
 -- The words spell such a command exactly where the one that they spell is such.

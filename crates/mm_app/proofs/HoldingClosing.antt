@@ -24,7 +24,7 @@ use Rattle.mm_seal.specs.declared.cell.CellFault.TheVariants as unheld
 use Rattle.mm_app.specs.Holding.{CantRead, EndsByFault, FindsBasic, HasLostPower, IsExactlyWhere}
 use Rattle.mm_app.specs.declared.status.Status.TheVariants.{Already, Blank, Cell, Kind, Lost, PlatformFault, Refused, Short}
 use Rattle.mm_app.proofs.Completing.{is_zero}
-use Rattle.mm_app.proofs.Holding.{by_fault_where, exactly_here, held_told, Holding, nowhere, tells_held}
+use Rattle.mm_app.proofs.Holding.{by_fault_where, exactly_here, held_told, Holding, none_offered, nowhere, tells_held}
 
 -- the flag of a cell's spelling
 flag_spelled : (held : Held) → get_or (cell_spelling held) 6 0 ≡ flag_byte held.flag
@@ -347,5 +347,6 @@ checkpoint_holding old new status d =
           let u : IsUntouched old.standing new.standing =
           (subst (λ (a : Result Checkpointed CheckpointRefusal). LeavesStill a old.standing new.standing) e d.untouched) refl in
           (items ++ map foreign_item u.others, u.items ∙ ap (λ (x : Option (List Item)). beside u.others x) shown));
-      refused = λ cell items why told shown is. absurd (unlike old new status d.answer d.tells (Refused why) refl refl is);
+      refused = λ cell items why told shown.
+          none_offered Checkpoint old new status cell why (unlike old new status d.answer d.tells (Refused why) refl refl) (λ e. cc);
     }

@@ -3,35 +3,33 @@ use Rattle.mm_app.proofs.Below.{◌≡◌, ◌∙◌, ℕ, Bool, true, false, Li
 use Rattle.mm_app.proofs.Below.{arith, Held, CellFault, Run, Does, Outside, Standing, Status, StepFault, Variant, FindsInstance, header_found}
 use Rattle.mm_app.proofs.Below.{instance_found, Header, Instance, Refusal, ServesAndStops, ServesIfFound, session_status, SessionFault}
 use Rattle.mm_app.proofs.Below.{AnyModule, meaning_of, module_with, ReplayFault}
-use Rattle.std.specs.Prelude.{◌≢◌, ◌&&◌, ◌++◌, ◌∷◌, [], IsSome, map}
+use Rattle.std.specs.Prelude.{◌≢◌, ◌&&◌, IsSome}
 use Rattle.std.specs.Option.{option_map}
 use Rattle.std.specs.Str.{bytes_eq}
 use Rattle.std.proofs.lemmas.Slice.Eq.{bytes_eq-Decides}
-use Rattle.mm_base.specs.Input.{lines_of}
 use Rattle.mm_call.specs.Found.{found_at}
 use Rattle.mm_call.specs.LeavingLaws.{read_untouched}
 use Rattle.mm_call.specs.Levels.{by_digests}
 use Rattle.mm_call.specs.Refusals.{fault_of}
-use Rattle.mm_call.specs.Standing.{cell_at, instance_by, RegisterAt, StandsAt}
+use Rattle.mm_call.specs.Standing.{cell_at, RegisterAt, StandsAt}
 use Rattle.mm_digest.specs.Messages.{zero_bytes}
 use Rattle.mm_digest.specs.declared.variant.Variant.TheVariants.{Basic, Opt}
-use Rattle.mm_host.proofs.Above.{among_input, chain_ends, chain_of, lost_shown, refused_as_offer, shown_lost, shows_loss, some_chain}
-use Rattle.mm_host.specs.AnySlots.{offered_after, requests_with}
+use Rattle.mm_host.proofs.Above.{chain_ends, chain_of, lost_shown, next_in_hand, refused_as_offer, shown_lost, some_chain}
+use Rattle.mm_host.specs.AnySlots.{offered_after}
 use Rattle.mm_host.specs.Continuing.{IsInHand, told_in}
-use Rattle.mm_host.specs.Refusing.{EndsAt, IsOfOffer, IsRefusedBy}
+use Rattle.mm_host.specs.Refusing.{EndsAt, IsOfOffer}
 use Rattle.mm_host.specs.Sessions.{Sessions}
 use Rattle.mm_host.specs.declared.fault.SessionFault.TheVariants as session
 use Rattle.mm_model.specs.Moves.{Digests}
 use Rattle.mm_model.specs.declared.refusal.Refusal.TheVariants as refusal
 use Rattle.mm_model.specs.Standing.{register_reads}
 use Rattle.mm_module.specs.Batch.{One}
-use Rattle.mm_modules.proofs.Above.{id_spelled}
-use Rattle.mm_platform.specs.Standing.{foreign_item, Item, item_values, register_after}
-use Rattle.mm_platform.specs.Steps.{beside, Goes, ReadCell}
+use Rattle.mm_platform.specs.Standing.{Item, item_values, register_after}
+use Rattle.mm_platform.specs.Steps.{Goes, ReadCell}
 use Rattle.mm_recovery.specs.Fitting.{first_offer}
 use Rattle.mm_recovery.specs.Waiting.{IsWaiting}
 use Rattle.mm_recovery.specs.declared.fault.HostFault.TheVariants as host
-use Rattle.mm_seal.specs.Cell.{blank_cell, cell_spelling, FitsVariant, IsCell, ReadsCell, SpellsCell}
+use Rattle.mm_seal.specs.Cell.{blank_cell, cell_spelling, FitsVariant, ReadsCell, SpellsCell}
 use Rattle.mm_seal.specs.CellLaws.{reads_cell-same}
 use Rattle.mm_seal.specs.declared.cell.CellFault.TheVariants as unheld
 use Rattle.mm_store.specs.Pending.{Pending}
@@ -40,42 +38,8 @@ use Rattle.mm_app.specs.Holding.{CantRead, EndsByFault, HasLostPower, instance_o
 use Rattle.mm_app.specs.Running.{refused_at}
 use Rattle.mm_app.specs.Status.{status_at}
 use Rattle.mm_app.specs.declared.status.Status.TheVariants.{Already, Blank, Cell, Kind, Lost, Refused, Short}
-use Rattle.mm_app.proofs.Holding.{by_fault_where, exactly_here, fault_holding, Holding, IsRefusedRun, nowhere, tells_held}
-
--- The instance of a cell, and where the platform stands.
-
--- the digests of a cell and a register; no request is counted
-abbrev digests_for : Held → List ℕ → Digests
-digests_for held register = record { digest = held.summary.bytes; flag = held.flag; register = register; count = 0 }
-
-cell_again : (v : Variant) (held : Held) (it : AnyModule) (register : List ℕ) → held.variant ≡ v → FitsVariant v held.flag held.barrier
-    → (meaning_of it).id ≡ held.module
-    → cell_at (instance_by v (meaning_of it) held.key held.barrier) (digests_for held register) ≡ held
-cell_again Basic held it register e fits id = λ j. record {
-  variant = sym e j;
-  «module» = id j;
-  flag = held.flag;
-  summary = held.summary;
-  key = held.key;
-  barrier = sym fits.1 j;
-}
-cell_again Opt held it register e fits id = λ j. record {
-  variant = sym e j;
-  «module» = id j;
-  flag = held.flag;
-  summary = held.summary;
-  key = held.key;
-  barrier = held.barrier;
-}
-
-register_at : (v : Variant) (standing : Standing) (items : List Item) → standing.items ≡ Some items
-    → RegisterAt v (register_reads standing) (register_after (item_values items))
-register_at Basic standing items shown = tt
-register_at Opt standing items shown = ap (option_map (λ xs. register_after (item_values xs))) shown
-
-variant_by : (v : Variant) (held : Held) (it : AnyModule) → (instance_by v (meaning_of it) held.key held.barrier).variant ≡ v
-variant_by Basic held it = refl
-variant_by Opt held it = refl
+use Rattle.mm_app.proofs.HoldingRefusal.{refused_always, StandsFirst, stands_first}
+use Rattle.mm_app.proofs.Holding.{exactly_here, fault_holding, Holding, nowhere, tells_held}
 
 -- the items of a register that is told
 reads_items : (items : Option (List Item)) (register : List ℕ)
@@ -151,23 +115,8 @@ module _ (old new : Outside) (status : Status) (middle : Standing) (cell : List 
   abbrev i : Instance
   i = instance_of held it
 
-  abbrev known : List Item
-  known = items ++ map foreign_item goes.others
-
-  abbrev first : Digests
-  first = digests_for held (register_after (item_values known))
-
-  starts : StandsAt i middle first
-  starts =
-      let same = cell_again held.variant held it (register_after (item_values known)) refl spells.0.variant
-      (id_spelled held.module it found) in
-      record {
-        spells = subst IsCell (sym same) spells.0;
-        cell = goes.cell ∙ told ∙ ap (λ (x : List ℕ). Some x) (spells.1 ∙ ap cell_spelling (sym same));
-        reads = subst (λ (v : Variant). RegisterAt v (register_reads middle) (register_after (item_values known)))
-            (sym (variant_by held.variant held it))
-            (register_at held.variant middle known (goes.items ∙ ap (λ (x : Option (List Item)). beside goes.others x) shown));
-      }
+  first : StandsFirst i middle
+  first = stands_first old.standing middle cell held it spells found (read_untouched old.standing middle goes) told items shown
 
   abbrev ran : Sessions held.variant (meaning_of it) middle new.standing old.kept new.kept old.left new.left old.received s.between
       s.served.answer
@@ -178,6 +127,7 @@ module _ (old new : Outside) (status : Status) (middle : Standing) (cell : List 
     digests : Digests
     stands : StandsAt i new.standing digests
     why : Refusal
+    answered : s.served.answer ≡ Err (session.Host (host.Refused why))
     told_as : refused_at why ≡ end
     request : List ℕ
     in_hand : hand request
@@ -192,6 +142,7 @@ module _ (old new : Outside) (status : Status) (middle : Standing) (cell : List 
         digests = ends.digests;
         stands = ends.stands;
         why = r.0;
+        answered = r.1;
         told_as = r.2;
         request = at.request;
         in_hand = at.in_hand;
@@ -204,7 +155,7 @@ module _ (old new : Outside) (status : Status) (middle : Standing) (cell : List 
   somehow =
       let c = some_chain ran in
       refused_as _ _ (chain_ends held.variant (meaning_of it) held.key held.barrier c.offer middle new.standing
-      (told_in c.waiting ran.goes) (IsInHand c.waiting ran.goes) s.served.answer c.chain first starts)
+      (told_in c.waiting ran.goes) (IsInHand c.waiting ran.goes) s.served.answer c.chain first.digests first.stands)
 
   never : (end : Status) → tells_held end ≡ true → is_offer end ≡ false → status ≡ end → ⊥
   never end told_held not is =
@@ -264,36 +215,64 @@ module _ (old new : Outside) (status : Status) (middle : Standing) (cell : List 
       let r = somehow (Refused why) is refl in
       subst IsOfOffer (refused_why r.why why r.told_as) (refused_as_offer i r.digests (One r.request) _ r.why r.judged)
 
+  -- it isn't for lost power
+  powered : (why : Refusal) → status ≡ Refused why → why ≢ refusal.Lost
+  powered why is e =
+      let r = somehow (Refused why) is refl in
+      let lost : r.why ≡ refusal.Lost = refused_why r.why why r.told_as ∙ e in
+      let clash : Lost ≡ Refused why = ap refused_at (sym lost) ∙ r.told_as in absurd (cc)
+
   -- what was refused
-  refused_run : (why : Refusal) → status ≡ Refused why → IsRefusedRun old new cell why
-  refused_run why is = λ slots waiting input slots_told w left.
-      let c = chain_of ran slots waiting slots_told w in
-      let r = refused_as (offered_after (first_offer slots waiting) (told_in waiting ran.goes)) (IsInHand waiting ran.goes)
-      (chain_ends held.variant (meaning_of it) held.key held.barrier (first_offer slots waiting) middle new.standing
-      (told_in waiting ran.goes) (IsInHand waiting ran.goes) s.served.answer c first starts) (Refused why) is refl in
-      record {
-        held = held;
-        spells = spells;
-        it = it;
-        found = found;
-        start = middle;
-        looked = read_untouched old.standing middle goes;
-        told = told_in waiting ran.goes;
-        at = c.at;
-        calls = c.calls;
-        request = r.request;
-        next = (among_input ran slots waiting slots_told w input left).in_hand r.request r.in_hand;
-        digests = r.digests;
-        stands = r.stands;
-        judged = r.judged ∙ ap (λ (x : Refusal). Err x) (refused_why r.why why r.told_as);
-      }
+  module _ (slots : Slots) (waiting : Option Pending) (input : List ℕ) (slots_told : old.kept.slots ≡ Some slots)
+      (w : IsWaiting (slot_read slots 2) (slot_read slots 3) waiting) (left : old.left ≡ Some input) where
+    abbrev RefusesHere : Refusal → Type 0
+    RefusesHere why =
+        RefusesNext cell old.standing new.standing old.kept new.kept old.left new.left old.received slots waiting input status why
+
+    refused_run : (why : Refusal) → status ≡ Refused why → RefusesHere why
+    refused_run why is =
+        let c = chain_of ran slots waiting slots_told w in
+        let r = refused_as (offered_after (first_offer slots waiting) (told_in waiting ran.goes)) (IsInHand waiting ran.goes)
+        (chain_ends held.variant (meaning_of it) held.key held.barrier (first_offer slots waiting) middle new.standing
+        (told_in waiting ran.goes) (IsInHand waiting ran.goes) s.served.answer c first.digests first.stands) (Refused why) is refl in
+        record {
+          served = record {
+            held = held;
+            spells = spells;
+            it = it;
+            found = found;
+            start = middle;
+            looked = read_untouched old.standing middle goes;
+            received' = s.between;
+            answer = s.served.answer;
+            went = ran;
+            ended = s.served.ends;
+          };
+          told = told_in waiting ran.goes;
+          is_told = refl;
+          at = c.at;
+          calls = c.calls;
+          request = r.request;
+          next = next_in_hand ran slots waiting slots_told w input left (host.Refused r.why) r.answered r.request r.in_hand;
+          digests = r.digests;
+          stands = r.stands;
+          judged = r.judged ∙ ap (λ (x : Refusal). Err x) (refused_why r.why why r.told_as);
+          powered = powered why is;
+        }
+
+-- the request that was refused
+abbrev IsRefusedRun : (old new : Outside) → Status → List ℕ → Refusal → Type 0
+IsRefusedRun old new status cell why =
+    (slots : Slots) (waiting : Option Pending) (input : List ℕ) → old.kept.slots ≡ Some slots →
+    IsWaiting (slot_read slots 2) (slot_read slots 3) waiting → old.left ≡ Some input →
+    RefusesNext cell old.standing new.standing old.kept new.kept old.left new.left old.received slots waiting input status why
 
 -- What is told of a cell that is told.
 record AtRun (old new : Outside) (status : Status) (cell : List ℕ) : Type 0 where
   blank : IsExactlyWhere (Unit {0} × (cell ≡ blank_cell)) Blank status
   unread : IsExactlyWhere (CantRead cell Run) Cell status
   lost : IsExactlyWhere (MayBeLost Run status × HasLostPower new.standing) Lost status
-  refused : (why : Refusal) → status ≡ Refused why → (Run ≡ Run) × IsOfOffer why × IsRefusedRun old new cell why
+  refused : (why : Refusal) → status ≡ Refused why → IsOfOffer why × IsRefusedRun old new status cell why
 
 module _ (old new : Outside) (status : Status) (middle : Standing) (cell : List ℕ) where
   abbrev Goes_on : Result Header Status → Type 0
@@ -347,9 +326,10 @@ module _ (old new : Outside) (status : Status) (middle : Standing) (cell : List 
             ];
           };
           refused = λ why is. (
-            refl,
             offered old new status middle cell held it spells e goes told items shown s why is,
-            refused_run old new status middle cell held it spells e goes told items shown s why is,
+            λ slots waiting input slots_told w left.
+                refused_run old new status middle cell held it spells e goes told items shown s slots waiting input slots_told w left why
+                is,
           );
         }
 
@@ -395,7 +375,13 @@ module _ (old new : Outside) (status : Status) (middle : Standing) where
         kind = λ cell told. nowhere (unlike Kind refl) (λ h. h);
         short = λ cell secrets got told left. nowhere (unlike (Short got) refl) (λ h. h.0.0);
         lost = λ cell items told shown. (at cell items told shown).lost;
-        refused = λ cell items why told shown is. (at cell items told shown).refused why is;
+        refused = λ cell items why told shown. (
+          λ is. (refl, ((at cell items told shown).refused why is).0),
+          λ slots waiting input slots_told w left. record {
+            only = λ is. (refl, ((at cell items told shown).refused why is).1 slots waiting input slots_told w left);
+            always = λ h. refused_always old new status cell told items shown slots waiting input slots_told w left why h.1;
+          },
+        );
       }
 
 pub run_holding : (old new : Outside) (status : Status) → Does Run old new status → Holding Run old new status

@@ -12,7 +12,7 @@ use Rattle.mm_seal.specs.Cell.{blank_cell}
 use Rattle.mm_app.specs.Holding.{EndsByFault, IsExactlyWhere, RunsShort, StartsOne}
 use Rattle.mm_app.specs.declared.status.Status.TheVariants.{Already, Blank, Cell, Kind, Lost, Refused, Short, Memory, PlatformFault, ReadFault, StoreFault}
 use Rattle.mm_app.proofs.Completing.{Shorts, set_whole}
-use Rattle.mm_app.proofs.Holding.{by_fault_where, exactly_here, held_told, Holding, nowhere, tells_held}
+use Rattle.mm_app.proofs.Holding.{by_fault_where, exactly_here, held_told, Holding, none_offered, nowhere, tells_held}
 
 -- the statuses that a first start is told by, but for Done
 abbrev is_start : Status → Bool
@@ -121,5 +121,6 @@ start_holding header old new status d =
           short_where cell status header.variant (meaning_of header.module) (record before { platform = d.steps.platform }) after
           d.steps.is_blank d.answer secrets got so (λ is. only (Short got) is refl) (d.uses cell told) left d.steps.goes;
       lost = λ cell items told shown. nowhere (unlike Lost refl refl) (λ h. h.0);
-      refused = λ cell items why told shown is. absurd (unlike (Refused why) refl refl is);
+      refused = λ cell items why told shown.
+          none_offered (Init header) old new status cell why (unlike (Refused why) refl refl) (λ e. cc);
     }

@@ -11,5 +11,6 @@ mod RunningOnce
 mod Holding
 mod HoldingStart
 mod HoldingClosing
+mod HoldingRefusal
 mod HoldingRun
 mod HoldingAll

@@ -1,6 +1,5 @@
 -- What a status tells of what a device held.
-use Rattle.std.specs.Prelude.{◌≡◌, ◌≢◌, ◌<◌, ◌⊎◌, ℕ, true, List, ◌∷◌, [], ◌++◌, length, Option, None, Some, Err}
-use Rattle.mm_base.specs.Input.{lines_of}
+use Rattle.std.specs.Prelude.{◌≡◌, ◌≢◌, ◌<◌, ◌⊎◌, ℕ, true, List, length, Option, None, Some, Result, Err}
 use Rattle.mm_call.specs.Found.{found_at}
 use Rattle.mm_call.specs.Leaving.{IsUntouched}
 use Rattle.mm_call.specs.Levels.{by_digests}
@@ -9,19 +8,22 @@ use Rattle.mm_base.specs.declared.replay_fault.ReplayFault.TheVariants as replay
 use Rattle.mm_digest.specs.Messages.{zero_bytes}
 use Rattle.mm_digest.specs.declared.variant.Variant.TheVariants.{Basic, Opt}
 use Rattle.mm_gen.specs.Replayed.{replay_of}
-use Rattle.mm_host.specs.AnySlots.{AreFirstOf, offered_after, requests_with}
-use Rattle.mm_host.specs.Refusing.{CallsInTurn, IsOfOffer}
-use Rattle.mm_host.specs.Sessions.{Served, lines_served}
+use Rattle.mm_host.specs.AnySlots.{offered_after}
+use Rattle.mm_host.specs.Continuing.{told_in}
+use Rattle.mm_host.specs.Refusing.{CallsInTurn, IsNext, IsOfOffer}
+use Rattle.mm_host.specs.Sessions.{Served, Sessions}
+use Rattle.mm_host.specs.declared.fault.SessionFault.{SessionFault}
 use Rattle.mm_model.specs.Instance.{Instance}
 use Rattle.mm_model.specs.Moves.{Digests}
 use Rattle.mm_model.specs.declared.refusal.Refusal.{Refusal}
+use Rattle.mm_model.specs.declared.refusal.Refusal.TheVariants as refusal
 use Rattle.mm_module.specs.Batch.{One}
 use Rattle.mm_modules.specs.Modules.{meaning_of, module_with}
 use Rattle.mm_modules.specs.declared.any.AnyModule.{AnyModule}
 use Rattle.mm_platform.specs.Standing.{Item, Standing, item_values, register_after}
 use Rattle.mm_recovery.specs.Fitting.{first_offer}
 use Rattle.mm_recovery.specs.Waiting.{IsWaiting}
-use Rattle.mm_seal.specs.Cell.{IsNoCell, SpellsCell, blank_cell, cell_spelling}
+use Rattle.mm_seal.specs.Cell.{IsNoCell, SpellsCell, blank_cell}
 use Rattle.mm_seal.specs.declared.cell.Cell.{Cell as Held}
 use Rattle.mm_store.specs.Kept.{StoreStanding}
 use Rattle.mm_store.specs.Pending.{Pending}
@@ -31,6 +33,7 @@ use Rattle.mm_words.specs.Commands.{SpellsCommand}
 use Rattle.mm_words.specs.declared.command.Command.TheVariants.{Init, Run, Bulk, Checkpoint}
 use Rattle.mm_words.specs.declared.command.Generated.{Generated}
 use Rattle.mm_app.specs.Commands.{SpellSome}
+use Rattle.mm_app.specs.Running.{session_status}
 use Rattle.mm_app.specs.declared.status.Status.{Status}
 use Rattle.mm_app.specs.declared.status.Status.TheVariants.{ReadFault, WriteFault, Memory, PlatformFault, StoreFault, Blank, Already, Cell, Lost, Refused, TooMuch, Short, Kind}
 
@@ -100,27 +103,41 @@ MayBeLost command status = ⊥
 abbrev pub instance_of : Held → AnyModule → Instance
 instance_of held it = instance_by held.variant (meaning_of it) held.key held.barrier
 
--- From where the cell was read, of these requests the first were asked and answered, each but the
--- first with the snapshot of the answer before; and the next one was refused so, as its offer is by
--- the digests at which the platform stands at the end.
-pub record RefusesNext (cell : List ℕ) (before after : Standing) (offer : List ℕ)
-    (requests : List (List ℕ))
-    (why : Refusal) : Type 0 where
+-- From where the cell was read, a session over the instance that it holds went so, and ended with
+-- this status.
+pub record HasServed (cell : List ℕ) (before after : Standing) (old new : StoreStanding)
+    (left left' received : Option (List ℕ)) (status : Status) : Type 0 where
   pub held : Held
   pub spells : SpellsCell cell held
   pub it : AnyModule
   pub found : module_with held.module ≡ Some it
   pub start : Standing
   pub looked : IsUntouched before start
+  pub received' : Option (List ℕ)
+  pub answer : Result (Unit {0}) SessionFault
+  pub went : Sessions held.variant (meaning_of it) start after old new left left' received received'
+      answer
+  pub ended : status ≡ session_status answer
+
+-- The requests that it told were asked and answered one after another, each but the first with the
+-- snapshot of the answer before; and the next one is refused so, as its offer is by the digests at
+-- which the platform stands at the end. Lost power isn't meant, which has a status of its own.
+pub record RefusesNext (cell : List ℕ) (before after : Standing) (old new : StoreStanding)
+    (left left' received : Option (List ℕ)) (slots : Slots) (waiting : Option Pending)
+    (input : List ℕ) (status : Status) (why : Refusal) : Type 0 where
+  pub served : HasServed cell before after old new left left' received status
+  pub open served use *
   pub told : List Served
+  pub is_told : told ≡ told_in waiting went.goes
   pub at : Standing
-  pub calls : CallsInTurn held.variant (meaning_of it) offer start told at
+  pub calls : CallsInTurn held.variant (meaning_of it) (first_offer slots waiting) start told at
   pub request : List ℕ
-  pub next : AreFirstOf (lines_served told ++ request ∷ []) requests
+  pub next : IsNext waiting input told request
   pub digests : Digests
   pub stands : StandsAt (instance_of held it) after digests
   pub judged : found_at (instance_of held it) (by_digests (instance_of held it)) digests
-      (One request) (offered_after offer told) ≡ Err why
+      (One request) (offered_after (first_offer slots waiting) told) ≡ Err why
+  pub powered : why ≢ refusal.Lost
 
 -- The platform's cell is blank.
 abbrev pub TellsBlank : List (List ℕ) → Standing → Status → Type 0
@@ -163,18 +180,21 @@ TellsLost words before after status =
     status
 
 -- What the host offered was refused: for one of the causes of an offer, and not by a device. Over a
--- store that tells its slots these are what is offered first; and the request is what waits in
+-- store that tells its slots it is so exactly where what is offered next, behind the answers that
+-- were told, is refused. At first that is what the slots offer; and the request is what waits in
 -- them, or a line.
-abbrev pub TellsRefusal : List (List ℕ) → (before after : Standing) → StoreStanding
-    → Option (List ℕ) → Status → Type 0
-TellsRefusal words before after kept left status =
+abbrev pub TellsRefusal : List (List ℕ) → (before after : Standing) → (old new : StoreStanding)
+    → (left left' received : Option (List ℕ)) → Status → Type 0
+TellsRefusal words before after old new left left' received status =
     (cell : List ℕ) (items : List Item) (why : Refusal) → before.cell ≡ Some cell →
-    before.items ≡ Some items → status ≡ Refused why →
-    SpellSome (λ command. command ≡ Run) words × IsOfOffer why
-    × ((slots : Slots) (waiting : Option Pending) (input : List ℕ) → kept.slots ≡ Some slots →
+    before.items ≡ Some items →
+    (status ≡ Refused why → SpellSome (λ command. command ≡ Run) words × IsOfOffer why)
+    × ((slots : Slots) (waiting : Option Pending) (input : List ℕ) → old.slots ≡ Some slots →
     IsWaiting (slot_read slots 2) (slot_read slots 3) waiting → left ≡ Some input →
-    RefusesNext cell before after (first_offer slots waiting)
-    (requests_with waiting (lines_of input)) why)
+    IsExactlyWhere
+    (SpellSome (λ command. command ≡ Run) words
+    × RefusesNext cell before after old new left left' received slots waiting input status why)
+    (Refused why) status)
 
 -- A run in bulk is too much exactly where the replay of the text that its number makes is.
 abbrev pub TellsMuch : List (List ℕ) → Status → Type 0

@@ -154,7 +154,8 @@ pub fn memoir<P: Platform, T: Store, S: Source, E: Source, K: Sink>(
     ensures lost { TellsLost (map (λ s. s.now) words.now) (P.standing platform.old)
         (P.standing platform.new) result }
     ensures refused { TellsRefusal (map (λ s. s.now) words.now) (P.standing platform.old)
-        (P.standing platform.new) (T.kept store.old) (S.left input.old) result }
+        (P.standing platform.new) (T.kept store.old) (T.kept store.new) (S.left input.old)
+        (S.left input.new) (K.received out.old) result }
     ensures much { TellsMuch (map (λ s. s.now) words.now) result }
 
     // A command leaves the objects that it doesn't use as they were.

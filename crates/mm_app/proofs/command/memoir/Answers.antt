@@ -4,7 +4,7 @@ use Rattle.mm_words.specs.declared.fault.WordsFault.{WordsFault}
 use Rattle.mm_words.specs.declared.fault.WordsFault.TheVariants as words
 use Rattle.mm_app.specs.Status.{words_status}
 use Rattle.mm_words.specs.Commands.{SpellsCommand}
-use Rattle.mm_app.proofs.Below.{Bulk}
+use Rattle.mm_app.proofs.Below.{Bulk, Run}
 use Rattle.mm_app.proofs.Blame.{Blamed, Frames, blamed}
 use Rattle.mm_app.proofs.OutputBlame.{output_blamed}
 use Rattle.mm_app.proofs.Completing.{may_be_done}
@@ -128,10 +128,13 @@ returns-in-Ok-clause-lost g c cell items told shown =
     ((holds g it).lost cell items told shown)
 
 pub returns-in-Ok-clause-refused : goal.returns-in-Ok-clause-refused
-returns-in-Ok-clause-refused g c cell items why told shown is =
+returns-in-Ok-clause-refused g c cell items why told shown =
     let it = (goal.at.returns-in-Ok-clause-refused g c).After-done in
-    let r = (holds g it).refused cell items why told shown is in
-    ((it.in-Ok.command, r.0, it.in-Ok.ensures.ok), r.1, r.2)
+    let r = (holds g it).refused cell items why told shown in (
+      λ is. let run = r.0 is in ((it.in-Ok.command, run.0, it.in-Ok.ensures.ok), run.1),
+      λ slots waiting input slots_told w left. spelled_where (words_of g it) it.in-Ok.command it.in-Ok.ensures.ok
+          {Is = λ command. command ≡ Run} (r.1 slots waiting input slots_told w left),
+    )
 
 pub returns-in-Ok-clause-much : goal.returns-in-Ok-clause-much
 returns-in-Ok-clause-much g c it spells =
@@ -214,9 +217,12 @@ returns-in-Err-clause-lost g c cell items told shown =
     {Is = λ command. MayBeLost command it.stopped.result} Lost refl
 
 pub returns-in-Err-clause-refused : goal.returns-in-Err-clause-refused
-returns-in-Err-clause-refused g c cell items why told shown is =
-    let it = (goal.at.returns-in-Err-clause-refused g c).After-stopped in
-    absurd (unheld _ it.in-Err.fault it.stopped.result it.in-Err.ensures.usage (stopped_as g it) (Refused why) refl is)
+returns-in-Err-clause-refused g c cell items why told shown =
+    let it = (goal.at.returns-in-Err-clause-refused g c).After-stopped in (
+      λ is. absurd (unheld _ it.in-Err.fault it.stopped.result it.in-Err.ensures.usage (stopped_as g it) (Refused why) refl is),
+      λ slots waiting input slots_told w left. unspelled_where _ it.in-Err.fault it.stopped.result it.in-Err.ensures.usage (stopped_as g it)
+          {Is = λ command. command ≡ Run} (Refused why) refl,
+    )
 
 pub returns-in-Err-clause-much : goal.returns-in-Err-clause-much
 returns-in-Err-clause-much g c it spells =
