@@ -43,7 +43,8 @@ bulk_summary run = record {
   issued = length run.issued;
   replies =
       record {
-        bytes = sha256 (flat_map text_of_replies run.replies ++ end_line run.state.count (length run.issued));
+        bytes = sha256 (flat_map text_of_replies run.replies
+            ++ end_line run.state.count (length run.issued));
       };
 }
 

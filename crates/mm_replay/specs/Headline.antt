@@ -48,9 +48,9 @@ pub record IsPromisedRun (i : Instance) («module» : AnyModule) (events : List 
   pub promised : Promises «module» run.requests shown.replies
 
 -- The headline. Each event has one reply, and the first events have the first ones. No event at all
--- is one run; and each first part of the events is one, or one holds evidence in hand: two different
--- messages of the run with one digest, a message with digest zero, a value of others that is the
--- guard of a batch, or an offer that is forged.
+-- is one run; and each first part of the events is one, or one holds evidence in hand: two
+-- different messages of the run with one digest, a message with digest zero, a value of others that
+-- is the guard of a batch, or an offer that is forged.
 pub record AreOneRun (header : Header) (events : List Event) (shown : List Event → Shown) : Type 0
   where
     pub each : length (shown events).replies ≡ length events

@@ -128,20 +128,20 @@ module _ (pair : Pair) (both : Both History History) (notes : Notes) (event : Bo
   -- offers, of an instance whose names are decided
   module _ (named : (y : History) (content : Content) → IsDecided (is_named at_side y content) (Names at_side y content)) where
     module _ (meddles : List Meddle) (stop : Stop) (nonce : List ℕ) (offer : Offer) (is : event.act ≡ Moves meddles stop (Retire nonce offer))
-        where
-      stood : (here.first.role ≡ Live) ⊎ ((left : List ℕ) × (here.first.role ≡ Retired left))
-          → Breach ⊎ IsGenuineOffer at_side (history_now here) (offered_bytes here.first.issued offer)
-      stood role = elim (offer_or at_side named (history_now here) (offered_bytes here.first.issued offer)) [
-        | inl f ↦ inl (retired meddles stop nonce offer is role f)
-        | inr fine ↦ inr fine
-      ]
+      where
+        stood : (here.first.role ≡ Live) ⊎ ((left : List ℕ) × (here.first.role ≡ Retired left))
+            → Breach ⊎ IsGenuineOffer at_side (history_now here) (offered_bytes here.first.issued offer)
+        stood role = elim (offer_or at_side named (history_now here) (offered_bytes here.first.issued offer)) [
+          | inl f ↦ inl (retired meddles stop nonce offer is role f)
+          | inr fine ↦ inr fine
+        ]
 
-      genuine_to : (role : Role) → here.first.role ≡ role
-          → Breach ⊎ IsGenuineTo role at_side (history_now here) (offered_bytes here.first.issued offer)
-      genuine_to Live at = stood (inl at)
-      genuine_to (Retired left) at = stood (inr (left, at))
-      genuine_to Blank at = inr tt
-      genuine_to (Waiting awaited) at = inr tt
+        genuine_to : (role : Role) → here.first.role ≡ role
+            → Breach ⊎ IsGenuineTo role at_side (history_now here) (offered_bytes here.first.issued offer)
+        genuine_to Live at = stood (inl at)
+        genuine_to (Retired left) at = stood (inr (left, at))
+        genuine_to Blank at = inr tt
+        genuine_to (Waiting awaited) at = inr tt
 
     genuine_plain : (e : Event) → event.act ≡ Plain e → (role : Role) → here.first.role ≡ role
         → Breach ⊎ IsGenuinePlain role at_side here.first e

@@ -28,7 +28,8 @@ pub data IsBreach (pair : Pair) (both : Both History History) (notes : Notes)
       → IsForged (instance_on pair event.which) (history_now (facing event.which both))
       (offered_bytes (facing event.which both).first.issued offer)
       → IsBreach pair both notes event
-  invited : (nonce : List ℕ) → (both_outcome lists_move pair both event).effect ≡ Some (Invites nonce)
+  invited : (nonce : List ℕ)
+      → (both_outcome lists_move pair both event).effect ≡ Some (Invites nonce)
       → Contains notes.invited nonce → IsBreach pair both notes event
   accepted : (meddles : List Meddle) (stop : Stop) (offer : Offer) (bytes : List ℕ)
       (ticket : TicketContent) → event.act ≡ Moves meddles stop (Accept offer)
