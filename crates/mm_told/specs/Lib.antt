@@ -1,0 +1,4 @@
+pub mod Steps
+pub mod Host
+pub mod HostLaws
+pub mod Later
