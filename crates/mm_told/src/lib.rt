@@ -2,11 +2,18 @@
 //! next step behind that.
 #![tactic(auto)]
 
+mod asking;
+mod closing;
 mod host;
+mod outcome;
 mod state;
 mod step;
 mod told;
 
+pub use asking::ask;
+pub use closing::checkpoint;
 pub use host::Hosted;
+pub use outcome::{Outcome, Reach};
+pub use state::{Later, State};
 pub use step::{Made, Step};
 pub use told::Told;

@@ -26,6 +26,7 @@ pub enum State {
 }
 
 impl Later {
+    ghost use Rattle.mm_told.specs.Outcomes.{is_none};
     ghost use Rattle.mm_told.specs.Later.{no_calls, later_by, later_cycled};
 
     /// No calls.
@@ -38,6 +39,13 @@ impl Later {
             cycles: 0,
             faults: 0,
         }
+    }
+
+    /// Whether nothing was called.
+    pub fn is_none(self) -> bool
+        ensures { result ≡ is_none self }
+    {
+        self.steps == 0 && self.writes == 0 && self.cycles == 0 && self.faults == 0
     }
 
     /// One step more.

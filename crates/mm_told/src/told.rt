@@ -6,9 +6,11 @@ ghost use Rattle.mm_platform.specs.Steps.{Goes, Cycles, WriteCell, ExtendRegiste
 ghost use Rattle.mm_platform.specs.declared.fault.StepFault.TheVariants.{Off};
 ghost use Rattle.mm_told.specs.Host.{AreMade, bare};
 ghost use Rattle.mm_told.specs.Later.{stands, IsGiven};
+ghost use Rattle.mm_told.specs.Outcomes.{reach_of};
 ghost use Rattle.mm_told.specs.Steps.{act_of, act_made};
 
 use crate::host::Hosted;
+use crate::outcome::Reach;
 use crate::state::State;
 use crate::step::{Made, Step};
 use mm_base::{CELL_LENGTH, Memory};
@@ -47,6 +49,17 @@ impl<'a, K: Hosted> Told<'a, K> {
             left: made,
             state: State::Telling,
             host: PhantomData,
+        }
+    }
+
+    /// How far it was asked.
+    pub fn reach(&self) -> Reach
+        ensures { result ≡ reach_of self.now }
+    {
+        match self.state {
+            State::Telling if self.left.is_empty() => Reach::End,
+            State::Wanting(step, later) if later.is_none() => Reach::Next(step),
+            _ => Reach::Elsewhere,
         }
     }
 
