@@ -80,6 +80,7 @@ reads_worn (made.ResetRegister answer) = tt
 reads_worn (made.ExtendRegister value answer) = tt
 
 -- any steps
-pub are_made : (steps : List Made) → AreMade (λ left. worn) steps
+pub are_made : (steps : List Made) → AreMade worn_host.stood steps
+unfolding worn_host
 are_made [] = tt
 are_made (it ∷ more) = (record { goes = goes_worn (act_made it) (fault_made it); reads = reads_worn it }, are_made more)
