@@ -54,10 +54,10 @@ pub extern "C" fn memoir_ask(
 /// The variant of this number, and the module of this id.
 pub fn parts(instance: &Instance) -> Result<(Variant, AnyModule), Said> {
     let Some(variant) = Variant::of_byte(instance.variant) else {
-        return Err(Said::Variant);
+        return Err(Said::NoVariant);
     };
     let Some(module) = by_id(instance.module) else {
-        return Err(Said::Module);
+        return Err(Said::NoModule);
     };
     Ok((variant, module))
 }
@@ -72,7 +72,7 @@ fn asked(
 ) -> Result<Outcome<Result<Answer, Refusal>>, Said> {
     let (variant, module) = parts(instance)?;
     if steps.len() > MOST_STEPS {
-        return Err(Said::Steps);
+        return Err(Said::TooMany);
     }
     let mut made = [Made::ResetRegister(Ok(())); MOST_STEPS];
     put_made(steps, &mut made)?;
@@ -122,7 +122,7 @@ fn put_answer(answer: &Answer, reply: &mut Reply, room: &mut [u8]) -> Said
     let output = answer.output.as_slice();
     let snapshot = answer.snapshot.as_slice();
     if !put_both(output, snapshot, room) {
-        return Said::Room;
+        return Said::NoRoom;
     }
     reply.position = answer.position;
     reply.output_length = output.len();

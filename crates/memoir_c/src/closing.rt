@@ -18,7 +18,7 @@ pub extern "C" fn memoir_checkpoint(steps: &[Step], step: &mut Step) -> u32
 // What the checkpoint comes to.
 fn closed(steps: &[Step]) -> Result<Outcome<Result<Checkpointed, CheckpointRefusal>>, Said> {
     if steps.len() > MOST_STEPS {
-        return Err(Said::Steps);
+        return Err(Said::TooMany);
     }
     let mut made = [Made::ResetRegister(Ok(())); MOST_STEPS];
     put_made(steps, &mut made)?;

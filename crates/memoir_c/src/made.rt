@@ -36,7 +36,7 @@ fn made(step: &Step) -> Result<Made, Said> {
         3 => Ok(Made::ReadRegister(given(answer, value(step)))),
         4 => Ok(Made::ResetRegister(answer)),
         5 => Ok(Made::ExtendRegister(value(step), answer)),
-        _ => Err(Said::Step),
+        _ => Err(Said::NoStep),
     }
 }
 
@@ -46,7 +46,7 @@ fn answer(answer: u8) -> Result<Result<(), StepFault>, Said> {
         0 => Ok(Ok(())),
         1 => Ok(Err(StepFault::Failed)),
         2 => Ok(Err(StepFault::Off)),
-        _ => Err(Said::Step),
+        _ => Err(Said::NoStep),
     }
 }
 

@@ -43,7 +43,7 @@ fn put_record(
 // The record's bytes.
 fn record(alloc: Global, position: u64, request: &[u8]) -> Result<Bytes, Said> {
     if position == 0 || position > LAST_POSITION {
-        return Err(Said::Position);
+        return Err(Said::NoPosition);
     }
     if !is_line(request) {
         return Err(Said::Refused(Refusal::Long));
@@ -60,7 +60,7 @@ fn put(bytes: &[u8], length: &mut usize, room: &mut [u8]) -> Said
     ensures unsaid { result ≢ Said.Done → length.new ≡ length.old }
 {
     if bytes.len() > room.len() {
-        return Said::Room;
+        return Said::NoRoom;
     }
     room[..bytes.len()].copy_from_slice(bytes);
     *length = bytes.len();

@@ -62,7 +62,7 @@ fn put(made: &Made, first: &mut Provisioned, room: &mut [u8]) -> Said
 {
     let snapshot = made.snapshot.as_slice();
     if snapshot.len() > room.len() {
-        return Said::Room;
+        return Said::NoRoom;
     }
     room[..snapshot.len()].copy_from_slice(snapshot);
     first.snapshot_length = snapshot.len();

@@ -19,7 +19,7 @@ pub extern "C" fn memoir_receipt_verify(
 
 fn verdict(key: &[u8], position: u64, request: &[u8], output: &[u8]) -> Said {
     let Ok(key) = <&[u8; 32]>::try_from(key) else {
-        return Said::Length;
+        return Said::NoKey;
     };
     if request.len() > LONGEST_REQUEST {
         return Said::Refused(Refusal::Long);

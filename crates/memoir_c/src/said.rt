@@ -17,19 +17,19 @@ pub enum Said {
     /// No segment was open.
     NoSegment,
     /// No variant has this number.
-    Variant,
+    NoVariant,
     /// No module has this id.
-    Module,
+    NoModule,
     /// More steps than a call makes.
-    Steps,
+    TooMany,
     /// No step has this kind, or no answer this number.
-    Step,
+    NoStep,
     /// There is less room than is needed.
-    Room,
-    /// A key or a cell has another length.
-    Length,
+    NoRoom,
+    /// A key has not 32 bytes.
+    NoKey,
     /// No request has this position.
-    Position,
+    NoPosition,
 }
 
 impl Said {
@@ -46,13 +46,13 @@ impl Said {
             Said::Next => 16,
             Said::Differs => 17,
             Said::NoSegment => 18,
-            Said::Variant => 32,
-            Said::Module => 33,
-            Said::Steps => 34,
-            Said::Step => 35,
-            Said::Room => 36,
-            Said::Length => 37,
-            Said::Position => 38,
+            Said::NoVariant => 32,
+            Said::NoModule => 33,
+            Said::TooMany => 34,
+            Said::NoStep => 35,
+            Said::NoRoom => 36,
+            Said::NoKey => 37,
+            Said::NoPosition => 38,
         }
     }
 

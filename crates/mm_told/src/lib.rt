@@ -5,6 +5,7 @@
 mod asking;
 mod closing;
 mod host;
+mod making;
 mod outcome;
 mod state;
 mod step;
@@ -13,6 +14,7 @@ mod told;
 pub use asking::ask;
 pub use closing::checkpoint;
 pub use host::Hosted;
+pub use making::make;
 pub use outcome::{Outcome, Reach};
 pub use state::{Later, State};
 pub use step::{Made, Step};
