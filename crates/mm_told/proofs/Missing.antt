@@ -54,7 +54,7 @@ plan_untold None e = refl
 plan_untold (Some plan) e = absurd (cc)
 
 -- what a step leaves that has no effect and answers Off
-unmade : (act : Act) (standing : Standing) (later : Later) → standing.plan ≡ None
+pub unmade : (act : Act) (standing : Standing) (later : Later) → standing.plan ≡ None
     → Goes act (raised later standing) (raised (later_by act later) standing) (Some Off)
 unmade act standing later untold = record {
   is_made = false;

@@ -5,6 +5,7 @@
 mod asking;
 mod closing;
 mod host;
+mod hosting;
 mod making;
 mod outcome;
 mod state;
@@ -14,6 +15,7 @@ mod told;
 pub use asking::ask;
 pub use closing::checkpoint;
 pub use host::Hosted;
+pub use hosting::ask_by_steps;
 pub use making::make;
 pub use outcome::{Outcome, Reach};
 pub use state::{Later, State};
