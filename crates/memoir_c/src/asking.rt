@@ -1,0 +1,148 @@
+//! A call that asks for a request.
+
+ghost use Rattle.std.specs.Prelude.{◌≡◌, ◌≢◌, false};
+
+use crate::made::{MOST_STEPS, Step, next, put_made};
+use crate::said::Said;
+use mm_digest::Variant;
+use mm_model::{Answer, Refusal};
+use mm_module::Module;
+use mm_modules::{AnyModule, by_id};
+use mm_told::{Made, Outcome, ask};
+use std::alloc::Global;
+
+/// The variant's number and the module's id.
+#[repr(C)]
+#[derive(Clone, Copy, Drop)]
+pub struct Instance {
+    pub variant: u8,
+    pub module: u8,
+}
+
+/// What a call gives: with Done all but `next`, with Next that alone.
+#[repr(C)]
+#[derive(Clone, Copy, Drop)]
+pub struct Reply {
+    pub position: u64,
+    /// How many bytes of the room are the output.
+    pub output_length: usize,
+    /// How many bytes behind these are the snapshot.
+    pub snapshot_length: usize,
+    /// 1 where the request had been committed before, otherwise 0.
+    pub again: u8,
+    /// The step that is to be made.
+    pub next: Step,
+}
+
+/// What a call comes to with these steps made. Only Done writes to the room.
+#[unsafe(no_mangle)]
+pub extern "C" fn memoir_ask(
+    alloc: Global,
+    instance: &Instance,
+    steps: &[Step],
+    offer: &[u8],
+    request: &[u8],
+    reply: &mut Reply,
+    room: &mut [u8],
+) -> u32
+    ensures unwritten { result ≢ 0 → room.new ≡ room.old }
+    ensures unsaid { result ≢ 0 → result ≢ 16 → reply.new ≡ reply.old }
+{
+    tell(asked(alloc, instance, steps, offer, request), reply, room).code()
+}
+
+/// The variant of this number, and the module of this id.
+pub fn parts(instance: &Instance) -> Result<(Variant, AnyModule), Said> {
+    let Some(variant) = Variant::of_byte(instance.variant) else {
+        return Err(Said::NoVariant);
+    };
+    let Some(module) = by_id(instance.module) else {
+        return Err(Said::NoModule);
+    };
+    Ok((variant, module))
+}
+
+// What the call comes to.
+fn asked(
+    alloc: Global,
+    instance: &Instance,
+    steps: &[Step],
+    offer: &[u8],
+    request: &[u8],
+) -> Result<Outcome<Result<Answer, Refusal>>, Said> {
+    let (variant, module) = parts(instance)?;
+    if steps.len() > MOST_STEPS {
+        return Err(Said::TooMany);
+    }
+    let mut made = [Made::ResetRegister(Ok(())); MOST_STEPS];
+    put_made(steps, &mut made)?;
+    let made = &made[..steps.len()];
+    Ok(come_to(alloc, variant, &module, made, offer, request))
+}
+
+// The call with these steps made.
+fn come_to<M: Module>(
+    alloc: Global,
+    variant: Variant,
+    module: &M,
+    made: &[Made],
+    offer: &[u8],
+    request: &[u8],
+) -> Outcome<Result<Answer, Refusal>> {
+    ask(alloc, variant, module, made, offer, request)
+}
+
+// Writes what the call came to.
+fn tell(
+    asked: Result<Outcome<Result<Answer, Refusal>>, Said>,
+    reply: &mut Reply,
+    room: &mut [u8],
+) -> Said
+    ensures unwritten { result ≢ Said.Done → room.new ≡ room.old }
+    ensures unsaid { result ≢ Said.Done → result ≢ Said.Next → reply.new ≡ reply.old }
+{
+    match asked {
+        Err(said) => said,
+        Ok(Outcome::Ended(Ok(answer))) => put_answer(&answer, reply, room),
+        Ok(Outcome::Ended(Err(refusal))) => Said::Refused(refusal),
+        Ok(Outcome::Memory) => Said::Refused(Refusal::Memory),
+        Ok(Outcome::Differs) => Said::Differs,
+        Ok(Outcome::Next(step)) => {
+            reply.next = next(step);
+            Said::Next
+        }
+    }
+}
+
+// Writes an answer: its output, and its snapshot behind that.
+fn put_answer(answer: &Answer, reply: &mut Reply, room: &mut [u8]) -> Said
+    ensures unwritten { result ≢ Said.Done → room.new ≡ room.old }
+    ensures unsaid { result ≢ Said.Done → reply.new ≡ reply.old }
+{
+    let output = answer.output.as_slice();
+    let snapshot = answer.snapshot.as_slice();
+    if !put_both(output, snapshot, room) {
+        return Said::NoRoom;
+    }
+    reply.position = answer.position;
+    reply.output_length = output.len();
+    reply.snapshot_length = snapshot.len();
+    reply.again = u8::from(answer.again);
+    Said::Done
+}
+
+// Writes these bytes, and those behind them, where there is room for both.
+fn put_both(front: &[u8], rest: &[u8], room: &mut [u8]) -> bool
+    ensures { result ≡ false → room.new ≡ room.old }
+{
+    if front.len() > room.len() {
+        return false;
+    }
+    let (place, behind) = room.split_at_mut(front.len());
+    if rest.len() > behind.len() {
+        return false;
+    }
+    place.copy_from_slice(front);
+    behind[..rest.len()].copy_from_slice(rest);
+    true
+}

@@ -1,0 +1,16 @@
+//! The cores for C: a thin face over proved calls, which keeps nothing and never calls back. `bindings/c/memoir.h`
+//! declares it.
+#![tactic(auto)]
+
+mod asking;
+mod closing;
+mod made;
+mod modules;
+mod pending;
+mod provisioning;
+mod receipts;
+mod said;
+
+pub use asking::{Instance, Reply};
+pub use made::Step;
+pub use provisioning::{Keys, Provisioned};

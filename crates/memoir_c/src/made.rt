@@ -1,0 +1,101 @@
+//! Device steps, as C makes them.
+
+use crate::said::Said;
+use mm_base::CELL_LENGTH;
+use mm_digest::Digest;
+use mm_platform::StepFault;
+use mm_told::Made;
+
+/// The most steps that a call makes.
+pub const MOST_STEPS: usize = 5;
+
+/// A device step: its kind, what the device answered, and the bytes that were read or are written: of a cell 104, of a
+/// register the first 32.
+#[repr(C)]
+#[derive(Clone, Copy, Drop)]
+pub struct Step {
+    pub kind: u8,
+    pub answer: u8,
+    pub bytes: [u8; CELL_LENGTH],
+}
+
+/// The steps that were made, in a room for the most that a call makes.
+pub fn put_made(steps: &[Step], into: &mut [Made; MOST_STEPS]) -> Result<(), Said> {
+    for (place, step) in into.iter_mut().zip(steps) {
+        *place = made(step)?;
+    }
+    Ok(())
+}
+
+// The step that was made.
+fn made(step: &Step) -> Result<Made, Said> {
+    let answer = answer(step.answer)?;
+    match step.kind {
+        1 => Ok(Made::ReadCell(given(answer, step.bytes))),
+        2 => Ok(Made::WriteCell(step.bytes, answer)),
+        3 => Ok(Made::ReadRegister(given(answer, value(step)))),
+        4 => Ok(Made::ResetRegister(answer)),
+        5 => Ok(Made::ExtendRegister(value(step), answer)),
+        _ => Err(Said::NoStep),
+    }
+}
+
+// What a device answered: 0 Ok, 1 Failed, 2 Off.
+fn answer(answer: u8) -> Result<Result<(), StepFault>, Said> {
+    match answer {
+        0 => Ok(Ok(())),
+        1 => Ok(Err(StepFault::Failed)),
+        2 => Ok(Err(StepFault::Off)),
+        _ => Err(Said::NoStep),
+    }
+}
+
+// What was read, where that didn't fail.
+fn given<T: Copy>(answer: Result<(), StepFault>, value: T) -> Result<T, StepFault> {
+    match answer {
+        Ok(()) => Ok(value),
+        Err(fault) => Err(fault),
+    }
+}
+
+// The register's value, or the value that extends it.
+fn value(step: &Step) -> Digest {
+    let mut bytes = [0; 32];
+    bytes.copy_from_slice(&step.bytes[..32]);
+    Digest { bytes }
+}
+
+/// The step that is to be made next. The bytes behind a register's are zero.
+pub fn next(step: mm_told::Step) -> Step {
+    match step {
+        mm_told::Step::ReadCell => bare(1),
+        mm_told::Step::WriteCell(bytes) => Step {
+            kind: 2,
+            answer: 0,
+            bytes,
+        },
+        mm_told::Step::ReadRegister => bare(3),
+        mm_told::Step::ResetRegister => bare(4),
+        mm_told::Step::ExtendRegister(value) => extending(&value),
+    }
+}
+
+// A step of this kind that writes nothing.
+fn bare(kind: u8) -> Step {
+    Step {
+        kind,
+        answer: 0,
+        bytes: [0; CELL_LENGTH],
+    }
+}
+
+// A step that extends the register by this value.
+fn extending(value: &Digest) -> Step {
+    let mut bytes = [0; CELL_LENGTH];
+    bytes[..32].copy_from_slice(&value.bytes);
+    Step {
+        kind: 5,
+        answer: 0,
+        bytes,
+    }
+}

@@ -1,0 +1,105 @@
+//! The record of a request that is pending.
+
+ghost use Rattle.std.specs.Prelude.{◌≡◌, ◌≢◌};
+
+use crate::said::Said;
+use mm_base::{Bytes, LAST_POSITION};
+use mm_model::Refusal;
+use mm_module::is_line;
+use mm_store::{PendingRequest, pending_bytes, read_pending};
+use std::alloc::Global;
+
+/// Writes the record of the request that is to take this position, and its length: 48 bytes more than the request's.
+#[unsafe(no_mangle)]
+pub extern "C" fn memoir_pending(
+    alloc: Global,
+    position: u64,
+    request: &[u8],
+    length: &mut usize,
+    room: &mut [u8],
+) -> u32
+    ensures unwritten { result ≢ 0 → room.new ≡ room.old }
+    ensures unsaid { result ≢ 0 → length.new ≡ length.old }
+{
+    put_record(alloc, position, request, length, room).code()
+}
+
+fn put_record(
+    alloc: Global,
+    position: u64,
+    request: &[u8],
+    length: &mut usize,
+    room: &mut [u8],
+) -> Said
+    ensures unwritten { result ≢ Said.Done → room.new ≡ room.old }
+    ensures unsaid { result ≢ Said.Done → length.new ≡ length.old }
+{
+    match record(alloc, position, request) {
+        Err(said) => said,
+        Ok(bytes) => put(bytes.as_slice(), length, room),
+    }
+}
+
+// The record's bytes.
+fn record(alloc: Global, position: u64, request: &[u8]) -> Result<Bytes, Said> {
+    if position == 0 || position > LAST_POSITION {
+        return Err(Said::NoPosition);
+    }
+    if !is_line(request) {
+        return Err(Said::Refused(Refusal::Long));
+    }
+    match pending_bytes(alloc, position, request) {
+        Err(_) => Err(Said::Refused(Refusal::Memory)),
+        Ok(bytes) => Ok(bytes),
+    }
+}
+
+// Writes these bytes and their length, where there is room.
+fn put(bytes: &[u8], length: &mut usize, room: &mut [u8]) -> Said
+    ensures unwritten { result ≢ Said.Done → room.new ≡ room.old }
+    ensures unsaid { result ≢ Said.Done → length.new ≡ length.old }
+{
+    if bytes.len() > room.len() {
+        return Said::NoRoom;
+    }
+    room[..bytes.len()].copy_from_slice(bytes);
+    *length = bytes.len();
+    Said::Done
+}
+
+/// Reads the record that a slot's bytes are: its position, its request and that's length. Form where they are no valid
+/// record in slot 2 or 3.
+#[unsafe(no_mangle)]
+pub extern "C" fn memoir_read_pending(
+    slot: u8,
+    record: &[u8],
+    position: &mut u64,
+    length: &mut usize,
+    room: &mut [u8],
+) -> u32
+    ensures unwritten { result ≢ 0 → room.new ≡ room.old }
+    ensures unsaid { result ≢ 0 → length.new ≡ length.old }
+    ensures unnumbered { result ≢ 0 → position.new ≡ position.old }
+{
+    put_request(read_pending(slot, record), position, length, room).code()
+}
+
+fn put_request(
+    pending: Option<PendingRequest<'_>>,
+    position: &mut u64,
+    length: &mut usize,
+    room: &mut [u8],
+) -> Said
+    ensures unwritten { result ≢ Said.Done → room.new ≡ room.old }
+    ensures unsaid { result ≢ Said.Done → length.new ≡ length.old }
+    ensures unnumbered { result ≢ Said.Done → position.new ≡ position.old }
+{
+    let Some(pending) = pending else {
+        return Said::Refused(Refusal::Form);
+    };
+    let said = put(pending.request, length, room);
+    if let Said::Done = said {
+        *position = pending.position;
+    }
+    said
+}

@@ -1,0 +1,32 @@
+//! Receipts.
+
+use crate::said::Said;
+use mm_base::LONGEST_REQUEST;
+use mm_model::Refusal;
+use mm_receipted::{NotReceipt, verify};
+
+/// Whether an output is the receipt, under a key of 32 bytes, of what was said to a request at this position: Done, or
+/// Form or Tag.
+#[unsafe(no_mangle)]
+pub extern "C" fn memoir_receipt_verify(
+    key: &[u8],
+    position: u64,
+    request: &[u8],
+    output: &[u8],
+) -> u32 {
+    verdict(key, position, request, output).code()
+}
+
+fn verdict(key: &[u8], position: u64, request: &[u8], output: &[u8]) -> Said {
+    let Ok(key) = <&[u8; 32]>::try_from(key) else {
+        return Said::NoKey;
+    };
+    if request.len() > LONGEST_REQUEST {
+        return Said::Refused(Refusal::Long);
+    }
+    match verify(key, position, request, output) {
+        Ok(()) => Said::Done,
+        Err(NotReceipt::Form) => Said::Refused(Refusal::Form),
+        Err(NotReceipt::Tag) => Said::Refused(Refusal::Tag),
+    }
+}

@@ -1,0 +1,19 @@
+-- A host's platform, by where it stood.
+use Rattle.std.proofs.Common.{ℕ, zero, suc, refl}
+use Rattle.mm_platform.specs.Standing.{Standing}
+use Rattle.mm_told.specs.Host.{Host, bare}
+use Rattle.mm_told.specs.Later.{later_by, no_calls, raised}
+use Rattle.mm_told.proofs.Missing.{unmade}
+
+-- a step that isn't answered has no effect
+abbrev pub host_of : (ℕ → Standing) → Host
+host_of stood = record {
+  stood = λ left. bare (stood left);
+  missed = λ act. raised (later_by act no_calls) (bare (stood 0));
+  misses = λ act. unmade act (bare (stood 0)) no_calls refl;
+}
+
+-- where it stands now, before what it stood at
+abbrev pub now_at : Standing → (ℕ → Standing) → ℕ → Standing
+now_at now before zero = now
+now_at now before (suc left) = before left

@@ -1,0 +1,5 @@
+use Rattle.mm_told.proofs.Standings.{host_of}
+use Rattle.mm_told.proofs.hosting.end.Given as goal
+
+abbrev pub ghost-ask : goal.ghost-ask
+ghost-ask g a = host_of g.stood

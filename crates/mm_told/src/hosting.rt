@@ -1,0 +1,106 @@
+//! A host of Basic in Rattle: it makes the steps that it is told on a platform, to copy.
+
+ghost use Rattle.std.specs.Prelude.{◌≡◌, ℕ, IfSome, length};
+ghost use Rattle.mm_digest.specs.declared.variant.Variant.TheVariants.{Basic};
+ghost use Rattle.mm_platform.specs.Standing.{Standing};
+ghost use Rattle.mm_module.specs.Batch.{One};
+ghost use Rattle.mm_call.specs.Leaving.{whole_in};
+ghost use Rattle.mm_told.specs.Asking.{AskedIn};
+ghost use Rattle.mm_told.specs.Host.{AreMade, bare};
+ghost use Rattle.mm_told.specs.Steps.{IsMade};
+
+use crate::asking::ask;
+use crate::making::make;
+use crate::outcome::Outcome;
+use crate::step::Made;
+use mm_digest::Variant;
+use mm_model::{Answer, Refusal};
+use mm_module::Module;
+use mm_platform::Platform;
+use std::alloc::Global;
+
+/// Asks for a request over a platform of Basic, whose steps it makes as it is told: the call over that platform. None
+/// where it came to no end: memory was wanting, or another step was told than the one that was made.
+pub fn ask_by_steps<M: Module, P: Platform>(
+    alloc: Global,
+    module: &M,
+    platform: &mut P,
+    offer: &[u8],
+    request: &[u8],
+) -> Option<Result<Answer, Refusal>>
+    ensures { IfSome result (λ gives. AskedIn Basic (M.meaning «module».now)
+        (bare (P.standing platform.old)) (bare (P.standing platform.new)) offer.now
+        (One request.now) (whole_in gives)) }
+{
+    begin(alloc, module, platform, offer, request)
+}
+
+// Before the first step.
+fn begin<M: Module, P: Platform>(
+    alloc: Global,
+    module: &M,
+    platform: &mut P,
+    offer: &[u8],
+    request: &[u8],
+) -> Option<Result<Answer, Refusal>>
+    ghost start: { Standing }
+    requires { start ≡ bare (P.standing platform.old) }
+    ensures { IfSome result (λ gives. AskedIn Basic (M.meaning «module».now) start
+        (bare (P.standing platform.new)) offer.now (One request.now) (whole_in gives)) }
+{
+    match ask(alloc, Variant::Basic, module, &[], offer, request) {
+        Outcome::Ended(gives) => Some(gives),
+        Outcome::Next(step) => match make(platform, &step) {
+            Ok(one) => go_on(alloc, module, platform, &one, offer, request),
+            Err(_) => None,
+        },
+        Outcome::Differs => None,
+        Outcome::Memory => None,
+    }
+}
+
+// Behind one step.
+fn go_on<M: Module, P: Platform>(
+    alloc: Global,
+    module: &M,
+    platform: &mut P,
+    one: &Made,
+    offer: &[u8],
+    request: &[u8],
+) -> Option<Result<Answer, Refusal>>
+    ghost start: { Standing × Standing }
+    requires here { start.1 ≡ bare (P.standing platform.old) }
+    requires one { IsMade one.now start.0 start.1 }
+    ensures { IfSome result (λ gives. AskedIn Basic (M.meaning «module».now) (bare start.0)
+        (bare (P.standing platform.new)) offer.now (One request.now) (whole_in gives)) }
+{
+    match ask(alloc, Variant::Basic, module, &[*one], offer, request) {
+        Outcome::Ended(gives) => Some(gives),
+        Outcome::Next(step) => match make(platform, &step) {
+            Ok(two) => end(alloc, module, platform, &[*one, two], offer, request),
+            Err(_) => None,
+        },
+        Outcome::Differs => None,
+        Outcome::Memory => None,
+    }
+}
+
+// Behind both, where the platform stands now.
+fn end<M: Module, P: Platform>(
+    alloc: Global,
+    module: &M,
+    _platform: &P,
+    made: &[Made],
+    offer: &[u8],
+    request: &[u8],
+) -> Option<Result<Answer, Refusal>>
+    ghost stood: { ℕ → Standing }
+    requires { AreMade (λ left. bare (stood left)) made.now }
+    ensures { IfSome result (λ gives. AskedIn Basic (M.meaning «module».now) (bare (stood (length made.now)))
+        (bare (stood 0)) offer.now (One request.now) (whole_in gives)) }
+{
+    match ask(alloc, Variant::Basic, module, made, offer, request) {
+        Outcome::Ended(gives) => Some(gives),
+        _ => None,
+    }
+}
