@@ -91,12 +91,14 @@ uncycled standing later untold = record {
 }
 
 -- a step as hardware shows it
-ends_bare : (fault : Option StepFault) (old new : Standing) (made : Bool) → EndsBy fault old new made → EndsBy fault (bare old) (bare new) made
+ends_bare : (fault : Option StepFault) (old new : Standing) (made : Bool) → EndsBy fault old new made
+    → EndsBy fault (bare old) (bare new) made
 ends_bare None old new made e = record { made = e.made; was_on = e.was_on; is_on = e.is_on; faults = e.faults }
 ends_bare (Some Failed) old new made e = record { was_on = e.was_on; is_on = e.is_on; faults = e.faults }
 ends_bare (Some Off) old new made e = record { faults = e.faults; still = e.still }
 
-pub goes_bare : (act : Act) (old new : Standing) (fault : Option StepFault) → Goes act old new fault → Goes act (bare old) (bare new) fault
+pub goes_bare : (act : Act) (old new : Standing) (fault : Option StepFault) → Goes act old new fault
+    → Goes act (bare old) (bare new) fault
 goes_bare act old new fault a = record {
   is_made = a.is_made;
   others = a.others;

@@ -43,8 +43,8 @@ pub record AsksOtherwise (variant : Variant) (meaning : Meaning) (host : Host) (
 
 -- What a call comes to with the steps that were made. Where it is over, these were its steps, and
 -- it is the call over the host's platform. Where it makes a step next, the call over the host's
--- platform makes these steps, and then that one: if no answer comes to that, it is broken off there.
--- Want of memory may come at any time.
+-- platform makes these steps, and then that one: if no answer comes to that, it is broken off
+-- there. Want of memory may come at any time.
 abbrev pub AsksBy : Variant → Meaning → Host → List Made → List ℕ → List ℕ
     → Outcome (Result Answer Refusal) → Type 0
 AsksBy variant meaning host steps offer request (outcome.Ended gives) =

@@ -68,7 +68,11 @@ goes_worn act fault = record {
 }
 
 pub worn_host : Host
-worn_host = record { stood = λ left. worn; missed = λ act. worn; misses = λ act. goes_worn act (Some Off) }
+worn_host = record {
+  stood = λ left. worn;
+  missed = λ act. worn;
+  misses = λ act. goes_worn act (Some Off);
+}
 
 reads_worn : (it : Made) → ReadsTrue it worn worn
 reads_worn (made.ReadCell (Ok bytes)) = λ cell told. absurd (cc)
@@ -83,4 +87,7 @@ reads_worn (made.ExtendRegister value answer) = tt
 pub are_made : (steps : List Made) → AreMade worn_host.stood steps
 unfolding worn_host
 are_made [] = tt
-are_made (it ∷ more) = (record { goes = goes_worn (act_made it) (fault_made it); reads = reads_worn it }, are_made more)
+are_made (it ∷ more) = (
+  record { goes = goes_worn (act_made it) (fault_made it); reads = reads_worn it },
+  are_made more,
+)

@@ -15,4 +15,5 @@ returns g c =
     let now : Telling = record { left = left; state = c.after-self-inside.result } in
     subst (λ (was : Telling). Goes (act_of step) (stands host was) (stands host now) (Some Off)) c.self.view_is
     (rw c.after-self-inside.ensures
-    (misses host left c.self.inside.state step c.is_empty-is_last.result (is_last left c.is_empty-is_last.result c.is_empty-is_last.ensures)))
+    (misses host left c.self.inside.state step c.is_empty-is_last.result
+    (is_last left c.is_empty-is_last.result c.is_empty-is_last.ensures)))

@@ -1,0 +1,131 @@
+/* Passes what is of no use, and looks that each gets its number, and that nothing is written. It prints each line that
+ * doesn't hold. */
+#include "memoir.h"
+
+#include <stdio.h>
+#include <stdlib.h>
+#include <string.h>
+
+static int status;
+
+static void expect(int holds, int line)
+{
+    if (!holds) {
+        printf("bad_input.c:%d doesn't hold\n", line);
+        status = 1;
+    }
+}
+
+#define EXPECT(holds) expect(holds, __LINE__)
+
+static uint8_t room[80000], before[80000];
+static struct memoir_reply reply, unsaid;
+static struct memoir_step steps[MEMOIR_STEPS + 1];
+
+/* A call of this variant and module, with so many of the steps: whether it says this, and writes nothing but the next
+ * step. */
+static int says(uint32_t wanted, uint8_t variant, uint8_t module, size_t count, const uint8_t *offer, size_t length,
+                size_t room_length)
+{
+    struct memoir_instance instance = {variant, module};
+    memset(&reply, 0x5a, sizeof reply);
+    memcpy(&unsaid, &reply, sizeof reply);
+    uint32_t said = memoir_ask(&instance, steps, count, offer, length, (const uint8_t *)"add 5", 5, &reply, room,
+                               room_length);
+    if (said == MEMOIR_NEXT)
+        unsaid.next = reply.next;
+    return said == wanted && memcmp(room, before, sizeof room) == 0 &&
+           (said == MEMOIR_DONE || memcmp(&reply, &unsaid, sizeof reply) == 0);
+}
+
+int main(void)
+{
+    struct memoir_instance instance = {MEMOIR_BASIC, 1}, other = {3, 1}, none = {MEMOIR_OPT, 99};
+    struct memoir_keys keys = {{1}, {2}};
+    struct memoir_first first;
+    uint8_t snapshot[200], text[5000] = {0};
+    size_t length = 7;
+    uint64_t position = 7;
+
+    EXPECT(memoir_module_id((const uint8_t *)"counter", 7) == 1);
+    EXPECT(memoir_module_id((const uint8_t *)"counters", 8) == 0);
+    EXPECT(memoir_room(1) == 69746 && memoir_room(128) == 1052786 && memoir_room(99) == 0);
+
+    memset(room, 0x5a, sizeof room);
+    memcpy(before, room, sizeof room);
+    first.snapshot_length = 7;
+    EXPECT(memoir_provision(&other, &keys, &first, room, sizeof room) == MEMOIR_NO_VARIANT);
+    EXPECT(memoir_provision(&none, &keys, &first, room, sizeof room) == MEMOIR_NO_MODULE);
+    EXPECT(memoir_provision(&instance, &keys, &first, room, 89) == MEMOIR_NO_ROOM);
+    EXPECT(first.snapshot_length == 7 && memcmp(room, before, sizeof room) == 0);
+    EXPECT(memoir_provision(&instance, &keys, &first, snapshot, sizeof snapshot) == MEMOIR_DONE);
+    EXPECT(first.snapshot_length == 90);
+
+    EXPECT(says(MEMOIR_NO_VARIANT, 0, 1, 0, snapshot, 90, sizeof room));
+    EXPECT(says(MEMOIR_NO_MODULE, 1, 99, 0, snapshot, 90, sizeof room));
+    EXPECT(says(MEMOIR_TOO_MANY, 1, 1, MEMOIR_STEPS + 1, snapshot, 90, sizeof room));
+    EXPECT(says(MEMOIR_NO_STEP, 1, 1, 1, snapshot, 90, sizeof room));
+    EXPECT(says(MEMOIR_NEXT, 1, 1, 0, snapshot, 90, sizeof room) && reply.next.kind == MEMOIR_READ_CELL);
+
+    /* The cell is read: what is wrong with the offer, and an answer that no device gives. */
+    steps[0] = reply.next;
+    memcpy(steps[0].bytes, first.cell, sizeof first.cell);
+    EXPECT(says(MEMOIR_FORM, 1, 1, 1, snapshot, 89, sizeof room));
+    snapshot[60] ^= 1;
+    EXPECT(says(MEMOIR_TAG, 1, 1, 1, snapshot, 90, sizeof room));
+    snapshot[60] ^= 1;
+    EXPECT(says(MEMOIR_KIND, 1, 1, 1, snapshot, 0, sizeof room) || says(MEMOIR_FORM, 1, 1, 1, snapshot, 0, sizeof room));
+    EXPECT(says(MEMOIR_OTHER_CELL, 2, 1, 1, snapshot, 90, sizeof room));
+    steps[0].answer = 3;
+    EXPECT(says(MEMOIR_NO_STEP, 1, 1, 1, snapshot, 90, sizeof room));
+    steps[0].answer = MEMOIR_FAILED;
+    EXPECT(says(MEMOIR_DEVICE, 1, 1, 1, snapshot, 90, sizeof room));
+    steps[0].answer = MEMOIR_OK;
+    EXPECT(says(MEMOIR_NEXT, 1, 1, 1, snapshot, 90, sizeof room) && reply.next.kind == MEMOIR_WRITE_CELL);
+
+    /* The cell is written: steps of another call, one too many, and no room. */
+    steps[1] = reply.next;
+    steps[1].bytes[20] ^= 1;
+    EXPECT(says(MEMOIR_DIFFERS, 1, 1, 2, snapshot, 90, sizeof room));
+    steps[1].bytes[20] ^= 1;
+    steps[1].kind = MEMOIR_RESET_REGISTER;
+    EXPECT(says(MEMOIR_DIFFERS, 1, 1, 2, snapshot, 90, sizeof room));
+    steps[1].kind = MEMOIR_WRITE_CELL;
+    steps[2] = steps[1];
+    EXPECT(says(MEMOIR_DIFFERS, 1, 1, 3, snapshot, 90, sizeof room));
+    EXPECT(says(MEMOIR_NO_ROOM, 1, 1, 2, snapshot, 90, 90));
+    steps[1].answer = MEMOIR_OFF;
+    EXPECT(says(MEMOIR_DEVICE, 1, 1, 2, snapshot, 90, sizeof room));
+    steps[1].answer = MEMOIR_OK;
+    EXPECT(memoir_ask(&instance, steps, 2, snapshot, 90, (const uint8_t *)"add 5", 5, &reply, room, 91) == MEMOIR_DONE);
+    EXPECT(reply.position == 1 && reply.again == 0 && reply.output_length == 1 && reply.snapshot_length == 90);
+    EXPECT(room[0] == '5' && room[91] == 0x5a);
+    memset(room, 0x5a, sizeof room);
+
+    /* A checkpoint of Basic. */
+    EXPECT(memoir_checkpoint(steps, 1, &unsaid.next) == MEMOIR_KIND);
+    EXPECT(memoir_checkpoint(steps, 2, &unsaid.next) == MEMOIR_DIFFERS);
+    EXPECT(memoir_checkpoint(steps, MEMOIR_STEPS + 1, &unsaid.next) == MEMOIR_TOO_MANY);
+
+    /* Records, and receipts. */
+    EXPECT(memoir_pending(0, text, 5, &length, room, sizeof room) == MEMOIR_NO_POSITION);
+    EXPECT(memoir_pending((UINT64_C(1) << 48) + 1, text, 5, &length, room, sizeof room) == MEMOIR_NO_POSITION);
+    EXPECT(memoir_pending(1, text, 4097, &length, room, sizeof room) == MEMOIR_LONG);
+    EXPECT(memoir_pending(1, (const uint8_t *)"a\n", 2, &length, room, sizeof room) == MEMOIR_LONG);
+    EXPECT(memoir_pending(1, text, 5, &length, room, 52) == MEMOIR_NO_ROOM);
+    EXPECT(length == 7 && memcmp(room, before, sizeof room) == 0);
+    EXPECT(memoir_pending(1, text, 5, &length, text + 100, 53) == MEMOIR_DONE && length == 53);
+    length = 7;
+    EXPECT(memoir_read_pending(2, text + 100, 53, &position, &length, room, sizeof room) == MEMOIR_FORM);
+    EXPECT(memoir_read_pending(3, text + 100, 53, &position, &length, room, 4) == MEMOIR_NO_ROOM);
+    EXPECT(position == 7 && length == 7 && memcmp(room, before, sizeof room) == 0);
+    EXPECT(memoir_read_pending(3, text + 100, 53, &position, &length, room, 5) == MEMOIR_DONE);
+    EXPECT(position == 1 && length == 5);
+    EXPECT(memoir_receipt_verify(text, 31, 1, text, 5, text, 5) == MEMOIR_NO_KEY);
+    EXPECT(memoir_receipt_verify(text, 32, 1, text, 4097, text, 5) == MEMOIR_LONG);
+    EXPECT(memoir_receipt_verify(text, 32, 1, text, 5, text, 5) == MEMOIR_FORM);
+    memset(text + 200, '0', 64);
+    text[264] = ' ';
+    EXPECT(memoir_receipt_verify(text, 32, 1, text, 5, text + 200, 70) == MEMOIR_TAG);
+    return status;
+}
