@@ -207,9 +207,11 @@ module _ (i : Instance) (events : List Event) where
 
   pub evidence_held : EvidenceIsHeld i events
   evidence_held Held e = inl refl
-  evidence_held (Shared first second) e = inr (clash (collision e.one e.other (among e.before e.one (e.between ++ e.other ∷ e.after) e.split)
-  (among (e.before ++ e.one ∷ e.between) e.other e.after (e.split ∙ sym (append_assoc e.before (e.one ∷ e.between) (e.other ∷ e.after))))
-  e.differs e.one_digest))
+  evidence_held (Shared first second) e =
+      inr (clash (collision e.one e.other
+      (among e.before e.one (e.between ++ e.other ∷ e.after) e.split)
+      (among (e.before ++ e.one ∷ e.between) e.other e.after
+      (e.split ∙ sym (append_assoc e.before (e.one ∷ e.between) (e.other ∷ e.after)))) e.differs e.one_digest))
   evidence_held (Zero message) e = inr (clash (zero_digest e.message (among e.before e.message e.after e.split) e.is_zero))
   evidence_held (Secured event) e =
       inr (clash (guarded e.in_opt e.value e.batch (brought_in e.before e.event e.after e.value e.split e.brought) e.asked e.is_guard))
