@@ -2,7 +2,9 @@
 //!
 //!     limiter VARIANT [EVENT STEP] <LINES
 
-use memoir_core::{pending, read_pending, Answer, Checkpointed, Core, Devices, Fault, Refusal, Variant};
+use memoir_core::{
+    pending, read_pending, Answer, Checkpointed, Core, Devices, Fault, Refusal, Variant,
+};
 use std::io::{self, BufRead, Write};
 
 /// The devices; power is cut just behind the effect of a step of this event, where one is named.
@@ -71,9 +73,25 @@ impl Host {
     /// A new instance, under the key and the barrier of a replay.
     fn new(variant: Variant) -> Option<Host> {
         let mut core = Core::new(variant, "limiter")?;
-        let first = core.provision(&std::array::from_fn(|i| i as u8), &std::array::from_fn(|i| 32 + i as u8)).ok()?;
-        let devices = Memory { cell: first.cell, register: [0; 32], is_on: true, made: 0, cut: None };
-        Some(Host { core, devices, slots: [first.snapshot, vec![], vec![], vec![]], position: 0 })
+        let first = core
+            .provision(
+                &std::array::from_fn(|i| i as u8),
+                &std::array::from_fn(|i| 32 + i as u8),
+            )
+            .ok()?;
+        let devices = Memory {
+            cell: first.cell,
+            register: [0; 32],
+            is_on: true,
+            made: 0,
+            cut: None,
+        };
+        Some(Host {
+            core,
+            devices,
+            slots: [first.snapshot, vec![], vec![], vec![]],
+            position: 0,
+        })
     }
 
     /// Asks the request of this position, offering the snapshot before it, and keeps the snapshot of the answer.
@@ -88,14 +106,18 @@ impl Host {
     /// Asks a new request, once its record is kept.
     fn ask_next(&mut self, request: &[u8]) -> Result<Answer, Refusal> {
         let position = self.position + 1;
-        self.slots[2 + (position % 2) as usize] = pending(position, request).ok_or(Refusal::Long)?;
+        self.slots[2 + (position % 2) as usize] =
+            pending(position, request).ok_or(Refusal::Long)?;
         self.ask_at(position, request)
     }
 
     /// Goes on after a stop: asks the request of the later record once more.
     fn resume(&mut self) -> Option<Result<Answer, Refusal>> {
         let records = [2, 3].map(|slot| read_pending(slot, &self.slots[usize::from(slot)]));
-        let (position, request) = records.into_iter().flatten().max_by_key(|record| record.0)?;
+        let (position, request) = records
+            .into_iter()
+            .flatten()
+            .max_by_key(|record| record.0)?;
         Some(self.ask_at(position, &request))
     }
 
@@ -128,7 +150,12 @@ fn tell(replied: Result<Answer, Refusal>, out: &mut impl Write) -> io::Result<()
     match replied {
         Err(refusal) => refused(refusal, out),
         Ok(answer) => {
-            write!(out, "{} {} ", if answer.again { "again" } else { "ok" }, answer.position)?;
+            write!(
+                out,
+                "{} {} ",
+                if answer.again { "again" } else { "ok" },
+                answer.position
+            )?;
             out.write_all(&answer.output)?;
             out.write_all(b"\n")
         }
@@ -141,8 +168,15 @@ fn refused(refusal: Refusal, out: &mut impl Write) -> io::Result<()> {
 
 fn main() -> io::Result<()> {
     let words: Vec<String> = std::env::args().skip(1).collect();
-    let variant = if words.first().is_some_and(|word| word == "opt") { Variant::Opt } else { Variant::Basic };
-    let cut = words.get(1).zip(words.get(2)).and_then(|(e, s)| Some((e.parse::<usize>().ok()?, s.parse::<u32>().ok()?)));
+    let variant = if words.first().is_some_and(|word| word == "opt") {
+        Variant::Opt
+    } else {
+        Variant::Basic
+    };
+    let cut = words
+        .get(1)
+        .zip(words.get(2))
+        .and_then(|(e, s)| Some((e.parse::<usize>().ok()?, s.parse::<u32>().ok()?)));
     let mut host = Host::new(variant).expect("no memory for a new instance");
     let mut out = io::BufWriter::new(io::stdout().lock());
     for (number, line) in io::stdin().lock().split(b'\n').enumerate() {
@@ -161,7 +195,14 @@ fn extended(register: &[u8; 32], value: &[u8; 32]) -> [u8; 32] {
     text[64] = 0x80;
     text[126] = 2; // 512 bits
     let mut h = [
-        0x6a09e667u32, 0xbb67ae85, 0x3c6ef372, 0xa54ff53a, 0x510e527f, 0x9b05688c, 0x1f83d9ab, 0x5be0cd19,
+        0x6a09e667u32,
+        0xbb67ae85,
+        0x3c6ef372,
+        0xa54ff53a,
+        0x510e527f,
+        0x9b05688c,
+        0x1f83d9ab,
+        0x5be0cd19,
     ];
     for block in text.chunks(64) {
         compress(&mut h, block);
@@ -181,12 +222,19 @@ fn compress(h: &mut [u32; 8], block: &[u8]) {
     for i in 16..64 {
         let a = w[i - 15].rotate_right(7) ^ w[i - 15].rotate_right(18) ^ (w[i - 15] >> 3);
         let b = w[i - 2].rotate_right(17) ^ w[i - 2].rotate_right(19) ^ (w[i - 2] >> 10);
-        w[i] = w[i - 16].wrapping_add(a).wrapping_add(w[i - 7]).wrapping_add(b);
+        w[i] = w[i - 16]
+            .wrapping_add(a)
+            .wrapping_add(w[i - 7])
+            .wrapping_add(b);
     }
     let mut s = *h;
     for i in 0..64 {
         let a = s[4].rotate_right(6) ^ s[4].rotate_right(11) ^ s[4].rotate_right(25);
-        let t = s[7].wrapping_add(a).wrapping_add((s[4] & s[5]) ^ (!s[4] & s[6])).wrapping_add(K[i]).wrapping_add(w[i]);
+        let t = s[7]
+            .wrapping_add(a)
+            .wrapping_add((s[4] & s[5]) ^ (!s[4] & s[6]))
+            .wrapping_add(K[i])
+            .wrapping_add(w[i]);
         let b = s[0].rotate_right(2) ^ s[0].rotate_right(13) ^ s[0].rotate_right(22);
         let u = b.wrapping_add((s[0] & s[1]) ^ (s[0] & s[2]) ^ (s[1] & s[2]));
         s.copy_within(0..7, 1);
@@ -199,12 +247,12 @@ fn compress(h: &mut [u32; 8], block: &[u8]) {
 }
 
 const K: [u32; 64] = [
-    0x428a2f98, 0x71374491, 0xb5c0fbcf, 0xe9b5dba5, 0x3956c25b, 0x59f111f1, 0x923f82a4, 0xab1c5ed5, 0xd807aa98,
-    0x12835b01, 0x243185be, 0x550c7dc3, 0x72be5d74, 0x80deb1fe, 0x9bdc06a7, 0xc19bf174, 0xe49b69c1, 0xefbe4786,
-    0x0fc19dc6, 0x240ca1cc, 0x2de92c6f, 0x4a7484aa, 0x5cb0a9dc, 0x76f988da, 0x983e5152, 0xa831c66d, 0xb00327c8,
-    0xbf597fc7, 0xc6e00bf3, 0xd5a79147, 0x06ca6351, 0x14292967, 0x27b70a85, 0x2e1b2138, 0x4d2c6dfc, 0x53380d13,
-    0x650a7354, 0x766a0abb, 0x81c2c92e, 0x92722c85, 0xa2bfe8a1, 0xa81a664b, 0xc24b8b70, 0xc76c51a3, 0xd192e819,
-    0xd6990624, 0xf40e3585, 0x106aa070, 0x19a4c116, 0x1e376c08, 0x2748774c, 0x34b0bcb5, 0x391c0cb3, 0x4ed8aa4a,
-    0x5b9cca4f, 0x682e6ff3, 0x748f82ee, 0x78a5636f, 0x84c87814, 0x8cc70208, 0x90befffa, 0xa4506ceb, 0xbef9a3f7,
-    0xc67178f2,
+    0x428a2f98, 0x71374491, 0xb5c0fbcf, 0xe9b5dba5, 0x3956c25b, 0x59f111f1, 0x923f82a4, 0xab1c5ed5,
+    0xd807aa98, 0x12835b01, 0x243185be, 0x550c7dc3, 0x72be5d74, 0x80deb1fe, 0x9bdc06a7, 0xc19bf174,
+    0xe49b69c1, 0xefbe4786, 0x0fc19dc6, 0x240ca1cc, 0x2de92c6f, 0x4a7484aa, 0x5cb0a9dc, 0x76f988da,
+    0x983e5152, 0xa831c66d, 0xb00327c8, 0xbf597fc7, 0xc6e00bf3, 0xd5a79147, 0x06ca6351, 0x14292967,
+    0x27b70a85, 0x2e1b2138, 0x4d2c6dfc, 0x53380d13, 0x650a7354, 0x766a0abb, 0x81c2c92e, 0x92722c85,
+    0xa2bfe8a1, 0xa81a664b, 0xc24b8b70, 0xc76c51a3, 0xd192e819, 0xd6990624, 0xf40e3585, 0x106aa070,
+    0x19a4c116, 0x1e376c08, 0x2748774c, 0x34b0bcb5, 0x391c0cb3, 0x4ed8aa4a, 0x5b9cca4f, 0x682e6ff3,
+    0x748f82ee, 0x78a5636f, 0x84c87814, 0x8cc70208, 0x90befffa, 0xa4506ceb, 0xbef9a3f7, 0xc67178f2,
 ];

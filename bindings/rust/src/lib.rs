@@ -105,7 +105,11 @@ pub struct Core {
 }
 
 /// A step of which nothing is known.
-const NO_STEP: sys::Step = sys::Step { kind: 0, answer: 0, bytes: [0; CELL] };
+const NO_STEP: sys::Step = sys::Step {
+    kind: 0,
+    answer: 0,
+    bytes: [0; CELL],
+};
 
 impl Core {
     /// The core of the module with this name, as "limiter"; None where no module has it.
@@ -118,27 +122,57 @@ impl Core {
         let module = unsafe { sys::memoir_module_id(module.as_ptr(), module.len()) };
         // SAFETY: takes a number.
         let room = unsafe { sys::memoir_room(module) };
-        (module != 0).then(|| Core { instance: sys::Instance { variant, module }, room: vec![0; room] })
+        (module != 0).then(|| Core {
+            instance: sys::Instance { variant, module },
+            room: vec![0; room],
+        })
     }
 
     /// The first cell and snapshot under a key and a barrier of 32 secret random bytes each. Keep the snapshot, and write
     /// the cell last.
     pub fn provision(&mut self, key: &[u8; KEY], barrier: &[u8; KEY]) -> Result<First, Refusal> {
-        let keys = sys::Keys { key: *key, barrier: *barrier };
-        let mut first = sys::First { snapshot_length: 0, cell: [0; CELL] };
+        let keys = sys::Keys {
+            key: *key,
+            barrier: *barrier,
+        };
+        let mut first = sys::First {
+            snapshot_length: 0,
+            cell: [0; CELL],
+        };
         let room = &mut self.room;
         // SAFETY: references, and a slice with its length.
-        let said =
-            unsafe { sys::memoir_provision(&self.instance, &keys, &mut first, room.as_mut_ptr(), room.len()) };
+        let said = unsafe {
+            sys::memoir_provision(
+                &self.instance,
+                &keys,
+                &mut first,
+                room.as_mut_ptr(),
+                room.len(),
+            )
+        };
         done(said)?;
-        Ok(First { cell: first.cell, snapshot: self.room[..first.snapshot_length].to_vec() })
+        Ok(First {
+            cell: first.cell,
+            snapshot: self.room[..first.snapshot_length].to_vec(),
+        })
     }
 
     /// Asks for a request, offering a snapshot.
-    pub fn ask<D: Devices>(&mut self, devices: &mut D, offer: &[u8], request: &[u8]) -> Result<Answer, Refusal> {
+    pub fn ask<D: Devices>(
+        &mut self,
+        devices: &mut D,
+        offer: &[u8],
+        request: &[u8],
+    ) -> Result<Answer, Refusal> {
         let mut steps = [NO_STEP; sys::STEPS];
         let mut made = 0;
-        let mut reply = sys::Reply { position: 0, output_length: 0, snapshot_length: 0, again: 0, next: NO_STEP };
+        let mut reply = sys::Reply {
+            position: 0,
+            output_length: 0,
+            snapshot_length: 0,
+            again: 0,
+            next: NO_STEP,
+        };
         loop {
             let said = self.come_to(&steps[..made], offer, request, &mut reply);
             if said != sys::NEXT {
@@ -168,7 +202,13 @@ impl Core {
         }
     }
 
-    fn come_to(&mut self, steps: &[sys::Step], offer: &[u8], request: &[u8], reply: &mut sys::Reply) -> u32 {
+    fn come_to(
+        &mut self,
+        steps: &[sys::Step],
+        offer: &[u8],
+        request: &[u8],
+        reply: &mut sys::Reply,
+    ) -> u32 {
         // SAFETY: references, and slices with their lengths; nothing that is written overlaps another.
         unsafe {
             sys::memoir_ask(
@@ -204,7 +244,9 @@ fn make<D: Devices>(devices: &mut D, mut step: sys::Step) -> sys::Step {
     let answer = match step.kind {
         sys::READ_CELL => devices.read_cell().map(|bytes| step.bytes = bytes),
         sys::WRITE_CELL => devices.write_cell(&step.bytes),
-        sys::READ_REGISTER => devices.read_register().map(|bytes| step.bytes[..REGISTER].copy_from_slice(&bytes)),
+        sys::READ_REGISTER => devices
+            .read_register()
+            .map(|bytes| step.bytes[..REGISTER].copy_from_slice(&bytes)),
         sys::RESET_REGISTER => devices.reset_register(),
         _ => devices.extend_register(&value),
     };
@@ -218,7 +260,9 @@ fn make<D: Devices>(devices: &mut D, mut step: sys::Step) -> sys::Step {
 
 // Whether a step was made that changes something.
 fn has_changed(steps: &[sys::Step]) -> bool {
-    steps.iter().any(|step| !matches!(step.kind, sys::READ_CELL | sys::READ_REGISTER))
+    steps
+        .iter()
+        .any(|step| !matches!(step.kind, sys::READ_CELL | sys::READ_REGISTER))
 }
 
 // What the core says, as a result.
@@ -248,7 +292,14 @@ pub fn pending(position: u64, request: &[u8]) -> Option<Vec<u8>> {
     let mut length = 0;
     // SAFETY: slices with their lengths, and a reference.
     let said = unsafe {
-        sys::memoir_pending(position, request.as_ptr(), request.len(), &mut length, room.as_mut_ptr(), room.len())
+        sys::memoir_pending(
+            position,
+            request.as_ptr(),
+            request.len(),
+            &mut length,
+            room.as_mut_ptr(),
+            room.len(),
+        )
     };
     room.truncate(length);
     (said == sys::DONE).then_some(room)
