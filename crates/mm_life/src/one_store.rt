@@ -6,7 +6,7 @@ ghost use Rattle.mm_recovery.specs.Init.{devices};
 ghost use Rattle.mm_life.specs.OneStore.{LivesOnOneStore};
 
 use crate::honest::basic_life_goes_on;
-use crate::laws::device_calls_are_deeds;
+use crate::laws::{device_calls_are_deeds, lives_write_once};
 use mm_base::{Sink, Source};
 use mm_digest::Variant;
 use mm_host::{InitFault, SessionFault, init, session};
@@ -52,6 +52,7 @@ pub fn live_on_one_store<M: Module, P: Platform, T: Store, E: Source, S: Source,
 {
     basic_life_goes_on();
     device_calls_are_deeds();
+    lives_write_once();
     match init(alloc, Variant::Basic, module, platform, store, entropy) {
         Err(fault) => Err(Unheld::Starting(fault)),
         Ok(()) => {
