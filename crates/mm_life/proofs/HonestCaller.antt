@@ -11,8 +11,9 @@ use Rattle.mm_life.specs.Deeds.{LosesPower}
 use Rattle.mm_life.specs.Honest.{BasicLifeGoesOn}
 use Rattle.mm_life.specs.OneStore.{LivesOnOneStore, session_stage}
 use Rattle.mm_life.specs.Stages.{Does, IsLife}
+use Rattle.mm_life.specs.Writes.{BasicLivesWriteOnce}
 
-pub lives_on_one_store : BasicLifeGoesOn → (meaning : Meaning) → IsLawful meaning → (before started : Devices)
+pub lives_on_one_store : BasicLifeGoesOn → BasicLivesWriteOnce → (meaning : Meaning) → IsLawful meaning → (before started : Devices)
     → Begins Basic meaning before started → (middle empty after : Standing) (between new : StoreStanding)
     (first first' second second' received told received' : Option (List ℕ)) (one two : Result Unit SessionFault)
     → IsLife Basic meaning started.platform
@@ -20,7 +21,7 @@ pub lives_on_one_store : BasicLifeGoesOn → (meaning : Meaning) → IsLawful me
     ∷ record { part = Does LosesPower; after = empty }
     ∷ session_stage between new second second' told received' two after ∷ [])
     → LivesOnOneStore meaning before after new first first' second second' received received' one two
-lives_on_one_store law meaning lawful before started begun middle empty after between new first first' second second' received told
+lives_on_one_store law counted meaning lawful before started begun middle empty after between new first first' second second' received told
     received' one two life = record {
       started = started;
       begun = begun;
@@ -30,6 +31,9 @@ lives_on_one_store law meaning lawful before started begun middle empty after be
       told = told;
       life = life;
       goes = λ cell slots here honest shown f clear chance.
-          law meaning lawful (take 32 begun.secrets) started.platform started.store _ f (begun.stands cell [] here refl)
-          (begun.honest ∙ honest) (begun.stores slots honest shown) ((refl, refl), (tt, ((refl, refl), tt))) clear chance;
+          let stands = begun.stands cell [] here refl in
+          let gone =
+          law meaning lawful (take 32 begun.secrets) started.platform started.store _ f stands (begun.honest ∙ honest)
+          (begun.stores slots honest shown) ((refl, refl), (tt, ((refl, refl), tt))) clear chance in
+          (gone, counted meaning (take 32 begun.secrets) _ started.platform _ f gone.after stands gone.follows);
     }

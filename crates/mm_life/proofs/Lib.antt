@@ -14,6 +14,7 @@ mod HonestSession
 mod HonestLife
 mod HonestLaws
 mod HonestCaller
+mod OptCaller
 mod Standings
 mod CallCounts
 mod ClosingCounts

@@ -1,13 +1,15 @@
 -- What a life over one store comes to, over any devices: a first start, a session, a loss of power,
--- and a session over what the first one left.
-use Rattle.std.specs.Prelude.{◌≡◌, ℕ, true, List, [], ◌∷◌, Option, Some, Result}
-use Rattle.mm_life.specs.Below.{Basic, Standing, Meaning, Instance, IsClear, Slots, StoreStanding, SessionFault}
+-- and a session over what the first one left; in Opt with a checkpoint before power is lost.
+use Rattle.std.specs.Prelude.{◌≡◌, ℕ, true, List, [], ◌∷◌, Option, Some, Result, drop, take}
+use Rattle.mm_life.specs.Below.{Basic, Opt, Item, Standing, Meaning, basic, opt, AreNoGuards, IsClear, Slots, StoreStanding}
+use Rattle.mm_life.specs.Below.{SessionFault, CheckpointRefusal, Checkpointed}
 use Rattle.mm_recovery.specs.Begins.{Begins}
-use Rattle.mm_recovery.specs.Init.{Devices, instance_from}
-use Rattle.mm_life.specs.Deeds.{LosesPower}
+use Rattle.mm_recovery.specs.Init.{Devices}
+use Rattle.mm_life.specs.Deeds.{Checkpoints, LosesPower}
 use Rattle.mm_life.specs.Honest.{AreNoChance, IsGoneOnWith}
-use Rattle.mm_life.specs.Premises.{life_batches, life_messages}
+use Rattle.mm_life.specs.Premises.{life_batches, life_messages, opt_messages, others_values}
 use Rattle.mm_life.specs.Stages.{Does, Holds, IsLife, Stage}
+use Rattle.mm_life.specs.Writes.{BasicWrites, WritesOnceEach, segments_turned}
 
 -- A session: the store, its input and its output, before and after; and what stands behind it.
 abbrev pub session_stage : StoreStanding → StoreStanding → Option (List ℕ) → Option (List ℕ)
@@ -25,13 +27,16 @@ session_stage old new left left' received received' result after = record {
   after = after;
 }
 
--- Such a life of Basic is gone on with, where no two messages of its calls share a digest.
-abbrev pub IsGoneOnInBasic : Instance → Standing → StoreStanding → List Stage → Type 0
-IsGoneOnInBasic i start kept stages =
-    (f : IsLife i.variant i.meaning start stages) → IsClear (life_messages i start stages f) →
-    AreNoChance i.variant i.meaning start stages f →
-    IsGoneOnWith (life_messages i start stages f) [] (life_batches i start stages f) i [] kept start
-    stages f
+-- Such a life of Basic is gone on with, where no two messages of its calls share a digest; and the
+-- cell is written once for each request that is told for the first time.
+abbrev pub IsGoneOnInBasic : Meaning → List ℕ → Standing → StoreStanding → List Stage → Type 0
+IsGoneOnInBasic meaning key start kept stages =
+    (f : IsLife Basic meaning start stages) →
+    IsClear (life_messages (basic meaning key) start stages f) →
+    AreNoChance Basic meaning start stages f →
+    (gone : IsGoneOnWith (life_messages (basic meaning key) start stages f) []
+    (life_batches (basic meaning key) start stages f) (basic meaning key) [] kept start stages f)
+    × BasicWrites meaning start stages f gone.after
 
 -- It is one where the platform told its cell before the first start, and an honest store its slots.
 pub record LivesOnOneStore (meaning : Meaning) (before : Devices) (after : Standing)
@@ -49,7 +54,56 @@ pub record LivesOnOneStore (meaning : Meaning) (before : Devices) (after : Stand
       ∷ session_stage between new second second' told received' two after ∷ [])
   pub goes : (cell : List ℕ) (slots : Slots) → before.platform.cell ≡ Some cell →
       before.store.is_honest ≡ true → before.store.slots ≡ Some slots →
-      IsGoneOnInBasic (instance_from Basic meaning begun.secrets) started.platform started.store
+      IsGoneOnInBasic meaning (take 32 begun.secrets) started.platform started.store
       (session_stage started.store between first first' received told one middle
       ∷ record { part = Does LosesPower; after = empty }
       ∷ session_stage between new second second' told received' two after ∷ [])
+
+-- Such a life of Opt is gone on with, where no two messages of its calls, or by which the
+-- register's items went into it, share a digest, and no value of others is the guard of a request.
+abbrev pub IsGoneOnInOpt : Meaning → (key barrier : List ℕ) → Standing → StoreStanding → List Stage
+    → Type 0
+IsGoneOnInOpt meaning key barrier start kept stages =
+    (f : IsLife Opt meaning start stages) →
+    IsClear (opt_messages (opt meaning key barrier) start stages f) →
+    AreNoGuards barrier (others_values (opt meaning key barrier) start stages f)
+    (life_batches (opt meaning key barrier) start stages f) →
+    AreNoChance Opt meaning start stages f →
+    IsGoneOnWith (opt_messages (opt meaning key barrier) start stages f)
+    (others_values (opt meaning key barrier) start stages f)
+    (life_batches (opt meaning key barrier) start stages f) (opt meaning key barrier) [] kept start
+    stages f
+
+-- a checkpoint that said this, and a loss of power, between two sessions
+abbrev pub stages_around : Stage → Result Checkpointed CheckpointRefusal → (closed empty : Standing)
+    → Stage → List Stage
+stages_around first said closed empty second =
+    first ∷ record { part = Does (Checkpoints said); after = closed }
+    ∷ record { part = Does LosesPower; after = empty } ∷ second ∷ []
+
+-- It is one where the platform told its cell and its register's items before the first start, and an
+-- honest store its slots; and the cell is written once for each segment that is opened or closed.
+pub record LivesOverCheckpoint (meaning : Meaning) (before : Devices) (after : Standing)
+    (new : StoreStanding) (first first' second second' received received' : Option (List ℕ))
+    (one : Result Unit SessionFault) (said : Result Checkpointed CheckpointRefusal)
+    (two : Result Unit SessionFault) : Type 0 where
+  pub started : Devices
+  pub begun : Begins Opt meaning before started
+  pub middle : Standing
+  pub closed : Standing
+  pub empty : Standing
+  pub between : StoreStanding
+  pub told : Option (List ℕ)
+  pub stages : List Stage
+  pub are : stages ≡ stages_around
+      (session_stage started.store between first first' received told one middle) said closed empty
+      (session_stage between new second second' told received' two after)
+  pub life : IsLife Opt meaning started.platform stages
+  pub goes : (cell : List ℕ) (items : List Item) (slots : Slots) →
+      before.platform.cell ≡ Some cell → before.platform.items ≡ Some items →
+      before.store.is_honest ≡ true → before.store.slots ≡ Some slots →
+      IsGoneOnInOpt meaning (take 32 begun.secrets) (drop 32 begun.secrets) started.platform
+      started.store stages
+  pub writes : (cell : List ℕ) (items : List Item) → before.platform.cell ≡ Some cell →
+      before.platform.items ≡ Some items →
+      WritesOnceEach started.platform stages (segments_turned started.platform stages)

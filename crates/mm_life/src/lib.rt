@@ -12,4 +12,6 @@ pub use laws::{
     lives_tell_what_was_said, lives_write_once, next_may_start, opt_life_is_one,
     sessions_offer_slots,
 };
-pub use one_store::{BothSessions, Unheld, live_on_one_store};
+pub use one_store::{
+    BothSessions, CheckedSessions, Unheld, live_on_one_store, live_over_checkpoint,
+};

@@ -7,7 +7,8 @@ use Rattle.mm_life.proofs.one_store.live_on_one_store.Goals as goal
 
 pub returns-in-Ok-cycle : goal.returns-in-Ok-cycle
 returns-in-Ok-cycle g c =
-    lives_on_one_store c.basic_life_goes_on.ensures (g.M.Module.meaning c.args.module.now) (g.met.M.Module.is_lawful c.args.module.now)
+    lives_on_one_store c.basic_life_goes_on.ensures c.lives_write_once.ensures.basic (g.M.Module.meaning c.args.module.now)
+    (g.met.M.Module.is_lawful c.args.module.now)
     (devices (g.P.Device.standing c.args.platform.now) (g.T.Store.kept c.args.store.now) (g.E.Source.left c.args.entropy.now)
     (g.E.Source.faults c.args.entropy.now))
     (devices (g.P.Device.standing c.init.new.platform) (g.T.Store.kept c.init.new.store) (g.E.Source.left c.init.new.entropy)

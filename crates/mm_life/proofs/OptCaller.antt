@@ -1,0 +1,98 @@
+-- A first start of Opt, a session, a checkpoint, a loss of power, and a session over the same store, over any devices.
+use Rattle.std.specs.Prelude.{Bool, Ok, Err, true, false, Some, map}
+use Rattle.std.specs.Option.{option_map}
+use Rattle.std.proofs.Common.{◌∙◌, ◌≡◌, ◌++◌, ap, ℕ, List, Option, Result, refl, take, drop, inl, inr}
+use Rattle.mm_base.specs.declared.fault.Failed.{Failed}
+use Rattle.mm_digest.specs.declared.variant.Variant.{Variant}
+use Rattle.mm_digest.specs.declared.variant.Variant.TheVariants.{Opt}
+use Rattle.mm_platform.specs.Standing.{Item, Standing, foreign_item, item_values}
+use Rattle.mm_platform.specs.Steps.{beside}
+use Rattle.mm_platform.specs.declared.fault.StepFault.{StepFault}
+use Rattle.mm_module.specs.Meaning.{IsLawful, Meaning}
+use Rattle.mm_opt.specs.declared.segment.CheckpointRefusal.{CheckpointRefusal}
+use Rattle.mm_opt.specs.declared.segment.Checkpointed.{Checkpointed}
+use Rattle.mm_store.specs.Kept.{StoreStanding}
+use Rattle.mm_store.specs.declared.fault.StoreFault.{StoreFault}
+use Rattle.mm_recovery.specs.Begins.{Begins}
+use Rattle.mm_recovery.specs.Init.{AfterLooking, AfterPuts, AfterTaking, Devices, Inits, SetsUp, instance_from}
+use Rattle.mm_host.specs.declared.fault.SessionFault.{SessionFault}
+use Rattle.mm_model.specs.Instance.{Instance}
+use Rattle.mm_life.specs.Honest.{OptLifeGoesOn}
+use Rattle.mm_life.specs.OneStore.{LivesOverCheckpoint, session_stage, stages_around}
+use Rattle.mm_life.specs.Stages.{IsLife}
+use Rattle.mm_life.specs.Writes.{OptLivesWriteOnce}
+
+-- A register that was told is told behind a first start.
+record Told (standing : Standing) : Type 0 where
+  items : List Item
+  tells : standing.items ≡ Some items
+
+told_on : (old new : Standing) (others : List (List ℕ)) → new.items ≡ beside others old.items → Told old → Told new
+told_on old new others e t = record {
+  items = t.items ++ map foreign_item others;
+  tells = e ∙ ap (λ xs. beside others xs) t.tells;
+}
+
+puts_told : (cell : List ℕ) (before after : Standing) (stored : Result Unit StoreFault)
+    → AfterPuts cell before after stored (Ok tt) → Told before → Told after
+puts_told cell before after (Err why) g t = let e = g.1 in absurd (cc)
+puts_told cell before after (Ok it) g t = told_on before after g.goes.others g.goes.items t
+
+set_up_told : (i : Instance) (before after : Standing) (old new : StoreStanding) → SetsUp i before after old new (Ok tt)
+    → Told before → Told after
+set_up_told i before after old new (inl none) t = let e = none.2 in absurd (cc)
+set_up_told i before after old new (inr both) t = puts_told _ before after both.stored both.goes t
+
+taken_told : (variant : Variant) (meaning : Meaning) (middle after : Devices) (taken : Result (List ℕ) Failed)
+    → AfterTaking variant meaning middle after taken (Ok tt) → Told middle.platform → Told after.platform
+taken_told variant meaning middle after (Err why) g t = let e = g.1 in absurd (cc)
+taken_told variant meaning middle after (Ok secrets) (inl few) t = let e = few.2 in absurd (cc)
+taken_told variant meaning middle after (Ok secrets) (inr all) t =
+    set_up_told (instance_from variant meaning secrets) middle.platform after.platform middle.store after.store all.2 t
+
+looked_told : (variant : Variant) (meaning : Meaning) (middle after : Devices) (is_blank : Result Bool StepFault)
+    → AfterLooking variant meaning middle after is_blank (Ok tt) → Told middle.platform → Told after.platform
+looked_told variant meaning middle after (Err why) g t = let e = g.1 in absurd (cc)
+looked_told variant meaning middle after (Ok false) g t = let e = g.1 in absurd (cc)
+looked_told variant meaning middle after (Ok true) g t =
+    taken_told variant meaning (record middle { left = g.left; source_faults = g.source_faults }) after g.taken g.goes t
+
+started_told : (variant : Variant) (meaning : Meaning) (before after : Devices) → Inits variant meaning before after (Ok tt)
+    → Told before.platform → Told after.platform
+started_told variant meaning before after n t =
+    looked_told variant meaning (record before { platform = n.platform }) after n.is_blank n.goes
+    (told_on before.platform n.platform n.looks.goes.others n.looks.goes.items t)
+
+pub lives_over_checkpoint : OptLifeGoesOn → OptLivesWriteOnce → (meaning : Meaning) → IsLawful meaning → (before started : Devices)
+    → Inits Opt meaning before started (Ok tt) → Begins Opt meaning before started → (middle closed empty after : Standing)
+    (between new : StoreStanding) (first first' second second' received told received' : Option (List ℕ))
+    (one : Result Unit SessionFault) (said : Result Checkpointed CheckpointRefusal) (two : Result Unit SessionFault)
+    → IsLife Opt meaning started.platform
+    (stages_around (session_stage started.store between first first' received told one middle) said closed empty
+    (session_stage between new second second' told received' two after))
+    → LivesOverCheckpoint meaning before after new first first' second second' received received' one said two
+lives_over_checkpoint law counted meaning lawful before started inits begun middle closed empty after between new first first' second
+    second' received told received' one said two life =
+    let shown : (items : List Item) → before.platform.items ≡ Some items → Told started.platform =
+    λ items told. started_told Opt meaning before started inits (record { items = items; tells = told }) in
+    record {
+      started = started;
+      begun = begun;
+      middle = middle;
+      closed = closed;
+      empty = empty;
+      between = between;
+      told = told;
+      stages = _;
+      are = refl;
+      life = life;
+      goes = λ cell items slots here there honest kept f clear apart chance.
+          let t = shown items there in
+          law meaning lawful (take 32 begun.secrets) (drop 32 begun.secrets) (item_values t.items) started.platform started.store _ f
+          (begun.stands cell (item_values t.items) here (ap (λ xs. option_map item_values xs) t.tells)) (begun.honest ∙ honest)
+          (begun.stores slots honest kept) ((refl, refl), (tt, (tt, ((refl, refl), tt)))) clear apart chance;
+      writes = λ cell items here there.
+          let t = shown items there in
+          counted meaning (take 32 begun.secrets) (drop 32 begun.secrets) _ started.platform _ life
+          (begun.stands cell (item_values t.items) here (ap (λ xs. option_map item_values xs) t.tells));
+    }
