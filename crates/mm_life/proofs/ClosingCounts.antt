@@ -48,7 +48,7 @@ module _ (i : Instance) where
       }
   closing_read values (Fails fault effect) rest flag d behind = record { whole = λ w. absurd (cc); most = omega arith }
 
-  flag_behind : (values : List (List ℕ)) (d : Digests) → (all_made (by_digests i) d (map Foreign values ++ [])).flag ≡ d.flag
+  pub flag_behind : (values : List (List ℕ)) (d : Digests) → (all_made (by_digests i) d (map Foreign values ++ [])).flag ≡ d.flag
   flag_behind [] d = refl
   flag_behind (v ∷ values) d = flag_behind values (made i d (Foreign v))
 

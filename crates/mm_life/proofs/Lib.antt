@@ -14,6 +14,7 @@ mod HonestSession
 mod HonestLife
 mod HonestLaws
 mod HonestCaller
+mod Unlost
 mod OptCaller
 mod Standings
 mod CallCounts

@@ -1,7 +1,7 @@
 -- A first start of Opt, a session, a checkpoint, a loss of power, and a session over the same store, over any devices.
 use Rattle.std.specs.Prelude.{Bool, Ok, Err, true, false, Some, map}
 use Rattle.std.specs.Option.{option_map}
-use Rattle.std.proofs.Common.{◌∙◌, ◌≡◌, ◌++◌, ap, ℕ, List, Option, Result, refl, take, drop, inl, inr}
+use Rattle.std.proofs.Common.{◌∙◌, ◌≡◌, ◌++◌, ap, ℕ, List, [], Option, Result, refl, take, drop, inl, inr}
 use Rattle.mm_base.specs.declared.fault.Failed.{Failed}
 use Rattle.mm_digest.specs.declared.variant.Variant.{Variant}
 use Rattle.mm_digest.specs.declared.variant.Variant.TheVariants.{Opt}
@@ -9,6 +9,13 @@ use Rattle.mm_platform.specs.Standing.{Item, Standing, foreign_item, item_values
 use Rattle.mm_platform.specs.Steps.{beside}
 use Rattle.mm_platform.specs.declared.fault.StepFault.{StepFault}
 use Rattle.mm_module.specs.Meaning.{IsLawful, Meaning}
+use Rattle.mm_module.specs.Batch.{Batch}
+use Rattle.mm_model.specs.History.{History}
+use Rattle.mm_model.specs.Instance.{Instance}
+use Rattle.mm_model.specs.InstanceWords.{opt}
+use Rattle.mm_model.specs.Moves.{digests_of}
+use Rattle.mm_model.specs.Standing.{StandsFor}
+use Rattle.mm_call.proofs.Above.{stands_at}
 use Rattle.mm_opt.specs.declared.segment.CheckpointRefusal.{CheckpointRefusal}
 use Rattle.mm_opt.specs.declared.segment.Checkpointed.{Checkpointed}
 use Rattle.mm_store.specs.Kept.{StoreStanding}
@@ -16,11 +23,12 @@ use Rattle.mm_store.specs.declared.fault.StoreFault.{StoreFault}
 use Rattle.mm_recovery.specs.Begins.{Begins}
 use Rattle.mm_recovery.specs.Init.{AfterLooking, AfterPuts, AfterTaking, Devices, Inits, SetsUp, instance_from}
 use Rattle.mm_host.specs.declared.fault.SessionFault.{SessionFault}
-use Rattle.mm_model.specs.Instance.{Instance}
-use Rattle.mm_life.specs.Honest.{OptLifeGoesOn}
-use Rattle.mm_life.specs.OneStore.{LivesOverCheckpoint, session_stage, stages_around}
-use Rattle.mm_life.specs.Stages.{IsLife}
+use Rattle.mm_life.specs.Honest.{IsGoneOnWith, OptLifeGoesOn}
+use Rattle.mm_life.specs.OneStore.{IsUnlost, LivesOverCheckpoint, session_stage, stages_around}
+use Rattle.mm_life.specs.Stages.{Holds, IsLife, Program, Stage}
 use Rattle.mm_life.specs.Writes.{OptLivesWriteOnce}
+use Rattle.mm_life.proofs.Standings.{part_stands}
+use Rattle.mm_life.proofs.Unlost.{shut_behind, still_open, unlost}
 
 -- A register that was told is told behind a first start.
 record Told (standing : Standing) : Type 0 where
@@ -63,6 +71,24 @@ started_told variant meaning before after n t =
     looked_told variant meaning (record before { platform = n.platform }) after n.is_blank n.goes
     (told_on before.platform n.platform n.looks.goes.others n.looks.goes.items t)
 
+-- Where the checkpoint wasn't refused, the last session isn't refused as Lost.
+module _ (all others : List (List ℕ)) (asked : List Batch) (meaning : Meaning) (key barrier : List ℕ) where
+  abbrev I : Instance
+  I = opt meaning key barrier
+
+  last_unlost : (start closed empty : Standing) (first : Stage) (p : Program) (end : Standing) (kept : StoreStanding)
+      → (said : Result Checkpointed CheckpointRefusal) → (y : History) → StandsFor I start y
+      → (f : IsLife Opt meaning start (stages_around first said closed empty (record { part = Holds p; after = end })))
+      → IsGoneOnWith all others asked I [] kept start (stages_around first said closed empty (record { part = Holds p; after = end })) f
+      → IsUnlost said p.result
+  last_unlost start closed empty first p end kept (Err why) y stands f gone = tt
+  last_unlost start closed empty first p end kept (Ok made) y stands f gone =
+      let s = part_stands Opt meaning key barrier start first.part first.after f.0 (digests_of I y) (stands_at I start y stands) in
+      let g = gone.goes.2.2.2.1 in
+      unlost meaning key barrier others empty end _ g.0 _ _ p.result _ g.2
+      (still_open meaning key barrier closed empty f.1.1.0.0
+      ∙ shut_behind meaning key barrier first.after closed made f.1.0 s.digests s.stands)
+
 pub lives_over_checkpoint : OptLifeGoesOn → OptLivesWriteOnce → (meaning : Meaning) → IsLawful meaning → (before started : Devices)
     → Inits Opt meaning before started (Ok tt) → Begins Opt meaning before started → (middle closed empty after : Standing)
     (between new : StoreStanding) (first first' second second' received told received' : Option (List ℕ))
@@ -88,9 +114,15 @@ lives_over_checkpoint law counted meaning lawful before started inits begun midd
       life = life;
       goes = λ cell items slots here there honest kept f clear apart chance.
           let t = shown items there in
+          let stands = begun.stands cell (item_values t.items) here (ap (λ xs. option_map item_values xs) t.tells) in
+          let gone =
           law meaning lawful (take 32 begun.secrets) (drop 32 begun.secrets) (item_values t.items) started.platform started.store _ f
-          (begun.stands cell (item_values t.items) here (ap (λ xs. option_map item_values xs) t.tells)) (begun.honest ∙ honest)
-          (begun.stores slots honest kept) ((refl, refl), (tt, (tt, ((refl, refl), tt)))) clear apart chance;
+          stands (begun.honest ∙ honest) (begun.stores slots honest kept) ((refl, refl), (tt, (tt, ((refl, refl), tt)))) clear apart
+          chance in (
+            gone,
+            last_unlost _ _ _ meaning (take 32 begun.secrets) (drop 32 begun.secrets) started.platform closed empty _ _ _
+                started.store said _ stands f gone,
+          );
       writes = λ cell items here there.
           let t = shown items there in
           counted meaning (take 32 begun.secrets) (drop 32 begun.secrets) _ started.platform _ life

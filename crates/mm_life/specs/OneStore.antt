@@ -1,8 +1,11 @@
 -- What a life over one store comes to, over any devices: a first start, a session, a loss of power,
 -- and a session over what the first one left; in Opt with a checkpoint before power is lost.
-use Rattle.std.specs.Prelude.{◌≡◌, ℕ, true, List, [], ◌∷◌, Option, Some, Result, drop, take}
+use Rattle.std.specs.Prelude.{◌≡◌, ◌≢◌, ℕ, true, List, [], ◌∷◌, Option, Some, Result, Ok, Err, drop, take}
 use Rattle.mm_life.specs.Below.{Basic, Opt, Item, Standing, Meaning, basic, opt, AreNoGuards, IsClear, Slots, StoreStanding}
 use Rattle.mm_life.specs.Below.{SessionFault, CheckpointRefusal, Checkpointed}
+use Rattle.mm_model.specs.declared.refusal.Refusal.TheVariants.{Lost}
+use Rattle.mm_recovery.specs.declared.fault.HostFault.TheVariants.{Refused}
+use Rattle.mm_host.specs.declared.fault.SessionFault.TheVariants.{Host}
 use Rattle.mm_recovery.specs.Begins.{Begins}
 use Rattle.mm_recovery.specs.Init.{Devices}
 use Rattle.mm_life.specs.Deeds.{Checkpoints, LosesPower}
@@ -59,11 +62,17 @@ pub record LivesOnOneStore (meaning : Meaning) (before : Devices) (after : Stand
       ∷ record { part = Does LosesPower; after = empty }
       ∷ session_stage between new second second' told received' two after ∷ [])
 
+-- behind a checkpoint that wasn't refused no session is refused as Lost
+abbrev pub IsUnlost : Result Checkpointed CheckpointRefusal → Result Unit SessionFault → Type 0
+IsUnlost (Ok it) result = result ≢ Err (Host (Refused Lost))
+IsUnlost (Err why) result = Unit {0}
+
 -- Such a life of Opt is gone on with, where no two messages of its calls, or by which the
 -- register's items went into it, share a digest, and no value of others is the guard of a request.
+-- Its last session, behind a checkpoint that said this, ends so.
 abbrev pub IsGoneOnInOpt : Meaning → (key barrier : List ℕ) → Standing → StoreStanding → List Stage
-    → Type 0
-IsGoneOnInOpt meaning key barrier start kept stages =
+    → Result Checkpointed CheckpointRefusal → Result Unit SessionFault → Type 0
+IsGoneOnInOpt meaning key barrier start kept stages said last =
     (f : IsLife Opt meaning start stages) →
     IsClear (opt_messages (opt meaning key barrier) start stages f) →
     AreNoGuards barrier (others_values (opt meaning key barrier) start stages f)
@@ -73,6 +82,7 @@ IsGoneOnInOpt meaning key barrier start kept stages =
     (others_values (opt meaning key barrier) start stages f)
     (life_batches (opt meaning key barrier) start stages f) (opt meaning key barrier) [] kept start
     stages f
+    × IsUnlost said last
 
 -- a checkpoint that said this, and a loss of power, between two sessions
 abbrev pub stages_around : Stage → Result Checkpointed CheckpointRefusal → (closed empty : Standing)
@@ -81,8 +91,8 @@ stages_around first said closed empty second =
     first ∷ record { part = Does (Checkpoints said); after = closed }
     ∷ record { part = Does LosesPower; after = empty } ∷ second ∷ []
 
--- It is one where the platform told its cell and its register's items before the first start, and an
--- honest store its slots; and the cell is written once for each segment that is opened or closed.
+-- It is one where the platform told its cell and its register's items before the first start, and
+-- an honest store its slots; and the cell is written once for each segment opened or closed.
 pub record LivesOverCheckpoint (meaning : Meaning) (before : Devices) (after : Standing)
     (new : StoreStanding) (first first' second second' received received' : Option (List ℕ))
     (one : Result Unit SessionFault) (said : Result Checkpointed CheckpointRefusal)
@@ -103,7 +113,7 @@ pub record LivesOverCheckpoint (meaning : Meaning) (before : Devices) (after : S
       before.platform.cell ≡ Some cell → before.platform.items ≡ Some items →
       before.store.is_honest ≡ true → before.store.slots ≡ Some slots →
       IsGoneOnInOpt meaning (take 32 begun.secrets) (drop 32 begun.secrets) started.platform
-      started.store stages
+      started.store stages said two
   pub writes : (cell : List ℕ) (items : List Item) → before.platform.cell ≡ Some cell →
       before.platform.items ≡ Some items →
       WritesOnceEach started.platform stages (segments_turned started.platform stages)
