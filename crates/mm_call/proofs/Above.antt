@@ -13,6 +13,7 @@ pub use Rattle.mm_call.proofs.Completing.{Told, told_on, told_reading}
 pub use Rattle.mm_call.proofs.Finding.{admitted_tells, each_at, found_with_tells, live_found, lives, not_lost, placed, right_at}
 pub use Rattle.mm_call.proofs.Finding.{unless_lost, weighed_tells}
 pub use Rattle.mm_call.proofs.Going.{finds, sees, stands_at, stands_for}
+pub use Rattle.mm_call.proofs.Machine.{acts_told, asks_told, ends_told, halted_told}
 pub use Rattle.mm_call.proofs.OptAlike.{Alike, alike_commit, alike_foreign, alike_still, clean_open, grown_by, issued_alike, names_after}
 pub use Rattle.mm_call.proofs.OptAlike.{names_alike, opened, same_closed}
 pub use Rattle.mm_call.proofs.OptHolding.{agrees_is, bare, counted_open, foreign_agrees, foreign_fine, foreign_may, holds_moved, holds_open}

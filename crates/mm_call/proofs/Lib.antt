@@ -1,5 +1,6 @@
 pub mod Above
 mod Below
+mod Machine
 mod Members
 mod Finding
 mod Calling
