@@ -1,17 +1,18 @@
 -- Each turn makes exactly the device step that comes next.
-use Rattle.mm_opt.proofs.Below.{◌≡◌, ℕ, List, Result, Ok, Err, refl, sym, subst, arith, result_err}
-use Rattle.mm_opt.proofs.Below.{StepFault, Standing, ResetRegister, ExtendRegister, Goes, blamed}
-use Rattle.mm_opt.proofs.Below.{Meaning, Batch, Cell, BatchAnswer, Refusal, Blames, Opening, Found, Inside, Opens}
-use Rattle.mm_opt.proofs.Below.{Checkpointed, CheckpointRefusal, Segment, Shut, Stage, MayGoOn, ReadsOwnCell, ReadsRegister, MakesRoom}
-use Rattle.mm_opt.proofs.Below.{closing_fault_in}
-use Rattle.mm_opt.specs.declared.stage.Stage.TheVariants as stage
-use Rattle.mm_opt.specs.declared.stage.Change.TheVariants as change
+use Rattle.mm_opt.proofs.Below.{◌≡◌, ℕ, Bool, true, false, List, Option, None, Some, Result, Ok, Err, refl, sym, subst, arith, result_err}
+use Rattle.mm_opt.proofs.Below.{StepFault, Standing, Goes, blamed, Meaning, Batch, Cell, BatchAnswer, Refusal, Blames, Found, Repeat, Change}
+use Rattle.mm_opt.proofs.Below.{Extending, Emptying, Placing, Writing, act_in, change_after, extends_in, Begun, Seen, Changing}
+use Rattle.mm_opt.proofs.Below.{Checkpointed, CheckpointRefusal, Segment, Shut, Stage, Makes, MayGoOn, ReadsOwnCell, ReadsRegister}
+use Rattle.mm_opt.proofs.Below.{MakesRoom, closing_fault_in}
+use Rattle.mm_machine.specs.Acts.{MayChange}
+use Rattle.mm_machine.specs.Reading.{extends}
+use Rattle.mm_machine.specs.declared.change.Change as change
 use Rattle.mm_opt.specs.declared.stage.CheckpointStage.{CheckpointStage}
 use Rattle.mm_opt.specs.declared.stage.CheckpointStage.TheVariants as checkpoint_stage
 use Rattle.mm_opt.specs.declared.call.Turn.{Turn}
 use Rattle.mm_opt.specs.declared.closing.CheckpointTurn.{CheckpointTurn}
-use Rattle.mm_opt.specs.Steps.{act_of}
-use Rattle.mm_opt.specs.Turns.{seen_turn, found_turn, emptied_turn, placed_turn, last_turn, Turns, TurnMayGoOn, fault_turned, ActsAt}
+use Rattle.mm_opt.specs.Steps.{act_of, RoomFor}
+use Rattle.mm_opt.specs.Turns.{seen_turn, found_turn, made_turn, Turns, TurnMayGoOn, fault_turned, ActsAt}
 use Rattle.mm_opt.specs.CheckpointTurns.{looked_turn, weighed_turn, closed_turn, ClosingTurns, closing_fault_turned, ClosingActsAt}
 
 -- what a turn does, and the room that a call has that goes on
@@ -24,46 +25,56 @@ acts_by : {turn given : Turn} {old middle new : Standing} (call : Stage) → tur
 acts_by {old = old} {middle = middle} {new = new} call e goes room may = subst (Acts call old new) (sym e)
     (record { acts = record { middle = middle; goes = goes; room = room }; may = may })
 
+room_or : (needs : Bool) (middle new : Standing) → RoomFor needs middle new → new ≡ record middle { spare = new.spare }
+room_or true middle new r = r.same
+room_or false middle new r = subst (λ (x : Standing). x ≡ record middle { spare = x.spare }) (sym r) refl
+
 pub room_only : (found : Result Found Refusal) (middle new : Standing) → MakesRoom found middle new
     → new ≡ record middle { spare = new.spare }
-room_only (Ok (Inside ready)) middle new r = r.same
-room_only (Ok (Opens opening)) middle new r = r.same
-room_only _ middle new r = subst (λ (x : Standing). x ≡ record middle { spare = x.spare }) (sym r) refl
+room_only (Ok found) middle new r = room_or (extends found) middle new r
+room_only (Err why) middle new r = room_or false middle new r
+
+-- the room that a change takes, by whether it extends the register
+may_change : (it : change.Change) (middle new : Standing) → RoomFor (extends_in it) middle new → MayChange it new
+may_change (Extending value) middle new r = r.room
+may_change (Emptying opening) middle new r = r.room
+may_change (Placing opening) middle new r = r.room
+may_change (Writing next) middle new r = tt
 
 module _ (meaning : Meaning) (old new : Standing) (offer : List ℕ) (b : Batch) (turn : Turn) where
-  seen : (cell : Result Cell Refusal) → ReadsOwnCell meaning.id old new cell → turn ≡ seen_turn cell → Acts stage.Begun old new turn
-  seen (Ok cell) r e = acts_by stage.Begun e r.goes refl (λ _. tt)
-  seen (Err why) r e = acts_by stage.Begun e r.goes refl (λ _. tt)
+  seen : (cell : Result Cell Refusal) → ReadsOwnCell meaning.id old new cell → turn ≡ seen_turn cell → Acts Begun old new turn
+  seen (Ok cell) r e = acts_by Begun e r.goes refl (λ _. tt)
+  seen (Err why) r e = acts_by Begun e r.goes refl (λ _. tt)
 
   found : (cell : Cell) (it : Result Found Refusal) → ReadsRegister meaning cell old new offer b it → turn ≡ found_turn it
-      → Acts (stage.Seen cell) old new turn
-  found cell (Ok (Inside ready)) r e = acts_by (stage.Seen cell) e r.goes r.room.same (λ _. r.room.room)
-  found cell (Ok (Opens opening)) r e = acts_by (stage.Seen cell) e r.goes r.room.same (λ _. r.room.room)
-  found cell it r e = acts_by (stage.Seen cell) e r.goes (room_only it r.middle new r.room) (λ _. tt)
+      → Acts (Seen cell) old new turn
+  found cell (Ok (Change ready)) r e =
+      acts_by (Seen cell) e r.goes (room_only (Ok (Change ready)) r.middle new r.room)
+      (λ _. may_change ready.change r.middle new r.room)
+  found cell (Ok (Repeat answer)) r e =
+      acts_by (Seen cell) e r.goes (room_only (Ok (Repeat answer)) r.middle new r.room) (λ _. tt)
+  found cell (Err why) r e = acts_by (Seen cell) e r.goes (room_only (Err why) r.middle new r.room) (λ _. tt)
 
-  emptied : (opening : Opening) (it : Result Opening StepFault) → Goes ResetRegister old new (result_err it) → turn ≡ emptied_turn it
-      → Acts (stage.Changing (change.Emptying opening)) old new turn
-  emptied opening (Ok it) g e =
-      acts_by (stage.Changing (change.Emptying opening)) e g refl (λ ready. omega (arith, ready, g.room))
-  emptied opening (Err fault) g e = acts_by (stage.Changing (change.Emptying opening)) e g refl (λ _. tt)
-
-  placed : (opening : Opening) (it : Result Opening StepFault) → Goes (ExtendRegister opening.value.bytes) old new (result_err it)
-      → turn ≡ placed_turn it → Acts (stage.Changing (change.Placing opening)) old new turn
-  placed opening (Ok it) g e = acts_by (stage.Changing (change.Placing opening)) e g refl (λ _. tt)
-  placed opening (Err fault) g e = acts_by (stage.Changing (change.Placing opening)) e g refl (λ _. tt)
-
-  last : (call : Stage) (written : Result BatchAnswer StepFault) → Goes (act_of call) old new (result_err written)
-      → turn ≡ last_turn written → Acts call old new turn
-  last call (Ok answer) g e = acts_by call e g refl (λ _. tt)
-  last call (Err fault) g e = acts_by call e g refl (λ _. tt)
+  -- the room of the change behind one that was made
+  made : (it : change.Change) (answer : BatchAnswer) (next : Result (Option change.Change) StepFault)
+      → Makes (act_in it) (change_after it) old new next → turn ≡ made_turn answer next
+      → Acts (Changing (record { change = it; answer = answer })) old new turn
+  made it answer (Err fault) m e = acts_by (Changing (record { change = it; answer = answer })) e m.goes refl (λ _. tt)
+  made it answer (Ok None) m e = acts_by (Changing (record { change = it; answer = answer })) e m.goes refl (λ _. tt)
+  made (Extending value) answer (Ok (Some next)) m e = let clash : Some next ≡ None = m.gives in absurd (cc)
+  made (Writing bytes) answer (Ok (Some next)) m e = let clash : Some next ≡ None = m.gives in absurd (cc)
+  made (Emptying opening) answer (Ok (Some next)) m e =
+      let same : next ≡ Placing opening = cc in
+      acts_by (Changing (record { change = Emptying opening; answer = answer })) e m.goes refl
+      (λ ready. rw same (omega (arith, ready, m.goes.room)))
+  made (Placing opening) answer (Ok (Some next)) m e =
+      let same : next ≡ Writing opening.next = cc in
+      acts_by (Changing (record { change = Placing opening; answer = answer })) e m.goes refl (λ ready. rw same tt)
 
   acts : (call : Stage) → Turns meaning call old new offer b turn → Acts call old new turn
-  acts stage.Begun t = seen t.outcome t.step t.gives
-  acts (stage.Seen cell) t = found cell t.outcome t.step t.gives
-  acts (stage.Changing (change.Inside ready)) t = last (stage.Changing (change.Inside ready)) t.outcome t.step.goes t.gives
-  acts (stage.Changing (change.Emptying opening)) t = emptied opening t.outcome t.step.goes t.gives
-  acts (stage.Changing (change.Placing opening)) t = placed opening t.outcome t.step.goes t.gives
-  acts (stage.Changing (change.Writing opening)) t = last (stage.Changing (change.Writing opening)) t.outcome t.step.goes t.gives
+  acts Begun t = seen t.outcome t.step t.gives
+  acts (Seen cell) t = found cell t.outcome t.step t.gives
+  acts (Changing ready) t = made ready.change ready.answer t.outcome t.step t.gives
 
 pub acts_at : (call : Stage) (meaning : Meaning) (old new : Standing) (offer : List ℕ) (b : Batch) (turn : Turn)
     → Turns meaning call old new offer b turn → ActsAt call old new turn

@@ -1,25 +1,24 @@
 -- A call that was moved to its end.
-use Rattle.mm_opt.proofs.Below.{◌≡◌, ℕ, false, List, [], ◌∷◌, Some, Result, Ok, Err, refl, ap, ◌∙◌, subst, Opt, Standing, StepFault, Act}
+use Rattle.mm_opt.proofs.Below.{◌≡◌, ℕ, false, List, Result, Ok, Err, refl, subst, Opt, Standing}
 use Rattle.mm_opt.proofs.Below.{ReadCell}
-use Rattle.mm_opt.proofs.Below.{ReadRegister, Meaning, Batch, Cell, is_long, BatchAnswer, Refusal, Ended, Answered, Refused, goes_on}
-use Rattle.mm_opt.proofs.Below.{breaks_off, StepsTo, EndsTo, Calls, result_of, committed_as, CallsTo, Blames, blamed_later, fault_in}
-use Rattle.mm_opt.proofs.Below.{BlamesFor, steps_blamed, steps_give, reading_blamed, calls_from, Found, Stage, ReadsOwnCell, ReadsRegister}
-use Rattle.mm_opt.proofs.Below.{Makes, ReadsOn, acts_for, answer_in, opt_call, acts_left, answer_left, Finishes}
-use Rattle.mm_opt.specs.declared.stage.Stage.TheVariants as stage
+use Rattle.mm_opt.proofs.Below.{ReadRegister, Meaning, Batch, Cell, is_long, BatchAnswer, Refusal, Ended}
+use Rattle.mm_opt.proofs.Below.{EndsTo, Calls, result_of, CallsTo, Blames, blamed_later, fault_in}
+use Rattle.mm_opt.proofs.Below.{BlamesFor, steps_blamed, reading_blamed, calls_from, Found, Stage, ReadsOwnCell, ReadsRegister}
+use Rattle.mm_opt.proofs.Below.{ReadsOn, opt_call, acts_left, Finishes, Begun, Seen, Changing}
 use Rattle.mm_opt.proofs.Acting.{room_only}
 use Rattle.mm_opt.proofs.Asking.{refused_first}
 use Rattle.mm_opt.proofs.Going.{calls_to}
 
 -- a call that was finished from its begin
 pub calls_finished : (call : Stage) (meaning : Meaning) (old new : Standing) (offer : List ℕ) (b : Batch) (ended : Ended)
-    (result : Result BatchAnswer Refusal) → call ≡ stage.Begun → is_long b ≡ false → Finishes meaning call old new offer b ended
+    (result : Result BatchAnswer Refusal) → call ≡ Begun → is_long b ≡ false → Finishes meaning call old new offer b ended
     → result ≡ result_of ended → Calls opt_call meaning old new offer b result
 calls_finished call meaning old new offer b ended result e short f is =
     calls_from opt_call meaning old new offer b ended result short
     (subst (λ (x : Stage). Finishes meaning x old new offer b ended) e f) is
 
 pub finished_to : (call : Stage) (meaning : Meaning) (old new : Standing) (offer : List ℕ) (b : Batch) (ended : Ended)
-    → Finishes meaning call old new offer b ended → call ≡ stage.Begun → CallsTo Opt meaning old new offer b ended
+    → Finishes meaning call old new offer b ended → call ≡ Begun → CallsTo Opt meaning old new offer b ended
 finished_to call meaning old new offer b ended f e =
     calls_to meaning old new offer b ended (subst (λ (x : Stage). Finishes meaning x old new offer b ended) e f)
 
@@ -42,18 +41,8 @@ first_blamed (Ok cell) found meaning old first second new offer b ended r on e =
 
 pub finish_blamed : (call : Stage) (meaning : Meaning) (old new : Standing) (offer : List ℕ) (b : Batch) (ended : Ended)
     → Finishes meaning call old new offer b ended → Blames (fault_in (result_of ended)) old.faults new.faults
-finish_blamed stage.Begun meaning old new offer b ended a =
+finish_blamed Begun meaning old new offer b ended a =
     first_blamed a.reads.cell a.found meaning old a.reads.middle a.middle new offer b ended a.reads.reads a.reads.on a.ends
-finish_blamed (stage.Seen cell) meaning old new offer b ended a =
+finish_blamed (Seen cell) meaning old new offer b ended a =
     second_blamed a.found cell meaning old a.middle new offer b ended a.reads a.ends
-finish_blamed (stage.Changing it) meaning old new offer b ended s = steps_blamed (acts_left it) (answer_left it) old new ended s
-
--- what was found isn't refused by the steps that commit it
-pub not_refused : (found : Found) (old new : Standing) (why : Refusal) → EndsTo opt_call (Ok found) old new (Refused why) → ⊥
-not_refused found old new why e = steps_give (acts_for found) (answer_in found) old new (Refused why) e
-
--- the step that commits, and how the call ended by it
-pub last_to : (act : Act) (answer : BatchAnswer) (written : Result BatchAnswer StepFault) (old new : Standing) (ended : Ended)
-    → Makes act answer old new written → ended ≡ committed_as (Some answer.position) written → StepsTo (act ∷ []) answer old new ended
-last_to act answer (Ok given) old new ended m e = goes_on new m.goes (refl, e ∙ ap Answered m.gives)
-last_to act answer (Err fault) old new ended m e = breaks_off fault m.goes e
+finish_blamed (Changing ready) meaning old new offer b ended s = steps_blamed (acts_left ready.change) ready.answer old new ended s

@@ -1,65 +1,57 @@
 -- What each turn of a call does and gives.
 use Rattle.std.specs.Prelude.{◌≡◌, ℕ, List, Option, None, Some, Result, Ok, Err}
-use Rattle.mm_opt.specs.Below.{Cell, Standing, Goes, StepFault, Batch, Meaning, BatchAnswer, Refusal, Device, fault_of}
-use Rattle.mm_opt.specs.declared.found.Opening.{Opening}
-use Rattle.mm_opt.specs.declared.found.Found.{Found}
-use Rattle.mm_opt.specs.declared.found.Found.TheVariants.{Repeat, Inside, Opens}
-use Rattle.mm_opt.specs.declared.stage.Stage.{Stage}
-use Rattle.mm_opt.specs.declared.stage.Stage.TheVariants as stage
-use Rattle.mm_opt.specs.declared.stage.Change.{Change}
-use Rattle.mm_opt.specs.declared.stage.Change.TheVariants as change
+use Rattle.mm_machine.specs.Acts.{act_in, change_after}
+use Rattle.mm_machine.specs.Stepping.{position_if_last}
+use Rattle.mm_machine.specs.declared.call.Stage.TheVariants.{Begun, Seen, Changing}
+use Rattle.mm_machine.specs.declared.call.Step as step
+use Rattle.mm_machine.specs.declared.call.Step.TheVariants as stepped
+use Rattle.mm_machine.specs.declared.change.Change as change
+use Rattle.mm_machine.specs.declared.operation.Found.TheVariants.{Repeat, Change}
+use Rattle.mm_call.specs.Machine.{end_told}
+use Rattle.mm_opt.specs.Below.{Cell, Standing, Goes, StepFault, Batch, Meaning, BatchAnswer, Refusal, Device, fault_of, result_of}
 use Rattle.mm_opt.specs.declared.call.Turn.{Turn}
 use Rattle.mm_opt.specs.declared.call.Turn.TheVariants.{Going, Done, Refused}
-use Rattle.mm_opt.specs.Finishes.{answer_left}
-use Rattle.mm_opt.specs.Steps.{act_of, MayGoOn, ReadsOwnCell, ReadsRegister, Extends, Empties, Places, Writes}
+use Rattle.mm_opt.specs.Found.{Found, Ready, Stage}
+use Rattle.mm_opt.specs.Steps.{act_of, Makes, MayGoOn, ReadsOwnCell, ReadsRegister}
 
 -- the position after the batch, once it has run in memory
-abbrev pub position_in : Change → ℕ
-position_in it = (answer_left it).position
-
 abbrev pub stage_position : Stage → Option ℕ
-stage_position stage.Begun = None
-stage_position (stage.Seen cell) = None
-stage_position (stage.Changing it) = Some (position_in it)
+stage_position (Changing ready) = Some ready.answer.position
+stage_position _ = None
 
 -- the position up to which the next step commits the batch: that of an extension in an open
 -- segment, and the write of an opening
-abbrev pub commits_in : Change → Option ℕ
-commits_in (change.Inside ready) = Some ready.answer.position
-commits_in (change.Emptying opening) = None
-commits_in (change.Placing opening) = None
-commits_in (change.Writing opening) = Some opening.answer.position
-
 abbrev pub stage_commits : Stage → Option ℕ
-stage_commits stage.Begun = None
-stage_commits (stage.Seen cell) = None
-stage_commits (stage.Changing it) = commits_in it
+stage_commits (Changing ready) = position_if_last (change_after ready.change) ready.answer.position
+stage_commits _ = None
+
+-- what the last turn of a call gives
+abbrev pub given_turn : Result BatchAnswer Refusal → Turn
+given_turn (Ok answer) = Done answer
+given_turn (Err why) = Refused why
+
+-- what a turn of the machine's gives
+abbrev pub turn_told : step.Step BatchAnswer Refusal → Turn
+turn_told (stepped.Going stage) = Going stage
+turn_told (stepped.Over ended) = given_turn (result_of (end_told ended))
 
 -- what the first turn gives, by the cell that it finds
 abbrev pub seen_turn : Result Cell Refusal → Turn
 seen_turn (Err why) = Refused why
-seen_turn (Ok cell) = Going (stage.Seen cell)
+seen_turn (Ok cell) = Going (Seen cell)
 
 -- what the second turn gives, by what it finds
 abbrev pub found_turn : Result Found Refusal → Turn
 found_turn (Err why) = Refused why
 found_turn (Ok (Repeat answer)) = Done answer
-found_turn (Ok (Inside ready)) = Going (stage.Changing (change.Inside ready))
-found_turn (Ok (Opens opening)) = Going (stage.Changing (change.Emptying opening))
+found_turn (Ok (Change ready)) = Going (Changing ready)
 
--- what the turns of an opening give
-abbrev pub emptied_turn : Result Opening StepFault → Turn
-emptied_turn (Err fault) = Refused (Device fault)
-emptied_turn (Ok opening) = Going (stage.Changing (change.Placing opening))
-
-abbrev pub placed_turn : Result Opening StepFault → Turn
-placed_turn (Err fault) = Refused (Device fault)
-placed_turn (Ok opening) = Going (stage.Changing (change.Writing opening))
-
--- what the last turn gives
-abbrev pub last_turn : Result BatchAnswer StepFault → Turn
-last_turn (Err fault) = Refused (Device fault)
-last_turn (Ok answer) = Done answer
+-- what a changing step gives, by the one behind it
+abbrev pub made_turn : BatchAnswer → Result (Option change.Change) StepFault → Turn
+made_turn answer (Err fault) = Refused (Device fault)
+made_turn answer (Ok None) = Done answer
+made_turn answer (Ok (Some change)) =
+    Going (Changing (record { change = change; answer = answer }))
 
 -- a turn gives what is drawn from the outcome of its step
 pub record TurnsBy {A T : Type 0} (steps : A → Type 0) (given : A → T) (turn : T) : Type 0 where
@@ -68,19 +60,17 @@ pub record TurnsBy {A T : Type 0} (steps : A → Type 0) (given : A → T) (turn
   pub gives : turn ≡ given outcome
 
 -- one turn that makes a changing step
-abbrev pub Changes : Change → Standing → Standing → Turn → Type 0
-Changes (change.Inside ready) old new turn = TurnsBy (Extends ready old new) last_turn turn
-Changes (change.Emptying opening) old new turn = TurnsBy (Empties opening old new) emptied_turn turn
-Changes (change.Placing opening) old new turn = TurnsBy (Places opening old new) placed_turn turn
-Changes (change.Writing opening) old new turn = TurnsBy (Writes opening old new) last_turn turn
+abbrev pub Changes : Ready → Standing → Standing → Turn → Type 0
+Changes ready old new turn =
+    TurnsBy (Makes (act_in ready.change) (change_after ready.change) old new)
+    (made_turn ready.answer) turn
 
 -- one turn of a call
 abbrev pub Turns : Meaning → Stage → Standing → Standing → List ℕ → Batch → Turn → Type 0
-Turns meaning stage.Begun old new offer b turn =
-    TurnsBy (ReadsOwnCell meaning.id old new) seen_turn turn
-Turns meaning (stage.Seen cell) old new offer b turn =
+Turns meaning Begun old new offer b turn = TurnsBy (ReadsOwnCell meaning.id old new) seen_turn turn
+Turns meaning (Seen cell) old new offer b turn =
     TurnsBy (ReadsRegister meaning cell old new offer b) found_turn turn
-Turns meaning (stage.Changing it) old new offer b turn = Changes it old new turn
+Turns meaning (Changing ready) old new offer b turn = Changes ready old new turn
 
 -- the room that the rest of a call takes, if it goes on
 abbrev pub TurnMayGoOn : Turn → Standing → Type 0

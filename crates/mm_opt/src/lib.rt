@@ -5,12 +5,10 @@
 mod call;
 mod closing;
 mod find;
-mod finish;
 mod first;
-mod found;
+mod question;
 mod segment;
 mod stage;
-mod step;
 mod verdicts;
 mod whole;
 
@@ -19,4 +17,4 @@ pub use closing::{CheckpointCall, CheckpointTurn, begin_checkpoint, checkpoint};
 pub use first::provision;
 pub use mm_call::{Ended, Provisioned};
 pub use segment::{CheckpointRefusal, Checkpointed};
-pub use whole::{Committed, Prepared, ask, ask_batch, prepare};
+pub use whole::{Committed, Prepared, ask, ask_batch, ask_keeping, prepare};
