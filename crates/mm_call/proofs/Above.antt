@@ -26,4 +26,5 @@ pub use Rattle.mm_call.proofs.OptShapes.{Brought, foreign_messages, opt_tied, re
 pub use Rattle.mm_call.proofs.OptShown.{flag_kept, pushed_open, shown_back, shown_front, shown_shut}
 pub use Rattle.mm_call.proofs.OptWalks.{AllMay, AreOwn, ask_may, before, first_in, foreign_all, holds_made, may_of, own_asked, own_checked}
 pub use Rattle.mm_call.proofs.OptWalks.{path_is, Ready, ready_closing, sight, sight_is, walk_fine}
+pub use Rattle.mm_call.proofs.Turning.{finish_blamed, IsQuiet, step_fault, steps_by, StepsBy}
 pub use Rattle.mm_call.specs.TrailLaws.{foreign_made as brought_digests}
