@@ -5,6 +5,7 @@ mod FirstLaws
 mod Findings
 mod Asking
 mod Writing
+mod ClosingByMachine
 mod Checkpointing
 mod Acting
 mod Accepting

@@ -6,6 +6,7 @@ pub mod Steps
 pub mod Turns
 pub mod Asks
 pub mod Checkpoints
+pub mod Closing
 pub mod CheckpointTurns
 pub mod ChecksOn
 pub mod Finishes
