@@ -5,7 +5,7 @@ use Rattle.mm_opt.proofs.Below.{Open, Shut, closing_fault_of, closing_fault_in, 
 use Rattle.std.specs.Result.{result_map_both}
 use Rattle.mm_machine.specs.Finishing.{ActsTo, EndsTo, Finishes, goes_on, breaks_off}
 use Rattle.mm_machine.specs.Reading.{CellSays, Draws, FindsOn, FindsRoom, Looks as LooksAt, RegisterSays, Rooms, Weighs as WeighsAt}
-use Rattle.mm_machine.specs.Stepping.{MayGoOn, SightLeads, Steps, StepsTo, ended_by, number_of, step_found, step_made}
+use Rattle.mm_machine.specs.Stepping.{SightLeads, Steps, StepsTo, ended_by, step_found, step_made}
 use Rattle.mm_machine.specs.declared.call.Ended.{Ended}
 use Rattle.mm_machine.specs.declared.call.Ended.TheVariants.{Answered}
 use Rattle.mm_machine.specs.declared.call.Stage.{Stage}
@@ -22,7 +22,7 @@ use Rattle.mm_opt.specs.declared.stage.CheckpointStage.{CheckpointStage}
 use Rattle.mm_opt.specs.declared.stage.CheckpointStage.TheVariants as stage
 use Rattle.mm_opt.specs.declared.closing.CheckpointTurn.{CheckpointTurn}
 use Rattle.mm_opt.specs.Turns.{TurnsBy}
-use Rattle.mm_opt.specs.Checkpoints.{ClosesBy, ClosesSegment, FindsClosing, FinishesClosing, WeighsAndCloses, closing_number_of}
+use Rattle.mm_opt.specs.Checkpoints.{ClosesBy, ClosesSegment, FindsClosing, FinishesClosing, WeighsAndCloses}
 use Rattle.mm_opt.specs.CheckpointTurns.{ClosingTurns, looked_turn, weighed_turn, closed_turn, over_told, step_told}
 use Rattle.mm_opt.specs.Closing.{GivesAs, IsClosing, StepIsClosing, closing, at_stage, stage_at, ended_told, sight_of, to_write, write_of}
 
@@ -218,17 +218,6 @@ turned (stage.Seen cell) old new step s =
     weighed_turns w.found cell old f.middle new s.found step (record { goes = w.goes_by; finds = w.quiet_finds })
     (subst (λ (x : Result (Found Checkpointed) Why). Rooms x f.middle new s.found) w.is f.rooms) s.gives
 turned (stage.Closing next) old new step s = closed_turns s.fault next old new step s.goes s.gives
-
--- a checkpoint takes no room
-pub may_close : (call : CheckpointStage) (standing : Standing) → MayGoOn (at_stage call) standing
-may_close stage.Begun standing = tt
-may_close (stage.Seen cell) standing = tt
-may_close (stage.Closing next) standing = tt
-
-pub numbered : (call : CheckpointStage) → number_of 3 (at_stage call) ≡ closing_number_of call
-numbered stage.Begun = refl
-numbered (stage.Seen cell) = refl
-numbered (stage.Closing next) = refl
 
 -- the same of a machine that stands as a checkpoint does
 module _ (call : CheckpointStage) (it : Stage Checkpointed) (old new : Standing) where

@@ -1,9 +1,8 @@
 //! What a checkpoint asks of a platform: that it close the open segment.
 
 ghost use Rattle.std.specs.Prelude.{◌≡◌, ℕ, None};
-ghost use Rattle.std.specs.Result.{result_map_both};
 ghost use Rattle.mm_opt.specs.Checkpoints.{SeesSegment, segment_by, closing_fault_in, closing_in};
-ghost use Rattle.mm_opt.specs.Closing.{closing, sight_of, to_write};
+ghost use Rattle.mm_opt.specs.Closing.{closing};
 
 use crate::segment::{CheckpointRefusal, Checkpointed, Segment};
 use crate::verdicts::is_zero;
@@ -29,7 +28,11 @@ impl Operation for Close {
         bytes: &[u8; CELL_LENGTH],
         _keys: &mut KeptKey,
     ) -> Result<Sight<Checkpointed>, CheckpointRefusal> {
-        sight(find_segment(bytes))
+        match find_segment(bytes) {
+            Err(refusal) => Err(refusal),
+            Ok(Segment::Shut) => Ok(Sight::Found(Found::Repeat(Checkpointed::NoSegment))),
+            Ok(Segment::Open(cell)) => Ok(Sight::Cell(cell)),
+        }
     }
 
     fn find(
@@ -38,7 +41,13 @@ impl Operation for Close {
         register: &Digest,
         _keys: &mut KeptKey,
     ) -> Result<Found<Checkpointed>, CheckpointRefusal> {
-        to_write(closed_cell(cell, register))
+        match closed_cell(cell, register) {
+            Err(refusal) => Err(refusal),
+            Ok(next) => Ok(Found::Change(Ready {
+                change: Change::Writing(next),
+                answer: Checkpointed::Done,
+            })),
+        }
     }
 
     fn position(&self, _answer: &Checkpointed) -> u64 {
@@ -47,34 +56,6 @@ impl Operation for Close {
 
     fn write_step(&self) -> u8 {
         3
-    }
-}
-
-// What is seen of a segment.
-fn sight(
-    found: Result<Segment, CheckpointRefusal>,
-) -> Result<Sight<Checkpointed>, CheckpointRefusal>
-    ensures { result ≡ result_map_both sight_of (λ why. why) found }
-{
-    match found {
-        Err(refusal) => Err(refusal),
-        Ok(Segment::Shut) => Ok(Sight::Found(Found::Repeat(Checkpointed::NoSegment))),
-        Ok(Segment::Open(cell)) => Ok(Sight::Cell(cell)),
-    }
-}
-
-// What is to be done, by the bytes that close the segment.
-fn to_write(
-    found: Result<[u8; CELL_LENGTH], CheckpointRefusal>,
-) -> Result<Found<Checkpointed>, CheckpointRefusal>
-    ensures { result ≡ result_map_both to_write (λ why. why) found }
-{
-    match found {
-        Err(refusal) => Err(refusal),
-        Ok(next) => Ok(Found::Change(Ready {
-            change: Change::Writing(next),
-            answer: Checkpointed::Done,
-        })),
     }
 }
 

@@ -1,15 +1,13 @@
 //! A checkpoint, which closes the open segment: in one, or moved one device step at a time.
 
 ghost use Rattle.std.specs.Prelude.{◌≡◌};
-ghost use Rattle.mm_machine.specs.Finishing.{Finishes};
-ghost use Rattle.mm_machine.specs.Stepping.{MayGoOn, Steps};
 ghost use Rattle.mm_opt.specs.declared.stage.CheckpointStage.TheVariants.{Begun};
 ghost use Rattle.mm_opt.specs.Closed.{ClosedInOpt};
-ghost use Rattle.mm_opt.specs.Closing.{closing, ended_told};
+ghost use Rattle.mm_opt.specs.Closing.{ended_told};
 
 use crate::close::Close;
 use crate::segment::{CheckpointRefusal, Checkpointed};
-use mm_machine::{Call, Ended, Operation, Step};
+use mm_machine::{Call, Ended, Operation, Step, advance, finish};
 use mm_platform::Platform;
 use mm_seal::KeptKey;
 use std::marker::Model;
@@ -71,20 +69,20 @@ impl CheckpointCall {
         ensures acts { ClosingActsAt self (P.standing platform.old) (P.standing platform.new)
             result }
     {
-        CheckpointTurn::of(step(self.call, platform))
+        CheckpointTurn::of(advance(&Close, self.call, platform, &mut KeptKey::new()))
     }
 
     /// Moves the checkpoint to its end: what `advance` does, over and over. Takes no memory.
     pub fn finish<P: Platform>(self, platform: &mut P) -> Result<Checkpointed, CheckpointRefusal>
         ensures { FinishesClosing self (P.standing platform.old) (P.standing platform.new) result }
     {
-        told(end(self.call, platform))
+        told(finish(&Close, self.call, platform, &mut KeptKey::new()))
     }
 }
 
 impl CheckpointTurn {
     ghost use Rattle.std.specs.Prelude.{◌≡◌};
-    ghost use Rattle.mm_opt.specs.CheckpointTurns.{over_told, step_told};
+    ghost use Rattle.mm_opt.specs.CheckpointTurns.{step_told};
     ghost use Rattle.mm_opt.specs.Closing.{StepIsClosing};
 
     // What a step of the machine comes to.
@@ -94,16 +92,10 @@ impl CheckpointTurn {
     {
         match step {
             Step::Going(call) => CheckpointTurn::Going(CheckpointCall { call }),
-            Step::Over(ended) => CheckpointTurn::over(told(ended)),
-        }
-    }
-
-    fn over(given: Result<Checkpointed, CheckpointRefusal>) -> CheckpointTurn
-        ensures { result ≡ over_told given }
-    {
-        match given {
-            Ok(checkpointed) => CheckpointTurn::Done(checkpointed),
-            Err(refusal) => CheckpointTurn::Refused(refusal),
+            Step::Over(ended) => match told(ended) {
+                Ok(checkpointed) => CheckpointTurn::Done(checkpointed),
+                Err(refusal) => CheckpointTurn::Refused(refusal),
+            },
         }
     }
 }
@@ -114,28 +106,6 @@ pub fn checkpoint<P: Platform>(platform: &mut P) -> Result<Checkpointed, Checkpo
     ensures { ClosedInOpt (P.standing platform.old) (P.standing platform.new) result }
 {
     begin_checkpoint().finish(platform)
-}
-
-// The next step of the machine.
-fn step<P: Platform>(
-    call: Call<Checkpointed>,
-    platform: &mut P,
-) -> Step<Checkpointed, CheckpointRefusal>
-    requires { MayGoOn call (P.standing platform.old) }
-    ensures { Steps closing call (P.standing platform.old) (P.standing platform.new) result }
-{
-    mm_machine::advance(&Close, call, platform, &mut KeptKey::new())
-}
-
-// What is left of the machine's steps.
-fn end<P: Platform>(
-    call: Call<Checkpointed>,
-    platform: &mut P,
-) -> Ended<Checkpointed, CheckpointRefusal>
-    requires { MayGoOn call (P.standing platform.old) }
-    ensures { Finishes closing call (P.standing platform.old) (P.standing platform.new) result }
-{
-    mm_machine::finish(&Close, call, platform, &mut KeptKey::new())
 }
 
 // What is told of how the machine ended. It lacks no memory, as a checkpoint extends nothing.
