@@ -12,4 +12,4 @@ mod whole;
 pub use call::{Call, Turn, begin};
 pub use first::provision;
 pub use mm_call::Provisioned;
-pub use whole::{Committed, Prepared, ask, ask_batch, prepare};
+pub use whole::{Committed, Prepared, ask, ask_batch, ask_keeping, prepare};

@@ -156,6 +156,7 @@ fn call<M: Module, P: Platform>(
     platform: &mut P,
     offer: &[u8],
     batch: Batch<'_>,
+    keys: &mut KeptKey,
 ) -> Result<BatchAnswer, Refusal>
     ensures calls { Calls basic_call (M.meaning «module».now) (P.standing platform.old)
         (P.standing platform.new) offer.now (batch_of batch.entry) result }
@@ -165,7 +166,9 @@ fn call<M: Module, P: Platform>(
 {
     match begin(batch) {
         Err(refusal) => Err(refusal),
-        Ok(call) => call.finish(alloc, module, platform, offer, batch).result(),
+        Ok(call) => call
+            .finish_keeping(alloc, module, platform, offer, batch, keys)
+            .result(),
     }
 }
 
@@ -182,7 +185,22 @@ pub fn ask_batch<M: Module, P: Platform>(
     ensures { AskedInBasic (M.meaning «module».now) (P.standing platform.old)
         (P.standing platform.new) offer.now (batch_of batch.entry) result }
 {
-    call(alloc, module, platform, offer, batch)
+    ask_batch_keeping(alloc, module, platform, offer, batch, &mut KeptKey::new())
+}
+
+// The same, with an absorbed key that the caller keeps between calls.
+fn ask_batch_keeping<M: Module, P: Platform>(
+    alloc: Global,
+    module: &M,
+    platform: &mut P,
+    offer: &[u8],
+    batch: Batch<'_>,
+    keys: &mut KeptKey,
+) -> Result<BatchAnswer, Refusal>
+    ensures { AskedInBasic (M.meaning «module».now) (P.standing platform.old)
+        (P.standing platform.new) offer.now (batch_of batch.entry) result }
+{
+    call(alloc, module, platform, offer, batch, keys)
 }
 
 /// One call that asks for one request: `prepare`, `commit` and `answer` in one.
@@ -196,7 +214,22 @@ pub fn ask<M: Module, P: Platform>(
     ensures { AskedInBasic (M.meaning «module».now) (P.standing platform.old)
         (P.standing platform.new) offer.now (One request.now) (whole_in result) }
 {
-    match call_one(alloc, module, platform, offer, request) {
+    ask_keeping(alloc, module, platform, offer, request, &mut KeptKey::new())
+}
+
+/// `ask` with an absorbed key that the caller keeps between calls.
+pub fn ask_keeping<M: Module, P: Platform>(
+    alloc: Global,
+    module: &M,
+    platform: &mut P,
+    offer: &[u8],
+    request: &[u8],
+    keys: &mut KeptKey,
+) -> Result<Answer, Refusal>
+    ensures { AskedInBasic (M.meaning «module».now) (P.standing platform.old)
+        (P.standing platform.new) offer.now (One request.now) (whole_in result) }
+{
+    match call_one(alloc, module, platform, offer, request, keys) {
         Err(refusal) => Err(refusal),
         Ok(answer) => Ok(answer.into_one()),
     }
@@ -209,10 +242,11 @@ fn call_one<M: Module, P: Platform>(
     platform: &mut P,
     offer: &[u8],
     request: &[u8],
+    keys: &mut KeptKey,
 ) -> Result<BatchAnswer, Refusal>
     ensures asked { AskedInBasic (M.meaning «module».now) (P.standing platform.old)
         (P.standing platform.new) offer.now (One request.now) result }
     ensures one { IfOk result (λ answer. length answer.outputs ≡ 1) }
 {
-    ask_batch(alloc, module, platform, offer, Batch::One(request))
+    ask_batch_keeping(alloc, module, platform, offer, Batch::One(request), keys)
 }

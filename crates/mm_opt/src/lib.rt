@@ -19,4 +19,4 @@ pub use closing::{CheckpointCall, CheckpointTurn, begin_checkpoint, checkpoint};
 pub use first::provision;
 pub use mm_call::{Ended, Provisioned};
 pub use segment::{CheckpointRefusal, Checkpointed};
-pub use whole::{Committed, Prepared, ask, ask_batch, prepare};
+pub use whole::{Committed, Prepared, ask, ask_batch, ask_keeping, prepare};

@@ -202,6 +202,7 @@ fn call<M: Module, P: Platform>(
     platform: &mut P,
     offer: &[u8],
     batch: Batch<'_>,
+    keys: &mut KeptKey,
 ) -> Result<BatchAnswer, Refusal>
     ensures calls { Calls opt_call (M.meaning «module».now) (P.standing platform.old)
         (P.standing platform.new) offer.now (batch_of batch.entry) result }
@@ -210,7 +211,7 @@ fn call<M: Module, P: Platform>(
 {
     match begin(batch) {
         Err(refusal) => Err(refusal),
-        Ok(call) => finished(call, alloc, module, platform, offer, batch),
+        Ok(call) => finished(call, alloc, module, platform, offer, batch, keys),
     }
 }
 
@@ -222,6 +223,7 @@ fn finished<M: Module, P: Platform>(
     platform: &mut P,
     offer: &[u8],
     batch: Batch<'_>,
+    keys: &mut KeptKey,
 ) -> Result<BatchAnswer, Refusal>
     requires short { is_long (batch_of batch) ≡ false }
     requires begun { call ≡ Begun }
@@ -230,7 +232,8 @@ fn finished<M: Module, P: Platform>(
     ensures faults { Blames (fault_in result)
         (P.standing platform.old).faults (P.standing platform.new).faults }
 {
-    call.finish(alloc, module, platform, offer, batch).result()
+    call.finish_keeping(alloc, module, platform, offer, batch, keys)
+        .result()
 }
 
 /// One call: asks for a batch of requests, offering a snapshot. A new batch is committed whole or not at all, and
@@ -246,7 +249,22 @@ pub fn ask_batch<M: Module, P: Platform>(
     ensures { AskedInOpt (M.meaning «module».now) (P.standing platform.old)
         (P.standing platform.new) offer.now (batch_of batch.entry) result }
 {
-    call(alloc, module, platform, offer, batch)
+    ask_batch_keeping(alloc, module, platform, offer, batch, &mut KeptKey::new())
+}
+
+// The same, with an absorbed key that the caller keeps between calls.
+fn ask_batch_keeping<M: Module, P: Platform>(
+    alloc: Global,
+    module: &M,
+    platform: &mut P,
+    offer: &[u8],
+    batch: Batch<'_>,
+    keys: &mut KeptKey,
+) -> Result<BatchAnswer, Refusal>
+    ensures { AskedInOpt (M.meaning «module».now) (P.standing platform.old)
+        (P.standing platform.new) offer.now (batch_of batch.entry) result }
+{
+    call(alloc, module, platform, offer, batch, keys)
 }
 
 /// One call that asks for one request: `prepare`, `commit` and `answer` in one.
@@ -260,7 +278,22 @@ pub fn ask<M: Module, P: Platform>(
     ensures { AskedInOpt (M.meaning «module».now) (P.standing platform.old)
         (P.standing platform.new) offer.now (One request.now) (whole_in result) }
 {
-    match call_one(alloc, module, platform, offer, request) {
+    ask_keeping(alloc, module, platform, offer, request, &mut KeptKey::new())
+}
+
+/// `ask` with an absorbed key that the caller keeps between calls.
+pub fn ask_keeping<M: Module, P: Platform>(
+    alloc: Global,
+    module: &M,
+    platform: &mut P,
+    offer: &[u8],
+    request: &[u8],
+    keys: &mut KeptKey,
+) -> Result<Answer, Refusal>
+    ensures { AskedInOpt (M.meaning «module».now) (P.standing platform.old)
+        (P.standing platform.new) offer.now (One request.now) (whole_in result) }
+{
+    match call_one(alloc, module, platform, offer, request, keys) {
         Err(refusal) => Err(refusal),
         Ok(answer) => Ok(answer.into_one()),
     }
@@ -273,10 +306,11 @@ fn call_one<M: Module, P: Platform>(
     platform: &mut P,
     offer: &[u8],
     request: &[u8],
+    keys: &mut KeptKey,
 ) -> Result<BatchAnswer, Refusal>
     ensures asked { AskedInOpt (M.meaning «module».now) (P.standing platform.old)
         (P.standing platform.new) offer.now (One request.now) result }
     ensures one { IfOk result (λ answer. length answer.outputs ≡ 1) }
 {
-    ask_batch(alloc, module, platform, offer, Batch::One(request))
+    ask_batch_keeping(alloc, module, platform, offer, Batch::One(request), keys)
 }

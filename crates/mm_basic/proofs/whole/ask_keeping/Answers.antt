@@ -1,5 +1,5 @@
 use Rattle.mm_basic.proofs.Below.{Ok, subst, One, BatchAnswer, wholly, AskedInBasic}
-use Rattle.mm_basic.proofs.whole.ask.Goals as goal
+use Rattle.mm_basic.proofs.whole.ask_keeping.Goals as goal
 
 pub returns-in-Ok : goal.returns-in-Ok
 returns-in-Ok g c =

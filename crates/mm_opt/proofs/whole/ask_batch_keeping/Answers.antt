@@ -1,6 +1,6 @@
 use Rattle.mm_module.specs.Batches.{batch_of}
 use Rattle.mm_opt.proofs.Asked.{asked}
-use Rattle.mm_opt.proofs.whole.ask_batch.Goals as goal
+use Rattle.mm_opt.proofs.whole.ask_batch_keeping.Goals as goal
 
 pub returns : goal.returns
 returns g c =
