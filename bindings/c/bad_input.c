@@ -38,6 +38,17 @@ static int says(uint32_t wanted, uint8_t variant, uint8_t module, size_t count, 
            (said == MEMOIR_DONE || memcmp(&reply, &unsaid, sizeof reply) == 0);
 }
 
+static uint8_t memory[400], answer[91];
+
+/* The same of a call with so many of the steps, with what was sealed last in this much memory. */
+static int keeps(uint32_t wanted, size_t count, const uint8_t *offer, size_t length, struct memoir_kept *kept,
+                 size_t memory_length)
+{
+    struct memoir_instance instance = {MEMOIR_BASIC, 1};
+    return memoir_ask_keeping(&instance, steps, count, offer, length, (const uint8_t *)"add 5", 5, kept, memory,
+                              memory_length, &reply, room, 91) == wanted;
+}
+
 int main(void)
 {
     struct memoir_instance instance = {MEMOIR_BASIC, 1}, other = {3, 1}, none = {MEMOIR_OPT, 99};
@@ -100,6 +111,32 @@ int main(void)
     EXPECT(memoir_ask(&instance, steps, 2, snapshot, 90, (const uint8_t *)"add 5", 5, &reply, room, 91) == MEMOIR_DONE);
     EXPECT(reply.position == 1 && reply.again == 0 && reply.output_length == 1 && reply.snapshot_length == 90);
     EXPECT(room[0] == '5' && room[91] == 0x5a);
+    memcpy(answer, room, 91);
+    memset(room, 0x5a, sizeof room);
+
+    /* The same with what was sealed last kept: with no memory, with too little and with enough, and behind another key. */
+    struct memoir_kept kept;
+    for (size_t size = 0; size <= sizeof memory; size += size < 4 ? 1 : 4) {
+        memoir_forget(&kept);
+        memset(memory, 0x5a, sizeof memory);
+        for (int turn = 0; turn < 3; turn++) {
+            memset(room, 0x5a, sizeof room);
+            EXPECT(keeps(MEMOIR_NEXT, 1, snapshot, 90, &kept, size));
+            EXPECT(keeps(MEMOIR_DONE, 2, snapshot, 90, &kept, size) && memcmp(room + 1, answer + 1, 90) == 0);
+            snapshot[60] ^= 1;
+            EXPECT(keeps(MEMOIR_TAG, 1, snapshot, 90, &kept, size));
+            snapshot[60] ^= 1;
+            EXPECT(keeps(MEMOIR_STALE, 1, answer + 1, 90, &kept, size));
+            snapshot[89] ^= 1;
+            EXPECT(keeps(MEMOIR_TAG, 1, snapshot, 90, &kept, size));
+            snapshot[89] ^= 1;
+            steps[0].bytes[60] ^= 1;
+            EXPECT(keeps(MEMOIR_TAG, 1, snapshot, 90, &kept, size));
+            steps[0].bytes[60] ^= 1;
+            for (size_t i = size; i < sizeof memory; i++)
+                EXPECT(memory[i] == 0x5a);
+        }
+    }
     memset(room, 0x5a, sizeof room);
 
     /* A checkpoint of Basic. */

@@ -116,14 +116,17 @@ static struct memoir_instance instance;
 static struct memoir_reply reply;
 static uint8_t *room;
 static size_t room_length;
+/* What was sealed last; it makes the calls faster, and changes nothing else. */
+static struct memoir_kept kept;
+static uint8_t *memory;
 
 static uint32_t ask(const struct slot *offer, const uint8_t *request, size_t length)
 {
     struct memoir_step steps[MEMOIR_STEPS];
     size_t made = 0;
     for (;;) {
-        uint32_t said = memoir_ask(&instance, steps, made, offer->bytes, offer->length, request, length, &reply, room,
-                                   room_length);
+        uint32_t said = memoir_ask_keeping(&instance, steps, made, offer->bytes, offer->length, request, length, &kept,
+                                           memory, 2 * room_length, &reply, room, room_length);
         if (said == MEMOIR_MEMORY)
             abort(); /* call again once there is memory */
         if (said != MEMOIR_NEXT)
@@ -243,9 +246,11 @@ int main(int count, char **words)
     instance.module = memoir_module_id((const uint8_t *)"limiter", 7);
     room_length = memoir_room(instance.module);
     room = malloc(room_length);
+    memory = malloc(2 * room_length);
+    memoir_forget(&kept);
     for (int i = 0; i < 4; i++)
         slots[i].bytes = malloc(room_length);
-    if (!room || !slots[0].bytes || !slots[1].bytes || !slots[2].bytes || !slots[3].bytes)
+    if (!room || !memory || !slots[0].bytes || !slots[1].bytes || !slots[2].bytes || !slots[3].bytes)
         return 1;
     provision();
     char *line = NULL;

@@ -3,7 +3,7 @@
  *
  * No function keeps anything between two calls, calls back, or writes behind the room that it was given. Where one
  * doesn't say that it wrote, it wrote nothing. A pointer is never null, also with a length of 0, and nothing that is
- * written overlaps anything else that is passed.
+ * written overlaps anything else that is passed. What is to be kept between two calls, the host keeps (memoir_kept).
  *
  * Who changes a number here changes it in crates/memoir_c/src too; bindings/compare compares them. */
 #ifndef MEMOIR_H
@@ -143,6 +143,21 @@ struct memoir_keys {
     uint8_t barrier[MEMOIR_KEY];
 };
 
+/* A text at the front of a memory, and its tag; none where the memory has fewer bytes. */
+struct memoir_text {
+    size_t length;
+    uint8_t tag[32];
+};
+
+/* What was sealed last, and what before that, under the key of the cell: two texts, each at the front of a half of a
+ * memory of the host. So an offer that is one of them, and a snapshot that is sealed again, take no HMAC. It is as secret
+ * as the cell, and nothing but memoir_forget and memoir_ask_keeping may write to it or to the memory: an offer is taken
+ * for sealed where it stands there. */
+struct memoir_kept {
+    uint8_t key[MEMOIR_KEY];
+    struct memoir_text last, before;
+};
+
 /* The first cell, and the length of the first snapshot. */
 struct memoir_first {
     size_t snapshot_length;
@@ -167,6 +182,16 @@ uint32_t memoir_provision(const struct memoir_instance *instance, const struct m
 uint32_t memoir_ask(const struct memoir_instance *instance, const struct memoir_step *steps, size_t step_count,
                     const uint8_t *offer, size_t offer_length, const uint8_t *request, size_t request_length,
                     struct memoir_reply *reply, uint8_t *room, size_t room_length);
+
+/* Nothing is kept: to begin with, and at any time. */
+void memoir_forget(struct memoir_kept *kept);
+
+/* The same as memoir_ask, and in about half the time: with what memoir_forget or the last such call left in `kept` and in
+ * the memory. A memory of any length is enough; of twice memoir_room it has room for all that is to be kept. */
+uint32_t memoir_ask_keeping(const struct memoir_instance *instance, const struct memoir_step *steps, size_t step_count,
+                            const uint8_t *offer, size_t offer_length, const uint8_t *request, size_t request_length,
+                            struct memoir_kept *kept, uint8_t *memory, size_t memory_length,
+                            struct memoir_reply *reply, uint8_t *room, size_t room_length);
 
 /* What a checkpoint of Opt comes to with these steps made. MEMOIR_NEXT writes the step that is to be made. */
 uint32_t memoir_checkpoint(const struct memoir_step *steps, size_t step_count, struct memoir_step *next);

@@ -98,10 +98,12 @@ pub enum Checkpointed {
     NoSegment,
 }
 
-/// The core of a variant and module. It keeps nothing but room.
+/// The core of a variant and module. It keeps nothing but room, and what was sealed last, so that it isn't sealed anew.
 pub struct Core {
     instance: sys::Instance,
     room: Vec<u8>,
+    kept: sys::Kept,
+    memory: Vec<u8>,
 }
 
 /// A step of which nothing is known.
@@ -122,9 +124,22 @@ impl Core {
         let module = unsafe { sys::memoir_module_id(module.as_ptr(), module.len()) };
         // SAFETY: takes a number.
         let room = unsafe { sys::memoir_room(module) };
+        let none = sys::Text {
+            length: 0,
+            tag: [0; 32],
+        };
+        let mut kept = sys::Kept {
+            key: [0; KEY],
+            last: none,
+            before: none,
+        };
+        // SAFETY: a reference.
+        unsafe { sys::memoir_forget(&mut kept) };
         (module != 0).then(|| Core {
             instance: sys::Instance { variant, module },
             room: vec![0; room],
+            kept,
+            memory: vec![0; 2 * room],
         })
     }
 
@@ -209,9 +224,10 @@ impl Core {
         request: &[u8],
         reply: &mut sys::Reply,
     ) -> u32 {
-        // SAFETY: references, and slices with their lengths; nothing that is written overlaps another.
+        // SAFETY: references, and slices with their lengths; nothing that is written overlaps another; and what is kept
+        // is written by these functions alone.
         unsafe {
-            sys::memoir_ask(
+            sys::memoir_ask_keeping(
                 &self.instance,
                 steps.as_ptr(),
                 steps.len(),
@@ -219,6 +235,9 @@ impl Core {
                 offer.len(),
                 request.as_ptr(),
                 request.len(),
+                &mut self.kept,
+                self.memory.as_mut_ptr(),
+                self.memory.len(),
                 reply,
                 self.room.as_mut_ptr(),
                 self.room.len(),

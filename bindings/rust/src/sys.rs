@@ -78,6 +78,21 @@ pub struct Keys {
 
 #[repr(C)]
 #[derive(Clone, Copy)]
+pub struct Text {
+    pub length: usize,
+    pub tag: [u8; 32],
+}
+
+#[repr(C)]
+#[derive(Clone, Copy)]
+pub struct Kept {
+    pub key: [u8; KEY],
+    pub last: Text,
+    pub before: Text,
+}
+
+#[repr(C)]
+#[derive(Clone, Copy)]
 pub struct First {
     pub snapshot_length: usize,
     pub cell: [u8; CELL],
@@ -101,6 +116,22 @@ extern "C" {
         offer_length: usize,
         request: *const u8,
         request_length: usize,
+        reply: *mut Reply,
+        room: *mut u8,
+        room_length: usize,
+    ) -> u32;
+    pub fn memoir_forget(kept: *mut Kept);
+    pub fn memoir_ask_keeping(
+        instance: *const Instance,
+        steps: *const Step,
+        step_count: usize,
+        offer: *const u8,
+        offer_length: usize,
+        request: *const u8,
+        request_length: usize,
+        kept: *mut Kept,
+        memory: *mut u8,
+        memory_length: usize,
         reply: *mut Reply,
         room: *mut u8,
         room_length: usize,

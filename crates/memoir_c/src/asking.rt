@@ -1,9 +1,12 @@
 //! A call that asks for a request.
 
 ghost use Rattle.std.specs.Prelude.{◌≡◌, ◌≢◌, false};
+ghost use Rattle.memoir_c.specs.Keeping.{IsKept};
 
+use crate::keeping::{Kept, keep, key_kept};
 use crate::made::{MOST_STEPS, Step, next, put_made};
 use crate::said::Said;
+use mm_call::KeptKey;
 use mm_digest::Variant;
 use mm_model::{Answer, Refusal};
 use mm_module::Module;
@@ -48,7 +51,41 @@ pub extern "C" fn memoir_ask(
     ensures unwritten { result ≢ 0 → room.new ≡ room.old }
     ensures unsaid { result ≢ 0 → result ≢ 16 → reply.new ≡ reply.old }
 {
-    tell(asked(alloc, instance, steps, offer, request), reply, room).code()
+    let mut keys = KeptKey::new();
+    tell(
+        asked(alloc, instance, steps, offer, request, &mut keys),
+        reply,
+        room,
+    )
+    .code()
+}
+
+/// The same, with what was sealed last kept in a memory of the host: the one that the last call of this kind left.
+#[unsafe(no_mangle)]
+pub extern "C" fn memoir_ask_keeping(
+    alloc: Global,
+    instance: &Instance,
+    steps: &[Step],
+    offer: &[u8],
+    request: &[u8],
+    kept: &mut Kept,
+    memory: &mut [u8],
+    reply: &mut Reply,
+    room: &mut [u8],
+) -> u32
+    requires { IsKept kept.old memory.old }
+    ensures kept { IsKept kept.new memory.new }
+    ensures unwritten { result ≢ 0 → room.new ≡ room.old }
+    ensures unsaid { result ≢ 0 → result ≢ 16 → reply.new ≡ reply.old }
+{
+    let mut keys = key_kept(alloc, kept, memory);
+    let said = tell(
+        asked(alloc, instance, steps, offer, request, &mut keys),
+        reply,
+        room,
+    );
+    keep(&keys, kept, memory);
+    said.code()
 }
 
 /// The variant of this number, and the module of this id.
@@ -69,6 +106,7 @@ fn asked(
     steps: &[Step],
     offer: &[u8],
     request: &[u8],
+    keys: &mut KeptKey,
 ) -> Result<Outcome<Result<Answer, Refusal>>, Said> {
     let (variant, module) = parts(instance)?;
     if steps.len() > MOST_STEPS {
@@ -77,7 +115,7 @@ fn asked(
     let mut made = [Made::ResetRegister(Ok(())); MOST_STEPS];
     put_made(steps, &mut made)?;
     let made = &made[..steps.len()];
-    Ok(come_to(alloc, variant, &module, made, offer, request))
+    Ok(come_to(alloc, variant, &module, made, offer, request, keys))
 }
 
 // The call with these steps made.
@@ -88,8 +126,9 @@ fn come_to<M: Module>(
     made: &[Made],
     offer: &[u8],
     request: &[u8],
+    keys: &mut KeptKey,
 ) -> Outcome<Result<Answer, Refusal>> {
-    ask(alloc, variant, module, made, offer, request)
+    ask(alloc, variant, module, made, offer, request, keys)
 }
 
 // Writes what the call came to.

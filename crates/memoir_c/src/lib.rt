@@ -4,6 +4,7 @@
 
 mod asking;
 mod closing;
+mod keeping;
 mod made;
 mod modules;
 mod pending;
@@ -12,5 +13,6 @@ mod receipts;
 mod said;
 
 pub use asking::{Instance, Reply};
+pub use keeping::{Kept, Text};
 pub use made::Step;
 pub use provisioning::{Keys, Provisioned};

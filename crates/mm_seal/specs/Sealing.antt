@@ -3,8 +3,10 @@ use Rattle.std.specs.Prelude.{◌≡◌, ℕ, List, Option, IfSome}
 use Rattle.mm_digest.specs.Hmac.{hmac_of}
 use Rattle.mm_seal.specs.declared.sealing.Tagged.{Tagged}
 
--- the absorbed key is the key of these bytes, and what is remembered is a text with its tag
+-- the absorbed key is the key of these bytes, and each text that is remembered is one with its tag
 -- under it
-pub record Remembers (bytes : List ℕ) (key : List ℕ) (last : Option Tagged) : Type 0 where
-  pub same : key ≡ bytes
-  pub tagged : IfSome last (λ tagged. tagged.tag.bytes ≡ hmac_of bytes tagged.text.items)
+pub record Remembers (bytes : List ℕ) (key : Option (List ℕ)) (last before : Option Tagged)
+    : Type 0 where
+  pub same : IfSome key (λ key. key ≡ bytes)
+  pub last_tagged : IfSome last (λ it. it.tag.bytes ≡ hmac_of bytes it.text.items)
+  pub before_tagged : IfSome before (λ it. it.tag.bytes ≡ hmac_of bytes it.text.items)

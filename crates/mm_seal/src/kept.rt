@@ -25,6 +25,19 @@ impl KeptKey {
         KeptKey { kept: None }
     }
 
+    /// What is kept is this key.
+    pub fn of(key: SealingKey) -> KeptKey {
+        KeptKey { kept: Some(key) }
+    }
+
+    /// The key that is kept.
+    pub fn key(&self) -> Option<&SealingKey> {
+        match &self.kept {
+            Some(kept) => Some(kept),
+            None => None,
+        }
+    }
+
     /// The key, absorbed: what is kept, where it is of the very same bytes, and otherwise absorbed anew and kept from
     /// then on. Takes no memory.
     pub fn under(&mut self, key: &[u8; 32]) -> &mut SealingKey

@@ -1,6 +1,6 @@
 //! The key that snapshots are sealed under, which remembers what it sealed last.
 
-ghost use Rattle.std.specs.Prelude.{◌≡◌, IfSome};
+ghost use Rattle.std.specs.Prelude.{◌≡◌, IfSome, IsSome};
 
 use crate::snapshot::{Body, Offered, front};
 use mm_base::{Bytes, Memory};
@@ -8,21 +8,22 @@ use mm_digest::{Digest, HmacKey};
 use std::alloc::Global;
 use std::marker::Model;
 
-/// A key of 32 bytes, absorbed once, that remembers the text that it sealed last, and its tag. The snapshot that was
-/// sealed last is mostly what is offered next, and a repeat seals it again: neither takes a second HMAC. What is
-/// remembered is the text's own tag, so it changes no answer, and contracts see the key alone.
+/// A key of 32 bytes, absorbed once, that remembers the two texts that it sealed last, with their tags. The snapshot that
+/// was sealed last is mostly what is offered next, and a repeat seals it again, offering the one before: neither takes a
+/// second HMAC. What is remembered is each text's own tag, so it changes no answer, and contracts see the key alone.
 #[derive(Drop)]
 pub struct SealingKey {
     bytes: [u8; 32],
-    key: HmacKey,
+    key: Option<HmacKey>,
     last: Option<Tagged>,
+    before: Option<Tagged>,
 }
 
-// A text, and its tag.
+/// A text that was sealed, which is a snapshot without its tag; and the tag.
 #[derive(Drop)]
-struct Tagged {
-    text: Vec<u8>,
-    tag: Digest,
+pub struct Tagged {
+    pub text: Vec<u8>,
+    pub tag: Digest,
 }
 
 impl Model for SealingKey {
@@ -33,7 +34,7 @@ impl Model for SealingKey {
 
     ghost view = { λ it. it.bytes };
 
-    ghost invariant = { λ it. Remembers it.bytes it.key it.last };
+    ghost invariant = { λ it. Remembers it.bytes it.key it.last it.before };
 }
 
 impl SealingKey {
@@ -49,8 +50,50 @@ impl SealingKey {
     {
         SealingKey {
             bytes: *key,
-            key: HmacKey::new(key),
+            key: Some(HmacKey::new(key)),
             last: None,
+            before: None,
+        }
+    }
+
+    /// The key, which remembers these texts, and is absorbed once it is used. Takes no memory.
+    pub fn remembering(key: &[u8; 32], last: Option<Tagged>, before: Option<Tagged>) -> SealingKey
+        requires last { IfSome last (λ it. it.tag.bytes ≡ hmac_of key.now it.text.items) }
+        requires before { IfSome before (λ it. it.tag.bytes ≡ hmac_of key.now it.text.items) }
+        ensures { result ≡ key.now }
+    {
+        SealingKey {
+            bytes: *key,
+            key: None,
+            last,
+            before,
+        }
+    }
+
+    /// Its bytes.
+    pub fn bytes(&self) -> &[u8; 32]
+        ensures { result.now ≡ self.now }
+    {
+        &self.bytes
+    }
+
+    /// The text that was sealed last, where it is remembered.
+    pub fn last(&self) -> Option<&Tagged>
+        ensures { IfSome result (λ it. it.now.tag.bytes ≡ hmac_of self.now it.now.text.items) }
+    {
+        match &self.last {
+            Some(tagged) => Some(tagged),
+            None => None,
+        }
+    }
+
+    /// The text that was sealed before that, where it is remembered.
+    pub fn before(&self) -> Option<&Tagged>
+        ensures { IfSome result (λ it. it.now.tag.bytes ≡ hmac_of self.now it.now.text.items) }
+    {
+        match &self.before {
+            Some(tagged) => Some(tagged),
+            None => None,
         }
     }
 
@@ -92,7 +135,18 @@ impl SealingKey {
     {
         match self.remembered(text) {
             Some(tag) => tag,
-            None => self.key.tag(text),
+            None => self.computed(text),
+        }
+    }
+
+    // The tag of a text, computed.
+    #[inline(always)]
+    fn computed(&self, text: &[u8]) -> Digest
+        ensures { result.bytes ≡ hmac_of self.now text.now }
+    {
+        match &self.key {
+            Some(key) => key.tag(text),
+            None => HmacKey::new(&self.bytes).tag(text),
         }
     }
 
@@ -105,21 +159,22 @@ impl SealingKey {
         match self.remembered(text) {
             Some(tag) => tag,
             None => {
-                let tag = self.key.tag(text);
-                remember(alloc, &mut self.last, text, &tag);
+                absorb(&mut self.key, &self.bytes);
+                let tag = self.computed(text);
+                remember(alloc, &mut self.last, &mut self.before, text, &tag);
                 tag
             }
         }
     }
 
-    // The tag of a text, where it is the one that is remembered.
+    // The tag of a text, where it is one that is remembered.
     #[inline(always)]
     fn remembered(&self, text: &[u8]) -> Option<Digest>
         ensures { IfSome result (λ tag. tag.bytes ≡ hmac_of self.now text.now) }
     {
-        match &self.last {
-            Some(tagged) => tagged.tag_of(text),
-            None => None,
+        match tag_in(&self.last, text) {
+            Some(tag) => Some(tag),
+            None => tag_in(&self.before, text),
         }
     }
 }
@@ -140,15 +195,47 @@ impl Tagged {
     }
 }
 
-// Remembers a text with its tag, in the memory of the one before. Where that is too little, and there is no more, nothing
-// is remembered.
-fn remember(alloc: Global, last: &mut Option<Tagged>, text: &[u8], tag: &Digest)
-    ensures { IfSome last.new (λ tagged. (tagged.tag ≡ tag.now) × (tagged.text.items ≡ text.now)) }
+// The tag of a text, where it is this one.
+#[inline(always)]
+fn tag_in(tagged: &Option<Tagged>, text: &[u8]) -> Option<Digest>
+    ensures some { IfSome result (λ tag. IsSome tagged.now) }
+    ensures tag { IfSome result (λ tag. IfSome tagged.now
+        (λ it. (tag ≡ it.tag) × (it.text.items ≡ text.now))) }
 {
-    let mut kept = match last.take() {
+    match tagged {
+        Some(tagged) => tagged.tag_of(text),
+        None => None,
+    }
+}
+
+// Absorbs the key, where it isn't yet.
+fn absorb(key: &mut Option<HmacKey>, bytes: &[u8; 32])
+    requires { IfSome key.old (λ key. key ≡ bytes.now) }
+    ensures { IfSome key.new (λ key. key ≡ bytes.now) }
+{
+    match key {
+        Some(_) => {}
+        None => *key = Some(HmacKey::new(bytes)),
+    }
+}
+
+// Remembers a text with its tag, and the one before, in the memory of the one before that. Where that is too little, and
+// there is no more, the text isn't remembered.
+fn remember(
+    alloc: Global,
+    last: &mut Option<Tagged>,
+    before: &mut Option<Tagged>,
+    text: &[u8],
+    tag: &Digest,
+)
+    ensures last { IfSome last.new (λ it. (it.tag ≡ tag.now) × (it.text.items ≡ text.now)) }
+    ensures before { before.new ≡ last.old }
+{
+    let mut kept = match before.take() {
         Some(Tagged { text, .. }) => text,
         None => Vec::new(alloc),
     };
+    *before = last.take();
     kept.clear();
     if kept.extend_from_slice(text).is_ok() {
         *last = Some(Tagged {

@@ -8,6 +8,7 @@ use crate::host::Hosted;
 use crate::outcome::Outcome;
 use crate::step::Made;
 use crate::told::Told;
+use mm_call::KeptKey;
 use mm_digest::Variant;
 use mm_model::{Answer, Refusal};
 use mm_module::Module;
@@ -16,8 +17,8 @@ use std::marker::Brand;
 
 /// What a call that asks for a request comes to with these steps made, of which the first was its first: its answer or
 /// refusal, once they are all of its steps; or the step that it makes next. It is over after at most five steps. It
-/// keeps nothing: after Next make the step, and call again with that one too. Memory may come at any time: call again
-/// with the same steps.
+/// keeps nothing but the key, absorbed, with what was sealed last, which changes no answer: after Next make the step, and
+/// call again with that one too. Memory may come at any time: call again with the same steps.
 pub fn ask<M: Module>(
     alloc: Global,
     variant: Variant,
@@ -25,14 +26,15 @@ pub fn ask<M: Module>(
     made: &[Made],
     offer: &[u8],
     request: &[u8],
+    keys: &mut KeptKey,
 ) -> Outcome<Result<Answer, Refusal>>
     ghost host: { Host }
     requires { AreMade host.stood made.now }
     ensures { AsksBy variant (M.meaning «module».now) host made.now offer.now request.now result }
 {
     match variant {
-        Variant::Basic => ask_basic::<Brand, M>(alloc, module, made, offer, request),
-        Variant::Opt => ask_opt::<Brand, M>(alloc, module, made, offer, request),
+        Variant::Basic => ask_basic::<Brand, M>(alloc, module, made, offer, request, keys),
+        Variant::Opt => ask_opt::<Brand, M>(alloc, module, made, offer, request, keys),
     }
 }
 
@@ -43,12 +45,13 @@ fn ask_basic<K: Hosted, M: Module>(
     made: &[Made],
     offer: &[u8],
     request: &[u8],
+    keys: &mut KeptKey,
 ) -> Outcome<Result<Answer, Refusal>>
     requires { AreMade K.host.stood made.now }
     ensures { AsksBy Basic (M.meaning «module».now) K.host made.now offer.now request.now result }
 {
     let mut told = Told::<K>::new(made);
-    let gives = mm_basic::ask(alloc, module, &mut told, offer, request);
+    let gives = mm_basic::ask_keeping(alloc, module, &mut told, offer, request, keys);
     told.reach().asked(gives)
 }
 
@@ -59,11 +62,12 @@ fn ask_opt<K: Hosted, M: Module>(
     made: &[Made],
     offer: &[u8],
     request: &[u8],
+    keys: &mut KeptKey,
 ) -> Outcome<Result<Answer, Refusal>>
     requires { AreMade K.host.stood made.now }
     ensures { AsksBy Opt (M.meaning «module».now) K.host made.now offer.now request.now result }
 {
     let mut told = Told::<K>::new(made);
-    let gives = mm_opt::ask(alloc, module, &mut told, offer, request);
+    let gives = mm_opt::ask_keeping(alloc, module, &mut told, offer, request, keys);
     told.reach().asked(gives)
 }

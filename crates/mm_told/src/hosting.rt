@@ -13,6 +13,7 @@ use crate::asking::ask;
 use crate::making::make;
 use crate::outcome::Outcome;
 use crate::step::Made;
+use mm_call::KeptKey;
 use mm_digest::Variant;
 use mm_model::{Answer, Refusal};
 use mm_module::Module;
@@ -32,7 +33,7 @@ pub fn ask_by_steps<M: Module, P: Platform>(
         (bare (P.standing platform.old)) (bare (P.standing platform.new)) offer.now
         (One request.now) (whole_in gives)) }
 {
-    begin(alloc, module, platform, offer, request)
+    begin(alloc, module, platform, offer, request, &mut KeptKey::new())
 }
 
 // Before the first step.
@@ -42,16 +43,17 @@ fn begin<M: Module, P: Platform>(
     platform: &mut P,
     offer: &[u8],
     request: &[u8],
+    keys: &mut KeptKey,
 ) -> Option<Result<Answer, Refusal>>
     ghost start: { Standing }
     requires { start ≡ bare (P.standing platform.old) }
     ensures { IfSome result (λ gives. AskedIn Basic (M.meaning «module».now) start
         (bare (P.standing platform.new)) offer.now (One request.now) (whole_in gives)) }
 {
-    match ask(alloc, Variant::Basic, module, &[], offer, request) {
+    match ask(alloc, Variant::Basic, module, &[], offer, request, keys) {
         Outcome::Ended(gives) => Some(gives),
         Outcome::Next(step) => match make(platform, &step) {
-            Ok(one) => go_on(alloc, module, platform, &one, offer, request),
+            Ok(one) => go_on(alloc, module, platform, &one, offer, request, keys),
             Err(_) => None,
         },
         Outcome::Differs => None,
@@ -67,6 +69,7 @@ fn go_on<M: Module, P: Platform>(
     one: &Made,
     offer: &[u8],
     request: &[u8],
+    keys: &mut KeptKey,
 ) -> Option<Result<Answer, Refusal>>
     ghost start: { Standing × Standing }
     requires here { start.1 ≡ bare (P.standing platform.old) }
@@ -74,10 +77,10 @@ fn go_on<M: Module, P: Platform>(
     ensures { IfSome result (λ gives. AskedIn Basic (M.meaning «module».now) (bare start.0)
         (bare (P.standing platform.new)) offer.now (One request.now) (whole_in gives)) }
 {
-    match ask(alloc, Variant::Basic, module, &[*one], offer, request) {
+    match ask(alloc, Variant::Basic, module, &[*one], offer, request, keys) {
         Outcome::Ended(gives) => Some(gives),
         Outcome::Next(step) => match make(platform, &step) {
-            Ok(two) => end(alloc, module, platform, &[*one, two], offer, request),
+            Ok(two) => end(alloc, module, platform, &[*one, two], offer, request, keys),
             Err(_) => None,
         },
         Outcome::Differs => None,
@@ -93,13 +96,14 @@ fn end<M: Module, P: Platform>(
     made: &[Made],
     offer: &[u8],
     request: &[u8],
+    keys: &mut KeptKey,
 ) -> Option<Result<Answer, Refusal>>
     ghost stood: { ℕ → Standing }
     requires { AreMade (λ left. bare (stood left)) made.now }
     ensures { IfSome result (λ gives. AskedIn Basic (M.meaning «module».now) (bare (stood (length made.now)))
         (bare (stood 0)) offer.now (One request.now) (whole_in gives)) }
 {
-    match ask(alloc, Variant::Basic, module, made, offer, request) {
+    match ask(alloc, Variant::Basic, module, made, offer, request, keys) {
         Outcome::Ended(gives) => Some(gives),
         _ => None,
     }
