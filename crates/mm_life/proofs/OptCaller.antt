@@ -115,26 +115,28 @@ lives_over_checkpoint law counted meaning lawful before started inits begun midd
       are = refl;
       life = life;
       goes = λ cell items slots here there honest kept whole whole'.
-          let i = opt meaning (take 32 begun.secrets) (drop 32 begun.secrets) in
+          let i : Instance = opt meaning (take 32 begun.secrets) (drop 32 begun.secrets) in
+          let stages : List Stage =
+          stages_around (session_stage started.store between first first' received told one middle) said closed empty
+          (session_stage between new second second' told received' two after) in
           let t = shown items there in
           let stands = begun.stands cell (item_values t.items) here (ap (λ xs. option_map item_values xs) t.tells) in
-          elim (clash_or i (opt_messages i started.platform _ life) (others_values i started.platform _ life)
-          (life_batches i started.platform _ life)) [
+          elim (clash_or i (opt_messages i started.platform stages life) (others_values i started.platform stages life)
+          (life_batches i started.platform stages life)) [
             | inl clash ↦ inr clash
             | inr fine ↦
-              let gone =
-              law meaning lawful (take 32 begun.secrets) (drop 32 begun.secrets) (item_values t.items) started.platform started.store
-              _ life stands (begun.honest ∙ honest) (begun.stores slots honest kept)
-              ((refl, refl), (tt, (tt, ((refl, refl), tt)))) fine.0 (fine.1 refl)
-              (
-                (λ is waiting waits slots shown. absurd (whole is)),
-                (tt, (tt, ((λ is waiting waits slots shown. absurd (whole' is)), tt))),
-              ) in
-              inl (
-                gone,
-                last_unlost _ _ _ meaning (take 32 begun.secrets) (drop 32 begun.secrets) started.platform closed empty _ _ _
-                    started.store said _ stands life gone,
-              )
+                let gone =
+                law meaning lawful (take 32 begun.secrets) (drop 32 begun.secrets) (item_values t.items) started.platform started.store
+                stages life stands (begun.honest ∙ honest) (begun.stores slots honest kept)
+                ((refl, refl), (tt, (tt, ((refl, refl), tt)))) fine.0 (fine.1 refl) (
+                  (λ is waiting waits slots shown. absurd (whole is)),
+                  (tt, (tt, ((λ is waiting waits slots shown. absurd (whole' is)), tt))),
+                ) in
+                inl (
+                  gone,
+                  last_unlost _ _ _ meaning (take 32 begun.secrets) (drop 32 begun.secrets) started.platform closed empty _ _ _
+                      started.store said _ stands life gone,
+                )
           ];
       writes = λ cell items here there.
           let t = shown items there in
