@@ -1,16 +1,20 @@
 -- A first start, a session, a loss of power, and a session over the same store, over any devices.
-use Rattle.std.proofs.Common.{◌∙◌, ℕ, List, [], ◌∷◌, Option, Result, refl, take}
+use Rattle.std.proofs.Common.{◌∙◌, ℕ, List, [], ◌∷◌, Option, Result, inl, inr, refl, take}
 use Rattle.mm_digest.specs.declared.variant.Variant.TheVariants.{Basic}
 use Rattle.mm_platform.specs.Standing.{Standing}
 use Rattle.mm_module.specs.Meaning.{IsLawful, Meaning}
 use Rattle.mm_store.specs.Kept.{StoreStanding}
+use Rattle.mm_model.specs.Instance.{Instance}
+use Rattle.mm_model.specs.InstanceWords.{basic}
+use Rattle.mm_evidence.proofs.Above.{clash_or}
 use Rattle.mm_recovery.specs.Begins.{Begins}
 use Rattle.mm_recovery.specs.Init.{Devices}
 use Rattle.mm_host.specs.declared.fault.SessionFault.{SessionFault}
 use Rattle.mm_life.specs.Deeds.{LosesPower}
 use Rattle.mm_life.specs.Honest.{BasicLifeGoesOn}
 use Rattle.mm_life.specs.OneStore.{LivesOnOneStore, session_stage}
-use Rattle.mm_life.specs.Stages.{Does, IsLife}
+use Rattle.mm_life.specs.Premises.{life_batches, life_messages}
+use Rattle.mm_life.specs.Stages.{Does, IsLife, Stage}
 use Rattle.mm_life.specs.Writes.{BasicLivesWriteOnce}
 
 pub lives_on_one_store : BasicLifeGoesOn → BasicLivesWriteOnce → (meaning : Meaning) → IsLawful meaning → (before started : Devices)
@@ -30,10 +34,22 @@ lives_on_one_store law counted meaning lawful before started begun middle empty 
       between = between;
       told = told;
       life = life;
-      goes = λ cell slots here honest shown f clear chance.
+      goes = λ cell slots here honest shown whole whole'.
+          let i : Instance = basic meaning (take 32 begun.secrets) in
+          let stages : List Stage =
+          session_stage started.store between first first' received told one middle
+          ∷ record { part = Does LosesPower; after = empty }
+          ∷ session_stage between new second second' told received' two after ∷ [] in
           let stands = begun.stands cell [] here refl in
-          let gone =
-          law meaning lawful (take 32 begun.secrets) started.platform started.store _ f stands (begun.honest ∙ honest)
-          (begun.stores slots honest shown) ((refl, refl), (tt, ((refl, refl), tt))) clear chance in
-          (gone, counted meaning (take 32 begun.secrets) _ started.platform _ f gone.after stands gone.follows);
+          elim (clash_or i (life_messages i started.platform stages life) [] (life_batches i started.platform stages life)) [
+            | inl clash ↦ inr clash
+            | inr fine ↦
+                let gone =
+                law meaning lawful (take 32 begun.secrets) started.platform started.store stages life stands (begun.honest ∙ honest)
+                (begun.stores slots honest shown) ((refl, refl), (tt, ((refl, refl), tt))) fine.0 (
+                  (λ is waiting waits slots shown. absurd (whole is)),
+                  (tt, ((λ is waiting waits slots shown. absurd (whole' is)), tt)),
+                ) in
+                inl (gone, counted meaning (take 32 begun.secrets) _ started.platform stages life gone.after stands gone.follows)
+          ];
     }

@@ -20,11 +20,13 @@ use Rattle.mm_opt.specs.declared.segment.CheckpointRefusal.{CheckpointRefusal}
 use Rattle.mm_opt.specs.declared.segment.Checkpointed.{Checkpointed}
 use Rattle.mm_store.specs.Kept.{StoreStanding}
 use Rattle.mm_store.specs.declared.fault.StoreFault.{StoreFault}
+use Rattle.mm_evidence.proofs.Above.{clash_or}
 use Rattle.mm_recovery.specs.Begins.{Begins}
 use Rattle.mm_recovery.specs.Init.{AfterLooking, AfterPuts, AfterTaking, Devices, Inits, SetsUp, instance_from}
 use Rattle.mm_host.specs.declared.fault.SessionFault.{SessionFault}
 use Rattle.mm_life.specs.Honest.{IsGoneOnWith, OptLifeGoesOn}
 use Rattle.mm_life.specs.OneStore.{IsUnlost, LivesOverCheckpoint, session_stage, stages_around}
+use Rattle.mm_life.specs.Premises.{life_batches, opt_messages, others_values}
 use Rattle.mm_life.specs.Stages.{Holds, IsLife, Program, Stage}
 use Rattle.mm_life.specs.Writes.{OptLivesWriteOnce}
 use Rattle.mm_life.proofs.Standings.{part_stands}
@@ -112,17 +114,30 @@ lives_over_checkpoint law counted meaning lawful before started inits begun midd
       stages = _;
       are = refl;
       life = life;
-      goes = λ cell items slots here there honest kept f clear apart chance.
+      goes = λ cell items slots here there honest kept whole whole'.
+          let i : Instance = opt meaning (take 32 begun.secrets) (drop 32 begun.secrets) in
+          let stages : List Stage =
+          stages_around (session_stage started.store between first first' received told one middle) said closed empty
+          (session_stage between new second second' told received' two after) in
           let t = shown items there in
           let stands = begun.stands cell (item_values t.items) here (ap (λ xs. option_map item_values xs) t.tells) in
-          let gone =
-          law meaning lawful (take 32 begun.secrets) (drop 32 begun.secrets) (item_values t.items) started.platform started.store _ f
-          stands (begun.honest ∙ honest) (begun.stores slots honest kept) ((refl, refl), (tt, (tt, ((refl, refl), tt)))) clear apart
-          chance in (
-            gone,
-            last_unlost _ _ _ meaning (take 32 begun.secrets) (drop 32 begun.secrets) started.platform closed empty _ _ _
-                started.store said _ stands f gone,
-          );
+          elim (clash_or i (opt_messages i started.platform stages life) (others_values i started.platform stages life)
+          (life_batches i started.platform stages life)) [
+            | inl clash ↦ inr clash
+            | inr fine ↦
+                let gone =
+                law meaning lawful (take 32 begun.secrets) (drop 32 begun.secrets) (item_values t.items) started.platform started.store
+                stages life stands (begun.honest ∙ honest) (begun.stores slots honest kept)
+                ((refl, refl), (tt, (tt, ((refl, refl), tt)))) fine.0 (fine.1 refl) (
+                  (λ is waiting waits slots shown. absurd (whole is)),
+                  (tt, (tt, ((λ is waiting waits slots shown. absurd (whole' is)), tt))),
+                ) in
+                inl (
+                  gone,
+                  last_unlost _ _ _ meaning (take 32 begun.secrets) (drop 32 begun.secrets) started.platform closed empty _ _ _
+                      started.store said _ stands life gone,
+                )
+          ];
       writes = λ cell items here there.
           let t = shown items there in
           counted meaning (take 32 begun.secrets) (drop 32 begun.secrets) _ started.platform _ life

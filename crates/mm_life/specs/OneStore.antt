@@ -1,7 +1,7 @@
 -- What a life over one store comes to, over any devices: a first start, a session, a loss of power,
 -- and a session over what the first one left; in Opt with a checkpoint before power is lost.
-use Rattle.std.specs.Prelude.{◌≡◌, ◌≢◌, ℕ, true, List, [], ◌∷◌, Option, Some, Result, Ok, Err, drop, take}
-use Rattle.mm_life.specs.Below.{Basic, Opt, Item, Standing, Meaning, basic, opt, AreNoGuards, IsClear, Slots, StoreStanding}
+use Rattle.std.specs.Prelude.{◌≡◌, ◌≢◌, ◌⊎◌, ℕ, true, List, [], ◌∷◌, Option, Some, Result, Ok, Err, drop, take}
+use Rattle.mm_life.specs.Below.{Basic, Opt, Item, Standing, Meaning, basic, opt, Slots, Store, StoreStanding}
 use Rattle.mm_life.specs.Below.{SessionFault, CheckpointRefusal, Checkpointed}
 use Rattle.mm_model.specs.declared.refusal.Refusal.TheVariants.{Lost}
 use Rattle.mm_recovery.specs.declared.fault.HostFault.TheVariants.{Refused}
@@ -9,7 +9,8 @@ use Rattle.mm_host.specs.declared.fault.SessionFault.TheVariants.{Host}
 use Rattle.mm_recovery.specs.Begins.{Begins}
 use Rattle.mm_recovery.specs.Init.{Devices}
 use Rattle.mm_life.specs.Deeds.{Checkpoints, LosesPower}
-use Rattle.mm_life.specs.Honest.{AreNoChance, IsGoneOnWith}
+use Rattle.mm_evidence.specs.Evidence.{HasClash}
+use Rattle.mm_life.specs.Honest.{IsGoneOnWith}
 use Rattle.mm_life.specs.Premises.{life_batches, life_messages, opt_messages, others_values}
 use Rattle.mm_life.specs.Stages.{Does, Holds, IsLife, Stage}
 use Rattle.mm_life.specs.Writes.{BasicWrites, WritesOnceEach, segments_turned}
@@ -30,18 +31,24 @@ session_stage old new left left' received received' result after = record {
   after = after;
 }
 
--- Such a life of Basic is gone on with, where no two messages of its calls share a digest; and the
--- cell is written once for each request that is told for the first time.
-abbrev pub IsGoneOnInBasic : Meaning → List ℕ → Standing → StoreStanding → List Stage → Type 0
-IsGoneOnInBasic meaning key start kept stages =
-    (f : IsLife Basic meaning start stages) →
-    IsClear (life_messages (basic meaning key) start stages f) →
-    AreNoChance Basic meaning start stages f →
-    (gone : IsGoneOnWith (life_messages (basic meaning key) start stages f) []
-    (life_batches (basic meaning key) start stages f) (basic meaning key) [] kept start stages f)
-    × BasicWrites meaning start stages f gone.after
+-- the store didn't fail
+abbrev pub KeepsStore : Result Unit SessionFault → Type 0
+KeepsStore result = result ≢ Err (Host Store)
 
--- It is one where the platform told its cell before the first start, and an honest store its slots.
+-- Such a life of Basic is gone on with, and the cell is written once for each request that is told
+-- for the first time. Or it gives evidence: two different messages of its calls have one digest, or
+-- the digest of one is zero.
+abbrev pub IsGoneOnInBasic : (meaning : Meaning) (key : List ℕ) (start : Standing)
+    (kept : StoreStanding) (stages : List Stage) → IsLife Basic meaning start stages → Type 0
+IsGoneOnInBasic meaning key start kept stages f =
+    ((gone : IsGoneOnWith (life_messages (basic meaning key) start stages f) []
+    (life_batches (basic meaning key) start stages f) (basic meaning key) [] kept start stages f)
+    × BasicWrites meaning start stages f gone.after)
+    ⊎ HasClash (basic meaning key) (life_messages (basic meaning key) start stages f) []
+    (life_batches (basic meaning key) start stages f)
+
+-- It is one, or gives evidence, where the platform told its cell before the first start, and an
+-- honest store its slots, and the store failed in neither session.
 pub record LivesOnOneStore (meaning : Meaning) (before : Devices) (after : Standing)
     (new : StoreStanding) (first first' second second' received received' : Option (List ℕ))
     (one two : Result Unit SessionFault) : Type 0 where
@@ -57,32 +64,33 @@ pub record LivesOnOneStore (meaning : Meaning) (before : Devices) (after : Stand
       ∷ session_stage between new second second' told received' two after ∷ [])
   pub goes : (cell : List ℕ) (slots : Slots) → before.platform.cell ≡ Some cell →
       before.store.is_honest ≡ true → before.store.slots ≡ Some slots →
+      KeepsStore one → KeepsStore two →
       IsGoneOnInBasic meaning (take 32 begun.secrets) started.platform started.store
       (session_stage started.store between first first' received told one middle
       ∷ record { part = Does LosesPower; after = empty }
-      ∷ session_stage between new second second' told received' two after ∷ [])
+      ∷ session_stage between new second second' told received' two after ∷ []) life
 
 -- behind a checkpoint that wasn't refused no session is refused as Lost
 abbrev pub IsUnlost : Result Checkpointed CheckpointRefusal → Result Unit SessionFault → Type 0
 IsUnlost (Ok it) result = result ≢ Err (Host (Refused Lost))
 IsUnlost (Err why) result = Unit {0}
 
--- Such a life of Opt is gone on with, where no two messages of its calls, or by which the
--- register's items went into it, share a digest, and no value of others is the guard of a request.
--- Its last session, behind a checkpoint that said this, ends so.
-abbrev pub IsGoneOnInOpt : Meaning → (key barrier : List ℕ) → Standing → StoreStanding → List Stage
+-- Such a life of Opt is gone on with, and its last session, behind a checkpoint that said this,
+-- ends so. Or it gives evidence: two different messages of its calls, or by which the register's
+-- items went into it, have one digest, or the digest of one is zero; or a value of others is the
+-- guard of a request.
+abbrev pub IsGoneOnInOpt : (meaning : Meaning) (key barrier : List ℕ) (start : Standing)
+    (kept : StoreStanding) (stages : List Stage) → IsLife Opt meaning start stages
     → Result Checkpointed CheckpointRefusal → Result Unit SessionFault → Type 0
-IsGoneOnInOpt meaning key barrier start kept stages said last =
-    (f : IsLife Opt meaning start stages) →
-    IsClear (opt_messages (opt meaning key barrier) start stages f) →
-    AreNoGuards barrier (others_values (opt meaning key barrier) start stages f)
-    (life_batches (opt meaning key barrier) start stages f) →
-    AreNoChance Opt meaning start stages f →
-    IsGoneOnWith (opt_messages (opt meaning key barrier) start stages f)
+IsGoneOnInOpt meaning key barrier start kept stages f said last =
+    (IsGoneOnWith (opt_messages (opt meaning key barrier) start stages f)
     (others_values (opt meaning key barrier) start stages f)
     (life_batches (opt meaning key barrier) start stages f) (opt meaning key barrier) [] kept start
     stages f
-    × IsUnlost said last
+    × IsUnlost said last)
+    ⊎ HasClash (opt meaning key barrier) (opt_messages (opt meaning key barrier) start stages f)
+    (others_values (opt meaning key barrier) start stages f)
+    (life_batches (opt meaning key barrier) start stages f)
 
 -- a checkpoint that said this, and a loss of power, between two sessions
 abbrev pub stages_around : Stage → Result Checkpointed CheckpointRefusal → (closed empty : Standing)
@@ -91,8 +99,9 @@ stages_around first said closed empty second =
     first ∷ record { part = Does (Checkpoints said); after = closed }
     ∷ record { part = Does LosesPower; after = empty } ∷ second ∷ []
 
--- It is one where the platform told its cell and its register's items before the first start, and
--- an honest store its slots; and the cell is written once for each segment opened or closed.
+-- It is one, or gives evidence, where the platform told its cell and its register's items before
+-- the first start, and an honest store its slots, and the store failed in neither session; and the
+-- cell is written once for each segment opened or closed.
 pub record LivesOverCheckpoint (meaning : Meaning) (before : Devices) (after : Standing)
     (new : StoreStanding) (first first' second second' received received' : Option (List ℕ))
     (one : Result Unit SessionFault) (said : Result Checkpointed CheckpointRefusal)
@@ -112,8 +121,9 @@ pub record LivesOverCheckpoint (meaning : Meaning) (before : Devices) (after : S
   pub goes : (cell : List ℕ) (items : List Item) (slots : Slots) →
       before.platform.cell ≡ Some cell → before.platform.items ≡ Some items →
       before.store.is_honest ≡ true → before.store.slots ≡ Some slots →
+      KeepsStore one → KeepsStore two →
       IsGoneOnInOpt meaning (take 32 begun.secrets) (drop 32 begun.secrets) started.platform
-      started.store stages said two
+      started.store stages life said two
   pub writes : (cell : List ℕ) (items : List Item) → before.platform.cell ≡ Some cell →
       before.platform.items ≡ Some items →
       WritesOnceEach started.platform stages (segments_turned started.platform stages)

@@ -2,9 +2,10 @@
 use Rattle.std.specs.List.{AllByRecursion}
 use Rattle.std.proofs.Common.{◌≡◌, ◌++◌, ℕ, List, [], ◌∷◌, Some, drop, refl, take, inl, inr}
 use Rattle.mm_digest.specs.declared.variant.Variant.TheVariants.{Basic, Opt}
+use Rattle.mm_evidence.proofs.Above.{clash_or}
 use Rattle.mm_life.specs.Deeds.{Calls, Checkpoints, Extends, LosesPower}
 use Rattle.mm_life.specs.Laws.{BasicLifeIsOne, LivesKeepPromises, OptLifeIsOne, SessionsOfferSlots}
-use Rattle.mm_life.specs.Premises.{AreUntagged, IsFirstUntagged, snapshots_of}
+use Rattle.mm_life.specs.Premises.{AreUntagged, IsFirstUntagged, life_batches, life_messages, opt_messages, others_values, snapshots_of}
 use Rattle.mm_life.specs.SessionCalls.{session_calls}
 use Rattle.mm_life.specs.Stages.{Does, Holds, IsLife, Part, PartLeads, Stage, part_calls}
 use Rattle.mm_life.specs.Staying.{IsNoCall}
@@ -95,9 +96,13 @@ module _ (are : CommandsAreLife) (keep : LivesKeepPromises) (offers : SessionsOf
       let l = are it Basic key key first_history after.platform commands stands run in
       record {
         are = l;
-        keeps = λ clear apart untagged.
-            let whole = one (meaning_of it) (any_is_lawful it) key after.platform l.stages l.life stands clear untagged in
-            record { whole = whole; kept = keep it Basic after.platform l.stages l.life whole.requests whole.follows };
+        keeps = λ untagged.
+            elim (clash_or i (life_messages i after.platform l.stages l.life) [] (life_batches i after.platform l.stages l.life)) [
+              | inl clash ↦ inr clash
+              | inr fine ↦
+                let whole = one (meaning_of it) (any_is_lawful it) key after.platform l.stages l.life stands fine.0 untagged in
+                inl (record { whole = whole; kept = keep it Basic after.platform l.stages l.life whole.requests whole.follows })
+            ];
         untagged = λ first.
             all_untagged offers i (first_slots i)
             (first_is_old i (basic_short (meaning_of it) (any_is_lawful it) key) first_history (begins.first [])) l.stages after.platform []
@@ -113,10 +118,15 @@ module _ (are : CommandsAreLife) (keep : LivesKeepPromises) (offers : SessionsOf
       let l = are it Opt key barrier (first_on values) after.platform commands stands run in
       record {
         are = l;
-        keeps = λ clear apart untagged.
-            let whole = one (meaning_of it) (any_is_lawful it) key barrier values after.platform l.stages l.life stands clear apart untagged
-            in
-            record { whole = whole; kept = keep it Opt after.platform l.stages l.life whole.requests whole.follows };
+        keeps = λ untagged.
+            elim (clash_or i (opt_messages i after.platform l.stages l.life) (others_values i after.platform l.stages l.life)
+            (life_batches i after.platform l.stages l.life)) [
+              | inl clash ↦ inr clash
+              | inr fine ↦
+                let whole = one (meaning_of it) (any_is_lawful it) key barrier values after.platform l.stages l.life stands fine.0
+                (fine.1 refl) untagged in
+                inl (record { whole = whole; kept = keep it Opt after.platform l.stages l.life whole.requests whole.follows })
+            ];
         untagged = λ first.
             all_untagged offers i (first_slots i)
             (first_is_old i (opt_short (meaning_of it) (any_is_lawful it) key barrier) (first_on []) (begins.first [])) l.stages

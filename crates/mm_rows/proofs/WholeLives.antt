@@ -25,9 +25,10 @@ use Rattle.mm_pages.specs.Cached.{Cached}
 use Rattle.mm_pages.specs.Sheets.{Sheets}
 use Rattle.mm_twocell.specs.Torn.{Torn}
 use Rattle.mm_twocell.specs.declared.pair.TwoCell.{TwoCell}
+use Rattle.mm_evidence.proofs.Above.{clash_or}
 use Rattle.mm_life.specs.Deeds.{Call, Checkpoints, Deed, LosesPower}
 use Rattle.mm_life.specs.Laws.{BasicLifeIsOne, OptLifeIsOne, SessionsOfferSlots}
-use Rattle.mm_life.specs.Premises.{IsFirstUntagged, IsUntagged, snapshots_of}
+use Rattle.mm_life.specs.Premises.{IsFirstUntagged, IsUntagged, life_batches, life_messages, opt_messages, others_values, snapshots_of}
 use Rattle.mm_life.specs.SessionCalls.{IsFirstOffered, session_calls}
 use Rattle.mm_life.specs.Stages.{Does, IsLife, Stage}
 use Rattle.mm_rows.specs.Devices.{kept_in_pages, two_cells}
@@ -135,22 +136,33 @@ module _ (meaning : Meaning) (lawful : IsLawful meaning) (offers : SessionsOffer
         copy_untagged offers B issued before (two_cells after) copy new (Some second) (Some second') (Some between) (Some received') two s
         old
 
-    whole_on_copy : IsWholeInBasic B start One (Two ∷ []) copy.device.slots
-    whole_on_copy f clear old =
+    whole_on_copy : (f : IsLife Basic meaning (two_cells start) (One ∷ Two ∷ []))
+        → IsWholeInBasic B start One (Two ∷ []) copy.device.slots f
+    whole_on_copy f old =
         let issued : List (List ℕ) = Issued (snapshots_of (session_calls f.0)) in
-        basic_one meaning lawful key (two_cells start) (One ∷ Two ∷ []) f (starts.stands [] refl) clear
-        (first_session f.0, (second_session (two_cells middle) issued f.1.0 old, tt))
+        elim (clash_or B (life_messages B (two_cells start) (One ∷ Two ∷ []) f) [] (life_batches B (two_cells start) (One ∷ Two ∷ []) f)) [
+          | inl clash ↦ inr clash
+          | inr fine ↦
+            inl (basic_one meaning lawful key (two_cells start) (One ∷ Two ∷ []) f (starts.stands [] refl) fine.0
+            (first_session f.0, (second_session (two_cells middle) issued f.1.0 old, tt)))
+        ]
 
     pub lives_on_copy : IsLife Basic meaning (two_cells start) (One ∷ Two ∷ [])
         → LivesOnCopy meaning after copy new entropy entropy' first first' second second' received received' one two
     lives_on_copy f =
-        record { begun = begins Basic starts; life = f; whole = whole_on_copy; first_is_old = basic_old }
+        record { begun = begins Basic starts; life = f; whole = whole_on_copy f; first_is_old = basic_old }
 
-    whole_without_power : (empty : Standing) → IsWholeInBasic B start One (deed_stage LosesPower empty ∷ Two ∷ []) copy.device.slots
-    whole_without_power empty f clear old =
+    whole_without_power : (empty : Standing) (f : IsLife Basic meaning (two_cells start) (One ∷ deed_stage LosesPower empty ∷ Two ∷ []))
+        → IsWholeInBasic B start One (deed_stage LosesPower empty ∷ Two ∷ []) copy.device.slots f
+    whole_without_power empty f old =
+        let stages : List Stage = One ∷ deed_stage LosesPower empty ∷ Two ∷ [] in
         let issued : List (List ℕ) = Issued (snapshots_of (session_calls f.0)) in
-        basic_one meaning lawful key (two_cells start) (One ∷ deed_stage LosesPower empty ∷ Two ∷ []) f (starts.stands [] refl) clear
-        (first_session f.0, (tt, (rw (append-nil issued) (second_session empty issued f.1.1.0 old), tt)))
+        elim (clash_or B (life_messages B (two_cells start) stages f) [] (life_batches B (two_cells start) stages f)) [
+          | inl clash ↦ inr clash
+          | inr fine ↦
+            inl (basic_one meaning lawful key (two_cells start) stages f (starts.stands [] refl) fine.0
+            (first_session f.0, (tt, (rw (append-nil issued) (second_session empty issued f.1.1.0 old), tt))))
+        ]
 
     pub lives_without_power : (empty : Standing)
         → IsLife Basic meaning (two_cells start) (One ∷ deed_stage LosesPower empty ∷ Two ∷ [])
@@ -159,7 +171,7 @@ module _ (meaning : Meaning) (lawful : IsLawful meaning) (offers : SessionsOffer
       begun = begins Basic starts;
       empty = empty;
       life = f;
-      whole = whole_without_power empty;
+      whole = whole_without_power empty f;
       first_is_old = basic_old;
     }
 
@@ -170,25 +182,32 @@ module _ (meaning : Meaning) (lawful : IsLawful meaning) (offers : SessionsOffer
     opt_old : FirstSlotsAreOld O
     opt_old = first_is_old O (opt_short meaning lawful (take 32 starts.secrets) (drop 32 starts.secrets)) (first_on []) (starts.first [])
 
-    whole_checkpointed : (said : Result Checkpointed CheckpointRefusal) (closed : Standing) (values : List (List ℕ))
+    whole_checkpointed : (said : Result Checkpointed CheckpointRefusal) (closed : Standing)
+        (f : IsLife Opt meaning (two_cells start) (One ∷ deed_stage (Checkpoints said) closed ∷ Two ∷ [])) (values : List (List ℕ))
         → ShowsValues Opt (two_cells start) values
-        → IsWholeInOpt O start One (deed_stage (Checkpoints said) closed ∷ Two ∷ []) copy.device.slots
-    whole_checkpointed said closed values shows f clear apart old =
+        → IsWholeInOpt O start One (deed_stage (Checkpoints said) closed ∷ Two ∷ []) copy.device.slots f
+    whole_checkpointed said closed f values shows old =
+        let stages : List Stage = One ∷ deed_stage (Checkpoints said) closed ∷ Two ∷ [] in
         let none : List (List ℕ) = issued_bytes O first_history ∷ [] in
         let issued : List (List ℕ) = issued_bytes O first_history ∷ snapshots_of (session_calls f.0) in
-        opt_one meaning lawful (take 32 starts.secrets) (drop 32 starts.secrets) values (two_cells start)
-        (One ∷ deed_stage (Checkpoints said) closed ∷ Two ∷ []) f (starts.stands values shows) clear apart (
-          start_untagged offers O none (two_cells start) (two_cells middle) pages left_pages (Some first) (Some first') (Some received)
-              (Some between) one f.0 (first_slots O) starts.slots (opt_old []),
-          (
-            tt,
-            (
-              rw (append-nil issued) (copy_untagged offers O issued closed (two_cells after) copy new (Some second) (Some second')
-                  (Some between) (Some received') two f.1.1.0 old),
-              tt,
-            ),
-          ),
-        )
+        elim (clash_or O (opt_messages O (two_cells start) stages f) (others_values O (two_cells start) stages f)
+        (life_batches O (two_cells start) stages f)) [
+          | inl clash ↦ inr clash
+          | inr fine ↦
+            inl (opt_one meaning lawful (take 32 starts.secrets) (drop 32 starts.secrets) values (two_cells start) stages f
+            (starts.stands values shows) fine.0 (fine.1 refl) (
+              start_untagged offers O none (two_cells start) (two_cells middle) pages left_pages (Some first) (Some first')
+                  (Some received) (Some between) one f.0 (first_slots O) starts.slots (opt_old []),
+              (
+                tt,
+                (
+                  rw (append-nil issued) (copy_untagged offers O issued closed (two_cells after) copy new (Some second) (Some second')
+                      (Some between) (Some received') two f.1.1.0 old),
+                  tt,
+                ),
+              ),
+            ))
+        ]
 
     pub lives_checkpointed : (said : Result Checkpointed CheckpointRefusal) (closed : Standing)
         → IsLife Opt meaning (two_cells start) (One ∷ deed_stage (Checkpoints said) closed ∷ Two ∷ [])
@@ -197,6 +216,6 @@ module _ (meaning : Meaning) (lawful : IsLawful meaning) (offers : SessionsOffer
       begun = begins Opt starts;
       closed = closed;
       life = f;
-      whole = whole_checkpointed said closed;
+      whole = whole_checkpointed said closed f;
       first_is_old = opt_old;
     }

@@ -1,14 +1,14 @@
 -- What a module promises holds of the commands of the program, run one after another.
-use Rattle.std.specs.Prelude.{◌≡◌, ℕ, List, [], ◌∷◌, Some}
+use Rattle.std.specs.Prelude.{◌≡◌, ◌⊎◌, ℕ, List, [], ◌∷◌, Some}
 use Rattle.std.specs.List.{AllByRecursion}
 use Rattle.mm_digest.specs.declared.variant.Variant.TheVariants.{Basic, Opt}
+use Rattle.mm_evidence.specs.Evidence.{HasClash}
 use Rattle.mm_life.specs.Laws.{issued_over}
 use Rattle.mm_life.specs.OneList.{IsOneWhole, life_replies}
 use Rattle.mm_life.specs.Premises.{AreUntagged, life_batches, life_messages, opt_messages, others_values}
 use Rattle.mm_life.specs.Stages.{IsLife, Stage}
 use Rattle.mm_model.specs.History.{first_history}
 use Rattle.mm_model.specs.Instance.{Instance}
-use Rattle.mm_model.specs.Messages.{AreNoGuards, IsClear}
 use Rattle.mm_model.specs.Standing.{issued_bytes}
 use Rattle.mm_module.specs.Batch.{Batch}
 use Rattle.mm_modules.specs.Modules.{meaning_of}
@@ -32,8 +32,9 @@ pub record KeepsPromise (it : AnyModule) (i : Instance) (all others : List (List
   pub whole : IsOneWhole all others asked i (issued_over i start stages f) start stages f
   pub kept : Promises it whole.requests (life_replies i.variant i.meaning start stages f)
 
--- The commands are a life. It keeps the promise where this holds, which says that messages share no
--- digest, and where nobody else made a tag of what a store offers first; or the store holds the
+-- The commands are a life. Where nobody else made a tag of what a store offers first, it keeps the
+-- promise, or gives evidence: two different of these messages have one digest, or the digest of one
+-- is zero, or one of these values is the guard of a request. So it is where each store holds the
 -- first slots again.
 pub record LivesWell (it : AnyModule) (i : Instance) (start : Standing) (commands : List Ran)
     (messages : (stages : List Stage) → IsLife i.variant i.meaning start stages → List (List ℕ))
@@ -41,16 +42,14 @@ pub record LivesWell (it : AnyModule) (i : Instance) (start : Standing) (command
     : Type 0 where
   pub are : AreLife i.variant i.meaning start commands
   pub open are use *
-  pub keeps : IsClear (messages stages life) →
-      AreNoGuards i.barrier (others stages life) (life_batches i start stages life) →
-      AreUntagged i (issued_bytes i first_history ∷ []) start stages life →
+  pub keeps : AreUntagged i (issued_bytes i first_history ∷ []) start stages life →
       KeepsPromise it i (messages stages life) (others stages life)
       (life_batches i start stages life) start stages life
+      ⊎ HasClash i (messages stages life) (others stages life) (life_batches i start stages life)
   pub untagged : HoldFirstSlots i commands →
       AreUntagged i (issued_bytes i first_history ∷ []) start stages life
 
--- In Basic, behind a first start that began an instance, whatever commands are run: with the first
--- slots put back before each of them, nothing but clear messages is asked.
+-- In Basic, behind a first start that began an instance, whatever commands are run.
 abbrev pub BasicCommandsKeepPromises : Type 0
 BasicCommandsKeepPromises =
     (it : AnyModule) (before after : Devices) (begins : Begins Basic (meaning_of it) before after)
@@ -60,7 +59,7 @@ BasicCommandsKeepPromises =
     LivesWell it i after.platform commands
     (λ stages f. life_messages i after.platform stages f) (λ stages f. []))
 
--- In Opt too, from the values that the register showed, where no value of others is a guard.
+-- In Opt too, from the values that the register showed.
 abbrev pub OptCommandsKeepPromises : Type 0
 OptCommandsKeepPromises =
     (it : AnyModule) (before after : Devices) (begins : Begins Opt (meaning_of it) before after)

@@ -1,12 +1,11 @@
 -- What lives over devices in memory come to: a first start, and two sessions, the second over a
 -- copy in the pages' place.
-use Rattle.std.specs.Prelude.{◌≡◌, ℕ, List, [], ◌∷◌, ◌++◌, Option, Some, Result, length}
+use Rattle.std.specs.Prelude.{◌≡◌, ◌⊎◌, ℕ, List, [], ◌∷◌, ◌++◌, Option, Some, Result, length}
 use Rattle.mm_digest.specs.declared.variant.Variant.TheVariants.{Basic, Opt}
 use Rattle.mm_platform.specs.Standing.{Standing}
 use Rattle.mm_module.specs.Meaning.{Meaning}
 use Rattle.mm_model.specs.History.{first_history}
 use Rattle.mm_model.specs.Instance.{Instance}
-use Rattle.mm_model.specs.Messages.{AreNoGuards, IsClear}
 use Rattle.mm_model.specs.Standing.{issued_bytes}
 use Rattle.mm_opt.specs.declared.segment.CheckpointRefusal.{CheckpointRefusal}
 use Rattle.mm_opt.specs.declared.segment.Checkpointed.{Checkpointed}
@@ -21,6 +20,7 @@ use Rattle.mm_pages.specs.Cached.{Cached}
 use Rattle.mm_pages.specs.Sheets.{Sheets}
 use Rattle.mm_twocell.specs.Torn.{Torn}
 use Rattle.mm_twocell.specs.declared.pair.TwoCell.{TwoCell}
+use Rattle.mm_evidence.specs.Evidence.{HasClash}
 use Rattle.mm_life.specs.Deeds.{Checkpoints, LosesPower}
 use Rattle.mm_life.specs.Laws.{issued_over}
 use Rattle.mm_life.specs.OneList.{IsOneWhole}
@@ -61,12 +61,13 @@ pub record BeginsLife (entropy entropy' : List ℕ) : Type 0 where
   pub left_pages : Cached Sheets
   pub between : List ℕ
 
--- Behind a first session of it a life is one whole, where no two of its messages share a digest and
--- the copy in the pages' place is an old one. Nothing else is asked in Basic.
-abbrev pub IsWholeInBasic : Instance → TwoCell Torn → Stage → List Stage → Slots → Type 0
-IsWholeInBasic i start stage stages copy =
-    (f : IsLife i.variant i.meaning (two_cells start) (stage ∷ stages)) →
-    IsClear (life_messages i (two_cells start) (stage ∷ stages) f) →
+-- Behind a first session of it, where the copy in the pages' place is an old one, a life is one
+-- whole, or gives evidence: two different of its messages have one digest, or the digest of one is
+-- zero. Nothing else is asked in Basic.
+abbrev pub IsWholeInBasic : (i : Instance) (start : TwoCell Torn) (stage : Stage)
+    (stages : List Stage) (copy : Slots)
+    → IsLife i.variant i.meaning (two_cells start) (stage ∷ stages) → Type 0
+IsWholeInBasic i start stage stages copy f =
     IsOldCopy i
     (issued_bytes i first_history
     ∷ snapshots_of (part_calls i.variant i.meaning (two_cells start) stage.part stage.after f.0))
@@ -74,14 +75,14 @@ IsWholeInBasic i start stage stages copy =
     IsOneWhole (life_messages i (two_cells start) (stage ∷ stages) f) []
     (life_batches i (two_cells start) (stage ∷ stages) f) i
     (issued_over i (two_cells start) (stage ∷ stages) f) (two_cells start) (stage ∷ stages) f
+    ⊎ HasClash i (life_messages i (two_cells start) (stage ∷ stages) f) []
+    (life_batches i (two_cells start) (stage ∷ stages) f)
 
--- In Opt besides, that no value of others is the guard of a request.
-abbrev pub IsWholeInOpt : Instance → TwoCell Torn → Stage → List Stage → Slots → Type 0
-IsWholeInOpt i start stage stages copy =
-    (f : IsLife i.variant i.meaning (two_cells start) (stage ∷ stages)) →
-    IsClear (opt_messages i (two_cells start) (stage ∷ stages) f) →
-    AreNoGuards i.barrier (others_values i (two_cells start) (stage ∷ stages) f)
-    (life_batches i (two_cells start) (stage ∷ stages) f) →
+-- In Opt it is evidence too that a value of others is the guard of a request.
+abbrev pub IsWholeInOpt : (i : Instance) (start : TwoCell Torn) (stage : Stage)
+    (stages : List Stage) (copy : Slots)
+    → IsLife i.variant i.meaning (two_cells start) (stage ∷ stages) → Type 0
+IsWholeInOpt i start stage stages copy f =
     IsOldCopy i
     (issued_bytes i first_history
     ∷ snapshots_of (part_calls i.variant i.meaning (two_cells start) stage.part stage.after f.0))
@@ -90,9 +91,12 @@ IsWholeInOpt i start stage stages copy =
     (others_values i (two_cells start) (stage ∷ stages) f)
     (life_batches i (two_cells start) (stage ∷ stages) f) i
     (issued_over i (two_cells start) (stage ∷ stages) f) (two_cells start) (stage ∷ stages) f
+    ⊎ HasClash i (opt_messages i (two_cells start) (stage ∷ stages) f)
+    (others_values i (two_cells start) (stage ∷ stages) f)
+    (life_batches i (two_cells start) (stage ∷ stages) f)
 
 -- The slots of the first start are an old copy, whatever else was issued: so where they are put
--- back, of all premises that on the digests is left.
+-- back, no premise is left.
 abbrev pub FirstSlotsAreOld : Instance → Type 0
 FirstSlotsAreOld i =
     (more : List (List ℕ)) → IsOldCopy i (issued_bytes i first_history ∷ more) (first_slots i)
@@ -108,7 +112,7 @@ pub record LivesOnCopy (meaning : Meaning) (after : TwoCell Torn) (copy new : Ca
       ∷ session_stage copy new second second' between received' two after ∷ [])
   pub whole : IsWholeInBasic (instance_from Basic meaning secrets) start
       (session_stage pages left_pages first first' received between one middle)
-      (session_stage copy new second second' between received' two after ∷ []) copy.device.slots
+      (session_stage copy new second second' between received' two after ∷ []) copy.device.slots life
   pub first_is_old : FirstSlotsAreOld (instance_from Basic meaning secrets)
 
 -- The same with a loss of power between the two.
@@ -126,6 +130,7 @@ pub record LivesWithoutPower (meaning : Meaning) (after : TwoCell Torn) (copy ne
       (session_stage pages left_pages first first' received between one middle)
       (record { part = Does LosesPower; after = empty }
       ∷ session_stage copy new second second' between received' two after ∷ []) copy.device.slots
+      life
   pub first_is_old : FirstSlotsAreOld (instance_from Basic meaning secrets)
 
 -- A life of Opt with a checkpoint between the two, from the values that the register showed at the
@@ -146,4 +151,5 @@ pub record LivesCheckpointed (meaning : Meaning) (after : TwoCell Torn) (copy ne
       (session_stage pages left_pages first first' received between one middle)
       (record { part = Does (Checkpoints said); after = closed }
       ∷ session_stage copy new second second' between received' two after ∷ []) copy.device.slots
+      life
   pub first_is_old : FirstSlotsAreOld (instance_from Opt meaning secrets)

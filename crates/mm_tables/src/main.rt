@@ -1,5 +1,5 @@
-//! Plays the tables of its input, of commands over devices in memory. It writes each title with the number of cases
-//! that came out as they stand in the table, and each case that didn't; and then what faults say.
+//! Plays the tables of the files that its arguments name, of commands over devices in memory. It writes each title with
+//! the number of cases that came out as they stand in the table, and each case that didn't; and then what faults say.
 #![tactic(auto)]
 
 mod broken;
@@ -21,24 +21,40 @@ use crate::notes::Notes;
 use crate::table::play_tables;
 use mm_base::Memory;
 use std::alloc::AllocError;
-use std::io;
 use std::io::Write;
+use std::{env, fs, io};
 
-// The text of the input. `⇥` stands for a tabulator in it, `␣` for a space at a line's end, and `␡` for the byte 127.
-fn text_of(rt: &HostRuntime) -> io::Result<String> {
-    let text = io::read_to_string(rt.alloc(), rt.reader())?;
+// The text of a file. `⇥` stands for a tabulator in it, `␣` for a space at a line's end, and `␡` for the byte 127.
+fn text_of(rt: &HostRuntime, name: &str) -> io::Result<String> {
+    let text = fs::read_to_string(rt, name)?;
     let text = text.as_str().replace(rt.alloc(), "⇥", "\t")?;
     let text = text.as_str().replace(rt.alloc(), "␡", "\u{7f}")?;
     Ok(text.as_str().replace(rt.alloc(), "␣", " ")?)
 }
 
-// Plays the tables of the input, and writes what came of them.
-fn tell_tables(rt: &HostRuntime, notes: &mut Notes) -> io::Result<()> {
-    let text = text_of(rt)?;
+// The names of the files.
+fn names(rt: &HostRuntime) -> io::Result<Vec<String>> {
+    let mut words = env::args(rt)?;
+    let _ = words.next();
+    Ok(words.collect(rt.alloc())?)
+}
+
+// Plays the tables of a file.
+fn play_file(rt: &HostRuntime, notes: &mut Notes, name: &str) -> io::Result<()> {
+    let text = text_of(rt, name)?;
     match play_tables(notes, text.as_str()) {
-        Ok(()) => io::writer(rt).write_all(notes.text()),
+        Ok(()) => Ok(()),
         Err(Memory) => Err(io::Error::from(AllocError)),
     }
+}
+
+// Plays the tables of each file, and writes what came of them.
+fn tell_tables(rt: &HostRuntime, notes: &mut Notes) -> io::Result<()> {
+    let names = names(rt)?;
+    for name in names.iter() {
+        play_file(rt, notes, name.as_str())?;
+    }
+    io::writer(rt).write_all(notes.text())
 }
 
 // Writes what faults say.
