@@ -4,3 +4,4 @@ pub use Rattle.mm_opt.proofs.Asked.{asked}
 pub use Rattle.mm_opt.proofs.Checking.{checks_on}
 pub use Rattle.mm_opt.proofs.Completeness.{found_right}
 pub use Rattle.mm_opt.proofs.Finishing.{calls_finished, finished_to}
+pub use Rattle.mm_opt.proofs.Told.{begun_asks, is_quiet}

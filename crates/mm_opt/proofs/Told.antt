@@ -1,17 +1,13 @@
--- What the machine makes of a call: its reading steps, its turns, and its end.
-use Rattle.mm_opt.proofs.Below.{◌≡◌, ℕ, Bool, true, false, List, [], ◌∷◌, Option, None, Some, Result, Ok, Err, refl, sym, ap, ◌∙◌, subst}
-use Rattle.mm_opt.proofs.Below.{inl, inr, Opt, StepFault, Standing, Act, Goes, ReadCell, ReadRegister, Meaning, Batch, Cell, BatchAnswer}
-use Rattle.mm_opt.proofs.Below.{Refusal, OrMemory, fault_in, acts_left, act_in, change_after, Begun, Seen, Changing, Found, Repeat, Change}
-use Rattle.mm_opt.proofs.Below.{Ready, Stage, Finishes, Reads, ReadsOwnCell, ReadsRegister, MakesRoom, found_in}
+-- What the machine makes of a call: its reading steps, and those that commit what they found.
+use Rattle.mm_opt.proofs.Below.{◌≡◌, ℕ, Bool, true, false, List, [], ◌∷◌, None, Some, Result, Ok, Err, refl, sym, ap, subst, inl, inr}
+use Rattle.mm_opt.proofs.Below.{Opt, StepFault, Standing, Act, Goes, ReadCell, ReadRegister, Meaning, Batch, Cell, BatchAnswer, Refusal}
+use Rattle.mm_opt.proofs.Below.{OrMemory, fault_in, acts_left, Begun, Found, Change, Ready, Finishes, Reads, ReadsOwnCell}
+use Rattle.mm_opt.proofs.Below.{ReadsRegister, MakesRoom, found_in, AsksTo, Ended}
 use Rattle.mm_model.specs.declared.refusal.Refusal.TheVariants.{Memory}
 use Rattle.mm_machine.specs.Asked.{Asked}
 use Rattle.mm_machine.specs.Finishing as machine
 use Rattle.mm_machine.specs.Reading as reading
-use Rattle.mm_machine.specs.Stepping as stepping
 use Rattle.mm_machine.specs.declared.call.Ended.{Ended as End}
-use Rattle.mm_machine.specs.declared.call.Step.{Step}
-use Rattle.mm_machine.specs.declared.call.Step.TheVariants.{Over}
-use Rattle.mm_machine.specs.declared.change.Change as change
 use Rattle.mm_machine.specs.declared.operation.Sight.{Sight}
 use Rattle.mm_machine.specs.declared.operation.Sight.TheVariants as sight
 use Rattle.mm_machine.specs.declared.reading.Halt.{Halt}
@@ -20,40 +16,15 @@ use Rattle.mm_call.specs.Calls.{Commits}
 use Rattle.mm_call.specs.Ended.{result_of}
 use Rattle.mm_call.specs.Machine.{end_told, found_told, halt_told}
 use Rattle.mm_call.specs.Refusals.{handed_on}
-use Rattle.mm_call.proofs.Above.{acts_told, asks_told, ends_told, refused_result}
-use Rattle.mm_opt.specs.Asking.{opt_asked}
-use Rattle.mm_opt.specs.Asks.{IsMade, LeavesRoom, opt_call}
+use Rattle.mm_call.proofs.Above.{IsQuiet, acts_told, asks_told}
+use Rattle.mm_opt.specs.Operating.{opt_asked}
+use Rattle.mm_opt.specs.Asks.{IsMade, opt_call}
 use Rattle.mm_opt.specs.Steps.{RoomFor}
-use Rattle.mm_opt.specs.Turns as turns
-use Rattle.mm_opt.specs.declared.call.Turn.TheVariants as turn
 use Rattle.mm_opt.proofs.Findings.{or_then}
 
 no_fault_or : (found : Found) (result : Result Found Refusal) → OrMemory (Ok found) result → fault_in result ≡ None
 no_fault_or found result o =
     elim o [ inl e ↦ ap (λ (r : Result Found Refusal). fault_in r) e | inr e ↦ ap (λ (r : Result Found Refusal). fault_in r) e ]
-
--- the room behind what was found
-pub leaves_told : (found : Result Found (Halt Refusal)) (standing : Standing) → reading.LeavesRoom found standing
-    → LeavesRoom (found_told found) standing
-leaves_told (Err why) standing r = tt
-leaves_told (Ok (Repeat answer)) standing r = tt
-leaves_told (Ok (Change ready)) standing r = r
-
--- what a turn gives where reading came to nothing, or something was found
-refused_turn : (why : Halt Refusal) → turns.turn_told (Over (stepping.ended_by why)) ≡ turn.Refused (halt_told why)
-refused_turn (Fault fault) = refl
-refused_turn (Refused why) = ap turns.given_turn (refused_result why)
-refused_turn Lacks = refl
-
-found_turned : (found : Result Found (Halt Refusal)) → turns.turn_told (stepping.step_found found) ≡ turns.found_turn (found_told found)
-found_turned (Err why) = refused_turn why
-found_turned (Ok (Repeat answer)) = refl
-found_turned (Ok (Change ready)) = refl
-
-made_turned : (next : Option change.Change) (answer : BatchAnswer)
-    → turns.turn_told (stepping.step_to next answer) ≡ turns.made_turn answer (Ok next)
-made_turned None answer = refl
-made_turned (Some next) answer = refl
 
 module _ (meaning : Meaning) (offer : List ℕ) (b : Batch) where
   abbrev pub asked : Asked BatchAnswer Refusal
@@ -155,58 +126,21 @@ module _ (meaning : Meaning) (offer : List ℕ) (b : Batch) where
       → Reads meaning old new offer b (found_told given)
   reads_told old new given r = reads_by r.seen given old r.middle new r.looks r.on
 
-  -- one turn
-  first_turns : (seen : Result (Sight BatchAnswer) (Halt Refusal)) (old middle new : Standing) (step : Step BatchAnswer Refusal)
-      → reading.Looks asked old middle seen → stepping.SightLeads seen middle new step
-      → turns.Turns meaning Begun old new offer b (turns.turn_told step)
-  first_turns (Err why) old middle new step l s = record {
-    outcome = Err (halt_told why);
-    step = subst (λ (x : Standing). ReadsOwnCell meaning.id old x (Err (halt_told why))) (sym s.0) (looked_refused why old middle l);
-    gives = ap turns.turn_told s.1 ∙ refused_turn why;
-  }
-  first_turns (Ok (sight.Found found)) old middle new step l s = absurd l.1.said
-  first_turns (Ok (sight.Cell cell)) old middle new step l s = record {
-    outcome = Ok cell;
-    step = subst (λ (x : Standing). ReadsOwnCell meaning.id old x (Ok cell)) (sym s.0) (looked cell old middle l);
-    gives = ap turns.turn_told s.1;
+  pub is_quiet : IsQuiet asked
+  is_quiet = record {
+    sees = λ bytes why s. s.1;
+    finds = λ cell register why f. f.quiet;
+    tells = λ answer. refl;
   }
 
-  change_turns : (fault : Option StepFault) (ready : Ready) (old new : Standing) (step : Step BatchAnswer Refusal)
-      → Goes (act_in ready.change) old new fault → step ≡ stepping.step_made asked ready fault
-      → turns.Changes ready old new (turns.turn_told step)
-  change_turns None ready old new step g e = record {
-    outcome = Ok (change_after ready.change);
-    step = record { goes = g; gives = refl };
-    gives = ap turns.turn_told e ∙ made_turned (change_after ready.change) ready.answer;
-  }
-  change_turns (Some fault) ready old new step g e =
-      record { outcome = Err fault; step = record { goes = g; gives = tt }; gives = ap turns.turn_told e }
-
-  pub turns_told : (stage : Stage) (old new : Standing) (step : Step BatchAnswer Refusal) → stepping.Steps asked stage old new step
-      → turns.Turns meaning stage old new offer b (turns.turn_told step)
-  turns_told Begun old new step s = first_turns s.seen old s.middle new step s.looks s.leads
-  turns_told (Seen cell) old new step s = record {
-    outcome = found_told s.found;
-    step = weighs_told cell old new s.found s.finds;
-    gives = ap turns.turn_told s.gives ∙ found_turned s.found;
-  }
-  turns_told (Changing ready) old new step s = change_turns s.fault ready old new step s.goes s.gives
-
-  -- what is left
-  pub finishes_told : (stage : Stage) (old new : Standing) (end : End BatchAnswer Refusal) → machine.Finishes asked stage old new end
-      → Finishes meaning stage old new offer b (end_told end)
-  finishes_told Begun old new end f =
-      asks_told asked (λ answer. refl) Opt Reads (reading.Reads asked old) meaning old new offer b end
+  -- a call from its first step to its end
+  pub begun_asks : (old new : Standing) (ended : Ended) → Finishes meaning Begun old new offer b ended
+      → AsksTo opt_call meaning old new offer b ended
+  begun_asks old new ended f =
+      rw f.gives
+      (asks_told asked (λ answer. refl) Opt Reads (reading.Reads asked old) meaning old new offer b f.end
       (λ (middle : Standing) (found : Result Found (Halt Refusal)) (r : reading.Reads asked old middle found). reads_told old middle found r)
-      f
-  finishes_told (Seen cell) old new end f = record {
-    middle = f.middle;
-    found = found_told f.found;
-    reads = weighs_told cell old f.middle f.found f.finds;
-    ends = ends_told asked (λ answer. refl) Opt Reads f.found f.middle new end f.ends;
-  }
-  finishes_told (Changing ready) old new end f =
-      acts_told asked (λ answer. refl) (acts_left ready.change) ready.answer old new end f
+      f.finishes)
 
 -- the changing steps by themselves
 

@@ -6,7 +6,7 @@ mod call;
 mod closing;
 mod find;
 mod first;
-mod question;
+mod operation;
 mod segment;
 mod stage;
 mod verdicts;
