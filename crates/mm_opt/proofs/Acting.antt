@@ -17,7 +17,7 @@ use Rattle.mm_opt.specs.Operating.{opt_asked}
 use Rattle.mm_opt.specs.Steps.{act_of, RoomFor}
 use Rattle.mm_opt.specs.Turns.{turn_of, turn_with, Turns, TurnMayGoOn, fault_turned, ActsAt}
 use Rattle.mm_opt.specs.CheckpointTurns.{looked_turn, weighed_turn, closed_turn, ClosingTurns, closing_fault_turned, ClosingActsAt}
-use Rattle.mm_opt.proofs.Told.{is_quiet}
+use Rattle.mm_opt.proofs.Told.{quiet}
 
 room_or : (needs : Bool) (middle new : Standing) → RoomFor needs middle new → new ≡ record middle { spare = new.spare }
 room_or true middle new r = r.same
@@ -49,7 +49,7 @@ turn_room (step.Over end) new room = with_room (result_of (end_told end)) new
 pub acts_at : (call : Stage) (meaning : Meaning) (old new : Standing) (offer : List ℕ) (b : Batch) (turn : Turn)
     → Turns meaning call old new offer b turn → ActsAt call old new turn
 acts_at call meaning old new offer b turn t =
-    let s = steps_by (opt_asked meaning offer b) (is_quiet meaning offer b) call old new t.step t.steps in
+    let s = steps_by (opt_asked meaning offer b) (quiet meaning offer b) call old new t.step t.steps in
     record {
       middle = s.middle;
       goes = subst (Goes (act_of call) old s.middle) (turn_fault t.step ∙ ap fault_turned (sym t.gives)) s.goes;

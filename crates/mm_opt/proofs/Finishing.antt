@@ -1,28 +1,32 @@
 -- A call that was moved to its end.
 use Rattle.mm_opt.proofs.Below.{◌≡◌, ℕ, false, List, Result, subst, Opt, Standing, Meaning, Batch, is_long, BatchAnswer, Refusal, Ended}
-use Rattle.mm_opt.proofs.Below.{Calls, result_of, CallsTo, calls_from, Stage, opt_call, Finishes, Begun}
+use Rattle.mm_opt.proofs.Below.{AsksTo, Calls, result_of, CallsTo, calls_from, Stage, opt_call, Finishes, Begun}
 use Rattle.mm_machine.specs.Finishing as machine
 use Rattle.mm_machine.specs.declared.call.Ended.{Ended as End}
 use Rattle.mm_call.specs.Machine.{end_told}
 use Rattle.mm_call.proofs.Above.{finish_blamed}
 use Rattle.mm_opt.specs.Moved.{FinishedInOpt}
 use Rattle.mm_opt.specs.Operating.{opt_asked}
-use Rattle.mm_opt.proofs.Told.{begun_asks, is_quiet}
+use Rattle.mm_opt.proofs.Told.{asks_told, quiet}
 use Rattle.mm_opt.proofs.Going.{calls_to}
 
 -- a call that was finished from its begin
+pub begun_asks : (call : Stage) (meaning : Meaning) (old new : Standing) (offer : List ℕ) (b : Batch) (ended : Ended)
+    → Finishes meaning call old new offer b ended → call ≡ Begun → AsksTo opt_call meaning old new offer b ended
+begun_asks call meaning old new offer b ended f e =
+    let g : Finishes meaning Begun old new offer b ended = subst (λ (x : Stage). Finishes meaning x old new offer b ended) e f in
+    rw g.gives (asks_told meaning offer b old new g.end g.finishes)
+
 pub calls_finished : (call : Stage) (meaning : Meaning) (old new : Standing) (offer : List ℕ) (b : Batch) (ended : Ended)
     (result : Result BatchAnswer Refusal) → call ≡ Begun → is_long b ≡ false → Finishes meaning call old new offer b ended
     → result ≡ result_of ended → Calls opt_call meaning old new offer b result
 calls_finished call meaning old new offer b ended result e short f is =
-    calls_from opt_call meaning old new offer b ended result short
-    (begun_asks meaning offer b old new ended (subst (λ (x : Stage). Finishes meaning x old new offer b ended) e f)) is
+    calls_from opt_call meaning old new offer b ended result short (begun_asks call meaning old new offer b ended f e) is
 
 pub finished_to : (call : Stage) (meaning : Meaning) (old new : Standing) (offer : List ℕ) (b : Batch) (ended : Ended)
     → Finishes meaning call old new offer b ended → call ≡ Begun → CallsTo Opt meaning old new offer b ended
 finished_to call meaning old new offer b ended f e =
-    calls_to meaning old new offer b ended
-    (begun_asks meaning offer b old new ended (subst (λ (x : Stage). Finishes meaning x old new offer b ended) e f))
+    calls_to meaning old new offer b ended (begun_asks call meaning old new offer b ended f e)
 
 pub finished : (call : Stage) (meaning : Meaning) (old new : Standing) (offer : List ℕ) (b : Batch) (ended : Ended)
     (end : End BatchAnswer Refusal) → machine.Finishes (opt_asked meaning offer b) call old new end → ended ≡ end_told end
@@ -32,5 +36,5 @@ finished call meaning old new offer b ended end finishes gives =
     record {
       finishes = f;
       ends = finished_to call meaning old new offer b ended f;
-      faults = rw gives (finish_blamed (opt_asked meaning offer b) (is_quiet meaning offer b) call old new end finishes);
+      faults = rw gives (finish_blamed (opt_asked meaning offer b) (quiet meaning offer b) call old new end finishes);
     }

@@ -1,13 +1,17 @@
 -- What the machine makes of a call: its reading steps, and those that commit what they found.
-use Rattle.mm_opt.proofs.Below.{◌≡◌, ℕ, Bool, true, false, List, [], ◌∷◌, None, Some, Result, Ok, Err, refl, sym, ap, subst, inl, inr}
-use Rattle.mm_opt.proofs.Below.{Opt, StepFault, Standing, Act, Goes, ReadCell, ReadRegister, Meaning, Batch, Cell, BatchAnswer, Refusal}
-use Rattle.mm_opt.proofs.Below.{OrMemory, fault_in, acts_left, Begun, Found, Change, Ready, Finishes, Reads, ReadsOwnCell}
-use Rattle.mm_opt.proofs.Below.{ReadsRegister, MakesRoom, found_in, AsksTo, Ended}
+use Rattle.mm_opt.proofs.Below.{◌≡◌, ℕ, ◌+◌, Bool, true, false, List, [], ◌∷◌, Option, None, Some, Result, Ok, Err, refl, sym, ap, subst}
+use Rattle.mm_opt.proofs.Below.{inl, inr, Opt, StepFault, Standing, Act, Goes, ReadCell, ReadRegister, Meaning, Batch, Cell, BatchAnswer}
+use Rattle.mm_opt.proofs.Below.{Refusal, OrMemory, fault_in, acts_left, Begun, Seen, Changing, Found, Repeat, Change, Extending, Emptying}
+use Rattle.mm_opt.proofs.Below.{Placing, Writing, Ready, Stage, Reads, ReadsOwnCell, ReadsRegister, MakesRoom, found_in, AsksTo}
 use Rattle.mm_model.specs.declared.refusal.Refusal.TheVariants.{Memory}
+use Rattle.mm_machine.specs.Acts.{number_in}
 use Rattle.mm_machine.specs.Asked.{Asked}
 use Rattle.mm_machine.specs.Finishing as machine
 use Rattle.mm_machine.specs.Reading as reading
+use Rattle.mm_machine.specs.Stepping as stepping
 use Rattle.mm_machine.specs.declared.call.Ended.{Ended as End}
+use Rattle.mm_machine.specs.declared.call.Step.TheVariants.{Going}
+use Rattle.mm_machine.specs.declared.change.Change as change
 use Rattle.mm_machine.specs.declared.operation.Sight.{Sight}
 use Rattle.mm_machine.specs.declared.operation.Sight.TheVariants as sight
 use Rattle.mm_machine.specs.declared.reading.Halt.{Halt}
@@ -16,11 +20,12 @@ use Rattle.mm_call.specs.Calls.{Commits}
 use Rattle.mm_call.specs.Ended.{result_of}
 use Rattle.mm_call.specs.Machine.{end_told, found_told, halt_told}
 use Rattle.mm_call.specs.Refusals.{handed_on}
-use Rattle.mm_call.proofs.Above.{IsQuiet, acts_told, asks_told}
+use Rattle.mm_call.proofs.Above as told
+use Rattle.mm_call.proofs.Above.{IsQuiet}
 use Rattle.mm_opt.specs.Operating.{opt_asked}
 use Rattle.mm_opt.specs.Asks.{IsMade, opt_call}
 use Rattle.mm_opt.specs.Steps.{RoomFor}
-use Rattle.mm_opt.proofs.Findings.{or_then}
+use Rattle.mm_opt.proofs.Findings.{IsByFlagIn, made, or_then}
 
 no_fault_or : (found : Found) (result : Result Found Refusal) → OrMemory (Ok found) result → fault_in result ≡ None
 no_fault_or found result o =
@@ -126,21 +131,60 @@ module _ (meaning : Meaning) (offer : List ℕ) (b : Batch) where
       → Reads meaning old new offer b (found_told given)
   reads_told old new given r = reads_by r.seen given old r.middle new r.looks r.on
 
-  pub is_quiet : IsQuiet asked
-  is_quiet = record {
+  pub quiet : IsQuiet asked
+  quiet = record {
     sees = λ bytes why s. s.1;
     finds = λ cell register why f. f.quiet;
     tells = λ answer. refl;
   }
 
   -- a call from its first step to its end
-  pub begun_asks : (old new : Standing) (ended : Ended) → Finishes meaning Begun old new offer b ended
-      → AsksTo opt_call meaning old new offer b ended
-  begun_asks old new ended f =
-      rw f.gives
-      (asks_told asked (λ answer. refl) Opt Reads (reading.Reads asked old) meaning old new offer b f.end
+  pub asks_told : (old new : Standing) (end : End BatchAnswer Refusal) → machine.Finishes asked Begun old new end
+      → AsksTo opt_call meaning old new offer b (end_told end)
+  asks_told old new end f =
+      told.asks_told asked (λ answer. refl) Opt Reads (reading.Reads asked old) meaning old new offer b end
       (λ (middle : Standing) (found : Result Found (Halt Refusal)) (r : reading.Reads asked old middle found). reads_told old middle found r)
-      f.finishes)
+      f
+
+  -- the number of the step behind one that goes on
+
+  begun_next : (seen : Result (Sight BatchAnswer) (Halt Refusal)) (old middle new : Standing) (next : Stage)
+      → reading.Looks asked old middle seen → stepping.SightLeads seen middle new (Going next) → stepping.number_of 5 next ≡ 2
+  begun_next (Err why) old middle new next l s = absurd (cc)
+  begun_next (Ok (sight.Found found)) old middle new next l s = absurd l.1.said
+  begun_next (Ok (sight.Cell cell)) old middle new next l s = let same : next ≡ Seen cell = cc in rw same refl
+
+  found_number : (flag : Bool) (it : change.Change) → IsByFlagIn flag it → number_in 5 it ≡ 3
+  found_number flag (Extending value) by = refl
+  found_number flag (Emptying opening) by = refl
+  found_number flag (Placing opening) by = absurd by
+  found_number flag (Writing next) by = absurd by
+
+  seen_next : (found : Result Found (Halt Refusal)) (cell : Cell) (old new : Standing) (next : Stage)
+      → ReadsRegister meaning cell old new offer b (found_told found) → Going next ≡ stepping.step_found found
+      → stepping.number_of 5 next ≡ 3
+  seen_next (Err why) cell old new next r e = absurd (cc)
+  seen_next (Ok (Repeat answer)) cell old new next r e = absurd (cc)
+  seen_next (Ok (Change ready)) cell old new next r e =
+      let m = made meaning cell b old new offer (Ok (Change ready)) r in
+      let same : next ≡ Changing ready = cc in rw same (found_number cell.flag ready.change m.by_flag)
+
+  change_next : (it : change.Change) (answer : BatchAnswer) (fault : Option StepFault) (next : Stage)
+      → Going next ≡ stepping.step_made asked (record { change = it; answer = answer }) fault
+      → stepping.number_of 5 next ≡ number_in 5 it + 1
+  change_next it answer (Some fault) next e = absurd (cc)
+  change_next (Extending value) answer None next e = absurd (cc)
+  change_next (Emptying opening) answer None next e =
+      let same : next ≡ Changing (record { change = Placing opening; answer = answer }) = cc in rw same refl
+  change_next (Placing opening) answer None next e =
+      let same : next ≡ Changing (record { change = Writing opening.next; answer = answer }) = cc in rw same refl
+  change_next (Writing bytes) answer None next e = absurd (cc)
+
+  pub numbers : (stage next : Stage) (old new : Standing) → stepping.Steps asked stage old new (Going next)
+      → stepping.number_of 5 next ≡ stepping.number_of 5 stage + 1
+  numbers Begun next old new s = begun_next s.seen old s.middle new next s.looks s.leads
+  numbers (Seen cell) next old new s = seen_next s.found cell old new next (weighs_told cell old new s.found s.finds) s.gives
+  numbers (Changing ready) next old new s = change_next ready.change ready.answer s.fault next s.gives
 
 -- the changing steps by themselves
 
@@ -153,7 +197,7 @@ pub commits_told : (ready : Ready) (old new : Standing) (end : End BatchAnswer R
     → result_of (end_told end) ≡ handed_on made → Commits opt_call (Change ready) old new made
 commits_told ready old new end made acts gives = record {
   ended = end_told end;
-  ends = acts_told left (λ answer. refl) (acts_left ready.change) ready.answer old new end acts;
+  ends = told.acts_told left (λ answer. refl) (acts_left ready.change) ready.answer old new end acts;
   gives = gives;
 }
 
