@@ -16,5 +16,6 @@ pub use call::{Call, Turn, begin};
 pub use closing::{CheckpointCall, CheckpointTurn, begin_checkpoint, checkpoint};
 pub use first::provision;
 pub use mm_call::{Ended, Provisioned};
+pub use operation::OptAsk;
 pub use segment::{CheckpointRefusal, Checkpointed};
 pub use whole::{Committed, Prepared, ask, ask_batch, ask_keeping, prepare};
