@@ -6,6 +6,7 @@ mod Findings
 mod Told
 mod Asking
 mod Writing
+mod ClosingByMachine
 mod Checkpointing
 mod Acting
 mod Accepting

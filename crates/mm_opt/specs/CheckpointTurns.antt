@@ -11,7 +11,10 @@ use Rattle.mm_opt.specs.declared.stage.CheckpointStage.{CheckpointStage}
 use Rattle.mm_opt.specs.declared.stage.CheckpointStage.TheVariants as stage
 use Rattle.mm_opt.specs.declared.closing.CheckpointTurn.{CheckpointTurn}
 use Rattle.mm_opt.specs.declared.closing.CheckpointTurn.TheVariants.{Going, Done, Refused}
+use Rattle.mm_machine.specs.declared.call.Step.{Step}
+use Rattle.mm_machine.specs.declared.call.Step.TheVariants as step
 use Rattle.mm_opt.specs.Checkpoints.{closing_act_of, closing_fault_of, Looks, Weighs, Closes}
+use Rattle.mm_opt.specs.Closing.{ended_told, stage_at}
 use Rattle.mm_opt.specs.Turns.{TurnsBy}
 
 -- what the first turn gives, by the segment that it finds
@@ -44,3 +47,12 @@ closing_fault_turned _ = None
 -- One turn makes exactly the device step that comes next, and hands its fault on.
 abbrev pub ClosingActsAt : CheckpointStage → Standing → Standing → CheckpointTurn → Type 0
 ClosingActsAt call old new turn = Goes (closing_act_of call) old new (closing_fault_turned turn)
+
+-- what is told of a step of the machine
+abbrev pub over_told : Result Checkpointed CheckpointRefusal → CheckpointTurn
+over_told (Ok it) = Done it
+over_told (Err why) = Refused why
+
+abbrev pub step_told : Step Checkpointed CheckpointRefusal → CheckpointTurn
+step_told (step.Going it) = Going (stage_at it)
+step_told (step.Over ended) = over_told (ended_told ended)

@@ -8,6 +8,7 @@ pub mod Operating
 pub mod Turns
 pub mod Asks
 pub mod Checkpoints
+pub mod Closing
 pub mod CheckpointTurns
 pub mod ChecksOn
 pub mod Finishes

@@ -1,31 +1,32 @@
 //! A checkpoint, which closes the open segment: in one, or moved one device step at a time.
 
-ghost use Rattle.std.specs.Prelude.{◌≡◌, None};
+ghost use Rattle.std.specs.Prelude.{◌≡◌};
 ghost use Rattle.mm_opt.specs.declared.stage.CheckpointStage.TheVariants.{Begun};
-ghost use Rattle.mm_opt.specs.Checkpoints.{SeesSegment, segment_by, closing_fault_in, closing_in, Looks, Weighs, Closes, ClosesBy, WeighsAndCloses, ClosesSegment};
 ghost use Rattle.mm_opt.specs.Closed.{ClosedInOpt};
+ghost use Rattle.mm_opt.specs.Closing.{ended_told};
 
-use crate::segment::{CheckpointRefusal, Checkpointed, Segment};
-use crate::stage::CheckpointStage;
-use crate::verdicts::is_zero;
-use mm_base::CELL_LENGTH;
-use mm_digest::{Digest, Variant, anchored};
-use mm_platform::{Platform, StepFault};
-use mm_seal::{Cell, CellFault, cell_bytes, read_cell};
+use crate::close::Close;
+use crate::segment::{CheckpointRefusal, Checkpointed};
+use mm_machine::{Call, Ended, Operation, Step, advance, finish};
+use mm_platform::Platform;
+use mm_seal::KeptKey;
 use std::marker::Model;
 
 /// A checkpoint between two of its device steps. Contracts see where it stands.
 #[derive(Drop)]
 pub struct CheckpointCall {
-    stage: CheckpointStage,
+    call: Call<Checkpointed>,
 }
 
 impl Model for CheckpointCall {
     ghost use Rattle.mm_opt.specs.declared.stage.CheckpointStage.{CheckpointStage};
+    ghost use Rattle.mm_opt.specs.Closing.{IsClosing, stage_at};
 
     ghost Value = { CheckpointStage };
 
-    ghost view = { λ call. call.stage };
+    ghost view = { λ it. stage_at it.call };
+
+    ghost invariant = { λ it. IsClosing it.call };
 }
 
 /// What one step of a checkpoint came to.
@@ -44,7 +45,7 @@ pub fn begin_checkpoint() -> CheckpointCall
     ensures { result ≡ Begun }
 {
     CheckpointCall {
-        stage: CheckpointStage::Begun,
+        call: Call::begin(),
     }
 }
 
@@ -57,11 +58,7 @@ impl CheckpointCall {
     pub fn next_step(&self) -> u8
         ensures { result ≡ closing_number_of self.now }
     {
-        match &self.stage {
-            CheckpointStage::Begun => 1,
-            CheckpointStage::Seen(_) => 2,
-            CheckpointStage::Closing(_) => 3,
-        }
+        self.call.next_step(Close.write_step())
     }
 
     /// Makes the next device step: the first reads the cell, the second the register, and the last writes the cell,
@@ -72,71 +69,34 @@ impl CheckpointCall {
         ensures acts { ClosingActsAt self (P.standing platform.old) (P.standing platform.new)
             result }
     {
-        self.make_step(platform)
+        CheckpointTurn::of(advance(&Close, self.call, platform, &mut KeptKey::new()))
     }
 
     /// Moves the checkpoint to its end: what `advance` does, over and over. Takes no memory.
     pub fn finish<P: Platform>(self, platform: &mut P) -> Result<Checkpointed, CheckpointRefusal>
         ensures { FinishesClosing self (P.standing platform.old) (P.standing platform.new) result }
     {
-        match self.stage {
-            CheckpointStage::Begun => look_and_close(platform),
-            CheckpointStage::Seen(cell) => weigh_and_close(&cell, platform),
-            CheckpointStage::Closing(next) => close_by(&next, platform),
-        }
-    }
-
-    // Makes the next device step.
-    fn make_step<P: Platform>(self, platform: &mut P) -> CheckpointTurn
-        ensures { ClosingTurns self (P.standing platform.old) (P.standing platform.new) result }
-    {
-        match self.stage {
-            CheckpointStage::Begun => CheckpointTurn::looked(look(platform)),
-            CheckpointStage::Seen(cell) => CheckpointTurn::weighed(weigh(&cell, platform)),
-            CheckpointStage::Closing(next) => CheckpointTurn::closed(close(&next, platform)),
-        }
+        told(finish(&Close, self.call, platform, &mut KeptKey::new()))
     }
 }
 
 impl CheckpointTurn {
     ghost use Rattle.std.specs.Prelude.{◌≡◌};
-    ghost use Rattle.mm_opt.specs.CheckpointTurns.{looked_turn, weighed_turn, closed_turn};
+    ghost use Rattle.mm_opt.specs.CheckpointTurns.{step_told};
+    ghost use Rattle.mm_opt.specs.Closing.{StepIsClosing};
 
-    // What the first step comes to.
-    fn looked(found: Result<Segment, CheckpointRefusal>) -> CheckpointTurn
-        ensures { result ≡ looked_turn found }
+    // What a step of the machine comes to.
+    fn of(step: Step<Checkpointed, CheckpointRefusal>) -> CheckpointTurn
+        requires { StepIsClosing step }
+        ensures { result ≡ step_told step }
     {
-        match found {
-            Ok(Segment::Open(cell)) => CheckpointTurn::going(CheckpointStage::Seen(cell)),
-            Ok(Segment::Shut) => CheckpointTurn::Done(Checkpointed::NoSegment),
-            Err(refusal) => CheckpointTurn::Refused(refusal),
+        match step {
+            Step::Going(call) => CheckpointTurn::Going(CheckpointCall { call }),
+            Step::Over(ended) => match told(ended) {
+                Ok(checkpointed) => CheckpointTurn::Done(checkpointed),
+                Err(refusal) => CheckpointTurn::Refused(refusal),
+            },
         }
-    }
-
-    // What the second step comes to.
-    fn weighed(found: Result<[u8; CELL_LENGTH], CheckpointRefusal>) -> CheckpointTurn
-        ensures { result ≡ weighed_turn found }
-    {
-        match found {
-            Ok(next) => CheckpointTurn::going(CheckpointStage::Closing(next)),
-            Err(refusal) => CheckpointTurn::Refused(refusal),
-        }
-    }
-
-    // What the last step comes to.
-    fn closed(closed: Result<Checkpointed, StepFault>) -> CheckpointTurn
-        ensures { result ≡ closed_turn closed }
-    {
-        match closed {
-            Ok(checkpointed) => CheckpointTurn::Done(checkpointed),
-            Err(fault) => CheckpointTurn::Refused(CheckpointRefusal::Device(fault)),
-        }
-    }
-
-    fn going(stage: CheckpointStage) -> CheckpointTurn
-        ensures { result ≡ CheckpointTurn.Going stage }
-    {
-        CheckpointTurn::Going(CheckpointCall { stage })
     }
 }
 
@@ -145,113 +105,17 @@ impl CheckpointTurn {
 pub fn checkpoint<P: Platform>(platform: &mut P) -> Result<Checkpointed, CheckpointRefusal>
     ensures { ClosedInOpt (P.standing platform.old) (P.standing platform.new) result }
 {
-    look_and_close(platform)
+    begin_checkpoint().finish(platform)
 }
 
-fn look_and_close<P: Platform>(platform: &mut P) -> Result<Checkpointed, CheckpointRefusal>
-    ensures { ClosesSegment (P.standing platform.old) (P.standing platform.new) result }
+// What is told of how the machine ended. It lacks no memory, as a checkpoint extends nothing.
+fn told(ended: Ended<Checkpointed, CheckpointRefusal>) -> Result<Checkpointed, CheckpointRefusal>
+    ensures { result ≡ ended_told ended }
 {
-    match look(platform) {
-        Err(refusal) => Err(refusal),
-        Ok(Segment::Shut) => Ok(Checkpointed::NoSegment),
-        Ok(Segment::Open(cell)) => weigh_and_close(&cell, platform),
-    }
-}
-
-// The rest of a checkpoint that found an open segment.
-fn weigh_and_close<P: Platform>(
-    cell: &Cell,
-    platform: &mut P,
-) -> Result<Checkpointed, CheckpointRefusal>
-    ensures { WeighsAndCloses cell.now (P.standing platform.old) (P.standing platform.new) result }
-{
-    match weigh(cell, platform) {
-        Err(refusal) => Err(refusal),
-        Ok(next) => close_by(&next, platform),
-    }
-}
-
-// The last step of a checkpoint, whose fault is handed on.
-fn close_by<P: Platform>(
-    next: &[u8; CELL_LENGTH],
-    platform: &mut P,
-) -> Result<Checkpointed, CheckpointRefusal>
-    ensures { ClosesBy next.now (P.standing platform.old) (P.standing platform.new) result }
-{
-    match close(next, platform) {
-        Err(fault) => Err(CheckpointRefusal::Device(fault)),
-        Ok(checkpointed) => Ok(checkpointed),
-    }
-}
-
-// The first step: reads the cell.
-fn look<P: Platform>(platform: &mut P) -> Result<Segment, CheckpointRefusal>
-    ensures { Looks (P.standing platform.old) (P.standing platform.new) result }
-{
-    let mut bytes = [0; CELL_LENGTH];
-    match platform.nv_read(&mut bytes) {
-        Err(fault) => Err(CheckpointRefusal::Device(fault)),
-        Ok(()) => find_segment(&bytes),
-    }
-}
-
-// The segment of the cell that these bytes are.
-fn find_segment(bytes: &[u8; CELL_LENGTH]) -> Result<Segment, CheckpointRefusal>
-    ensures sees { SeesSegment bytes.now result }
-    ensures no_fault { closing_fault_in result ≡ None }
-{
-    match read_cell(bytes) {
-        Err(CellFault::Blank) => Err(CheckpointRefusal::Blank),
-        Err(CellFault::Cell) => Err(CheckpointRefusal::Cell),
-        Ok(cell) => segment_of(cell),
-    }
-}
-
-// The segment of a cell.
-fn segment_of(cell: Cell) -> Result<Segment, CheckpointRefusal>
-    ensures segment { result ≡ segment_by cell.variant cell.flag cell }
-    ensures no_fault { closing_fault_in result ≡ None }
-{
-    match cell.variant {
-        Variant::Basic => Err(CheckpointRefusal::Kind),
-        Variant::Opt if cell.flag => Ok(Segment::Open(cell)),
-        Variant::Opt => Ok(Segment::Shut),
-    }
-}
-
-// The second step: reads the register.
-fn weigh<P: Platform>(cell: &Cell, platform: &mut P) -> Result<[u8; CELL_LENGTH], CheckpointRefusal>
-    ensures { Weighs cell.now (P.standing platform.old) (P.standing platform.new) result }
-{
-    match platform.reg_read() {
-        Err(fault) => Err(CheckpointRefusal::Device(fault)),
-        Ok(register) => closed_cell(cell, &register),
-    }
-}
-
-// The bytes that close the segment.
-fn closed_cell(cell: &Cell, register: &Digest) -> Result<[u8; CELL_LENGTH], CheckpointRefusal>
-    ensures closing { result ≡ closing_in cell.now register.now.bytes }
-    ensures no_fault { closing_fault_in result ≡ None }
-{
-    if is_zero(register) {
-        return Err(CheckpointRefusal::Lost);
-    }
-    let summary = anchored(&cell.summary, register);
-    Ok(cell_bytes(&Cell {
-        variant: Variant::Opt,
-        flag: false,
-        summary,
-        ..*cell
-    }))
-}
-
-// The last step: writes the cell, which closes the segment.
-fn close<P: Platform>(next: &[u8; CELL_LENGTH], platform: &mut P) -> Result<Checkpointed, StepFault>
-    ensures { Closes next.now (P.standing platform.old) (P.standing platform.new) result }
-{
-    match platform.nv_write(next) {
-        Err(fault) => Err(fault),
-        Ok(()) => Ok(Checkpointed::Done),
+    match ended {
+        Ended::Answered(checkpointed) => Ok(checkpointed),
+        Ended::Refused(refusal) => Err(refusal),
+        Ended::Broken { fault, .. } => Err(CheckpointRefusal::Device(fault)),
+        Ended::Lacks => Ok(Checkpointed::NoSegment),
     }
 }

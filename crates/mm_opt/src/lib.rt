@@ -3,6 +3,7 @@
 #![tactic(auto)]
 
 mod call;
+mod close;
 mod closing;
 mod find;
 mod first;
