@@ -17,11 +17,11 @@ ghost use Rattle.mm_basic.specs.Answers.{found_in};
 ghost use Rattle.mm_basic.specs.Steps.{FindsIn};
 ghost use Rattle.mm_call.specs.Refusals.{OrMemory, fault_in};
 
-use crate::found::{Found, Ready};
 use mm_base::CELL_LENGTH;
 use mm_call::{KeptKey, answer, examine};
 use mm_digest::{Digest, Variant, successor, successor_batch};
-use mm_model::{Refusal, Verdict, has_tab};
+use mm_machine::{Change, Found, Ready};
+use mm_model::{BatchAnswer, Refusal, Verdict, has_tab};
 use mm_module::{Batch, Module};
 use mm_seal::{Cell, CellFault, Offered, PartsFault, Place, cell_bytes, parts, read_cell};
 use std::alloc::Global;
@@ -35,7 +35,7 @@ pub fn find<M: Module>(
     offer: &[u8],
     batch: Batch<'_>,
     keys: &mut KeptKey,
-) -> Result<Found, Refusal>
+) -> Result<Found<BatchAnswer>, Refusal>
     requires { is_long (batch_of batch) ≡ false }
     ensures finds { FindsIn (M.meaning «module».now) bytes.now offer.now (batch_of batch.entry)
         result }
@@ -75,7 +75,7 @@ fn weigh<M: Module>(
     offered: &Offered<'_>,
     batch: Batch<'_>,
     keys: &mut KeptKey,
-) -> Result<Found, Refusal>
+) -> Result<Found<BatchAnswer>, Refusal>
     requires cell { FitsVariant cell.now.variant cell.now.flag cell.now.barrier }
     requires variant { variant_of offered.now.content.place ≡ Basic }
     requires position { offered.now.content.position ≤ last_position }
@@ -104,7 +104,8 @@ fn weigh<M: Module>(
         summary: next,
         ..*cell
     });
-    Ok(Found::Change(Ready { next, answer }))
+    let change = Change::Writing(next);
+    Ok(Found::Change(Ready { change, answer }))
 }
 
 // The summary of a place of Basic.

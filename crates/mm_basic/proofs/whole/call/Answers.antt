@@ -1,10 +1,16 @@
-use Rattle.mm_module.specs.Batches.{batch_of}
-use Rattle.mm_basic.proofs.Asking.{calls_finished}
+use Rattle.mm_basic.proofs.Below.{subst, batch_of, basic_asked, BatchAnswer}
+use Rattle.mm_machine.specs.Finishing.{Finishes}
+use Rattle.mm_machine.specs.declared.call.Stage.{Stage}
+use Rattle.mm_basic.proofs.Telling.{asks_told}
 use Rattle.mm_basic.proofs.whole.call.Goals as goal
 
-pub returns-in-Ok-clause-calls : goal.returns-in-Ok-clause-calls
-returns-in-Ok-clause-calls g c =
-    calls_finished (g.M.Module.meaning c.args.module.now) c.in-Ok.call (g.P.Device.standing c.args.platform.now)
-    (g.P.Device.standing c.finish.new.platform)
-    c.args.offer.now (batch_of c.args.batch) c.finish.result c.result.result c.in-Ok.ensures.ok.0 c.in-Ok.ensures.ok.1
-    c.finish.ensures.finishes c.result.ensures
+pub returns : goal.returns
+returns g c =
+    let meaning = g.M.Module.meaning c.args.ask.now.module.now in
+    let offer = c.args.ask.now.offer.now in
+    let b = batch_of c.args.ask.now.batch in
+    let old = g.P.Device.standing c.args.platform.now in
+    let new = g.P.Device.standing c.finish.new.platform in
+    rw c.of.ensures (asks_told meaning offer b old new c.finish.result
+    (subst (λ (s : Stage BatchAnswer). Finishes (basic_asked meaning offer b) s old new c.finish.result) c.begin.ensures
+    c.finish.ensures))
