@@ -1,16 +1,16 @@
--- What the machine makes of a call: its reading steps, its turns, and its end.
-use Rattle.mm_opt.proofs.Below.{◌≡◌, ℕ, Bool, true, false, List, [], ◌∷◌, Option, None, Some, Result, Ok, Err, refl, sym, ap, ◌∙◌, subst}
+-- What the machine makes of a call: its reading steps, and those that commit what they found.
+use Rattle.mm_opt.proofs.Below.{◌≡◌, ℕ, ◌+◌, Bool, true, false, List, [], ◌∷◌, Option, None, Some, Result, Ok, Err, refl, sym, ap, subst}
 use Rattle.mm_opt.proofs.Below.{inl, inr, Opt, StepFault, Standing, Act, Goes, ReadCell, ReadRegister, Meaning, Batch, Cell, BatchAnswer}
-use Rattle.mm_opt.proofs.Below.{Refusal, OrMemory, fault_in, acts_left, act_in, change_after, Begun, Seen, Changing, Found, Repeat, Change}
-use Rattle.mm_opt.proofs.Below.{Ready, Stage, Finishes, Reads, ReadsOwnCell, ReadsRegister, MakesRoom, found_in}
+use Rattle.mm_opt.proofs.Below.{Refusal, OrMemory, fault_in, acts_left, Begun, Seen, Changing, Found, Repeat, Change, Extending, Emptying}
+use Rattle.mm_opt.proofs.Below.{Placing, Writing, Ready, Stage, Reads, ReadsOwnCell, ReadsRegister, MakesRoom, found_in, AsksTo}
 use Rattle.mm_model.specs.declared.refusal.Refusal.TheVariants.{Memory}
+use Rattle.mm_machine.specs.Acts.{number_in}
 use Rattle.mm_machine.specs.Asked.{Asked}
 use Rattle.mm_machine.specs.Finishing as machine
 use Rattle.mm_machine.specs.Reading as reading
 use Rattle.mm_machine.specs.Stepping as stepping
 use Rattle.mm_machine.specs.declared.call.Ended.{Ended as End}
-use Rattle.mm_machine.specs.declared.call.Step.{Step}
-use Rattle.mm_machine.specs.declared.call.Step.TheVariants.{Over}
+use Rattle.mm_machine.specs.declared.call.Step.TheVariants.{Going}
 use Rattle.mm_machine.specs.declared.change.Change as change
 use Rattle.mm_machine.specs.declared.operation.Sight.{Sight}
 use Rattle.mm_machine.specs.declared.operation.Sight.TheVariants as sight
@@ -20,40 +20,16 @@ use Rattle.mm_call.specs.Calls.{Commits}
 use Rattle.mm_call.specs.Ended.{result_of}
 use Rattle.mm_call.specs.Machine.{end_told, found_told, halt_told}
 use Rattle.mm_call.specs.Refusals.{handed_on}
-use Rattle.mm_call.proofs.Above.{acts_told, asks_told, ends_told, refused_result}
-use Rattle.mm_opt.specs.Asking.{opt_asked}
-use Rattle.mm_opt.specs.Asks.{IsMade, LeavesRoom, opt_call}
+use Rattle.mm_call.proofs.Above as told
+use Rattle.mm_call.proofs.Above.{IsQuiet}
+use Rattle.mm_opt.specs.Operating.{opt_asked}
+use Rattle.mm_opt.specs.Asks.{IsMade, opt_call}
 use Rattle.mm_opt.specs.Steps.{RoomFor}
-use Rattle.mm_opt.specs.Turns as turns
-use Rattle.mm_opt.specs.declared.call.Turn.TheVariants as turn
-use Rattle.mm_opt.proofs.Findings.{or_then}
+use Rattle.mm_opt.proofs.Findings.{IsByFlagIn, made, or_then}
 
 no_fault_or : (found : Found) (result : Result Found Refusal) → OrMemory (Ok found) result → fault_in result ≡ None
 no_fault_or found result o =
     elim o [ inl e ↦ ap (λ (r : Result Found Refusal). fault_in r) e | inr e ↦ ap (λ (r : Result Found Refusal). fault_in r) e ]
-
--- the room behind what was found
-pub leaves_told : (found : Result Found (Halt Refusal)) (standing : Standing) → reading.LeavesRoom found standing
-    → LeavesRoom (found_told found) standing
-leaves_told (Err why) standing r = tt
-leaves_told (Ok (Repeat answer)) standing r = tt
-leaves_told (Ok (Change ready)) standing r = r
-
--- what a turn gives where reading came to nothing, or something was found
-refused_turn : (why : Halt Refusal) → turns.turn_told (Over (stepping.ended_by why)) ≡ turn.Refused (halt_told why)
-refused_turn (Fault fault) = refl
-refused_turn (Refused why) = ap turns.given_turn (refused_result why)
-refused_turn Lacks = refl
-
-found_turned : (found : Result Found (Halt Refusal)) → turns.turn_told (stepping.step_found found) ≡ turns.found_turn (found_told found)
-found_turned (Err why) = refused_turn why
-found_turned (Ok (Repeat answer)) = refl
-found_turned (Ok (Change ready)) = refl
-
-made_turned : (next : Option change.Change) (answer : BatchAnswer)
-    → turns.turn_told (stepping.step_to next answer) ≡ turns.made_turn answer (Ok next)
-made_turned None answer = refl
-made_turned (Some next) answer = refl
 
 module _ (meaning : Meaning) (offer : List ℕ) (b : Batch) where
   abbrev pub asked : Asked BatchAnswer Refusal
@@ -155,58 +131,60 @@ module _ (meaning : Meaning) (offer : List ℕ) (b : Batch) where
       → Reads meaning old new offer b (found_told given)
   reads_told old new given r = reads_by r.seen given old r.middle new r.looks r.on
 
-  -- one turn
-  first_turns : (seen : Result (Sight BatchAnswer) (Halt Refusal)) (old middle new : Standing) (step : Step BatchAnswer Refusal)
-      → reading.Looks asked old middle seen → stepping.SightLeads seen middle new step
-      → turns.Turns meaning Begun old new offer b (turns.turn_told step)
-  first_turns (Err why) old middle new step l s = record {
-    outcome = Err (halt_told why);
-    step = subst (λ (x : Standing). ReadsOwnCell meaning.id old x (Err (halt_told why))) (sym s.0) (looked_refused why old middle l);
-    gives = ap turns.turn_told s.1 ∙ refused_turn why;
-  }
-  first_turns (Ok (sight.Found found)) old middle new step l s = absurd l.1.said
-  first_turns (Ok (sight.Cell cell)) old middle new step l s = record {
-    outcome = Ok cell;
-    step = subst (λ (x : Standing). ReadsOwnCell meaning.id old x (Ok cell)) (sym s.0) (looked cell old middle l);
-    gives = ap turns.turn_told s.1;
+  pub quiet : IsQuiet asked
+  quiet = record {
+    sees = λ bytes why s. s.1;
+    finds = λ cell register why f. f.quiet;
+    tells = λ answer. refl;
   }
 
-  change_turns : (fault : Option StepFault) (ready : Ready) (old new : Standing) (step : Step BatchAnswer Refusal)
-      → Goes (act_in ready.change) old new fault → step ≡ stepping.step_made asked ready fault
-      → turns.Changes ready old new (turns.turn_told step)
-  change_turns None ready old new step g e = record {
-    outcome = Ok (change_after ready.change);
-    step = record { goes = g; gives = refl };
-    gives = ap turns.turn_told e ∙ made_turned (change_after ready.change) ready.answer;
-  }
-  change_turns (Some fault) ready old new step g e =
-      record { outcome = Err fault; step = record { goes = g; gives = tt }; gives = ap turns.turn_told e }
-
-  pub turns_told : (stage : Stage) (old new : Standing) (step : Step BatchAnswer Refusal) → stepping.Steps asked stage old new step
-      → turns.Turns meaning stage old new offer b (turns.turn_told step)
-  turns_told Begun old new step s = first_turns s.seen old s.middle new step s.looks s.leads
-  turns_told (Seen cell) old new step s = record {
-    outcome = found_told s.found;
-    step = weighs_told cell old new s.found s.finds;
-    gives = ap turns.turn_told s.gives ∙ found_turned s.found;
-  }
-  turns_told (Changing ready) old new step s = change_turns s.fault ready old new step s.goes s.gives
-
-  -- what is left
-  pub finishes_told : (stage : Stage) (old new : Standing) (end : End BatchAnswer Refusal) → machine.Finishes asked stage old new end
-      → Finishes meaning stage old new offer b (end_told end)
-  finishes_told Begun old new end f =
-      asks_told asked (λ answer. refl) Opt Reads (reading.Reads asked old) meaning old new offer b end
+  -- a call from its first step to its end
+  pub asks_told : (old new : Standing) (end : End BatchAnswer Refusal) → machine.Finishes asked Begun old new end
+      → AsksTo opt_call meaning old new offer b (end_told end)
+  asks_told old new end f =
+      told.asks_told asked (λ answer. refl) Opt Reads (reading.Reads asked old) meaning old new offer b end
       (λ (middle : Standing) (found : Result Found (Halt Refusal)) (r : reading.Reads asked old middle found). reads_told old middle found r)
       f
-  finishes_told (Seen cell) old new end f = record {
-    middle = f.middle;
-    found = found_told f.found;
-    reads = weighs_told cell old f.middle f.found f.finds;
-    ends = ends_told asked (λ answer. refl) Opt Reads f.found f.middle new end f.ends;
-  }
-  finishes_told (Changing ready) old new end f =
-      acts_told asked (λ answer. refl) (acts_left ready.change) ready.answer old new end f
+
+  -- the number of the step behind one that goes on
+
+  begun_next : (seen : Result (Sight BatchAnswer) (Halt Refusal)) (old middle new : Standing) (next : Stage)
+      → reading.Looks asked old middle seen → stepping.SightLeads seen middle new (Going next) → stepping.number_of 5 next ≡ 2
+  begun_next (Err why) old middle new next l s = absurd (cc)
+  begun_next (Ok (sight.Found found)) old middle new next l s = absurd l.1.said
+  begun_next (Ok (sight.Cell cell)) old middle new next l s = let same : next ≡ Seen cell = cc in rw same refl
+
+  found_number : (flag : Bool) (it : change.Change) → IsByFlagIn flag it → number_in 5 it ≡ 3
+  found_number flag (Extending value) by = refl
+  found_number flag (Emptying opening) by = refl
+  found_number flag (Placing opening) by = absurd by
+  found_number flag (Writing next) by = absurd by
+
+  seen_next : (found : Result Found (Halt Refusal)) (cell : Cell) (old new : Standing) (next : Stage)
+      → ReadsRegister meaning cell old new offer b (found_told found) → Going next ≡ stepping.step_found found
+      → stepping.number_of 5 next ≡ 3
+  seen_next (Err why) cell old new next r e = absurd (cc)
+  seen_next (Ok (Repeat answer)) cell old new next r e = absurd (cc)
+  seen_next (Ok (Change ready)) cell old new next r e =
+      let m = made meaning cell b old new offer (Ok (Change ready)) r in
+      let same : next ≡ Changing ready = cc in rw same (found_number cell.flag ready.change m.by_flag)
+
+  change_next : (it : change.Change) (answer : BatchAnswer) (fault : Option StepFault) (next : Stage)
+      → Going next ≡ stepping.step_made asked (record { change = it; answer = answer }) fault
+      → stepping.number_of 5 next ≡ number_in 5 it + 1
+  change_next it answer (Some fault) next e = absurd (cc)
+  change_next (Extending value) answer None next e = absurd (cc)
+  change_next (Emptying opening) answer None next e =
+      let same : next ≡ Changing (record { change = Placing opening; answer = answer }) = cc in rw same refl
+  change_next (Placing opening) answer None next e =
+      let same : next ≡ Changing (record { change = Writing opening.next; answer = answer }) = cc in rw same refl
+  change_next (Writing bytes) answer None next e = absurd (cc)
+
+  pub numbers : (stage next : Stage) (old new : Standing) → stepping.Steps asked stage old new (Going next)
+      → stepping.number_of 5 next ≡ stepping.number_of 5 stage + 1
+  numbers Begun next old new s = begun_next s.seen old s.middle new next s.looks s.leads
+  numbers (Seen cell) next old new s = seen_next s.found cell old new next (weighs_told cell old new s.found s.finds) s.gives
+  numbers (Changing ready) next old new s = change_next ready.change ready.answer s.fault next s.gives
 
 -- the changing steps by themselves
 
@@ -219,7 +197,7 @@ pub commits_told : (ready : Ready) (old new : Standing) (end : End BatchAnswer R
     → result_of (end_told end) ≡ handed_on made → Commits opt_call (Change ready) old new made
 commits_told ready old new end made acts gives = record {
   ended = end_told end;
-  ends = acts_told left (λ answer. refl) (acts_left ready.change) ready.answer old new end acts;
+  ends = told.acts_told left (λ answer. refl) (acts_left ready.change) ready.answer old new end acts;
   gives = gives;
 }
 

@@ -4,7 +4,7 @@ pub mod Seen
 pub mod Order
 pub mod Answers
 pub mod Steps
-pub mod Asking
+pub mod Operating
 pub mod Turns
 pub mod Asks
 pub mod Checkpoints

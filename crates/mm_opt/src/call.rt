@@ -5,7 +5,7 @@ ghost use Rattle.mm_module.specs.Batches.{batch_of};
 ghost use Rattle.mm_model.specs.Long.{is_long};
 ghost use Rattle.mm_machine.specs.declared.call.Stage.TheVariants.{Begun};
 
-use crate::question::OptAsk;
+use crate::operation::OptAsk;
 use mm_call::{Ended, KeptKey};
 use mm_machine::{Stage, Step, advance, finish};
 use mm_model::{BatchAnswer, Refusal};
@@ -59,8 +59,7 @@ impl Call {
     ghost use Rattle.mm_module.specs.Batches.{batch_of};
     ghost use Rattle.mm_model.specs.Long.{is_long};
     ghost use Rattle.mm_opt.specs.Steps.{step_number, MayGoOn};
-    ghost use Rattle.mm_opt.specs.Turns.{Turns, stage_position, stage_commits};
-    ghost use Rattle.mm_opt.specs.Finishes.{Finishes};
+    ghost use Rattle.mm_opt.specs.Turns.{stage_position, stage_commits};
     ghost use Rattle.mm_opt.specs.Moved.{AdvancedInOpt, FinishedInOpt};
 
     /// The number of the next device step, from 1.
@@ -111,6 +110,7 @@ impl Call {
     }
 
     /// `advance` with an absorbed key that the caller keeps between calls.
+    #[inline(always)]
     pub fn advance_keeping<M: Module, P: Platform>(
         self,
         alloc: Global,
@@ -131,7 +131,7 @@ impl Call {
             offer,
             batch,
         };
-        self.make_step(&ask, platform, keys)
+        Turn::of(advance(&ask, self.at, platform, keys))
     }
 
     /// Moves the call to its end: what `advance` does, over and over. After the reading steps it has no allocator.
@@ -152,6 +152,7 @@ impl Call {
     }
 
     /// `finish` with an absorbed key that the caller keeps between calls.
+    #[inline(always)]
     pub fn finish_keeping<M: Module, P: Platform>(
         self,
         alloc: Global,
@@ -172,48 +173,18 @@ impl Call {
             offer,
             batch,
         };
-        self.make_steps(&ask, platform, keys)
-    }
-
-    // Makes the next device step and those after it.
-    #[inline(always)]
-    fn make_steps<M: Module, P: Platform>(
-        self,
-        ask: &OptAsk<'_, M>,
-        platform: &mut P,
-        keys: &mut KeptKey,
-    ) -> Ended
-        requires { MayGoOn self (P.standing platform.old) }
-        ensures { Finishes (M.meaning ask.now.«module».now) self (P.standing platform.old)
-            (P.standing platform.new) ask.now.offer.now (batch_of ask.now.batch) result }
-    {
-        Ended::of(finish(ask, self.at, platform, keys))
-    }
-
-    // Makes the next device step.
-    #[inline(always)]
-    fn make_step<M: Module, P: Platform>(
-        self,
-        ask: &OptAsk<'_, M>,
-        platform: &mut P,
-        keys: &mut KeptKey,
-    ) -> Turn
-        requires { MayGoOn self (P.standing platform.old) }
-        ensures { Turns (M.meaning ask.now.«module».now) self (P.standing platform.old)
-            (P.standing platform.new) ask.now.offer.now (batch_of ask.now.batch) result }
-    {
-        Turn::of(advance(ask, self.at, platform, keys))
+        Ended::of(finish(&ask, self.at, platform, keys))
     }
 }
 
 impl Turn {
     ghost use Rattle.std.specs.Prelude.{◌≡◌};
-    ghost use Rattle.mm_opt.specs.Turns.{given_turn, turn_told};
+    ghost use Rattle.mm_opt.specs.Turns.{turn_of, turn_with};
 
     // A turn of the machine's.
     #[inline(always)]
     fn of(step: Step<BatchAnswer, Refusal>) -> Turn
-        ensures { result ≡ turn_told step }
+        ensures { result ≡ turn_of step }
     {
         match step {
             Step::Going(at) => Turn::Going(Call { at }),
@@ -224,7 +195,7 @@ impl Turn {
     // The last turn of a call that gives this.
     #[inline(always)]
     fn given(whole: Result<BatchAnswer, Refusal>) -> Turn
-        ensures { result ≡ given_turn whole }
+        ensures { result ≡ turn_with whole }
     {
         match whole {
             Ok(answer) => Turn::Done(answer),

@@ -13,7 +13,7 @@ ghost use Rattle.mm_opt.specs.Order.{anchor_in, extension_in};
 ghost use Rattle.mm_opt.specs.Answers.{place_after, extension_at, extension_after, change_of, found_in_offer};
 ghost use Rattle.mm_call.specs.Refusals.{OrMemory, fault_in};
 
-use crate::question::OptAsk;
+use crate::operation::OptAsk;
 use crate::verdicts::{has_lost_power, verdict};
 use mm_base::CELL_LENGTH;
 use mm_call::{KeptKey, answer, examine};

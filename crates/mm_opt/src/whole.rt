@@ -14,7 +14,7 @@ ghost use Rattle.mm_opt.specs.Asked.{AskedInOpt};
 ghost use Rattle.mm_opt.specs.Asks.{IsMade, Reads, MayCommit, LeavesRoom, opt_call};
 
 use crate::call::begin;
-use crate::question::OptAsk;
+use crate::operation::OptAsk;
 use mm_call::{KeptKey, refusal_of};
 use mm_machine::{Ended, Found, finish_change, read};
 use mm_model::{Answer, BatchAnswer, Refusal};

@@ -2,7 +2,7 @@ use Rattle.mm_opt.proofs.Below.{Err, Ok}
 use Rattle.mm_module.specs.Batches.{batch_of}
 use Rattle.mm_opt.proofs.Going.{prepared}
 use Rattle.mm_opt.proofs.Told.{reads_told}
-use Rattle.mm_opt.proofs.question.OptAsk.read.Goals as goal
+use Rattle.mm_opt.proofs.operation.OptAsk.read.Goals as goal
 
 pub returns-in-Ok-clause-reads : goal.returns-in-Ok-clause-reads
 returns-in-Ok-clause-reads g c =

@@ -3,7 +3,7 @@
 ghost use Rattle.std.specs.Prelude.{◌≡◌, false};
 ghost use Rattle.mm_module.specs.Batches.{batch_of};
 ghost use Rattle.mm_model.specs.Long.{is_long};
-ghost use Rattle.mm_opt.specs.Asking.{opt_asked};
+ghost use Rattle.mm_opt.specs.Operating.{opt_asked};
 
 use crate::find::find_cell;
 use mm_base::CELL_LENGTH;
