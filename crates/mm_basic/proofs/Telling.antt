@@ -1,5 +1,5 @@
 -- What the machine makes of a call of Basic is a call of Basic.
-use Rattle.mm_basic.proofs.Below.{◌≡◌, ℕ, Bool, true, false, List, Option, None, Some, Result, Ok, Err, IfOk, refl, sym, ap, ◌∙◌, subst, inl, inr}
+use Rattle.mm_basic.proofs.Below.{◌≡◌, ◌+◌, ℕ, Bool, true, false, List, Option, None, Some, Result, Ok, Err, IfOk, refl, sym, ap, ◌∙◌, subst, inl, inr}
 use Rattle.mm_basic.proofs.Below.{Standing, ReadCell, Goes, Meaning, Batch, Basic, BatchAnswer, Refusal, Ended, Deed}
 use Rattle.mm_basic.proofs.Below.{Writing, extends_in, Found, Repeat, Change, Halt, AsksTo, CallsTo, Blames, fault_in}
 use Rattle.mm_basic.proofs.Below.{result_of, OrMemory, examined, found_told, end_told, Seen, NoCell, NoOffer, Both, found_from, found_in}
@@ -200,13 +200,17 @@ module _ (meaning : Meaning) (offer : List ℕ) (b : Batch) where
       found_second found on none (s.gives ∙ ap step_found r.1)
   sight_second old after new (Ok (sight.Cell cell)) on l s = absurd l.1.said
 
-  pub goes_second : (call on : Stage BatchAnswer) (old new : Standing) → Steps (basic_asked meaning offer b) call old new (Going on)
+  goes_second : (call on : Stage BatchAnswer) (old new : Standing) → Steps (basic_asked meaning offer b) call old new (Going on)
       → ExtendsNothing call → (call ≡ stage.Begun) × (number_of 2 on ≡ 2)
   goes_second stage.Begun on old new s none = (refl, sight_second old s.middle new s.seen on s.looks s.leads)
   goes_second (stage.Seen cell) on old new s none =
       let f = s.finds in
       absurd (weigh_ends f.middle new f.found s.found on (weighs_none cell old f.middle f.found f.finds) f.rooms s.gives)
   goes_second (stage.Changing ready) on old new s none = absurd (change_ends ready ready.change s.fault on refl none s.gives)
+
+  pub numbers : (call on : Stage BatchAnswer) (old new : Standing) → Steps (basic_asked meaning offer b) call old new (Going on)
+      → ExtendsNothing call → number_of 2 on ≡ number_of 2 call + 1
+  numbers call on old new s none = let g = goes_second call on old new s none in rw (g.1, g.0) refl
 
   -- what is left of a call
 
