@@ -24,7 +24,7 @@ use Rattle.mm_machine.specs.declared.operation.Sight.TheVariants as sight
 use Rattle.mm_machine.specs.declared.reading.Halt.TheVariants as halt
 use Rattle.mm_call.proofs.Above as told
 use Rattle.mm_basic.specs.declared.call.Turn.{Turn}
-use Rattle.mm_basic.specs.Moved.{Finishes, StepExtendsNothing, Turns, turn_fault, turn_of, turn_with}
+use Rattle.mm_basic.specs.Moved.{AdvancedInBasic, FinishedInBasic, Finishes, StepExtendsNothing, Turns, turn_fault, turn_of, turn_with}
 use Rattle.mm_basic.proofs.Going.{calls_to}
 
 -- no own extension is to come behind what is found
@@ -251,6 +251,21 @@ module _ (meaning : Meaning) (offer : List ℕ) (b : Batch) where
       let s = turn_steps call old new turn t in
       subst (λ (n : ℕ). Blames (turn_fault turn) old.faults n) (sym (ap (λ (x : Standing). x.faults) s.room))
       (blamed (turn_fault turn) old s.middle s.goes.is_made s.goes.ends)
+
+  -- in the words of the code
+
+  pub advanced : (call : Stage BatchAnswer) (old new : Standing) (core : Step BatchAnswer Refusal) (turn : Turn)
+      → Steps (basic_asked meaning offer b) call old new core → turn ≡ turn_of core → AdvancedInBasic meaning call old new offer b turn
+  advanced call old new core turn s gives =
+      let t : Turns meaning call old new offer b turn = record { step = core; steps = s; gives = gives } in
+      record { turns = t; faults = turn_blamed call old new turn t }
+
+  pub finished : (call : Stage BatchAnswer) (old new : Standing) (core : End BatchAnswer Refusal) (ended : Ended)
+      → machine.Finishes (basic_asked meaning offer b) call old new core → ended ≡ end_told core
+      → FinishedInBasic meaning call old new offer b ended
+  finished call old new core ended f gives =
+      let all : Finishes meaning call old new offer b ended = record { end = core; finishes = f; gives = gives } in
+      record { finishes = all; ends = finished_to call old new ended all; faults = finish_blamed call old new ended all }
 
 -- the step that commits what was found
 
