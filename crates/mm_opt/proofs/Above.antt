@@ -1,8 +1,8 @@
 -- What crates above may cite of these proofs: the other files can be read and changed by this crate alone.
 pub use Rattle.mm_opt.proofs.Acting.{acts_at, closing_acts_at}
-pub use Rattle.mm_opt.proofs.Asked.{asked}
+pub use Rattle.mm_opt.proofs.Asked.{asked, asked_by}
 pub use Rattle.mm_opt.proofs.Checking.{checks_on}
 pub use Rattle.mm_opt.proofs.Completeness.{found_right}
 pub use Rattle.mm_opt.proofs.Going.{calls_to}
-pub use Rattle.mm_opt.proofs.Finishing.{begun_asks, calls_finished, finished_to}
+pub use Rattle.mm_opt.proofs.Finishing.{finished_asks, finished_to}
 pub use Rattle.mm_opt.proofs.Told.{asks_told, numbers, quiet}

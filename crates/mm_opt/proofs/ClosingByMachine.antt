@@ -1,11 +1,11 @@
 -- A checkpoint by the machine is the one that the definitions of a checkpoint give.
 use Rattle.mm_opt.proofs.Below.{◌≡◌, ℕ, List, [], ◌∷◌, Option, None, Some, Result, Ok, Err, refl, sym, ap, ◌∙◌, subst}
 use Rattle.mm_opt.proofs.Below.{StepFault, Standing, Cell, Goes, ReadCell, ReadRegister, WriteCell, Checkpointed, CheckpointRefusal, Segment}
-use Rattle.mm_opt.proofs.Below.{Open, Shut, closing_fault_of, closing_fault_in, Looks, Weighs, EndsLooking, EndsClosing, FindsSegment, Closes}
+use Rattle.mm_opt.proofs.Below.{Open, Shut, closing_fault_of, closing_fault_in, Looks, Weighs, EndsLooking, EndsClosing, FindsSegment}
 use Rattle.std.specs.Result.{result_map_both}
 use Rattle.mm_machine.specs.Finishing.{ActsTo, EndsTo, Finishes, goes_on, breaks_off}
 use Rattle.mm_machine.specs.Reading.{CellSays, Draws, FindsOn, FindsRoom, Looks as LooksAt, RegisterSays, Rooms, Weighs as WeighsAt}
-use Rattle.mm_machine.specs.Stepping.{SightLeads, Steps, StepsTo, ended_by, step_found, step_made}
+use Rattle.mm_machine.specs.Stepping.{SightLeads, Steps, ended_by, step_found, step_made}
 use Rattle.mm_machine.specs.declared.call.Ended.{Ended}
 use Rattle.mm_machine.specs.declared.call.Ended.TheVariants.{Answered}
 use Rattle.mm_machine.specs.declared.call.Stage.{Stage}
@@ -22,8 +22,8 @@ use Rattle.mm_opt.specs.declared.stage.CheckpointStage.{CheckpointStage}
 use Rattle.mm_opt.specs.declared.stage.CheckpointStage.TheVariants as stage
 use Rattle.mm_opt.specs.declared.closing.CheckpointTurn.{CheckpointTurn}
 use Rattle.mm_opt.specs.Turns.{TurnsBy}
-use Rattle.mm_opt.specs.Checkpoints.{ClosesBy, ClosesSegment, FindsClosing, FinishesClosing, WeighsAndCloses}
-use Rattle.mm_opt.specs.CheckpointTurns.{ClosingTurns, looked_turn, weighed_turn, closed_turn, over_told, step_told}
+use Rattle.mm_opt.specs.Checkpoints.{ClosesBy, FindsClosing, FinishesClosing, WeighsAndCloses}
+use Rattle.mm_opt.specs.CheckpointTurns.{ClosingTurns, over_told, step_told}
 use Rattle.mm_opt.specs.Closing.{GivesAs, IsClosing, StepIsClosing, closing, at_stage, stage_at, ended_told, sight_of, to_write, write_of}
 
 -- What is found, and what the machine has of it

@@ -1,6 +1,6 @@
 -- A call that was moved to its end.
-use Rattle.mm_opt.proofs.Below.{◌≡◌, ℕ, false, List, Result, subst, Opt, Standing, Meaning, Batch, is_long, BatchAnswer, Refusal, Ended}
-use Rattle.mm_opt.proofs.Below.{AsksTo, Calls, result_of, CallsTo, calls_from, Stage, opt_call, Finishes, Begun}
+use Rattle.mm_opt.proofs.Below.{◌≡◌, ℕ, List, subst, Opt, Standing, Meaning, Batch, BatchAnswer, Refusal, Ended}
+use Rattle.mm_opt.proofs.Below.{AsksTo, CallsTo, Stage, opt_call, Finishes, Begun}
 use Rattle.mm_machine.specs.Finishing as machine
 use Rattle.mm_machine.specs.declared.call.Ended.{Ended as End}
 use Rattle.mm_call.specs.Machine.{end_told}
@@ -11,17 +11,14 @@ use Rattle.mm_opt.proofs.Told.{asks_told, quiet}
 use Rattle.mm_opt.proofs.Going.{calls_to}
 
 -- a call that was finished from its begin
+pub finished_asks : (meaning : Meaning) (old new : Standing) (offer : List ℕ) (b : Batch) (ended : Ended)
+    → Finishes meaning Begun old new offer b ended → AsksTo opt_call meaning old new offer b ended
+finished_asks meaning old new offer b ended f = rw f.gives (asks_told meaning offer b old new f.end f.finishes)
+
 pub begun_asks : (call : Stage) (meaning : Meaning) (old new : Standing) (offer : List ℕ) (b : Batch) (ended : Ended)
     → Finishes meaning call old new offer b ended → call ≡ Begun → AsksTo opt_call meaning old new offer b ended
 begun_asks call meaning old new offer b ended f e =
-    let g : Finishes meaning Begun old new offer b ended = subst (λ (x : Stage). Finishes meaning x old new offer b ended) e f in
-    rw g.gives (asks_told meaning offer b old new g.end g.finishes)
-
-pub calls_finished : (call : Stage) (meaning : Meaning) (old new : Standing) (offer : List ℕ) (b : Batch) (ended : Ended)
-    (result : Result BatchAnswer Refusal) → call ≡ Begun → is_long b ≡ false → Finishes meaning call old new offer b ended
-    → result ≡ result_of ended → Calls opt_call meaning old new offer b result
-calls_finished call meaning old new offer b ended result e short f is =
-    calls_from opt_call meaning old new offer b ended result short (begun_asks call meaning old new offer b ended f e) is
+    finished_asks meaning old new offer b ended (subst (λ (x : Stage). Finishes meaning x old new offer b ended) e f)
 
 pub finished_to : (call : Stage) (meaning : Meaning) (old new : Standing) (offer : List ℕ) (b : Batch) (ended : Ended)
     → Finishes meaning call old new offer b ended → call ≡ Begun → CallsTo Opt meaning old new offer b ended
