@@ -1,1 +1,5 @@
 pub mod Keeping
+pub mod Numbers
+pub mod Steps
+pub mod Telling
+pub mod Calls

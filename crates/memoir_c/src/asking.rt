@@ -1,7 +1,11 @@
 //! A call that asks for a request.
 
-ghost use Rattle.std.specs.Prelude.{◌≡◌, ◌≢◌, false};
+ghost use Rattle.std.specs.Prelude.{◌≡◌, ◌≢◌, ◌<◌, ◌≤◌, ◌++◌, true, false, length, drop};
+ghost use Rattle.mm_told.specs.Asking.{AsksBy};
+ghost use Rattle.mm_told.specs.HostLaws.{worn_host};
+ghost use Rattle.memoir_c.specs.Calls.{AreParts, ComesTo, IsTold};
 ghost use Rattle.memoir_c.specs.Keeping.{IsKept};
+ghost use Rattle.memoir_c.specs.Telling.{Tells, TellsAnswer};
 
 use crate::keeping::{Kept, keep, key_kept};
 use crate::made::{MOST_STEPS, Step, next, put_made};
@@ -48,6 +52,8 @@ pub extern "C" fn memoir_ask(
     reply: &mut Reply,
     room: &mut [u8],
 ) -> u32
+    ensures told { IsTold instance.now steps.now offer.now request.now reply.old reply.new
+        room.old room.new result }
     ensures unwritten { result ≢ 0 → room.new ≡ room.old }
     ensures unsaid { result ≢ 0 → result ≢ 16 → reply.new ≡ reply.old }
 {
@@ -75,6 +81,8 @@ pub extern "C" fn memoir_ask_keeping(
 ) -> u32
     requires { IsKept kept.old memory.old }
     ensures kept { IsKept kept.new memory.new }
+    ensures told { IsTold instance.now steps.now offer.now request.now reply.old reply.new
+        room.old room.new result }
     ensures unwritten { result ≢ 0 → room.new ≡ room.old }
     ensures unsaid { result ≢ 0 → result ≢ 16 → reply.new ≡ reply.old }
 {
@@ -89,7 +97,9 @@ pub extern "C" fn memoir_ask_keeping(
 }
 
 /// The variant of this number, and the module of this id.
-pub fn parts(instance: &Instance) -> Result<(Variant, AnyModule), Said> {
+pub fn parts(instance: &Instance) -> Result<(Variant, AnyModule), Said>
+    ensures { AreParts instance.now result }
+{
     let Some(variant) = Variant::of_byte(instance.variant) else {
         return Err(Said::NoVariant);
     };
@@ -107,7 +117,9 @@ fn asked(
     offer: &[u8],
     request: &[u8],
     keys: &mut KeptKey,
-) -> Result<Outcome<Result<Answer, Refusal>>, Said> {
+) -> Result<Outcome<Result<Answer, Refusal>>, Said>
+    ensures { ComesTo instance.now steps.now offer.now request.now result }
+{
     let (variant, module) = parts(instance)?;
     if steps.len() > MOST_STEPS {
         return Err(Said::TooMany);
@@ -127,7 +139,9 @@ fn come_to<M: Module>(
     offer: &[u8],
     request: &[u8],
     keys: &mut KeptKey,
-) -> Outcome<Result<Answer, Refusal>> {
+) -> Outcome<Result<Answer, Refusal>>
+    ensures { AsksBy variant (M.meaning «module».now) worn_host made.now offer.now request.now result }
+{
     ask(alloc, variant, module, made, offer, request, keys)
 }
 
@@ -137,6 +151,13 @@ fn tell(
     reply: &mut Reply,
     room: &mut [u8],
 ) -> Said
+    ensures tells { Tells asked (record {
+      old = reply.old;
+      new = reply.new;
+      before = room.old;
+      after = room.new;
+      says = result;
+    }) }
     ensures unwritten { result ≢ Said.Done → room.new ≡ room.old }
     ensures unsaid { result ≢ Said.Done → result ≢ Said.Next → reply.new ≡ reply.old }
 {
@@ -155,6 +176,13 @@ fn tell(
 
 // Writes an answer: its output, and its snapshot behind that.
 fn put_answer(answer: &Answer, reply: &mut Reply, room: &mut [u8]) -> Said
+    ensures tells { TellsAnswer answer.now (record {
+      old = reply.old;
+      new = reply.new;
+      before = room.old;
+      after = room.new;
+      says = result;
+    }) }
     ensures unwritten { result ≢ Said.Done → room.new ≡ room.old }
     ensures unsaid { result ≢ Said.Done → reply.new ≡ reply.old }
 {
@@ -172,7 +200,11 @@ fn put_answer(answer: &Answer, reply: &mut Reply, room: &mut [u8]) -> Said
 
 // Writes these bytes, and those behind them, where there is room for both.
 fn put_both(front: &[u8], rest: &[u8], room: &mut [u8]) -> bool
-    ensures { result ≡ false → room.new ≡ room.old }
+    ensures unwritten { result ≡ false → (room.new ≡ room.old)
+        × (length room.old < length (front.now ++ rest.now)) }
+    ensures written { result ≡ true
+        → (room.new ≡ (front.now ++ rest.now) ++ drop (length (front.now ++ rest.now)) room.old)
+        × (length (front.now ++ rest.now) ≤ length room.old) }
 {
     if front.len() > room.len() {
         return false;

@@ -1,6 +1,8 @@
 //! A checkpoint.
 
 ghost use Rattle.std.specs.Prelude.{◌≡◌, ◌≢◌};
+ghost use Rattle.memoir_c.specs.Calls.{ClosesTo, IsClosingTold};
+ghost use Rattle.memoir_c.specs.Telling.{TellsClosing};
 
 use crate::made::{MOST_STEPS, Step, next, put_made};
 use crate::said::Said;
@@ -10,13 +12,16 @@ use mm_told::{Made, Outcome, checkpoint};
 /// What a checkpoint comes to with these steps made. Only Next writes the step that is to be made.
 #[unsafe(no_mangle)]
 pub extern "C" fn memoir_checkpoint(steps: &[Step], step: &mut Step) -> u32
-    ensures { result ≢ 16 → step.new ≡ step.old }
+    ensures told { IsClosingTold steps.now step.old step.new result }
+    ensures unsaid { result ≢ 16 → step.new ≡ step.old }
 {
     tell(closed(steps), step).code()
 }
 
 // What the checkpoint comes to.
-fn closed(steps: &[Step]) -> Result<Outcome<Result<Checkpointed, CheckpointRefusal>>, Said> {
+fn closed(steps: &[Step]) -> Result<Outcome<Result<Checkpointed, CheckpointRefusal>>, Said>
+    ensures { ClosesTo steps.now result }
+{
     if steps.len() > MOST_STEPS {
         return Err(Said::TooMany);
     }
@@ -31,7 +36,7 @@ fn tell(
     closed: Result<Outcome<Result<Checkpointed, CheckpointRefusal>>, Said>,
     into: &mut Step,
 ) -> Said
-    ensures { result ≢ Said.Next → into.new ≡ into.old }
+    ensures { TellsClosing closed into.old into.new result }
 {
     match closed {
         Err(said) => said,

@@ -1,5 +1,9 @@
 //! Device steps, as C makes them.
 
+ghost use Rattle.std.specs.Prelude.{◌≡◌, ◌<◌, ◌≤◌, ◌++◌, IfOk, IfErr, OnOk, length, take, replicate};
+ghost use Rattle.std.specs.Result.{result_err};
+ghost use Rattle.memoir_c.specs.Steps.{answer_by, IsStep, AreSteps, IsNoStep, HasNoStep, next_of};
+
 use crate::said::Said;
 use mm_base::CELL_LENGTH;
 use mm_digest::Digest;
@@ -20,15 +24,25 @@ pub struct Step {
 }
 
 /// The steps that were made, in a room for the most that a call makes.
-pub fn put_made(steps: &[Step], into: &mut [Made; MOST_STEPS]) -> Result<(), Said> {
-    for (place, step) in into.iter_mut().zip(steps) {
-        *place = made(step)?;
+pub fn put_made(steps: &[Step], into: &mut [Made; MOST_STEPS]) -> Result<(), Said>
+    requires { length steps.now ≤ 5 }
+    ensures ok { OnOk result (AreSteps steps.now (take (length steps.now) into.new)) }
+    ensures err { IfErr result (λ why. (why ≡ Said.NoStep) × HasNoStep steps.now) }
+{
+    'steps: for (i, step) in steps.iter().enumerate() {
+        match made(step) {
+            Err(said) => return Err(said),
+            Ok(it) => into[i] = it,
+        }
     }
     Ok(())
 }
 
 // The step that was made.
-fn made(step: &Step) -> Result<Made, Said> {
+fn made(step: &Step) -> Result<Made, Said>
+    ensures ok { IfOk result (λ it. IsStep step.now it) }
+    ensures err { IfErr result (λ why. (why ≡ Said.NoStep) × IsNoStep step.now) }
+{
     let answer = answer(step.answer)?;
     match step.kind {
         1 => Ok(Made::ReadCell(given(answer, step.bytes))),
@@ -41,7 +55,10 @@ fn made(step: &Step) -> Result<Made, Said> {
 }
 
 // What a device answered: 0 Ok, 1 Failed, 2 Off.
-fn answer(answer: u8) -> Result<Result<(), StepFault>, Said> {
+fn answer(answer: u8) -> Result<Result<(), StepFault>, Said>
+    ensures ok { IfOk result (λ it. answer ≡ answer_by (result_err it)) }
+    ensures err { IfErr result (λ why. (why ≡ Said.NoStep) × (2 < answer)) }
+{
     match answer {
         0 => Ok(Ok(())),
         1 => Ok(Err(StepFault::Failed)),
@@ -51,7 +68,10 @@ fn answer(answer: u8) -> Result<Result<(), StepFault>, Said> {
 }
 
 // What was read, where that didn't fail.
-fn given<T: Copy>(answer: Result<(), StepFault>, value: T) -> Result<T, StepFault> {
+fn given<T: Copy>(answer: Result<(), StepFault>, value: T) -> Result<T, StepFault>
+    ensures fault { result_err result ≡ result_err answer }
+    ensures value { IfOk result (λ it. it ≡ value) }
+{
     match answer {
         Ok(()) => Ok(value),
         Err(fault) => Err(fault),
@@ -59,14 +79,18 @@ fn given<T: Copy>(answer: Result<(), StepFault>, value: T) -> Result<T, StepFaul
 }
 
 // The register's value, or the value that extends it.
-fn value(step: &Step) -> Digest {
+fn value(step: &Step) -> Digest
+    ensures { result.bytes ≡ take 32 step.now.bytes }
+{
     let mut bytes = [0; 32];
     bytes.copy_from_slice(&step.bytes[..32]);
     Digest { bytes }
 }
 
 /// The step that is to be made next. The bytes behind a register's are zero.
-pub fn next(step: mm_told::Step) -> Step {
+pub fn next(step: mm_told::Step) -> Step
+    ensures { result ≡ next_of step }
+{
     match step {
         mm_told::Step::ReadCell => bare(1),
         mm_told::Step::WriteCell(bytes) => Step {
@@ -81,7 +105,9 @@ pub fn next(step: mm_told::Step) -> Step {
 }
 
 // A step of this kind that writes nothing.
-fn bare(kind: u8) -> Step {
+fn bare(kind: u8) -> Step
+    ensures { result ≡ record { kind = kind; answer = 0; bytes = replicate 104 0 } }
+{
     Step {
         kind,
         answer: 0,
@@ -90,7 +116,9 @@ fn bare(kind: u8) -> Step {
 }
 
 // A step that extends the register by this value.
-fn extending(value: &Digest) -> Step {
+fn extending(value: &Digest) -> Step
+    ensures { result ≡ record { kind = 5; answer = 0; bytes = value.now.bytes ++ replicate 72 0 } }
+{
     let mut bytes = [0; CELL_LENGTH];
     bytes[..32].copy_from_slice(&value.bytes);
     Step {

@@ -34,9 +34,11 @@ pub enum Said {
 
 impl Said {
     ghost use Rattle.std.specs.Prelude.{◌≡◌, ◌↔◌};
+    ghost use Rattle.memoir_c.specs.Numbers.{number_of, closing_said};
 
     /// Its number, 0 for Done alone, and 16 for Next alone.
     pub fn code(self) -> u32
+        ensures number { result ≡ number_of self }
         ensures done { (result ≡ 0) ↔ (self ≡ Said.Done) }
         ensures next { (result ≡ 16) ↔ (self ≡ Said.Next) }
     {
@@ -57,7 +59,9 @@ impl Said {
     }
 
     /// Of a refused checkpoint, as of a call that is refused for the same.
-    pub fn of_checkpoint(refusal: CheckpointRefusal) -> Said {
+    pub fn of_checkpoint(refusal: CheckpointRefusal) -> Said
+        ensures { result ≡ closing_said refusal }
+    {
         match refusal {
             CheckpointRefusal::Device(fault) => Said::Refused(Refusal::Device(fault)),
             CheckpointRefusal::Blank => Said::Refused(Refusal::Blank),

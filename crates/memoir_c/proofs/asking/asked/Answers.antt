@@ -1,0 +1,10 @@
+use Rattle.memoir_c.proofs.asking.asked.Goals as goal
+
+pub returns : goal.returns
+returns c = record {
+  parts = (c.in_ok-variant.variant, c.in_ok-variant.module);
+  made = _;
+  are_parts = c.in_ok-variant.ensures;
+  are_steps = c.in_ok-put_made.ensures.ok;
+  asks = c.come_to.ensures;
+}
