@@ -63,3 +63,6 @@ module _ {variant : Variant} {meaning : Meaning} {barrier : List ℕ} where
         done = (w.ends opt).done;
         is = batches ∙ (w.ends opt).is ∙ ap (λ (bs : List Batch). (w.ends opt).done ++ bs) (sym current);
       }) w
+
+pub each_of_none : {A : Type 0} (P : A → Type 0) (xs : List A) → xs ≡ [] → AllByRecursion P xs
+each_of_none P xs e = subst (AllByRecursion P) (sym e) tt

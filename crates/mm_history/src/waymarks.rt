@@ -5,7 +5,7 @@ ghost use Rattle.mm_module.specs.Meaning.{state_after};
 ghost use Rattle.mm_model.specs.History.{requests_of};
 ghost use Rattle.mm_model.specs.Instance.{Instance};
 ghost use Rattle.mm_history.specs.Marks.{marks_of};
-ghost use Rattle.mm_history.specs.Waymarks.{AreWaymarks, IsBetween, is_inside_batch, is_behind_all};
+ghost use Rattle.mm_history.specs.Waymarks.{AreWaymarks, EndsWithCurrent, IsBetween, is_inside_batch, is_behind_all};
 
 use crate::lists::Lists;
 use crate::marks::Marks;
@@ -59,17 +59,27 @@ fn front(bytes: &[u8], limit: usize) -> &[u8]
 }
 
 impl Waymarks {
-    ghost use Rattle.std.specs.Prelude.{◌≡◌, ◌≤◌, [], length};
+    ghost use Rattle.std.specs.Prelude.{◌≡◌, IfOk};
 
-    /// Nothing is kept. Takes no memory.
-    pub fn new(alloc: Global) -> Waymarks
-        ensures marks { result.marks.items ≡ [] }
-        ensures stages { result.stages.items ≡ [] }
+    /// What is kept of a history's first position.
+    pub fn first(
+        alloc: Global,
+        lists: &Lists,
+        marks: &Marks,
+        variant: Variant,
+        state: &[u8],
+    ) -> Result<Waymarks, Memory>
+        ensures { IfOk result (λ ways. (i : Instance) → variant ≡ i.variant → marks.now ≡ marks_of i lists.now
+            → state.now ≡ state_after i.meaning (requests_of lists.now.batches) → EndsWithCurrent lists.now
+            → AreWaymarks i.variant i.meaning i.barrier lists.now ways) }
     {
-        Waymarks {
+        let mut ways = Waymarks {
             marks: Vec::new(alloc),
             stages: Vec::new(alloc),
-        }
+        };
+        ways.keep(alloc, lists, marks, variant, state)?;
+        ways.keep_stage(lists, marks)?;
+        Ok(ways)
     }
 
     /// Keeps the position where the history stands, by what it comes to and the module's state.
