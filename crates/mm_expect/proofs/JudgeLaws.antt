@@ -3,7 +3,7 @@ use Rattle.mm_expect.proofs.Below.{◌≡◌, ℕ, Bool, true, List, Option, Non
 use Rattle.mm_expect.proofs.Below.{AllByRecursion, Variant, Basic, Opt, Meaning, AnyModule, meaning_of, any_is_lawful, parts_of, Content}
 use Rattle.mm_expect.proofs.Below.{Instance, opt, Names, IsGenuine, right_content, History, instance_by, Header, Event, offered_bytes}
 use Rattle.mm_expect.proofs.Below.{expected, world_of, world_key, world_barrier, IsIssued, IsGenuineEvent, basic_issued_named}
-use Rattle.mm_expect.proofs.Below.{opt_issued_named, AreIssued, IsAmong, IsSaidAt, DecidesBytes, DecidesOffer}
+use Rattle.mm_expect.proofs.Below.{opt_issued_named, AreIssued, IsAmong, DecidesBytes, DecidesOffer}
 use Rattle.mm_expect.proofs.Below.{DecidesEvent, IsDecided, Recorded, barrier_of, instance_with, recorded_instance, Traced, IsAfter}
 use Rattle.std.specs.Prelude.{Result}
 use Rattle.mm_schedule.specs.declared.event.Offer.{Offer}
@@ -12,7 +12,6 @@ use Rattle.mm_expect.proofs.AfterLaws.{header_of, traced, instance_is}
 use Rattle.mm_expect.proofs.EventLaws.{few_expected}
 use Rattle.std.proofs.lemmas.Result.{IfOk-weaker}
 use Rattle.mm_expect.proofs.GenuineLaws.{offers_decided, issued_genuine}
-use Rattle.mm_call.specs.OfferLaws.{right_of}
 
 named_by : (variant : Variant) (meaning : Meaning) (events : List Event)
     → (let i = instance_by variant meaning world_key world_barrier in AllByRecursion (IsIssued i (expected i events).state)
@@ -69,15 +68,6 @@ module _ (r : Recorded) (issued : List (List ℕ)) where
   pub decided_among : (bytes : List ℕ) → IsAmong bytes issued → DecidesBytes (recorded_instance r) r.history issued bytes true
   decided_among bytes among are = issued_found among.0 (Some bytes) among.1 are
 
-  pub decided_beside : (b : Bool) (bytes : List ℕ) {position : ℕ} {content other : Content}
-      → right_content (recorded_instance r) bytes ≡ Some content → IsSaidAt (recorded_instance r) issued position other
-      → (Names (recorded_instance r) r.history other → IsDecided b (Names (recorded_instance r) r.history content))
-      → DecidesBytes (recorded_instance r) r.history issued bytes b
-  decided_beside b bytes {content = content} {other = other} e said d are =
-      let i = recorded_instance r in
-      (offers_decided i).right r.history bytes content b e (d (issued_found said.among.0 (Some said.bytes) said.among.1 are other
-      (right_of i said.bytes (parts_of i.variant i.meaning.id said.bytes) refl other said.right)))
-
 -- what is decided of the lists, whatever the key, is decided of what contracts see
 
 guarded_is : (variant : Variant) («module» : AnyModule) (barrier : List ℕ) → barrier ≡ barrier_of variant
@@ -97,10 +87,3 @@ module _ {old seen : Recorded} {barrier : List ℕ} (is : old ≡ seen) (guarded
       content))
       → IfOk r (λ b. IsDecided b (Names (recorded_instance seen) seen.history content))
   names_there r content = IfOk-weaker r _ _ (λ b. there (λ i y. IsDecided b (Names i y content)))
-
-  -- the same beside what else is said
-  pub beside_there : (b : Bool) (content other : Content)
-      → ((key : List ℕ) → Names (instance_by old.variant (meaning_of old.«module») key barrier) old.history other
-      → IsDecided b (Names (instance_by old.variant (meaning_of old.«module») key barrier) old.history content))
-      → Names (recorded_instance seen) seen.history other → IsDecided b (Names (recorded_instance seen) seen.history content)
-  beside_there b content other = there (λ i y. Names i y other → IsDecided b (Names i y content))

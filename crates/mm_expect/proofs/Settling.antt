@@ -10,7 +10,12 @@ use Rattle.mm_expect.proofs.Below.{Recorded, barrier_of, instance_with, recorded
 use Rattle.std.proofs.lemmas.List.Folds.{list_any-append}
 use Rattle.mm_module.specs.MeaningWords.{state_from}
 use Rattle.mm_model.specs.FormLaws.{reads_zero}
-use Rattle.mm_expect.specs.Settled.{IsSettled}
+use Rattle.mm_expect.proofs.Below.{append-nil, append_assoc, Meaning}
+use Rattle.mm_model.specs.History.{Entry}
+use Rattle.mm_expect.specs.Settled.{IsKept, IsSettled}
+use Rattle.mm_history.specs.Waymarks.{AreWaymarks, EndsWithCurrent}
+use Rattle.mm_history.specs.WaymarkLaws.{ways_on, ways_still}
+use Rattle.mm_history.specs.declared.waymarks.Waymarks.{Waymarks}
 use Rattle.mm_history.specs.MarkLaws.{marks_value, marks_emptied, marks_shut, marks_linked, marks_grown, marks_opened}
 
 spelled_same : («module» : AnyModule) (next state : List ℕ) (members : List (List ℕ))
@@ -160,6 +165,65 @@ pub answered_is : (r : Recorded) (again : Bool) (b : Batch) {position : ℕ} {ou
     (answer_on (recorded_instance r) r.history b again)
 answered_is r again b p o s =
     λ j. Answered (record { again = again; position = p j; outputs = o j; snapshot = s j })
+
+-- What is kept of positions stays with each move.
+
+module _ {variant : Variant} {meaning : Meaning} {barrier : List ℕ} {y : History} {ways : Waymarks}
+    (w : AreWaymarks variant meaning barrier y ways) where
+  pub ways_items : {z : History} (items : List Entry) → z ≡ record y { items = items } → AreWaymarks variant meaning barrier z ways
+  ways_items items is = ways_still (ap (λ (h : History). h.batches) is) (ap (λ (h : History). h.closed) is)
+      (ap (λ (h : History). h.current) is) w
+
+  pub ways_shut : {z : History} → z ≡ record y { closed = y.closed ++ y.items ∷ []; current = []; is_open = false }
+      → AreWaymarks variant meaning barrier z ways
+  ways_shut is =
+      let all = ap (λ (h : History). h.batches) is ∙ sym (append-nil y.batches) in
+      ways_on [] (y.items ∷ []) all (ap (λ (h : History). h.closed) is) (λ opt. record {
+        done = y.batches;
+        is = all ∙ ap (λ (bs : List Batch). y.batches ++ bs) (sym (ap (λ (h : History). h.current) is));
+      }) w
+
+  pub ways_linked : {z : History} (b : Batch) → variant ≡ Basic → z ≡ committed Basic y.is_open y b
+      → AreWaymarks variant meaning barrier z ways
+  ways_linked b basic is = ways_on (b ∷ []) [] (ap (λ (h : History). h.batches) is)
+      (ap (λ (h : History). h.closed) is ∙ sym (append-nil y.closed)) (λ opt. let clash : Basic ≡ Opt = sym basic ∙ opt in absurd (cc)) w
+
+  pub ways_grown : {z : History} (b : Batch) → z ≡ committed Opt true y b → AreWaymarks variant meaning barrier z ways
+  ways_grown b is = ways_on (b ∷ []) [] (ap (λ (h : History). h.batches) is)
+      (ap (λ (h : History). h.closed) is ∙ sym (append-nil y.closed)) (λ opt. let done = (w.ends opt).done in record {
+        done = done;
+        is = ap (λ (h : History). h.batches) is ∙ ap (λ (bs : List Batch). bs ++ b ∷ []) (w.ends opt).is
+            ∙ append_assoc done y.current (b ∷ [])
+            ∙ ap (λ (bs : List Batch). done ++ bs) (sym (ap (λ (h : History). h.current) is));
+      }) w
+
+  pub ways_opened : {z : History} (b : Batch) → z ≡ committed Opt false y b → AreWaymarks variant meaning barrier z ways
+  ways_opened b is = ways_on (b ∷ []) [] (ap (λ (h : History). h.batches) is)
+      (ap (λ (h : History). h.closed) is ∙ sym (append-nil y.closed)) (λ opt. record {
+        done = y.batches;
+        is = ap (λ (h : History). h.batches) is
+            ∙ ap (λ (bs : List Batch). y.batches ++ bs) (sym (ap (λ (h : History). h.current) is));
+      }) w
+
+-- more of it is kept
+module _ {variant : Variant} {«module» : AnyModule} {barrier : List ℕ} {y : History} {marks : Marks} {state before : List ℕ} where
+  pub kept_by : {ways : Waymarks} → IsSettled variant «module» barrier y marks state before
+      → AreWaymarks variant (meaning_of «module») (barrier_of variant) y ways
+      → IsKept variant «module» barrier y marks state before ways
+  kept_by {ways} s w = record {
+    settled = s;
+    ways_are = subst (λ (b : List ℕ). AreWaymarks variant (meaning_of «module») b y ways) (sym s.barrier_is) w;
+  }
+
+  pub kept_more : {ways new : Waymarks} → IsKept variant «module» barrier y marks state before ways
+      → (AreWaymarks variant (meaning_of «module») (barrier_of variant) y ways
+      → AreWaymarks variant (meaning_of «module») (barrier_of variant) y new)
+      → IsKept variant «module» barrier y marks state before new
+  kept_more {ways} {new} s more = kept_by s.settled
+      (more (subst (λ (b : List ℕ). AreWaymarks variant (meaning_of «module») b y ways) s.barrier_is s.ways_are))
+
+pub first_ends : {y : History} → y ≡ first_history → EndsWithCurrent y
+first_ends e = record { done = []; is = ap (λ (h : History). h.batches) e ∙ sym (ap (λ (h : History). h.current) e) }
 
 -- a batch that isn't too long, as a list
 pub short_one : (b : Batch) → is_long b ≡ false → list_any is_long (b ∷ []) ≡ false

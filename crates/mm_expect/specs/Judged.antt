@@ -2,7 +2,7 @@
 use Rattle.std.specs.Prelude.{◌≡◌, ℕ, ◌≤◌, Bool, false, List, Option, None, Some, Result, Ok, Err, slice_get}
 use Rattle.std.specs.List.{AllByRecursion}
 use Rattle.std.specs.Str.{bytes_eq}
-use Rattle.mm_expect.specs.Below.{last_position, Content, Snapshot, PartsFault, History, total_of, Instance, IsGenuine, right_content}
+use Rattle.mm_expect.specs.Below.{last_position, Snapshot, PartsFault, History, total_of, Instance, IsGenuine}
 use Rattle.mm_expect.specs.Below.{Event, Offer, Header, IsDecided, world_of, IsIssued, offered_bytes, IsGenuineEvent, IsGenuineOffer}
 use Rattle.mm_expect.specs.Traced.{Traced, IsAfter}
 
@@ -25,14 +25,6 @@ is_found (Some found) bytes = bytes_eq found bytes
 -- an issued snapshot has these bytes
 abbrev pub IsAmong : List ℕ → List (List ℕ) → Type 0
 IsAmong bytes issued = (number : ℕ) × (slice_get issued number ≡ Some bytes)
-
--- An issued snapshot of this position says so, and is right.
-pub record IsSaidAt (i : Instance) (issued : List (List ℕ)) (position : ℕ)
-    (content : Content) : Type 0 where
-  pub bytes : List ℕ
-  pub among : IsAmong bytes issued
-  pub right : right_content i bytes ≡ Some content
-  pub position_is : content.position ≡ position
 
 -- It is decided whether offered bytes are genuine.
 abbrev pub DecidesBytes : Instance → History → List (List ℕ) → List ℕ → Bool → Type 0

@@ -2,6 +2,8 @@
 use Rattle.std.specs.Prelude.{◌≡◌, ℕ, false, List, [], ◌∷◌, ◌++◌, IsTrue}
 use Rattle.std.specs.List.{list_any}
 use Rattle.mm_expect.specs.Below.{Variant, Batch, state_after, meaning_of, AnyModule, History, requests_of, is_long, marks_of, Marks}
+use Rattle.mm_history.specs.Waymarks.{AreWaymarks}
+use Rattle.mm_history.specs.declared.waymarks.Waymarks.{Waymarks}
 use Rattle.mm_expect.specs.Recorded.{barrier_of, instance_with}
 
 -- the barrier and the marks are those of the history; and the module's states those after its
@@ -17,3 +19,11 @@ pub record IsSettled (variant : Variant) («module» : AnyModule) (barrier : Lis
   pub spelled : IsTrue ((meaning_of «module»).is_spelled state)
   pub begun : IsTrue ((meaning_of «module»).is_spelled before)
   pub short : list_any is_long history.batches ≡ false
+
+-- and what is kept of its positions
+pub record IsKept (variant : Variant) («module» : AnyModule) (barrier : List ℕ)
+    (history : History) (marks : Marks)
+    (state before : List ℕ) (ways : Waymarks) : Type 0 where
+  pub settled : IsSettled variant «module» barrier history marks state before
+  pub open settled use *
+  pub ways_are : AreWaymarks variant (meaning_of «module») barrier history ways

@@ -5,7 +5,7 @@ ghost use Rattle.std.specs.Prelude.{◌≡◌};
 use mm_base::{Bytes, Memory};
 use mm_call::{Ran, run_batch};
 use mm_digest::{Digest, Variant, zero};
-use mm_history::{Lists, Marks, anchored_message, guard, joined};
+use mm_history::{Lists, Marks, Waymarks, anchored_message, guard, joined};
 use mm_module::{Batch, Module};
 use mm_modules::AnyModule;
 use mm_run::world_barrier;
@@ -27,13 +27,14 @@ pub(crate) struct Chronicle {
     pub(crate) state: Bytes,
     /// The module's state before the last batch.
     pub(crate) before: Bytes,
+    pub(crate) waymarks: Waymarks,
     pub(crate) extending: Vec<Bytes>,
     pub(crate) closing: Vec<Bytes>,
 }
 
 impl Model for Chronicle {
     ghost use Rattle.mm_expect.specs.Recorded.{Recorded};
-    ghost use Rattle.mm_expect.specs.Settled.{IsSettled};
+    ghost use Rattle.mm_expect.specs.Settled.{IsKept};
 
     ghost Value = { Recorded };
 
@@ -45,8 +46,8 @@ impl Model for Chronicle {
       closing = s.closing.items;
     } };
 
-    ghost invariant = { λ s. IsSettled s.variant s.«module» s.barrier s.lists s.marks s.state
-        s.before };
+    ghost invariant = { λ s. IsKept s.variant s.«module» s.barrier s.lists s.marks s.state
+        s.before s.waymarks };
 }
 
 impl Chronicle {
@@ -74,15 +75,19 @@ impl Chronicle {
             Variant::Basic => zero().bytes,
             Variant::Opt => world_barrier(),
         };
+        let lists = Lists::new(alloc);
+        let marks = Marks::first(variant, module.id());
+        let waymarks = Waymarks::first(alloc, &lists, &marks, variant, state.as_slice())?;
         Ok(Chronicle {
             alloc,
             variant,
             module,
             barrier,
-            lists: Lists::new(alloc),
-            marks: Marks::first(variant, module.id()),
+            lists,
+            marks,
             state,
             before,
+            waymarks,
             extending: Vec::new(alloc),
             closing: Vec::new(alloc),
         })
@@ -176,7 +181,27 @@ impl Chronicle {
         let is_bare = self.lists.is_bare();
         self.lists.close()?;
         self.marks = self.marks.closed(self.variant, has_value, is_bare);
-        Ok(())
+        self.keep_stage()
+    }
+
+    // Keeps the place where the next segment begins.
+    fn keep_stage(&mut self) -> Result<(), Memory>
+        ensures { self.new ≡ self.old }
+    {
+        self.waymarks.keep_stage(&self.lists, &self.marks)
+    }
+
+    // Keeps the position where the history stands.
+    fn keep_position(&mut self) -> Result<(), Memory>
+        ensures { self.new ≡ self.old }
+    {
+        self.waymarks.keep(
+            self.alloc,
+            &self.lists,
+            &self.marks,
+            self.variant,
+            self.state.as_slice(),
+        )
     }
 
     /// A batch is committed.
@@ -190,15 +215,16 @@ impl Chronicle {
             return Err(Memory);
         }
         match self.variant {
-            Variant::Basic => self.link(batch, size, state),
+            Variant::Basic => self.link(batch, size, state)?,
             Variant::Opt => {
                 if self.lists.is_open() {
-                    self.grow(batch, size, state)
+                    self.grow(batch, size, state)?
                 } else {
-                    self.begin_segment(batch, size, state)
+                    self.begin_segment(batch, size, state)?
                 }
             }
         }
+        self.keep_position()
     }
 
     // Basic: a batch of this size is committed, after which the module has this state.

@@ -1,6 +1,6 @@
 //! Whether what is offered is genuine.
 
-ghost use Rattle.std.specs.Prelude.{◌≡◌, ◌≤◌, true, length, IfOk, IfSome, option_map, slice_get};
+ghost use Rattle.std.specs.Prelude.{◌≡◌, ◌≤◌, true, length, IfOk, option_map, slice_get};
 ghost use Rattle.mm_seal.specs.Body.{content_of};
 ghost use Rattle.mm_seal.specs.Parts.{parts_of};
 ghost use Rattle.mm_model.specs.Standing.{IsGenuine};
@@ -9,12 +9,12 @@ ghost use Rattle.mm_schedule.specs.Events.{event_of};
 ghost use Rattle.mm_run.specs.Held.{world_key};
 ghost use Rattle.mm_history.specs.Naming.{IsDecided};
 ghost use Rattle.mm_expect.specs.Genuine.{EachOfferIsDecided, BasicIssuedAreGenuine, OptIssuedAreGenuine};
-ghost use Rattle.mm_expect.specs.Judged.{position_in, is_found, IsAmong, IsSaidAt, DecidesBytes, DecidesOffer, DecidesEvent};
+ghost use Rattle.mm_expect.specs.Judged.{position_in, is_found, IsAmong, DecidesBytes, DecidesOffer, DecidesEvent};
 ghost use Rattle.mm_expect.specs.Recorded.{recorded_instance};
 
 use crate::chronicle::Chronicle;
 use mm_base::{Bytes, Memory};
-use mm_history::{is_named, is_named_beside};
+use mm_history::is_named;
 use mm_module::Module;
 use mm_run::offered;
 use mm_schedule::{Event, Offer};
@@ -61,6 +61,7 @@ fn are_genuine(chronicle: &Chronicle, key: &SealingKey, bytes: &[u8]) -> Result<
         Some(body) => is_named(
             chronicle.alloc,
             &chronicle.lists,
+            &chronicle.waymarks,
             chronicle.variant,
             &chronicle.module,
             &chronicle.barrier,
@@ -110,54 +111,6 @@ fn is_issued(chronicle: &Chronicle, issued: &[Bytes], bytes: &[u8]) -> bool
     has_bytes(issued, behind.saturating_sub(1), bytes)
 }
 
-// What an issued snapshot of this position says, if one is found.
-fn said_at<'a>(
-    chronicle: &Chronicle,
-    key: &SealingKey,
-    issued: &'a [Bytes],
-    position: u64,
-) -> Option<Body<'a>>
-    requires { key.now ≡ world_key }
-    ensures { IfSome result
-        (λ body. IsSaidAt (recorded_instance chronicle.now) issued.now position (content_of body)) }
-{
-    let snapshot = issued.get(first_from(chronicle, issued, position))?;
-    let body = right_body(chronicle, key, snapshot.as_slice())?;
-    if body.position != position {
-        return None;
-    }
-    Some(body)
-}
-
-// Whether these bytes are genuine: by what an issued snapshot of their position says, if one is found, and else by a run of
-// the history.
-fn are_genuine_beside(
-    chronicle: &Chronicle,
-    key: &SealingKey,
-    issued: &[Bytes],
-    bytes: &[u8],
-) -> Result<bool, Memory>
-    requires { key.now ≡ world_key }
-    ensures { IfOk result (DecidesBytes (recorded_instance chronicle.now) chronicle.now.history
-        issued.now bytes.now) }
-{
-    let body = match right_body(chronicle, key, bytes) {
-        None => return Ok(true),
-        Some(body) => body,
-    };
-    match said_at(chronicle, key, issued, body.position) {
-        None => are_genuine(chronicle, key, bytes),
-        Some(other) => Ok(is_named_beside(
-            &chronicle.lists,
-            chronicle.variant,
-            &chronicle.module,
-            &chronicle.barrier,
-            &body,
-            &other,
-        )),
-    }
-}
-
 // Whether offered bytes are genuine. Those of an issued snapshot always are.
 fn are_issued_or_genuine(
     chronicle: &Chronicle,
@@ -172,7 +125,7 @@ fn are_issued_or_genuine(
     if is_issued(chronicle, issued, bytes) {
         return Ok(true);
     }
-    are_genuine_beside(chronicle, key, issued, bytes)
+    are_genuine(chronicle, key, bytes)
 }
 
 // Whether what is offered is genuine. An issued snapshot always is.

@@ -40,4 +40,4 @@ pub use Rattle.mm_model.specs.declared.kept.KeptEntry.{KeptEntry}
 pub use Rattle.mm_call.specs.Standing.{instance_by}
 pub use Rattle.mm_history.specs.MarkLaws.{and_true, own_more}
 pub use Rattle.mm_history.specs.Naming.{anchor_at, first_with, is_at, is_behind, is_here, is_inside_at, is_named, is_named_at, is_place}
-pub use Rattle.mm_history.specs.Naming.{is_place_in, is_within, IsDecided, same_batches, same_summary, some_place}
+pub use Rattle.mm_history.specs.Naming.{is_place_in, is_within, IsDecided, same_batches, some_place}

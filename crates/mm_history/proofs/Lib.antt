@@ -2,4 +2,5 @@ mod Below
 mod FirstLaws
 mod TakenLaws
 mod NameLaws
+mod KnownLaws
 mod PlaceLaws

@@ -6,7 +6,7 @@ use Rattle.mm_history.proofs.Below.{length-take, drop-append-le, take-append-le,
 use Rattle.mm_history.proofs.Below.{zero_bytes, Batch, state_after, Place, InBasic, InOpt, Content, summary_of, register_of}
 use Rattle.mm_history.proofs.Below.{own_values, Instance, Entry, History, requests_of, joined, is_empty, has_value, IsPoint}
 use Rattle.mm_history.proofs.Below.{at_anchor, in_closed, in_current, IsPlaceOf, Names, anchor_after, IsDecided, first_with}
-use Rattle.mm_history.proofs.Below.{is_at, is_behind, is_within, is_inside_at, some_place, is_place, is_named_at, is_named, same_summary}
+use Rattle.mm_history.proofs.Below.{is_at, is_behind, is_within, is_inside_at, some_place, is_place, is_named_at, is_named}
 use Rattle.std.proofs.Math.Seq.{drop-append_seam}
 use Rattle.std.proofs.lemmas.Slice.Eq.{bytes_eq-Decides}
 use Rattle.std.proofs.lemmas.Bool.{not-true, not_from_false}
@@ -251,31 +251,3 @@ pub named_by : (i : Instance) (y : History) (content : Content) (r : Bool) → r
 named_by i y content r e =
     let whole = names-Decides i y content (first_with content.position y.batches) refl in
     subst (λ (t : Bool). IsDecided t (Names i y content)) (sym e) (decided (is_named i y content) whole)
-
--- By what another snapshot says that names the same position.
-
-summary_beside : (i : Instance) (y : History) (named : List Batch) (place other : Place) → IsPlaceOf Basic i y named other
-    → same_summary place other ≡ is_place Basic i y named place
-summary_beside i y named (InBasic s) (InBasic t) p = ap (bytes_eq s.bytes) p
-summary_beside i y named (InBasic s) (InOpt a e) p = absurd p
-summary_beside i y named (InOpt a e) other p = refl
-
-module _ (i : Instance) (y : History) (content other : Content) (same : content.position ≡ other.position) {r : Bool}
-    (test : r ≡ bytes_eq content.state other.state) (n : Names i y other) where
-  named_beside : is_named i y content ≡ (r && is_place i.variant i y n.named content.place)
-  named_beside = ap (is_named_at i y content) (first_beside i y content other same n)
-      ∙ ap (λ (b : Bool). b && is_place i.variant i y n.named content.place) (ap (bytes_eq content.state) (sym n.state) ∙ sym test)
-
-  pub state_beside : r ≡ false → IsDecided false (Names i y content)
-  state_beside off =
-      named_by i y content false (sym (named_beside ∙ ap (λ (b : Bool). b && is_place i.variant i y n.named content.place) off))
-
-  pub stated_beside : r ≡ true → is_place i.variant i y n.named content.place ≡ is_named i y content
-  stated_beside on = sym (named_beside ∙ ap (λ (b : Bool). b && is_place i.variant i y n.named content.place) on)
-
-  pub basic_beside : {s : Bool} → i.variant ≡ Basic → r ≡ true → s ≡ same_summary content.place other.place
-      → IsDecided s (Names i y content)
-  basic_beside {s} basic on is =
-      let named : IsPlaceOf Basic i y n.named other.place = subst (λ (v : Variant). IsPlaceOf v i y n.named other.place) basic n.place in
-      named_by i y content s (is ∙ summary_beside i y n.named content.place other.place named
-      ∙ ap (λ (v : Variant). is_place v i y n.named content.place) (sym basic) ∙ stated_beside on)

@@ -8,8 +8,13 @@ use Rattle.mm_history.proofs.Below.{KeptEntry, kept_batch, kept_batches, kept_en
 use Rattle.mm_history.proofs.Below.{anchor_at, is_at, is_behind, is_here, is_inside_at, some_place, is_place_in, is_place, is_named_at}
 use Rattle.mm_history.proofs.Below.{instance_by, IsDecided, and_true, zero_bytes, nat_lt}
 use Rattle.std.specs.Prelude.{◌&&◌}
-use Rattle.mm_history.proofs.NameLaws.{first_beside, named_by, stated_beside}
-use Rattle.mm_call.specs.MoveLaws.{anchor-nil}
+use Rattle.mm_history.proofs.NameLaws.{named_by}
+use Rattle.mm_history.proofs.FirstLaws.{same-Decides}
+use Rattle.mm_history.specs.Waymarks.{EndsWithCurrent, IsStage, stage_at}
+use Rattle.mm_history.specs.declared.waymarks.Stage.{Stage}
+use Rattle.std.specs.List.{AllByRecursion}
+use Rattle.std.proofs.Math.Seq.{drop-append_seam}
+use Rattle.mm_history.proofs.Below.{suc, own_values, map, map-append, take-append-drop}
 use Rattle.std.proofs.lemmas.Bool.{and_left, and_right, ne_eqb, le-ltb}
 use Rattle.mm_history.proofs.TakenLaws.{not_or, segments_left, anchor_more, taken}
 
@@ -17,17 +22,29 @@ use Rattle.mm_history.proofs.TakenLaws.{not_or, segments_left, anchor_more, take
 pub back_is : (xs : List KeptBatch) (n : ℕ) → take (length xs - n) (drop n xs) ≡ drop n xs
 back_is xs n = take_all (length xs - n) (drop n xs) (omega (arith, length-drop n xs))
 
--- The test inside the open segment, by what was compared.
-pub inside_by : (barrier last : List ℕ) (y : History) (named : List Batch) (a e : List ℕ) (bs cs : List KeptBatch) {start : ℕ} {r s : Bool}
-    → kept_batches bs ≡ y.batches → kept_batches cs ≡ y.current → start ≡ length bs - length cs
-    → r ≡ same_batches (kept_batches (take (length bs - start) (drop start bs))) (kept_batches cs)
-    → s ≡ (r && is_behind barrier last start named a e) → s ≡ is_inside_at barrier last y named a e
-inside_by barrier last y named a e bs cs {start} all current at same is =
+pub own_from : (barrier : List ℕ) (start : ℕ) (named : List KeptBatch)
+    → register_of (own_values barrier (kept_batches (take (length named - start) (drop start named))))
+    ≡ register_of (own_values barrier (drop start (kept_batches named)))
+own_from barrier start named = ap (λ (bs : List KeptBatch). register_of (own_values barrier (kept_batches bs))) (back_is named start)
+    ∙ ap (λ (bs : List Batch). register_of (own_values barrier bs)) (sym (drop-map kept_batch start named))
+
+-- The test inside the open segment, whose batches are the last.
+pub last_are : (y : History) → EndsWithCurrent y → drop (length y.batches - length y.current) y.batches ≡ y.current
+last_are y ends =
+    let counts : length y.batches ≡ length ends.done + length y.current = ap length ends.is ∙ length-append ends.done y.current in
+    let start : length y.batches - length y.current ≡ length ends.done = omega (arith, counts) in
+    (λ j. drop (start j) (ends.is j)) ∙ drop-append_seam ends.done y.current
+
+pub inside_by : (barrier last : List ℕ) (y : History) (named : List Batch) (a e : List ℕ) (bs cs : List KeptBatch) {start : ℕ} {r : Bool}
+    → kept_batches bs ≡ y.batches → kept_batches cs ≡ y.current → start ≡ length bs - length cs → EndsWithCurrent y
+    → r ≡ is_behind barrier last start named a e → r ≡ is_inside_at barrier last y named a e
+inside_by barrier last y named a e bs cs {start} all current at ends is =
     let begins : start ≡ length y.batches - length y.current =
     at ∙ (λ j. (sym (length-map bs kept_batch) ∙ ap length all) j - (sym (length-map cs kept_batch) ∙ ap length current) j) in
-    let back = ap kept_batches (back_is bs start) ∙ sym (drop-map kept_batch start bs) ∙ ap (drop start) all in
-    is ∙ (λ j. (same ∙ (λ k. same_batches (back k) (current k))) j && is_behind barrier last start named a e)
-    ∙ ap (λ (n : ℕ). same_batches (drop n y.batches) y.current && is_behind barrier last n named a e) begins
+    let behind = is_behind barrier last (length y.batches - length y.current) named a e in
+    is ∙ ap (λ (n : ℕ). is_behind barrier last n named a e) begins
+    ∙ ap (λ (b : Bool). b && behind)
+    (sym ((same-Decides (drop (length y.batches - length y.current) y.batches) y.current).1 (last_are y ends)))
 
 is_empty_by : (xs : List (List Entry)) (n : ℕ) → n ≡ length xs → (n == 0) ≡ is_empty xs
 is_empty_by [] n same = (Decides-eqb n 0).1 same
@@ -35,10 +52,9 @@ is_empty_by (x ∷ xs) n same = ne_eqb n 0 (λ z. absurd (omega (arith, same, z)
 
 -- How far the walk over the closed segments has come.
 module _ (id : ℕ) (barrier : List ℕ) (y : History) (named : List Batch) (a e : List ℕ) where
-  pub record Reached (before rest all : List (List Entry)) (here : List ℕ) (entries : ℕ) (is_clean : Bool) (later : ℕ) : Type 0 where
-    pub here_is : here ≡ anchor_at id barrier before
+  pub record Reached (before rest all : List (List Entry)) (here : Stage) (entries later : ℕ) : Type 0 where
+    pub here_is : here ≡ stage_at id barrier before
     pub entries_is : entries ≡ length (joined before)
-    pub clean_is : is_clean ≡ not (has_value (joined before))
     pub fits : entries ≤ length named
     pub left : later ≡ length rest
     pub same : some_place id barrier y named a e before rest ≡ some_place id barrier y named a e [] all
@@ -63,29 +79,28 @@ module _ (id : ℕ) (barrier : List ℕ) (y : History) (named : List Batch) (a e
 
 -- The walk, over owned segments and batches.
 module _ (id : ℕ) (barrier : List ℕ) (y : History) (named : List KeptBatch) (a e : List ℕ) where
-  abbrev pub Walked : {A : Type 0} → List (Vec KeptEntry A) → ℕ → (here : List ℕ) (entries : ℕ) (is_clean : Bool) (later : ℕ) → Type 0
-  Walked closed k here entries is_clean later =
+  abbrev pub Walked : {A : Type 0} → List (Vec KeptEntry A) → ℕ → (here : Stage) (entries later : ℕ) → Type 0
+  Walked closed k here entries later =
       Reached id barrier y (kept_batches named) a e (kept_segments (take k closed)) (kept_segments (drop k closed)) (kept_segments closed)
-      here entries is_clean later
+      here entries later
 
-  pub walk_begins : {A : Type 0} (closed : List (Vec KeptEntry A)) (here : List ℕ) → here ≡ start_of Opt id
-      → Reached id barrier y (kept_batches named) a e [] (kept_segments closed) (kept_segments closed) here 0 true (length closed)
+  pub walk_begins : {A : Type 0} (closed : List (Vec KeptEntry A)) (here : Stage) → here ≡ stage_at id barrier []
+      → Reached id barrier y (kept_batches named) a e [] (kept_segments closed) (kept_segments closed) here 0 (length closed)
   walk_begins {A} closed here is = record {
-    here_is = is ∙ anchor-nil id;
+    here_is = is;
     entries_is = refl;
-    clean_is = refl;
     fits = omega arith;
     left = sym (length-map closed (λ (v : Vec KeptEntry A). kept_entries v.items));
     same = refl;
   }
 
 -- at a segment where the place isn't
-module _ {A : Type 0} {id : ℕ} {barrier : List ℕ} {y : History} {a e here : List ℕ} {entries : ℕ} {is_clean : Bool} {later size : ℕ}
+module _ {A : Type 0} {id : ℕ} {barrier : List ℕ} {y : History} {a e : List ℕ} {here : Stage} {entries later size : ℕ}
     {shut ends tested : Bool} (named : List KeptBatch) (closed : List (Vec KeptEntry A)) (k : ℕ) (segment : Vec KeptEntry A)
     (l : k < length closed) (is : segment ≡ get_or closed k segment)
-    (w : Walked id barrier y named a e closed k here entries is_clean later) (sized : size ≡ length segment.items)
+    (w : Walked id barrier y named a e closed k here entries later) (sized : size ≡ length segment.items)
     (clear : shut ≡ is_empty y.current) (ended : ends ≡ ((later - 1 == 0) && shut))
-    (test : tested ≡ is_here is_clean barrier here entries (kept_batches named) size ends a e) (not_here : tested ≡ false) where
+    (test : tested ≡ is_here here.is_clean barrier here.anchor.bytes entries (kept_batches named) size ends a e) (not_here : tested ≡ false) where
   abbrev before : List (List Entry)
   before = kept_segments (take k closed)
 
@@ -95,9 +110,8 @@ module _ {A : Type 0} {id : ℕ} {barrier : List ℕ} {y : History} {a e here : 
   abbrev items : List Entry
   items = kept_entries segment.items
 
-  cut : Reached id barrier y (kept_batches named) a e before (items ∷ rest) (kept_segments closed) here entries is_clean later
+  cut : Reached id barrier y (kept_batches named) a e before (items ∷ rest) (kept_segments closed) here entries later
   cut = subst (λ (s : List (List Entry)). Reached id barrier y (kept_batches named) a e before s (kept_segments closed) here entries
-      is_clean
       later) (segments_left closed k segment l is) w
 
   sizes : size ≡ length items
@@ -110,7 +124,7 @@ module _ {A : Type 0} {id : ℕ} {barrier : List ℕ} {y : History} {a e here : 
       let x = cut in
       let last : ends ≡ (is_empty rest && is_empty y.current) = ended ∙ ap (λ (b : Bool). (later - 1 == 0) && b) clear
       ∙ ap (λ (b : Bool). b && is_empty y.current) (is_empty_by rest (later - 1) (omega (arith, x.left))) in
-      test ∙ (λ j. is_here (x.clean_is j) barrier (x.here_is j) (x.entries_is j) (kept_batches named) (sizes j) (last j) a e)
+      test ∙ (λ j. is_here (x.here_is j).is_clean barrier (x.here_is j).anchor.bytes (x.entries_is j) (kept_batches named) (sizes j) (last j) a e)
 
   on_then : some_place id barrier y (kept_batches named) a e (before ++ items ∷ []) rest
       ≡ some_place id barrier y (kept_batches named) a e [] (kept_segments closed)
@@ -128,22 +142,35 @@ module _ {A : Type 0} {id : ℕ} {barrier : List ℕ} {y : History} {a e here : 
       (omega (arith, over, sizes, x.entries_is, x.fits, more, length-map named kept_batch)) ∙ on_then
       ∙ ap (some_place id barrier y (kept_batches named) a e []) all
 
-  pub walk_on : {lent lent_again : List KeptEntry} {next register : List ℕ} {then_clean marred : Bool} → size ≤ length named - entries
-      → lent ≡ segment.items → register ≡ register_of (values_of barrier (kept_entries lent)) → next ≡ anchored_of here register
-      → lent_again ≡ segment.items → marred ≡ has_value (kept_entries lent_again) → then_clean ≡ (is_clean && not marred)
-      → Walked id barrier y named a e closed (k + 1) next (entries + size) then_clean (later - 1)
-  walk_on {next = next} {register = register} {then_clean = then_clean} {marred = marred} room items_are reads n again v t =
+  -- the segments, cut here
+  parted : kept_segments closed ≡ before ++ items ∷ rest
+  parted =
+      let f : Vec KeptEntry A → List Entry = λ v. kept_entries v.items in
+      ap (map f) (sym (take-append-drop k closed)) ∙ map-append f (take k closed) (drop k closed)
+      ∙ ap (λ (s : List (List Entry)). before ++ s) (segments_left closed k segment l is)
+
+  pub walk_on : (stages : List Stage) {lent : List KeptEntry} {next : Stage} {count : ℕ} → size ≤ length named - entries
+      → lent ≡ segment.items → kept_segments closed ≡ y.closed → AllByRecursion (IsStage id barrier y.closed) stages
+      → count ≡ length closed - (later - 1)
+      → ((n : ℕ) (front back : List (List Entry)) → here ≡ stage_at n barrier front → count ≡ length front + 1
+      → AllByRecursion (IsStage n barrier (front ++ kept_entries lent ∷ back)) stages
+      → next ≡ stage_at n barrier (front ++ kept_entries lent ∷ []))
+      → Walked id barrier y named a e closed (k + 1) next (entries + size) (later - 1)
+  walk_on stages {lent = lent} {next = next} {count = count} room items_are all are counted behind =
       let x = cut in
+      let f : Vec KeptEntry A → List Entry = λ v. kept_entries v.items in
       let joins : joined (before ++ items ∷ []) ≡ joined before ++ items = joined-push before items in
+      let sizes_all : length closed ≡ length before + suc (length rest) =
+      sym (length-map closed f) ∙ ap length parted ∙ length-append before (items ∷ rest) in
+      let one : count ≡ length before + 1 = omega (arith, counted, sizes_all, x.left) in
+      let whole : y.closed ≡ before ++ kept_entries lent ∷ rest =
+      sym all ∙ parted ∙ ap (λ (es : List KeptEntry). before ++ kept_entries es ∷ rest) (sym items_are) in
       subst (λ (front : List (List Entry)). Reached id barrier y (kept_batches named) a e front rest (kept_segments closed) next
-      (entries + size) then_clean (later - 1)) (taken (λ (s : Vec KeptEntry A). kept_entries s.items) closed k segment l is) (record {
-        here_is = n ∙ (λ j. anchored_of (x.here_is j)
-            ((reads ∙ ap (λ (xs : List KeptEntry). register_of (values_of barrier (kept_entries xs))) items_are) j))
-            ∙ sym (anchor_more id barrier before items);
+      (entries + size) (later - 1)) (taken f closed k segment l is) (record {
+        here_is = behind id before rest x.here_is one
+            (subst (λ (s : List (List Entry)). AllByRecursion (IsStage id barrier s) stages) whole are)
+            ∙ ap (λ (es : List KeptEntry). stage_at id barrier (before ++ kept_entries es ∷ [])) items_are;
         entries_is = omega (arith, x.entries_is, sizes, ap length joins, length-append (joined before) items);
-        clean_is = t ∙ (λ j. x.clean_is j && not ((v ∙ ap (λ (xs : List KeptEntry). has_value (kept_entries xs)) again) j))
-            ∙ sym (ap (λ (es : List Entry). not (has_value es)) joins ∙ ap not (has_value-append (joined before) items)
-            ∙ not_or (has_value (joined before)) (has_value items));
         fits = omega (arith, room, x.fits, length-map named kept_batch);
         left = omega (arith, x.left);
         same = on_then;
@@ -204,12 +231,3 @@ module _ (variant : Variant) (meaning : Meaning) (key barrier : List ℕ) (y : H
         named_by i y content s
         (test ∙ ap (bytes_eq content.state) (run ∙ state_as variant meaning key barrier (requests_of named))
         ∙ sym (ap (is_named_at i y content) named_is ∙ ap (λ (b : Bool). t && b) (placed_is ∙ on) ∙ and_true t))
-
-    -- by what another snapshot says that names the position
-    pub placed_beside : {s : Bool} (other : Content) → content.position ≡ other.position → s ≡ bytes_eq content.state other.state
-        → s ≡ true → Names i y other → IsDecided placed (Names i y content)
-    placed_beside {s} other same test on n =
-        let there : Some named ≡ Some n.named = sym named_is ∙ first_beside i y content other same n in
-        let one : named ≡ n.named = cc in
-        named_by i y content placed (sym placed_is
-        ∙ ap (λ (bs : List Batch). is_place i.variant i y bs content.place) one ∙ stated_beside i y content other same test n on)

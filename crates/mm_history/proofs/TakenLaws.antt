@@ -71,18 +71,14 @@ pub not_or : (s t : Bool) → not (s || t) ≡ (not s && not t)
 not_or true t = refl
 not_or false t = refl
 
-pub behind_found : (barrier here : List ℕ) (start : ℕ) (named : List KeptBatch) (a e : List ℕ) {rest : List KeptBatch} {register : List ℕ}
-    {r s : Bool}
-    → start < length named → rest ≡ drop start named → r ≡ bytes_eq a here → r ≡ true
-    → register ≡ register_of (own_values barrier (kept_batches rest)) → s ≡ bytes_eq e register
+pub behind_found : (barrier here : List ℕ) (start : ℕ) (named : List KeptBatch) (a e : List ℕ) {register : List ℕ} {r s : Bool}
+    → start < length named → r ≡ bytes_eq a here → r ≡ true
+    → register ≡ register_of (own_values barrier (drop start (kept_batches named))) → s ≡ bytes_eq e register
     → s ≡ is_behind barrier here start (kept_batches named) a e
-behind_found barrier here start named a e {register = register} lt cut is on reads ext =
+behind_found barrier here start named a e lt is on reads ext =
     let less : nat_lt start (length (kept_batches named)) ≡ true = (Decides-ltb start (length (kept_batches named))).1
     (omega (arith, lt, length-map named kept_batch)) in
-    let there : register ≡ register_of (own_values barrier (drop start (kept_batches named))) =
-    reads ∙ ap (λ (bs : List KeptBatch). register_of (own_values barrier (kept_batches bs))) cut
-    ∙ ap (λ (bs : List Batch). register_of (own_values barrier bs)) (sym (drop-map kept_batch start named)) in
-    ext ∙ ap (bytes_eq e) there
+    ext ∙ ap (bytes_eq e) reads
     ∙ sym (ap (λ (b : Bool). b && (bytes_eq a here && bytes_eq e (register_of (own_values barrier (drop start (kept_batches named)))))) less
     ∙ ap (λ (b : Bool). b && bytes_eq e (register_of (own_values barrier (drop start (kept_batches named))))) (sym is ∙ on))
 

@@ -1,4 +1,6 @@
 pub mod Marks
 pub mod MarkLaws
 pub mod Naming
+pub mod Waymarks
+pub mod WaymarkLaws
 pub mod Asked

@@ -112,12 +112,6 @@ is_named_at i y content (Some named) =
 abbrev pub is_named : Instance → History → Content → Bool
 is_named i y content = is_named_at i y content (first_with content.position y.batches)
 
--- both places are of Basic, and one summary
-abbrev pub same_summary : Place → Place → Bool
-same_summary (InBasic s) (InBasic t) = bytes_eq s.bytes t.bytes
-same_summary (InBasic s) (InOpt a e) = false
-same_summary (InOpt a e) other = false
-
 -- So it is decided, in either variant.
 abbrev pub BasicNamesAreDecided : Type 0
 BasicNamesAreDecided = (meaning : Meaning) (key : List ℕ) (y : History) (content : Content) →

@@ -6,8 +6,10 @@ mod lists;
 mod marks;
 mod messages;
 mod naming;
+mod waymarks;
 
 pub use lists::Lists;
 pub use marks::{Marks, guard};
 pub use messages::{anchored_message, joined, list_place};
-pub use naming::{is_named, is_named_beside, names_are_decided};
+pub use naming::{is_named, names_are_decided};
+pub use waymarks::{Stage, Waymark, Waymarks};

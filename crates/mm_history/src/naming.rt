@@ -1,24 +1,27 @@
 //! Whether what a right offer says names a position of the history.
 
-ghost use Rattle.std.specs.Prelude.{◌≡◌, ℕ, List, [], ◌+◌, ◌≤◌, ◌==◌, ◌&&◌, ◌||◌, ◌-◌, false, take, drop, length, option_map, IfSome, IfOk, nat_lt, nat_le, map};
-ghost use Rattle.std.specs.List.{list_any};
+ghost use Rattle.std.specs.Prelude.{◌≡◌, ℕ, List, [], ◌∷◌, ◌++◌, ◌+◌, ◌<◌, ◌≤◌, ◌==◌, ◌&&◌, ◌||◌, ◌-◌, false, take, drop, length, option_map, IfSome, IfOk, nat_lt, nat_le, map};
+ghost use Rattle.std.specs.List.{AllByRecursion, list_any};
 ghost use Rattle.std.specs.Str.{bytes_eq};
 ghost use Rattle.mm_digest.specs.Messages.{zero_bytes};
 ghost use Rattle.mm_modules.specs.Modules.{meaning_of};
 ghost use Rattle.mm_module.specs.Meaning.{state_after};
-ghost use Rattle.mm_model.specs.Chains.{summary_of};
-ghost use Rattle.mm_model.specs.Instance.{Instance};
-ghost use Rattle.mm_model.specs.History.{requests_of};
+ghost use Rattle.mm_digest.specs.declared.variant.Variant.TheVariants.{Opt};
+ghost use Rattle.mm_model.specs.Chains.{register_of, summary_of};
+ghost use Rattle.mm_model.specs.ChainsWords.{own_values};
+ghost use Rattle.mm_model.specs.History.{Entry, requests_of};
 ghost use Rattle.mm_model.specs.Life.{is_empty};
 ghost use Rattle.mm_model.specs.Long.{is_long};
 ghost use Rattle.mm_seal.specs.Body.{content_of};
 ghost use Rattle.mm_model.specs.Places.{Names};
 ghost use Rattle.mm_call.specs.Standing.{instance_by};
 ghost use Rattle.mm_model.specs.Kept.{kept_batches, kept_entries, kept_segments};
-ghost use Rattle.mm_history.specs.Naming.{BasicNamesAreDecided, OptNamesAreDecided, first_with, same_batches, anchor_at, is_at, is_behind, is_here, is_inside_at, some_place, is_place_in, same_summary, IsDecided};
+ghost use Rattle.mm_history.specs.Naming.{BasicNamesAreDecided, OptNamesAreDecided, first_with, anchor_at, is_at, is_behind, is_here, is_inside_at, some_place, is_place_in, IsDecided};
+ghost use Rattle.mm_history.specs.Waymarks.{AreWaymarks, EndsWithCurrent, IsStage, IsWaymark, digest_behind, stage_at};
 
 use crate::lists::Lists;
 use crate::marks::{link, own_register, register_of};
+use crate::waymarks::{Stage, Waymark, Waymarks, first_from, is_between};
 use mm_base::{Bytes, Memory};
 use mm_call::{Ran, run_batch};
 use mm_digest::{Digest, Variant, anchored, start, zero};
@@ -81,21 +84,6 @@ fn summary_of(id: u8, batches: &[KeptBatch]) -> Digest
     summary
 }
 
-// Whether the batches are these.
-fn same_batches(batches: &[KeptBatch], others: &[KeptBatch]) -> bool
-    ensures { result ≡ same_batches (kept_batches batches.now) (kept_batches others.now) }
-{
-    if batches.len() != others.len() {
-        return false;
-    }
-    'at: for i in 0..batches.len() {
-        if !batches[i].is(&others[i]) {
-            return false;
-        }
-    }
-    true
-}
-
 // Whether two digests are the same.
 fn same_digest(one: &Digest, other: &Digest) -> bool
     ensures { result ≡ bytes_eq one.now.bytes other.now.bytes }
@@ -117,10 +105,13 @@ fn is_zero(digest: &Digest) -> bool
     *digest == zero()
 }
 
-// A place that is looked for: behind these first batches, at an anchor and what extends it.
+// A place that is looked for: behind these first batches, at an anchor and what extends it. The register's value after all but
+// the first `start` batches is known.
 #[derive(Clone, Copy)]
 struct Sought<'a> {
     named: &'a [KeptBatch],
+    start: usize,
+    register: &'a Digest,
     anchor: &'a Digest,
     extension: &'a Digest,
 }
@@ -142,8 +133,24 @@ fn is_at(is_clean: bool, here: &Digest, start: usize, sought: &Sought<'_>) -> bo
     is_zero(sought.extension)
 }
 
+// The register's value after the named batches but the first ones.
+fn register_behind(barrier: &[u8; 32], start: usize, sought: &Sought<'_>) -> Digest
+    requires within { start < length sought.now.named.now }
+    requires register { sought.now.register.now.bytes ≡ register_of (own_values barrier.now
+        (drop sought.now.start (kept_batches sought.now.named.now))) }
+    ensures { result.bytes
+        ≡ register_of (own_values barrier.now (drop start (kept_batches sought.now.named.now))) }
+{
+    if start == sought.start {
+        return *sought.register;
+    }
+    own_register(barrier, &sought.named[start..])
+}
+
 // Whether the place is behind this anchor, in a segment that starts behind so many entries.
 fn is_behind(barrier: &[u8; 32], here: &Digest, start: usize, sought: &Sought<'_>) -> bool
+    requires register { sought.now.register.now.bytes ≡ register_of (own_values barrier.now
+        (drop sought.now.start (kept_batches sought.now.named.now))) }
     ensures { result ≡ is_behind barrier.now here.now.bytes start (kept_batches sought.now.named.now)
         sought.now.anchor.now.bytes sought.now.extension.now.bytes }
 {
@@ -153,23 +160,18 @@ fn is_behind(barrier: &[u8; 32], here: &Digest, start: usize, sought: &Sought<'_
     if !same_digest(sought.anchor, here) {
         return false;
     }
-    same_digest(
-        sought.extension,
-        &own_register(barrier, &sought.named[start..]),
-    )
+    same_digest(sought.extension, &register_behind(barrier, start, sought))
 }
 
 // Whether the place is inside the open segment, whose batches are the last of all.
 fn is_inside(lists: &Lists, barrier: &[u8; 32], last: &Digest, sought: &Sought<'_>) -> bool
+    requires register { sought.now.register.now.bytes ≡ register_of (own_values barrier.now
+        (drop sought.now.start (kept_batches sought.now.named.now))) }
+    requires ends { EndsWithCurrent lists.now }
     ensures { result ≡ is_inside_at barrier.now last.now.bytes lists.now (kept_batches sought.now.named.now)
         sought.now.anchor.now.bytes sought.now.extension.now.bytes }
 {
-    let batches = lists.batches();
-    let current = lists.current();
-    let start = batches.len().saturating_sub(current.len());
-    if !same_batches(&batches[start..], current) {
-        return false;
-    }
+    let start = lists.batches().len().saturating_sub(lists.current().len());
     is_behind(barrier, last, start, sought)
 }
 
@@ -184,6 +186,60 @@ fn anchor_at(id: u8, barrier: &[u8; 32], closed: &[Vec<KeptEntry>]) -> Digest
     anchor
 }
 
+// Where the first segment begins.
+fn first_stage(id: u8) -> Stage
+    ensures { (barrier : List ℕ) → result ≡ stage_at id barrier [] }
+{
+    Stage {
+        count: 0,
+        anchor: start(Variant::Opt, id),
+        is_clean: true,
+    }
+}
+
+// The anchor after all these segments, which was kept or is computed.
+fn last_anchor(id: u8, barrier: &[u8; 32], stages: &[Stage], closed: &[Vec<KeptEntry>]) -> Digest
+    requires { AllByRecursion (IsStage id barrier.now (kept_segments closed.now)) stages.now }
+    ensures { result.bytes ≡ anchor_at id barrier.now (kept_segments closed.now) }
+{
+    match stages.get(closed.len()) {
+        Some(stage) => {
+            if stage.count == closed.len() {
+                stage.anchor
+            } else {
+                anchor_at(id, barrier, closed)
+            }
+        }
+        None => anchor_at(id, barrier, closed),
+    }
+}
+
+// Where the next segment begins, as it was kept or is computed: by how many segments are before it, and where the one with
+// these items begins.
+fn stage_behind(
+    barrier: &[u8; 32],
+    stages: &[Stage],
+    count: usize,
+    here: &Stage,
+    items: &[KeptEntry],
+) -> Stage
+    ensures { (id : ℕ) → (before later : List (List Entry)) → here.now ≡ stage_at id barrier.now before
+        → count ≡ length before + 1
+        → AllByRecursion (IsStage id barrier.now (before ++ kept_entries items.now ∷ later)) stages.now
+        → result ≡ stage_at id barrier.now (before ++ kept_entries items.now ∷ []) }
+{
+    if let Some(stage) = stages.get(count)
+        && stage.count == count
+    {
+        return *stage;
+    }
+    Stage {
+        count,
+        anchor: anchored(&here.anchor, &register_of(barrier, items)),
+        is_clean: both(here.is_clean, !some_value(items)),
+    }
+}
+
 // Whether the place is at the segment that comes next, which has so many entries: by whether it is the end.
 fn is_here(
     is_clean: bool,
@@ -194,6 +250,8 @@ fn is_here(
     size: usize,
     ends: bool,
 ) -> bool
+    requires register { sought.now.register.now.bytes ≡ register_of (own_values barrier.now
+        (drop sought.now.start (kept_batches sought.now.named.now))) }
     ensures { result ≡ is_here is_clean barrier.now here.now.bytes start (kept_batches sought.now.named.now)
         size ends sought.now.anchor.now.bytes sought.now.extension.now.bytes }
 {
@@ -216,63 +274,89 @@ fn both(one: bool, other: bool) -> bool
 }
 
 // Whether it is some place of Opt.
-fn some_place(lists: &Lists, id: u8, barrier: &[u8; 32], sought: &Sought<'_>) -> bool
+fn some_place(
+    lists: &Lists,
+    stages: &[Stage],
+    id: u8,
+    barrier: &[u8; 32],
+    sought: &Sought<'_>,
+) -> bool
+    requires register { sought.now.register.now.bytes ≡ register_of (own_values barrier.now
+        (drop sought.now.start (kept_batches sought.now.named.now))) }
+    requires ends { EndsWithCurrent lists.now }
+    requires stages { AllByRecursion (IsStage id barrier.now lists.now.closed) stages.now }
     ensures { result ≡ some_place id barrier.now lists.now (kept_batches sought.now.named.now) sought.now.anchor.now.bytes
         sought.now.extension.now.bytes [] lists.now.closed }
 {
     let closed = lists.closed();
     let is_shut = lists.is_clear();
-    let last = anchor_at(id, barrier, closed);
-    let mut here = start(Variant::Opt, id);
+    let last = last_anchor(id, barrier, stages, closed);
+    let mut here = first_stage(id);
     let mut entries = 0;
-    let mut is_clean = true;
     let mut later = closed.len();
     'closed: for segment in closed {
         later -= 1;
         let items = segment.as_slice();
         let size = items.len();
         let ends = both(later == 0, is_shut);
-        if is_here(is_clean, barrier, &here, entries, sought, size, ends) {
+        if is_here(here.is_clean, barrier, &here.anchor, entries, sought, size, ends) {
             return true;
         }
         if size > sought.named.len() - entries {
             return is_inside(lists, barrier, &last, sought);
         }
-        here = anchored(&here, &register_of(barrier, items));
+        here = stage_behind(barrier, stages, closed.len() - later, &here, items);
         entries += size;
-        is_clean = both(is_clean, !some_value(items));
     }
-    if is_at(is_clean, &here, entries, sought) {
+    if is_at(here.is_clean, &here.anchor, entries, sought) {
         return true;
     }
     is_inside(lists, barrier, &last, sought)
 }
 
-// Whether it is a place behind these first batches.
+// What is known of a position: the batches before it; and in Basic their summary, in Opt the register's value after all but
+// the first `start` of them.
+#[derive(Clone, Copy)]
+struct Known<'a> {
+    named: &'a [KeptBatch],
+    start: usize,
+    digest: &'a Digest,
+}
+
+// Whether it is a place of the position.
 fn is_place(
     lists: &Lists,
+    stages: &[Stage],
     variant: Variant,
     id: u8,
     barrier: &[u8; 32],
-    named: &[KeptBatch],
+    known: &Known<'_>,
     place: &Place,
 ) -> bool
-    ensures { result ≡ is_place_in variant id barrier.now lists.now (kept_batches named.now)
+    requires digest { known.now.digest.now.bytes ≡ digest_behind variant id barrier.now
+        known.now.start (kept_batches known.now.named.now) }
+    requires ends { variant ≡ Opt → EndsWithCurrent lists.now }
+    requires stages { variant ≡ Opt
+        → AllByRecursion (IsStage id barrier.now lists.now.closed) stages.now }
+    ensures { result ≡ is_place_in variant id barrier.now lists.now (kept_batches known.now.named.now)
         place.now }
 {
     match variant {
         Variant::Basic => match place {
-            Place::Basic(summary) => same_digest(summary, &summary_of(id, named)),
+            Place::Basic(summary) => same_digest(summary, known.digest),
             Place::Opt { .. } => false,
         },
         Variant::Opt => match place {
             Place::Basic(_) => false,
             Place::Opt { anchor, extension } => some_place(
                 lists,
+                stages,
                 id,
                 barrier,
                 &Sought {
-                    named,
+                    named: known.named,
+                    start: known.start,
+                    register: known.digest,
                     anchor,
                     extension,
                 },
@@ -281,17 +365,29 @@ fn is_place(
     }
 }
 
-/// Whether what a right offer says names a position of the history, whatever the key. Runs the module only where the place
-/// is one.
-pub fn is_named(
+// What a position of which nothing is kept has for `Known`, where all its batches are left out.
+fn digest_anew(variant: Variant, id: u8, named: &[KeptBatch]) -> Digest
+    ensures { (barrier : List ℕ) → result.bytes ≡ digest_behind variant id barrier (length named.now)
+        (kept_batches named.now) }
+{
+    match variant {
+        Variant::Basic => summary_of(id, named),
+        Variant::Opt => zero(),
+    }
+}
+
+// Whether what a right offer says names a position, of which nothing was kept. Runs the module only where the place is one.
+fn is_named_anew(
     alloc: Global,
     lists: &Lists,
+    ways: &Waymarks,
     variant: Variant,
     module: &AnyModule,
     barrier: &[u8; 32],
     body: &Body<'_>,
 ) -> Result<bool, Memory>
-    requires { list_any is_long lists.now.batches ≡ false }
+    requires short { list_any is_long lists.now.batches ≡ false }
+    requires ways { AreWaymarks variant (meaning_of «module».now) barrier.now lists.now ways.now }
     ensures { IfOk result (λ yes. (key : List ℕ) → IsDecided yes
         (Names (instance_by variant (meaning_of «module».now) key barrier.now) lists.now
         (content_of body.now))) }
@@ -302,55 +398,98 @@ pub fn is_named(
         Some(count) => count,
     };
     let named = &batches[..count];
-    if !is_place(lists, variant, module.id(), barrier, named, &body.place) {
+    let id = module.id();
+    let known = Known {
+        named,
+        start: named.len(),
+        digest: &digest_anew(variant, id, named),
+    };
+    if !is_place(lists, ways.stages.as_slice(), variant, id, barrier, &known, &body.place) {
         return Ok(false);
     }
     let state = state_after(alloc, module, named)?;
     Ok(same_bytes(body.state, state.as_slice()))
 }
 
-// Whether both places are of Basic, and one summary.
-fn same_summary(place: &Place, other: &Place) -> bool
-    ensures { result ≡ same_summary place.now other.now }
+// Whether the state is that behind these batches, which was kept if it isn't too long.
+fn is_state(
+    alloc: Global,
+    module: &AnyModule,
+    named: &[KeptBatch],
+    mark: &Waymark,
+    state: &[u8],
+) -> Result<bool, Memory>
+    requires short { list_any is_long (kept_batches named.now) ≡ false }
+    requires kept { mark.now.state ≡ take mark.now.limit
+        (state_after (meaning_of «module».now) (requests_of (kept_batches named.now))) }
+    ensures { IfOk result (λ same. same ≡ bytes_eq state.now
+        (state_after (meaning_of «module».now) (requests_of (kept_batches named.now)))) }
 {
-    match place {
-        Place::Basic(one) => match other {
-            Place::Basic(two) => same_digest(one, two),
-            Place::Opt { .. } => false,
-        },
-        Place::Opt { .. } => false,
+    if state.len() < mark.limit {
+        return Ok(same_bytes(state, mark.state.as_slice()));
     }
+    let there = state_after(alloc, module, named)?;
+    Ok(same_bytes(state, there.as_slice()))
 }
 
-/// The same, by what another snapshot of this position says, which names one. Never runs the module.
-pub fn is_named_beside(
+// Whether what a right offer says names the position of a waymark.
+fn is_named_at(
+    alloc: Global,
     lists: &Lists,
+    ways: &Waymarks,
     variant: Variant,
     module: &AnyModule,
     barrier: &[u8; 32],
     body: &Body<'_>,
-    other: &Body<'_>,
-) -> bool
-    requires { body.now.position ≡ other.now.position }
-    ensures { (key : List ℕ) →
-        let i : Instance = instance_by variant (meaning_of «module».now) key barrier.now in
-        Names i lists.now (content_of other.now)
-        → IsDecided result (Names i lists.now (content_of body.now)) }
+    mark: &Waymark,
+) -> Result<bool, Memory>
+    requires short { list_any is_long lists.now.batches ≡ false }
+    requires ways { AreWaymarks variant (meaning_of «module».now) barrier.now lists.now ways.now }
+    requires mark { IsWaymark variant (meaning_of «module».now) barrier.now lists.now.batches mark.now }
+    requires position { body.now.position ≡ mark.now.position }
+    ensures { IfOk result (λ yes. (key : List ℕ) → IsDecided yes
+        (Names (instance_by variant (meaning_of «module».now) key barrier.now) lists.now
+        (content_of body.now))) }
 {
-    if !same_bytes(body.state, other.state) {
-        return false;
+    let batches = lists.batches();
+    let named = &batches[..mark.count];
+    let known = Known {
+        named,
+        start: mark.start,
+        digest: &mark.digest,
+    };
+    if !is_place(lists, ways.stages.as_slice(), variant, module.id(), barrier, &known, &body.place) {
+        return Ok(false);
     }
-    match variant {
-        Variant::Basic => same_summary(&body.place, &other.place),
-        Variant::Opt => {
-            let batches = lists.batches();
-            match first_with(batches, body.position) {
-                None => false,
-                Some(count) => {
-                    let named = &batches[..count];
-                    is_place(lists, variant, module.id(), barrier, named, &body.place)
-                }
-            }
-        }
+    is_state(alloc, module, named, mark, body.state)
+}
+
+/// Whether what a right offer says names a position of the history, whatever the key: by what was kept of the position, and
+/// else by a walk over the history.
+pub fn is_named(
+    alloc: Global,
+    lists: &Lists,
+    ways: &Waymarks,
+    variant: Variant,
+    module: &AnyModule,
+    barrier: &[u8; 32],
+    body: &Body<'_>,
+) -> Result<bool, Memory>
+    requires short { list_any is_long lists.now.batches ≡ false }
+    requires ways { AreWaymarks variant (meaning_of «module».now) barrier.now lists.now ways.now }
+    ensures { IfOk result (λ yes. (key : List ℕ) → IsDecided yes
+        (Names (instance_by variant (meaning_of «module».now) key barrier.now) lists.now
+        (content_of body.now))) }
+{
+    let marks = ways.marks.as_slice();
+    let at = first_from(marks, body.position);
+    if let Some(mark) = marks.get(at)
+        && mark.position == body.position
+    {
+        return is_named_at(alloc, lists, ways, variant, module, barrier, body, mark);
     }
+    if is_between(marks, at, lists.batches().len(), body.position) {
+        return Ok(false);
+    }
+    is_named_anew(alloc, lists, ways, variant, module, barrier, body)
 }

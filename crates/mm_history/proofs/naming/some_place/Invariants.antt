@@ -5,4 +5,4 @@ use Rattle.mm_history.proofs.naming.some_place.Given as goal
 abbrev pub invariant-closed : goal.invariant-closed
 invariant-closed l = Reached l.id l.barrier l.lists (kept_batches l.sought.named.now) l.sought.anchor.now.bytes l.sought.extension.now.bytes
     (kept_segments (take l.segment-index l.closed))
-    (kept_segments (drop l.segment-index l.closed)) (kept_segments l.closed) l.here.bytes l.entries l.is_clean l.later
+    (kept_segments (drop l.segment-index l.closed)) (kept_segments l.closed) l.here l.entries l.later

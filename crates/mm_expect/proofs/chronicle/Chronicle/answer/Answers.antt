@@ -10,5 +10,5 @@ returns c =
     answered_is c.args.self.now c.args.again b
     (ap (λ (m : Marks). m.total) c.self.invariant.marks_is ∙ ap (λ (r : Recorded). total_of r.history.batches) c.self.view_is)
     (c.in_ok-outputs.ensures.outputs ∙ ap (λ v. outputs_from (meaning_of c.self.inside.«module») v (members_of b)) c.as_slice.ensures.value
-    ∙ outputs_last b c.self.invariant last
+    ∙ outputs_last b c.self.invariant.settled last
     ∙ ap (λ (r : Recorded). last_outputs (meaning_of r.«module») r.history (size_of b)) c.self.view_is) c.in_ok-snapshot.ensures

@@ -1,7 +1,10 @@
 use Rattle.mm_expect.proofs.Below.{◌∙◌, closed_marks}
-use Rattle.mm_expect.proofs.Settling.{settled_shut}
+use Rattle.mm_expect.proofs.Settling.{settled_shut, ways_shut}
 use Rattle.mm_expect.proofs.chronicle.Chronicle.close.Goals as goal
 
 pub invariant_of-self-2 : goal.invariant_of-self-2
-invariant_of-self-2 c = settled_shut c.self.invariant c.in_ok-close.ensures.ok (c.closed-self-inside.ensures
-    ∙ (λ j. closed_marks c.self.inside.variant c.self.inside.marks (c.has_value-has_value.ensures j) (c.is_bare-is_bare.ensures j)))
+invariant_of-self-2 c = record {
+  settled = settled_shut c.self.invariant.settled c.in_ok-close.ensures.ok (c.closed-self-inside.ensures
+      ∙ (λ j. closed_marks c.self.inside.variant c.self.inside.marks (c.has_value-has_value.ensures j) (c.is_bare-is_bare.ensures j)));
+  ways_are = ways_shut c.self.invariant.ways_are c.in_ok-close.ensures.ok;
+}
