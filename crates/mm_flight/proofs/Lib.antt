@@ -5,3 +5,4 @@ mod ClosingTurning
 mod AskTurning
 mod Asking
 mod Flying
+mod Machine
