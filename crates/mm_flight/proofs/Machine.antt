@@ -24,6 +24,7 @@ use Rattle.mm_machine.specs.declared.operation.Sight.TheVariants as sight
 use Rattle.mm_machine.specs.declared.reading.Halt.{Halt}
 use Rattle.mm_machine.specs.declared.reading.Halt.TheVariants.{Fault, Refused, Lacks}
 use Rattle.mm_machine.proofs.Above.{joins}
+use Rattle.mm_flight.specs.Machine.{fault_ended, fault_stepped}
 use Rattle.mm_flight.proofs.Replanning.{Moves, Replans, quiet_step, replanned}
 
 -- Under another plan that says the same of the step
@@ -96,15 +97,6 @@ module _ {A R : Type 0} (o : Asked A R) (p q : Plan) (made : ℕ) (old : Standin
       record { fault = s.fault; goes = replanned (act_in ready.change) p q made old new s.fault r s.goes; gives = s.gives }
 
 -- The device step that a step made
-
--- the fault that a step hands on
-abbrev pub fault_ended : {A R : Type 0} → Ended A R → Option StepFault
-fault_ended (Broken fault commits) = Some fault
-fault_ended _ = None
-
-abbrev pub fault_stepped : {A R : Type 0} → Step A R → Option StepFault
-fault_stepped (Going stage) = None
-fault_stepped (Over ended) = fault_ended ended
 
 -- It makes the device step that comes next, and hands its fault on. Besides it may make room.
 pub record ActsAt {A R : Type 0} (stage : Stage A) (old new : Standing) (step : Step A R) : Type 0 where

@@ -1,2 +1,3 @@
 pub mod Asks
 pub mod InFlight
+pub mod Machine

@@ -1,15 +1,15 @@
 -- A checkpoint by the machine is the one that the definitions of a checkpoint give.
-use Rattle.mm_opt.proofs.Below.{◌≡◌, ℕ, List, [], ◌∷◌, Option, None, Some, Result, Ok, Err, refl, sym, ap, ◌∙◌, subst}
+use Rattle.mm_opt.proofs.Below.{◌≡◌, ℕ, List, [], ◌∷◌, Option, None, Some, Result, Ok, Err, refl, sym, ap, ◌∙◌, subst, ◌+◌, ◌≤◌, arith}
 use Rattle.mm_opt.proofs.Below.{StepFault, Standing, Cell, Goes, ReadCell, ReadRegister, WriteCell, Checkpointed, CheckpointRefusal, Segment}
 use Rattle.mm_opt.proofs.Below.{Open, Shut, closing_fault_of, closing_fault_in, Looks, Weighs, EndsLooking, EndsClosing, FindsSegment, Closes}
 use Rattle.std.specs.Result.{result_map_both}
 use Rattle.mm_machine.specs.Finishing.{ActsTo, EndsTo, Finishes, goes_on, breaks_off}
 use Rattle.mm_machine.specs.Reading.{CellSays, Draws, FindsOn, FindsRoom, Looks as LooksAt, RegisterSays, Rooms, Weighs as WeighsAt}
-use Rattle.mm_machine.specs.Stepping.{SightLeads, Steps, StepsTo, ended_by, step_found, step_made}
+use Rattle.mm_machine.specs.Stepping.{MayGoOn, SightLeads, Steps, StepsTo, ended_by, number_of, step_found, step_made}
 use Rattle.mm_machine.specs.declared.call.Ended.{Ended}
 use Rattle.mm_machine.specs.declared.call.Ended.TheVariants.{Answered}
 use Rattle.mm_machine.specs.declared.call.Stage.{Stage}
-use Rattle.mm_machine.specs.declared.call.Stage.TheVariants.{Seen, Changing}
+use Rattle.mm_machine.specs.declared.call.Stage.TheVariants.{Begun, Seen, Changing}
 use Rattle.mm_machine.specs.declared.call.Step.{Step}
 use Rattle.mm_machine.specs.declared.call.Step.TheVariants.{Going, Over}
 use Rattle.mm_machine.specs.declared.operation.Found.{Found}
@@ -21,8 +21,9 @@ use Rattle.mm_opt.specs.declared.segment.CheckpointRefusal.TheVariants as refusa
 use Rattle.mm_opt.specs.declared.stage.CheckpointStage.{CheckpointStage}
 use Rattle.mm_opt.specs.declared.stage.CheckpointStage.TheVariants as stage
 use Rattle.mm_opt.specs.declared.closing.CheckpointTurn.{CheckpointTurn}
+use Rattle.mm_opt.specs.declared.closing.CheckpointTurn.TheVariants as turn
 use Rattle.mm_opt.specs.Turns.{TurnsBy}
-use Rattle.mm_opt.specs.Checkpoints.{ClosesBy, ClosesSegment, FindsClosing, FinishesClosing, WeighsAndCloses}
+use Rattle.mm_opt.specs.Checkpoints.{ClosesBy, ClosesSegment, FindsClosing, FinishesClosing, WeighsAndCloses, closing_number_of}
 use Rattle.mm_opt.specs.CheckpointTurns.{ClosingTurns, looked_turn, weighed_turn, closed_turn, over_told, step_told}
 use Rattle.mm_opt.specs.Closing.{GivesAs, IsClosing, StepIsClosing, closing, at_stage, stage_at, ended_told, sight_of, to_write, write_of}
 
@@ -230,3 +231,68 @@ module _ (call : CheckpointStage) (it : Stage Checkpointed) (old new : Standing)
       → Turned (ClosingTurns call old new) step
   turned_at step same is s =
       turned call old new step (subst (λ (x : Stage Checkpointed). Steps closing x old new step) (is ∙ ap at_stage same) s)
+
+-- What a checkpoint of the machine goes on to
+
+abbrev number_turned : CheckpointTurn → ℕ
+number_turned (turn.Going call) = closing_number_of call
+number_turned _ = 0
+
+numbered : (call : CheckpointStage) → number_of 3 (at_stage call) ≡ closing_number_of call
+numbered stage.Begun = refl
+numbered (stage.Seen cell) = refl
+numbered (stage.Closing next) = refl
+
+looked_number : (found : Result Segment CheckpointRefusal) (on : CheckpointStage) → turn.Going on ≡ looked_turn found
+    → closing_number_of on ≡ 2
+looked_number (Err why) on e = absurd (cc)
+looked_number (Ok Shut) on e = absurd (cc)
+looked_number (Ok (Open cell)) on e = ap number_turned e
+
+weighed_number : (found : Result (List ℕ) CheckpointRefusal) (on : CheckpointStage) → turn.Going on ≡ weighed_turn found
+    → closing_number_of on ≡ 3
+weighed_number (Err why) on e = absurd (cc)
+weighed_number (Ok next) on e = ap number_turned e
+
+never_closed : (written : Result Checkpointed StepFault) (on : CheckpointStage) → turn.Going on ≡ closed_turn written → ⊥
+never_closed (Err fault) on e = cc
+never_closed (Ok it) on e = cc
+
+turn_counts : (call on : CheckpointStage) (old new : Standing) → ClosingTurns call old new (turn.Going on)
+    → closing_number_of on ≡ closing_number_of call + 1
+turn_counts stage.Begun on old new t = looked_number t.outcome on t.gives
+turn_counts (stage.Seen cell) on old new t = weighed_number t.outcome on t.gives
+turn_counts (stage.Closing next) on old new t = absurd (never_closed t.outcome on t.gives)
+
+may : (call : CheckpointStage) (standing : Standing) → MayGoOn (at_stage call) standing
+may stage.Begun standing = tt
+may (stage.Seen cell) standing = tt
+may (stage.Closing next) standing = tt
+
+few : (call : CheckpointStage) → closing_number_of call ≤ 5
+few stage.Begun = omega arith
+few _ = omega arith
+
+module _ (it : Stage Checkpointed) (is : IsClosing it) where
+  number_at : number_of 3 it ≡ closing_number_of (stage_at it)
+  number_at = ap (λ (x : Stage Checkpointed). number_of 3 x) is ∙ numbered (stage_at it)
+
+  -- it takes no room
+  pub may_close : (standing : Standing) → MayGoOn it standing
+  may_close standing = subst (λ (x : Stage Checkpointed). MayGoOn x standing) (sym is) (may (stage_at it) standing)
+
+  -- its steps have the numbers 1, 2 and 3
+  pub few_closing : number_of 3 it ≤ 5
+  few_closing = rw number_at (few (stage_at it))
+
+  pub goes_on_closing : (on : Stage Checkpointed) (old new : Standing) → Steps closing it old new (Going on)
+      → IsClosing on × (number_of 3 on ≡ number_of 3 it + 1)
+  goes_on_closing on old new s =
+      let t = turned_at (stage_at it) it old new (Going on) refl is s in
+      (t.1, ap (λ (x : Stage Checkpointed). number_of 3 x) t.1 ∙ numbered (stage_at on)
+      ∙ turn_counts (stage_at it) (stage_at on) old new t.0 ∙ ap (λ (n : ℕ). n + 1) (sym number_at))
+
+-- the whole of it is a checkpoint
+pub closes_whole : (old new : Standing) (ended : Ended Checkpointed CheckpointRefusal) → Finishes closing Begun old new ended
+    → ClosesSegment old new (ended_told ended)
+closes_whole old new ended f = finished new ended stage.Begun old f

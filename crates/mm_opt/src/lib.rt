@@ -16,6 +16,7 @@ mod verdicts;
 mod whole;
 
 pub use call::{Call, Turn, begin};
+pub use close::Close;
 pub use closing::{CheckpointCall, CheckpointTurn, begin_checkpoint, checkpoint};
 pub use first::provision;
 pub use mm_call::{Ended, Provisioned};
