@@ -2,6 +2,6 @@
 pub use Rattle.mm_opt.proofs.Acting.{acts_at, closing_acts_at}
 pub use Rattle.mm_opt.proofs.Asked.{asked}
 pub use Rattle.mm_opt.proofs.Checking.{checks_on}
-pub use Rattle.mm_opt.proofs.ClosingByMachine.{closes_whole, few_closing, goes_on_closing, may_close}
+pub use Rattle.mm_opt.proofs.ClosingByMachine.{closes_whole, few_closing, goes_on_closing, may_close, over_acts}
 pub use Rattle.mm_opt.proofs.Completeness.{found_right}
 pub use Rattle.mm_opt.proofs.Finishing.{calls_finished, finished_to}

@@ -23,8 +23,9 @@ use Rattle.mm_opt.specs.declared.stage.CheckpointStage.TheVariants as stage
 use Rattle.mm_opt.specs.declared.closing.CheckpointTurn.{CheckpointTurn}
 use Rattle.mm_opt.specs.declared.closing.CheckpointTurn.TheVariants as turn
 use Rattle.mm_opt.specs.Turns.{TurnsBy}
-use Rattle.mm_opt.specs.Checkpoints.{ClosesBy, ClosesSegment, FindsClosing, FinishesClosing, WeighsAndCloses, closing_number_of}
-use Rattle.mm_opt.specs.CheckpointTurns.{ClosingTurns, looked_turn, weighed_turn, closed_turn, over_told, step_told}
+use Rattle.mm_opt.specs.Checkpoints.{ClosesBy, ClosesSegment, FindsClosing, FinishesClosing, WeighsAndCloses, closing_act_of, closing_number_of}
+use Rattle.mm_opt.specs.CheckpointTurns.{ClosingTurns, closing_fault_turned, looked_turn, weighed_turn, closed_turn, over_told, step_told}
+use Rattle.mm_opt.proofs.Acting.{closing_acts_at}
 use Rattle.mm_opt.specs.Closing.{GivesAs, IsClosing, StepIsClosing, closing, at_stage, stage_at, ended_told, sight_of, to_write, write_of}
 
 -- What is found, and what the machine has of it
@@ -291,6 +292,17 @@ module _ (it : Stage Checkpointed) (is : IsClosing it) where
       let t = turned_at (stage_at it) it old new (Going on) refl is s in
       (t.1, ap (λ (x : Stage Checkpointed). number_of 3 x) t.1 ∙ numbered (stage_at on)
       ∙ turn_counts (stage_at it) (stage_at on) old new t.0 ∙ ap (λ (n : ℕ). n + 1) (sym number_at))
+
+told_fault : (result : Result Checkpointed CheckpointRefusal) → closing_fault_turned (over_told result) ≡ closing_fault_in result
+told_fault (Ok it) = refl
+told_fault (Err why) = refl
+
+-- the device step of its last step
+pub over_acts : (it : Stage Checkpointed) (old new : Standing) (ended : Ended Checkpointed CheckpointRefusal) → IsClosing it
+    → Steps closing it old new (Over ended) → Goes (closing_act_of (stage_at it)) old new (closing_fault_in (ended_told ended))
+over_acts it old new ended is s =
+    rw (← told_fault (ended_told ended))
+    (closing_acts_at (stage_at it) old new (over_told (ended_told ended)) (turned_at (stage_at it) it old new (Over ended) refl is s).0)
 
 -- the whole of it is a checkpoint
 pub closes_whole : (old new : Standing) (ended : Ended Checkpointed CheckpointRefusal) → Finishes closing Begun old new ended

@@ -76,7 +76,7 @@ impl CheckpointCall {
     pub fn finish<P: Platform>(self, platform: &mut P) -> Result<Checkpointed, CheckpointRefusal>
         ensures { FinishesClosing self (P.standing platform.old) (P.standing platform.new) result }
     {
-        told(finish(&Close, self.call, platform, &mut KeptKey::new()))
+        closing_result(finish(&Close, self.call, platform, &mut KeptKey::new()))
     }
 }
 
@@ -92,7 +92,7 @@ impl CheckpointTurn {
     {
         match step {
             Step::Going(call) => CheckpointTurn::Going(CheckpointCall { call }),
-            Step::Over(ended) => match told(ended) {
+            Step::Over(ended) => match closing_result(ended) {
                 Ok(checkpointed) => CheckpointTurn::Done(checkpointed),
                 Err(refusal) => CheckpointTurn::Refused(refusal),
             },
@@ -108,8 +108,8 @@ pub fn checkpoint<P: Platform>(platform: &mut P) -> Result<Checkpointed, Checkpo
     begin_checkpoint().finish(platform)
 }
 
-// What is told of how the machine ended. It lacks no memory, as a checkpoint extends nothing.
-fn told(ended: Ended<Checkpointed, CheckpointRefusal>) -> Result<Checkpointed, CheckpointRefusal>
+/// What is told of how the machine ended. It lacks no memory, as a checkpoint extends nothing.
+pub fn closing_result(ended: Ended<Checkpointed, CheckpointRefusal>) -> Result<Checkpointed, CheckpointRefusal>
     ensures { result ≡ ended_told ended }
 {
     match ended {

@@ -17,7 +17,7 @@ mod whole;
 
 pub use call::{Call, Turn, begin};
 pub use close::Close;
-pub use closing::{CheckpointCall, CheckpointTurn, begin_checkpoint, checkpoint};
+pub use closing::{CheckpointCall, CheckpointTurn, begin_checkpoint, checkpoint, closing_result};
 pub use first::provision;
 pub use mm_call::{Ended, Provisioned};
 pub use segment::{CheckpointRefusal, Checkpointed};

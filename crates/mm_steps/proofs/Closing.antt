@@ -20,7 +20,8 @@ use Rattle.mm_schedule.specs.declared.reply.Reply.{Reply}
 use Rattle.mm_schedule.specs.declared.reply.Way.TheVariants as way
 use Rattle.mm_run.proofs.Above.{stopped_reply}
 use Rattle.mm_steps.specs.declared.closings.SteppedClosing.TheVariants.{Going, Over}
-use Rattle.mm_steps.proofs.Stopping.{goes_as, fails_next, behind, replans_behind, settled_under, fewer, later_than, settled_behind}
+use Rattle.mm_steps.specs.Flying.{behind}
+use Rattle.mm_steps.proofs.Stopping.{goes_as, fails_next, replans_behind, settled_under, fewer, later_than, settled_behind}
 use Rattle.mm_steps.proofs.Stopping.{stopped_under}
 
 abbrev Said : Type 0

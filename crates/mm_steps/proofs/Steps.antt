@@ -27,7 +27,8 @@ use Rattle.mm_flight.specs.declared.ask.AskTurn.TheVariants as turn
 use Rattle.mm_world.specs.declared.call.Called.{Called}
 use Rattle.mm_steps.specs.declared.asks.Stepped.{Stepped}
 use Rattle.mm_steps.specs.declared.asks.Stepped.TheVariants.{Going}
-use Rattle.mm_steps.proofs.Stopping.{goes_as, fails_next, always_fails, behind, replans_behind, settled_under, fewer, later_than}
+use Rattle.mm_steps.specs.Flying.{behind}
+use Rattle.mm_steps.proofs.Stopping.{goes_as, fails_next, always_fails, replans_behind, settled_under, fewer, later_than}
 use Rattle.mm_steps.proofs.Stopping.{settled_behind, stopped_under}
 
 -- what a call came to that was made whole by what ended it
