@@ -5,7 +5,7 @@ use Rattle.mm_steps.proofs.flying.break_call.Goals as goal
 
 pub finish-requires : goal.finish-requires
 finish-requires g c =
-    may_stop c.args.call c.args.platform.now c.stop_with.new.self c.requires.room (ap (λ (s : Standing). s.spare) c.stop_with.ensures)
+    record { room = may_stop c.args.call c.args.platform.now c.stop_with.new.self c.requires.room (ap (λ (s : Standing). s.spare) c.stop_with.ensures) }
 
 pub returns : goal.returns
 returns g c =
