@@ -27,5 +27,5 @@ pub use Rattle.mm_opt.specs.Steps.{Makes, MakesRoom}
 pub use Rattle.mm_opt.specs.declared.call.Turn.{Turn}
 pub use Rattle.mm_opt.specs.declared.found.Found.{Found}
 pub use Rattle.mm_opt.specs.declared.found.Found.TheVariants.{Inside, Opens}
-pub use Rattle.mm_opt.proofs.Above.{acts_at, closing_acts_at}
+pub use Rattle.mm_opt.proofs.Above.{acts_at}
 pub use Rattle.mm_flight.specs.InFlight.{GoesOnAs, InFlight, plan_by, SaySame, under}

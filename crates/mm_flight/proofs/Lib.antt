@@ -1,7 +1,6 @@
 pub mod Above
 mod Below
 mod Replanning
-mod ClosingTurning
 mod AskTurning
 mod Asking
 mod Flying

@@ -1,5 +1,5 @@
 -- What crates above may cite of these proofs: the other files can be read and changed by this crate alone.
-pub use Rattle.mm_opt.proofs.Acting.{acts_at, closing_acts_at}
+pub use Rattle.mm_opt.proofs.Acting.{acts_at}
 pub use Rattle.mm_opt.proofs.Asked.{asked}
 pub use Rattle.mm_opt.proofs.Checking.{checks_on}
 pub use Rattle.mm_opt.proofs.ClosingByMachine.{closes_whole, few_closing, goes_on_closing, may_close, over_acts}
