@@ -289,9 +289,11 @@ module _ (it : Stage Checkpointed) (is : IsClosing it) where
   pub goes_on_closing : (on : Stage Checkpointed) (old new : Standing) → Steps closing it old new (Going on)
       → IsClosing on × (number_of 3 on ≡ number_of 3 it + 1)
   goes_on_closing on old new s =
-      let t = turned_at (stage_at it) it old new (Going on) refl is s in
-      (t.1, ap (λ (x : Stage Checkpointed). number_of 3 x) t.1 ∙ numbered (stage_at on)
-      ∙ turn_counts (stage_at it) (stage_at on) old new t.0 ∙ ap (λ (n : ℕ). n + 1) (sym number_at))
+      let t = turned_at (stage_at it) it old new (Going on) refl is s in (
+        t.1,
+        ap (λ (x : Stage Checkpointed). number_of 3 x) t.1 ∙ numbered (stage_at on)
+            ∙ turn_counts (stage_at it) (stage_at on) old new t.0 ∙ ap (λ (n : ℕ). n + 1) (sym number_at),
+      )
 
 told_fault : (result : Result Checkpointed CheckpointRefusal) → closing_fault_turned (over_told result) ≡ closing_fault_in result
 told_fault (Ok it) = refl

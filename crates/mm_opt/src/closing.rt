@@ -109,7 +109,9 @@ pub fn checkpoint<P: Platform>(platform: &mut P) -> Result<Checkpointed, Checkpo
 }
 
 /// What is told of how the machine ended. It lacks no memory, as a checkpoint extends nothing.
-pub fn closing_result(ended: Ended<Checkpointed, CheckpointRefusal>) -> Result<Checkpointed, CheckpointRefusal>
+pub fn closing_result(
+    ended: Ended<Checkpointed, CheckpointRefusal>,
+) -> Result<Checkpointed, CheckpointRefusal>
     ensures { result ≡ ended_told ended }
 {
     match ended {
