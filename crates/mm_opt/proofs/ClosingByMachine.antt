@@ -1,11 +1,11 @@
 -- A checkpoint by the machine is the one that the definitions of a checkpoint give.
 use Rattle.mm_opt.proofs.Below.{◌≡◌, ℕ, List, [], ◌∷◌, Option, None, Some, Result, Ok, Err, refl, sym, ap, ◌∙◌, subst, ◌+◌, ◌≤◌, arith}
 use Rattle.mm_opt.proofs.Below.{StepFault, Standing, Cell, Goes, ReadCell, ReadRegister, WriteCell, Checkpointed, CheckpointRefusal, Segment}
-use Rattle.mm_opt.proofs.Below.{Open, Shut, closing_fault_of, closing_fault_in, Looks, Weighs, EndsLooking, EndsClosing, FindsSegment, Closes}
+use Rattle.mm_opt.proofs.Below.{Open, Shut, closing_fault_of, closing_fault_in, Looks, Weighs, EndsLooking, EndsClosing, FindsSegment}
 use Rattle.std.specs.Result.{result_map_both}
 use Rattle.mm_machine.specs.Finishing.{ActsTo, EndsTo, Finishes, goes_on, breaks_off}
 use Rattle.mm_machine.specs.Reading.{CellSays, Draws, FindsOn, FindsRoom, Looks as LooksAt, RegisterSays, Rooms, Weighs as WeighsAt}
-use Rattle.mm_machine.specs.Stepping.{MayGoOn, SightLeads, Steps, StepsTo, ended_by, number_of, step_found, step_made}
+use Rattle.mm_machine.specs.Stepping.{MayGoOn, SightLeads, Steps, ended_by, number_of, step_found, step_made}
 use Rattle.mm_machine.specs.declared.call.Ended.{Ended}
 use Rattle.mm_machine.specs.declared.call.Ended.TheVariants.{Answered}
 use Rattle.mm_machine.specs.declared.call.Stage.{Stage}
