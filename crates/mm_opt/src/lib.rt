@@ -9,7 +9,6 @@ mod find;
 mod first;
 mod operation;
 mod segment;
-mod stage;
 mod verdicts;
 mod whole;
 
