@@ -1,20 +1,17 @@
--- What a whole call leaves and counts, what is left of one, and its turns.
-use Rattle.mm_basic.proofs.Below.{◌≡◌, ℕ, Bool, false, List, [], ◌∷◌, length, Option, None, Some, Result, Ok, Err, IfOk, refl, sym, ap, ◌∙◌}
-use Rattle.mm_basic.proofs.Below.{subst, inl, inr, StepFault, Standing, ReadCell, WriteCell, Goes, Meaning, IsLawful, Batch, One, IsFit}
-use Rattle.mm_basic.proofs.Below.{is_long, BatchAnswer, Refusal, Long, Found, Repeat, Change, Ready, Ended, goes_on, breaks_off, EndsTo}
+-- What a whole call leaves and counts.
+use Rattle.mm_basic.proofs.Below.{◌≡◌, ℕ, Bool, false, List, [], length, Option, None, Some, Result, Ok, Err, IfOk, refl, sym, ap, ◌∙◌}
+use Rattle.mm_basic.proofs.Below.{subst, inl, inr, StepFault, Standing, ReadCell, Goes, Meaning, IsLawful, Batch, One, IsFit}
+use Rattle.mm_basic.proofs.Below.{is_long, BatchAnswer, Refusal, Long, acts_left, extends_in, Deed, Writing, Found, Repeat, Change, Ended, goes_on, breaks_off, EndsTo}
 use Rattle.mm_basic.proofs.Below.{AsksTo, Calls, result_of, fault_of, fault_in, steps_give, reading_blamed, each_call, ends_result}
 use Rattle.mm_basic.proofs.Below.{ends_untouched, given_all, Reads, basic_call, ReadsOnce, StepsAnswered, StepsRefused, StepsBy}
-use Rattle.mm_basic.proofs.Below.{LeavesUntouched, Blames, blamed, read_untouched, same_untouched, steps_blamed, calls_from, Finishes}
-use Rattle.std.specs.Result.{result_err}
+use Rattle.mm_basic.proofs.Below.{LeavesUntouched, Blames, blamed, read_untouched, same_untouched}
+use Rattle.mm_call.specs.Calls.{StepsTo}
 use Rattle.mm_base.specs.Faults.{counted}
 use Rattle.mm_call.proofs.Above.{answered_result}
-use Rattle.mm_basic.specs.declared.call.Turn.{Turn}
-use Rattle.mm_basic.specs.Steps.{act_of}
-use Rattle.mm_basic.specs.Turns.{Turns, turn_fault, turn_of, last_turn}
 use Rattle.mm_basic.proofs.Findings.{IsShaped, shaped}
 
 -- a reading step
-pub read_blamed : (meaning : Meaning) (old new : Standing) (offer : List ℕ) (b : Batch) (found : Result Found Refusal)
+pub read_blamed : (meaning : Meaning) (old new : Standing) (offer : List ℕ) (b : Batch) (found : Result (Found BatchAnswer) Refusal)
     → Reads meaning old new offer b found → Blames (fault_in found) old.faults new.faults
 read_blamed meaning old new offer b found r = blamed (fault_in found) old new r.goes.is_made r.goes.ends
 
@@ -23,8 +20,19 @@ once_refused None old new r = r
 once_refused (Some fault) old new r = inl r
 
 module _ (old middle new : Standing) (ended : Ended) where
+  -- what is counted of a call that commits its batch
+  writes_stepped : (change : Deed) (answer : BatchAnswer) → answer.again ≡ false → extends_in change ≡ false
+      → Goes ReadCell old middle None → StepsTo (acts_left change) answer middle new ended → StepsBy (result_of ended) old new
+  writes_stepped (Writing bytes) answer new_one none g (goes_on next h e) =
+      answered_result (λ (s : Standing) (r : Result BatchAnswer Refusal). StepsBy r old s) answer next new ended e
+      (subst (λ (t : Bool). StepsAnswered t old next) (sym new_one) (h.steps ∙ ap counted g.steps, h.writes ∙ ap counted g.writes))
+  writes_stepped (Writing bytes) answer new_one none g (breaks_off fault h e) =
+      subst (λ (v : Ended). StepsBy (result_of v) old new) (sym e)
+      (inr (h.steps ∙ ap counted g.steps, h.writes ∙ ap counted g.writes))
+  writes_stepped _ answer new_one none g e = absurd (cc)
+
   -- what is counted of a call, by what it found
-  ends_stepped : (b : Batch) (found : Result Found Refusal) → IsShaped b found → Goes ReadCell old middle (fault_in found)
+  ends_stepped : (b : Batch) (found : Result (Found BatchAnswer) Refusal) → IsShaped b found → Goes ReadCell old middle (fault_in found)
       → EndsTo basic_call found middle new ended → StepsBy (result_of ended) old new
   ends_stepped b (Err why) shape g e =
       ends_result basic_call (λ (s : Standing) (r : Result BatchAnswer Refusal). StepsBy r old s) why middle new ended e
@@ -32,15 +40,10 @@ module _ (old middle new : Standing) (ended : Ended) where
   ends_stepped b (Ok (Repeat answer)) shape g e =
       answered_result (λ (s : Standing) (r : Result BatchAnswer Refusal). StepsBy r old s) answer middle new ended e
       (subst (λ (t : Bool). StepsAnswered t old middle) (sym shape.0) (g.steps, g.writes))
-  ends_stepped b (Ok (Change ready)) shape g (goes_on next h e) =
-      answered_result (λ (s : Standing) (r : Result BatchAnswer Refusal). StepsBy r old s) ready.answer next new ended e
-      (subst (λ (t : Bool). StepsAnswered t old next) (sym shape.0) (h.steps ∙ ap counted g.steps, h.writes ∙ ap counted g.writes))
-  ends_stepped b (Ok (Change ready)) shape g (breaks_off fault h e) =
-      subst (λ (v : Ended). StepsBy (result_of v) old new) (sym e)
-      (inr (h.steps ∙ ap counted g.steps, h.writes ∙ ap counted g.writes))
+  ends_stepped b (Ok (Change ready)) shape g e = writes_stepped ready.change ready.answer shape.0 shape.2 g e
 
 -- what was found, by what a call asked: its shape, or a device's fault
-found_shaped : (meaning : Meaning) → IsLawful meaning → (old middle : Standing) (offer : List ℕ) (b : Batch) (found : Result Found Refusal)
+found_shaped : (meaning : Meaning) → IsLawful meaning → (old middle : Standing) (offer : List ℕ) (b : Batch) (found : Result (Found BatchAnswer) Refusal)
     → Reads meaning old middle offer b found → IsShaped b found
 found_shaped meaning lawful old middle offer b (Err why) r = tt
 found_shaped meaning lawful old middle offer b (Ok it) r =
@@ -78,14 +81,14 @@ steps meaning lawful old new offer b result c is =
 abbrev pub IsFitIn : Batch → Result BatchAnswer Refusal → Type 0
 IsFitIn b result = IfOk result (λ answer. IsFit b answer)
 
-ends_fit : (b : Batch) (found : Result Found Refusal) (old new : Standing) (ended : Ended) → IsShaped b found
+ends_fit : (b : Batch) (found : Result (Found BatchAnswer) Refusal) (old new : Standing) (ended : Ended) → IsShaped b found
     → EndsTo basic_call found old new ended → IsFitIn b (result_of ended)
 ends_fit b (Err why) old new ended shape e =
     ends_result basic_call (λ (s : Standing) (r : Result BatchAnswer Refusal). IsFitIn b r) why old new ended e tt
 ends_fit b (Ok (Repeat answer)) old new ended shape e =
     given_all (IsFit b) ended answer (steps_give [] answer old new ended e) shape.1
 ends_fit b (Ok (Change ready)) old new ended shape e =
-    given_all (IsFit b) ended ready.answer (steps_give (WriteCell ready.next ∷ []) ready.answer old new ended e) shape.1
+    given_all (IsFit b) ended ready.answer (steps_give (acts_left ready.change) ready.answer old new ended e) shape.1
 
 pub fits : (meaning : Meaning) → IsLawful meaning → (old new : Standing) (offer : List ℕ) (b : Batch) (result : Result BatchAnswer Refusal)
     → Calls basic_call meaning old new offer b result → IsFitIn b result
@@ -100,41 +103,3 @@ pub one_output : (request : List ℕ) (result : Result BatchAnswer Refusal) → 
     → IfOk result (λ answer. length answer.outputs ≡ 1)
 one_output request (Ok answer) fit = fit.counted
 one_output request (Err why) fit = tt
-
--- What is left of a call, and its turns.
-
--- the count of faults rises where a call hands one on
-pub finish_blamed : (meaning : Meaning) (call : Option Ready) (old new : Standing) (offer : List ℕ) (b : Batch) (ended : Ended)
-    → Finishes meaning call old new offer b ended → Blames (fault_in (result_of ended)) old.faults new.faults
-finish_blamed meaning None old new offer b ended a =
-    reading_blamed basic_call a.found ReadCell old a.middle a.middle new ended a.reads.goes refl a.ends
-finish_blamed meaning (Some ready) old new offer b ended s =
-    steps_blamed (WriteCell ready.next ∷ []) ready.answer old new ended s
-
--- a call that was finished from its begin
-pub calls_finished : (meaning : Meaning) (call : Option Ready) (old new : Standing) (offer : List ℕ) (b : Batch) (ended : Ended)
-    (result : Result BatchAnswer Refusal) → call ≡ None → is_long b ≡ false → Finishes meaning call old new offer b ended
-    → result ≡ result_of ended → Calls basic_call meaning old new offer b result
-calls_finished meaning None old new offer b ended result e short f is =
-    calls_from basic_call meaning old new offer b ended result short f is
-calls_finished meaning (Some ready) old new offer b ended result e short f is = absurd (cc)
-
-found_fault : (found : Result Found Refusal) → turn_fault (turn_of found) ≡ fault_in found
-found_fault (Ok (Repeat answer)) = refl
-found_fault _ = refl
-
-written_fault : (written : Result BatchAnswer StepFault) → turn_fault (last_turn written) ≡ result_err written
-written_fault (Ok answer) = refl
-written_fault (Err fault) = refl
-
--- a turn makes exactly the device step that comes next, and hands its fault on
-pub turn_goes : (meaning : Meaning) (call : Option Ready) (old new : Standing) (offer : List ℕ) (b : Batch) (turn : Turn)
-    → Turns meaning call old new offer b turn → Goes (act_of call) old new (turn_fault turn)
-turn_goes meaning None old new offer b turn t = rw (ap turn_fault t.gives ∙ found_fault t.found) t.reads.goes
-turn_goes meaning (Some ready) old new offer b turn t = rw (ap turn_fault t.gives ∙ written_fault t.written) t.writes.goes
-
--- the count of faults rises where a turn hands one on
-pub turn_blamed : (meaning : Meaning) (call : Option Ready) (old new : Standing) (offer : List ℕ) (b : Batch) (turn : Turn)
-    → Turns meaning call old new offer b turn → Blames (turn_fault turn) old.faults new.faults
-turn_blamed meaning call old new offer b turn t =
-    let g = turn_goes meaning call old new offer b turn t in blamed (turn_fault turn) old new g.is_made g.ends

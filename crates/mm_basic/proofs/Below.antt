@@ -22,6 +22,14 @@ pub use Rattle.mm_platform.specs.declared.fault.StepFault.{StepFault}
 pub use Rattle.mm_module.specs.Batch.{Batch, normal, One, size_of}
 pub use Rattle.mm_module.specs.Batches.{batch_of}
 pub use Rattle.mm_module.specs.Meaning.{IsLawful, Meaning}
+pub use Rattle.mm_machine.specs.Acts.{acts_left, extends_in}
+pub use Rattle.mm_machine.specs.Finishing.{acts_for}
+pub use Rattle.mm_machine.specs.declared.change.Change.{Change as Deed}
+pub use Rattle.mm_machine.specs.declared.change.Change.TheVariants.{Emptying, Extending, Placing, Writing}
+pub use Rattle.mm_machine.specs.declared.operation.Found.{Found}
+pub use Rattle.mm_machine.specs.declared.operation.Found.TheVariants.{Change, Repeat}
+pub use Rattle.mm_machine.specs.declared.operation.Ready.{Ready}
+pub use Rattle.mm_machine.specs.declared.reading.Halt.{Halt}
 pub use Rattle.mm_model.specs.ChainLaws.{length-link}
 pub use Rattle.mm_model.specs.Chains.{link, summary_of}
 pub use Rattle.mm_model.specs.Fit.{IsFit}
@@ -44,6 +52,7 @@ pub use Rattle.mm_call.specs.Ended.{CallsTo, result_of}
 pub use Rattle.mm_call.specs.Leaving.{Blames, IsAccepted, IsAnswered, LeavesUntouched}
 pub use Rattle.mm_call.specs.LeavingLaws.{blamed, read_untouched, same_untouched, wholly}
 pub use Rattle.mm_call.specs.Levels.{all_made, by_digests}
+pub use Rattle.mm_call.specs.Machine.{end_told, found_told, halt_told}
 pub use Rattle.mm_call.specs.Order.{examined}
 pub use Rattle.mm_call.specs.Refusals.{fault_in, fault_of, OrMemory}
 pub use Rattle.mm_call.specs.Standing.{cell_at, StandsAt}
@@ -55,10 +64,8 @@ pub use Rattle.mm_call.proofs.Above.{ends_fates, ends_result, ends_untouched, fa
 pub use Rattle.mm_call.proofs.Above.{reading_tale, so_far, steps_blamed, steps_give, Told, told_reading}
 pub use Rattle.mm_basic.specs.Answers.{answer_of, committed_cell, found_from, found_in, linked}
 pub use Rattle.mm_basic.specs.Asked.{AskedInBasic}
-pub use Rattle.mm_basic.specs.Asks.{acts_for, basic_call, Finishes, ReadsOnce, StepsAnswered, StepsBy, StepsRefused, WritesTo}
+pub use Rattle.mm_basic.specs.Asks.{basic_call, ReadsOnce, StepsAnswered, StepsBy, StepsRefused}
 pub use Rattle.mm_basic.specs.Order.{summary_in, verdict_of}
 pub use Rattle.mm_basic.specs.Seen.{Both, IsCellOf, IsSeen, NoCell, NoOffer, OtherCell, Seen}
+pub use Rattle.mm_basic.specs.Operating.{basic_asked, ExtendsNothing, Sees}
 pub use Rattle.mm_basic.specs.Steps.{Finds, FindsIn, Reads}
-pub use Rattle.mm_basic.specs.declared.found.Found.{Found}
-pub use Rattle.mm_basic.specs.declared.found.Found.TheVariants.{Change, Repeat}
-pub use Rattle.mm_basic.specs.declared.found.Ready.{Ready}

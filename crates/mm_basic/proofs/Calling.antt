@@ -5,7 +5,7 @@ use Rattle.mm_basic.proofs.Below.{Cell, IsCell, cell_spelling, PartsFault, Form,
 use Rattle.mm_basic.proofs.Below.{variant_of, tag_of, extended_of, Item, Standing, length-link, Step, Writes, link, Instance, basic, Commit}
 use Rattle.mm_basic.proofs.Below.{Foreign, Digests, made, verdict_by, basic_verdict, digest_of, BatchAnswer, Refusal, Verdict, OrMemory}
 use Rattle.mm_basic.proofs.Below.{all_made, by_digests, AsFound, lacks_in, brought_digests, cell_at, StandsAt, weighed_only, Found, Repeat}
-use Rattle.mm_basic.proofs.Below.{Change, Seen, found_in, found_from, answer_of, committed_cell, basic_call, SpellsCell, ReadsCell}
+use Rattle.mm_basic.proofs.Below.{Change, Writing, Seen, found_in, found_from, answer_of, committed_cell, basic_call, SpellsCell, ReadsCell}
 use Rattle.mm_basic.proofs.Below.{IsCellOf, NoCell, OtherCell, NoOffer, Both, IsSeen as IsSight, Finds, if◌then◌else◌, linked, summary_in}
 use Rattle.mm_basic.proofs.Below.{verdict_by_digests, zero_bytes}
 use Rattle.std.specs.List.{fold}
@@ -55,15 +55,15 @@ one_sight id bytes offer cell taken (Both other offered) s is r v =
 -- What is found.
 
 -- what is found, where this offer is accepted
-abbrev found_as : Instance → Digests → Content → Bool → Batch → Found
+abbrev found_as : Instance → Digests → Content → Bool → Batch → Found BatchAnswer
 found_as i d offered true b = Repeat ((by_digests i).answer true d d offered b)
 found_as i d offered false b = Change (record {
-  next = cell_spelling (cell_at i (made i d (Commit b)));
+  change = Writing (cell_spelling (cell_at i (made i d (Commit b))));
   answer = (by_digests i).answer false d d offered b;
 })
 
 -- what is found, where that is found by digests
-abbrev given : Instance → Digests → Batch → Result call.Found Refusal → Result Found Refusal
+abbrev given : Instance → Digests → Batch → Result call.Found Refusal → Result (Found BatchAnswer) Refusal
 given i d b (Err why) = Err why
 given i d b (Ok it) = Ok (found_as i d it.offered it.again b)
 
@@ -113,7 +113,7 @@ module _ (meaning : Meaning) (key : List ℕ) (d : Digests) (b : Batch) where
   found_examined offered (Ok false) f r =
       let answers = answer_is meaning key offered (linked offered b) (link d.digest (normal b)) b false (f refl) in
       λ j. Ok (Change (record {
-        next = cell_spelling (record (cell_at i d) { summary = digest_of (f refl j) });
+        change = Writing (cell_spelling (record (cell_at i d) { summary = digest_of (f refl j) }));
         answer = answers j;
       }))
 
@@ -139,7 +139,7 @@ module _ (meaning : Meaning) (key : List ℕ) (d : Digests) (b : Batch) where
 
 -- What is found at digests that a platform's cell has, whatever its register holds.
 found_here : (meaning : Meaning) (key : List ℕ) (d : Digests) (register : List ℕ) (old : Standing) (offer : List ℕ) (b : Batch)
-    (found : Result Found Refusal)
+    (found : Result (Found BatchAnswer) Refusal)
     → IsCell (cell_at (basic meaning key) d) → old.cell ≡ Some (cell_spelling (cell_at (basic meaning key) d))
     → (f : Finds meaning old offer b found) → found_in meaning f.finds.seen b
     ≡ given (basic meaning key) (record d { register = register }) (normal b)
@@ -185,12 +185,12 @@ as_given meaning key d b offered false is = (
 )
 
 -- what is found is what the call finds by digests, or memory is wanting
-abbrev pub IsSeen : Meaning → List ℕ → Digests → Batch → Result call.Found Refusal → Result Found Refusal → Type 0
+abbrev pub IsSeen : Meaning → List ℕ → Digests → Batch → Result call.Found Refusal → Result (Found BatchAnswer) Refusal → Type 0
 IsSeen meaning key d b x found =
     let y : Result call.Found Refusal = call_words.found_unless_wanting x (lacks_in found) in
     AsFound basic_call (basic meaning key) d b y found (writing (call_words.is_fresh y) b)
 
-as_found : (meaning : Meaning) (key : List ℕ) (d : Digests) (b : Batch) (x : Result call.Found Refusal) (found : Result Found Refusal)
+as_found : (meaning : Meaning) (key : List ℕ) (d : Digests) (b : Batch) (x : Result call.Found Refusal) (found : Result (Found BatchAnswer) Refusal)
     → IsCell (cell_at (basic meaning key) d) → OrMemory (given (basic meaning key) d b x) found → IsSeen meaning key d b x found
 as_found meaning key d b (Err why) found is f = rw f (refl, refl)
 as_found meaning key d b (Ok it) found is (inl f) = rw f (as_given meaning key d b it.offered it.again is)
@@ -198,7 +198,7 @@ as_found meaning key d b (Ok it) found is (inr f) = rw f (refl, refl)
 
 -- at the digests of a platform's cell, whatever others put into the register before it was read
 pub seen_here : (meaning : Meaning) (key : List ℕ) (d : Digests) (values : List (List ℕ)) (old : Standing) (offer : List ℕ) (b : Batch)
-    (found : Result Found Refusal) → StandsAt (basic meaning key) old d → Finds meaning old offer b found
+    (found : Result (Found BatchAnswer) Refusal) → StandsAt (basic meaning key) old d → Finds meaning old offer b found
     → let seen : Digests = all_made (by_digests (basic meaning key)) d (map Foreign values) in
     IsSeen meaning key seen (normal b) (call.found_at (basic meaning key) (by_digests (basic meaning key)) seen (normal b) offer) found
 seen_here meaning key d values old offer b found s f =
@@ -208,5 +208,5 @@ seen_here meaning key d values old offer b found s f =
     (sym (brought_digests i d values))
     (as_found meaning key (record d { register = r }) (normal b)
     (call.found_at i (by_digests i) (record d { register = r }) (normal b) offer) found s.spells
-    (subst (λ (x : Result Found Refusal). OrMemory x found) (found_here meaning key d r old offer b found s.spells s.cell f)
+    (subst (λ (x : Result (Found BatchAnswer) Refusal). OrMemory x found) (found_here meaning key d r old offer b found s.spells s.cell f)
     f.finds.found_is))

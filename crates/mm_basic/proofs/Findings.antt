@@ -1,24 +1,24 @@
 -- What is found, by what the offer is examined to.
 use Rattle.mm_basic.proofs.Below.{◌≡◌, ℕ, Bool, true, false, List, Result, Ok, Err, IsTrue, refl, sym, subst, inl, inr, arith, Meaning}
 use Rattle.mm_basic.proofs.Below.{IsLawful, Batch, normal, Blank, Form, InBasic, Content, Snapshot, IsFit, length-link, Refusal, Verdict}
-use Rattle.mm_basic.proofs.Below.{digest_of, Found, Repeat, Change, Seen, NoCell, NoOffer, Both, examined, summary_in, verdict_of, linked}
+use Rattle.mm_basic.proofs.Below.{digest_of, BatchAnswer, extends_in, Found, Repeat, Change, Seen, NoCell, NoOffer, Both, examined, summary_in, verdict_of, linked}
 use Rattle.mm_basic.proofs.Below.{answer_of, committed_cell, found_from, found_in, OrMemory, FindsIn, weighed_only, Basic, Cell, IsCellOf}
 use Rattle.mm_basic.proofs.Below.{PartsFault, ReadsParts, SpellsCell}
 use Rattle.std.proofs.lemmas.Bool.Decides.{nat_tests}
 use Rattle.mm_model.specs.FitLaws.{is_fit}
 
--- an answer found says whether it is a repeat's, and is fit
-abbrev pub IsShaped : Batch → Result Found Refusal → Type 0
+-- An answer found says whether it is a repeat's, and is fit; and no own extension is to come.
+abbrev pub IsShaped : Batch → Result (Found BatchAnswer) Refusal → Type 0
 IsShaped b (Err why) = Unit {0}
 IsShaped b (Ok (Repeat answer)) = (answer.again ≡ true) × IsFit b answer
-IsShaped b (Ok (Change ready)) = (ready.answer.again ≡ false) × IsFit b ready.answer
+IsShaped b (Ok (Change ready)) = (ready.answer.again ≡ false) × IsFit b ready.answer × (extends_in ready.change ≡ false)
 
 shaped_from : (meaning : Meaning) (key next : List ℕ) (offered : Content) (b : Batch) (e : Result Bool Refusal)
     → ((again : Bool) → e ≡ Ok again → IsFit b (answer_of meaning key offered b again))
     → IsShaped b (found_from e next (answer_of meaning key offered b))
 shaped_from meaning key next offered b (Err why) h = tt
 shaped_from meaning key next offered b (Ok true) h = (refl, h true refl)
-shaped_from meaning key next offered b (Ok false) h = (refl, h false refl)
+shaped_from meaning key next offered b (Ok false) h = (refl, h false refl, refl)
 
 -- an offer that is accepted leads to a fit answer
 accepted_fit : (meaning : Meaning) → IsLawful meaning → (key : List ℕ) (offered : Snapshot) (b : Batch) (verdict : Verdict) (again : Bool)
@@ -39,18 +39,18 @@ shaped_in meaning lawful (Both cell offered) b =
     (accepted_fit meaning lawful cell.key offered b (verdict_of cell offered b))
 shaped_in meaning lawful _ b = tt
 
-shaped_or : (b : Batch) (x found : Result Found Refusal) → IsShaped b x → OrMemory x found → IsShaped b found
+shaped_or : (b : Batch) (x found : Result (Found BatchAnswer) Refusal) → IsShaped b x → OrMemory x found → IsShaped b found
 shaped_or b (Err why) found h o = rw o tt
 shaped_or b (Ok it) found h (inl e) = rw e h
 shaped_or b (Ok it) found h (inr e) = rw e tt
 
-pub shaped : (meaning : Meaning) → IsLawful meaning → (bytes offer : List ℕ) (b : Batch) (found : Result Found Refusal)
+pub shaped : (meaning : Meaning) → IsLawful meaning → (bytes offer : List ℕ) (b : Batch) (found : Result (Found BatchAnswer) Refusal)
     → FindsIn meaning bytes offer b found → IsShaped b found
 shaped meaning lawful bytes offer b found f = shaped_or b (found_in meaning f.seen b) found (shaped_in meaning lawful f.seen b) f.found_is
 
 -- an offer that is none to this module
 pub no_offer : (meaning : Meaning) (bytes offer : List ℕ) (b : Batch) (id : ℕ) (cell : Cell) (fault : PartsFault)
-    (found : Result Found Refusal) → id ≡ meaning.id → SpellsCell bytes cell → IsCellOf id cell → ReadsParts offer Basic id (Err fault)
+    (found : Result (Found BatchAnswer) Refusal) → id ≡ meaning.id → SpellsCell bytes cell → IsCellOf id cell → ReadsParts offer Basic id (Err fault)
     → OrMemory (found_in meaning (NoOffer fault) b) found → FindsIn meaning bytes offer b found
 no_offer meaning bytes offer b id cell fault found e spells is reads o = record {
   seen = NoOffer fault;

@@ -1,9 +1,10 @@
 -- A call of Basic is the walk of its steps on a course, by digests and by lists.
-use Rattle.mm_basic.proofs.Below.{◌≡◌, ℕ, Bool, true, false, List, ◌∷◌, length, map, Option, None, Some, Result, refl, sym, ap, subst}
+use Rattle.mm_basic.proofs.Below.{◌≡◌, ℕ, Bool, true, false, List, ◌∷◌, length, map, None, Result, refl, sym, ap, subst}
 use Rattle.mm_basic.proofs.Below.{arith, Basic, Standing, ReadCell, Meaning, Batch, normal, Instance, basic, Move, Foreign, Digests, Step}
 use Rattle.mm_basic.proofs.Below.{Reading, ask_steps, Refusal, Ended, EndsTo, AsksTo, IsCallSoFar, CallsTo, all_made, by_digests, fault_in}
 use Rattle.mm_basic.proofs.Below.{StandsAt, basic_calls_agree, fate_of, ends_fates, reading_tale, Told, GoesTo, course_by, lacks_in}
-use Rattle.mm_basic.proofs.Below.{told_reading, so_far, Found, Repeat, Change, Ready, Reads, acts_for, basic_call, Finishes}
+use Rattle.mm_basic.proofs.Below.{told_reading, so_far, BatchAnswer, Deed, Extending, Emptying, Placing, Writing, Found, Repeat, Change, Reads, acts_for, acts_left}
+use Rattle.mm_basic.proofs.Below.{basic_call, AskedInBasic, IsLawful, is_long, calls_from, result_of}
 use Rattle.std.specs.Prelude.{◌≤◌}
 use Rattle.std.proofs.lemmas.List.{append-nil}
 use Rattle.mm_platform.specs.Told.{next_plan}
@@ -12,17 +13,24 @@ use Rattle.mm_call.specs.Found as call
 use Rattle.mm_call.specs.FoundWords.{found_unless_wanting, is_fresh}
 use Rattle.mm_call.proofs.Above as completing
 use Rattle.mm_basic.proofs.Calling.{writing, seen_here}
+use Rattle.mm_basic.proofs.Completeness.{asked}
 
 asks_writing : (flag fresh : Bool) (b : Batch) → ask_steps Basic flag fresh b ≡ Reading ∷ writing fresh b
 asks_writing flag true b = refl
 asks_writing flag false b = refl
 
-few_acts : (it : Found) → length (acts_for it) ≤ 49
+few_left : (change : Deed) → length (acts_left change) ≤ 49
+few_left (Extending value) = omega arith
+few_left (Emptying opening) = omega arith
+few_left (Placing opening) = omega arith
+few_left (Writing next) = omega arith
+
+few_acts : (it : Found BatchAnswer) → length (acts_for it) ≤ 49
 few_acts (Repeat answer) = omega arith
-few_acts (Change ready) = omega arith
+few_acts (Change ready) = few_left ready.change
 
 -- what a call that found this came to from digests that the platform stood at
-module _ (meaning : Meaning) (offer : List ℕ) (b : Batch) (old middle new : Standing) (found : Result Found Refusal) (ended : Ended)
+module _ (meaning : Meaning) (offer : List ℕ) (b : Batch) (old middle new : Standing) (found : Result (Found BatchAnswer) Refusal) (ended : Ended)
     (r : Reads meaning old middle offer b found) (e : EndsTo basic_call found middle new ended) where
   abbrev fates : List Fate
   fates = fate_of ReadCell old middle (fault_in found) r.goes ∷ ends_fates basic_call found middle new ended e
@@ -55,14 +63,18 @@ pub calls_to : (meaning : Meaning) (old new : Standing) (offer : List ℕ) (b : 
 calls_to meaning old new offer b ended a = found_to meaning offer b old a.middle new a.found ended a.reads a.ends
 
 -- the reading step of a call, with the step that commits what it found, is the whole call
-pub prepared : (meaning : Meaning) (old new : Standing) (offer : List ℕ) (b : Batch) (found : Result Found Refusal)
+pub prepared : (meaning : Meaning) (old new : Standing) (offer : List ℕ) (b : Batch) (found : Result (Found BatchAnswer) Refusal)
     → Reads meaning old new offer b found → IsCallSoFar basic_call meaning old new offer b found
 prepared meaning old new offer b found r =
     so_far basic_call meaning old new offer b found
     (λ (after : Standing) (ended : Ended) (a : AsksTo basic_call meaning old after offer b ended).
     (calls_to meaning old after offer b ended a).calls) r
 
-pub finished_to : (meaning : Meaning) (call : Option Ready) (old new : Standing) (offer : List ℕ) (b : Batch) (ended : Ended)
-    → Finishes meaning call old new offer b ended → call ≡ None → CallsTo Basic meaning old new offer b ended
-finished_to meaning None old new offer b ended f e = calls_to meaning old new offer b ended f
-finished_to meaning (Some ready) old new offer b ended f e = absurd (cc)
+-- a whole call, by how it ended
+
+pub asked_by : (meaning : Meaning) → IsLawful meaning → (old new : Standing) (offer : List ℕ) (b : Batch) (ended : Ended)
+    (result : Result BatchAnswer Refusal) → is_long b ≡ false → AsksTo basic_call meaning old new offer b ended
+    → result ≡ result_of ended → AskedInBasic meaning old new offer b result
+asked_by meaning lawful old new offer b ended result short a e =
+    asked meaning lawful old new offer b result (calls_from basic_call meaning old new offer b ended result short a e)
+    (λ _. rw e (calls_to meaning old new offer b ended a).calls)

@@ -6,3 +6,4 @@ mod FirstLaws
 mod Completeness
 mod Calling
 mod Going
+mod Telling

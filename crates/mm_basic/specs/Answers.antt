@@ -4,8 +4,9 @@ use Rattle.mm_basic.specs.Below.{cell_spelling, Content, Cell, Blank, Unspelled,
 use Rattle.mm_basic.specs.Below.{BatchAnswer, Refusal, answer_at, examined}
 use Rattle.mm_seal.specs.declared.snapshot.Place.TheVariants.{Basic}
 use Rattle.mm_model.specs.declared.refusal.Refusal.TheVariants as refusal
-use Rattle.mm_basic.specs.declared.found.Found.{Found}
-use Rattle.mm_basic.specs.declared.found.Found.TheVariants.{Repeat, Change}
+use Rattle.mm_machine.specs.declared.change.Change.TheVariants.{Writing}
+use Rattle.mm_machine.specs.declared.operation.Found.{Found}
+use Rattle.mm_machine.specs.declared.operation.Found.TheVariants.{Repeat, Change}
 use Rattle.mm_basic.specs.Seen.{Seen, NoCell, OtherCell, NoOffer, Both}
 use Rattle.mm_basic.specs.Order.{summary_in, verdict_of}
 
@@ -23,13 +24,15 @@ committed_cell cell offered b =
     cell_spelling (record cell { summary = digest_of (linked offered b) })
 
 -- A repeat is answered, and a new batch is ready to be committed.
-abbrev pub found_from : Result Bool Refusal → List ℕ → (Bool → BatchAnswer) → Result Found Refusal
+abbrev pub found_from : Result Bool Refusal → List ℕ → (Bool → BatchAnswer)
+    → Result (Found BatchAnswer) Refusal
 found_from (Err why) next answer = Err why
 found_from (Ok true) next answer = Ok (Repeat (answer true))
-found_from (Ok false) next answer = Ok (Change (record { next = next; answer = answer false }))
+found_from (Ok false) next answer =
+    Ok (Change (record { change = Writing next; answer = answer false }))
 
 -- what a call finds, in the order of the refusals; but for want of memory
-abbrev pub found_in : Meaning → Seen → Batch → Result Found Refusal
+abbrev pub found_in : Meaning → Seen → Batch → Result (Found BatchAnswer) Refusal
 found_in meaning (NoCell Blank) b = Err refusal.Blank
 found_in meaning (NoCell Unspelled) b = Err refusal.Cell
 found_in meaning OtherCell b = Err refusal.Cell

@@ -12,7 +12,7 @@ pub use Rattle.mm_seal.specs.declared.snapshot.PartsFault.TheVariants.{Form, Kin
 pub use Rattle.mm_seal.specs.declared.snapshot.Place.{Place}
 pub use Rattle.mm_seal.specs.declared.snapshot.Place.TheVariants.{Opt}
 pub use Rattle.mm_platform.specs.Standing.{Standing}
-pub use Rattle.mm_platform.specs.Steps.{Act, Goes, ReadCell, WriteCell}
+pub use Rattle.mm_platform.specs.Steps.{Goes, ReadCell}
 pub use Rattle.mm_platform.specs.declared.fault.StepFault.{StepFault}
 pub use Rattle.mm_module.specs.Batch.{Batch, normal, size_of}
 pub use Rattle.mm_module.specs.Meaning.{Meaning}
@@ -28,12 +28,12 @@ pub use Rattle.mm_model.specs.PlacesWords.{digest_of}
 pub use Rattle.mm_model.specs.Standing.{IsRight, StandsFor}
 pub use Rattle.mm_model.specs.declared.answer.BatchAnswer.{BatchAnswer}
 pub use Rattle.mm_model.specs.declared.refusal.Refusal.{Refusal}
-pub use Rattle.mm_model.specs.declared.refusal.Refusal.TheVariants.{Device}
 pub use Rattle.mm_model.specs.declared.verdict.Verdict.{Verdict}
 pub use Rattle.mm_call.specs.Answers.{answer_at}
-pub use Rattle.mm_call.specs.Calls.{AsksTo, CallOf, Calls, StepsTo}
+pub use Rattle.mm_call.specs.Calls.{CallOf, Calls}
 pub use Rattle.mm_call.specs.CallsOn.{CallsOn}
 pub use Rattle.mm_call.specs.Ended.{CallsTo, result_of}
+pub use Rattle.mm_call.specs.Machine.{call_of, end_told}
 pub use Rattle.mm_call.specs.Leaving.{Blames, IsAccepted, IsAnswered, LeavesUntouched}
 pub use Rattle.mm_call.specs.Order.{examined}
 pub use Rattle.mm_call.specs.Refusals.{OrMemory, fault_in, fault_of}

@@ -3,7 +3,7 @@ pub mod Seen
 pub mod Order
 pub mod Answers
 pub mod Steps
-pub mod Turns
+pub mod Operating
 pub mod Asks
 pub mod Complete
 pub mod Asked

@@ -5,11 +5,11 @@
 mod call;
 mod find;
 mod first;
-mod found;
-mod step;
+mod operation;
 mod whole;
 
 pub use call::{Call, Turn, begin};
 pub use first::provision;
 pub use mm_call::Provisioned;
-pub use whole::{Committed, Prepared, ask, ask_batch, prepare};
+pub use operation::BasicAsk;
+pub use whole::{Committed, Prepared, ask, ask_batch, ask_keeping, prepare};

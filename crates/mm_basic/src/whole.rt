@@ -1,23 +1,23 @@
 //! Whole calls.
 
-ghost use Rattle.std.specs.Prelude.{◌≡◌, true, false, Err, IfOk, length};
+ghost use Rattle.std.specs.Prelude.{◌≡◌, true, false, Err, IfOk};
 ghost use Rattle.std.specs.Result.{result_err};
-ghost use Rattle.mm_digest.specs.declared.variant.Variant.TheVariants.{Basic};
 ghost use Rattle.mm_module.specs.Batch.{One};
 ghost use Rattle.mm_module.specs.Batches.{batch_of};
 ghost use Rattle.mm_model.specs.Long.{is_long};
 ghost use Rattle.mm_call.specs.Refusals.{fault_in};
-ghost use Rattle.mm_call.specs.CallsOn.{CallsOn};
-ghost use Rattle.mm_basic.specs.Steps.{Reads};
-ghost use Rattle.mm_call.specs.Calls.{Calls, Commits, IsCallSoFar};
+ghost use Rattle.mm_call.specs.Calls.{Commits, IsCallSoFar};
+ghost use Rattle.mm_call.specs.Leaving.{Blames, whole_in};
+ghost use Rattle.mm_machine.specs.Acts.{extends_in};
+ghost use Rattle.mm_machine.specs.Reading.{extends};
+ghost use Rattle.mm_machine.specs.declared.operation.Found.TheVariants.{Change};
 ghost use Rattle.mm_basic.specs.Asked.{AskedInBasic};
 ghost use Rattle.mm_basic.specs.Asks.{basic_call};
-ghost use Rattle.mm_call.specs.Leaving.{Blames, whole_in};
+ghost use Rattle.mm_basic.specs.Steps.{Reads};
 
-use crate::call::begin;
-use crate::found::Found;
-use crate::step::{read, write};
-use mm_call::KeptKey;
+use crate::operation::BasicAsk;
+use mm_call::{Ended, KeptKey, refusal_of};
+use mm_machine::{Call, Found, Ready, finish, read};
 use mm_model::{Answer, BatchAnswer, Refusal};
 use mm_module::{Batch, Module};
 use mm_platform::{Platform, StepFault};
@@ -27,15 +27,20 @@ use std::marker::Model;
 /// A call whose reading step was made: its batch has run in memory. Contracts see what was found.
 #[derive(Drop)]
 pub struct Prepared {
-    found: Found,
+    found: Found<BatchAnswer>,
 }
 
 impl Model for Prepared {
-    ghost use Rattle.mm_basic.specs.declared.found.Found.{Found};
+    ghost use Rattle.std.specs.Prelude.{◌≡◌, false};
+    ghost use Rattle.mm_machine.specs.Reading.{extends};
+    ghost use Rattle.mm_machine.specs.declared.operation.Found.{Found};
+    ghost use Rattle.mm_model.specs.declared.answer.BatchAnswer.{BatchAnswer};
 
-    ghost Value = { Found };
+    ghost Value = { Found BatchAnswer };
 
     ghost view = { λ prepared. prepared.found };
+
+    ghost invariant = { λ prepared. extends prepared.found ≡ false };
 }
 
 /// A call whose batch is committed. Contracts see its answer.
@@ -71,31 +76,17 @@ pub fn prepare<M: Module, P: Platform>(
     ensures faults { Blames (fault_in result)
         (P.standing platform.old).faults (P.standing platform.new).faults }
 {
-    prepare_batch(alloc, module, platform, offer, Batch::One(request))
-}
-
-fn prepare_batch<M: Module, P: Platform>(
-    alloc: Global,
-    module: &M,
-    platform: &mut P,
-    offer: &[u8],
-    batch: Batch<'_>,
-) -> Result<Prepared, Refusal>
-    ensures long { is_long (batch_of batch.entry) ≡ true →
-        (result ≡ Err Refusal.Long) × (P.standing platform.new ≡ P.standing platform.old) }
-    ensures reads { is_long (batch_of batch.entry) ≡ false →
-        Reads (M.meaning «module».now) (P.standing platform.old) (P.standing platform.new)
-        offer.now (batch_of batch.entry) result }
-    ensures goes { is_long (batch_of batch.entry) ≡ false →
-        IsCallSoFar basic_call (M.meaning «module».now) (P.standing platform.old) (P.standing platform.new)
-        offer.now (batch_of batch.entry) result }
-    ensures faults { Blames (fault_in result)
-        (P.standing platform.old).faults (P.standing platform.new).faults }
-{
+    let batch = Batch::One(request);
     if mm_model::is_long(&batch) {
         return Err(Refusal::Long);
     }
-    match read_alone(alloc, module, platform, offer, batch) {
+    let ask = BasicAsk {
+        alloc,
+        module,
+        offer,
+        batch,
+    };
+    match read_alone(&ask, platform) {
         Err(refusal) => Err(refusal),
         Ok(found) => Ok(Prepared { found }),
     }
@@ -103,17 +94,29 @@ fn prepare_batch<M: Module, P: Platform>(
 
 // Makes the reading step under a key that is absorbed for it alone.
 fn read_alone<M: Module, P: Platform>(
-    alloc: Global,
-    module: &M,
+    ask: &BasicAsk<'_, M>,
     platform: &mut P,
-    offer: &[u8],
-    batch: Batch<'_>,
-) -> Result<Found, Refusal>
-    requires { is_long (batch_of batch) ≡ false }
-    ensures { Reads (M.meaning «module».now) (P.standing platform.old) (P.standing platform.new)
-        offer.now (batch_of batch.entry) result }
+) -> Result<Found<BatchAnswer>, Refusal>
+    ensures reads { Reads (M.meaning ask.now.«module».now) (P.standing platform.old)
+        (P.standing platform.new) ask.now.offer.now (batch_of ask.now.batch) result }
+    ensures extends { IfOk result (λ found. extends found ≡ false) }
 {
-    read(alloc, module, platform, offer, batch, &mut KeptKey::new())
+    read_keeping(ask, platform, &mut KeptKey::new())
+}
+
+fn read_keeping<M: Module, P: Platform>(
+    ask: &BasicAsk<'_, M>,
+    platform: &mut P,
+    keys: &mut KeptKey,
+) -> Result<Found<BatchAnswer>, Refusal>
+    ensures reads { Reads (M.meaning ask.now.«module».now) (P.standing platform.old)
+        (P.standing platform.new) ask.now.offer.now (batch_of ask.now.batch) result }
+    ensures extends { IfOk result (λ found. extends found ≡ false) }
+{
+    match read(ask, platform, keys) {
+        Ok(found) => Ok(found),
+        Err(halt) => Err(refusal_of(halt)),
+    }
 }
 
 impl Prepared {
@@ -128,15 +131,31 @@ impl Prepared {
     }
 }
 
-fn commit_found<P: Platform>(found: Found, platform: &mut P) -> Result<Committed, StepFault>
+fn commit_found<P: Platform>(
+    found: Found<BatchAnswer>,
+    platform: &mut P,
+) -> Result<Committed, StepFault>
+    requires { extends found ≡ false }
     ensures { Commits basic_call found (P.standing platform.old) (P.standing platform.new) result }
 {
     match found {
         Found::Repeat(answer) => Ok(Committed { answer }),
-        Found::Change(ready) => match write(ready, platform) {
-            Err(fault) => Err(fault),
-            Ok(answer) => Ok(Committed { answer }),
-        },
+        Found::Change(ready) => commit_ready(ready, platform),
+    }
+}
+
+fn commit_ready<P: Platform>(
+    ready: Ready<BatchAnswer>,
+    platform: &mut P,
+) -> Result<Committed, StepFault>
+    requires { extends_in ready.change ≡ false }
+    ensures { Commits basic_call (Change ready) (P.standing platform.old) (P.standing platform.new)
+        result }
+{
+    let Ready { change, answer } = ready;
+    match change.make(platform) {
+        Err(fault) => Err(fault),
+        Ok(_) => Ok(Committed { answer }),
     }
 }
 
@@ -150,23 +169,28 @@ impl Committed {
 }
 
 // One call, from the offer to the answer.
-fn call<M: Module, P: Platform>(
+#[inline(always)]
+fn ask_batch_keeping<M: Module, P: Platform>(
     alloc: Global,
     module: &M,
     platform: &mut P,
     offer: &[u8],
     batch: Batch<'_>,
+    keys: &mut KeptKey,
 ) -> Result<BatchAnswer, Refusal>
-    ensures calls { Calls basic_call (M.meaning «module».now) (P.standing platform.old)
-        (P.standing platform.new) offer.now (batch_of batch.entry) result }
-    ensures goes { is_long (batch_of batch.entry) ≡ false →
-        CallsOn Basic (M.meaning «module».now) (P.standing platform.old)
+    ensures { AskedInBasic (M.meaning «module».now) (P.standing platform.old)
         (P.standing platform.new) offer.now (batch_of batch.entry) result }
 {
-    match begin(batch) {
-        Err(refusal) => Err(refusal),
-        Ok(call) => call.finish(alloc, module, platform, offer, batch).result(),
+    if mm_model::is_long(&batch) {
+        return Err(Refusal::Long);
     }
+    let ask = BasicAsk {
+        alloc,
+        module,
+        offer,
+        batch,
+    };
+    Ended::of(finish(&ask, Call::begin(), platform, keys)).result()
 }
 
 /// One call: asks for a batch of requests, offering a snapshot. A new batch is committed whole or not at all, and
@@ -182,7 +206,7 @@ pub fn ask_batch<M: Module, P: Platform>(
     ensures { AskedInBasic (M.meaning «module».now) (P.standing platform.old)
         (P.standing platform.new) offer.now (batch_of batch.entry) result }
 {
-    call(alloc, module, platform, offer, batch)
+    ask_batch_keeping(alloc, module, platform, offer, batch, &mut KeptKey::new())
 }
 
 /// One call that asks for one request: `prepare`, `commit` and `answer` in one.
@@ -196,23 +220,23 @@ pub fn ask<M: Module, P: Platform>(
     ensures { AskedInBasic (M.meaning «module».now) (P.standing platform.old)
         (P.standing platform.new) offer.now (One request.now) (whole_in result) }
 {
-    match call_one(alloc, module, platform, offer, request) {
-        Err(refusal) => Err(refusal),
-        Ok(answer) => Ok(answer.into_one()),
-    }
+    ask_keeping(alloc, module, platform, offer, request, &mut KeptKey::new())
 }
 
-// One call that asks for one request.
-fn call_one<M: Module, P: Platform>(
+/// `ask` with an absorbed key that the caller keeps between calls.
+pub fn ask_keeping<M: Module, P: Platform>(
     alloc: Global,
     module: &M,
     platform: &mut P,
     offer: &[u8],
     request: &[u8],
-) -> Result<BatchAnswer, Refusal>
-    ensures asked { AskedInBasic (M.meaning «module».now) (P.standing platform.old)
-        (P.standing platform.new) offer.now (One request.now) result }
-    ensures one { IfOk result (λ answer. length answer.outputs ≡ 1) }
+    keys: &mut KeptKey,
+) -> Result<Answer, Refusal>
+    ensures { AskedInBasic (M.meaning «module».now) (P.standing platform.old)
+        (P.standing platform.new) offer.now (One request.now) (whole_in result) }
 {
-    ask_batch(alloc, module, platform, offer, Batch::One(request))
+    match ask_batch_keeping(alloc, module, platform, offer, Batch::One(request), keys) {
+        Err(refusal) => Err(refusal),
+        Ok(answer) => Ok(answer.into_one()),
+    }
 }

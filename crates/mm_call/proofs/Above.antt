@@ -13,6 +13,7 @@ pub use Rattle.mm_call.proofs.Completing.{Told, told_on, told_reading}
 pub use Rattle.mm_call.proofs.Finding.{admitted_tells, each_at, found_with_tells, live_found, lives, not_lost, placed, right_at}
 pub use Rattle.mm_call.proofs.Finding.{unless_lost, weighed_tells}
 pub use Rattle.mm_call.proofs.Going.{finds, sees, stands_at, stands_for}
+pub use Rattle.mm_call.proofs.Machine.{acts_told, asks_told, ends_told, halted_told}
 pub use Rattle.mm_call.proofs.OptAlike.{Alike, alike_commit, alike_foreign, alike_still, clean_open, grown_by, issued_alike, names_after}
 pub use Rattle.mm_call.proofs.OptAlike.{names_alike, opened, same_closed}
 pub use Rattle.mm_call.proofs.OptHolding.{agrees_is, bare, counted_open, foreign_agrees, foreign_fine, foreign_may, holds_moved, holds_open}
@@ -25,4 +26,5 @@ pub use Rattle.mm_call.proofs.OptShapes.{Brought, foreign_messages, opt_tied, re
 pub use Rattle.mm_call.proofs.OptShown.{flag_kept, pushed_open, shown_back, shown_front, shown_shut}
 pub use Rattle.mm_call.proofs.OptWalks.{AllMay, AreOwn, ask_may, before, first_in, foreign_all, holds_made, may_of, own_asked, own_checked}
 pub use Rattle.mm_call.proofs.OptWalks.{path_is, Ready, ready_closing, sight, sight_is, walk_fine}
+pub use Rattle.mm_call.proofs.Turning.{finish_blamed, IsQuiet, step_fault, steps_by, StepsBy}
 pub use Rattle.mm_call.specs.TrailLaws.{foreign_made as brought_digests}

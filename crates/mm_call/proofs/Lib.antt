@@ -1,5 +1,7 @@
 pub mod Above
 mod Below
+mod Machine
+mod Turning
 mod Members
 mod Finding
 mod Calling

@@ -16,6 +16,7 @@ pub mod Laws
 pub mod Checkpoints
 pub mod Ended
 pub mod Calls
+pub mod Machine
 pub mod Tied
 pub mod Premises
 pub mod CoursesWords

@@ -12,7 +12,7 @@ mod first;
 mod laws;
 mod run;
 
-pub use ended::Ended;
+pub use ended::{Ended, refusal_of};
 pub use examining::examine;
 pub use first::Provisioned;
 pub use laws::{

@@ -1,13 +1,12 @@
 -- A call of the machine in flight: its step under another plan, what it goes on to, and a step that fails.
-use Rattle.mm_flight.proofs.Below.{◌≡◌, ℕ, ◌+◌, ◌<◌, true, Bool, false, List, [], ◌∷◌, Option, None, Some, Result, Ok, Err, refl, ap, subst, sym}
-use Rattle.mm_flight.proofs.Below.{◌∙◌, counted, StepFault, Meddle, Quiet, Plan, Standing, Act, Goes, ReadCell, ReadRegister, cell_after, plan_by, under}
-use Rattle.mm_platform.specs.Steps.{Readies}
+use Rattle.mm_flight.proofs.Below.{◌≡◌, ℕ, true, Bool, false, List, Option, None, Some, Result, Ok, Err, refl, ap, subst, sym}
+use Rattle.mm_flight.proofs.Below.{◌∙◌, counted, StepFault, Meddle, Quiet, Plan, Standing, Goes, ReadCell, ReadRegister, cell_after, plan_by, under}
 use Rattle.mm_seal.specs.declared.cell.Cell.{Cell}
 use Rattle.mm_machine.specs.Acts.{act_in, acts_left, change_after}
 use Rattle.mm_machine.specs.Asked.{Asked}
 use Rattle.mm_machine.specs.Finishing.{ActsTo, Finishes, breaks_off}
-use Rattle.mm_machine.specs.Reading.{CellSays, Draws, FindsRoom, Looks, RegisterSays, RoomFor, Rooms, Weighs, extends}
-use Rattle.mm_machine.specs.Stepping.{SightLeads, Steps, StepsTo, act_of, ended_by, position_if_last, step_found, step_made, step_to}
+use Rattle.mm_machine.specs.Reading.{CellSays, Draws, Looks, RegisterSays, RoomFor, Rooms, Weighs, extends}
+use Rattle.mm_machine.specs.Stepping.{SightLeads, Steps, act_of, ended_by, position_if_last, step_found, step_made, step_to}
 use Rattle.mm_machine.specs.declared.call.Ended.{Ended}
 use Rattle.mm_machine.specs.declared.call.Ended.TheVariants.{Broken}
 use Rattle.mm_machine.specs.declared.call.Stage.{Stage}
@@ -24,7 +23,7 @@ use Rattle.mm_machine.specs.declared.operation.Sight.TheVariants as sight
 use Rattle.mm_machine.specs.declared.reading.Halt.{Halt}
 use Rattle.mm_machine.specs.declared.reading.Halt.TheVariants.{Fault, Refused, Lacks}
 use Rattle.mm_machine.proofs.Above.{joins}
-use Rattle.mm_flight.specs.Machine.{fault_ended, fault_stepped}
+use Rattle.mm_flight.specs.Machine.{fault_stepped}
 use Rattle.mm_flight.proofs.Replanning.{Moves, Replans, quiet_step, replanned}
 
 -- Under another plan that says the same of the step

@@ -1,13 +1,13 @@
 -- One step and what comes behind it are the whole of what is left.
-use Rattle.std.specs.Prelude.{◌≡◌, List, [], ◌∷◌, Option, None, Some, Result, Ok, Err, refl}
+use Rattle.std.specs.Prelude.{◌≡◌, Option, None, Some, Result, Ok, Err, refl}
 use Rattle.std.proofs.Common.{subst}
 use Rattle.mm_platform.specs.Standing.{Standing}
 use Rattle.mm_platform.specs.Steps.{Goes}
 use Rattle.mm_platform.specs.declared.fault.StepFault.{StepFault}
 use Rattle.mm_machine.specs.Acts.{act_in, acts_left}
 use Rattle.mm_machine.specs.Asked.{Asked}
-use Rattle.mm_machine.specs.Reading.{Looks, Reads, FindsOn, FindsRoom, Weighs}
-use Rattle.mm_machine.specs.Stepping.{Steps, StepsFirst, SightLeads, StepsTo, step_found, step_made}
+use Rattle.mm_machine.specs.Reading.{Looks, FindsRoom, Weighs}
+use Rattle.mm_machine.specs.Stepping.{Steps, SightLeads, step_found, step_made}
 use Rattle.mm_machine.specs.Finishing.{ActsTo, EndsTo, FindsAndEnds, Finishes, goes_on, breaks_off}
 use Rattle.mm_machine.specs.declared.call.Ended.{Ended}
 use Rattle.mm_machine.specs.declared.call.Stage.{Stage}
@@ -18,7 +18,6 @@ use Rattle.mm_machine.specs.declared.change.Change.{Change as Move}
 use Rattle.mm_machine.specs.declared.change.Change.TheVariants.{Extending, Emptying, Placing, Writing}
 use Rattle.mm_machine.specs.declared.operation.Found.{Found}
 use Rattle.mm_machine.specs.declared.operation.Found.TheVariants.{Repeat, Change}
-use Rattle.mm_machine.specs.declared.operation.Ready.{Ready}
 use Rattle.mm_machine.specs.declared.operation.Sight.{Sight}
 use Rattle.mm_machine.specs.declared.operation.Sight.TheVariants as sight
 use Rattle.mm_machine.specs.declared.reading.Halt.{Halt}

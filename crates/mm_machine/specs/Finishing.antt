@@ -38,18 +38,24 @@ pub data ActTo {A R : Type 0} (act : Act) (commits : Option ℕ) (rest : Standin
   breaks_off : (fault : StepFault) → Goes act old new (Some fault) → ended ≡ Broken fault commits
       → ActTo act commits rest old new ended
 
-module _ {A R : Type 0} (o : Asked A R) where
-  -- Device steps, one after another, and how a call ended by them that has this answer.
-  abbrev pub ActsTo : List Act → A → Standing → Standing → Ended A R → Type 0
-  ActsTo [] answer old new ended = (new ≡ old) × (ended ≡ Answered answer)
-  ActsTo (act ∷ acts) answer old new ended =
-      ActTo act (position_before acts (o.position answer))
-      (λ middle. ActsTo acts answer middle new ended) old new ended
+module _ {A R : Type 0} (position : ℕ) where
+  -- Device steps, one after another, of which the last commits up to this position, and how a call
+  -- ended by them that has this answer.
+  abbrev pub ActsBy : List Act → A → Standing → Standing → Ended A R → Type 0
+  ActsBy [] answer old new ended = (new ≡ old) × (ended ≡ Answered answer)
+  ActsBy (act ∷ acts) answer old new ended =
+      ActTo act (position_before acts position) (λ middle. ActsBy acts answer middle new ended)
+      old new ended
 
   -- how a call ended at its last step
   abbrev pub ended_last : A → Result Unit StepFault → Ended A R
   ended_last answer (Ok done) = Answered answer
-  ended_last answer (Err fault) = Broken fault (Some (o.position answer))
+  ended_last answer (Err fault) = Broken fault (Some position)
+
+module _ {A R : Type 0} (o : Asked A R) where
+  -- The same of an operation.
+  abbrev pub ActsTo : List Act → A → Standing → Standing → Ended A R → Type 0
+  ActsTo acts answer old new ended = ActsBy (o.position answer) acts answer old new ended
 
   -- How a call ended that found this.
   abbrev pub EndsTo : Result (Found A) (Halt R) → Standing → Standing → Ended A R → Type 0

@@ -1,10 +1,10 @@
 -- The reading steps, and the room that is made behind them.
-use Rattle.std.specs.Prelude.{◌≡◌, ℕ, Bool, true, false, List, [], length, Option, None, Some, Result, Ok, Err}
+use Rattle.std.specs.Prelude.{◌≡◌, ℕ, Bool, true, false, List, length, Option, None, Some, Result, Ok, Err}
 use Rattle.mm_platform.specs.Standing.{Item, Standing, item_values, register_after}
-use Rattle.mm_platform.specs.Steps.{Act, ReadCell, ReadRegister, Goes, Readies}
+use Rattle.mm_platform.specs.Steps.{ReadCell, ReadRegister, Goes, Readies}
 use Rattle.mm_platform.specs.declared.fault.StepFault.{StepFault}
 use Rattle.mm_seal.specs.declared.cell.Cell.{Cell}
-use Rattle.mm_machine.specs.Acts.{MayChange, acts_left, extends_in}
+use Rattle.mm_machine.specs.Acts.{MayChange, extends_in}
 use Rattle.mm_machine.specs.Asked.{Asked}
 use Rattle.mm_machine.specs.declared.operation.Found.{Found}
 use Rattle.mm_machine.specs.declared.operation.Found.TheVariants.{Repeat, Change}

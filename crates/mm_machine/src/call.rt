@@ -84,6 +84,14 @@ impl<A> Call<A> {
         self.stage
     }
 
+    /// Where it stands.
+    #[inline(always)]
+    pub fn stage(&self) -> &Stage<A>
+        ensures { result.now ≡ self.now }
+    {
+        &self.stage
+    }
+
     /// The number of the next device step, from 1, where a write of the cell has this one.
     pub fn next_step(&self, write: u8) -> u8
         ensures { result ≡ number_of write self.now }

@@ -3,7 +3,7 @@
 ghost use Rattle.std.specs.Prelude.{◌≡◌, ◌≤◌, ◌∷◌, [], None, Some};
 ghost use Rattle.mm_platform.specs.Steps.{ExtendRegister, ResetRegister, WriteCell};
 ghost use Rattle.mm_machine.specs.Acts.{MayChange, acts_left};
-ghost use Rattle.mm_machine.specs.Finishing.{ActsTo, EndsTo, Finishes, ended_last};
+ghost use Rattle.mm_machine.specs.Finishing.{ActsBy, EndsTo, Finishes, ended_last};
 ghost use Rattle.mm_machine.specs.Reading.{LeavesRoom};
 ghost use Rattle.mm_machine.specs.Stepping.{MayGoOn};
 
@@ -16,32 +16,28 @@ use mm_seal::KeptKey;
 
 // How a call ended at its last step.
 #[inline(always)]
-fn ended_last<O: Operation>(
-    op: &O,
-    answer: O::Answer,
-    made: Result<(), StepFault>,
-) -> Ended<O::Answer, O::Refusal>
-    ensures { result ≡ ended_last (O.asked op.now) answer made }
+fn ended_last<A: Drop, R>(position: u64, answer: A, made: Result<(), StepFault>) -> Ended<A, R>
+    ensures { result ≡ ended_last position answer made }
 {
     match made {
         Ok(()) => Ended::Answered(answer),
         Err(fault) => Ended::Broken {
             fault,
-            commits: Some(op.position(&answer)),
+            commits: Some(position),
         },
     }
 }
 
 // The steps of an opening behind the reset.
 #[inline(always)]
-fn place_and_write<O: Operation, P: Platform>(
-    op: &O,
+fn place_and_write<A: Drop, R, P: Platform>(
+    position: u64,
     opening: &Opening,
-    answer: O::Answer,
+    answer: A,
     platform: &mut P,
-) -> Ended<O::Answer, O::Refusal>
+) -> Ended<A, R>
     requires { 1 ≤ (P.standing platform.old).spare }
-    ensures { ActsTo (O.asked op.now)
+    ensures { ActsBy position
         (ExtendRegister opening.now.value.bytes ∷ WriteCell opening.now.next ∷ []) answer
         (P.standing platform.old) (P.standing platform.new) result }
 {
@@ -50,20 +46,20 @@ fn place_and_write<O: Operation, P: Platform>(
             fault,
             commits: None,
         },
-        Ok(()) => ended_last(op, answer, platform.nv_write(&opening.next)),
+        Ok(()) => ended_last(position, answer, platform.nv_write(&opening.next)),
     }
 }
 
 // The steps of an opening.
 #[inline(always)]
-fn open<O: Operation, P: Platform>(
-    op: &O,
+fn open<A: Drop, R, P: Platform>(
+    position: u64,
     opening: &Opening,
-    answer: O::Answer,
+    answer: A,
     platform: &mut P,
-) -> Ended<O::Answer, O::Refusal>
+) -> Ended<A, R>
     requires { 1 ≤ (P.standing platform.old).spare }
-    ensures { ActsTo (O.asked op.now)
+    ensures { ActsBy position
         (ResetRegister ∷ ExtendRegister opening.now.value.bytes ∷ WriteCell opening.now.next ∷ [])
         answer (P.standing platform.old) (P.standing platform.new) result }
 {
@@ -72,27 +68,28 @@ fn open<O: Operation, P: Platform>(
             fault,
             commits: None,
         },
-        Ok(()) => place_and_write(op, opening, answer, platform),
+        Ok(()) => place_and_write(position, opening, answer, platform),
     }
 }
 
-// The changing steps that are left. They are handed no allocator, and take no memory.
+/// The changing steps that are left, of which the last commits up to this position. They are handed no allocator, and
+/// take no memory.
 #[inline(always)]
-fn finish_change<O: Operation, P: Platform>(
-    op: &O,
-    ready: Ready<O::Answer>,
+pub fn finish_change<A: Drop, R, P: Platform>(
+    position: u64,
+    ready: Ready<A>,
     platform: &mut P,
-) -> Ended<O::Answer, O::Refusal>
+) -> Ended<A, R>
     requires { MayChange ready.change (P.standing platform.old) }
-    ensures { ActsTo (O.asked op.now) (acts_left ready.change) ready.answer
+    ensures { ActsBy position (acts_left ready.change) ready.answer
         (P.standing platform.old) (P.standing platform.new) result }
 {
     let Ready { change, answer } = ready;
     match change {
-        Change::Extending(value) => ended_last(op, answer, platform.reg_extend(&value)),
-        Change::Emptying(opening) => open(op, &opening, answer, platform),
-        Change::Placing(opening) => place_and_write(op, &opening, answer, platform),
-        Change::Writing(next) => ended_last(op, answer, platform.nv_write(&next)),
+        Change::Extending(value) => ended_last(position, answer, platform.reg_extend(&value)),
+        Change::Emptying(opening) => open(position, &opening, answer, platform),
+        Change::Placing(opening) => place_and_write(position, &opening, answer, platform),
+        Change::Writing(next) => ended_last(position, answer, platform.nv_write(&next)),
     }
 }
 
@@ -110,7 +107,7 @@ fn finish_found<O: Operation, P: Platform>(
     match found {
         Err(halt) => Ended::by(halt),
         Ok(Found::Repeat(answer)) => Ended::Answered(answer),
-        Ok(Found::Change(ready)) => finish_change(op, ready, platform),
+        Ok(Found::Change(ready)) => finish_change(op.position(&ready.answer), ready, platform),
     }
 }
 
@@ -136,7 +133,7 @@ pub fn finish<O: Operation, P: Platform>(
             let found = weigh_with_room(op, &cell, platform, keys);
             finish_found(op, found, platform)
         }
-        Stage::Changing(ready) => finish_change(op, ready, platform),
+        Stage::Changing(ready) => finish_change(op.position(&ready.answer), ready, platform),
     }
 }
 

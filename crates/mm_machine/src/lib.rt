@@ -11,6 +11,6 @@ mod reading;
 
 pub use call::{Call, Ended, Stage, Step, advance};
 pub use change::{Change, Opening};
-pub use finishing::{advance_and_finish, finish};
+pub use finishing::{advance_and_finish, finish, finish_change};
 pub use operation::{Found, Operation, Ready, Sight};
 pub use reading::{Halt, read};

@@ -4,19 +4,24 @@ use Rattle.mm_opt.proofs.Below.{if◌then◌else◌, nat_le, bytes_eq, last_posi
 use Rattle.mm_opt.proofs.Below.{PartsFault, Form, Kind, InBasic, InOpt, Content, Snapshot, ReadsParts, variant_of, tag_of, guard, Instance}
 use Rattle.mm_opt.proofs.Below.{opt, verdict_by_digests, Digests, BatchAnswer, Refusal, Verdict, examined, weighed, OrMemory, by_digests}
 use Rattle.mm_opt.proofs.Below.{place_then, Accepted, accepted_from, accepted_at, found_with, accepted_in, cell_at, Accepts, is_memory}
-use Rattle.mm_opt.proofs.Below.{lacks_in, Found, Repeat, Inside, Opens, has_lost_power, verdict_at, verdict_of, answer_of, place_after}
+use Rattle.mm_opt.proofs.Below.{lacks_in, Found, Repeat, Change, Extending, Emptying, has_lost_power, verdict_at, verdict_of, answer_of, place_after}
 use Rattle.mm_opt.proofs.Below.{change_by, opened_cell, answer_in, found_from, found_in_offer, found_unless, found_in, FindsIn}
+use Rattle.mm_machine.specs.declared.change.Change as change
 use Rattle.mm_seal.specs.declared.snapshot.Place.{Place}
 use Rattle.mm_seal.specs.FieldLaws.{parts_are}
 use Rattle.mm_model.specs.declared.refusal.Refusal.TheVariants as refusal
 use Rattle.mm_call.specs.Answers.{answer_at}
 
 -- what was found is for these digests and this batch
+abbrev pub IsForIn : Instance → Digests → Batch → change.Change → Type 0
+IsForIn i seen b (Extending value) = (seen.flag ≡ true) × (value.bytes ≡ guard i.barrier b)
+IsForIn i seen b (Emptying opening) =
+    (seen.flag ≡ false) × (opening.value.bytes ≡ guard i.barrier b) × (opening.next ≡ opened_cell (cell_at i seen))
+IsForIn i seen b _ = ⊥
+
 abbrev pub IsFor : Instance → Digests → Batch → Found → Type 0
 IsFor i seen b (Repeat answer) = Unit {0}
-IsFor i seen b (Inside ready) = (seen.flag ≡ true) × (ready.value.bytes ≡ guard i.barrier b)
-IsFor i seen b (Opens opening) =
-    (seen.flag ≡ false) × (opening.value.bytes ≡ guard i.barrier b) × (opening.next ≡ opened_cell (cell_at i seen))
+IsFor i seen b (Change ready) = IsForIn i seen b ready.change
 
 abbrev pub is_repeat : Found → Bool
 is_repeat (Repeat answer) = true

@@ -1,6 +1,6 @@
 -- What a whole call promises, from what it does.
 use Rattle.mm_opt.proofs.Below.{ℕ, List, Result, Standing, Meaning, IsLawful, Batch, BatchAnswer, Refusal, Blames, fault_in, Calls}
-use Rattle.mm_opt.proofs.Below.{opt_call, AskedInOpt}
+use Rattle.mm_opt.proofs.Below.{◌≡◌, false, is_long, opt_call, AskedInOpt, AsksTo, Ended, calls_from, result_of}
 use Rattle.mm_opt.proofs.Asking.{fits, untouched}
 use Rattle.mm_opt.proofs.Going.{calls_on}
 use Rattle.mm_opt.proofs.Completeness.{complete}
@@ -19,3 +19,10 @@ asked meaning lawful old new offer b result calls blames = record {
   goes = calls_on meaning old new offer b result calls;
   complete = complete meaning old new offer b result calls blames;
 }
+
+-- by how it ended, where the batch isn't too long
+pub asked_by : (meaning : Meaning) → IsLawful meaning → (old new : Standing) (offer : List ℕ) (b : Batch) (ended : Ended)
+    (result : Result BatchAnswer Refusal) → is_long b ≡ false → AsksTo opt_call meaning old new offer b ended
+    → result ≡ result_of ended → Blames (fault_in result) old.faults new.faults → AskedInOpt meaning old new offer b result
+asked_by meaning lawful old new offer b ended result short asks gives blames =
+    asked meaning lawful old new offer b result (calls_from opt_call meaning old new offer b ended result short asks gives) blames

@@ -25,6 +25,11 @@ pub use Rattle.mm_platform.specs.Standing.{Item, item_values, own_item, register
 pub use Rattle.mm_platform.specs.Steps.{Act, beside, ExtendRegister, Goes, ReadCell, ReadRegister, ResetRegister, WriteCell}
 pub use Rattle.mm_platform.specs.Told.{next_plan}
 pub use Rattle.mm_platform.specs.declared.fault.StepFault.{StepFault}
+pub use Rattle.mm_machine.specs.Acts.{act_in, acts_left, change_after, extends_in}
+pub use Rattle.mm_machine.specs.declared.call.Stage.TheVariants.{Begun, Changing, Seen}
+pub use Rattle.mm_machine.specs.declared.change.Change.TheVariants.{Emptying, Extending, Placing, Writing}
+pub use Rattle.mm_machine.specs.declared.change.Opening.{Opening}
+pub use Rattle.mm_machine.specs.declared.operation.Found.TheVariants.{Change, Repeat}
 pub use Rattle.mm_module.specs.Batch.{Batch, normal, One, size_of}
 pub use Rattle.mm_module.specs.BatchLaws.{members_of-normal}
 pub use Rattle.mm_module.specs.Batches.{batch_of}
@@ -81,15 +86,12 @@ pub use Rattle.mm_opt.specs.Checkpoints.{closed_cell, Closes, ClosesSegment, clo
 pub use Rattle.mm_opt.specs.Checkpoints.{closing_handed_on, ClosingStepsBy, ClosingStepsRefused, EndsClosing, EndsLooking, FindsSegment}
 pub use Rattle.mm_opt.specs.Checkpoints.{LeavesStill, Looks, segment_by, segment_in, Weighs}
 pub use Rattle.mm_opt.specs.ChecksOn.{ChecksBy, ChecksOn, closing_told}
-pub use Rattle.mm_opt.specs.Finishes.{acts_left, answer_left, Finishes}
+pub use Rattle.mm_opt.specs.Finishes.{Finishes}
+pub use Rattle.mm_opt.specs.Found.{Found, Ready, Stage}
 pub use Rattle.mm_opt.specs.Order.{batch_value, has_lost_power, verdict_at, verdict_of}
 pub use Rattle.mm_opt.specs.Seen.{cell_in, is_cell_of, own_cell}
 pub use Rattle.mm_opt.specs.Steps.{FindsCell, FindsIn, Makes, MakesRoom, MayGoOn, ReadsOwnCell, ReadsRegister}
-pub use Rattle.mm_opt.specs.declared.found.Found.{Found}
-pub use Rattle.mm_opt.specs.declared.found.Found.TheVariants.{Inside, Opens, Repeat}
-pub use Rattle.mm_opt.specs.declared.found.Opening.{Opening}
 pub use Rattle.mm_opt.specs.declared.segment.CheckpointRefusal.{CheckpointRefusal}
 pub use Rattle.mm_opt.specs.declared.segment.Checkpointed.{Checkpointed}
 pub use Rattle.mm_opt.specs.declared.segment.Segment.{Segment}
 pub use Rattle.mm_opt.specs.declared.segment.Segment.TheVariants.{Open, Shut}
-pub use Rattle.mm_opt.specs.declared.stage.Stage.{Stage}

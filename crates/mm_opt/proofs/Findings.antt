@@ -1,53 +1,27 @@
 -- What is found, and the room that is made after it.
-use Rattle.mm_opt.proofs.Below.{◌≡◌, ℕ, Bool, true, false, List, length, Option, None, Some, Result, Ok, Err, refl, sym, ap, ◌∙◌, subst}
-use Rattle.mm_opt.proofs.Below.{inl, inr, arith, IsTrue, nat_tests, StepFault, Item, Standing, item_values, register_after, ReadRegister}
-use Rattle.mm_opt.proofs.Below.{Goes, nat_le, bytes_eq, last_position, IsLawful, Meaning, Batch, size_of, Cell, CellFault, Blank, IsCell}
+use Rattle.mm_opt.proofs.Below.{◌≡◌, ℕ, Bool, true, false, List, length, None, Result, Ok, Err, refl, sym, ◌∙◌, subst}
+use Rattle.mm_opt.proofs.Below.{inl, inr, arith, IsTrue, nat_tests, Standing}
+use Rattle.mm_opt.proofs.Below.{nat_le, bytes_eq, last_position, IsLawful, Meaning, Batch, size_of, Cell, CellFault, Blank, IsCell}
 use Rattle.mm_opt.proofs.Below.{Unspelled, PartsFault, Form, Kind, Snapshot, tag_of, BatchAnswer, Refusal, Verdict, Fresh, Again}
-use Rattle.mm_opt.proofs.Below.{admitted, examined, weighed, fault_of, fault_in, OrMemory, Found, Repeat, Inside, Opens}
+use Rattle.mm_opt.proofs.Below.{admitted, examined, weighed, fault_of, fault_in, OrMemory, Found, Repeat, Change, Extending, Emptying}
 use Rattle.mm_opt.proofs.Below.{is_cell_of, own_cell, cell_in, batch_value, has_lost_power, verdict_of, answer_of, answer_in, change_by}
-use Rattle.mm_opt.proofs.Below.{found_from, found_in_offer, found_unless, found_in, opened_cell, ReadsOwnCell, FindsIn, MakesRoom}
+use Rattle.mm_opt.proofs.Below.{found_from, found_in_offer, found_unless, found_in, opened_cell, ReadsOwnCell}
 use Rattle.mm_opt.proofs.Below.{ReadsRegister, ReadsOn, OneStep, TwoSteps, one_step, two_steps, StepsRefused, extension_at, extension_after}
 use Rattle.mm_opt.proofs.Below.{place_after, length-zero_bytes, length-extended_of}
 use Rattle.std.specs.Prelude.{◌+◌}
+use Rattle.mm_machine.specs.declared.change.Change as change
 use Rattle.mm_model.specs.Fit.{IsFit}
 use Rattle.mm_model.specs.FitLaws.{is_fit}
 use Rattle.mm_model.specs.declared.refusal.Refusal.TheVariants as refusal
 use Rattle.mm_call.specs.WeighingLaws.{weighed_only}
 
 -- want of memory, twice
-or_then : (x : Result Found Refusal) (found : Found) (result : Result Found Refusal) → OrMemory x (Ok found) → OrMemory (Ok found) result
+pub or_then : (x : Result Found Refusal) (found : Found) (result : Result Found Refusal) → OrMemory x (Ok found) → OrMemory (Ok found) result
     → OrMemory x result
 or_then (Err why) found result o p = cc
 or_then (Ok it) found result (inl e) (inl f) = inl (f ∙ e)
 or_then (Ok it) found result (inl e) (inr f) = inr f
 or_then (Ok it) found result (inr e) p = cc
-
-no_fault_or : (found : Found) (result : Result Found Refusal) → OrMemory (Ok found) result → fault_in result ≡ None
-no_fault_or found result o =
-    elim o [ inl e ↦ ap (λ (r : Result Found Refusal). fault_in r) e | inr e ↦ ap (λ (r : Result Found Refusal). fault_in r) e ]
-
--- the second step, by what it found and the room that was made
-pub reads_register : (meaning : Meaning) (cell : Cell) (old middle new : Standing) (offer : List ℕ) (b : Batch) (register : List ℕ)
-    (found : Found) (result : Result Found Refusal)
-    → Goes ReadRegister old middle None → ((items : List Item) → middle.items ≡ Some items → register ≡ register_after (item_values items))
-    → length register ≡ 32
-    → FindsIn meaning cell register offer b (Ok found) → OrMemory (Ok found) result → MakesRoom result middle new
-    → ReadsRegister meaning cell old new offer b result
-reads_register meaning cell old middle new offer b register found result goes told size finds or room = record {
-  middle = middle;
-  goes = subst (λ (f : Option StepFault). Goes ReadRegister old middle f) (sym (no_fault_or found result or)) goes;
-  finds = λ (h : fault_in result ≡ None). record {
-    register = register;
-    told = told;
-    size = size;
-    finds = record {
-      taken = finds.taken;
-      reads = finds.reads;
-      found_is = or_then (found_in meaning cell register finds.taken b) found result finds.found_is or;
-    };
-  };
-  room = room;
-}
 
 -- the cell that is seen is the one that was read
 pub own_is : (t : Bool) (cell seen : Cell) → own_cell t cell ≡ Ok seen → seen ≡ cell
@@ -93,14 +67,17 @@ first_refused id old new why r =
 abbrev pub IsShaped : Result Found Refusal → Type 0
 IsShaped (Err why) = Unit {0}
 IsShaped (Ok (Repeat answer)) = answer.again ≡ true
-IsShaped (Ok (Inside ready)) = ready.answer.again ≡ false
-IsShaped (Ok (Opens opening)) = opening.answer.again ≡ false
+IsShaped (Ok (Change ready)) = ready.answer.again ≡ false
 
 -- what is found goes by the flag of the cell
+abbrev pub IsByFlagIn : Bool → change.Change → Type 0
+IsByFlagIn flag (Extending value) = flag ≡ true
+IsByFlagIn flag (Emptying opening) = flag ≡ false
+IsByFlagIn flag _ = ⊥
+
 abbrev pub IsByFlag : Bool → Found → Type 0
 IsByFlag flag (Repeat answer) = Unit {0}
-IsByFlag flag (Inside ready) = flag ≡ true
-IsByFlag flag (Opens opening) = flag ≡ false
+IsByFlag flag (Change ready) = IsByFlagIn flag ready.change
 
 -- What is known of what was found by this cell: its shape, by the flag; and its answer is fit.
 pub record Made (meaning : Meaning) (cell : Cell) (b : Batch) (found : Found) : Type 0 where

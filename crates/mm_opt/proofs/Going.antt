@@ -7,13 +7,15 @@ use Rattle.mm_opt.proofs.Below.{CallsOn, Course, Fate, step_moves, refused_as, C
 use Rattle.mm_opt.proofs.Below.{is_fresh, all_made, by_digests, fault_of, fault_in, cell_at, StandsAt}
 use Rattle.mm_opt.proofs.Below.{with_register, IsWrite, changing, asks, fate_of, ends_fates, tale_on, reading_tale, MakesAll, AsMade}
 use Rattle.mm_opt.proofs.Below.{Told, course_by, lacks_in, told_on, refused_reading, told_reading, sees, finds, opt_calls_agree}
-use Rattle.mm_opt.proofs.Below.{Found, Repeat, Inside, Opens, Opening, opened_cell, FindsCell, ReadsOwnCell, ReadsRegister}
+use Rattle.mm_opt.proofs.Below.{Found, Repeat, Change, Extending, Emptying, Placing, Writing, Opening, opened_cell, acts_left, FindsCell, ReadsOwnCell, ReadsRegister}
 use Rattle.mm_opt.proofs.Below.{ReadsOn, Reads, acts_for, opt_call}
 use Rattle.std.specs.Prelude.{◌≤◌}
+use Rattle.mm_call.proofs.Above.{Accepts}
+use Rattle.mm_machine.specs.declared.change.Change as change
 use Rattle.mm_call.proofs.Above as completing
 use Rattle.mm_opt.proofs.Acting.{room_only}
 use Rattle.mm_opt.proofs.Asking.{refused_first}
-use Rattle.mm_opt.proofs.Accepting.{AsFound, as_found}
+use Rattle.mm_opt.proofs.Accepting.{AsFound, IsForIn, as_found}
 use Rattle.mm_opt.proofs.Stepping.{two_brought, seen_is, change_inside, change_emptied, change_placed, write_opened, reset_kept}
 use Rattle.mm_opt.proofs.Stepping.{placed_kept, seen_cell, read_is}
 
@@ -29,7 +31,7 @@ module _ (meaning : Meaning) (key barrier : List ℕ) (seen : Digests) (b : Batc
 
   opening_made : (opening : Opening) → seen.flag ≡ false → opening.value.bytes ≡ guard barrier b
       → opening.next ≡ opened_cell (cell_at here seen) → IsCell (cell_at here seen)
-      → MakesAll here seen (acts_for (Opens opening)) (Changes Reset ∷ Changes (Placed b) ∷ Writes (Commit b) ∷ [])
+      → MakesAll here seen (acts_left (Emptying opening)) (Changes Reset ∷ Changes (Placed b) ∷ Writes (Commit b) ∷ [])
   opening_made opening shut value_is next_is is = (
     change_emptied meaning key barrier seen,
     refl,
@@ -50,6 +52,19 @@ module _ (meaning : Meaning) (key barrier : List ℕ) (seen : Digests) (b : Batc
         ),
   )
 
+  change_made : (change : change.Change) (x : Result Accepted Refusal) (answer : BatchAnswer) → IsCell (cell_at here seen)
+      → IsForIn here seen b change → Accepts here seen b x false answer
+      → MakesAll here seen (acts_left change) (changing seen.flag (is_fresh x) b)
+  change_made (Extending value) x answer is for so =
+      let same : changing seen.flag (is_fresh x) b ≡ changing true true b = simp (so.found_is, for.0) in
+      subst (MakesAll here seen (acts_left (Extending value))) (sym same)
+      (change_inside meaning key barrier seen b value.bytes for.0 for.1, refl, λ (_ : List (List ℕ)). tt)
+  change_made (Emptying opening) x answer is for so =
+      let same : changing seen.flag (is_fresh x) b ≡ changing false true b = simp (so.found_is, for.0) in
+      subst (MakesAll here seen (acts_left (Emptying opening))) (sym same) (opening_made opening for.0 for.1 for.2 is)
+  change_made (Placing opening) x answer is for so = absurd for
+  change_made (Writing next) x answer is for so = absurd for
+
   as_made : (found : Result Found Refusal) (x : Result Accepted Refusal) → IsCell (cell_at here seen) → AsFound here seen b x found
       → AsMade opt_call here seen b x found (changing seen.flag (is_fresh x) b)
   as_made (Err why) x is so =
@@ -57,20 +72,7 @@ module _ (meaning : Meaning) (key barrier : List ℕ) (seen : Digests) (b : Batc
   as_made (Ok (Repeat answer)) x is so =
       let same : changing seen.flag (is_fresh x) b ≡ [] = simp (so.1.found_is, changing_none seen.flag b) in
       (true, so.1, subst (MakesAll here seen []) (sym same) tt)
-  as_made (Ok (Inside ready)) x is so =
-      let same : changing seen.flag (is_fresh x) b ≡ changing true true b = simp (so.1.found_is, so.0.0) in (
-        false,
-        so.1,
-        subst (MakesAll here seen (acts_for (Inside ready))) (sym same)
-            (change_inside meaning key barrier seen b ready.value.bytes so.0.0 so.0.1, refl, λ (_ : List (List ℕ)). tt),
-      )
-  as_made (Ok (Opens opening)) x is so =
-      let same : changing seen.flag (is_fresh x) b ≡ changing false true b = simp (so.1.found_is, so.0.0) in (
-        false,
-        so.1,
-        subst (MakesAll here seen (acts_for (Opens opening))) (sym same)
-            (opening_made opening so.0.0 so.0.1 so.0.2 is),
-      )
+  as_made (Ok (Change ready)) x is so = (false, so.1, change_made ready.change x ready.answer is so.0 so.1)
 
 -- The reading steps
 
@@ -80,9 +82,13 @@ unseen why meaning key barrier d old s f =
     let i : Instance = opt meaning key barrier in
     let e : Err why ≡ Ok (cell_at i d) = seen_cell meaning key barrier d old (Err why) f s in cc
 
+few_left : (change : change.Change) → length (acts_left change) ≤ 49
+few_left (Extending value) = omega arith
+few_left _ = omega arith
+
 pub few_acts : (it : Found) → length (acts_for it) ≤ 49
 few_acts (Repeat answer) = omega arith
-few_acts _ = omega arith
+few_acts (Change ready) = few_left ready.change
 
 module _ (meaning : Meaning) (offer : List ℕ) (b : Batch) (old new : Standing) (ended : Ended) where
   -- where the first step refuses

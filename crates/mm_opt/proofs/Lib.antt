@@ -3,6 +3,7 @@ mod Below
 mod Guards
 mod FirstLaws
 mod Findings
+mod Told
 mod Asking
 mod Writing
 mod ClosingByMachine

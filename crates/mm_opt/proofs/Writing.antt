@@ -2,9 +2,10 @@
 use Rattle.mm_opt.proofs.Below.{◌≡◌, ℕ, true, false, List, Some, Result, Ok, Err, refl, sym, ap, ◌∙◌, inl, inr, counted, Standing}
 use Rattle.mm_opt.proofs.Below.{Meaning, Batch, Cell, CellFault, IsCell, cell_spelling, reads_cell-same, is_long, BatchAnswer, Refusal}
 use Rattle.mm_opt.proofs.Below.{Long}
-use Rattle.mm_opt.proofs.Below.{Ended, goes_on, breaks_off, StepsTo, AsksTo, Calls, result_of, each_call, answered_result, Found, Repeat}
-use Rattle.mm_opt.proofs.Below.{Inside, Opens, is_cell_of, cell_in, ReadsOwnCell, ReadsRegister, acts_for, answer_in, opt_call, TwoSteps}
+use Rattle.mm_opt.proofs.Below.{Ended, goes_on, breaks_off, StepsTo, AsksTo, Calls, result_of, each_call, answered_result, Found, Repeat, Change, Extending, Emptying, Placing, Writing}
+use Rattle.mm_opt.proofs.Below.{acts_left, is_cell_of, cell_in, ReadsOwnCell, ReadsRegister, acts_for, answer_in, opt_call, TwoSteps}
 use Rattle.mm_opt.proofs.Below.{three_steps, four_steps, five_steps, StepsRefused, StepsBy, WritesBy}
+use Rattle.mm_machine.specs.declared.change.Change as change
 use Rattle.mm_model.specs.declared.refusal.Refusal.TheVariants.{Device}
 use Rattle.mm_opt.specs.Asks.{ThreeSteps, FiveSteps}
 use Rattle.mm_opt.proofs.Acting.{room_only}
@@ -47,15 +48,14 @@ module _ (meaning : Meaning) (b : Batch) (old two new : Standing) (cell : Cell) 
   shut clear c is at set =
       let clash : false ≡ true = sym clear ∙ ap (λ (x : Cell). x.flag) (told c is at) ∙ set in cc
 
-  commits_counted : (found : Found) → Made meaning cell b found → StepsTo (acts_for found) (answer_in found) two new ended
+  change_counted : (change : change.Change) (answer : BatchAnswer)
+      → Made meaning cell b (Change (record { change = change; answer = answer })) → StepsTo (acts_left change) answer two new ended
       → Counted old new (result_of ended)
-  commits_counted (Repeat answer) m s = answered_result (Counted old) answer two new ended s
-      (rw m.shape t, record { once = inl t.1; inside = λ c is at set. t.1; answers = λ c is at. rw m.shape t })
-  commits_counted (Inside ready) m (breaks_off fault g e) =
+  change_counted (Extending value) answer m (breaks_off fault g e) =
       rw e (quiet (Device fault) old new (three_steps (g.steps ∙ ap counted t.0, g.writes ∙ t.1)) (g.writes ∙ t.1))
-  commits_counted (Inside ready) m (goes_on last g s) =
+  change_counted (Extending value) answer m (goes_on last g s) =
       let three : ThreeSteps old last = (g.steps ∙ ap counted t.0, g.writes ∙ t.1) in
-      answered_result (Counted old) ready.answer last new ended s (
+      answered_result (Counted old) answer last new ended s (
         rw m.shape (inl three),
         record {
           once = inl three.1;
@@ -63,12 +63,12 @@ module _ (meaning : Meaning) (b : Batch) (old two new : Standing) (cell : Cell) 
           answers = λ c is at. rw (← told c is at, m.by_flag, m.shape) three;
         },
       )
-  commits_counted (Opens opening) m (breaks_off fault g e) =
+  change_counted (Emptying opening) answer m (breaks_off fault g e) =
       rw e (quiet (Device fault) old new (three_steps (g.steps ∙ ap counted t.0, g.writes ∙ t.1)) (g.writes ∙ t.1))
-  commits_counted (Opens opening) m (goes_on third g (breaks_off fault h e)) =
+  change_counted (Emptying opening) answer m (goes_on third g (breaks_off fault h e)) =
       rw e (quiet (Device fault) old new (four_steps (h.steps ∙ ap counted (g.steps ∙ ap counted t.0), h.writes ∙ g.writes ∙ t.1))
       (h.writes ∙ g.writes ∙ t.1))
-  commits_counted (Opens opening) m (goes_on third g (goes_on fourth h (breaks_off fault k e))) =
+  change_counted (Emptying opening) answer m (goes_on third g (goes_on fourth h (breaks_off fault k e))) =
       let five : FiveSteps old new =
       (k.steps ∙ ap counted (h.steps ∙ ap counted (g.steps ∙ ap counted t.0)), k.writes ∙ ap counted (h.writes ∙ g.writes ∙ t.1)) in
       rw e (
@@ -79,10 +79,10 @@ module _ (meaning : Meaning) (b : Batch) (old two new : Standing) (cell : Cell) 
           answers = λ c is at. tt;
         },
       )
-  commits_counted (Opens opening) m (goes_on third g (goes_on fourth h (goes_on last k s))) =
+  change_counted (Emptying opening) answer m (goes_on third g (goes_on fourth h (goes_on last k s))) =
       let five : FiveSteps old last =
       (k.steps ∙ ap counted (h.steps ∙ ap counted (g.steps ∙ ap counted t.0)), k.writes ∙ ap counted (h.writes ∙ g.writes ∙ t.1)) in
-      answered_result (Counted old) opening.answer last new ended s (
+      answered_result (Counted old) answer last new ended s (
         rw m.shape (inr five),
         record {
           once = inr five.1;
@@ -90,6 +90,14 @@ module _ (meaning : Meaning) (b : Batch) (old two new : Standing) (cell : Cell) 
           answers = λ c is at. rw (← told c is at, m.by_flag, m.shape) five;
         },
       )
+  change_counted (Placing opening) answer m s = absurd m.by_flag
+  change_counted (Writing next) answer m s = absurd m.by_flag
+
+  commits_counted : (found : Found) → Made meaning cell b found → StepsTo (acts_for found) (answer_in found) two new ended
+      → Counted old new (result_of ended)
+  commits_counted (Repeat answer) m s = answered_result (Counted old) answer two new ended s
+      (rw m.shape t, record { once = inl t.1; inside = λ c is at set. t.1; answers = λ c is at. rw m.shape t })
+  commits_counted (Change ready) m s = change_counted ready.change ready.answer m s
 
 each_counted : (meaning : Meaning) (offer : List ℕ) (b : Batch) (old : Standing) → Each meaning offer b old (Counted old)
 each_counted meaning offer b old = record {

@@ -5,8 +5,9 @@ use Rattle.mm_opt.specs.Below.{Meaning, digest_of, BatchAnswer, Refusal, answer_
 use Rattle.mm_digest.specs.declared.variant.Variant.TheVariants as variants
 use Rattle.mm_seal.specs.declared.snapshot.Place.TheVariants.{Opt}
 use Rattle.mm_model.specs.declared.refusal.Refusal.TheVariants as refusal
-use Rattle.mm_opt.specs.declared.found.Found.{Found}
-use Rattle.mm_opt.specs.declared.found.Found.TheVariants.{Repeat, Inside, Opens}
+use Rattle.mm_machine.specs.declared.operation.Found.TheVariants.{Repeat, Change}
+use Rattle.mm_machine.specs.declared.change.Change.TheVariants.{Extending, Emptying}
+use Rattle.mm_opt.specs.Found.{Found}
 use Rattle.mm_opt.specs.Order.{batch_value, has_lost_power, verdict_of}
 
 -- the extension at which the open segment stands: the register's value, or zero where none is open
@@ -36,9 +37,13 @@ opened_cell cell = cell_spelling (record cell { variant = variants.Opt; flag = t
 
 -- a new batch is to be committed in the open segment, or to open one
 abbrev pub change_by : Bool → List ℕ → List ℕ → BatchAnswer → Found
-change_by true value next answer = Inside (record { value = digest_of value; answer = answer })
+change_by true value next answer =
+    Change (record { change = Extending (digest_of value); answer = answer })
 change_by false value next answer =
-    Opens (record { value = digest_of value; next = next; answer = answer })
+    Change (record {
+      change = Emptying (record { value = digest_of value; next = next });
+      answer = answer;
+    })
 
 abbrev pub change_of : Cell → List ℕ → BatchAnswer → Found
 change_of cell value answer = change_by cell.flag value (opened_cell cell) answer
@@ -70,9 +75,3 @@ abbrev pub found_in : Meaning → Cell → List ℕ → Result Snapshot PartsFau
     → Result Found Refusal
 found_in meaning cell register taken b =
     found_unless (has_lost_power cell register) (found_in_offer meaning cell register taken b)
-
--- the register is to be extended
-abbrev pub extends : Found → Bool
-extends (Repeat answer) = false
-extends (Inside ready) = true
-extends (Opens opening) = true

@@ -1,11 +1,15 @@
 -- What a whole call does to the platform, and what it answers.
-use Rattle.std.specs.Prelude.{◌≡◌, ℕ, Bool, true, false, List, [], ◌∷◌, Some, Result, Ok, Err, ◌⊎◌}
-use Rattle.mm_opt.specs.Below.{counted, counted_by, Opt, IsCell, cell_spelling, Cell, Standing, Act, WriteCell, ResetRegister}
-use Rattle.mm_opt.specs.Below.{ExtendRegister, Batch}
-use Rattle.mm_opt.specs.Below.{Meaning, BatchAnswer, Refusal, Long, Device, Blank, OtherCell, CallOf}
-use Rattle.mm_opt.specs.declared.found.Found.{Found}
-use Rattle.mm_opt.specs.declared.found.Found.TheVariants.{Repeat, Inside, Opens}
-use Rattle.mm_opt.specs.Steps.{IsReady, ReadsOwnCell, ReadsRegister}
+use Rattle.std.specs.Prelude.{◌≡◌, ℕ, Bool, true, false, List, Some, Result, Ok, Err, ◌⊎◌}
+use Rattle.mm_machine.specs.Acts.{MayChange}
+pub use Rattle.mm_machine.specs.Finishing.{acts_for, answer_in}
+use Rattle.mm_machine.specs.declared.call.Ended as machine
+use Rattle.mm_machine.specs.declared.call.Ended.TheVariants.{Refused, Lacks}
+use Rattle.mm_machine.specs.declared.operation.Found.TheVariants.{Repeat, Change}
+use Rattle.mm_call.specs.Machine.{call_of}
+use Rattle.mm_opt.specs.Below.{counted, counted_by, Opt, IsCell, cell_spelling, Cell, Standing, Batch, Meaning}
+use Rattle.mm_opt.specs.Below.{BatchAnswer, Refusal, Long, Device, Blank, OtherCell, CallOf}
+use Rattle.mm_opt.specs.Found.{Found}
+use Rattle.mm_opt.specs.Steps.{ReadsOwnCell, ReadsRegister}
 
 -- The reading steps of a call.
 abbrev pub ReadsOn : Meaning → Result Cell Refusal → Standing → Standing → List ℕ → Batch
@@ -23,25 +27,18 @@ pub record Reads (meaning : Meaning) (old new : Standing) (offer : List ℕ) (b 
 -- the room that a call takes once its batch has run
 abbrev pub MayCommit : Found → Standing → Type 0
 MayCommit (Repeat answer) standing = Unit {0}
-MayCommit (Inside ready) standing = IsReady standing
-MayCommit (Opens opening) standing = IsReady standing
+MayCommit (Change ready) standing = MayChange ready.change standing
 
--- The steps that commit what was found: none for a repeat; in the open segment one, which extends
--- the register; and the three that open a segment.
-abbrev pub acts_for : Found → List Act
-acts_for (Repeat answer) = []
-acts_for (Inside ready) = ExtendRegister ready.value.bytes ∷ []
-acts_for (Opens opening) =
-    ResetRegister ∷ ExtendRegister opening.value.bytes ∷ WriteCell opening.next ∷ []
-
-abbrev pub answer_in : Found → BatchAnswer
-answer_in (Repeat answer) = answer
-answer_in (Inside ready) = ready.answer
-answer_in (Opens opening) = opening.answer
-
--- what Opt gives of its calls
+-- What Opt gives of its calls. A repeat has no changing steps; in the open segment there is one,
+-- which extends the register; and three open a segment.
 abbrev pub opt_call : CallOf Found
-opt_call = record { variant = Opt; reads = Reads; acts = acts_for; answer = answer_in }
+opt_call = call_of Opt Reads
+
+-- what the changing steps gave, which refuse nothing
+abbrev pub IsMade : machine.Ended BatchAnswer Refusal → Type 0
+IsMade (Refused why) = ⊥
+IsMade Lacks = ⊥
+IsMade _ = Unit {0}
 
 -- the room after the reading steps, for what is to be committed
 abbrev pub LeavesRoom : Result Found Refusal → Standing → Type 0

@@ -1,8 +1,10 @@
 pub mod Below
+pub mod Found
 pub mod Seen
 pub mod Order
 pub mod Answers
 pub mod Steps
+pub mod Operating
 pub mod Turns
 pub mod Asks
 pub mod Checkpoints

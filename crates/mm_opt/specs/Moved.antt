@@ -2,8 +2,8 @@
 use Rattle.std.specs.Prelude.{◌≡◌, ℕ, List}
 use Rattle.mm_opt.specs.Below.{Opt, Standing, Batch, Meaning, CallsTo, result_of, Blames, fault_in, Ended}
 use Rattle.mm_opt.specs.declared.call.Turn.{Turn}
-use Rattle.mm_opt.specs.declared.stage.Stage.{Stage}
-use Rattle.mm_opt.specs.declared.stage.Stage.TheVariants.{Begun}
+use Rattle.mm_machine.specs.declared.call.Stage.TheVariants.{Begun}
+use Rattle.mm_opt.specs.Found.{Stage}
 use Rattle.mm_opt.specs.Finishes.{Finishes}
 use Rattle.mm_opt.specs.Turns.{Turns, ActsAt, TurnMayGoOn, fault_turned}
 

@@ -1,86 +1,44 @@
 -- What each turn of a call does and gives.
 use Rattle.std.specs.Prelude.{◌≡◌, ℕ, List, Option, None, Some, Result, Ok, Err}
-use Rattle.mm_opt.specs.Below.{Cell, Standing, Goes, StepFault, Batch, Meaning, BatchAnswer, Refusal, Device, fault_of}
-use Rattle.mm_opt.specs.declared.found.Opening.{Opening}
-use Rattle.mm_opt.specs.declared.found.Found.{Found}
-use Rattle.mm_opt.specs.declared.found.Found.TheVariants.{Repeat, Inside, Opens}
-use Rattle.mm_opt.specs.declared.stage.Stage.{Stage}
-use Rattle.mm_opt.specs.declared.stage.Stage.TheVariants as stage
-use Rattle.mm_opt.specs.declared.stage.Change.{Change}
-use Rattle.mm_opt.specs.declared.stage.Change.TheVariants as change
+use Rattle.mm_machine.specs.Acts.{change_after}
+use Rattle.mm_machine.specs.Stepping.{Steps, position_if_last}
+use Rattle.mm_machine.specs.declared.call.Stage.TheVariants.{Changing}
+use Rattle.mm_machine.specs.declared.call.Step.{Step}
+use Rattle.mm_machine.specs.declared.call.Step.TheVariants as step
+use Rattle.mm_call.specs.Machine.{end_told}
+use Rattle.mm_opt.specs.Below.{Standing, Goes, StepFault, Batch, Meaning, BatchAnswer, Refusal, fault_of, result_of}
 use Rattle.mm_opt.specs.declared.call.Turn.{Turn}
 use Rattle.mm_opt.specs.declared.call.Turn.TheVariants.{Going, Done, Refused}
-use Rattle.mm_opt.specs.Finishes.{answer_left}
-use Rattle.mm_opt.specs.Steps.{act_of, MayGoOn, ReadsOwnCell, ReadsRegister, Extends, Empties, Places, Writes}
+use Rattle.mm_opt.specs.Found.{Stage}
+use Rattle.mm_opt.specs.Steps.{act_of, MayGoOn}
+use Rattle.mm_opt.specs.Operating.{opt_asked}
 
 -- the position after the batch, once it has run in memory
-abbrev pub position_in : Change → ℕ
-position_in it = (answer_left it).position
-
 abbrev pub stage_position : Stage → Option ℕ
-stage_position stage.Begun = None
-stage_position (stage.Seen cell) = None
-stage_position (stage.Changing it) = Some (position_in it)
+stage_position (Changing ready) = Some ready.answer.position
+stage_position _ = None
 
 -- the position up to which the next step commits the batch: that of an extension in an open
 -- segment, and the write of an opening
-abbrev pub commits_in : Change → Option ℕ
-commits_in (change.Inside ready) = Some ready.answer.position
-commits_in (change.Emptying opening) = None
-commits_in (change.Placing opening) = None
-commits_in (change.Writing opening) = Some opening.answer.position
-
 abbrev pub stage_commits : Stage → Option ℕ
-stage_commits stage.Begun = None
-stage_commits (stage.Seen cell) = None
-stage_commits (stage.Changing it) = commits_in it
+stage_commits (Changing ready) = position_if_last (change_after ready.change) ready.answer.position
+stage_commits _ = None
 
--- what the first turn gives, by the cell that it finds
-abbrev pub seen_turn : Result Cell Refusal → Turn
-seen_turn (Err why) = Refused why
-seen_turn (Ok cell) = Going (stage.Seen cell)
+-- what a turn gives that ends the call
+abbrev pub turn_with : Result BatchAnswer Refusal → Turn
+turn_with (Ok answer) = Done answer
+turn_with (Err why) = Refused why
 
--- what the second turn gives, by what it finds
-abbrev pub found_turn : Result Found Refusal → Turn
-found_turn (Err why) = Refused why
-found_turn (Ok (Repeat answer)) = Done answer
-found_turn (Ok (Inside ready)) = Going (stage.Changing (change.Inside ready))
-found_turn (Ok (Opens opening)) = Going (stage.Changing (change.Emptying opening))
+abbrev pub turn_of : Step BatchAnswer Refusal → Turn
+turn_of (step.Going stage) = Going stage
+turn_of (step.Over end) = turn_with (result_of (end_told end))
 
--- what the turns of an opening give
-abbrev pub emptied_turn : Result Opening StepFault → Turn
-emptied_turn (Err fault) = Refused (Device fault)
-emptied_turn (Ok opening) = Going (stage.Changing (change.Placing opening))
-
-abbrev pub placed_turn : Result Opening StepFault → Turn
-placed_turn (Err fault) = Refused (Device fault)
-placed_turn (Ok opening) = Going (stage.Changing (change.Writing opening))
-
--- what the last turn gives
-abbrev pub last_turn : Result BatchAnswer StepFault → Turn
-last_turn (Err fault) = Refused (Device fault)
-last_turn (Ok answer) = Done answer
-
--- a turn gives what is drawn from the outcome of its step
-pub record TurnsBy {A T : Type 0} (steps : A → Type 0) (given : A → T) (turn : T) : Type 0 where
-  pub outcome : A
-  pub step : steps outcome
-  pub gives : turn ≡ given outcome
-
--- one turn that makes a changing step
-abbrev pub Changes : Change → Standing → Standing → Turn → Type 0
-Changes (change.Inside ready) old new turn = TurnsBy (Extends ready old new) last_turn turn
-Changes (change.Emptying opening) old new turn = TurnsBy (Empties opening old new) emptied_turn turn
-Changes (change.Placing opening) old new turn = TurnsBy (Places opening old new) placed_turn turn
-Changes (change.Writing opening) old new turn = TurnsBy (Writes opening old new) last_turn turn
-
--- one turn of a call
-abbrev pub Turns : Meaning → Stage → Standing → Standing → List ℕ → Batch → Turn → Type 0
-Turns meaning stage.Begun old new offer b turn =
-    TurnsBy (ReadsOwnCell meaning.id old new) seen_turn turn
-Turns meaning (stage.Seen cell) old new offer b turn =
-    TurnsBy (ReadsRegister meaning cell old new offer b) found_turn turn
-Turns meaning (stage.Changing it) old new offer b turn = Changes it old new turn
+-- One turn of a call: its step is one of the machine.
+pub record Turns (meaning : Meaning) (stage : Stage) (old new : Standing) (offer : List ℕ)
+    (b : Batch) (turn : Turn) : Type 0 where
+  pub step : Step BatchAnswer Refusal
+  pub steps : Steps (opt_asked meaning offer b) stage old new step
+  pub gives : turn ≡ turn_of step
 
 -- the room that the rest of a call takes, if it goes on
 abbrev pub TurnMayGoOn : Turn → Standing → Type 0

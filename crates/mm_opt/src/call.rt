@@ -3,34 +3,29 @@
 ghost use Rattle.std.specs.Prelude.{◌≡◌, true, false, IfOk, IfErr};
 ghost use Rattle.mm_module.specs.Batches.{batch_of};
 ghost use Rattle.mm_model.specs.Long.{is_long};
-ghost use Rattle.mm_opt.specs.declared.stage.Stage.TheVariants.{Begun, Changing};
+ghost use Rattle.mm_machine.specs.declared.call.Stage.TheVariants.{Begun};
 
-use crate::finish::{
-    extend_last, open, place_on, read_and_change, read_register_and_change, write_last,
-};
-use crate::found::{Found, Opening};
-use crate::stage::{Change, Stage};
-use crate::step::{empty, extend, place, read_cell, read_register, write};
+use crate::operation::OptAsk;
 use mm_call::{Ended, KeptKey};
+use mm_machine::{Stage, Step, advance, finish};
 use mm_model::{BatchAnswer, Refusal};
 use mm_module::{Batch, Module};
-use mm_platform::{Platform, StepFault};
-use mm_seal::Cell;
+use mm_platform::Platform;
 use std::alloc::Global;
 use std::marker::Model;
 
 /// A call between two of its device steps. Contracts see where it stands.
 #[derive(Drop)]
 pub struct Call {
-    stage: Stage,
+    at: mm_machine::Call<BatchAnswer>,
 }
 
 impl Model for Call {
-    ghost use Rattle.mm_opt.specs.declared.stage.Stage.{Stage};
+    ghost use Rattle.mm_opt.specs.Found.{Stage};
 
     ghost Value = { Stage };
 
-    ghost view = { λ call. call.stage };
+    ghost view = { λ call. call.at };
 }
 
 /// What one step of a call came to.
@@ -55,7 +50,7 @@ pub fn begin(batch: Batch<'_>) -> Result<Call, Refusal>
         return Err(Refusal::Long);
     }
     Ok(Call {
-        stage: Stage::Begun,
+        at: mm_machine::Call::begin(),
     })
 }
 
@@ -64,29 +59,23 @@ impl Call {
     ghost use Rattle.mm_module.specs.Batches.{batch_of};
     ghost use Rattle.mm_model.specs.Long.{is_long};
     ghost use Rattle.mm_opt.specs.Steps.{step_number, MayGoOn};
-    ghost use Rattle.mm_opt.specs.Turns.{Turns, stage_position, stage_commits};
-    ghost use Rattle.mm_opt.specs.Finishes.{Finishes};
+    ghost use Rattle.mm_opt.specs.Turns.{stage_position, stage_commits};
     ghost use Rattle.mm_opt.specs.Moved.{AdvancedInOpt, FinishedInOpt};
 
     /// The number of the next device step, from 1.
     pub fn next_step(&self) -> u8
         ensures { result ≡ step_number self.now }
     {
-        match &self.stage {
-            Stage::Begun => 1,
-            Stage::Seen(_) => 2,
-            Stage::Changing(change) => change.number(),
-        }
+        self.at.next_step(5)
     }
 
     /// The position after the batch, once it has run in memory.
     pub fn position(&self) -> Option<u64>
         ensures { result ≡ stage_position self.now }
     {
-        match &self.stage {
-            Stage::Begun => None,
-            Stage::Seen(_) => None,
-            Stage::Changing(change) => Some(change.position()),
+        match self.at.stage() {
+            Stage::Changing(ready) => Some(ready.answer.position),
+            _ => None,
         }
     }
 
@@ -94,10 +83,9 @@ impl Call {
     pub fn commits(&self) -> Option<u64>
         ensures { result ≡ stage_commits self.now }
     {
-        match &self.stage {
-            Stage::Begun => None,
-            Stage::Seen(_) => None,
-            Stage::Changing(change) => change.commits(),
+        match self.at.stage() {
+            Stage::Changing(ready) if ready.change.is_last() => Some(ready.answer.position),
+            _ => None,
         }
     }
 
@@ -122,6 +110,7 @@ impl Call {
     }
 
     /// `advance` with an absorbed key that the caller keeps between calls.
+    #[inline(always)]
     pub fn advance_keeping<M: Module, P: Platform>(
         self,
         alloc: Global,
@@ -136,7 +125,13 @@ impl Call {
         ensures { AdvancedInOpt (M.meaning «module».now) self (P.standing platform.old)
             (P.standing platform.new) offer.now (batch_of batch.entry) result }
     {
-        self.make_step(alloc, module, platform, offer, batch, keys)
+        let ask = OptAsk {
+            alloc,
+            module,
+            offer,
+            batch,
+        };
+        Turn::of(advance(&ask, self.at, platform, keys))
     }
 
     /// Moves the call to its end: what `advance` does, over and over. After the reading steps it has no allocator.
@@ -157,6 +152,7 @@ impl Call {
     }
 
     /// `finish` with an absorbed key that the caller keeps between calls.
+    #[inline(always)]
     pub fn finish_keeping<M: Module, P: Platform>(
         self,
         alloc: Global,
@@ -171,192 +167,39 @@ impl Call {
         ensures { FinishedInOpt (M.meaning «module».now) self (P.standing platform.old)
             (P.standing platform.new) offer.now (batch_of batch.entry) result }
     {
-        self.make_steps(alloc, module, platform, offer, batch, keys)
-    }
-
-    // Makes the next device step and those after it.
-    fn make_steps<M: Module, P: Platform>(
-        self,
-        alloc: Global,
-        module: &M,
-        platform: &mut P,
-        offer: &[u8],
-        batch: Batch<'_>,
-        keys: &mut KeptKey,
-    ) -> Ended
-        requires short { is_long (batch_of batch) ≡ false }
-        requires room { MayGoOn self (P.standing platform.old) }
-        ensures { Finishes (M.meaning «module».now) self (P.standing platform.old)
-            (P.standing platform.new) offer.now (batch_of batch.entry) result }
-    {
-        match self.stage {
-            Stage::Begun => read_and_change(alloc, module, platform, offer, batch, keys),
-            Stage::Seen(cell) => {
-                read_register_and_change(alloc, module, &cell, platform, offer, batch, keys)
-            }
-            Stage::Changing(change) => change.make_steps(platform),
-        }
-    }
-
-    // Makes the next device step.
-    fn make_step<M: Module, P: Platform>(
-        self,
-        alloc: Global,
-        module: &M,
-        platform: &mut P,
-        offer: &[u8],
-        batch: Batch<'_>,
-        keys: &mut KeptKey,
-    ) -> Turn
-        requires short { is_long (batch_of batch) ≡ false }
-        requires room { MayGoOn self (P.standing platform.old) }
-        ensures { Turns (M.meaning «module».now) self (P.standing platform.old)
-            (P.standing platform.new) offer.now (batch_of batch.entry) result }
-    {
-        match self.stage {
-            Stage::Begun => Turn::seen(read_cell(module.id(), platform)),
-            Stage::Seen(cell) => {
-                Turn::found(read_register(alloc, module, &cell, platform, offer, batch, keys))
-            }
-            Stage::Changing(change) => change.make_step(platform),
-        }
-    }
-}
-
-impl Change {
-    ghost use Rattle.std.specs.Prelude.{◌≡◌};
-    ghost use Rattle.mm_opt.specs.Steps.{number_in, MayChange};
-    ghost use Rattle.mm_opt.specs.Turns.{position_in, commits_in, Changes};
-    ghost use Rattle.mm_opt.specs.Finishes.{ChangesTo};
-
-    // The number of the device step.
-    fn number(&self) -> u8
-        ensures { result ≡ number_in self.now }
-    {
-        match self {
-            Change::Inside(_) => 3,
-            Change::Emptying(_) => 3,
-            Change::Placing(_) => 4,
-            Change::Writing(_) => 5,
-        }
-    }
-
-    // The position after the batch.
-    fn position(&self) -> u64
-        ensures { result ≡ position_in self.now }
-    {
-        match self {
-            Change::Inside(ready) => ready.answer.position,
-            Change::Emptying(opening) => opening.answer.position,
-            Change::Placing(opening) => opening.answer.position,
-            Change::Writing(opening) => opening.answer.position,
-        }
-    }
-
-    // The position up to which the device step commits the batch.
-    fn commits(&self) -> Option<u64>
-        ensures { result ≡ commits_in self.now }
-    {
-        match self {
-            Change::Inside(ready) => Some(ready.answer.position),
-            Change::Emptying(_) => None,
-            Change::Placing(_) => None,
-            Change::Writing(opening) => Some(opening.answer.position),
-        }
-    }
-
-    // Makes this step and those after it. It is handed no allocator, so it asks for no memory.
-    fn make_steps<P: Platform>(self, platform: &mut P) -> Ended
-        requires { MayChange self (P.standing platform.old) }
-        ensures { ChangesTo self (P.standing platform.old) (P.standing platform.new) result }
-    {
-        match self {
-            Change::Inside(ready) => extend_last(ready, platform),
-            Change::Emptying(opening) => open(opening, platform),
-            Change::Placing(opening) => place_on(opening, platform),
-            Change::Writing(opening) => write_last(opening, platform),
-        }
-    }
-
-    // Makes the device step. It is handed no allocator, so it asks for no memory.
-    fn make_step<P: Platform>(self, platform: &mut P) -> Turn
-        requires { MayChange self (P.standing platform.old) }
-        ensures { Changes self (P.standing platform.old) (P.standing platform.new) result }
-    {
-        match self {
-            Change::Inside(ready) => Turn::last(extend(ready, platform)),
-            Change::Emptying(opening) => Turn::emptied(empty(opening, platform)),
-            Change::Placing(opening) => Turn::placed(place(opening, platform)),
-            Change::Writing(opening) => Turn::last(write(opening, platform)),
-        }
+        let ask = OptAsk {
+            alloc,
+            module,
+            offer,
+            batch,
+        };
+        Ended::of(finish(&ask, self.at, platform, keys))
     }
 }
 
 impl Turn {
     ghost use Rattle.std.specs.Prelude.{◌≡◌};
-    ghost use Rattle.mm_opt.specs.Turns.{seen_turn, found_turn, emptied_turn, placed_turn, last_turn};
+    ghost use Rattle.mm_opt.specs.Turns.{turn_of, turn_with};
 
-    // What the first step comes to.
-    fn seen(cell: Result<Cell, Refusal>) -> Turn
-        ensures { result ≡ seen_turn cell }
+    // A turn of the machine's.
+    #[inline(always)]
+    fn of(step: Step<BatchAnswer, Refusal>) -> Turn
+        ensures { result ≡ turn_of step }
     {
-        match cell {
-            Ok(cell) => Turn::going(Stage::Seen(cell)),
-            Err(refusal) => Turn::Refused(refusal),
+        match step {
+            Step::Going(at) => Turn::Going(Call { at }),
+            Step::Over(ended) => Turn::given(Ended::of(ended).result()),
         }
     }
 
-    // What the second step comes to.
-    fn found(found: Result<Found, Refusal>) -> Turn
-        ensures { result ≡ found_turn found }
+    // The last turn of a call that gives this.
+    #[inline(always)]
+    fn given(whole: Result<BatchAnswer, Refusal>) -> Turn
+        ensures { result ≡ turn_with whole }
     {
-        match found {
-            Ok(Found::Repeat(answer)) => Turn::Done(answer),
-            Ok(Found::Inside(ready)) => Turn::changing(Change::Inside(ready)),
-            Ok(Found::Opens(opening)) => Turn::changing(Change::Emptying(opening)),
-            Err(refusal) => Turn::Refused(refusal),
-        }
-    }
-
-    // What a reset comes to.
-    fn emptied(emptied: Result<Opening, StepFault>) -> Turn
-        ensures { result ≡ emptied_turn emptied }
-    {
-        match emptied {
-            Ok(opening) => Turn::changing(Change::Placing(opening)),
-            Err(fault) => Turn::Refused(Refusal::Device(fault)),
-        }
-    }
-
-    // What the extension of an opening comes to.
-    fn placed(placed: Result<Opening, StepFault>) -> Turn
-        ensures { result ≡ placed_turn placed }
-    {
-        match placed {
-            Ok(opening) => Turn::changing(Change::Writing(opening)),
-            Err(fault) => Turn::Refused(Refusal::Device(fault)),
-        }
-    }
-
-    // What the last step comes to.
-    fn last(written: Result<BatchAnswer, StepFault>) -> Turn
-        ensures { result ≡ last_turn written }
-    {
-        match written {
+        match whole {
             Ok(answer) => Turn::Done(answer),
-            Err(fault) => Turn::Refused(Refusal::Device(fault)),
+            Err(refusal) => Turn::Refused(refusal),
         }
-    }
-
-    fn changing(change: Change) -> Turn
-        ensures { result ≡ Turn.Going (Changing change) }
-    {
-        Turn::going(Stage::Changing(change))
-    }
-
-    fn going(stage: Stage) -> Turn
-        ensures { result ≡ Turn.Going stage }
-    {
-        Turn::Going(Call { stage })
     }
 }

@@ -1,6 +1,6 @@
 //! What a call finds in the cell, the register and the offer.
 
-ghost use Rattle.std.specs.Prelude.{◌≡◌, ◌+◌, ◌≤◌, false, IfOk, IsTrue, None, Ok, length};
+ghost use Rattle.std.specs.Prelude.{◌≡◌, ◌+◌, ◌≤◌, IfOk, IsTrue, None, Ok};
 ghost use Rattle.mm_base.specs.Limits.{last_position};
 ghost use Rattle.mm_digest.specs.declared.variant.Variant.TheVariants.{Opt};
 ghost use Rattle.mm_module.specs.Batch.{Many, normal};
@@ -8,22 +8,20 @@ ghost use Rattle.mm_module.specs.Batches.{batch_of};
 ghost use Rattle.mm_seal.specs.Snapshot.{variant_of};
 ghost use Rattle.mm_model.specs.Chains.{guard};
 ghost use Rattle.mm_model.specs.Judge.{forms_of, opt_verdict};
-ghost use Rattle.mm_model.specs.Long.{is_long};
 ghost use Rattle.mm_opt.specs.Seen.{is_cell_of, own_cell, SeesCell};
 ghost use Rattle.mm_opt.specs.Order.{anchor_in, extension_in};
 ghost use Rattle.mm_opt.specs.Answers.{place_after, extension_at, extension_after, change_of, found_in_offer};
 ghost use Rattle.mm_call.specs.Refusals.{OrMemory, fault_in};
-ghost use Rattle.mm_opt.specs.Steps.{FindsIn};
 
-use crate::found::{Found, Opening, Ready};
+use crate::operation::OptAsk;
 use crate::verdicts::{has_lost_power, verdict};
 use mm_base::CELL_LENGTH;
 use mm_call::{KeptKey, answer, examine};
 use mm_digest::{Digest, Variant, extended, secured, secured_batch, zero};
+use mm_machine::{Change, Found, Opening, Ready};
 use mm_model::{BatchAnswer, Refusal, Verdict, has_tab};
 use mm_module::{Batch, Module};
 use mm_seal::{Cell, CellFault, Offered, PartsFault, Place, cell_bytes, parts, read_cell};
-use std::alloc::Global;
 
 /// The cell of the module with this id that these bytes are.
 pub fn find_cell(bytes: &[u8; CELL_LENGTH], id: u8) -> Result<Cell, Refusal>
@@ -57,70 +55,79 @@ fn is_of(cell: &Cell, id: u8) -> bool
     }
 }
 
-/// What is found in the cell, the register's value and the offered bytes, in the order of the refusals.
-#[inline(always)]
-pub fn find<M: Module>(
-    alloc: Global,
-    module: &M,
-    cell: &Cell,
-    register: &Digest,
-    offer: &[u8],
-    batch: Batch<'_>,
-    keys: &mut KeptKey,
-) -> Result<Found, Refusal>
-    requires { is_long (batch_of batch) ≡ false }
-    ensures finds { FindsIn (M.meaning «module».now) cell.now register.now.bytes offer.now
-        (batch_of batch.entry) result }
-    ensures no_fault { fault_in result ≡ None }
-    ensures sized { length register.now.bytes ≡ 32 }
-{
-    // Of an array behind a reference contracts know the length only once the body has read it.
-    let _bytes = register.bytes;
-    let taken = parts(offer, Variant::Opt, module.id());
-    if has_lost_power(cell, register) {
-        return Err(Refusal::Lost);
-    }
-    match taken {
-        Err(PartsFault::Form) => Err(Refusal::Form),
-        Err(PartsFault::Kind) => Err(Refusal::Kind),
-        Ok(offered) => weigh(alloc, module, cell, register, &offered, batch, keys),
-    }
-}
+impl<M: Module> OptAsk<'_, M> {
+    ghost use Rattle.std.specs.Prelude.{◌≡◌, ◌≤◌, None, Ok};
+    ghost use Rattle.mm_base.specs.Limits.{last_position};
+    ghost use Rattle.mm_digest.specs.declared.variant.Variant.TheVariants.{Opt};
+    ghost use Rattle.mm_module.specs.Batches.{batch_of};
+    ghost use Rattle.mm_seal.specs.Snapshot.{variant_of};
+    ghost use Rattle.mm_call.specs.Refusals.{OrMemory, fault_in};
+    ghost use Rattle.mm_opt.specs.Answers.{found_in_offer};
+    ghost use Rattle.mm_opt.specs.Steps.{FindsIn};
 
-// What is found in an offer of Opt and of the module.
-fn weigh<M: Module>(
-    alloc: Global,
-    module: &M,
-    cell: &Cell,
-    register: &Digest,
-    offered: &Offered<'_>,
-    batch: Batch<'_>,
-    keys: &mut KeptKey,
-) -> Result<Found, Refusal>
-    requires variant { variant_of offered.now.content.place ≡ Opt }
-    requires position { offered.now.content.position ≤ last_position }
-    requires short { is_long (batch_of batch) ≡ false }
-    ensures { OrMemory
-        (found_in_offer (M.meaning «module».now) cell.now register.now.bytes (Ok offered.now)
-        (batch_of batch.entry)) result }
-{
-    let body = offered.body();
-    let value = guard(&cell.barrier, batch);
-    let verdict = verdict_on(cell, register, &body.place, &value);
-    let key = keys.under(&cell.key);
-    let again = match examine(module, key, offered, batch, verdict) {
-        Err(refusal) => return Err(refusal),
-        Ok(again) => again,
-    };
-    let place = place_after(cell, register, &value, again);
-    let answer = match answer(alloc, module, key, &body, place, batch, again) {
-        Err(_) => return Err(Refusal::Memory),
-        Ok(answer) => answer,
-    };
-    if again {
-        return Ok(Found::Repeat(answer));
+    /// What is found in the cell, the register's value and the offered bytes, in the order of the refusals.
+    #[inline(always)]
+    pub fn find_in(
+        &self,
+        cell: &Cell,
+        register: &Digest,
+        keys: &mut KeptKey,
+    ) -> Result<Found<BatchAnswer>, Refusal>
+        ensures finds { FindsIn (M.meaning self.now.«module».now) cell.now register.now.bytes
+            self.now.offer.now (batch_of self.now.batch) result }
+        ensures no_fault { fault_in result ≡ None }
+    {
+        let taken = parts(self.offer, Variant::Opt, self.module.id());
+        if has_lost_power(cell, register) {
+            return Err(Refusal::Lost);
+        }
+        match taken {
+            Err(PartsFault::Form) => Err(Refusal::Form),
+            Err(PartsFault::Kind) => Err(Refusal::Kind),
+            Ok(offered) => self.weigh(cell, register, &offered, keys),
+        }
     }
-    Ok(change(cell, value, answer))
+
+    // What is found in an offer of Opt and of the module.
+    fn weigh(
+        &self,
+        cell: &Cell,
+        register: &Digest,
+        offered: &Offered<'_>,
+        keys: &mut KeptKey,
+    ) -> Result<Found<BatchAnswer>, Refusal>
+        requires variant { variant_of offered.now.content.place ≡ Opt }
+        requires position { offered.now.content.position ≤ last_position }
+        ensures { OrMemory
+            (found_in_offer (M.meaning self.now.«module».now) cell.now register.now.bytes
+            (Ok offered.now) (batch_of self.now.batch)) result }
+    {
+        let body = offered.body();
+        let value = guard(&cell.barrier, self.batch);
+        let verdict = verdict_on(cell, register, &body.place, &value);
+        let key = keys.under(&cell.key);
+        let again = match examine(self.module, key, offered, self.batch, verdict) {
+            Err(refusal) => return Err(refusal),
+            Ok(again) => again,
+        };
+        let place = place_after(cell, register, &value, again);
+        let answer = match answer(
+            self.alloc,
+            self.module,
+            key,
+            &body,
+            place,
+            self.batch,
+            again,
+        ) {
+            Err(_) => return Err(Refusal::Memory),
+            Ok(answer) => answer,
+        };
+        if again {
+            return Ok(Found::Repeat(answer));
+        }
+        Ok(change(cell, value, answer))
+    }
 }
 
 // The verdict on a place of Opt.
@@ -187,20 +194,22 @@ fn extension_after(again: bool, extension: Digest, value: &Digest) -> Digest
 }
 
 // A new batch, ready to be committed.
-fn change(cell: &Cell, value: Digest, answer: BatchAnswer) -> Found
+fn change(cell: &Cell, value: Digest, answer: BatchAnswer) -> Found<BatchAnswer>
     ensures { result ≡ change_of cell.now value.bytes answer }
 {
     if cell.flag {
-        return Found::Inside(Ready { value, answer });
+        return Found::Change(Ready {
+            change: Change::Extending(value),
+            answer,
+        });
     }
     let next = cell_bytes(&Cell {
         variant: Variant::Opt,
         flag: true,
         ..*cell
     });
-    Found::Opens(Opening {
-        value,
-        next,
+    Found::Change(Ready {
+        change: Change::Emptying(Opening { value, next }),
         answer,
     })
 }

@@ -5,22 +5,21 @@ ghost use Rattle.std.specs.Result.{result_err};
 ghost use Rattle.mm_module.specs.Batch.{One};
 ghost use Rattle.mm_module.specs.Batches.{batch_of};
 ghost use Rattle.mm_model.specs.Long.{is_long};
-ghost use Rattle.mm_call.specs.Refusals.{fault_in};
+ghost use Rattle.mm_call.specs.Ended.{result_of};
+ghost use Rattle.mm_call.specs.Machine.{end_told};
+ghost use Rattle.mm_call.specs.Refusals.{fault_in, handed_on};
 ghost use Rattle.mm_call.specs.Leaving.{Blames, whole_in};
-ghost use Rattle.mm_opt.specs.declared.stage.Stage.TheVariants.{Begun};
-ghost use Rattle.mm_opt.specs.Asked.{AskedInOpt};
 ghost use Rattle.mm_call.specs.Calls.{Calls, Commits, IsCallSoFar};
-ghost use Rattle.mm_opt.specs.Asks.{Reads, ReadsOn, MayCommit, LeavesRoom, opt_call};
+ghost use Rattle.mm_opt.specs.Asked.{AskedInOpt};
+ghost use Rattle.mm_opt.specs.Asks.{IsMade, Reads, MayCommit, LeavesRoom, opt_call};
 
-use crate::call::{Call, begin};
-use crate::finish::finish_found;
-use crate::found::Found;
-use crate::step::{read_cell, read_register};
-use mm_call::{Ended, KeptKey};
+use crate::call::begin;
+use crate::operation::OptAsk;
+use mm_call::{KeptKey, refusal_of};
+use mm_machine::{Ended, Found, finish_change, read};
 use mm_model::{Answer, BatchAnswer, Refusal};
 use mm_module::{Batch, Module};
 use mm_platform::{Platform, StepFault};
-use mm_seal::Cell;
 use std::alloc::Global;
 use std::marker::Model;
 
@@ -28,11 +27,11 @@ use std::marker::Model;
 /// see what was found.
 #[derive(Drop)]
 pub struct Prepared {
-    found: Found,
+    found: Found<BatchAnswer>,
 }
 
 impl Model for Prepared {
-    ghost use Rattle.mm_opt.specs.declared.found.Found.{Found};
+    ghost use Rattle.mm_opt.specs.Found.{Found};
 
     ghost Value = { Found };
 
@@ -73,91 +72,44 @@ pub fn prepare<M: Module, P: Platform>(
     ensures faults { Blames (fault_in result)
         (P.standing platform.old).faults (P.standing platform.new).faults }
 {
-    prepare_batch(alloc, module, platform, offer, Batch::One(request))
-}
-
-fn prepare_batch<M: Module, P: Platform>(
-    alloc: Global,
-    module: &M,
-    platform: &mut P,
-    offer: &[u8],
-    batch: Batch<'_>,
-) -> Result<Prepared, Refusal>
-    ensures long { is_long (batch_of batch.entry) ≡ true →
-        (result ≡ Err Refusal.Long) × (P.standing platform.new ≡ P.standing platform.old) }
-    ensures reads { is_long (batch_of batch.entry) ≡ false →
-        Reads (M.meaning «module».now) (P.standing platform.old) (P.standing platform.new)
-        offer.now (batch_of batch.entry) result }
-    ensures goes { is_long (batch_of batch.entry) ≡ false →
-        IsCallSoFar opt_call (M.meaning «module».now) (P.standing platform.old) (P.standing platform.new)
-        offer.now (batch_of batch.entry) result }
-    ensures room { LeavesRoom result (P.standing platform.new) }
-    ensures faults { Blames (fault_in result)
-        (P.standing platform.old).faults (P.standing platform.new).faults }
-{
+    let batch = Batch::One(request);
     if mm_model::is_long(&batch) {
         return Err(Refusal::Long);
     }
-    match read_apart(alloc, module, platform, offer, batch) {
+    let ask = OptAsk {
+        alloc,
+        module,
+        offer,
+        batch,
+    };
+    match ask.read(platform, &mut KeptKey::new()) {
         Err(refusal) => Err(refusal),
         Ok(found) => Ok(Prepared { found }),
     }
 }
 
-// Makes the reading steps of a call under a key that is absorbed for them alone.
-fn read_apart<M: Module, P: Platform>(
-    alloc: Global,
-    module: &M,
-    platform: &mut P,
-    offer: &[u8],
-    batch: Batch<'_>,
-) -> Result<Found, Refusal>
-    requires { is_long (batch_of batch) ≡ false }
-    ensures reads { Reads (M.meaning «module».now) (P.standing platform.old)
-        (P.standing platform.new) offer.now (batch_of batch.entry) result }
-    ensures goes { IsCallSoFar opt_call (M.meaning «module».now) (P.standing platform.old)
-        (P.standing platform.new) offer.now (batch_of batch.entry) result }
-    ensures room { LeavesRoom result (P.standing platform.new) }
-{
-    read(alloc, module, platform, offer, batch, &mut KeptKey::new())
-}
+impl<M: Module> OptAsk<'_, M> {
+    ghost use Rattle.mm_module.specs.Batches.{batch_of};
+    ghost use Rattle.mm_call.specs.Calls.{IsCallSoFar};
+    ghost use Rattle.mm_opt.specs.Asks.{Reads, LeavesRoom, opt_call};
 
-/// Makes the reading steps.
-pub fn read<M: Module, P: Platform>(
-    alloc: Global,
-    module: &M,
-    platform: &mut P,
-    offer: &[u8],
-    batch: Batch<'_>,
-    keys: &mut KeptKey,
-) -> Result<Found, Refusal>
-    requires { is_long (batch_of batch) ≡ false }
-    ensures reads { Reads (M.meaning «module».now) (P.standing platform.old)
-        (P.standing platform.new) offer.now (batch_of batch.entry) result }
-    ensures room { LeavesRoom result (P.standing platform.new) }
-{
-    let cell = read_cell(module.id(), platform);
-    read_on(alloc, module, cell, platform, offer, batch, keys)
-}
-
-// Makes the second reading step, where the first found a cell.
-fn read_on<M: Module, P: Platform>(
-    alloc: Global,
-    module: &M,
-    cell: Result<Cell, Refusal>,
-    platform: &mut P,
-    offer: &[u8],
-    batch: Batch<'_>,
-    keys: &mut KeptKey,
-) -> Result<Found, Refusal>
-    requires { is_long (batch_of batch) ≡ false }
-    ensures on { ReadsOn (M.meaning «module».now) cell (P.standing platform.old)
-        (P.standing platform.new) offer.now (batch_of batch.entry) result }
-    ensures room { LeavesRoom result (P.standing platform.new) }
-{
-    match cell {
-        Err(refusal) => Err(refusal),
-        Ok(cell) => read_register(alloc, module, &cell, platform, offer, batch, keys),
+    // Makes the reading steps.
+    fn read<P: Platform>(
+        &self,
+        platform: &mut P,
+        keys: &mut KeptKey,
+    ) -> Result<Found<BatchAnswer>, Refusal>
+        ensures reads { Reads (M.meaning self.now.«module».now) (P.standing platform.old)
+            (P.standing platform.new) self.now.offer.now (batch_of self.now.batch) result }
+        ensures goes { IsCallSoFar opt_call (M.meaning self.now.«module».now)
+            (P.standing platform.old) (P.standing platform.new) self.now.offer.now
+            (batch_of self.now.batch) result }
+        ensures room { LeavesRoom result (P.standing platform.new) }
+    {
+        match read(self, platform, keys) {
+            Ok(found) => Ok(found),
+            Err(halt) => Err(refusal_of(halt)),
+        }
     }
 }
 
@@ -175,14 +127,30 @@ impl Prepared {
     }
 }
 
-fn commit_found<P: Platform>(found: Found, platform: &mut P) -> Result<Committed, StepFault>
+fn commit_found<P: Platform>(
+    found: Found<BatchAnswer>,
+    platform: &mut P,
+) -> Result<Committed, StepFault>
     requires { MayCommit found (P.standing platform.old) }
     ensures { Commits opt_call found (P.standing platform.old) (P.standing platform.new) result }
 {
-    match finish_found(Ok(found), platform) {
+    match found {
+        Found::Repeat(answer) => Ok(Committed { answer }),
+        Found::Change(ready) => {
+            handed_out(finish_change(ready.answer.position, ready, platform))
+        }
+    }
+}
+
+// What the changing steps of a call gave.
+fn handed_out(ended: Ended<BatchAnswer, Refusal>) -> Result<Committed, StepFault>
+    requires { IsMade ended }
+    ensures { result_of (end_told ended) ≡ handed_on result }
+{
+    match ended {
         Ended::Answered(answer) => Ok(Committed { answer }),
         Ended::Broken { fault, .. } => Err(fault),
-        Ended::Refused(_) => unreachable!(),
+        Ended::Refused(_) | Ended::Lacks => unreachable!(),
     }
 }
 
@@ -196,41 +164,25 @@ impl Committed {
 }
 
 // One call, from the offer to the answer.
+#[inline(always)]
 fn call<M: Module, P: Platform>(
     alloc: Global,
     module: &M,
     platform: &mut P,
     offer: &[u8],
     batch: Batch<'_>,
+    keys: &mut KeptKey,
 ) -> Result<BatchAnswer, Refusal>
-    ensures calls { Calls opt_call (M.meaning «module».now) (P.standing platform.old)
+    ensures { AskedInOpt (M.meaning «module».now) (P.standing platform.old)
         (P.standing platform.new) offer.now (batch_of batch.entry) result }
-    ensures faults { Blames (fault_in result)
-        (P.standing platform.old).faults (P.standing platform.new).faults }
 {
     match begin(batch) {
         Err(refusal) => Err(refusal),
-        Ok(call) => finished(call, alloc, module, platform, offer, batch),
+        Ok(call) => {
+            let ended = call.finish_keeping(alloc, module, platform, offer, batch, keys);
+            ended.result()
+        }
     }
-}
-
-// The rest of a call that was just begun.
-fn finished<M: Module, P: Platform>(
-    call: Call,
-    alloc: Global,
-    module: &M,
-    platform: &mut P,
-    offer: &[u8],
-    batch: Batch<'_>,
-) -> Result<BatchAnswer, Refusal>
-    requires short { is_long (batch_of batch) ≡ false }
-    requires begun { call ≡ Begun }
-    ensures calls { Calls opt_call (M.meaning «module».now) (P.standing platform.old)
-        (P.standing platform.new) offer.now (batch_of batch.entry) result }
-    ensures faults { Blames (fault_in result)
-        (P.standing platform.old).faults (P.standing platform.new).faults }
-{
-    call.finish(alloc, module, platform, offer, batch).result()
 }
 
 /// One call: asks for a batch of requests, offering a snapshot. A new batch is committed whole or not at all, and
@@ -246,7 +198,7 @@ pub fn ask_batch<M: Module, P: Platform>(
     ensures { AskedInOpt (M.meaning «module».now) (P.standing platform.old)
         (P.standing platform.new) offer.now (batch_of batch.entry) result }
 {
-    call(alloc, module, platform, offer, batch)
+    call(alloc, module, platform, offer, batch, &mut KeptKey::new())
 }
 
 /// One call that asks for one request: `prepare`, `commit` and `answer` in one.
@@ -260,23 +212,40 @@ pub fn ask<M: Module, P: Platform>(
     ensures { AskedInOpt (M.meaning «module».now) (P.standing platform.old)
         (P.standing platform.new) offer.now (One request.now) (whole_in result) }
 {
-    match call_one(alloc, module, platform, offer, request) {
+    ask_keeping(alloc, module, platform, offer, request, &mut KeptKey::new())
+}
+
+/// `ask` with an absorbed key that the caller keeps between calls.
+pub fn ask_keeping<M: Module, P: Platform>(
+    alloc: Global,
+    module: &M,
+    platform: &mut P,
+    offer: &[u8],
+    request: &[u8],
+    keys: &mut KeptKey,
+) -> Result<Answer, Refusal>
+    ensures { AskedInOpt (M.meaning «module».now) (P.standing platform.old)
+        (P.standing platform.new) offer.now (One request.now) (whole_in result) }
+{
+    match call_one(alloc, module, platform, offer, request, keys) {
         Err(refusal) => Err(refusal),
         Ok(answer) => Ok(answer.into_one()),
     }
 }
 
 // One call that asks for one request.
+#[inline(always)]
 fn call_one<M: Module, P: Platform>(
     alloc: Global,
     module: &M,
     platform: &mut P,
     offer: &[u8],
     request: &[u8],
+    keys: &mut KeptKey,
 ) -> Result<BatchAnswer, Refusal>
     ensures asked { AskedInOpt (M.meaning «module».now) (P.standing platform.old)
         (P.standing platform.new) offer.now (One request.now) result }
     ensures one { IfOk result (λ answer. length answer.outputs ≡ 1) }
 {
-    ask_batch(alloc, module, platform, offer, Batch::One(request))
+    call(alloc, module, platform, offer, Batch::One(request), keys)
 }

@@ -21,7 +21,7 @@ pub use Rattle.mm_call.specs.Standing.{instance_by}
 pub use Rattle.mm_opt.proofs.Above.{checks_on}
 pub use Rattle.mm_flight.specs.Asks.{AdvancedAsk, ask_number, AskFinishes, AskTurns, begun, TurnMayAsk}
 pub use Rattle.mm_flight.specs.InFlight.{GoesOnAs, plan_by, SaySame, under}
-pub use Rattle.mm_flight.specs.declared.ask.AskCall.{AskCall}
+pub use Rattle.mm_flight.specs.Operating.{AskAt}
 pub use Rattle.mm_flight.proofs.Above.{AlwaysFails, ask_act, ask_answers, ask_begun, ask_breaks, ask_fails, ask_faultless, ask_moves}
 pub use Rattle.mm_flight.proofs.Above.{ask_refuses, ask_replanned, ask_then, begins, begun_may_ask, counted_few}
 pub use Rattle.mm_flight.proofs.Above.{few_steps, goes_on, may_ask_stopped, meddled, replans, Replans, takes_in}

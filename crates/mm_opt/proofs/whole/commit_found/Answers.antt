@@ -1,17 +1,12 @@
-use Rattle.mm_opt.proofs.Below.{ap, result_of}
-use Rattle.mm_opt.proofs.Finishing.{not_refused}
+use Rattle.mm_opt.proofs.Below.{refl, Answered}
+use Rattle.mm_opt.proofs.Told.{commits_told}
 use Rattle.mm_opt.proofs.whole.commit_found.Goals as goal
 
-pub returns-in-Answered : goal.returns-in-Answered
-returns-in-Answered g c =
-    record { ended = c.finish_found.result; ends = c.finish_found.ensures; gives = ap result_of c.in-Answered.is }
+pub returns-in-Repeat : goal.returns-in-Repeat
+returns-in-Repeat g c = rw c.in-Repeat.is (record { ended = Answered c.in-Repeat.answer; ends = (refl, refl); gives = refl })
 
-pub returns-in-Broken : goal.returns-in-Broken
-returns-in-Broken g c =
-    record { ended = c.finish_found.result; ends = c.finish_found.ensures; gives = ap result_of c.in-Broken.is }
-
-pub unreachable-requires : goal.unreachable-requires
-unreachable-requires g c =
-    not_refused c.args.found (g.P.Device.standing c.args.platform.now) (g.P.Device.standing c.finish_found.new.platform)
-    c.in-Refused.field-0
-    c.in-Refused.ensures
+pub returns-in-Change : goal.returns-in-Change
+returns-in-Change g c =
+    rw c.in-Change.is
+    (commits_told c.in-Change.ready (g.P.Device.standing c.args.platform.now) (g.P.Device.standing c.finish_change.new.platform)
+    c.finish_change.result c.handed_out.result c.finish_change.ensures c.handed_out.ensures)

@@ -1,9 +1,0 @@
-use Rattle.mm_module.specs.Batches.{batch_of}
-use Rattle.mm_opt.proofs.Asked.{asked}
-use Rattle.mm_opt.proofs.whole.ask_batch.Goals as goal
-
-pub returns : goal.returns
-returns g c =
-    asked (g.M.Module.meaning c.args.module.now) (g.met.M.Module.is_lawful c.args.module.now)
-    (g.P.Device.standing c.args.platform.now) (g.P.Device.standing c.call.new.platform)
-    c.args.offer.now (batch_of c.args.batch) c.call.result c.call.ensures.calls c.call.ensures.faults

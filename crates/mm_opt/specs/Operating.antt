@@ -1,0 +1,28 @@
+-- What a call asks of the machine.
+use Rattle.std.specs.Prelude.{◌≡◌, ℕ, List, None, Result, Ok, Err}
+use Rattle.mm_machine.specs.Asked.{Asked}
+use Rattle.mm_machine.specs.declared.operation.Sight as sight
+use Rattle.mm_machine.specs.declared.operation.Sight.TheVariants as seen
+use Rattle.mm_opt.specs.Below.{Batch, BatchAnswer, Cell, Meaning, Refusal, fault_in, fault_of}
+use Rattle.mm_opt.specs.Found.{Found}
+use Rattle.mm_opt.specs.Seen.{SeesCell}
+use Rattle.mm_opt.specs.Steps.{FindsIn}
+
+-- The cell is seen, and the register is wanted. A refusal hands no fault on.
+abbrev pub Sees : ℕ → List ℕ → Result (sight.Sight BatchAnswer) Refusal → Type 0
+Sees id bytes (Ok (seen.Found found)) = ⊥
+Sees id bytes (Ok (seen.Cell cell)) = SeesCell id bytes (Ok cell)
+Sees id bytes (Err why) = SeesCell id bytes (Err why) × (fault_of why ≡ None)
+
+-- What is found there. A refusal hands no fault on.
+pub record FindsQuietly (meaning : Meaning) (cell : Cell) (register offer : List ℕ) (b : Batch)
+    (found : Result Found Refusal) : Type 0 where
+  pub finds : FindsIn meaning cell register offer b found
+  pub quiet : fault_in found ≡ None
+
+abbrev pub opt_asked : Meaning → List ℕ → Batch → Asked BatchAnswer Refusal
+opt_asked meaning offer b = record {
+  sees = Sees meaning.id;
+  finds = λ cell register found. FindsQuietly meaning cell register offer b found;
+  position = λ answer. answer.position;
+}
