@@ -15,9 +15,9 @@ use Rattle.mm_opt.specs.declared.segment.Checkpointed.{Checkpointed}
 use Rattle.mm_opt.specs.declared.segment.Checkpointed.TheVariants as checkpointed
 use Rattle.mm_opt.specs.declared.segment.CheckpointRefusal.{CheckpointRefusal}
 use Rattle.mm_opt.specs.declared.segment.CheckpointRefusal.TheVariants as refusal
-use Rattle.mm_opt.specs.Checkpoints.{closing_act_of, closing_fault_in}
-use Rattle.mm_opt.specs.Closing.{IsClosing, closing, ended_told, stage_at}
-use Rattle.mm_opt.proofs.Above.{closes_whole, few_closing, goes_on_closing, over_acts}
+use Rattle.mm_opt.specs.Checkpoints.{closing_fault_in}
+use Rattle.mm_opt.specs.Closing.{closing, ended_told}
+use Rattle.mm_opt.proofs.Above.{closes_whole, closing_steps_as, few_closing}
 use Rattle.mm_schedule.specs.declared.reply.Reply.{Reply}
 use Rattle.mm_schedule.specs.declared.reply.Way.TheVariants as way
 use Rattle.mm_run.proofs.Above.{stopped_reply}
@@ -59,7 +59,7 @@ module _ (variant : Variant) (meaning : Meaning) (key barrier : List ℕ) (d : D
   comes call now meddles next f stop mid new ended whole settles =
       let began : Standing = under (plan_by stop meddles) 0 from in
       checks_planned from mid new meddles stop (ended_told ended)
-      (checks_on began mid (ended_told ended) (closes_whole began mid ended whole)) settles variant meaning issued key barrier d f.stands
+      (checks_on began mid (ended_told ended) (closes_whole mid ended began whole)) settles variant meaning issued key barrier d f.stands
       f.quiet
 
   -- the checkpoint has come to nothing so far: its next step may still fail without effect
@@ -88,14 +88,14 @@ module _ (variant : Variant) (meaning : Meaning) (key barrier : List ℕ) (d : D
         → SteppedClosingTo variant meaning key barrier d from issued meddles next mid (closings.Going on)
     going_to on step s flies e =
         let s' = subst (λ (x : Step Checkpointed CheckpointRefusal). Steps closing call now mid x) e s in
-        let goes = goes_on_closing call f.room on now mid s' in
+        let goes = closing_steps_as call now mid (Going on) f.room s' in
         let flight : Flight on mid meddles (next + 1) = record {
           stands = f.stands;
           quiet = f.quiet;
           made = f.made + 1;
           flies = subst (λ (x : Step Checkpointed CheckpointRefusal). FliesTo closing from meddles f.made mid x) e (flies from meddles f.made f.flies few);
-          room = goes.0;
-          number = goes.1 ∙ ap (λ (n : ℕ). n + 1) f.number;
+          room = goes.closes;
+          number = goes.counts ∙ ap (λ (n : ℕ). n + 1) f.number;
           is_next = ap (λ (n : ℕ). n + 1) f.is_next;
         } in
         (flight, nothing_yet on mid meddles (next + 1) flight)
@@ -107,8 +107,8 @@ module _ (variant : Variant) (meaning : Meaning) (key barrier : List ℕ) (d : D
     ended_to new number step ended told said at s flies e is ends =
         let s' = subst (λ (x : Step Checkpointed CheckpointRefusal). Steps closing call now mid x) e s in
         let whole = subst (λ (x : Step Checkpointed CheckpointRefusal). FliesTo closing from meddles f.made mid x) e (flies from meddles f.made f.flies few) in
-        let none : closing_fault_in (ended_told ended) ≡ None = quiet_step (closing_act_of (stage_at call)) now mid (closing_fault_in (ended_told ended))
-        meddles f.made f.flies.is_on f.flies.planned (over_acts call now mid ended f.room s') in
+        let none : closing_fault_in (ended_told ended) ≡ None = quiet_step (act_of call) now mid (closing_fault_in (ended_told ended))
+        meddles f.made f.flies.is_on f.flies.planned (closing_steps_as call now mid (Over ended) f.room s').goes in
         let stop = stop_behind (f.made + 1) in
         let closes : ClosesAs stop (ended_told ended) mid new said =
         subst (λ (k : ℕ). ClosesAs (stop_behind k) (ended_told ended) mid new said) (at ∙ f.number)
