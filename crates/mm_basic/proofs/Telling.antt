@@ -1,16 +1,16 @@
 -- What the machine makes of a call of Basic is a call of Basic.
-use Rattle.mm_basic.proofs.Below.{◌≡◌, ℕ, Bool, true, false, List, Option, None, Some, Result, Ok, Err, IfOk, refl, sym, ap, ◌∙◌, subst, inl, inr}
+use Rattle.mm_basic.proofs.Below.{◌≡◌, ◌+◌, ℕ, Bool, true, false, List, Option, None, Some, Result, Ok, Err, IfOk, refl, sym, ap, ◌∙◌, subst, inl, inr}
 use Rattle.mm_basic.proofs.Below.{Standing, ReadCell, Goes, Meaning, Batch, Basic, BatchAnswer, Refusal, Ended, Deed}
 use Rattle.mm_basic.proofs.Below.{Writing, extends_in, Found, Repeat, Change, Halt, AsksTo, CallsTo, Blames, fault_in}
 use Rattle.mm_basic.proofs.Below.{result_of, OrMemory, examined, found_told, end_told, Seen, NoCell, NoOffer, Both, found_from, found_in}
 use Rattle.mm_basic.proofs.Below.{FindsIn, Reads, basic_call, basic_asked, ExtendsNothing, Blank, Form, verdict_of, answer_of}
 use Rattle.mm_basic.proofs.Below.{committed_cell, blamed, Answered, Broken, breaks_off, Commits, goes_on}
 use Rattle.mm_platform.specs.declared.fault.StepFault.{StepFault}
-use Rattle.mm_machine.specs.Acts.{MayChange, act_in}
+use Rattle.mm_machine.specs.Acts.{MayChange, act_in, change_after}
 use Rattle.mm_machine.specs.Finishing as machine
 use Rattle.mm_machine.specs.Reading as reading
 use Rattle.mm_machine.specs.Reading.{FindsOn, Looks, RoomFor, Rooms, Weighs, extends}
-use Rattle.mm_machine.specs.Stepping.{MayGoOn, SightLeads, Steps, act_of, step_found, step_made}
+use Rattle.mm_machine.specs.Stepping.{MayGoOn, SightLeads, Steps, act_of, number_of, step_found, step_made, step_to}
 use Rattle.mm_seal.specs.declared.cell.Cell.{Cell}
 use Rattle.mm_model.specs.declared.refusal.Refusal.TheVariants as refusal
 use Rattle.mm_machine.specs.declared.operation.Ready.{Ready}
@@ -24,7 +24,7 @@ use Rattle.mm_machine.specs.declared.operation.Sight.TheVariants as sight
 use Rattle.mm_machine.specs.declared.reading.Halt.TheVariants as halt
 use Rattle.mm_call.proofs.Above as told
 use Rattle.mm_basic.specs.declared.call.Turn.{Turn}
-use Rattle.mm_basic.specs.Moved.{Finishes, StepExtendsNothing, Turns, turn_fault, turn_of, turn_with}
+use Rattle.mm_basic.specs.Moved.{AdvancedInBasic, FinishedInBasic, Finishes, StepExtendsNothing, Turns, turn_fault, turn_of, turn_with}
 use Rattle.mm_basic.proofs.Going.{calls_to}
 
 -- no own extension is to come behind what is found
@@ -72,6 +72,25 @@ may_change _ standing none = absurd (cc)
 pub may_go_on : (call : Stage BatchAnswer) (standing : Standing) → ExtendsNothing call → MayGoOn call standing
 may_go_on (stage.Changing ready) standing none = may_change ready.change standing none
 may_go_on _ standing none = tt
+
+-- the second step is behind what is found, if there is one
+
+abbrev going : Stage BatchAnswer → Step BatchAnswer Refusal
+going on = Going on
+
+abbrev number_at : Step BatchAnswer Refusal → ℕ
+number_at (Going on) = number_of 2 on
+number_at (Over end) = 2
+
+change_second : (change : Deed) (answer : BatchAnswer) (on : Stage BatchAnswer) → extends_in change ≡ false
+    → going on ≡ step_to (Some change) answer → number_of 2 on ≡ 2
+change_second (Writing next) answer on none e = ap number_at e
+change_second _ answer on none e = absurd (cc)
+
+found_second : (found : Found BatchAnswer) (on : Stage BatchAnswer) → extends found ≡ false → going on ≡ step_found (Ok found)
+    → number_of 2 on ≡ 2
+found_second (Repeat answer) on none e = ap number_at e
+found_second (Change ready) on none e = change_second ready.change ready.answer on none e
 
 module _ (meaning : Meaning) (offer : List ℕ) (b : Batch) where
   pub quiet : told.IsQuiet (basic_asked meaning offer b)
@@ -156,6 +175,43 @@ module _ (meaning : Meaning) (offer : List ℕ) (b : Batch) where
       weigh_extends f.middle new f.found s.found step (weighs_none cell old f.middle f.found f.finds) f.rooms s.gives
   steps_extend (stage.Changing ready) old new step s none = change_extends ready ready.change s.fault step refl none s.gives
 
+  -- a step that goes on is the first, and the next one is the second
+
+  weigh_ends : (mid new : Standing) (found given : Result (Found BatchAnswer) (Halt Refusal)) (on : Stage BatchAnswer)
+      → ((it : Found BatchAnswer) → found ≡ Ok it → ⊥) → Rooms found mid new given → going on ≡ step_found given → ⊥
+  weigh_ends mid new (Err why) given on never r e = let over : going on ≡ step_found (Err why) = e ∙ ap step_found r.1 in cc
+  weigh_ends mid new (Ok found) given on never r e = never found refl
+
+  change_ends : (ready : Ready BatchAnswer) (change : Deed) (fault : Option StepFault) (on : Stage BatchAnswer)
+      → change ≡ ready.change → extends_in change ≡ false → going on ≡ step_made (basic_asked meaning offer b) ready fault → ⊥
+  change_ends ready (Writing next) (Some fault) on is none e = cc
+  change_ends ready (Writing next) None on is none e =
+      let over : going on ≡ step_to None ready.answer =
+      subst (λ (c : Deed). going on ≡ step_to (change_after c) ready.answer) (sym is) e in
+      cc
+  change_ends ready _ fault on is none e = absurd (cc)
+
+  sight_second : (old after new : Standing) (seen : Result (Sight BatchAnswer) (Halt Refusal)) (on : Stage BatchAnswer)
+      → Looks (basic_asked meaning offer b) old after seen → SightLeads seen after new (Going on) → number_of 2 on ≡ 2
+  sight_second old after new (Err why) on l s = absurd (cc)
+  sight_second old after new (Ok (sight.Found found)) on l s =
+      let none : extends found ≡ false = finds_extends meaning l.1.bytes offer b (Ok found) l.1.said in
+      let r = roomless (extends found) found after new s.found none s.finds in
+      found_second found on none (s.gives ∙ ap step_found r.1)
+  sight_second old after new (Ok (sight.Cell cell)) on l s = absurd l.1.said
+
+  goes_second : (call on : Stage BatchAnswer) (old new : Standing) → Steps (basic_asked meaning offer b) call old new (Going on)
+      → ExtendsNothing call → (call ≡ stage.Begun) × (number_of 2 on ≡ 2)
+  goes_second stage.Begun on old new s none = (refl, sight_second old s.middle new s.seen on s.looks s.leads)
+  goes_second (stage.Seen cell) on old new s none =
+      let f = s.finds in
+      absurd (weigh_ends f.middle new f.found s.found on (weighs_none cell old f.middle f.found f.finds) f.rooms s.gives)
+  goes_second (stage.Changing ready) on old new s none = absurd (change_ends ready ready.change s.fault on refl none s.gives)
+
+  pub numbers : (call on : Stage BatchAnswer) (old new : Standing) → Steps (basic_asked meaning offer b) call old new (Going on)
+      → ExtendsNothing call → number_of 2 on ≡ number_of 2 call + 1
+  numbers call on old new s none = let g = goes_second call on old new s none in rw (g.1, g.0) refl
+
   -- what is left of a call
 
   pub finish_blamed : (call : Stage BatchAnswer) (old new : Standing) (ended : Ended) → Finishes meaning call old new offer b ended
@@ -195,6 +251,21 @@ module _ (meaning : Meaning) (offer : List ℕ) (b : Batch) where
       let s = turn_steps call old new turn t in
       subst (λ (n : ℕ). Blames (turn_fault turn) old.faults n) (sym (ap (λ (x : Standing). x.faults) s.room))
       (blamed (turn_fault turn) old s.middle s.goes.is_made s.goes.ends)
+
+  -- in the words of the code
+
+  pub advanced : (call : Stage BatchAnswer) (old new : Standing) (core : Step BatchAnswer Refusal) (turn : Turn)
+      → Steps (basic_asked meaning offer b) call old new core → turn ≡ turn_of core → AdvancedInBasic meaning call old new offer b turn
+  advanced call old new core turn s gives =
+      let t : Turns meaning call old new offer b turn = record { step = core; steps = s; gives = gives } in
+      record { turns = t; faults = turn_blamed call old new turn t }
+
+  pub finished : (call : Stage BatchAnswer) (old new : Standing) (core : End BatchAnswer Refusal) (ended : Ended)
+      → machine.Finishes (basic_asked meaning offer b) call old new core → ended ≡ end_told core
+      → FinishedInBasic meaning call old new offer b ended
+  finished call old new core ended f gives =
+      let all : Finishes meaning call old new offer b ended = record { end = core; finishes = f; gives = gives } in
+      record { finishes = all; ends = finished_to call old new ended all; faults = finish_blamed call old new ended all }
 
 -- the step that commits what was found
 

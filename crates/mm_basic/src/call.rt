@@ -63,7 +63,7 @@ impl Call {
     ghost use Rattle.mm_module.specs.Batches.{batch_of};
     ghost use Rattle.mm_model.specs.Long.{is_long};
     ghost use Rattle.mm_machine.specs.Stepping.{number_of};
-    ghost use Rattle.mm_basic.specs.Moved.{AdvancedInBasic, FinishedInBasic, Finishes, Turns};
+    ghost use Rattle.mm_basic.specs.Moved.{AdvancedInBasic, FinishedInBasic};
     ghost use Rattle.mm_basic.specs.Operating.{position_in};
 
     /// The number of the next device step, from 1.
@@ -122,7 +122,7 @@ impl Call {
             offer,
             batch,
         };
-        self.make_step(&ask, platform, keys)
+        Turn::of(advance(&ask, self.call, platform, keys))
     }
 
     /// Moves the call to its end: what `advance` does, over and over. After the reading step it has no allocator.
@@ -162,35 +162,7 @@ impl Call {
             offer,
             batch,
         };
-        self.make_steps(&ask, platform, keys)
-    }
-
-    // Makes the next device step.
-    #[inline(always)]
-    fn make_step<M: Module, P: Platform>(
-        self,
-        ask: &BasicAsk<'_, M>,
-        platform: &mut P,
-        keys: &mut KeptKey,
-    ) -> Turn
-        ensures { Turns (M.meaning ask.now.«module».now) self (P.standing platform.old)
-            (P.standing platform.new) ask.now.offer.now (batch_of ask.now.batch) result }
-    {
-        Turn::of(advance(ask, self.call, platform, keys))
-    }
-
-    // Makes the next device step and those after it.
-    #[inline(always)]
-    fn make_steps<M: Module, P: Platform>(
-        self,
-        ask: &BasicAsk<'_, M>,
-        platform: &mut P,
-        keys: &mut KeptKey,
-    ) -> Ended
-        ensures { Finishes (M.meaning ask.now.«module».now) self (P.standing platform.old)
-            (P.standing platform.new) ask.now.offer.now (batch_of ask.now.batch) result }
-    {
-        Ended::of(finish(ask, self.call, platform, keys))
+        Ended::of(finish(&ask, self.call, platform, keys))
     }
 }
 

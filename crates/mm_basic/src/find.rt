@@ -10,13 +10,13 @@ ghost use Rattle.mm_seal.specs.Cell.{FitsVariant};
 ghost use Rattle.mm_seal.specs.Snapshot.{variant_of};
 ghost use Rattle.mm_model.specs.Chains.{link};
 ghost use Rattle.mm_model.specs.Judge.{verdict_by};
-ghost use Rattle.mm_model.specs.Long.{is_long};
 ghost use Rattle.mm_basic.specs.Seen.{IsCellOf, Both};
 ghost use Rattle.mm_basic.specs.Order.{summary_in};
 ghost use Rattle.mm_basic.specs.Answers.{found_in};
 ghost use Rattle.mm_basic.specs.Steps.{FindsIn};
 ghost use Rattle.mm_call.specs.Refusals.{OrMemory, fault_in};
 
+use crate::operation::BasicAsk;
 use mm_base::CELL_LENGTH;
 use mm_call::{KeptKey, answer, examine};
 use mm_digest::{Digest, Variant, successor, successor_batch};
@@ -24,21 +24,16 @@ use mm_machine::{Change, Found, Ready};
 use mm_model::{BatchAnswer, Refusal, Verdict, has_tab};
 use mm_module::{Batch, Module};
 use mm_seal::{Cell, CellFault, Offered, PartsFault, Place, cell_bytes, parts, read_cell};
-use std::alloc::Global;
 
 /// What is found in the cell's bytes and the offered ones, in the order of the refusals.
 #[inline(always)]
 pub fn find<M: Module>(
-    alloc: Global,
-    module: &M,
+    ask: &BasicAsk<'_, M>,
     bytes: &[u8; CELL_LENGTH],
-    offer: &[u8],
-    batch: Batch<'_>,
     keys: &mut KeptKey,
 ) -> Result<Found<BatchAnswer>, Refusal>
-    requires { is_long (batch_of batch) ≡ false }
-    ensures finds { FindsIn (M.meaning «module».now) bytes.now offer.now (batch_of batch.entry)
-        result }
+    ensures finds { FindsIn (M.meaning ask.now.«module».now) bytes.now ask.now.offer.now
+        (batch_of ask.now.batch) result }
     ensures no_fault { fault_in result ≡ None }
 {
     let cell = match read_cell(bytes) {
@@ -46,14 +41,14 @@ pub fn find<M: Module>(
         Err(CellFault::Cell) => return Err(Refusal::Cell),
         Ok(cell) => cell,
     };
-    let id = module.id();
+    let id = ask.module.id();
     if !is_of(&cell, id) {
         return Err(Refusal::Cell);
     }
-    match parts(offer, Variant::Basic, id) {
+    match parts(ask.offer, Variant::Basic, id) {
         Err(PartsFault::Form) => Err(Refusal::Form),
         Err(PartsFault::Kind) => Err(Refusal::Kind),
-        Ok(offered) => weigh(alloc, module, &cell, &offered, batch, keys),
+        Ok(offered) => weigh(ask, &cell, &offered, keys),
     }
 }
 
@@ -69,31 +64,36 @@ fn is_of(cell: &Cell, id: u8) -> bool
 
 // What is found in a cell and an offer, each of Basic and of the module.
 fn weigh<M: Module>(
-    alloc: Global,
-    module: &M,
+    ask: &BasicAsk<'_, M>,
     cell: &Cell,
     offered: &Offered<'_>,
-    batch: Batch<'_>,
     keys: &mut KeptKey,
 ) -> Result<Found<BatchAnswer>, Refusal>
     requires cell { FitsVariant cell.now.variant cell.now.flag cell.now.barrier }
     requires variant { variant_of offered.now.content.place ≡ Basic }
     requires position { offered.now.content.position ≤ last_position }
-    requires short { is_long (batch_of batch) ≡ false }
     ensures { OrMemory
-        (found_in (M.meaning «module».now) (Both cell.now offered.now) (batch_of batch.entry))
-        result }
+        (found_in (M.meaning ask.now.«module».now) (Both cell.now offered.now)
+        (batch_of ask.now.batch)) result }
 {
     let body = offered.body();
     let here = summary_in(&body.place);
-    let next = link(&here, batch);
+    let next = link(&here, ask.batch);
     let verdict = verdict(&cell.summary, &here, &next);
     let key = keys.under(&cell.key);
-    let again = match examine(module, key, offered, batch, verdict) {
+    let again = match examine(ask.module, key, offered, ask.batch, verdict) {
         Err(refusal) => return Err(refusal),
         Ok(again) => again,
     };
-    let answer = match answer(alloc, module, key, &body, Place::Basic(next), batch, again) {
+    let answer = match answer(
+        ask.alloc,
+        ask.module,
+        key,
+        &body,
+        Place::Basic(next),
+        ask.batch,
+        again,
+    ) {
         Err(_) => return Err(Refusal::Memory),
         Ok(answer) => answer,
     };

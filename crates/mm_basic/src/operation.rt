@@ -44,7 +44,7 @@ impl<M: Module> Operation for BasicAsk<'_, M> {
         bytes: &[u8; CELL_LENGTH],
         keys: &mut KeptKey,
     ) -> Result<Sight<BatchAnswer>, Refusal> {
-        match find(self.alloc, self.module, bytes, self.offer, self.batch, keys) {
+        match find(self, bytes, keys) {
             Ok(found) => Ok(Sight::Found(found)),
             Err(refusal) => Err(refusal),
         }

@@ -1,12 +1,12 @@
 //! Whole calls.
 
-ghost use Rattle.std.specs.Prelude.{◌≡◌, true, false, Err, IfOk, length};
+ghost use Rattle.std.specs.Prelude.{◌≡◌, true, false, Err, IfOk};
 ghost use Rattle.std.specs.Result.{result_err};
 ghost use Rattle.mm_module.specs.Batch.{One};
 ghost use Rattle.mm_module.specs.Batches.{batch_of};
 ghost use Rattle.mm_model.specs.Long.{is_long};
 ghost use Rattle.mm_call.specs.Refusals.{fault_in};
-ghost use Rattle.mm_call.specs.Calls.{AsksTo, Commits, IsCallSoFar};
+ghost use Rattle.mm_call.specs.Calls.{Commits, IsCallSoFar};
 ghost use Rattle.mm_call.specs.Leaving.{Blames, whole_in};
 ghost use Rattle.mm_machine.specs.Acts.{extends_in};
 ghost use Rattle.mm_machine.specs.Reading.{extends};
@@ -76,27 +76,7 @@ pub fn prepare<M: Module, P: Platform>(
     ensures faults { Blames (fault_in result)
         (P.standing platform.old).faults (P.standing platform.new).faults }
 {
-    prepare_batch(alloc, module, platform, offer, Batch::One(request))
-}
-
-fn prepare_batch<M: Module, P: Platform>(
-    alloc: Global,
-    module: &M,
-    platform: &mut P,
-    offer: &[u8],
-    batch: Batch<'_>,
-) -> Result<Prepared, Refusal>
-    ensures long { is_long (batch_of batch.entry) ≡ true →
-        (result ≡ Err Refusal.Long) × (P.standing platform.new ≡ P.standing platform.old) }
-    ensures reads { is_long (batch_of batch.entry) ≡ false →
-        Reads (M.meaning «module».now) (P.standing platform.old) (P.standing platform.new)
-        offer.now (batch_of batch.entry) result }
-    ensures goes { is_long (batch_of batch.entry) ≡ false →
-        IsCallSoFar basic_call (M.meaning «module».now) (P.standing platform.old) (P.standing platform.new)
-        offer.now (batch_of batch.entry) result }
-    ensures faults { Blames (fault_in result)
-        (P.standing platform.old).faults (P.standing platform.new).faults }
-{
+    let batch = Batch::One(request);
     if mm_model::is_long(&batch) {
         return Err(Refusal::Long);
     }
@@ -188,19 +168,6 @@ impl Committed {
     }
 }
 
-// One call of a batch that isn't too long, from its first step to its end.
-#[inline(always)]
-fn call<M: Module, P: Platform>(
-    ask: &BasicAsk<'_, M>,
-    platform: &mut P,
-    keys: &mut KeptKey,
-) -> Ended
-    ensures { AsksTo basic_call (M.meaning ask.now.«module».now) (P.standing platform.old)
-        (P.standing platform.new) ask.now.offer.now (batch_of ask.now.batch) result }
-{
-    Ended::of(finish(ask, Call::begin(), platform, keys))
-}
-
 // One call, from the offer to the answer.
 #[inline(always)]
 fn ask_batch_keeping<M: Module, P: Platform>(
@@ -223,7 +190,7 @@ fn ask_batch_keeping<M: Module, P: Platform>(
         offer,
         batch,
     };
-    call(&ask, platform, keys).result()
+    Ended::of(finish(&ask, Call::begin(), platform, keys)).result()
 }
 
 /// One call: asks for a batch of requests, offering a snapshot. A new batch is committed whole or not at all, and
@@ -268,25 +235,8 @@ pub fn ask_keeping<M: Module, P: Platform>(
     ensures { AskedInBasic (M.meaning «module».now) (P.standing platform.old)
         (P.standing platform.new) offer.now (One request.now) (whole_in result) }
 {
-    match ask_one(alloc, module, platform, offer, request, keys) {
+    match ask_batch_keeping(alloc, module, platform, offer, Batch::One(request), keys) {
         Err(refusal) => Err(refusal),
         Ok(answer) => Ok(answer.into_one()),
     }
-}
-
-// One call that asks for one request.
-#[inline(always)]
-fn ask_one<M: Module, P: Platform>(
-    alloc: Global,
-    module: &M,
-    platform: &mut P,
-    offer: &[u8],
-    request: &[u8],
-    keys: &mut KeptKey,
-) -> Result<BatchAnswer, Refusal>
-    ensures asked { AskedInBasic (M.meaning «module».now) (P.standing platform.old)
-        (P.standing platform.new) offer.now (One request.now) result }
-    ensures one { IfOk result (λ answer. length answer.outputs ≡ 1) }
-{
-    ask_batch_keeping(alloc, module, platform, offer, Batch::One(request), keys)
 }

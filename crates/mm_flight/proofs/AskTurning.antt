@@ -1,149 +1,145 @@
--- Turns of a call of either core: the device step that each makes, and what it comes to.
-use Rattle.mm_flight.proofs.Below.{◌≡◌, ℕ, List, [], ◌∷◌, None, Some, Result, Ok, Err, refl, sym, ap, ◌∙◌, subst}
-use Rattle.mm_flight.proofs.Below.{StepFault, Standing, Act, Goes, Meaning, Batch, Cell, BatchAnswer, Refusal, Ended, Answered}
-use Rattle.mm_flight.proofs.Below.{refused_as, fault_of, goes_on, StepsTo, acts_at}
-use Rattle.mm_basic.proofs.Above.{turn_goes}
-use Rattle.mm_basic.specs.declared.found.Found.{Found as BasicFound}
-use Rattle.mm_basic.specs.declared.found.Found.TheVariants as basic_found
-use Rattle.mm_basic.specs.declared.call.Turn as basic_turn
-use Rattle.mm_basic.specs.declared.call.Turn.TheVariants as in_basic
-use Rattle.mm_basic.specs.declared.found.Ready.{Ready}
-use Rattle.mm_basic.specs.Steps as basic_steps
-use Rattle.mm_basic.specs.Turns as basic_turns
-use Rattle.mm_opt.specs.declared.found.Found.{Found}
-use Rattle.mm_opt.specs.declared.found.Found.TheVariants.{Repeat, Inside, Opens}
-use Rattle.mm_opt.specs.declared.found.Opening.{Opening}
-use Rattle.mm_opt.specs.declared.stage.Stage.{Stage}
-use Rattle.mm_opt.specs.declared.stage.Stage.TheVariants as stage
-use Rattle.mm_opt.specs.declared.stage.Change.TheVariants as change
-use Rattle.mm_opt.specs.declared.call.Turn as opt_turn
-use Rattle.mm_opt.specs.declared.call.Turn.TheVariants as in_opt
-use Rattle.mm_opt.specs.Steps.{act_of, ReadsOwnCell, ReadsRegister, Empties, Places, Makes}
-use Rattle.mm_opt.specs.Turns.{seen_turn, found_turn, emptied_turn, placed_turn, last_turn, fault_turned, Turns}
-use Rattle.mm_flight.specs.declared.ask.AskCall.{AskCall}
-use Rattle.mm_flight.specs.declared.ask.AskCall.TheVariants.{Basic, Opt}
+-- Turns of a call of either core, by what its operation is: what each core gives.
+use Rattle.mm_flight.proofs.Below.{◌≡◌, ◌+◌, ◌≤◌, ℕ, List, Option, None, Some, Result, Ok, Err, refl, sym, ap, ◌∙◌, subst, arith}
+use Rattle.mm_flight.proofs.Below.{StepFault, Standing, Act, Meaning, Batch, BatchAnswer, Refusal, Ended, Answered, Broken, fault_in}
+use Rattle.mm_flight.proofs.Below.{fault_of, refused_as, ended_with}
+use Rattle.mm_digest.specs.declared.variant.Variant.{Variant}
+use Rattle.mm_digest.specs.declared.variant.Variant.TheVariants.{Basic, Opt}
+use Rattle.mm_machine.specs.Stepping.{StepMayGoOn, Steps, act_of, number_of}
+use Rattle.mm_machine.specs.declared.call.Stage.{Stage}
+use Rattle.mm_machine.specs.declared.call.Stage.TheVariants.{Begun, Seen, Changing}
+use Rattle.mm_machine.specs.declared.call.Step.{Step}
+use Rattle.mm_machine.specs.declared.call.Step.TheVariants as step
+use Rattle.mm_machine.specs.declared.change.Change.{Change}
+use Rattle.mm_machine.specs.declared.change.Change.TheVariants.{Extending, Emptying, Placing, Writing}
+use Rattle.mm_machine.specs.Acts.{number_in}
+use Rattle.mm_call.specs.Ended.{result_of}
+use Rattle.mm_call.specs.Machine.{end_told}
+use Rattle.mm_call.proofs.Above.{IsQuiet, StepsBy, step_fault, steps_by}
+use Rattle.mm_call.specs.declared.ended.Ended.TheVariants.{Refused}
+use Rattle.mm_basic.proofs.Above as in_basic
+use Rattle.mm_opt.proofs.Above as in_opt
+use Rattle.mm_model.specs.declared.refusal.Refusal.TheVariants as refusal
+use Rattle.mm_machine.specs.declared.call.Ended.{Ended as End}
+use Rattle.mm_flight.specs.Operating.{AskAt, asked_by, writes_at, IsStageOf}
+use Rattle.mm_flight.specs.Asks.{ask_number, ask_fault, AskTurns, IsStepOf, TurnMayAsk, turn_by, turn_with}
 use Rattle.mm_flight.specs.declared.ask.AskTurn.{AskTurn}
-use Rattle.mm_flight.specs.declared.ask.AskTurn.TheVariants.{Going, Done, Refused}
-use Rattle.mm_flight.proofs.Replanning.{GoesTo, goes_to}
-use Rattle.mm_flight.specs.Asks.{ask_number, of_basic, of_opt, ask_fault, AskTurns, AskFinishes}
+use Rattle.mm_flight.specs.declared.ask.AskTurn.TheVariants.{Going, Done, Refused as Refuses}
 
 -- the device step that comes next
-abbrev pub ask_act : AskCall → Act
-ask_act (Basic ready) = basic_steps.act_of ready
-ask_act (Opt stage) = act_of stage
+abbrev pub ask_act : AskAt → Act
+ask_act call = act_of call.stage
 
--- the fault of a core's turn
+number_few : (write : ℕ) (change : Change) → write ≤ 5 → number_in write change ≤ 5
+number_few write (Extending value) few = omega arith
+number_few write (Emptying opening) few = omega arith
+number_few write (Placing opening) few = omega arith
+number_few write (Writing next) few = few
 
-pub basic_fault : (core : basic_turn.Turn) → basic_turns.turn_fault core ≡ ask_fault (of_basic core)
-basic_fault (in_basic.Going on) = refl
-basic_fault _ = refl
+stage_few : (write : ℕ) (stage : Stage BatchAnswer) → write ≤ 5 → number_of write stage ≤ 5
+stage_few write Begun few = omega arith
+stage_few write (Seen cell) few = omega arith
+stage_few write (Changing ready) few = number_few write ready.change few
 
-pub opt_fault : (core : opt_turn.Turn) → fault_turned core ≡ ask_fault (of_opt core)
-opt_fault (in_opt.Going on) = refl
-opt_fault _ = refl
+writes_few : (variant : Variant) → writes_at variant ≤ 5
+writes_few Basic = omega arith
+writes_few Opt = omega arith
 
--- A turn makes the device step that comes next, and room behind it.
-pub record Acts (call : AskCall) (old new : Standing) (turn : AskTurn) : Type 0 where
-  pub middle : Standing
-  pub goes : Goes (ask_act call) old middle (ask_fault turn)
-  pub room : new ≡ record middle { spare = new.spare }
+pub few_steps : (call : AskAt) → ask_number call ≤ 5
+few_steps call = stage_few (writes_at call.variant) call.stage (writes_few call.variant)
 
--- how a call ended, or what is left of it
-abbrev ComesBy : (AskCall → Type 0) → (Ended → Type 0) → AskTurn → Type 0
-ComesBy goes ends (Going next) = goes next
-ComesBy goes ends (Done answer) = ends (Answered answer)
-ComesBy goes ends (Refused why) = fault_of why ≡ None → ends (refused_as why)
+-- what a call of a variant keeps
+
+pub begun_stage : (variant : Variant) → IsStageOf variant Begun
+begun_stage Basic = tt
+begun_stage Opt = tt
+
+step_of_basic : (core : Step BatchAnswer Refusal) → in_basic.StepExtendsNothing core → IsStepOf Basic core
+step_of_basic (step.Going stage) none = none
+step_of_basic (step.Over end) none = tt
+
+step_of_opt : (core : Step BatchAnswer Refusal) → IsStepOf Opt core
+step_of_opt (step.Going stage) = tt
+step_of_opt (step.Over end) = tt
 
 module _ (meaning : Meaning) (offer : List ℕ) (b : Batch) where
-  pub acts : (call : AskCall) (old new : Standing) (turn : AskTurn) → AskTurns meaning call old new offer b turn → Acts call old new turn
-  acts (Basic ready) old new turn t = record {
-    middle = new;
-    goes = subst (Goes (basic_steps.act_of ready) old new) (basic_fault t.core ∙ ap ask_fault (sym t.gives))
-        (turn_goes meaning ready old new offer b t.core t.turns);
-    room = refl;
-  }
-  acts (Opt stage) old new turn t =
-      let a = acts_at stage meaning old new offer b t.core t.turns in
-      record {
-        middle = a.middle;
-        goes = subst (Goes (act_of stage) old a.middle) (opt_fault t.core ∙ ap ask_fault (sym t.gives)) a.goes;
-        room = a.room;
-      }
+  pub quiet_by : (variant : Variant) → IsQuiet (asked_by variant meaning offer b)
+  quiet_by Basic = in_basic.quiet meaning offer b
+  quiet_by Opt = in_opt.quiet meaning offer b
 
-  abbrev pub Finishes : AskCall → Standing → Standing → Ended → Type 0
-  Finishes call old new ended = AskFinishes meaning call old new offer b ended
+  pub steps_stay : (variant : Variant) (stage : Stage BatchAnswer) (old new : Standing) (core : Step BatchAnswer Refusal)
+      → Steps (asked_by variant meaning offer b) stage old new core → IsStageOf variant stage → IsStepOf variant core
+  steps_stay Basic stage old new core s is = step_of_basic core (in_basic.steps_extend meaning offer b stage old new core s is)
+  steps_stay Opt stage old new core s is = step_of_opt core
 
-  abbrev pub Comes : AskCall → Standing → Standing → AskTurn → Type 0
-  Comes call old new turn = ComesBy (GoesTo ask_number ask_act Finishes call old new) (Finishes call old new) turn
+  -- the next step is that of the next number
+  pub counts_by : (variant : Variant) (stage on : Stage BatchAnswer) (old new : Standing)
+      → Steps (asked_by variant meaning offer b) stage old new (step.Going on) → IsStageOf variant stage
+      → number_of (writes_at variant) on ≡ number_of (writes_at variant) stage + 1
+  counts_by Basic stage on old new s is = in_basic.numbers meaning offer b stage on old new s is
+  counts_by Opt stage on old new s is = in_opt.numbers meaning offer b stage on old new s
 
-  -- Basic
+-- a turn hands on the fault of its step
 
-  basic_read : {old new : Standing} (found : Result BasicFound Refusal) → basic_steps.Reads meaning old new offer b found
-      → Comes (Basic None) old new (of_basic (basic_turns.turn_of found))
-  basic_read {new = new} (Err why) r = λ none. record { middle = new; found = Err why; reads = r; ends = (refl, refl) }
-  basic_read {new = new} (Ok (basic_found.Repeat answer)) r =
-      record { middle = new; found = Ok (basic_found.Repeat answer); reads = r; ends = (refl, refl) }
-  basic_read {new = new} (Ok (basic_found.Change ready)) r =
-      goes_to refl (λ made cell. refl)
-      (λ end ended f. record { middle = new; found = Ok (basic_found.Change ready); reads = r; ends = f })
+with_fault : (result : Result BatchAnswer Refusal) → ask_fault (turn_with result) ≡ fault_in result
+with_fault (Ok answer) = refl
+with_fault (Err why) = refl
 
-  basic_wrote : {ready : Ready} {old new : Standing} (written : Result BatchAnswer StepFault) → basic_steps.Writes ready old new written
-      → Comes (Basic (Some ready)) old new (of_basic (basic_turns.last_turn written))
-  basic_wrote {new = new} (Ok answer) w = goes_on new w.goes (refl, ap Answered w.gives)
-  basic_wrote (Err fault) w = λ (none : Some fault ≡ None). absurd (cc)
+pub turn_fault : (variant : Variant) (core : Step BatchAnswer Refusal) → ask_fault (turn_by variant core) ≡ step_fault core
+turn_fault variant (step.Going stage) = refl
+turn_fault variant (step.Over end) = with_fault (result_of (end_told end))
 
-  -- Opt
+pub turn_acts : (meaning : Meaning) (offer : List ℕ) (b : Batch) (call : AskAt) (old new : Standing) (turn : AskTurn)
+    → AskTurns meaning call old new offer b turn → StepsBy (ask_act call) old new (ask_fault turn)
+turn_acts meaning offer b call old new turn t =
+    subst (StepsBy (ask_act call) old new) (sym (ap ask_fault t.gives ∙ turn_fault call.variant t.step))
+    (steps_by (asked_by call.variant meaning offer b) (quiet_by meaning offer b call.variant) call.stage old new t.step t.steps)
 
-  seen : {old new : Standing} (cell : Result Cell Refusal) → ReadsOwnCell meaning.id old new cell
-      → Comes (Opt stage.Begun) old new (of_opt (seen_turn cell))
-  seen {new = new} (Err why) r = λ none. record {
-    middle = new;
-    found = Err why;
-    reads = record { middle = new; cell = Err why; reads = r; on = (refl, refl) };
-    ends = (refl, refl);
-  }
-  seen {new = new} (Ok cell) r =
-      goes_to refl (λ made cell. refl) (λ end ended f. record {
-        middle = f.middle;
-        found = f.found;
-        reads = record { middle = new; cell = Ok cell; reads = r; on = f.reads };
-        ends = f.ends;
-      })
+-- the room that it leaves
 
-  found : {cell : Cell} {old new : Standing} (it : Result Found Refusal) → ReadsRegister meaning cell old new offer b it
-      → Comes (Opt (stage.Seen cell)) old new (of_opt (found_turn it))
-  found {new = new} (Err why) r = λ none. record { middle = new; found = Err why; reads = r; ends = (refl, refl) }
-  found {new = new} (Ok (Repeat answer)) r = record { middle = new; found = Ok (Repeat answer); reads = r; ends = (refl, refl) }
-  found {new = new} (Ok (Inside ready)) r =
-      goes_to refl (λ made cell. refl) (λ end ended f. record { middle = new; found = Ok (Inside ready); reads = r; ends = f })
-  found {new = new} (Ok (Opens opening)) r =
-      goes_to refl (λ made cell. refl) (λ end ended f. record { middle = new; found = Ok (Opens opening); reads = r; ends = f })
+with_room : (result : Result BatchAnswer Refusal) (new : Standing) → TurnMayAsk (turn_with result) new
+with_room (Ok answer) new = tt
+with_room (Err why) new = tt
 
-  emptied : {opening : Opening} {old new : Standing} (it : Result Opening StepFault) → Empties opening old new it
-      → Comes (Opt (stage.Changing (change.Emptying opening))) old new (of_opt (emptied_turn it))
-  emptied (Err fault) m = λ (none : Some fault ≡ None). absurd (cc)
-  emptied {new = new} (Ok it) m = goes_to refl (λ made cell. refl) (λ end ended f. goes_on new m.goes (rw m.gives at f))
+pub turn_room : (variant : Variant) (core : Step BatchAnswer Refusal) (new : Standing) → StepMayGoOn core new
+    → TurnMayAsk (turn_by variant core) new
+turn_room variant (step.Going stage) new room = room
+turn_room variant (step.Over end) new room = with_room (result_of (end_told end)) new
 
-  placed : {opening : Opening} {old new : Standing} (it : Result Opening StepFault) → Places opening old new it
-      → Comes (Opt (stage.Changing (change.Placing opening))) old new (of_opt (placed_turn it))
-  placed (Err fault) m = λ (none : Some fault ≡ None). absurd (cc)
-  placed {new = new} (Ok it) m = goes_to refl (λ made cell. refl) (λ end ended f. goes_on new m.goes (rw m.gives at f))
+-- A turn that goes on, and one that ends the call.
 
-  last : (goes : AskCall → Type 0) {act : Act} {answer : BatchAnswer} {old new : Standing} (written : Result BatchAnswer StepFault)
-      → Makes act answer old new written → ComesBy goes (StepsTo (act ∷ []) answer old new) (of_opt (last_turn written))
-  last goes {new = new} (Ok it) m = goes_on new m.goes (refl, ap Answered m.gives)
-  last goes (Err fault) m = λ (none : Some fault ≡ None). absurd (cc)
+pub record GoesBy (call : AskAt) (on : AskAt) (core : Step BatchAnswer Refusal) : Type 0 where
+  pub variant : on.variant ≡ call.variant
+  pub step : core ≡ step.Going on.stage
 
-  opt_came : (call : Stage) (old new : Standing) (core : opt_turn.Turn) → Turns meaning call old new offer b core
-      → Comes (Opt call) old new (of_opt core)
-  opt_came stage.Begun old new core t = rw t.gives (seen t.outcome t.step)
-  opt_came (stage.Seen cell) old new core t = rw t.gives (found t.outcome t.step)
-  opt_came (stage.Changing (change.Emptying opening)) old new core t = rw t.gives (emptied t.outcome t.step)
-  opt_came (stage.Changing (change.Placing opening)) old new core t = rw t.gives (placed t.outcome t.step)
-  opt_came (stage.Changing (change.Inside ready)) old new core t = rw t.gives (last _ t.outcome t.step)
-  opt_came (stage.Changing (change.Writing opening)) old new core t = rw t.gives (last _ t.outcome t.step)
+going_with : (result : Result BatchAnswer Refusal) (on : AskAt) → Going on ≡ turn_with result → ⊥
+going_with (Ok answer) on e = cc
+going_with (Err why) on e = cc
 
-  pub came : (call : AskCall) (old new : Standing) (turn : AskTurn) → AskTurns meaning call old new offer b turn → Comes call old new turn
-  came (Basic None) old new turn t = rw (t.gives ∙ ap of_basic t.turns.gives) (basic_read t.turns.found t.turns.reads)
-  came (Basic (Some ready)) old new turn t = rw (t.gives ∙ ap of_basic t.turns.gives) (basic_wrote t.turns.written t.turns.writes)
-  came (Opt stage) old new turn t = rw t.gives (opt_came stage old new t.core t.turns)
+pub goes_by : (call on : AskAt) (core : Step BatchAnswer Refusal) → Going on ≡ turn_by call.variant core → GoesBy call on core
+goes_by call on (step.Going stage) e =
+    let same : on ≡ record { variant = call.variant; stage = stage } = cc in
+    rw same (record { variant = refl; step = refl })
+goes_by call on (step.Over end) e = absurd (going_with (result_of (end_told end)) on e)
+
+done_with : (ended : Ended) (answer : BatchAnswer) → Done answer ≡ turn_with (result_of ended) → Answered answer ≡ ended
+done_with (Answered it) answer e = let same : answer ≡ it = cc in ap Answered same
+done_with (Refused why) answer e = absurd (cc)
+done_with (Broken fault commits) answer e = absurd (cc)
+
+pub done_by : (variant : Variant) (core : Step BatchAnswer Refusal) (answer : BatchAnswer) → Done answer ≡ turn_by variant core
+    → (end : End BatchAnswer Refusal) × (core ≡ step.Over end) × (Answered answer ≡ end_told end)
+done_by variant (step.Going stage) answer e = absurd (cc)
+done_by variant (step.Over end) answer e = (end, refl, done_with (end_told end) answer e)
+
+refused_with : (ended : Ended) (why : Refusal) → Refuses why ≡ turn_with (result_of ended) → fault_of why ≡ None → refused_as why ≡ ended
+refused_with (Answered it) why e quiet = absurd (cc)
+refused_with (Refused it) why e quiet =
+    let same : why ≡ it = cc in ap (λ (f : Option StepFault). ended_with f why) quiet ∙ ap Refused same
+refused_with (Broken fault commits) why e quiet =
+    let same : why ≡ refusal.Device fault = cc in
+    let loud : Some fault ≡ None = ap fault_of (sym same) ∙ quiet in absurd (cc)
+
+pub refused_by : (variant : Variant) (core : Step BatchAnswer Refusal) (why : Refusal) → Refuses why ≡ turn_by variant core
+    → fault_of why ≡ None → (end : End BatchAnswer Refusal) × (core ≡ step.Over end) × (refused_as why ≡ end_told end)
+refused_by variant (step.Going stage) why e quiet = absurd (cc)
+refused_by variant (step.Over end) why e quiet = (end, refl, refused_with (end_told end) why e quiet)

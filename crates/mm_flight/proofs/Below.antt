@@ -21,11 +21,5 @@ pub use Rattle.mm_call.specs.Ended.{CallsTo, ended_with, is_broken, refused_as}
 pub use Rattle.mm_call.specs.Refusals.{fault_in, fault_of}
 pub use Rattle.mm_call.specs.declared.ended.Ended.{Ended}
 pub use Rattle.mm_call.specs.declared.ended.Ended.TheVariants.{Answered, Broken}
-pub use Rattle.mm_basic.specs.declared.found.Ready.{Ready}
-pub use Rattle.mm_opt.specs.Asks.{opt_call, ReadsOn}
-pub use Rattle.mm_opt.specs.Steps.{Makes, MakesRoom}
-pub use Rattle.mm_opt.specs.declared.call.Turn.{Turn}
-pub use Rattle.mm_opt.specs.declared.found.Found.{Found}
-pub use Rattle.mm_opt.specs.declared.found.Found.TheVariants.{Inside, Opens}
-pub use Rattle.mm_opt.proofs.Above.{acts_at, closing_acts_at}
+pub use Rattle.mm_opt.proofs.Above.{closing_acts_at}
 pub use Rattle.mm_flight.specs.InFlight.{GoesOnAs, InFlight, plan_by, SaySame, under}

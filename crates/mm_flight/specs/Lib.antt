@@ -1,2 +1,4 @@
+pub mod Operating
 pub mod Asks
 pub mod InFlight
+pub mod Machine

@@ -1,19 +1,32 @@
-//! A call that asks for a batch, of either core: the one place that chooses a core for it.
+//! A call that asks for a batch, of either core.
 
 ghost use Rattle.std.specs.Prelude.{◌≡◌};
 
+use crate::operation::Ask;
 use mm_call::{Ended, KeptKey};
 use mm_digest::Variant;
+use mm_machine::{Call, Step, advance, finish};
 use mm_model::{BatchAnswer, Refusal};
 use mm_module::{Batch, Module};
 use mm_platform::Platform;
 use std::alloc::Global;
+use std::marker::Model;
 
-/// A call of either core between two of its device steps.
+/// A call of either core between two of its device steps. Contracts see its variant, and where it stands.
 #[derive(Drop)]
-pub enum AskCall {
-    Basic(mm_basic::Call),
-    Opt(mm_opt::Call),
+pub struct AskCall {
+    variant: Variant,
+    call: Call<BatchAnswer>,
+}
+
+impl Model for AskCall {
+    ghost use Rattle.mm_flight.specs.Operating.{AskAt, IsStageOf};
+
+    ghost Value = { AskAt };
+
+    ghost view = { λ it. record { variant = it.variant; stage = it.call } };
+
+    ghost invariant = { λ it. IsStageOf it.variant it.call };
 }
 
 /// What one step of a call came to.
@@ -41,16 +54,13 @@ impl AskCall {
         ensures long { IfErr result (λ refusal. (refusal ≡ Refusal.Long)
             × (is_long (batch_of batch.entry) ≡ true)) }
     {
-        match variant {
-            Variant::Basic => match mm_basic::begin(batch) {
-                Ok(call) => Ok(AskCall::Basic(call)),
-                Err(refusal) => Err(refusal),
-            },
-            Variant::Opt => match mm_opt::begin(batch) {
-                Ok(call) => Ok(AskCall::Opt(call)),
-                Err(refusal) => Err(refusal),
-            },
+        if mm_model::is_long(&batch) {
+            return Err(Refusal::Long);
         }
+        Ok(AskCall {
+            variant,
+            call: Call::begin(),
+        })
     }
 
     /// The number of the next device step, from 1. A call makes at most five.
@@ -58,9 +68,9 @@ impl AskCall {
         ensures number { result ≡ ask_number self.now }
         ensures few { result ≤ 5 }
     {
-        match self {
-            AskCall::Basic(call) => call.next_step(),
-            AskCall::Opt(call) => call.next_step(),
+        match self.variant {
+            Variant::Basic => self.call.next_step(2),
+            Variant::Opt => self.call.next_step(5),
         }
     }
 
@@ -81,14 +91,15 @@ impl AskCall {
         ensures { AdvancedAsk (M.meaning «module».now) self (P.standing platform.old)
             (P.standing platform.new) offer.now (batch_of batch.entry) result }
     {
-        match self {
-            AskCall::Basic(call) => {
-                AskTurn::of_basic(call.advance_keeping(alloc, module, platform, offer, batch, keys))
-            }
-            AskCall::Opt(call) => {
-                AskTurn::of_opt(call.advance_keeping(alloc, module, platform, offer, batch, keys))
-            }
-        }
+        let variant = self.variant;
+        let ask = Ask {
+            variant,
+            alloc,
+            module,
+            offer,
+            batch,
+        };
+        AskTurn::of(variant, advance(&ask, self.call, platform, keys))
     }
 
     /// Moves the call to its end: what `advance` does, over and over. After the reading steps it has no allocator.
@@ -107,38 +118,33 @@ impl AskCall {
         ensures { FinishedAsk (M.meaning «module».now) self (P.standing platform.old)
             (P.standing platform.new) offer.now (batch_of batch.entry) result }
     {
-        match self {
-            AskCall::Basic(call) => call.finish_keeping(
-                alloc, module, platform, offer, batch, keys,
-            ),
-            AskCall::Opt(call) => call.finish_keeping(alloc, module, platform, offer, batch, keys),
-        }
+        let ask = Ask {
+            variant: self.variant,
+            alloc,
+            module,
+            offer,
+            batch,
+        };
+        Ended::of(finish(&ask, self.call, platform, keys))
     }
 }
 
 impl AskTurn {
     ghost use Rattle.std.specs.Prelude.{◌≡◌};
-    ghost use Rattle.mm_flight.specs.Asks.{of_basic, of_opt};
+    ghost use Rattle.mm_flight.specs.Asks.{IsStepOf, turn_by};
 
-    // A turn of Basic.
-    fn of_basic(turn: mm_basic::Turn) -> AskTurn
-        ensures { result ≡ of_basic turn }
+    // What a step of a call of this variant comes to.
+    #[inline(always)]
+    fn of(variant: Variant, step: Step<BatchAnswer, Refusal>) -> AskTurn
+        requires { IsStepOf variant step }
+        ensures { result ≡ turn_by variant step }
     {
-        match turn {
-            mm_basic::Turn::Going(call) => AskTurn::Going(AskCall::Basic(call)),
-            mm_basic::Turn::Done(answer) => AskTurn::Done(answer),
-            mm_basic::Turn::Refused(refusal) => AskTurn::Refused(refusal),
-        }
-    }
-
-    // A turn of Opt.
-    fn of_opt(turn: mm_opt::Turn) -> AskTurn
-        ensures { result ≡ of_opt turn }
-    {
-        match turn {
-            mm_opt::Turn::Going(call) => AskTurn::Going(AskCall::Opt(call)),
-            mm_opt::Turn::Done(answer) => AskTurn::Done(answer),
-            mm_opt::Turn::Refused(refusal) => AskTurn::Refused(refusal),
+        match step {
+            Step::Going(call) => AskTurn::Going(AskCall { variant, call }),
+            Step::Over(end) => match Ended::of(end).result() {
+                Ok(answer) => AskTurn::Done(answer),
+                Err(refusal) => AskTurn::Refused(refusal),
+            },
         }
     }
 }

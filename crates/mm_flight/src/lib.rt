@@ -2,5 +2,7 @@
 #![tactic(auto)]
 
 mod ask;
+mod operation;
 
 pub use ask::{AskCall, AskTurn};
+pub use operation::Ask;

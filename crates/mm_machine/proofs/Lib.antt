@@ -1,2 +1,3 @@
+pub mod Above
 mod Ending
 mod Joining

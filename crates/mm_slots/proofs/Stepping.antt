@@ -14,7 +14,7 @@ use Rattle.mm_call.specs.Courses.{Fate, seen_in}
 use Rattle.mm_call.specs.Called.{reading_steps}
 use Rattle.mm_opt.specs.declared.stage.CheckpointStage.{CheckpointStage}
 use Rattle.mm_opt.specs.Checkpoints.{closing_number_of}
-use Rattle.mm_flight.specs.declared.ask.AskCall.{AskCall}
+use Rattle.mm_flight.specs.Operating.{AskAt}
 use Rattle.mm_world.specs.Asks.{HasRead}
 use Rattle.mm_world.specs.Calls.{stopped_step}
 use Rattle.mm_steps.specs.declared.asks.Stepped.TheVariants as asks
@@ -51,7 +51,7 @@ flight_goes slot before after keys old new step fits same may a nothing number =
     goes_comes slot before after keys old new step same planned
     (record { flight = record { from = f.from; flies = flies; may = may }; kept = fits.kept }) (number ∙ a.number ∙ sym a.is_next) nothing
 
-pub ask_goes : (slot : CodeSlot) (asking : Asking) (call : AskCall) (keys : Unit {0}) (old new : Standing) (step : ℕ)
+pub ask_goes : (slot : CodeSlot) (asking : Asking) (call : AskAt) (keys : Unit {0}) (old new : Standing) (step : ℕ)
     → Fits old (flown slot (code.Asks asking))
     → StepsAs (meaning_of slot.header.«module») asking.call old new asking.bytes (One asking.request) (Ok (asks.Going call))
     → step ≡ ask_number call

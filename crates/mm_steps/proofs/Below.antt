@@ -22,7 +22,7 @@ pub use Rattle.mm_opt.specs.declared.stage.CheckpointStage.{CheckpointStage}
 pub use Rattle.mm_opt.proofs.Above.{checks_on}
 pub use Rattle.mm_flight.specs.Asks.{AdvancedAsk, ask_number, AskFinishes, AskTurns, begun, TurnMayAsk}
 pub use Rattle.mm_flight.specs.InFlight.{GoesOnAs, plan_by, SaySame, under}
-pub use Rattle.mm_flight.specs.declared.ask.AskCall.{AskCall}
+pub use Rattle.mm_flight.specs.Operating.{AskAt}
 pub use Rattle.mm_flight.proofs.Above.{AlwaysFails, ask_act, ask_answers, ask_begun, ask_breaks, ask_fails, ask_faultless, ask_moves}
 pub use Rattle.mm_flight.proofs.Above.{ask_refuses, ask_replanned, ask_then, begins, begun_may_ask, closing_done, closing_fails}
 pub use Rattle.mm_flight.proofs.Above.{closing_faultless, closing_moves, closing_refused, closing_replanned, closing_then, counted_few}

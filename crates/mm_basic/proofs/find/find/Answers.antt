@@ -37,7 +37,7 @@ returns-in-Ok-parts-clause-finds g c =
       is_seen = (
         c.in-Ok.ensures,
         subst (λ (id : ℕ). IsCellOf id c.in-Ok.cell) c.id-id.ensures (c.is_of.ensures.0 is),
-        subst (λ (id : ℕ). ReadsParts c.args.offer.now Basic id (Ok c.in-Ok-parts.offered)) c.id-id.ensures
+        subst (λ (id : ℕ). ReadsParts c.args.ask.now.offer.now Basic id (Ok c.in-Ok-parts.offered)) c.id-id.ensures
             c.in-Ok-parts.ensures.reads,
       );
       found_is = c.weigh.ensures;
