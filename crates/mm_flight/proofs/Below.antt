@@ -21,5 +21,4 @@ pub use Rattle.mm_call.specs.Ended.{CallsTo, ended_with, is_broken, refused_as}
 pub use Rattle.mm_call.specs.Refusals.{fault_in, fault_of}
 pub use Rattle.mm_call.specs.declared.ended.Ended.{Ended}
 pub use Rattle.mm_call.specs.declared.ended.Ended.TheVariants.{Answered, Broken}
-pub use Rattle.mm_opt.proofs.Above.{closing_acts_at}
 pub use Rattle.mm_flight.specs.InFlight.{GoesOnAs, InFlight, plan_by, SaySame, under}

@@ -1,22 +1,18 @@
 -- Each turn makes exactly the device step that comes next.
 use Rattle.mm_opt.proofs.Below.{◌≡◌, ℕ, Bool, true, false, List, Result, Ok, Err, refl, sym, ap, ◌∙◌, subst}
-use Rattle.mm_opt.proofs.Below.{result_err, StepFault, Standing, Goes, blamed, Meaning, Batch, BatchAnswer, Refusal, Blames, Found}
-use Rattle.mm_opt.proofs.Below.{Checkpointed, CheckpointRefusal, Segment, Shut, Stage, MakesRoom, closing_fault_in, result_of, fault_in}
+use Rattle.mm_opt.proofs.Below.{StepFault, Standing, Goes, blamed, Meaning, Batch, BatchAnswer, Refusal, Blames, Found}
+use Rattle.mm_opt.proofs.Below.{Stage, MakesRoom, result_of, fault_in}
 use Rattle.mm_machine.specs.Reading.{extends}
 use Rattle.mm_machine.specs.Stepping.{StepMayGoOn, Steps}
 use Rattle.mm_machine.specs.declared.call.Step.{Step}
 use Rattle.mm_machine.specs.declared.call.Step.TheVariants as step
 use Rattle.mm_call.specs.Machine.{end_told}
 use Rattle.mm_call.proofs.Above.{step_fault, steps_by}
-use Rattle.mm_opt.specs.declared.stage.CheckpointStage.{CheckpointStage}
-use Rattle.mm_opt.specs.declared.stage.CheckpointStage.TheVariants as checkpoint_stage
 use Rattle.mm_opt.specs.declared.call.Turn.{Turn}
-use Rattle.mm_opt.specs.declared.closing.CheckpointTurn.{CheckpointTurn}
 use Rattle.mm_opt.specs.Moved.{AdvancedInOpt}
 use Rattle.mm_opt.specs.Operating.{opt_asked}
 use Rattle.mm_opt.specs.Steps.{act_of, RoomFor}
 use Rattle.mm_opt.specs.Turns.{turn_of, turn_with, Turns, TurnMayGoOn, fault_turned, ActsAt}
-use Rattle.mm_opt.specs.CheckpointTurns.{looked_turn, weighed_turn, closed_turn, ClosingTurns, closing_fault_turned, ClosingActsAt}
 use Rattle.mm_opt.proofs.Told.{quiet}
 
 room_or : (needs : Bool) (middle new : Standing) → RoomFor needs middle new → new ≡ record middle { spare = new.spare }
@@ -75,23 +71,3 @@ advanced call meaning old new offer b turn it steps room gives =
       room = subst (λ (t : Turn). TurnMayGoOn t new) (sym gives) (turn_room it new room);
       faults = turn_blamed call old new turn acts;
     }
-
--- the same of a checkpoint
-
-looked_fault : (found : Result Segment CheckpointRefusal) → closing_fault_turned (looked_turn found) ≡ closing_fault_in found
-looked_fault (Ok Shut) = refl
-looked_fault _ = refl
-
-weighed_fault : (found : Result (List ℕ) CheckpointRefusal) → closing_fault_turned (weighed_turn found) ≡ closing_fault_in found
-weighed_fault (Ok next) = refl
-weighed_fault (Err why) = refl
-
-closed_fault : (written : Result Checkpointed StepFault) → closing_fault_turned (closed_turn written) ≡ result_err written
-closed_fault (Ok it) = refl
-closed_fault (Err fault) = refl
-
-pub closing_acts_at : (call : CheckpointStage) (old new : Standing) (turn : CheckpointTurn) → ClosingTurns call old new turn
-    → ClosingActsAt call old new turn
-closing_acts_at checkpoint_stage.Begun old new turn t = rw (t.gives, looked_fault t.outcome) t.step.goes
-closing_acts_at (checkpoint_stage.Seen cell) old new turn t = rw (t.gives, weighed_fault t.outcome) t.step.goes
-closing_acts_at (checkpoint_stage.Closing next) old new turn t = rw (t.gives, closed_fault t.outcome) t.step.goes

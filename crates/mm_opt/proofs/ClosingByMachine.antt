@@ -1,30 +1,30 @@
 -- A checkpoint by the machine is the one that the definitions of a checkpoint give.
-use Rattle.mm_opt.proofs.Below.{◌≡◌, ℕ, List, [], ◌∷◌, Option, None, Some, Result, Ok, Err, refl, sym, ap, ◌∙◌, subst}
+use Rattle.mm_opt.proofs.Below.{◌≡◌, ℕ, false, List, [], ◌∷◌, Option, None, Some, Result, Ok, Err, refl, sym, ap, ◌∙◌, subst, ◌+◌, ◌≤◌, arith}
 use Rattle.mm_opt.proofs.Below.{StepFault, Standing, Cell, Goes, ReadCell, ReadRegister, WriteCell, Checkpointed, CheckpointRefusal, Segment}
-use Rattle.mm_opt.proofs.Below.{Open, Shut, closing_fault_of, closing_fault_in, Looks, Weighs, EndsLooking, EndsClosing, FindsSegment}
+use Rattle.mm_opt.proofs.Below.{Open, Shut, closing_fault_of, closing_fault_in, EndsLooking, EndsClosing, FindsSegment, ClosesSegment}
 use Rattle.std.specs.Result.{result_map_both}
+use Rattle.mm_machine.specs.Acts.{MayChange, act_in, extends_in, number_in}
 use Rattle.mm_machine.specs.Finishing.{ActsTo, EndsTo, Finishes, goes_on, breaks_off}
 use Rattle.mm_machine.specs.Reading.{CellSays, Draws, FindsOn, FindsRoom, Looks as LooksAt, RegisterSays, Rooms, Weighs as WeighsAt}
-use Rattle.mm_machine.specs.Stepping.{SightLeads, Steps, ended_by, step_found, step_made}
+use Rattle.mm_machine.specs.Stepping.{MayGoOn, SightLeads, Steps, act_of, ended_by, number_of, step_found, step_made}
 use Rattle.mm_machine.specs.declared.call.Ended.{Ended}
-use Rattle.mm_machine.specs.declared.call.Ended.TheVariants.{Answered}
+use Rattle.mm_machine.specs.declared.call.Ended.TheVariants.{Answered, Broken, Refused as Refusing, Lacks as Lacking}
 use Rattle.mm_machine.specs.declared.call.Stage.{Stage}
-use Rattle.mm_machine.specs.declared.call.Stage.TheVariants.{Seen, Changing}
+use Rattle.mm_machine.specs.declared.call.Stage.TheVariants.{Begun, Seen, Changing}
 use Rattle.mm_machine.specs.declared.call.Step.{Step}
 use Rattle.mm_machine.specs.declared.call.Step.TheVariants.{Going, Over}
+use Rattle.mm_machine.specs.declared.change.Change.{Change as Move}
+use Rattle.mm_machine.specs.declared.change.Change.TheVariants.{Extending, Emptying, Placing, Writing}
 use Rattle.mm_machine.specs.declared.operation.Found.{Found}
 use Rattle.mm_machine.specs.declared.operation.Sight.{Sight}
 use Rattle.mm_machine.specs.declared.reading.Halt.{Halt}
 use Rattle.mm_machine.specs.declared.reading.Halt.TheVariants.{Fault, Refused, Lacks}
 use Rattle.mm_opt.specs.declared.segment.Checkpointed.TheVariants.{Done, NoSegment}
 use Rattle.mm_opt.specs.declared.segment.CheckpointRefusal.TheVariants as refusal
-use Rattle.mm_opt.specs.declared.stage.CheckpointStage.{CheckpointStage}
-use Rattle.mm_opt.specs.declared.stage.CheckpointStage.TheVariants as stage
 use Rattle.mm_opt.specs.declared.closing.CheckpointTurn.{CheckpointTurn}
-use Rattle.mm_opt.specs.Turns.{TurnsBy}
-use Rattle.mm_opt.specs.Checkpoints.{ClosesBy, FindsClosing, FinishesClosing, WeighsAndCloses}
-use Rattle.mm_opt.specs.CheckpointTurns.{ClosingTurns, over_told, step_told}
-use Rattle.mm_opt.specs.Closing.{GivesAs, IsClosing, StepIsClosing, closing, at_stage, stage_at, ended_told, sight_of, to_write, write_of}
+use Rattle.mm_opt.specs.Checkpoints.{ClosesBy, FindsClosing, WeighsAndCloses}
+use Rattle.mm_opt.specs.CheckpointTurns.{ClosingActsAt, StepIsClosing, closing_fault_turned, step_told}
+use Rattle.mm_opt.specs.Closing.{GivesAs, IsClosing, closing, ended_told, sight_of, to_write, write_of}
 
 -- What is found, and what the machine has of it
 
@@ -152,9 +152,8 @@ module _ (new : Standing) (ended : Ended Checkpointed CheckpointRefusal) where
   looked (Ok Shut) one middle given r e = let s = moved r e in (s.0, ap ended_told s.1)
   looked (Ok (Open cell)) one middle given f e = weighs_and_closes cell one middle given f e
 
-  pub finished : (call : CheckpointStage) (old : Standing) → Finishes closing (at_stage call) old new ended
-      → FinishesClosing call old new (ended_told ended)
-  finished stage.Begun old f =
+  pub closes_whole : (old : Standing) → Finishes closing Begun old new ended → ClosesSegment old new (ended_told ended)
+  closes_whole old f =
       let r = f.finds in
       let l = looks_to old r.middle r.seen r.looks in record {
         middle = r.middle;
@@ -163,70 +162,115 @@ module _ (new : Standing) (ended : Ended Checkpointed CheckpointRefusal) where
         ends = looked l.found r.middle f.middle f.found
             (subst (λ (x : Result (Sight Checkpointed) Why). FindsOn closing x r.middle f.middle f.found) l.is r.on) f.ends;
       }
-  finished (stage.Seen cell) old f = weighs_and_closes cell old f.middle f.found f.finds f.ends
-  finished (stage.Closing next) old f = closed next old f
 
 -- One step of a checkpoint
 
--- what a step gives, and that a checkpoint goes on by it
-abbrev pub Turned : (CheckpointTurn → Type 0) → Step Checkpointed CheckpointRefusal → Type 0
-Turned turns step = turns (step_told step) × StepIsClosing step
+-- the fault that it hands on
+abbrev pub fault_stepped : Step Checkpointed CheckpointRefusal → Option StepFault
+fault_stepped (Going on) = None
+fault_stepped (Over ended) = closing_fault_in (ended_told ended)
 
-turned_by : {A : Type 0} {steps : A → Type 0} {given : A → CheckpointTurn} {step : Step Checkpointed CheckpointRefusal} (outcome : A)
-    (it : Step Checkpointed CheckpointRefusal) → steps outcome → step ≡ it → step_told it ≡ given outcome → StepIsClosing it
-    → Turned (TurnsBy steps given) step
-turned_by outcome it s e g c = (record { outcome = outcome; step = s; gives = ap step_told e ∙ g }, subst StepIsClosing (sym e) c)
+abbrev pub Counts : ℕ → Step Checkpointed CheckpointRefusal → Type 0
+Counts number (Going on) = number_of 3 on ≡ number + 1
+Counts number (Over ended) = Unit {0}
 
-looked_turns : (found : Result Segment CheckpointRefusal) (old one new : Standing) (step : Step Checkpointed CheckpointRefusal)
-    → Looks old one found → SightLeads (halted sight_of found) one new step → Turned (ClosingTurns stage.Begun old new) step
-looked_turns (Err why) old one new step l s =
-    turned_by (Err why) (Over (ended_by (halt_of why))) (subst (λ (x : Standing). Looks old x (Err why)) (sym s.0) l) s.1
-    (ap over_told (halt_told why)) tt
-looked_turns (Ok Shut) old one new step l s =
-    turned_by (Ok Shut) (Over (Answered NoSegment)) (subst (λ (x : Standing). Looks old x (Ok Shut)) (sym s.finds.0) l)
-    (s.gives ∙ ap step_found s.finds.1) refl tt
-looked_turns (Ok (Open cell)) old one new step l s =
-    turned_by (Ok (Open cell)) (Going (Seen cell)) (subst (λ (x : Standing). Looks old x (Ok (Open cell))) (sym s.0) l) s.1 refl refl
+-- It makes the device step that comes next; and if the checkpoint goes on, it extends nothing, and its next step has the next number.
+pub record StepsAs (it : Stage Checkpointed) (old new : Standing) (step : Step Checkpointed CheckpointRefusal) : Type 0 where
+  pub goes : Goes (act_of it) old new (fault_stepped step)
+  pub closes : StepIsClosing step
+  pub counts : Counts (number_of 3 it) step
 
-weighed_turns : (found : Result (List ℕ) CheckpointRefusal) (cell : Cell) (old middle new : Standing)
-    (given : Result (Found Checkpointed) Why) (step : Step Checkpointed CheckpointRefusal) → Weighs cell old middle found
-    → Rooms (halted to_write found) middle new given → step ≡ step_found given → Turned (ClosingTurns (stage.Seen cell) old new) step
-weighed_turns (Err why) cell old middle new given step w r e =
-    turned_by (Err why) (Over (ended_by (halt_of why))) (subst (λ (x : Standing). Weighs cell old x (Err why)) (sym r.0) w)
-    (e ∙ ap step_found r.1) (ap over_told (halt_told why)) tt
-weighed_turns (Ok next) cell old middle new given step w r e =
-    turned_by (Ok next) (Going (Changing (write_of next))) (subst (λ (x : Standing). Weighs cell old x (Ok next)) (sym r.0) w)
-    (e ∙ ap step_found r.1) refl refl
+module _ (it : Stage Checkpointed) (old new : Standing) where
+  steps_as : {step : Step Checkpointed CheckpointRefusal} (fault : Option StepFault) (to : Step Checkpointed CheckpointRefusal) → step ≡ to
+      → fault_stepped to ≡ fault → StepIsClosing to → Counts (number_of 3 it) to → {middle : Standing} → new ≡ middle
+      → Goes (act_of it) old middle fault → StepsAs it old new step
+  steps_as fault to e f closes counts same g =
+      subst (StepsAs it old new) (sym e) (record {
+        goes = rw (f, same) g;
+        closes = closes;
+        counts = counts;
+      })
 
-closed_turns : (fault : Option StepFault) (next : List ℕ) (old new : Standing) (step : Step Checkpointed CheckpointRefusal)
-    → Goes (WriteCell next) old new fault → step ≡ step_made closing (write_of next) fault
-    → Turned (ClosingTurns (stage.Closing next) old new) step
-closed_turns None next old new step g e =
-    turned_by (Ok Done) (step_made closing (write_of next) None) (record { goes = g; gives = refl }) e refl tt
-closed_turns (Some fault) next old new step g e =
-    turned_by (Err fault) (step_made closing (write_of next) (Some fault)) (record { goes = g; gives = tt }) e refl tt
+  halts_as : {step : Step Checkpointed CheckpointRefusal} (why : CheckpointRefusal) → step ≡ Over (ended_by (halt_of why))
+      → {middle : Standing} → new ≡ middle → Goes (act_of it) old middle (closing_fault_of why) → StepsAs it old new step
+  halts_as why e same g =
+      steps_as (closing_fault_of why) (Over (ended_by (halt_of why))) e (ap closing_fault_in (halt_told why)) tt tt same g
 
-pub turned : (call : CheckpointStage) (old new : Standing) (step : Step Checkpointed CheckpointRefusal)
-    → Steps closing (at_stage call) old new step → Turned (ClosingTurns call old new) step
-turned stage.Begun old new step s =
+looked_as : (found : Result Segment CheckpointRefusal) (old one new : Standing) (step : Step Checkpointed CheckpointRefusal)
+    → Goes ReadCell old one (closing_fault_in found) → SightLeads (halted sight_of found) one new step → StepsAs Begun old new step
+looked_as (Err why) old one new step g s = halts_as Begun old new why s.1 s.0 g
+looked_as (Ok Shut) old one new step g s =
+    steps_as Begun old new None (Over (Answered NoSegment)) (s.gives ∙ ap step_found s.finds.1) refl tt tt s.finds.0 g
+looked_as (Ok (Open cell)) old one new step g s = steps_as Begun old new None (Going (Seen cell)) s.1 refl tt refl s.0 g
+
+weighed_as : (found : Result (List ℕ) CheckpointRefusal) (cell : Cell) (old middle new : Standing)
+    (given : Result (Found Checkpointed) Why) (step : Step Checkpointed CheckpointRefusal)
+    → Goes ReadRegister old middle (closing_fault_in found)
+    → Rooms (halted to_write found) middle new given → step ≡ step_found given → StepsAs (Seen cell) old new step
+weighed_as (Err why) cell old middle new given step g r e = halts_as (Seen cell) old new why (e ∙ ap step_found r.1) r.0 g
+weighed_as (Ok next) cell old middle new given step g r e =
+    steps_as (Seen cell) old new None (Going (Changing (write_of next))) (e ∙ ap step_found r.1) refl refl refl r.0 g
+
+written_as : (change : Move) (answer : Checkpointed) (fault : Option StepFault) (old new : Standing)
+    (step : Step Checkpointed CheckpointRefusal) → extends_in change ≡ false → Goes (act_in change) old new fault
+    → step ≡ step_made closing (record { change = change; answer = answer }) fault
+    → StepsAs (Changing (record { change = change; answer = answer })) old new step
+written_as (Writing next) answer None old new step none g e =
+    steps_as (Changing (record { change = Writing next; answer = answer })) old new None (Over (Answered answer)) e refl tt tt refl g
+written_as (Writing next) answer (Some fault) old new step none g e =
+    steps_as (Changing (record { change = Writing next; answer = answer })) old new (Some fault) (Over (Broken fault (Some 0))) e refl tt tt
+    refl g
+written_as (Extending value) answer fault old new step none g e = absurd (cc)
+written_as (Emptying opening) answer fault old new step none g e = absurd (cc)
+written_as (Placing opening) answer fault old new step none g e = absurd (cc)
+
+pub closing_steps_as : (it : Stage Checkpointed) (old new : Standing) (step : Step Checkpointed CheckpointRefusal) → IsClosing it
+    → Steps closing it old new step → StepsAs it old new step
+closing_steps_as Begun old new step is s =
     let l = looks_to old s.middle s.seen s.looks in
-    looked_turns l.found old s.middle new step (record { goes = l.goes_by; finds = l.quiet_finds })
+    looked_as l.found old s.middle new step l.goes_by
     (subst (λ (x : Result (Sight Checkpointed) Why). SightLeads x s.middle new step) l.is s.leads)
-turned (stage.Seen cell) old new step s =
+closing_steps_as (Seen cell) old new step is s =
     let f = s.finds in
     let w = weighs_to cell old f.middle f.found f.finds in
-    weighed_turns w.found cell old f.middle new s.found step (record { goes = w.goes_by; finds = w.quiet_finds })
+    weighed_as w.found cell old f.middle new s.found step w.goes_by
     (subst (λ (x : Result (Found Checkpointed) Why). Rooms x f.middle new s.found) w.is f.rooms) s.gives
-turned (stage.Closing next) old new step s = closed_turns s.fault next old new step s.goes s.gives
+closing_steps_as (Changing ready) old new step is s =
+    written_as ready.change ready.answer s.fault old new step is s.goes s.gives
 
--- the same of a machine that stands as a checkpoint does
-module _ (call : CheckpointStage) (it : Stage Checkpointed) (old new : Standing) where
-  pub finished_at : (ended : Ended Checkpointed CheckpointRefusal) → stage_at it ≡ call → IsClosing it → Finishes closing it old new ended
-      → FinishesClosing call old new (ended_told ended)
-  finished_at ended same is f =
-      finished new ended call old (subst (λ (x : Stage Checkpointed). Finishes closing x old new ended) (is ∙ ap at_stage same) f)
+-- as a turn tells it
 
-  pub turned_at : (step : Step Checkpointed CheckpointRefusal) → stage_at it ≡ call → IsClosing it → Steps closing it old new step
-      → Turned (ClosingTurns call old new) step
-  turned_at step same is s =
-      turned call old new step (subst (λ (x : Stage Checkpointed). Steps closing x old new step) (is ∙ ap at_stage same) s)
+step_fault_told : (step : Step Checkpointed CheckpointRefusal) → closing_fault_turned (step_told step) ≡ fault_stepped step
+step_fault_told (Going on) = refl
+step_fault_told (Over (Answered it)) = refl
+step_fault_told (Over (Refusing why)) = refl
+step_fault_told (Over (Broken fault commits)) = refl
+step_fault_told (Over Lacking) = refl
+
+pub turn_acts : (it : Stage Checkpointed) (old new : Standing) (step : Step Checkpointed CheckpointRefusal) (turn : CheckpointTurn)
+    → IsClosing it → Steps closing it old new step → turn ≡ step_told step → ClosingActsAt it old new turn
+turn_acts it old new step turn is s e = rw (e, step_fault_told step) (closing_steps_as it old new step is s).goes
+
+-- it takes no room, and its steps have the numbers 1, 2 and 3
+
+may_write : (change : Move) (standing : Standing) → extends_in change ≡ false → MayChange change standing
+may_write (Writing next) standing is = tt
+may_write (Extending value) standing is = absurd (cc)
+may_write (Emptying opening) standing is = absurd (cc)
+may_write (Placing opening) standing is = absurd (cc)
+
+pub may_close : (it : Stage Checkpointed) (standing : Standing) → IsClosing it → MayGoOn it standing
+may_close Begun standing is = tt
+may_close (Seen cell) standing is = tt
+may_close (Changing ready) standing is = may_write ready.change standing is
+
+few_changing : (change : Move) → extends_in change ≡ false → number_in 3 change ≤ 5
+few_changing (Writing next) is = omega arith
+few_changing (Extending value) is = absurd (cc)
+few_changing (Emptying opening) is = absurd (cc)
+few_changing (Placing opening) is = absurd (cc)
+
+pub few_closing : (it : Stage Checkpointed) → IsClosing it → number_of 3 it ≤ 5
+few_closing Begun is = omega arith
+few_closing (Seen cell) is = omega arith
+few_closing (Changing ready) is = few_changing ready.change is

@@ -11,21 +11,8 @@ use Rattle.mm_opt.specs.declared.segment.CheckpointRefusal.{CheckpointRefusal}
 use Rattle.mm_opt.specs.declared.segment.CheckpointRefusal.TheVariants as refusal
 use Rattle.mm_opt.specs.declared.segment.Segment.{Segment}
 use Rattle.mm_opt.specs.declared.segment.Segment.TheVariants.{Open, Shut}
-use Rattle.mm_opt.specs.declared.stage.CheckpointStage.{CheckpointStage}
-use Rattle.mm_opt.specs.declared.stage.CheckpointStage.TheVariants as stage
 use Rattle.mm_opt.specs.Steps.{Makes}
 use Rattle.mm_opt.specs.Asks.{OneStep, StepsAre, TwoSteps}
-
--- the device step that a checkpoint makes next, and its number
-abbrev pub closing_act_of : CheckpointStage → Act
-closing_act_of stage.Begun = ReadCell
-closing_act_of (stage.Seen cell) = ReadRegister
-closing_act_of (stage.Closing next) = WriteCell next
-
-abbrev pub closing_number_of : CheckpointStage → ℕ
-closing_number_of stage.Begun = 1
-closing_number_of (stage.Seen cell) = 2
-closing_number_of (stage.Closing next) = 3
 
 -- the fault of a device step that a refusal hands on
 abbrev pub closing_fault_of : CheckpointRefusal → Option StepFault
@@ -138,13 +125,6 @@ pub record ClosesSegment (old new : Standing)
   pub found : Result Segment CheckpointRefusal
   pub looks : Looks old middle found
   pub ends : EndsLooking found middle new result
-
--- What is left of a checkpoint, by where it stands.
-abbrev pub FinishesClosing : CheckpointStage → Standing → Standing
-    → Result Checkpointed CheckpointRefusal → Type 0
-FinishesClosing stage.Begun old new result = ClosesSegment old new result
-FinishesClosing (stage.Seen cell) old new result = WeighsAndCloses cell old new result
-FinishesClosing (stage.Closing next) old new result = ClosesBy next old new result
 
 -- what a refused checkpoint leaves, unless it hands on a device's fault; and one that found no
 -- segment

@@ -1,14 +1,15 @@
 -- A checkpoint, as the machine is asked it, and what it tells of how the machine ended.
-use Rattle.std.specs.Prelude.{◌≡◌, ℕ, List, None, Result, Ok, Err}
+use Rattle.std.specs.Prelude.{◌≡◌, ℕ, false, List, None, Result, Ok, Err}
 use Rattle.std.specs.Result.{result_map_both}
+use Rattle.mm_platform.specs.Standing.{Standing}
+use Rattle.mm_machine.specs.Acts.{extends_in}
 use Rattle.mm_machine.specs.Asked.{Asked}
+use Rattle.mm_machine.specs.Finishing.{Finishes}
+use Rattle.mm_machine.specs.Stepping.{number_of}
 use Rattle.mm_machine.specs.declared.call.Ended.{Ended}
 use Rattle.mm_machine.specs.declared.call.Ended.TheVariants as ended
 use Rattle.mm_machine.specs.declared.call.Stage.{Stage}
-use Rattle.mm_machine.specs.declared.call.Stage.TheVariants.{Begun, Seen, Changing}
-use Rattle.mm_machine.specs.declared.call.Step.{Step}
-use Rattle.mm_machine.specs.declared.call.Step.TheVariants as step
-use Rattle.mm_machine.specs.declared.change.Change.{Change as Move}
+use Rattle.mm_machine.specs.declared.call.Stage.TheVariants.{Changing}
 use Rattle.mm_machine.specs.declared.change.Change.TheVariants.{Writing}
 use Rattle.mm_machine.specs.declared.operation.Found.{Found}
 use Rattle.mm_machine.specs.declared.operation.Found.TheVariants.{Repeat, Change}
@@ -21,8 +22,6 @@ use Rattle.mm_opt.specs.declared.segment.CheckpointRefusal.{CheckpointRefusal}
 use Rattle.mm_opt.specs.declared.segment.CheckpointRefusal.TheVariants as refusal
 use Rattle.mm_opt.specs.declared.segment.Segment.{Segment}
 use Rattle.mm_opt.specs.declared.segment.Segment.TheVariants.{Open, Shut}
-use Rattle.mm_opt.specs.declared.stage.CheckpointStage.{CheckpointStage}
-use Rattle.mm_opt.specs.declared.stage.CheckpointStage.TheVariants as stage
 use Rattle.mm_opt.specs.Checkpoints.{SeesSegment, closing_fault_in, closing_in}
 
 -- what is seen of a segment: an open one wants the register, and otherwise nothing is to be done
@@ -53,28 +52,14 @@ closing = record {
   position = λ answer. 0;
 }
 
--- where the machine stands in a checkpoint, and back
-abbrev pub at_stage : CheckpointStage → Stage Checkpointed
-at_stage stage.Begun = Begun
-at_stage (stage.Seen cell) = Seen cell
-at_stage (stage.Closing next) = Changing (write_of next)
-
-abbrev pub stage_by : Move → CheckpointStage
-stage_by (Writing next) = stage.Closing next
-stage_by _ = stage.Begun
-
-abbrev pub stage_at : Stage Checkpointed → CheckpointStage
-stage_at Begun = stage.Begun
-stage_at (Seen cell) = stage.Seen cell
-stage_at (Changing ready) = stage_by ready.change
-
--- the machine stands as a checkpoint does
+-- a checkpoint extends nothing
 abbrev pub IsClosing : Stage Checkpointed → Type 0
-IsClosing it = it ≡ at_stage (stage_at it)
+IsClosing (Changing ready) = extends_in ready.change ≡ false
+IsClosing _ = Unit {0}
 
-abbrev pub StepIsClosing : Step Checkpointed CheckpointRefusal → Type 0
-StepIsClosing (step.Going it) = IsClosing it
-StepIsClosing (step.Over ended) = Unit {0}
+-- the number of the device step that a checkpoint makes next
+abbrev pub closing_number_of : Stage Checkpointed → ℕ
+closing_number_of = number_of 3
 
 -- what is told of how the machine ended: a device's fault is handed on; and memory never lacks, as
 -- a checkpoint extends nothing
@@ -83,3 +68,10 @@ ended_told (ended.Answered it) = Ok it
 ended_told (ended.Refused why) = Err why
 ended_told (ended.Broken fault commits) = Err (refusal.Device fault)
 ended_told ended.Lacks = Ok NoSegment
+
+-- What is left of a checkpoint: its steps are those of the machine.
+pub record FinishesClosing (call : Stage Checkpointed) (old new : Standing)
+    (result : Result Checkpointed CheckpointRefusal) : Type 0 where
+  pub ended : Ended Checkpointed CheckpointRefusal
+  pub finishes : Finishes closing call old new ended
+  pub gives : result ≡ ended_told ended

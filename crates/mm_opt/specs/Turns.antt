@@ -40,12 +40,6 @@ pub record Turns (meaning : Meaning) (stage : Stage) (old new : Standing) (offer
   pub steps : Steps (opt_asked meaning offer b) stage old new step
   pub gives : turn ≡ turn_of step
 
--- a turn gives what is drawn from the outcome of its step
-pub record TurnsBy {A T : Type 0} (steps : A → Type 0) (given : A → T) (turn : T) : Type 0 where
-  pub outcome : A
-  pub step : steps outcome
-  pub gives : turn ≡ given outcome
-
 -- the room that the rest of a call takes, if it goes on
 abbrev pub TurnMayGoOn : Turn → Standing → Type 0
 TurnMayGoOn (Going stage) standing = MayGoOn stage standing

@@ -1,7 +1,7 @@
 //! A checkpoint, which closes the open segment: in one, or moved one device step at a time.
 
 ghost use Rattle.std.specs.Prelude.{◌≡◌};
-ghost use Rattle.mm_opt.specs.declared.stage.CheckpointStage.TheVariants.{Begun};
+ghost use Rattle.mm_machine.specs.declared.call.Stage.TheVariants.{Begun};
 ghost use Rattle.mm_opt.specs.Closed.{ClosedInOpt};
 ghost use Rattle.mm_opt.specs.Closing.{ended_told};
 
@@ -19,12 +19,13 @@ pub struct CheckpointCall {
 }
 
 impl Model for CheckpointCall {
-    ghost use Rattle.mm_opt.specs.declared.stage.CheckpointStage.{CheckpointStage};
-    ghost use Rattle.mm_opt.specs.Closing.{IsClosing, stage_at};
+    ghost use Rattle.mm_machine.specs.declared.call.Stage.{Stage};
+    ghost use Rattle.mm_opt.specs.declared.segment.Checkpointed.{Checkpointed};
+    ghost use Rattle.mm_opt.specs.Closing.{IsClosing};
 
-    ghost Value = { CheckpointStage };
+    ghost Value = { Stage Checkpointed };
 
-    ghost view = { λ it. stage_at it.call };
+    ghost view = { λ it. it.call };
 
     ghost invariant = { λ it. IsClosing it.call };
 }
@@ -51,7 +52,7 @@ pub fn begin_checkpoint() -> CheckpointCall
 
 impl CheckpointCall {
     ghost use Rattle.std.specs.Prelude.{◌≡◌};
-    ghost use Rattle.mm_opt.specs.Checkpoints.{closing_number_of, FinishesClosing};
+    ghost use Rattle.mm_opt.specs.Closing.{closing_number_of, FinishesClosing};
     ghost use Rattle.mm_opt.specs.CheckpointTurns.{ClosingTurns, ClosingActsAt};
 
     /// The number of the next device step, from 1.
@@ -76,14 +77,14 @@ impl CheckpointCall {
     pub fn finish<P: Platform>(self, platform: &mut P) -> Result<Checkpointed, CheckpointRefusal>
         ensures { FinishesClosing self (P.standing platform.old) (P.standing platform.new) result }
     {
-        told(finish(&Close, self.call, platform, &mut KeptKey::new()))
+        closing_result(finish(&Close, self.call, platform, &mut KeptKey::new()))
     }
 }
 
 impl CheckpointTurn {
     ghost use Rattle.std.specs.Prelude.{◌≡◌};
     ghost use Rattle.mm_opt.specs.CheckpointTurns.{step_told};
-    ghost use Rattle.mm_opt.specs.Closing.{StepIsClosing};
+    ghost use Rattle.mm_opt.specs.CheckpointTurns.{StepIsClosing};
 
     // What a step of the machine comes to.
     fn of(step: Step<Checkpointed, CheckpointRefusal>) -> CheckpointTurn
@@ -92,7 +93,7 @@ impl CheckpointTurn {
     {
         match step {
             Step::Going(call) => CheckpointTurn::Going(CheckpointCall { call }),
-            Step::Over(ended) => match told(ended) {
+            Step::Over(ended) => match closing_result(ended) {
                 Ok(checkpointed) => CheckpointTurn::Done(checkpointed),
                 Err(refusal) => CheckpointTurn::Refused(refusal),
             },
@@ -108,8 +109,10 @@ pub fn checkpoint<P: Platform>(platform: &mut P) -> Result<Checkpointed, Checkpo
     begin_checkpoint().finish(platform)
 }
 
-// What is told of how the machine ended. It lacks no memory, as a checkpoint extends nothing.
-fn told(ended: Ended<Checkpointed, CheckpointRefusal>) -> Result<Checkpointed, CheckpointRefusal>
+/// What is told of how the machine ended. It lacks no memory, as a checkpoint extends nothing.
+pub fn closing_result(
+    ended: Ended<Checkpointed, CheckpointRefusal>,
+) -> Result<Checkpointed, CheckpointRefusal>
     ensures { result ≡ ended_told ended }
 {
     match ended {

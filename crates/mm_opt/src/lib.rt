@@ -9,12 +9,12 @@ mod find;
 mod first;
 mod operation;
 mod segment;
-mod stage;
 mod verdicts;
 mod whole;
 
 pub use call::{Call, Turn, begin};
-pub use closing::{CheckpointCall, CheckpointTurn, begin_checkpoint, checkpoint};
+pub use close::Close;
+pub use closing::{CheckpointCall, CheckpointTurn, begin_checkpoint, checkpoint, closing_result};
 pub use first::provision;
 pub use mm_call::{Ended, Provisioned};
 pub use operation::OptAsk;

@@ -1,6 +1,6 @@
 //! Whole calls.
 
-ghost use Rattle.std.specs.Prelude.{◌≡◌, true, false, Err, IfOk, length};
+ghost use Rattle.std.specs.Prelude.{◌≡◌, true, false, Err};
 ghost use Rattle.std.specs.Result.{result_err};
 ghost use Rattle.mm_module.specs.Batch.{One};
 ghost use Rattle.mm_module.specs.Batches.{batch_of};
@@ -9,14 +9,13 @@ ghost use Rattle.mm_call.specs.Ended.{result_of};
 ghost use Rattle.mm_call.specs.Machine.{end_told};
 ghost use Rattle.mm_call.specs.Refusals.{fault_in, handed_on};
 ghost use Rattle.mm_call.specs.Leaving.{Blames, whole_in};
-ghost use Rattle.mm_call.specs.Calls.{Calls, Commits, IsCallSoFar};
+ghost use Rattle.mm_call.specs.Calls.{Commits, IsCallSoFar};
 ghost use Rattle.mm_opt.specs.Asked.{AskedInOpt};
 ghost use Rattle.mm_opt.specs.Asks.{IsMade, Reads, MayCommit, LeavesRoom, opt_call};
 
-use crate::call::begin;
 use crate::operation::OptAsk;
-use mm_call::{KeptKey, refusal_of};
-use mm_machine::{Ended, Found, finish_change, read};
+use mm_call::{Ended, KeptKey, refusal_of};
+use mm_machine::{Call, Found, finish, finish_change, read};
 use mm_model::{Answer, BatchAnswer, Refusal};
 use mm_module::{Batch, Module};
 use mm_platform::{Platform, StepFault};
@@ -91,7 +90,21 @@ pub fn prepare<M: Module, P: Platform>(
 impl<M: Module> OptAsk<'_, M> {
     ghost use Rattle.mm_module.specs.Batches.{batch_of};
     ghost use Rattle.mm_call.specs.Calls.{IsCallSoFar};
+    ghost use Rattle.mm_opt.specs.Asked.{AskedInOpt};
     ghost use Rattle.mm_opt.specs.Asks.{Reads, LeavesRoom, opt_call};
+
+    // The call, from the offer to the answer.
+    #[inline(always)]
+    fn call<P: Platform>(
+        &self,
+        platform: &mut P,
+        keys: &mut KeptKey,
+    ) -> Result<BatchAnswer, Refusal>
+        ensures { AskedInOpt (M.meaning self.now.«module».now) (P.standing platform.old)
+            (P.standing platform.new) self.now.offer.now (batch_of self.now.batch) result }
+    {
+        Ended::of(finish(self, Call::begin(), platform, keys)).result()
+    }
 
     // Makes the reading steps.
     fn read<P: Platform>(
@@ -143,14 +156,14 @@ fn commit_found<P: Platform>(
 }
 
 // What the changing steps of a call gave.
-fn handed_out(ended: Ended<BatchAnswer, Refusal>) -> Result<Committed, StepFault>
+fn handed_out(ended: mm_machine::Ended<BatchAnswer, Refusal>) -> Result<Committed, StepFault>
     requires { IsMade ended }
     ensures { result_of (end_told ended) ≡ handed_on result }
 {
     match ended {
-        Ended::Answered(answer) => Ok(Committed { answer }),
-        Ended::Broken { fault, .. } => Err(fault),
-        Ended::Refused(_) | Ended::Lacks => unreachable!(),
+        mm_machine::Ended::Answered(answer) => Ok(Committed { answer }),
+        mm_machine::Ended::Broken { fault, .. } => Err(fault),
+        mm_machine::Ended::Refused(_) | mm_machine::Ended::Lacks => unreachable!(),
     }
 }
 
@@ -160,28 +173,6 @@ impl Committed {
         ensures { result ≡ self }
     {
         self.answer
-    }
-}
-
-// One call, from the offer to the answer.
-#[inline(always)]
-fn call<M: Module, P: Platform>(
-    alloc: Global,
-    module: &M,
-    platform: &mut P,
-    offer: &[u8],
-    batch: Batch<'_>,
-    keys: &mut KeptKey,
-) -> Result<BatchAnswer, Refusal>
-    ensures { AskedInOpt (M.meaning «module».now) (P.standing platform.old)
-        (P.standing platform.new) offer.now (batch_of batch.entry) result }
-{
-    match begin(batch) {
-        Err(refusal) => Err(refusal),
-        Ok(call) => {
-            let ended = call.finish_keeping(alloc, module, platform, offer, batch, keys);
-            ended.result()
-        }
     }
 }
 
@@ -198,7 +189,16 @@ pub fn ask_batch<M: Module, P: Platform>(
     ensures { AskedInOpt (M.meaning «module».now) (P.standing platform.old)
         (P.standing platform.new) offer.now (batch_of batch.entry) result }
 {
-    call(alloc, module, platform, offer, batch, &mut KeptKey::new())
+    if mm_model::is_long(&batch) {
+        return Err(Refusal::Long);
+    }
+    let ask = OptAsk {
+        alloc,
+        module,
+        offer,
+        batch,
+    };
+    ask.call(platform, &mut KeptKey::new())
 }
 
 /// One call that asks for one request: `prepare`, `commit` and `answer` in one.
@@ -227,25 +227,18 @@ pub fn ask_keeping<M: Module, P: Platform>(
     ensures { AskedInOpt (M.meaning «module».now) (P.standing platform.old)
         (P.standing platform.new) offer.now (One request.now) (whole_in result) }
 {
-    match call_one(alloc, module, platform, offer, request, keys) {
+    let batch = Batch::One(request);
+    if mm_model::is_long(&batch) {
+        return Err(Refusal::Long);
+    }
+    let ask = OptAsk {
+        alloc,
+        module,
+        offer,
+        batch,
+    };
+    match ask.call(platform, keys) {
         Err(refusal) => Err(refusal),
         Ok(answer) => Ok(answer.into_one()),
     }
-}
-
-// One call that asks for one request.
-#[inline(always)]
-fn call_one<M: Module, P: Platform>(
-    alloc: Global,
-    module: &M,
-    platform: &mut P,
-    offer: &[u8],
-    request: &[u8],
-    keys: &mut KeptKey,
-) -> Result<BatchAnswer, Refusal>
-    ensures asked { AskedInOpt (M.meaning «module».now) (P.standing platform.old)
-        (P.standing platform.new) offer.now (One request.now) result }
-    ensures one { IfOk result (λ answer. length answer.outputs ≡ 1) }
-{
-    call(alloc, module, platform, offer, Batch::One(request), keys)
 }

@@ -69,7 +69,8 @@ pub use Rattle.mm_call.specs.declared.ended.Ended.{Ended}
 pub use Rattle.mm_call.proofs.Above.{Alike, alike_call, AllMay, answered_clean_as, ask_may, asked_for, asked_idle, bare, basic_asked}
 pub use Rattle.mm_call.proofs.Above.{basic_comes, before, ends_result, Given, names_after, names_made, opt_comes as comes, refused_result}
 pub use Rattle.mm_call.proofs.Above.{fresh_found, found_with_tells, stands_at, steps_give, unlacked, unless_lost, weighed_tells}
-pub use Rattle.mm_basic.specs.Asks.{acts_for, answer_in, basic_call, StepsAnswered as BasicAnswered, StepsBy as BasicSteps}
+pub use Rattle.mm_machine.specs.Finishing.{acts_for, answer_in}
+pub use Rattle.mm_basic.specs.Asks.{basic_call, StepsAnswered as BasicAnswered, StepsBy as BasicSteps}
 pub use Rattle.mm_basic.specs.Asks.{StepsRefused as BasicRefused}
 pub use Rattle.mm_opt.specs.Asks.{opt_call, ReadsOn, StepsAnswered, StepsBy, StepsFrom, WritesAtMostOnce}
 pub use Rattle.mm_flight.proofs.Above.{begun_may_ask}

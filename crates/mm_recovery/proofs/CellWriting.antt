@@ -7,17 +7,21 @@ use Rattle.mm_recovery.proofs.Below.{Memory, Device, is_long, whole, whole_in, E
 use Rattle.mm_recovery.proofs.Below.{fault_of, OrMemory, refused_result, BasicSteps, BasicAnswered, BasicRefused, ReadsOn, opt_call}
 use Rattle.mm_recovery.proofs.Below.{StepsAnswered, StepsFrom, CallWrites, IsNewAt, LeavesFlag, new_by, [], ◌∷◌}
 use Rattle.mm_platform.specs.Steps.{Act}
+use Rattle.mm_machine.specs.Acts.{acts_left}
+use Rattle.mm_machine.specs.Reading.{extends}
 use Rattle.mm_call.specs.Calls.{StepsTo}
 use Rattle.std.proofs.Math.Nat.{suc-add, zero-add}
 use Rattle.mm_seal.specs.declared.cell.Cell.{Cell}
 use Rattle.mm_seal.specs.declared.cell.CellFault.{CellFault}
 use Rattle.mm_seal.specs.CellLaws.{reads_cell-same}
-use Rattle.mm_opt.specs.declared.found.Found.{Found}
-use Rattle.mm_opt.specs.declared.found.Found.TheVariants.{Repeat, Inside, Opens}
+use Rattle.mm_machine.specs.declared.change.Change as change
+use Rattle.mm_machine.specs.declared.change.Change.TheVariants.{Extending, Emptying, Placing, Writing}
+use Rattle.mm_machine.specs.declared.operation.Found.TheVariants.{Repeat, Change}
+use Rattle.mm_opt.specs.Found.{Found}
 use Rattle.mm_opt.specs.Seen.{cell_in}
 use Rattle.mm_opt.specs.Order.{has_lost_power}
 use Rattle.mm_opt.specs.Answers.{opened_cell, found_from, found_in_offer, found_unless, found_in}
-use Rattle.mm_opt.specs.Steps.{ReadsOwnCell, FindsCell, MakesRoom}
+use Rattle.mm_opt.specs.Steps.{ReadsOwnCell, FindsCell, MakesRoom, RoomFor}
 use Rattle.mm_opt.specs.Asks.{Reads, acts_for, answer_in}
 use Rattle.mm_opt.specs.Asked.{AskedInOpt}
 
@@ -130,10 +134,14 @@ basic_writes old new (Err why) s =
     let r = basic_refused (fault_of why) old new s in record { requests = r.0; new = r.1; writes = r.2; leaves = tt }
 
 -- What Opt finds, by the cell that it read: a repeat, or what is new.
+abbrev IsChangeBy : Cell → Bool → change.Change → Type 0
+IsChangeBy cell again (Extending value) = (again ≡ false) × (cell.flag ≡ true)
+IsChangeBy cell again (Emptying opening) = (again ≡ false) × (cell.flag ≡ false) × (opening.next ≡ opened_cell cell)
+IsChangeBy cell again _ = ⊥
+
 abbrev IsByCell : Cell → Result Found Refusal → Type 0
 IsByCell cell (Ok (Repeat answer)) = answer.again ≡ true
-IsByCell cell (Ok (Inside ready)) = (ready.answer.again ≡ false) × (cell.flag ≡ true)
-IsByCell cell (Ok (Opens opening)) = (opening.answer.again ≡ false) × (cell.flag ≡ false) × (opening.next ≡ opened_cell cell)
+IsByCell cell (Ok (Change ready)) = IsChangeBy cell ready.answer.again ready.change
 IsByCell cell found = Unit {0}
 
 from_by_cell : (e : Result Bool Refusal) (cell : Cell) (value : List ℕ) (answer : Bool → BatchAnswer)
@@ -153,8 +161,12 @@ seen_spelled : (id : ℕ) (bytes : List ℕ) (read : Result Cell CellFault) (see
     → SpellsCell bytes seen
 seen_spelled id bytes read seen r e = grind (arith, r, e)
 
+room_kept : (needs : Bool) (old new : Standing) → RoomFor needs old new → new.cell ≡ old.cell
+room_kept true old new r = ap (λ (x : Standing). x.cell) r.same
+room_kept false old new r = ap (λ (x : Standing). x.cell) r
+
 room_cell : (found : Found) (old new : Standing) → MakesRoom (Ok found) old new → new.cell ≡ old.cell
-room_cell found old new r = grind (arith, r)
+room_cell found old new r = room_kept (extends found) old new r
 
 -- the cell after these steps; a call that gave an answer made all of its own
 abbrev cells_after : List Act → Option (List ℕ) → Option (List ℕ)
@@ -172,19 +184,27 @@ all_made (act ∷ acts) it answer old new ended (breaks_off fault g e) done =
     let clash : Err (Device fault) ≡ Ok answer = sym (ap result_of e) ∙ done in absurd (cc)
 
 -- the flag that an answered call leaves in the cell that it saw
-flag_left : (seen : Cell) (found : Found) (new : Standing) → IsCell seen → IsByCell seen (Ok found)
-    → new.cell ≡ cells_after (acts_for found) (Some (cell_spelling seen))
-    → TellsFlag new (is_open_after seen.flag (new_by (answer_in found).again))
-flag_left seen (Repeat it) new is by e =
-    rw (by, sym (flag_kept seen.flag)) (record { cell = seen; is_cell = is; tells = e; shows = refl })
-flag_left seen (Inside ready) new is by e = rw (by.0, by.1) (record { cell = seen; is_cell = is; tells = e; shows = by.1 })
-flag_left seen (Opens opening) new is by e =
+change_left : (seen : Cell) (it : change.Change) (answer : BatchAnswer) (new : Standing) → IsCell seen
+    → IsChangeBy seen answer.again it → new.cell ≡ cells_after (acts_left it) (Some (cell_spelling seen))
+    → TellsFlag new (is_open_after seen.flag (new_by answer.again))
+change_left seen (Extending value) answer new is by e =
+    rw (by.0, by.1) (record { cell = seen; is_cell = is; tells = e; shows = by.1 })
+change_left seen (Emptying opening) answer new is by e =
     rw (by.0, by.1) (record {
       cell = record seen { variant = Opt; flag = true };
       is_cell = record { summary = is.summary; key = is.key; barrier = is.barrier; variant = tt };
       tells = e ∙ ap Some by.2;
       shows = refl;
     })
+change_left seen (Placing opening) answer new is by e = absurd by
+change_left seen (Writing next) answer new is by e = absurd by
+
+flag_left : (seen : Cell) (found : Found) (new : Standing) → IsCell seen → IsByCell seen (Ok found)
+    → new.cell ≡ cells_after (acts_for found) (Some (cell_spelling seen))
+    → TellsFlag new (is_open_after seen.flag (new_by (answer_in found).again))
+flag_left seen (Repeat it) new is by e =
+    rw (by, sym (flag_kept seen.flag)) (record { cell = seen; is_cell = is; tells = e; shows = refl })
+flag_left seen (Change ready) new is by e = change_left seen ready.change ready.answer new is by e
 
 -- an answered call: the cell that it saw, where the platform tells that, and what it left
 module _ (meaning : Meaning) (offer : List ℕ) (b : Batch) (old new : Standing) (ended : Ended) (answer : BatchAnswer)

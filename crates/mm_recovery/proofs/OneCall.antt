@@ -5,32 +5,32 @@ use Rattle.mm_recovery.proofs.Below.{Ended, result_of, Blames, whole, whole_in, 
 use Rattle.mm_recovery.proofs.Below.{ends_result, Given, steps_give, acts_for, answer_in, basic_call, StepsBy, AskedIn, IsCall}
 use Rattle.std.specs.Prelude.{IfOk}
 use Rattle.mm_seal.specs.declared.snapshot.PartsFault.TheVariants.{Form, Kind}
-use Rattle.mm_basic.specs.declared.found.Found.{Found}
 use Rattle.mm_basic.specs.Seen.{Seen, NoCell, OtherCell, NoOffer, Both}
 use Rattle.mm_basic.specs.Order.{verdict_of}
 use Rattle.mm_basic.specs.Answers.{found_from, found_in}
 use Rattle.mm_basic.specs.Steps.{Reads}
-use Rattle.mm_opt.specs.declared.stage.Stage.TheVariants.{Begun}
-use Rattle.mm_flight.specs.declared.ask.AskCall.{AskCall}
-use Rattle.mm_flight.specs.Asks.{begun, FinishedAsk}
+use Rattle.mm_opt.specs.Found.{Found}
+use Rattle.mm_flight.specs.Operating.{AskAt, begun}
+use Rattle.mm_flight.specs.Asks.{FinishedAsk}
 use Rattle.mm_recovery.proofs.CellWriting.{basic_writes, opt_writes, or_all}
 use Rattle.mm_seal.specs.declared.cell.CellFault.TheVariants as cell_fault
 use Rattle.mm_basic.proofs.Above as in_basic
 use Rattle.mm_opt.proofs.Above as in_opt
 
 pub asked_in : (variant : Variant) (meaning : Meaning) → IsLawful meaning
-    → (old new : Standing) (offer : List ℕ) (b : Batch) (call : AskCall) (ended : Ended) (result : Result BatchAnswer Refusal)
+    → (old new : Standing) (offer : List ℕ) (b : Batch) (call : AskAt) (ended : Ended) (result : Result BatchAnswer Refusal)
     → is_long b ≡ false → call ≡ begun variant
     → FinishedAsk meaning call old new offer b ended → result ≡ result_of ended → AskedIn variant meaning old new offer b result
 asked_in Basic meaning lawful old new offer b call ended result short first finished is =
     let f : FinishedAsk meaning (begun Basic) old new offer b ended = rw (sym first) finished in
-    rw is (in_basic.asked meaning lawful old new offer b (result_of ended)
-    (in_basic.calls_finished meaning None old new offer b ended (result_of ended) refl short f.finishes refl)
-    (λ _. (f.ends Basic refl).calls))
+    let g = f.finishes in
+    rw is (in_basic.asked_by meaning lawful old new offer b ended (result_of ended) short
+    (in_basic.finished_asks meaning offer b old new ended (record { end = g.end; finishes = g.finishes; gives = g.gives })) refl)
 asked_in Opt meaning lawful old new offer b call ended result short first finished is =
     let f : FinishedAsk meaning (begun Opt) old new offer b ended = rw (sym first) finished in
-    rw is (in_opt.asked meaning lawful old new offer b (result_of ended)
-    (in_opt.calls_finished Begun meaning old new offer b ended (result_of ended) refl short f.finishes refl) f.faults)
+    let g = f.finishes in
+    rw is (in_opt.asked_by meaning lawful old new offer b ended (result_of ended) short
+    (in_opt.finished_asks meaning old new offer b ended (record { end = g.end; finishes = g.finishes; gives = g.gives })) refl f.faults)
 
 pub one_output : (variant : Variant) (meaning : Meaning) (old new : Standing) (offer request : List ℕ)
     (result : Result BatchAnswer Refusal) → AskedIn variant meaning old new offer (One request) result

@@ -10,7 +10,7 @@ use Rattle.mm_slots.proofs.Below.{flying, beginning, begun, acted, acted_by, joi
 use Rattle.mm_slots.proofs.Below.{Fits, Comes, flown, HasRegister}
 use Rattle.mm_digest.specs.declared.digest.Digest.{Digest}
 use Rattle.mm_schedule.specs.declared.reply.Reply.TheVariants as reply
-use Rattle.mm_opt.specs.declared.stage.CheckpointStage.TheVariants as stage
+use Rattle.mm_machine.specs.declared.call.Stage.TheVariants as stage
 use Rattle.mm_slots.specs.declared.event.Action.TheVariants as action
 use Rattle.mm_slots.specs.declared.flight.Flight.TheVariants as code
 use Rattle.mm_flight.proofs.Above.{may_ask_planned}
@@ -209,7 +209,7 @@ moves old new slot value m P h =
 may_planned : (header : Header) (flight : CodeFlight) (old new : Standing) (plan : Option Plan) → new ≡ record old { plan = plan }
     → (left_of header flight).may old → (left_of header flight).may new
 may_planned header (code.Asks asking) old new plan e may = rw e (may_ask_planned asking.call old plan may)
-may_planned header (code.Closes closing) old new plan e may = tt
+may_planned header (code.Closes closing) old new plan e may = may
 
 extends_flying : (old new : Standing) (slot : CodeSlot) (flight : CodeFlight) (value : Digest) → Fits old slot
     → slot.flight ≡ Some flight → new ≡ record old { plan = option_map (meddling value) old.plan }

@@ -12,9 +12,10 @@ use Rattle.mm_seal.specs.declared.cell.Cell.{Cell}
 use Rattle.mm_model.specs.Steps.{Step}
 use Rattle.mm_call.specs.Courses.{Fate, seen_in}
 use Rattle.mm_call.specs.Called.{reading_steps}
-use Rattle.mm_opt.specs.declared.stage.CheckpointStage.{CheckpointStage}
-use Rattle.mm_opt.specs.Checkpoints.{closing_number_of}
-use Rattle.mm_flight.specs.declared.ask.AskCall.{AskCall}
+use Rattle.mm_machine.specs.Stepping.{number_of}
+use Rattle.mm_machine.specs.declared.call.Stage.{Stage}
+use Rattle.mm_opt.specs.declared.segment.Checkpointed.{Checkpointed}
+use Rattle.mm_flight.specs.Operating.{AskAt}
 use Rattle.mm_world.specs.Asks.{HasRead}
 use Rattle.mm_world.specs.Calls.{stopped_step}
 use Rattle.mm_steps.specs.declared.asks.Stepped.TheVariants as asks
@@ -51,7 +52,7 @@ flight_goes slot before after keys old new step fits same may a nothing number =
     goes_comes slot before after keys old new step same planned
     (record { flight = record { from = f.from; flies = flies; may = may }; kept = fits.kept }) (number ∙ a.number ∙ sym a.is_next) nothing
 
-pub ask_goes : (slot : CodeSlot) (asking : Asking) (call : AskCall) (keys : Unit {0}) (old new : Standing) (step : ℕ)
+pub ask_goes : (slot : CodeSlot) (asking : Asking) (call : AskAt) (keys : Unit {0}) (old new : Standing) (step : ℕ)
     → Fits old (flown slot (code.Asks asking))
     → StepsAs (meaning_of slot.header.«module») asking.call old new asking.bytes (One asking.request) (Ok (asks.Going call))
     → step ≡ ask_number call
@@ -64,9 +65,9 @@ ask_goes slot asking call keys old new step fits goes number =
     (digests_in old (flown slot (code.Asks asking))) f.from slot.issued.items p.meddles (p.at + 1) asking.offer f.flies f.may.offered in
     flight_goes slot (code.Asks asking) (code.Asks (record asking { call = call })) keys old new step fits refl f.may t.0 t.1 number
 
-pub close_goes : (slot : CodeSlot) (closing : Closing) (call : CheckpointStage) (old new : Standing) (step : ℕ)
+pub close_goes : (slot : CodeSlot) (closing : Closing) (call : Stage Checkpointed) (old new : Standing) (step : ℕ)
     → Fits old (flown slot (code.Closes closing)) → StepsClosingAs closing.call old new (closings.Going call)
-    → step ≡ closing_number_of call
+    → step ≡ number_of 3 call
     → Comes new (flown slot (code.Closes closing)) (record slot { flight = Some (code.Closes (record { call = call })) })
     (stepped (instance_in slot) (slot_in old (flown slot (code.Closes closing))) (flight_of old (code.Closes closing))) (Going step)
 close_goes slot closing call old new step fits goes number =
@@ -143,7 +144,7 @@ ask_broken how slot slot' asking old new n it said none few fits is breaks ends 
     said none fits.kept few t ends
 
 pub close_broken : (how : Breaking) (slot slot' : CodeSlot) (closing : Closing) (old new : Standing) (n : ℕ) (reply : Reply) (said : Said)
-    → slot.flight ≡ None → slot.committed < 2 ^ 63 → Fits old (flown slot (code.Closes closing)) → n ≡ closing_number_of closing.call
+    → slot.flight ≡ None → slot.committed < 2 ^ 63 → Fits old (flown slot (code.Closes closing)) → n ≡ number_of 3 closing.call
     → BreaksClosingAs closing.call old new (stop_at how n) reply → EndsCall new (quiet_as reply) slot slot' said
     → Comes new (flown slot (code.Closes closing)) slot' (plays (instance_in slot) (slot_in old (flown slot (code.Closes closing)))
     (event_by (call_in (code.Closes closing)) (next_plan old).meddles (stop_at how ((next_plan old).at + 1)))) said

@@ -2,7 +2,8 @@
 
 use mm_base::Bytes;
 use mm_flight::AskCall;
-use mm_opt::CheckpointCall;
+use mm_machine::Call;
+use mm_opt::Checkpointed;
 use mm_schedule::Offer;
 
 /// A call that asks a request, in flight: what it offers, and the bytes of that.
@@ -17,7 +18,7 @@ pub struct Asking {
 /// A checkpoint in flight.
 #[derive(Drop)]
 pub struct Closing {
-    pub call: CheckpointCall,
+    pub call: Call<Checkpointed>,
 }
 
 /// A call between two of its device steps.

@@ -13,8 +13,9 @@ use mm_base::{Bytes, Memory};
 use mm_call::KeptKey;
 use mm_digest::{Digest, zero};
 use mm_flight::AskCall;
+use mm_machine::{Call, Operation};
 use mm_module::Batch;
-use mm_opt::begin_checkpoint;
+use mm_opt::Close;
 use mm_platform::{MemPlatform, Stop};
 use mm_run::{OfferedBytes, offered};
 use mm_schedule::{Cause, Header, Offer, Reply};
@@ -190,7 +191,7 @@ impl Slot {
             return Said::Busy;
         }
         self.flight = Some(Flight::Closes(Closing {
-            call: begin_checkpoint(),
+            call: Call::begin(),
         }));
         Said::Begun
     }
@@ -270,10 +271,10 @@ impl Slot {
             (acted (instance_in self.old)
             (slot_in platform.old (flown self.old (Flight.Closes closing))) Action.Step) result }
     {
-        match step_closing(platform, closing.call) {
+        match step_closing(platform, closing.call, &mut self.keys) {
             SteppedClosing::Over(reply) => self.end(platform, quiet(reply)),
             SteppedClosing::Going(call) => {
-                let next = u64::from(call.next_step());
+                let next = u64::from(call.next_step(Close.write_step()));
                 self.flight = Some(Flight::Closes(Closing { call }));
                 Said::Going(next)
             }
@@ -338,8 +339,8 @@ impl Slot {
             (slot_in platform.old (flown self.old (Flight.Closes closing))) (Action.Break how))
             result }
     {
-        let stop = stop_at(how, closing.call.next_step());
-        let reply = break_closing(platform, closing.call, stop);
+        let stop = stop_at(how, closing.call.next_step(Close.write_step()));
+        let reply = break_closing(platform, closing.call, stop, &mut self.keys);
         self.end(platform, quiet(reply))
     }
 

@@ -1,12 +1,12 @@
 -- How a call in flight begins, and takes in a value of others.
 use Rattle.mm_steps.proofs.Below.{◌≡◌, ℕ, ◌<◌, List, [], Some, refl, sym, subst, option_map, Variant, Meddle, Plan, Standing, meddling}
-use Rattle.mm_steps.proofs.Below.{next_plan, Meaning, Batch, Digests, instance_by, checks_on, AskCall, begun, ask_number}
+use Rattle.mm_steps.proofs.Below.{next_plan, Meaning, Batch, Digests, instance_by, AskAt, begun, ask_number}
 use Rattle.mm_steps.proofs.Below.{ask_begun, begun_may_ask, begins, takes_in, meddled}
 use Rattle.mm_steps.proofs.Below.{AsksInFlight, ClosesInFlight}
 use Rattle.mm_digest.specs.declared.digest.Digest.{Digest}
 use Rattle.mm_digest.specs.declared.variant.Variant.TheVariants as variant
 use Rattle.mm_model.specs.Instance.{Instance}
-use Rattle.mm_opt.specs.declared.stage.CheckpointStage.TheVariants as stage
+use Rattle.mm_machine.specs.declared.call.Stage.TheVariants as stage
 use Rattle.mm_world.specs.Stands.{Stands, IsQuiet}
 use Rattle.mm_steps.specs.Asking.{ask_left}
 use Rattle.mm_steps.specs.Closing.{close_left}
@@ -48,7 +48,7 @@ module _ (call : CallLeft) (i : Instance) (d : Digests) (from : Standing) where
 -- a call that was just begun over a quiet platform
 module _ (variant : Variant) (meaning : Meaning) (key barrier : List ℕ) (d : Digests) (from : Standing)
     (s : Stands (instance_by variant meaning key barrier) from d) (q : IsQuiet from) where
-  pub asks_begun : (call : AskCall) (bytes : List ℕ) (b : Batch) → call ≡ begun variant
+  pub asks_begun : (call : AskAt) (bytes : List ℕ) (b : Batch) → call ≡ begun variant
       → AsksInFlight variant meaning key barrier d from call from [] 1 bytes b
   asks_begun call bytes b is =
       rw is (flight_begun (ask_left variant meaning (begun variant) bytes b) (instance_by variant meaning key barrier) d from s q
@@ -58,7 +58,7 @@ module _ (variant : Variant) (meaning : Meaning) (key barrier : List ℕ) (d : D
   pub closes_begun : ClosesInFlight variant meaning key barrier d from stage.Begun from [] 1
   closes_begun =
       flight_begun (close_left stage.Begun) (instance_by variant meaning key barrier) d from s q
-      (λ old new ended f. checks_on old new ended f) tt refl
+      (λ old new ended f. f) refl refl
 
 -- there is a next step to plan such a value for
 pub may_take_in : (now : Standing) (plan : Plan) (at : ℕ) → now.plan ≡ Some (record plan { at = at }) → at < 255 → (next_plan now).at < 255

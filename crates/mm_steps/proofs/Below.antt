@@ -18,18 +18,16 @@ pub use Rattle.mm_module.specs.Batches.{batch_of}
 pub use Rattle.mm_module.specs.Meaning.{Meaning}
 pub use Rattle.mm_model.specs.Moves.{Digests}
 pub use Rattle.mm_call.specs.Standing.{instance_by}
-pub use Rattle.mm_opt.specs.declared.stage.CheckpointStage.{CheckpointStage}
 pub use Rattle.mm_opt.proofs.Above.{checks_on}
 pub use Rattle.mm_flight.specs.Asks.{AdvancedAsk, ask_number, AskFinishes, AskTurns, begun, TurnMayAsk}
 pub use Rattle.mm_flight.specs.InFlight.{GoesOnAs, plan_by, SaySame, under}
-pub use Rattle.mm_flight.specs.declared.ask.AskCall.{AskCall}
+pub use Rattle.mm_flight.specs.Operating.{AskAt}
 pub use Rattle.mm_flight.proofs.Above.{AlwaysFails, ask_act, ask_answers, ask_begun, ask_breaks, ask_fails, ask_faultless, ask_moves}
-pub use Rattle.mm_flight.proofs.Above.{ask_refuses, ask_replanned, ask_then, begins, begun_may_ask, closing_done, closing_fails}
-pub use Rattle.mm_flight.proofs.Above.{closing_faultless, closing_moves, closing_refused, closing_replanned, closing_then, counted_few}
+pub use Rattle.mm_flight.proofs.Above.{ask_refuses, ask_replanned, ask_then, begins, begun_may_ask, counted_few}
 pub use Rattle.mm_flight.proofs.Above.{few_steps, goes_on, may_ask_stopped, meddled, replans, Replans, takes_in}
 pub use Rattle.mm_world.specs.Asks.{Came, HasRead, quiet_as}
 pub use Rattle.mm_world.specs.Calls.{broken_as, CalledAs, closes_at, RefusedAs, SettlesPlan, stopped_step, stops_in, told_closing}
 pub use Rattle.mm_world.proofs.Above.{asks_planned, checks_planned}
 pub use Rattle.mm_steps.specs.Asking.{asked_so, asks_rest, asks_whole, AsksInFlight, EndsAs, MayStepOn, over_in, SteppedTo}
-pub use Rattle.mm_steps.specs.Closing.{checks_rest, checks_whole, closed_so, ClosesAs, ClosesInFlight, SteppedClosingTo}
+pub use Rattle.mm_steps.specs.Closing.{closed_so, ClosesAs, ClosesInFlight, SteppedClosingTo}
 pub use Rattle.mm_steps.specs.Stopping.{BreaksNext, is_nothing, stop_behind}

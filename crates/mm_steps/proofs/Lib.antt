@@ -1,6 +1,7 @@
 pub mod Above
 mod Below
 mod Stopping
+mod FlyingSteps
 mod Steps
 mod Closing
 mod Beginning

@@ -2,7 +2,7 @@
 use Rattle.mm_steps.proofs.Below.{◌≡◌, ℕ, ◌+◌, ◌<◌, Bool, true, false, List, Option, None, Some, Result, Ok, Err, refl, sym, ap, ◌∙◌}
 use Rattle.mm_steps.proofs.Below.{subst, arith, MatchResult, IsErr, option_map, counted, Variant, StepFault, Failed, Meddle, Stop, Quiet}
 use Rattle.mm_steps.proofs.Below.{Fail, Standing, stopping, quiet_plan, step_made, Meaning, Batch, size_of, Digests, instance_by}
-use Rattle.mm_steps.proofs.Below.{AskCall, ask_number, AskTurns, TurnMayAsk, AskFinishes, AdvancedAsk, plan_by, under, AlwaysFails, ask_act}
+use Rattle.mm_steps.proofs.Below.{AskAt, ask_number, AskTurns, TurnMayAsk, AskFinishes, AdvancedAsk, plan_by, under, AlwaysFails, ask_act}
 use Rattle.mm_steps.proofs.Below.{ask_replanned, ask_moves, ask_then, ask_answers, ask_refuses, ask_fails, ask_faultless, ask_breaks}
 use Rattle.mm_steps.proofs.Below.{few_steps, goes_on, broken_as, stopped_step, RefusedAs, CalledAs}
 use Rattle.mm_steps.proofs.Below.{SettlesPlan, Came, HasRead, asks_planned, BreaksNext, is_nothing, stop_behind, asks_whole, asks_rest}
@@ -27,7 +27,8 @@ use Rattle.mm_flight.specs.declared.ask.AskTurn.TheVariants as turn
 use Rattle.mm_world.specs.declared.call.Called.{Called}
 use Rattle.mm_steps.specs.declared.asks.Stepped.{Stepped}
 use Rattle.mm_steps.specs.declared.asks.Stepped.TheVariants.{Going}
-use Rattle.mm_steps.proofs.Stopping.{goes_as, fails_next, always_fails, behind, replans_behind, settled_under, fewer, later_than}
+use Rattle.mm_steps.specs.Flying.{behind}
+use Rattle.mm_steps.proofs.Stopping.{goes_as, fails_next, always_fails, replans_behind, settled_under, fewer, later_than}
 use Rattle.mm_steps.proofs.Stopping.{settled_behind, stopped_under}
 
 -- what a call came to that was made whole by what ended it
@@ -38,7 +39,7 @@ Comes i d issued meddles stop bytes b from new result =
     MatchResult result (Came i (asked i (by_digests i) d issued meddles stop (Some bytes) b) d.count issued from new)
     (λ _. HasRead i d meddles stop from new)
 
-comes : (variant : Variant) (meaning : Meaning) (key barrier : List ℕ) (d : Digests) (from : Standing) (call : AskCall) (now : Standing)
+comes : (variant : Variant) (meaning : Meaning) (key barrier : List ℕ) (d : Digests) (from : Standing) (call : AskAt) (now : Standing)
     (meddles : List Meddle) (next : ℕ) (bytes : List ℕ) (b : Batch) → (f : AsksInFlight variant meaning key barrier d from call now meddles
     next bytes b) → is_long b ≡ false → (stop : Stop) (mid new : Standing) (ended : Ended) (size : ℕ) (result : Result Called Memory)
     → f.made < stopped_step stop → AskFinishes meaning call (under (plan_by stop meddles) f.made now) mid bytes b ended → size ≡ size_of b
@@ -98,7 +99,7 @@ unbroken : (result : Result BatchAnswer Refusal) → ask_fault (turn_of result) 
 unbroken (Ok answer) e = refl
 unbroken (Err why) e = unbroken_as (fault_of why) why e
 
-ends_by : (result : Result BatchAnswer Refusal) (call : AskCall) (meaning : Meaning) (old new : Standing) (bytes : List ℕ) (b : Batch)
+ends_by : (result : Result BatchAnswer Refusal) (call : AskAt) (meaning : Meaning) (old new : Standing) (bytes : List ℕ) (b : Batch)
     → ask_fault (turn_of result) ≡ None → AskTurns meaning call old new bytes b (turn_of result)
     → AskFinishes meaning call old new bytes b (ended_of result)
 ends_by (Ok answer) call meaning old new bytes b none t = ask_answers call meaning old new bytes b answer t
@@ -117,7 +118,7 @@ module _ (variant : Variant) (meaning : Meaning) (key barrier : List ℕ) (d : D
   over_gives meddles next offer bytes b new size ended (Err memory) result e whole told offered c = c
 
   -- the call has come to nothing so far: its next step may still fail without effect
-  nothing_yet : (call : AskCall) (now : Standing) (meddles : List Meddle) (next : ℕ) (offer : Offer) (bytes : List ℕ) (b : Batch)
+  nothing_yet : (call : AskAt) (now : Standing) (meddles : List Meddle) (next : ℕ) (offer : Offer) (bytes : List ℕ) (b : Batch)
       → AsksInFlight variant meaning key barrier d from call now meddles next bytes b → is_long b ≡ false
       → offered_bytes issued offer ≡ Some bytes → is_nothing (asked_so (instance_by variant meaning key barrier) d issued meddles
       (Fail next false) offer b).reply ≡ true
@@ -133,8 +134,8 @@ module _ (variant : Variant) (meaning : Meaning) (key barrier : List ℕ) (d : D
       let said : is_nothing (asked_so i d issued meddles stop offer b).reply ≡ true = sym (ap (λ x. is_nothing x) so.reply) in
       subst (λ (k : ℕ). is_nothing (asked_so i d issued meddles (Fail k false) offer b).reply ≡ true) (sym f.is_next) said
 
-  pub going_to : (call : AskCall) (now new : Standing) (meddles : List Meddle) (next : ℕ) (offer : Offer) (bytes : List ℕ) (b : Batch)
-      (on : AskCall) (turned : AskTurn) → AsksInFlight variant meaning key barrier d from call now meddles next bytes b → is_long b ≡ false
+  pub going_to : (call : AskAt) (now new : Standing) (meddles : List Meddle) (next : ℕ) (offer : Offer) (bytes : List ℕ) (b : Batch)
+      (on : AskAt) (turned : AskTurn) → AsksInFlight variant meaning key barrier d from call now meddles next bytes b → is_long b ≡ false
       → offered_bytes issued offer ≡ Some bytes → AdvancedAsk meaning call now new bytes b turned → turned ≡ turn.Going on
       → SteppedTo variant meaning key barrier d from issued meddles next offer bytes b new (Ok (Going on))
   going_to call now new meddles next offer bytes b on turned f short offered a e =
@@ -159,7 +160,7 @@ module _ (variant : Variant) (meaning : Meaning) (key barrier : List ℕ) (d : D
       (flight, nothing_yet on new meddles (next + 1) offer bytes b flight short offered)
 
 module _ (variant : Variant) (meaning : Meaning) (key barrier : List ℕ) (d : Digests) (from : Standing) (issued : List (List ℕ))
-    (call : AskCall) (now mid : Standing) (meddles : List Meddle) (next : ℕ) (offer : Offer) (bytes : List ℕ) (b : Batch)
+    (call : AskAt) (now mid : Standing) (meddles : List Meddle) (next : ℕ) (offer : Offer) (bytes : List ℕ) (b : Batch)
     (f : AsksInFlight variant meaning key barrier d from call now meddles next bytes b) (short : is_long b ≡ false)
     (offered : offered_bytes issued offer ≡ Some bytes) where
   over_to : (new : Standing) (size : ℕ) (ended : Ended) (result : Result Stepped Memory) → size ≡ size_of b → is_broken ended ≡ false
@@ -191,7 +192,7 @@ module _ (variant : Variant) (meaning : Meaning) (key barrier : List ℕ) (d : D
 
 -- the room that it takes, if it goes on
 
-pub going_may : (call : AskCall) (turned : AskTurn) (new : Standing) → TurnMayAsk turned new → turned ≡ turn.Going call
+pub going_may : (call : AskAt) (turned : AskTurn) (new : Standing) → TurnMayAsk turned new → turned ≡ turn.Going call
     → MayStepOn (Ok (Going call)) new
 going_may call turned new m e = subst (λ (x : AskTurn). TurnMayAsk x new) e m
 
@@ -211,7 +212,7 @@ pub wants_none : (stop : Stop) (size : ℕ) (ended : Ended) (memory : Memory) (r
 wants_none stop size (Answered answer) memory result broken e told = cc
 wants_none stop size _ memory result broken e told = cc
 
-pub broken_off : (stop : Stop) (old stopped : Standing) (call : AskCall) (meaning : Meaning) (mid : Standing) (bytes : List ℕ)
+pub broken_off : (stop : Stop) (old stopped : Standing) (call : AskAt) (meaning : Meaning) (mid : Standing) (bytes : List ℕ)
     (b : Batch) (ended : Ended) → BreaksNext stop old → stopped ≡ record old { plan = option_map (stopping stop) old.plan }
     → AskFinishes meaning call stopped mid bytes b ended → is_broken ended ≡ true
 broken_off stop old stopped call meaning mid bytes b ended breaks is finishes =
@@ -219,7 +220,7 @@ broken_off stop old stopped call meaning mid bytes b ended breaks is finishes =
     finishes
 
 pub breaks_to : (variant : Variant) (meaning : Meaning) (key barrier : List ℕ) (d : Digests) (from : Standing) (issued : List (List ℕ))
-    (call : AskCall) (now stopped mid : Standing) (meddles : List Meddle) (next : ℕ) (offer : Offer) (bytes : List ℕ) (b : Batch)
+    (call : AskAt) (now stopped mid : Standing) (meddles : List Meddle) (next : ℕ) (offer : Offer) (bytes : List ℕ) (b : Batch)
     (stop : Stop) (new : Standing) (size : ℕ) (broken : Bool) (ended : Ended) (it : Called) (result : Result Called Memory)
     → AsksInFlight variant meaning key barrier d from call now meddles next bytes b → is_long b ≡ false → size ≡ size_of b
     → offered_bytes issued offer ≡ Some bytes → stopped_step stop ≡ next → stopped ≡ record now {

@@ -3,6 +3,7 @@ use Rattle.mm_steps.proofs.Below.{◌≡◌, ℕ, ◌+◌, ◌<◌, ◌≤◌, B
 use Rattle.mm_steps.proofs.Below.{is_some, if◌then◌else◌, option_map, counted, StepFault, Failed, Off, Meddle, Stop, Quiet, Cut, Drop, Fail}
 use Rattle.mm_steps.proofs.Below.{Plan, Standing, next_step, stopping, step_made, plan_by, under, SaySame, GoesOnAs, AlwaysFails}
 use Rattle.mm_steps.proofs.Below.{counted_few, Replans, stopped_step, SettlesPlan, BreaksNext, stop_behind, replans, quiet_plan}
+use Rattle.mm_steps.specs.Flying.{behind}
 use Rattle.std.proofs.lemmas.Bool.{ne_eqb}
 use Rattle.std.proofs.lemmas.Bool.Decides.{nat_tests}
 use Rattle.mm_platform.specs.Steps.{Act, Goes, fault_at, will_answer}
@@ -79,10 +80,6 @@ breaks_at stop now meddles made next on planned few at is =
       planned = planned;
       fails = fails_at stop (counted made) (next_number (stopped_step stop) next made (counted made) at is counts) (omega arith);
     }
-
--- the plan that stops behind the next step, and what it leaves
-abbrev pub behind : List Meddle → ℕ → Plan
-behind meddles next = plan_by (stop_behind next) meddles
 
 pub replans_behind : (now : Standing) (meddles : List Meddle) (made next : ℕ) → now.is_on ≡ true
     → now.plan ≡ Some (record (plan_by Quiet meddles) { at = made }) → made < 255 → next ≡ made + 1

@@ -18,7 +18,7 @@ use Rattle.mm_schedule.specs.declared.event.Offer.{Offer}
 use Rattle.mm_schedule.specs.Events.{Ask}
 use Rattle.mm_run.specs.Folds.{Outcome, event_outcome}
 use Rattle.mm_run.specs.Offered.{offered_bytes}
-use Rattle.mm_flight.specs.declared.ask.AskCall.{AskCall}
+use Rattle.mm_flight.specs.Operating.{AskAt}
 use Rattle.mm_flight.specs.Asks.{ask_number, MayAsk, AskFinishes}
 use Rattle.mm_world.specs.declared.call.Called.{Called}
 use Rattle.mm_world.specs.Calls.{stopped_step, CalledAs, SettlesPlan}
@@ -31,10 +31,10 @@ use Rattle.mm_steps.specs.Stopping.{CallLeft, IsInFlight, is_nothing, stop_behin
 abbrev pub asks_whole : Variant → Meaning → List ℕ → Batch → Standing → Standing → Ended → Type 0
 asks_whole variant meaning bytes b old new ended = CallsTo variant meaning old new bytes b ended
 
-abbrev pub asks_rest : Meaning → AskCall → List ℕ → Batch → Standing → Standing → Ended → Type 0
+abbrev pub asks_rest : Meaning → AskAt → List ℕ → Batch → Standing → Standing → Ended → Type 0
 asks_rest meaning call bytes b old new ended = AskFinishes meaning call old new bytes b ended
 
-abbrev pub ask_left : Variant → Meaning → AskCall → List ℕ → Batch → CallLeft
+abbrev pub ask_left : Variant → Meaning → AskAt → List ℕ → Batch → CallLeft
 ask_left variant meaning call bytes b = record {
   Ends = Ended;
   whole = asks_whole variant meaning bytes b;
@@ -44,7 +44,7 @@ ask_left variant meaning call bytes b = record {
 }
 
 -- a call that offers these bytes and asks for this batch is in flight
-abbrev pub AsksInFlight : Variant → Meaning → (key barrier : List ℕ) → Digests → Standing → AskCall
+abbrev pub AsksInFlight : Variant → Meaning → (key barrier : List ℕ) → Digests → Standing → AskAt
     → Standing → List Meddle → ℕ → List ℕ → Batch → Type 0
 AsksInFlight variant meaning key barrier d from call now meddles next bytes b =
     IsInFlight (ask_left variant meaning call bytes b) (instance_by variant meaning key barrier) d
@@ -78,7 +78,7 @@ SteppedTo variant meaning key barrier d from issued meddles next offer bytes b n
 
 -- the next step of a call in flight, from wherever it was begun, whatever was issued there, and by
 -- each offer of its bytes
-abbrev pub StepsAs : Meaning → AskCall → Standing → Standing → List ℕ → Batch
+abbrev pub StepsAs : Meaning → AskAt → Standing → Standing → List ℕ → Batch
     → Result Stepped Memory → Type 0
 StepsAs meaning call old new bytes b result =
     (variant : Variant) (key barrier : List ℕ) (d : Digests) (from : Standing)
@@ -95,7 +95,7 @@ MayStepOn (Ok (Over it)) standing = Unit {0}
 MayStepOn (Err memory) standing = Unit {0}
 
 -- the next step with this stop at it: the call came to what its event says that is stopped so
-abbrev pub BreaksAs : Meaning → AskCall → Standing → Standing → List ℕ → Batch → Stop → Called
+abbrev pub BreaksAs : Meaning → AskAt → Standing → Standing → List ℕ → Batch → Stop → Called
     → Type 0
 BreaksAs meaning call old new bytes b stop it =
     (variant : Variant) (key barrier : List ℕ) (d : Digests) (from : Standing)

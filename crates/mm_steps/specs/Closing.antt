@@ -11,9 +11,12 @@ use Rattle.mm_call.specs.Levels.{by_digests}
 use Rattle.mm_call.specs.Standing.{instance_by}
 use Rattle.mm_opt.specs.declared.segment.Checkpointed.{Checkpointed}
 use Rattle.mm_opt.specs.declared.segment.CheckpointRefusal.{CheckpointRefusal}
-use Rattle.mm_opt.specs.declared.stage.CheckpointStage.{CheckpointStage}
-use Rattle.mm_opt.specs.Checkpoints.{closing_number_of, FinishesClosing}
-use Rattle.mm_opt.specs.ChecksOn.{ChecksOn}
+use Rattle.mm_opt.specs.Closing.{IsClosing, closing}
+use Rattle.mm_machine.specs.Finishing.{Finishes}
+use Rattle.mm_machine.specs.Stepping.{number_of}
+use Rattle.mm_machine.specs.declared.call.Ended.{Ended}
+use Rattle.mm_machine.specs.declared.call.Stage.{Stage}
+use Rattle.mm_machine.specs.declared.call.Stage.TheVariants.{Begun}
 use Rattle.mm_schedule.specs.declared.reply.Reply.{Reply}
 use Rattle.mm_schedule.specs.Events.{Checkpoint}
 use Rattle.mm_run.specs.Folds.{Outcome, event_outcome}
@@ -24,25 +27,18 @@ use Rattle.mm_steps.specs.declared.closings.SteppedClosing.TheVariants.{Going, O
 use Rattle.mm_steps.specs.Stopping.{CallLeft, IsInFlight, is_nothing, stop_behind}
 
 -- the whole checkpoint, and what is left of it
-abbrev pub checks_whole : Standing → Standing → Result Checkpointed CheckpointRefusal → Type 0
-checks_whole old new ended = ChecksOn old new ended
-
-abbrev pub checks_rest : CheckpointStage → Standing → Standing
-    → Result Checkpointed CheckpointRefusal → Type 0
-checks_rest call old new ended = FinishesClosing call old new ended
-
-abbrev pub close_left : CheckpointStage → CallLeft
+abbrev pub close_left : Stage Checkpointed → CallLeft
 close_left call = record {
-  Ends = Result Checkpointed CheckpointRefusal;
-  whole = checks_whole;
-  rest = checks_rest call;
-  may = λ standing. Unit {0};
-  number = closing_number_of call;
+  Ends = Ended Checkpointed CheckpointRefusal;
+  whole = Finishes closing Begun;
+  rest = Finishes closing call;
+  may = λ standing. IsClosing call;
+  number = number_of 3 call;
 }
 
 -- a checkpoint is in flight
 abbrev pub ClosesInFlight : Variant → Meaning → (key barrier : List ℕ) → Digests → Standing
-    → CheckpointStage → Standing → List Meddle → ℕ → Type 0
+    → Stage Checkpointed → Standing → List Meddle → ℕ → Type 0
 ClosesInFlight variant meaning key barrier d from call now meddles next =
     IsInFlight (close_left call) (instance_by variant meaning key barrier) d from now meddles next
 
@@ -68,7 +64,7 @@ SteppedClosingTo variant meaning key barrier d from issued meddles next new (Ove
     (stop_behind next)).reply ≡ false)
 
 -- the next step of a checkpoint in flight, from wherever it was begun and whatever was issued there
-abbrev pub StepsClosingAs : CheckpointStage → Standing → Standing → SteppedClosing → Type 0
+abbrev pub StepsClosingAs : Stage Checkpointed → Standing → Standing → SteppedClosing → Type 0
 StepsClosingAs call old new stepped =
     (variant : Variant) (meaning : Meaning) (key barrier : List ℕ) (d : Digests) (from : Standing)
     (issued : List (List ℕ))
@@ -77,7 +73,7 @@ StepsClosingAs call old new stepped =
     → SteppedClosingTo variant meaning key barrier d from issued meddles next new stepped
 
 -- the next step with this stop at it: the checkpoint came to what its event says that is stopped so
-abbrev pub BreaksClosingAs : CheckpointStage → Standing → Standing → Stop → Reply → Type 0
+abbrev pub BreaksClosingAs : Stage Checkpointed → Standing → Standing → Stop → Reply → Type 0
 BreaksClosingAs call old new stop said =
     (variant : Variant) (meaning : Meaning) (key barrier : List ℕ) (d : Digests) (from : Standing)
     (issued : List (List ℕ))

@@ -1,3 +1,4 @@
 pub mod Stopping
+pub mod Flying
 pub mod Asking
 pub mod Closing

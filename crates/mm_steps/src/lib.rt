@@ -3,6 +3,8 @@
 
 mod asks;
 mod closings;
+mod flying;
 
 pub use asks::{Stepped, break_off, step};
 pub use closings::{SteppedClosing, break_closing, step_closing};
+pub use flying::{break_call, step_call};

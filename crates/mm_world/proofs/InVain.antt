@@ -2,7 +2,7 @@
 use Rattle.mm_world.proofs.Below.{◌≡◌, ℕ, Bool, true, false, ◌&&◌, List, Option, None, Some, Result, Ok, Err, refl, sym, ap, ◌∙◌, subst}
 use Rattle.mm_world.proofs.Below.{eq-eqb, if◌then◌else◌, ◌==◌, Variant, Basic, Opt, Meaning, Batch, StepFault, Standing, ReadCell, Goes}
 use Rattle.mm_world.proofs.Below.{Cell, CellFault, Blank, Unspelled, ReadsCell, same_variant, Refusal, Ended, Refused, ended_with, fault_of}
-use Rattle.mm_world.proofs.Below.{OrMemory, Said, CheckpointRefusal, closing_fault_of, segment_in, SeesSegment, Looks, EndsLooking, AskCall}
+use Rattle.mm_world.proofs.Below.{OrMemory, Said, CheckpointRefusal, closing_fault_of, segment_in, SeesSegment, Looks, EndsLooking, AskAt}
 use Rattle.mm_world.proofs.Below.{begun, AskFinishes, why_vain, [], ◌∷◌, ◌++◌, map, append-nil, is_some, MatchResult, option_to_list}
 use Rattle.mm_world.proofs.Below.{Memory, One, size_of, Meddle, Stop, fault_at, is_made_at, will_answer, will_bring, Instance}
 use Rattle.mm_world.proofs.Below.{Foreign, is_long, Digests, made, register_reads, by_digests, all_made, Walked, after_step, commits}
@@ -12,7 +12,7 @@ use Rattle.mm_world.proofs.Below.{broken_as, takes_effect, size_if, is_cut, Call
 use Rattle.mm_world.proofs.Below.{CameInVain, AsksInVain, ChecksInVain, AsksPlanned, ChecksPlanned, beside, reads_of, reads_beside}
 use Rattle.mm_world.proofs.Below.{foreign_made}
 use Rattle.mm_seal.specs.CellLaws.{reads_cell-same}
-use Rattle.mm_call.specs.Calls.{EndsTo}
+use Rattle.mm_call.specs.Calls.{AsksTo, EndsTo}
 use Rattle.mm_opt.specs.Checkpoints.{closing_fault_in}
 use Rattle.mm_call.specs.Refusals.{fault_in}
 use Rattle.mm_opt.specs.Seen.{cell_in, own_cell, is_opt, SeesCell}
@@ -27,11 +27,10 @@ use Rattle.mm_model.specs.declared.refusal.Refusal.TheVariants as refusal
 use Rattle.mm_basic.specs.Seen as seen
 use Rattle.mm_basic.specs.Asks as basic_asks
 use Rattle.mm_basic.specs.Answers as basic_answers
-use Rattle.mm_basic.specs.declared.found.Found as basic_found
-use Rattle.mm_opt.specs.declared.stage.Stage.TheVariants as stage
-use Rattle.mm_opt.specs.Finishes as opt_finishes
+use Rattle.mm_basic.proofs.Above as in_basic
 use Rattle.mm_opt.specs.Asks as opt_asks
-use Rattle.mm_opt.specs.declared.found.Found as opt_found
+use Rattle.mm_opt.specs.Found.{Found}
+use Rattle.mm_opt.proofs.Above as in_opt
 use Rattle.mm_opt.specs.declared.segment.CheckpointRefusal.TheVariants as closing
 use Rattle.mm_schedule.specs.declared.reply.Cause.TheVariants as cause
 use Rattle.mm_schedule.specs.declared.reply.Reply.TheVariants as reply
@@ -102,7 +101,7 @@ module _ (meaning : Meaning) (bytes offer : List ℕ) (b : Batch) (read : Result
         rw (own.0, own.1) (eq-eqb meaning.id meaning.id refl) in
         let clash : true ≡ false = sym is ∙ (unless_own _ why (vain_at (Ok cell) others)).0 in absurd (cc)
 
-    found_basic : (found : Result basic_found.Found Refusal) (it : seen.Seen) → seen.IsSeen meaning.id bytes offer it
+    found_basic : (found : Result Found Refusal) (it : seen.Seen) → seen.IsSeen meaning.id bytes offer it
         → OrMemory (basic_answers.found_in meaning it b) found → found ≡ Err why
     found_basic found (seen.NoCell Blank) is or = let e : Some refusal.Blank ≡ Some why = vain_at (Err Blank) is in or ∙ cc
     found_basic found (seen.NoCell Unspelled) is or = let e : Some refusal.Cell ≡ Some why = vain_at (Err Unspelled) is in or ∙ cc
@@ -111,7 +110,7 @@ module _ (meaning : Meaning) (bytes offer : List ℕ) (b : Batch) (read : Result
     found_basic found (seen.Both cell offered) is or = absurd (never_own cell is.0 is.1)
 
   module _ (old new : Standing) (ended : Ended) (cell : old.cell ≡ Some bytes) where
-    basic_stops : why_vain Basic meaning.id read ≡ Some why → basic_asks.Finishes meaning None old new offer b ended
+    basic_stops : why_vain Basic meaning.id read ≡ Some why → AsksTo basic_asks.basic_call meaning old new offer b ended
         → StopsReading old new why ended
     basic_stops vain asks =
         stops_at fault_in (λ fault. ended_with fault why) (λ found. EndsTo basic_asks.basic_call found asks.middle new ended) why old
@@ -120,7 +119,7 @@ module _ (meaning : Meaning) (bytes offer : List ℕ) (b : Batch) (read : Result
         (subst (λ (x : List ℕ). seen.IsSeen meaning.id x offer f.finds.seen) (f.told bytes cell) f.finds.is_seen) f.finds.found_is)
         asks.ends (λ w e known. (e.0, e.1 ∙ with_why (fault_of w) w why known))
 
-    opt_stops : why_vain Opt meaning.id read ≡ Some why → opt_finishes.Finishes meaning stage.Begun old new offer b ended
+    opt_stops : why_vain Opt meaning.id read ≡ Some why → AsksTo opt_asks.opt_call meaning old new offer b ended
         → StopsReading old new why ended
     opt_stops vain asks =
         let first = asks.reads in
@@ -132,13 +131,19 @@ module _ (meaning : Meaning) (bytes offer : List ℕ) (b : Batch) (read : Result
         let sees = subst (λ (x : List ℕ). SeesCell meaning.id x first.cell) (f.told bytes cell) f.sees in
         sees.found_is ∙ ap (cell_in meaning.id) (sym (same_read sees.read sees.reads)) ∙ found_opt meaning.id read why vain)
         first.on (λ w on known. let e : (new ≡ asks.middle) × (ended ≡ ended_with (fault_of w) w) =
-        subst (λ (x : Result opt_found.Found Refusal). last x asks.middle new ended) on.1 asks.ends in
+        subst (λ (x : Result Found Refusal). last x asks.middle new ended) on.1 asks.ends in
         (e.0 ∙ on.0, e.1 ∙ with_why (fault_of w) w why known))
 
-    ask_stops : (variant : Variant) (call : AskCall) → call ≡ begun variant → AskFinishes meaning call old new offer b ended
+    ask_stops : (variant : Variant) (call : AskAt) → call ≡ begun variant → AskFinishes meaning call old new offer b ended
         → why_vain variant meaning.id read ≡ Some why → StopsReading old new why ended
-    ask_stops Basic call is asks vain = basic_stops vain (subst (λ (c : AskCall). AskFinishes meaning c old new offer b ended) is asks)
-    ask_stops Opt call is asks vain = opt_stops vain (subst (λ (c : AskCall). AskFinishes meaning c old new offer b ended) is asks)
+    ask_stops Basic call is asks vain =
+        let f = subst (λ (c : AskAt). AskFinishes meaning c old new offer b ended) is asks in
+        basic_stops vain
+        (in_basic.finished_asks meaning offer b old new ended (record { end = f.end; finishes = f.finishes; gives = f.gives }))
+    ask_stops Opt call is asks vain =
+        let f = subst (λ (c : AskAt). AskFinishes meaning c old new offer b ended) is asks in
+        opt_stops vain
+        (in_opt.finished_asks meaning old new offer b ended (record { end = f.end; finishes = f.finishes; gives = f.gives }))
 
 -- a checkpoint
 
@@ -332,7 +337,7 @@ checks_either old planned_at mid new meddles stop broken said result planned clo
 -- a call that isn't too long, over a planned platform
 
 module _ (variant : Variant) (meaning : Meaning) (old planned_at mid new : Standing) (meddles : List Meddle) (stop : Stop) (offer : List ℕ)
-    (b : Batch) (size : ℕ) (call : AskCall) (ended : Ended) (result : Result code.Called Memory) (short : is_long b ≡ false)
+    (b : Batch) (size : ℕ) (call : AskAt) (ended : Ended) (result : Result code.Called Memory) (short : is_long b ≡ false)
     (is : call ≡ begun variant) (told : CalledAs stop size ended result) (issued : List (List ℕ)) where
   asks_in_vain : FinishedAsk meaning call (record old { plan = Some (plan_of stop meddles) }) mid offer b ended
       → SettlesPlan stop (is_broken ended) mid new → AsksInVain variant meaning old new issued meddles stop (Some offer) b result
