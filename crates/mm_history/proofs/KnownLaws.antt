@@ -36,13 +36,13 @@ use Rattle.mm_history.specs.declared.waymarks.Waymark.{Waymark}
 pub short_decides : (n : ℕ) (x s : List ℕ) → length x < n → bytes_eq x (take n s) ≡ bytes_eq x s
 short_decides n x s lt = same_tests (bytes_eq x (take n s)) (bytes_eq x s)
     (λ t.
-        let same : x ≡ take n s = (bytes_eq-Decides x (take n s)).0 t in
-        let fits : length s ≤ n = omega (arith, lt, ap length same, length-take n s) in
-        (bytes_eq-Decides x s).1 (same ∙ take_all n s fits))
+    let same : x ≡ take n s = (bytes_eq-Decides x (take n s)).0 t in
+    let fits : length s ≤ n = omega (arith, lt, ap length same, length-take n s) in
+    (bytes_eq-Decides x s).1 (same ∙ take_all n s fits))
     (λ t.
-        let same : x ≡ s = (bytes_eq-Decides x s).0 t in
-        let fits : length s ≤ n = omega (arith, lt, ap length same) in
-        (bytes_eq-Decides x (take n s)).1 (same ∙ sym (take_all n s fits)))
+    let same : x ≡ s = (bytes_eq-Decides x s).0 t in
+    let fits : length s ≤ n = omega (arith, lt, ap length same) in
+    (bytes_eq-Decides x (take n s)).1 (same ∙ sym (take_all n s fits)))
 
 -- behind no batch left out the register is zero
 pub none_known : (barrier : List ℕ) (named : List KeptBatch) → zero_bytes
@@ -173,21 +173,21 @@ nowhere variant meaning barrier {batches} marks bs {position} all are between =
     let counts : length bs ≡ length m.front + length m.rest = sym (length-map bs kept_batch) ∙ ap length parts ∙ length-append m.front m.rest in
     elim between.shown [
       | inl last ↦
-        let both = and_parts (between.before.count == length bs) (nat_lt between.before.position position) last in
-        let all_of : between.before.count ≡ length bs = (Decides-eqb between.before.count (length bs)).0 both.0 in
-        let none : m.rest ≡ [] = nil_from_length m.rest (omega (arith, all_of, counts, m.count_is)) in
-        let front : kept_batches bs ≡ m.front = parts ∙ ap (λ (xs : List Batch). m.front ++ xs) none ∙ append-nil m.front in
-        let lt : between.before.position < position = (Decides-ltb between.before.position position).0 both.1 in
-        ap (first_with position) front ∙ absent_behind m.front position (omega (arith, lt, m.position_is))
+          let both = and_parts (between.before.count == length bs) (nat_lt between.before.position position) last in
+          let all_of : between.before.count ≡ length bs = (Decides-eqb between.before.count (length bs)).0 both.0 in
+          let none : m.rest ≡ [] = nil_from_length m.rest (omega (arith, all_of, counts, m.count_is)) in
+          let front : kept_batches bs ≡ m.front = parts ∙ ap (λ (xs : List Batch). m.front ++ xs) none ∙ append-nil m.front in
+          let lt : between.before.position < position = (Decides-ltb between.before.position position).0 both.1 in
+          ap (first_with position) front ∙ absent_behind m.front position (omega (arith, lt, m.position_is))
       | inr next ↦
-        let n = each_found P marks next.1 next.0 are next.2 in
-        let tests = and_parts _ (nat_lt position next.0.position) next.3 in
-        let inner = and_parts _ (nat_lt between.before.position position) tests.0 in
-        let counted = and_parts (nat_lt between.before.count next.0.count) (next.0.count - between.before.count == 1) inner.0 in
-        let one : next.0.count - between.before.count ≡ 1 = (Decides-eqb (next.0.count - between.before.count) 1).0 counted.1 in
-        let more : between.before.count < next.0.count = (Decides-ltb between.before.count next.0.count).0 counted.0 in
-        let lt : between.before.position < position = (Decides-ltb between.before.position position).0 inner.1 in
-        let gt : position < next.0.position = (Decides-ltb position next.0.position).0 tests.1 in
-        ap (first_with position) parts ∙ inside_next m.front m.rest n.front n.rest position (sym m.split ∙ n.split)
-        (omega (arith, one, more, m.count_is, n.count_is)) (omega (arith, lt, m.position_is)) (omega (arith, gt, n.position_is))
+          let n = each_found P marks next.1 next.0 are next.2 in
+          let tests = and_parts _ (nat_lt position next.0.position) next.3 in
+          let inner = and_parts _ (nat_lt between.before.position position) tests.0 in
+          let counted = and_parts (nat_lt between.before.count next.0.count) (next.0.count - between.before.count == 1) inner.0 in
+          let one : next.0.count - between.before.count ≡ 1 = (Decides-eqb (next.0.count - between.before.count) 1).0 counted.1 in
+          let more : between.before.count < next.0.count = (Decides-ltb between.before.count next.0.count).0 counted.0 in
+          let lt : between.before.position < position = (Decides-ltb between.before.position position).0 inner.1 in
+          let gt : position < next.0.position = (Decides-ltb position next.0.position).0 tests.1 in
+          ap (first_with position) parts ∙ inside_next m.front m.rest n.front n.rest position (sym m.split ∙ n.split)
+          (omega (arith, one, more, m.count_is, n.count_is)) (omega (arith, lt, m.position_is)) (omega (arith, gt, n.position_is))
     ]

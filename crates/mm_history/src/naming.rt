@@ -299,7 +299,15 @@ fn some_place(
         let items = segment.as_slice();
         let size = items.len();
         let ends = both(later == 0, is_shut);
-        if is_here(here.is_clean, barrier, &here.anchor, entries, sought, size, ends) {
+        if is_here(
+            here.is_clean,
+            barrier,
+            &here.anchor,
+            entries,
+            sought,
+            size,
+            ends,
+        ) {
             return true;
         }
         if size > sought.named.len() - entries {
@@ -404,7 +412,15 @@ fn is_named_anew(
         start: named.len(),
         digest: &digest_anew(variant, id, named),
     };
-    if !is_place(lists, ways.stages.as_slice(), variant, id, barrier, &known, &body.place) {
+    if !is_place(
+        lists,
+        ways.stages.as_slice(),
+        variant,
+        id,
+        barrier,
+        &known,
+        &body.place,
+    ) {
         return Ok(false);
     }
     let state = state_after(alloc, module, named)?;
@@ -458,7 +474,15 @@ fn is_named_at(
         start: mark.start,
         digest: &mark.digest,
     };
-    if !is_place(lists, ways.stages.as_slice(), variant, module.id(), barrier, &known, &body.place) {
+    if !is_place(
+        lists,
+        ways.stages.as_slice(),
+        variant,
+        module.id(),
+        barrier,
+        &known,
+        &body.place,
+    ) {
         return Ok(false);
     }
     is_state(alloc, module, named, mark, body.state)

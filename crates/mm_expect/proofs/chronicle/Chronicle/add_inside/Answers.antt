@@ -5,10 +5,10 @@ use Rattle.mm_expect.proofs.chronicle.Chronicle.add_inside.Goals as goal
 pub invariant_of-self-2 : goal.invariant_of-self-2
 invariant_of-self-2 c = record {
   settled = settled_grown c.self.invariant.settled (batch_of c.args.batch) (
-        c.replace.ensures.after ∙ c.requires.state ∙ ap (λ (r : Recorded). state_after_batch r (batch_of c.args.batch)) (sym c.self.view_is),
-        c.replace.ensures.value,
-        short_one (batch_of c.args.batch) c.requires.short,
-      ) (ap (λ (r : Recorded). r.variant) c.self.view_is ∙ c.requires.variant) c.in_ok-add_inside.ensures.ok c.requires.size
+    c.replace.ensures.after ∙ c.requires.state ∙ ap (λ (r : Recorded). state_after_batch r (batch_of c.args.batch)) (sym c.self.view_is),
+    c.replace.ensures.value,
+    short_one (batch_of c.args.batch) c.requires.short,
+  ) (ap (λ (r : Recorded). r.variant) c.self.view_is ∙ c.requires.variant) c.in_ok-add_inside.ensures.ok c.requires.size
       (c.requires.guards ∙ ap (λ (r : Recorded). guard (barrier_of r.variant) (batch_of c.args.batch)) (sym c.self.view_is))
       c.grown-self-inside.ensures;
   ways_are = ways_grown c.self.invariant.ways_are (batch_of c.args.batch) c.in_ok-add_inside.ensures.ok;

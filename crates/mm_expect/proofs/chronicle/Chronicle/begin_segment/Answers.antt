@@ -5,10 +5,10 @@ use Rattle.mm_expect.proofs.chronicle.Chronicle.begin_segment.Goals as goal
 pub invariant_of-self-2 : goal.invariant_of-self-2
 invariant_of-self-2 c = record {
   settled = settled_opened c.self.invariant.settled (batch_of c.args.batch) (
-        c.replace.ensures.after ∙ c.requires.state ∙ ap (λ (r : Recorded). state_after_batch r (batch_of c.args.batch)) (sym c.self.view_is),
-        c.replace.ensures.value,
-        short_one (batch_of c.args.batch) c.requires.short,
-      ) (ap (λ (r : Recorded). r.variant) c.self.view_is ∙ c.requires.variant) c.in_ok-open.ensures.ok c.requires.size c.guard-value.ensures
+    c.replace.ensures.after ∙ c.requires.state ∙ ap (λ (r : Recorded). state_after_batch r (batch_of c.args.batch)) (sym c.self.view_is),
+    c.replace.ensures.value,
+    short_one (batch_of c.args.batch) c.requires.short,
+  ) (ap (λ (r : Recorded). r.variant) c.self.view_is ∙ c.requires.variant) c.in_ok-open.ensures.ok c.requires.size c.guard-value.ensures
       c.register-register.ensures (c.opened-self-inside.ensures
       ∙ ap (opened_marks c.self.inside.marks c.args.size c.guard-value.result.bytes c.register-register.result.bytes)
       c.is_alone-is_alone.ensures);
