@@ -18,7 +18,7 @@ use Rattle.mm_told.specs.declared.state.State.{State}
 use Rattle.mm_told.specs.declared.state.State.TheVariants as state
 use Rattle.mm_told.specs.Steps.{act_of, act_made, fault_made, ReadsTrue, IsMade}
 use Rattle.mm_told.specs.Host.{Host, AreLast, IsHostOf, bare}
-use Rattle.mm_told.specs.Later.{added, raised, later_by, later_cycled, no_calls, state_after, state_cycled, stands_by, IsOther, IsMissed, IsNext, IsTelling}
+use Rattle.mm_told.specs.Later.{added, raised, later_by, later_cycled, no_calls, state_after, state_cycled, stands_by, IsOther, IsNext, IsTelling}
 
 -- one more
 added_more : (n m count : ℕ) → m ≡ counted (suc n) → added m count ≡ counted (added (suc n) count)
@@ -155,23 +155,7 @@ are_rest it more (one ∷ steps) (inl e) = inr (subst (λ (xs : List Made). AreL
     behind (one ∷ ones) = ones
 are_rest it more (one ∷ steps) (inr l) = inr (are_rest it more steps l)
 
--- another step is asked for
-pub other_after : (left : List Made) (was : State) (step : Step) → IsOther left was → IsMissed left was step → IsOther left (state_after step was)
-other_after [] state.Telling step o m = tt
-other_after [] (state.Differing later) step o m = tt
-other_after [] (state.Wanting wanted later) step o m = tt
-other_after (it ∷ more) state.Telling step o m = m
-other_after (it ∷ more) (state.Differing later) step o m = tt
-other_after (it ∷ more) (state.Wanting wanted later) step o m = o
-
-pub other_cycled : (left : List Made) (was : State) → IsOther left was → IsOther left (state_cycled was)
-other_cycled [] state.Telling o = tt
-other_cycled [] (state.Differing later) o = tt
-other_cycled [] (state.Wanting wanted later) o = tt
-other_cycled (it ∷ more) state.Telling o = tt
-other_cycled (it ∷ more) (state.Differing later) o = tt
-other_cycled (it ∷ more) (state.Wanting wanted later) o = o
-
+-- at first no other step is asked for
 pub other_told : (left : List Made) → IsOther left state.Telling
 other_told [] = tt
 other_told (it ∷ more) = tt

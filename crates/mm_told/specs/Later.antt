@@ -1,5 +1,5 @@
 -- What was called behind the steps that are answered, and what stands then.
-use Rattle.std.specs.Prelude.{◌≡◌, ◌≢◌, ℕ, zero, suc, ◌+◌, ◌-◌, ◌^◌, min, List, [], ◌∷◌, length, Option, None, Some}
+use Rattle.std.specs.Prelude.{◌≡◌, ◌≢◌, ℕ, zero, suc, ◌+◌, ◌-◌, ◌^◌, ◌≤◌, min, List, [], ◌∷◌, length, Option, None, Some}
 use Rattle.mm_base.specs.Faults.{counted}
 use Rattle.mm_platform.specs.Standing.{Standing}
 use Rattle.mm_platform.specs.Steps.{Act, Goes, writes_after}
@@ -76,10 +76,11 @@ abbrev pub IsMissed : List Made → State → Step → Type 0
 IsMissed (it ∷ more) state.Telling step = act_made it ≢ act_of step
 IsMissed _ _ step = Unit {0}
 
--- the step that was asked for isn't the one that was made next
+-- the step that was asked for isn't the one that was made next; or a loss of power was asked for
 abbrev pub IsOther : List Made → State → Type 0
+IsOther left (state.Differing later) = 1 ≤ later.cycles
 IsOther (it ∷ more) (state.Wanting step later) = act_made it ≢ act_of step
-IsOther _ _ = Unit {0}
+IsOther left asked = Unit {0}
 
 -- Of the steps that were made on the platform these are left, and another was asked for.
 pub record IsTelling (host : Host) (left : List Made) (asked : State) : Type 0 where
