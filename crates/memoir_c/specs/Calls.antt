@@ -47,7 +47,7 @@ pub record IsCall (instance : Instance) (steps : List Step) (offer request : Lis
   pub made : List Made
   pub are_parts : AreParts instance (Ok parts)
   pub are_steps : AreSteps steps made
-  pub asks : AsksBy parts.0 (meaning_of parts.1) worn_host made offer request outcome
+  pub asks : AsksBy parts.0 (meaning_of parts.1) (worn_host made) made offer request outcome
 
 -- what a call comes to; or what is passed is no call
 abbrev pub ComesTo : Instance → List Step → List ℕ → List ℕ
@@ -71,7 +71,7 @@ pub record IsClosing (steps : List Step) (outcome : Outcome (Result Checkpointed
     : Type 0 where
   pub made : List Made
   pub are_steps : AreSteps steps made
-  pub closes : ClosesBy worn_host made outcome
+  pub closes : ClosesBy (worn_host made) made outcome
 
 abbrev pub ClosesTo : List Step → Result (Outcome (Result Checkpointed CheckpointRefusal)) Said
     → Type 0

@@ -140,7 +140,7 @@ fn come_to<M: Module>(
     request: &[u8],
     keys: &mut KeptKey,
 ) -> Outcome<Result<Answer, Refusal>>
-    ensures { AsksBy variant (M.meaning «module».now) worn_host made.now offer.now request.now result }
+    ensures { AsksBy variant (M.meaning «module».now) (worn_host made.now) made.now offer.now request.now result }
 {
     ask(alloc, variant, module, made, offer, request, keys)
 }

@@ -1,2 +1,3 @@
 mod Missing
 mod Standings
+mod Shutting

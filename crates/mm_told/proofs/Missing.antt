@@ -1,7 +1,8 @@
 -- A step that isn't answered, and a loss of power.
-use Rattle.std.proofs.Common.{◌≡◌, ℕ, zero, suc, ◌==◌, Bool, true, false, List, [], ◌∷◌, length, refl, sym, ap, ◌∙◌, arith}
+use Rattle.std.proofs.Common.{◌≡◌, ℕ, zero, suc, Bool, false, List, [], ◌∷◌, ◌-◌, length, take, drop, refl, sym, ap, subst, inl, inr, ◌∙◌, arith}
 use Rattle.std.specs.Prelude.{Option, None, Some, Ok, Err, IsSome}
 use Rattle.std.specs.Option.{option_map}
+use Rattle.std.proofs.lemmas.List.{take_all}
 use Rattle.mm_base.specs.Faults.{counted}
 use Rattle.mm_platform.specs.declared.fault.StepFault.{StepFault}
 use Rattle.mm_platform.specs.declared.fault.StepFault.TheVariants.{Failed, Off}
@@ -16,8 +17,8 @@ use Rattle.mm_told.specs.declared.state.Later.{Later}
 use Rattle.mm_told.specs.declared.state.State.{State}
 use Rattle.mm_told.specs.declared.state.State.TheVariants as state
 use Rattle.mm_told.specs.Steps.{act_of, act_made, fault_made, ReadsTrue, IsMade}
-use Rattle.mm_told.specs.Host.{Host, bare}
-use Rattle.mm_told.specs.Later.{added, raised, later_by, later_cycled, no_calls, state_after, state_cycled, stands_by}
+use Rattle.mm_told.specs.Host.{Host, AreLast, IsHostOf, bare}
+use Rattle.mm_told.specs.Later.{added, raised, later_by, later_cycled, no_calls, state_after, state_cycled, stands_by, IsOther, IsNext, IsTelling}
 
 -- one more
 added_more : (n m count : ℕ) → m ≡ counted (suc n) → added m count ≡ counted (added (suc n) count)
@@ -126,22 +127,56 @@ pub made_bare : (it : Made) (old new : Standing) → IsMade it old new → IsMad
 made_bare it old new m =
     record { goes = goes_bare (act_made it) old new (fault_made it) m.goes; reads = reads_bare it old new m.reads }
 
--- no step is left
-pub is_last : (left : List Made) (last : Bool) → last ≡ (length left == 0) → last ≡ true → left ≡ []
-is_last [] last e t = refl
-is_last (it ∷ more) last e t = grind (arith, e, t)
-
 -- a step that isn't answered
-pub misses : (host : Host) (left : List Made) (it : State) (step : Step) (is_last : Bool) → (is_last ≡ true → left ≡ [])
-    → Goes (act_of step) (stands_by host (length left) it) (stands_by host (length left) (state_after is_last step it)) (Some Off)
-misses host left state.Telling step true last =
-    rw (last refl) (goes_bare (act_of step) (host.stood 0) (host.missed (act_of step)) (Some Off) (host.misses (act_of step)))
-misses host left state.Telling step false last = unmade (act_of step) (bare (host.stood (length left))) no_calls refl
-misses host left (state.Differing later) step is_last last = unmade (act_of step) (bare (host.stood (length left))) later refl
-misses host left (state.Wanting wanted later) step is_last last = unmade (act_of step) (bare (host.missed (act_of wanted))) later refl
+pub misses : (host : Host) (left : ℕ) (it : State) (step : Step)
+    → Goes (act_of step) (stands_by host left it) (stands_by host left (state_after step it)) (Some Off)
+misses host left state.Telling step =
+    goes_bare (act_of step) (host.stood left) (host.missed left (act_of step)) (Some Off) (host.misses left (act_of step))
+misses host left (state.Differing later) step = unmade (act_of step) (bare (host.stood left)) later refl
+misses host left (state.Wanting wanted later) step = unmade (act_of step) (bare (host.missed left (act_of wanted))) later refl
 
 -- a loss of power
 pub cycles : (host : Host) (left : ℕ) (it : State) → Cycles (stands_by host left it) (stands_by host left (state_cycled it)) (Some Off)
 cycles host left state.Telling = uncycled (bare (host.stood left)) no_calls refl
 cycles host left (state.Differing later) = uncycled (bare (host.stood left)) later refl
-cycles host left (state.Wanting wanted later) = uncycled (bare (host.missed (act_of wanted))) later refl
+cycles host left (state.Wanting wanted later) = uncycled (bare (host.missed left (act_of wanted))) later refl
+
+-- all steps are the last of themselves, and so are those behind the first of the last
+pub are_all : (steps : List Made) → AreLast steps steps
+are_all [] = refl
+are_all (it ∷ more) = inl refl
+
+pub are_rest : (it : Made) (more steps : List Made) → AreLast (it ∷ more) steps → AreLast more steps
+are_rest it more [] e = absurd (cc)
+are_rest it more (one ∷ steps) (inl e) = inr (subst (λ (xs : List Made). AreLast xs steps) (ap behind (sym e)) (are_all steps))
+  where
+    behind : List Made → List Made
+    behind [] = []
+    behind (one ∷ ones) = ones
+are_rest it more (one ∷ steps) (inr l) = inr (are_rest it more steps l)
+
+-- at first no other step is asked for
+pub other_told : (left : List Made) → IsOther left state.Telling
+other_told [] = tt
+other_told (it ∷ more) = tt
+
+-- at first all steps are left
+pub told_first : (host : Host) (steps : List Made) → IsHostOf steps host → IsTelling host steps state.Telling
+told_first host steps h = record {
+  are_made = h.are_made;
+  are_last = subst (λ (xs : List Made). AreLast steps xs) (sym h.made_are) (are_all steps);
+  is_other = other_told steps;
+}
+
+-- behind the one that was made next the rest is left
+pub told_rest : (host : Host) (left more : List Made) (was : State) (step : Step) → IsNext left was step → IsTelling host left was
+    → (n : ℕ) → n ≡ length left - 1 → more ≡ take n (drop 1 left) → IsTelling host more was
+told_rest host [] more was step next t n counts e = absurd next
+told_rest host (it ∷ rest) more was step next t n counts e =
+    let same : rest ≡ more = sym (e ∙ take_all n rest (omega (arith, counts))) in
+    subst (λ (xs : List Made). IsTelling host xs was) same
+    (record {
+      are_made = t.are_made.1;
+      are_last = are_rest it rest host.made t.are_last;
+      is_other = subst (λ (asked : State). IsOther rest asked) (sym next.0) (other_told rest);
+    })

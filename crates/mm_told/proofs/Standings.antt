@@ -1,16 +1,18 @@
 -- A host's platform, by where it stood.
-use Rattle.std.proofs.Common.{ℕ, zero, suc, refl}
+use Rattle.std.proofs.Common.{ℕ, zero, suc, List, refl}
+use Rattle.mm_told.specs.declared.step.Made.{Made}
 use Rattle.mm_platform.specs.Standing.{Standing}
 use Rattle.mm_told.specs.Host.{Host, bare}
 use Rattle.mm_told.specs.Later.{later_by, no_calls, raised}
 use Rattle.mm_told.proofs.Missing.{unmade}
 
 -- a step that isn't answered has no effect
-abbrev pub host_of : (ℕ → Standing) → Host
-host_of stood = record {
+abbrev pub host_of : List Made → (ℕ → Standing) → Host
+host_of steps stood = record {
+  made = steps;
   stood = λ left. bare (stood left);
-  missed = λ act. raised (later_by act no_calls) (bare (stood 0));
-  misses = λ act. unmade act (bare (stood 0)) no_calls refl;
+  missed = λ left act. raised (later_by act no_calls) (bare (stood left));
+  misses = λ left act. unmade act (bare (stood left)) no_calls refl;
 }
 
 -- where it stands now, before what it stood at

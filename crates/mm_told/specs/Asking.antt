@@ -17,8 +17,8 @@ use Rattle.mm_told.specs.declared.outcome.Outcome.{Outcome}
 use Rattle.mm_told.specs.declared.outcome.Outcome.TheVariants as outcome
 use Rattle.mm_told.specs.declared.step.Made.{Made}
 use Rattle.mm_told.specs.Steps.{act_of}
-use Rattle.mm_told.specs.Host.{Host, bare}
-use Rattle.mm_told.specs.Later.{Telling, stands}
+use Rattle.mm_told.specs.Host.{Host, AreLast, bare}
+use Rattle.mm_told.specs.Later.{Telling, IsOther, stands}
 use Rattle.mm_told.specs.Outcomes.{asked_by, reach_of}
 
 -- what a whole call of a variant promises
@@ -32,10 +32,13 @@ abbrev pub begun : Host → List Made → Standing
 begun host steps = bare (host.stood (length steps))
 
 -- The call over the told platform makes other steps than those that were made, or fewer: this is
--- what it came to there.
+-- what it came to there, with the last of these left. Where another step was asked for, it isn't the
+-- one that was made next.
 pub record AsksOtherwise (variant : Variant) (meaning : Meaning) (host : Host) (steps : List Made)
     (offer request : List ℕ) : Type 0 where
   pub told : Telling
+  pub left : AreLast told.left steps
+  pub other : IsOther told.left told.state
   pub gives : Result Answer Refusal
   pub asked : AskedIn variant meaning (begun host steps) (stands host told) offer (One request)
       (whole_in gives)
@@ -51,7 +54,7 @@ AsksBy variant meaning host steps offer request (outcome.Ended gives) =
     AskedIn variant meaning (begun host steps) (bare (host.stood 0)) offer (One request)
     (whole_in gives)
 AsksBy variant meaning host steps offer request (outcome.Next step) =
-    AskedIn variant meaning (begun host steps) (bare (host.missed (act_of step))) offer
+    AskedIn variant meaning (begun host steps) (bare (host.missed 0 (act_of step))) offer
     (One request) (Err (Device Off))
 AsksBy variant meaning host steps offer request outcome.Differs =
     AsksOtherwise variant meaning host steps offer request

@@ -9,7 +9,7 @@ use Rattle.mm_platform.specs.Steps.{cell_after, items_after, writes_after}
 use Rattle.mm_told.specs.declared.step.Made.{Made}
 use Rattle.mm_told.specs.declared.step.Made.TheVariants as made
 use Rattle.mm_told.specs.Steps.{ReadsTrue, act_made, fault_made}
-use Rattle.mm_told.specs.Host.{Host, AreMade}
+use Rattle.mm_told.specs.Host.{Host, AreMade, IsHostOf}
 
 -- no content is told, and the counts are at their greatest
 abbrev pub worn : Standing
@@ -67,11 +67,12 @@ goes_worn act fault = record {
   told = λ plan told. absurd (cc);
 }
 
-pub worn_host : Host
-worn_host = record {
+pub worn_host : List Made → Host
+worn_host steps = record {
+  made = steps;
   stood = λ left. worn;
-  missed = λ act. worn;
-  misses = λ act. goes_worn act (Some Off);
+  missed = λ left act. worn;
+  misses = λ left act. goes_worn act (Some Off);
 }
 
 reads_worn : (it : Made) → ReadsTrue it worn worn
@@ -84,10 +85,13 @@ reads_worn (made.ResetRegister answer) = tt
 reads_worn (made.ExtendRegister value answer) = tt
 
 -- any steps
-pub are_made : (steps : List Made) → AreMade worn_host.stood steps
-unfolding worn_host
+are_made : (steps : List Made) → AreMade (λ left. worn) steps
 are_made [] = tt
 are_made (it ∷ more) = (
   record { goes = goes_worn (act_made it) (fault_made it); reads = reads_worn it },
   are_made more,
 )
+
+pub is_worn_host : (steps : List Made) → IsHostOf steps (worn_host steps)
+unfolding worn_host
+is_worn_host steps = record { made_are = refl; are_made = are_made steps }

@@ -1,5 +1,5 @@
 -- What was called behind the steps that are answered, and what stands then.
-use Rattle.std.specs.Prelude.{◌≡◌, ℕ, zero, suc, ◌+◌, ◌-◌, ◌^◌, Bool, true, false, min, List, length, Option, None, Some}
+use Rattle.std.specs.Prelude.{◌≡◌, ◌≢◌, ℕ, zero, suc, ◌+◌, ◌-◌, ◌^◌, ◌≤◌, min, List, [], ◌∷◌, length, Option, None, Some}
 use Rattle.mm_base.specs.Faults.{counted}
 use Rattle.mm_platform.specs.Standing.{Standing}
 use Rattle.mm_platform.specs.Steps.{Act, Goes, writes_after}
@@ -10,7 +10,7 @@ use Rattle.mm_told.specs.declared.state.Later.{Later}
 use Rattle.mm_told.specs.declared.state.State.{State}
 use Rattle.mm_told.specs.declared.state.State.TheVariants as state
 use Rattle.mm_told.specs.Steps.{act_of, act_made, IsMade}
-use Rattle.mm_told.specs.Host.{Host, bare}
+use Rattle.mm_told.specs.Host.{Host, AreMade, AreLast, bare}
 
 -- a count after so many more
 abbrev pub added : ℕ → ℕ → ℕ
@@ -40,12 +40,11 @@ later_cycled later = record later { cycles = counted later.cycles; faults = coun
 abbrev pub no_calls : Later
 no_calls = record { steps = 0; writes = 0; cycles = 0; faults = 0 }
 
--- after a step that isn't answered, by whether all steps that were made are over
-abbrev pub state_after : Bool → Step → State → State
-state_after true step state.Telling = state.Wanting step no_calls
-state_after false step state.Telling = state.Differing (later_by (act_of step) no_calls)
-state_after is_last step (state.Differing later) = state.Differing (later_by (act_of step) later)
-state_after is_last step (state.Wanting wanted later) =
+-- after a step that isn't answered
+abbrev pub state_after : Step → State → State
+state_after step state.Telling = state.Wanting step no_calls
+state_after step (state.Differing later) = state.Differing (later_by (act_of step) later)
+state_after step (state.Wanting wanted later) =
     state.Wanting wanted (later_by (act_of step) later)
 
 abbrev pub state_cycled : State → State
@@ -62,10 +61,32 @@ pub record Telling : Type 0 where
 abbrev pub stands_by : Host → ℕ → State → Standing
 stands_by host left state.Telling = bare (host.stood left)
 stands_by host left (state.Differing later) = raised later (bare (host.stood left))
-stands_by host left (state.Wanting step later) = raised later (bare (host.missed (act_of step)))
+stands_by host left (state.Wanting step later) =
+    raised later (bare (host.missed left (act_of step)))
 
 abbrev pub stands : Host → Telling → Standing
 stands host told = stands_by host (length told.left) told.state
+
+-- the step is the one that was made next, as long as these are told; or it isn't
+abbrev pub IsNext : List Made → State → Step → Type 0
+IsNext [] it_is step = ⊥
+IsNext (it ∷ more) it_is step = (it_is ≡ state.Telling) × (act_made it ≡ act_of step)
+
+abbrev pub IsMissed : List Made → State → Step → Type 0
+IsMissed (it ∷ more) state.Telling step = act_made it ≢ act_of step
+IsMissed _ _ step = Unit {0}
+
+-- the step that was asked for isn't the one that was made next; or a loss of power was asked for
+abbrev pub IsOther : List Made → State → Type 0
+IsOther left (state.Differing later) = 1 ≤ later.cycles
+IsOther (it ∷ more) (state.Wanting step later) = act_made it ≢ act_of step
+IsOther left asked = Unit {0}
+
+-- Of the steps that were made on the platform these are left, and another was asked for.
+pub record IsTelling (host : Host) (left : List Made) (asked : State) : Type 0 where
+  pub are_made : AreMade host.stood left
+  pub are_last : AreLast left host.made
+  pub is_other : IsOther left asked
 
 -- what is given for a step: what the host's device answered to it; or none, and it is off
 pub record IsAnswer (act : Act) (old new : Standing) (it : Made) : Type 0 where

@@ -27,8 +27,9 @@ abbrev pub reach_by : List Made → State → Reach
 reach_by [] state.Telling = reach.End
 reach_by (it ∷ more) state.Telling = reach.Elsewhere
 reach_by left (state.Differing later) = reach.Elsewhere
-reach_by left (state.Wanting step later) =
+reach_by [] (state.Wanting step later) =
     if is_none later then reach.Next step else reach.Elsewhere
+reach_by (it ∷ more) (state.Wanting step later) = reach.Elsewhere
 
 abbrev pub reach_of : Telling → Reach
 reach_of told = reach_by told.left told.state

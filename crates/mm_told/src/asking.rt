@@ -1,7 +1,7 @@
 //! A call whose device steps a host makes.
 
 ghost use Rattle.mm_told.specs.Asking.{AsksBy};
-ghost use Rattle.mm_told.specs.Host.{Host, AreMade};
+ghost use Rattle.mm_told.specs.Host.{Host, IsHostOf};
 ghost use Rattle.mm_digest.specs.declared.variant.Variant.TheVariants.{Basic, Opt};
 
 use crate::host::Hosted;
@@ -29,7 +29,7 @@ pub fn ask<M: Module>(
     keys: &mut KeptKey,
 ) -> Outcome<Result<Answer, Refusal>>
     ghost host: { Host }
-    requires { AreMade host.stood made.now }
+    requires { IsHostOf made.now host }
     ensures { AsksBy variant (M.meaning «module».now) host made.now offer.now request.now result }
 {
     match variant {
@@ -47,7 +47,7 @@ fn ask_basic<K: Hosted, M: Module>(
     request: &[u8],
     keys: &mut KeptKey,
 ) -> Outcome<Result<Answer, Refusal>>
-    requires { AreMade K.host.stood made.now }
+    requires { IsHostOf made.now K.host }
     ensures { AsksBy Basic (M.meaning «module».now) K.host made.now offer.now request.now result }
 {
     let mut told = Told::<K>::new(made);
@@ -64,7 +64,7 @@ fn ask_opt<K: Hosted, M: Module>(
     request: &[u8],
     keys: &mut KeptKey,
 ) -> Outcome<Result<Answer, Refusal>>
-    requires { AreMade K.host.stood made.now }
+    requires { IsHostOf made.now K.host }
     ensures { AsksBy Opt (M.meaning «module».now) K.host made.now offer.now request.now result }
 {
     let mut told = Told::<K>::new(made);

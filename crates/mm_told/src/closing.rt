@@ -1,7 +1,7 @@
 //! A checkpoint whose device steps a host makes.
 
 ghost use Rattle.mm_told.specs.Closing.{ClosesBy};
-ghost use Rattle.mm_told.specs.Host.{Host, AreMade};
+ghost use Rattle.mm_told.specs.Host.{Host, IsHostOf};
 
 use crate::host::Hosted;
 use crate::outcome::Outcome;
@@ -14,14 +14,14 @@ use std::marker::Brand;
 /// Takes no memory.
 pub fn checkpoint(made: &[Made]) -> Outcome<Result<Checkpointed, CheckpointRefusal>>
     ghost host: { Host }
-    requires { AreMade host.stood made.now }
+    requires { IsHostOf made.now host }
     ensures { ClosesBy host made.now result }
 {
     close::<Brand>(made)
 }
 
 fn close<K: Hosted>(made: &[Made]) -> Outcome<Result<Checkpointed, CheckpointRefusal>>
-    requires { AreMade K.host.stood made.now }
+    requires { IsHostOf made.now K.host }
     ensures { ClosesBy K.host made.now result }
 {
     let mut told = Told::<K>::new(made);

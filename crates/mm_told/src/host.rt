@@ -1,6 +1,7 @@
 //! Where a host's platform stands.
 
 ghost use Rattle.mm_told.specs.Host.{Host};
+ghost use Rattle.std.specs.Prelude.{[]};
 ghost use Rattle.mm_told.specs.HostLaws.{worn_host};
 
 use std::marker::Brand;
@@ -12,5 +13,5 @@ pub trait Hosted {
 }
 
 impl Hosted for Brand {
-    ghost host = { worn_host };
+    ghost host = { worn_host [] };
 }

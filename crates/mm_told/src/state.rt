@@ -19,9 +19,9 @@ pub struct Later {
 pub enum State {
     /// The steps that were made, so far.
     Telling,
-    /// Another step than the one that was made next.
+    /// A loss of power, which no call asks for.
     Differing(Later),
-    /// This step, behind all that were made.
+    /// This step: not the one that was made next, or behind all that were made.
     Wanting(Step, Later),
 }
 
@@ -80,13 +80,12 @@ impl State {
     ghost use Rattle.std.specs.Prelude.{◌≡◌};
     ghost use Rattle.mm_told.specs.Later.{state_after, state_cycled};
 
-    /// After a step that isn't answered, by whether all steps that were made are over.
-    pub fn after(self, is_last: bool, step: &Step) -> State
-        ensures { result ≡ state_after is_last step.now self }
+    /// After a step that isn't answered.
+    pub fn after(self, step: &Step) -> State
+        ensures { result ≡ state_after step.now self }
     {
         match self {
-            State::Telling if is_last => State::Wanting(*step, Later::none()),
-            State::Telling => State::Differing(Later::none().after(step)),
+            State::Telling => State::Wanting(*step, Later::none()),
             State::Differing(later) => State::Differing(later.after(step)),
             State::Wanting(wanted, later) => State::Wanting(wanted, later.after(step)),
         }

@@ -1,11 +1,11 @@
 //! A platform that answers from what a host's devices answered.
 
-ghost use Rattle.std.specs.Prelude.{◌≡◌, ◌∷◌, [], Some, IsTrue, length};
+ghost use Rattle.std.specs.Prelude.{◌≡◌, ◌↔◌, ◌∷◌, [], Some, IsTrue, IsFalse, length};
 ghost use Rattle.std.specs.Result.{result_err};
 ghost use Rattle.mm_platform.specs.Steps.{Goes, Cycles, WriteCell, ExtendRegister};
 ghost use Rattle.mm_platform.specs.declared.fault.StepFault.TheVariants.{Off};
-ghost use Rattle.mm_told.specs.Host.{AreMade, bare};
-ghost use Rattle.mm_told.specs.Later.{stands, IsGiven};
+ghost use Rattle.mm_told.specs.Host.{AreLast, IsHostOf, bare};
+ghost use Rattle.mm_told.specs.Later.{stands, IsGiven, IsNext, IsMissed, IsOther};
 ghost use Rattle.mm_told.specs.Outcomes.{reach_of};
 ghost use Rattle.mm_told.specs.Steps.{act_of, act_made};
 
@@ -32,17 +32,17 @@ impl<'a, K: Hosted> Model for Told<'a, K> {
 
     ghost Value = { Telling };
 
-    ghost use Rattle.mm_told.specs.Host.{AreMade};
+    ghost use Rattle.mm_told.specs.Later.{IsTelling};
 
     ghost view = { λ it. record { left = it.left.now; state = it.state } };
 
-    ghost invariant = { λ it. AreMade K.host.stood it.left.now };
+    ghost invariant = { λ it. IsTelling K.host it.left.now it.state };
 }
 
 impl<'a, K: Hosted> Told<'a, K> {
     /// The platform on which these steps were made.
     pub fn new(made: &'a [Made]) -> Told<'a, K>
-        requires { AreMade K.host.stood made.now }
+        requires { IsHostOf made.now K.host }
         ensures { result ≡ record { left = made.now; state = State.Telling } }
     {
         Told {
@@ -54,11 +54,15 @@ impl<'a, K: Hosted> Told<'a, K> {
 
     /// How far it was asked.
     pub fn reach(&self) -> Reach
-        ensures { result ≡ reach_of self.now }
+        ensures reach { result ≡ reach_of self.now }
+        ensures last { AreLast self.now.left K.host.made }
+        ensures other { IsOther self.now.left self.now.state }
     {
         match self.state {
             State::Telling if self.left.is_empty() => Reach::End,
-            State::Wanting(step, later) if later.is_none() => Reach::Next(step),
+            State::Wanting(step, later) if later.is_none() && self.left.is_empty() => {
+                Reach::Next(step)
+            }
             _ => Reach::Elsewhere,
         }
     }
@@ -68,38 +72,50 @@ impl<'a, K: Hosted> Told<'a, K> {
         ensures { IsGiven (act_of step.now) (stands K.host self.old)
             (stands K.host self.new) result }
     {
+        if !is_next(self.left, &self.state, step) {
+            self.miss(step);
+            return None;
+        }
         match self.left {
-            [it, more @ ..] if is_telling(&self.state) && is_of(it, step) => {
+            [it, more @ ..] => {
                 self.left = more;
                 Some(*it)
             }
-            _ => {
-                self.miss(step);
-                None
-            }
+            [] => unreachable!(),
         }
     }
 
     // A step that was not made next.
 
     fn miss(&mut self, step: &Step)
+        requires { IsMissed self.old.left self.old.state step.now }
         ensures { Goes (act_of step.now) (stands K.host self.old)
             (stands K.host self.new) (Some Off) }
     {
-        let is_last = self.left.is_empty();
-        self.state = self.state.after(is_last, step);
+        self.state = self.state.after(step);
+    }
+}
+
+// Whether the step is the one that was made next.
+fn is_next(left: &[Made], state: &State, step: &Step) -> bool
+    ensures next { IsTrue result → IsNext left.now state.now step.now }
+    ensures missed { IsFalse result → IsMissed left.now state.now step.now }
+{
+    match left {
+        [it, ..] => is_telling(state) && is_of(it, step),
+        [] => false,
     }
 }
 
 fn is_telling(state: &State) -> bool
-    ensures { IsTrue result → state.now ≡ State.Telling }
+    ensures { IsTrue result ↔ (state.now ≡ State.Telling) }
 {
     matches!(state, State::Telling)
 }
 
 // Whether this is the step that was made.
 fn is_of(it: &Made, step: &Step) -> bool
-    ensures { IsTrue result → act_made it.now ≡ act_of step.now }
+    ensures { IsTrue result ↔ (act_made it.now ≡ act_of step.now) }
 {
     match it {
         Made::ReadCell(_) => matches!(step, Step::ReadCell),
@@ -111,7 +127,7 @@ fn is_of(it: &Made, step: &Step) -> bool
 }
 
 fn is_write_of(bytes: &[u8; CELL_LENGTH], step: &Step) -> bool
-    ensures { IsTrue result → act_of step.now ≡ WriteCell bytes.now }
+    ensures { IsTrue result ↔ (act_of step.now ≡ WriteCell bytes.now) }
 {
     match step {
         Step::WriteCell(wanted) => bytes == wanted,
@@ -120,7 +136,7 @@ fn is_write_of(bytes: &[u8; CELL_LENGTH], step: &Step) -> bool
 }
 
 fn is_extension_by(value: &Digest, step: &Step) -> bool
-    ensures { IsTrue result → act_of step.now ≡ ExtendRegister value.now.bytes }
+    ensures { IsTrue result ↔ (act_of step.now ≡ ExtendRegister value.now.bytes) }
 {
     match step {
         Step::ExtendRegister(wanted) => value == wanted,

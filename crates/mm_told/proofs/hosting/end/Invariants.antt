@@ -2,4 +2,4 @@ use Rattle.mm_told.proofs.Standings.{host_of}
 use Rattle.mm_told.proofs.hosting.end.Given as goal
 
 abbrev pub ghost-ask : goal.ghost-ask
-ghost-ask g a = host_of g.stood
+ghost-ask g a = host_of a.made.now g.stood
