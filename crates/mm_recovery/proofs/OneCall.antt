@@ -1,5 +1,5 @@
 -- One call of either variant promises what the cores' whole calls do.
-use Rattle.mm_recovery.proofs.Below.{arith, ◌≡◌, ℕ, Bool, false, List, length, None, Result, Ok, Err, refl, sym, subst, Variant, Basic, Opt}
+use Rattle.mm_recovery.proofs.Below.{arith, ◌≡◌, ℕ, Bool, false, List, length, Result, Ok, Err, refl, sym, subst, Variant, Basic, Opt}
 use Rattle.mm_recovery.proofs.Below.{Standing, Meaning, IsLawful, Batch, One, IsFit, is_long, Answer, BatchAnswer, Refusal, Long, Verdict}
 use Rattle.mm_recovery.proofs.Below.{Ended, result_of, Blames, whole, whole_in, fault_in, weighed, EndsTo}
 use Rattle.mm_recovery.proofs.Below.{ends_result, Given, steps_give, acts_for, answer_in, basic_call, StepsBy, AskedIn, IsCall}

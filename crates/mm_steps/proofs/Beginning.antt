@@ -58,7 +58,7 @@ module _ (variant : Variant) (meaning : Meaning) (key barrier : List ℕ) (d : D
   pub closes_begun : ClosesInFlight variant meaning key barrier d from stage.Begun from [] 1
   closes_begun =
       flight_begun (close_left stage.Begun) (instance_by variant meaning key barrier) d from s q
-      (λ old new ended f. f) refl refl
+      (λ old new ended f. f) tt refl
 
 -- there is a next step to plan such a value for
 pub may_take_in : (now : Standing) (plan : Plan) (at : ℕ) → now.plan ≡ Some (record plan { at = at }) → at < 255 → (next_plan now).at < 255
