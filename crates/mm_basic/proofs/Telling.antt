@@ -6,7 +6,7 @@ use Rattle.mm_basic.proofs.Below.{result_of, OrMemory, examined, found_told, end
 use Rattle.mm_basic.proofs.Below.{FindsIn, Reads, basic_call, basic_asked, ExtendsNothing, Blank, Form, verdict_of, answer_of}
 use Rattle.mm_basic.proofs.Below.{committed_cell, blamed, Answered, Broken, breaks_off, Commits, goes_on}
 use Rattle.mm_platform.specs.declared.fault.StepFault.{StepFault}
-use Rattle.mm_machine.specs.Acts.{MayChange, act_in, change_after}
+use Rattle.mm_machine.specs.Acts.{MayChange, act_in}
 use Rattle.mm_machine.specs.Finishing as machine
 use Rattle.mm_machine.specs.Reading as reading
 use Rattle.mm_machine.specs.Reading.{FindsOn, Looks, RoomFor, Rooms, Weighs, extends}
@@ -61,9 +61,22 @@ roomless : (e : Bool) (found : Found BatchAnswer) (old new : Standing) (given : 
 roomless false found old new given none r = r
 roomless true found old new given none r = absurd (cc)
 
-step_extends : (found : Found BatchAnswer) → extends found ≡ false → StepExtendsNothing (step_found {R = Refusal} (Ok found))
-step_extends (Repeat answer) none = tt
-step_extends (Change ready) none = none
+-- a step goes on from the first alone, to the second, and no own extension is to come
+abbrev GoesFrom : Stage BatchAnswer → Step BatchAnswer Refusal → Type 0
+GoesFrom call (Going on) = ExtendsNothing on × (number_of 2 on ≡ 2) × (call ≡ stage.Begun)
+GoesFrom call (Over end) = Unit {0}
+
+change_goes : (change : Deed) (answer : BatchAnswer) → extends_in change ≡ false → GoesFrom stage.Begun (step_to (Some change) answer)
+change_goes (Writing next) answer none = (refl, refl, refl)
+change_goes _ answer none = absurd (cc)
+
+found_goes : (found : Found BatchAnswer) → extends found ≡ false → GoesFrom stage.Begun (step_found (Ok found))
+found_goes (Repeat answer) none = tt
+found_goes (Change ready) none = change_goes ready.change ready.answer none
+
+extends_by : (call : Stage BatchAnswer) (step : Step BatchAnswer Refusal) → GoesFrom call step → StepExtendsNothing step
+extends_by call (Going on) g = g.0
+extends_by call (Over end) g = tt
 
 pub may_change : (change : Deed) (standing : Standing) → extends_in change ≡ false → MayChange change standing
 may_change (Writing next) standing none = tt
@@ -72,25 +85,6 @@ may_change _ standing none = absurd (cc)
 pub may_go_on : (call : Stage BatchAnswer) (standing : Standing) → ExtendsNothing call → MayGoOn call standing
 may_go_on (stage.Changing ready) standing none = may_change ready.change standing none
 may_go_on _ standing none = tt
-
--- the second step is behind what is found, if there is one
-
-abbrev going : Stage BatchAnswer → Step BatchAnswer Refusal
-going on = Going on
-
-abbrev number_at : Step BatchAnswer Refusal → ℕ
-number_at (Going on) = number_of 2 on
-number_at (Over end) = 2
-
-change_second : (change : Deed) (answer : BatchAnswer) (on : Stage BatchAnswer) → extends_in change ≡ false
-    → going on ≡ step_to (Some change) answer → number_of 2 on ≡ 2
-change_second (Writing next) answer on none e = ap number_at e
-change_second _ answer on none e = absurd (cc)
-
-found_second : (found : Found BatchAnswer) (on : Stage BatchAnswer) → extends found ≡ false → going on ≡ step_found (Ok found)
-    → number_of 2 on ≡ 2
-found_second (Repeat answer) on none e = ap number_at e
-found_second (Change ready) on none e = change_second ready.change ready.answer on none e
 
 module _ (meaning : Meaning) (offer : List ℕ) (b : Batch) where
   pub quiet : told.IsQuiet (basic_asked meaning offer b)
@@ -139,78 +133,44 @@ module _ (meaning : Meaning) (offer : List ℕ) (b : Batch) where
       told.asks_told (basic_asked meaning offer b) (λ answer. refl) Basic Reads
       (reading.Reads (basic_asked meaning offer b) old) meaning old new offer b end (λ middle found r. (reads_told old middle found r).0) f
 
-  -- a step leaves no own extension to come
+  -- what a step goes on to
 
-  sight_extends : (old after new : Standing) (seen : Result (Sight BatchAnswer) (Halt Refusal)) (step : Step BatchAnswer Refusal)
-      → Looks (basic_asked meaning offer b) old after seen → SightLeads seen after new step → StepExtendsNothing step
-  sight_extends old after new (Err why) step l s = rw s.1 tt
-  sight_extends old after new (Ok (sight.Found found)) step l s =
+  sight_goes : (old after new : Standing) (seen : Result (Sight BatchAnswer) (Halt Refusal)) (step : Step BatchAnswer Refusal)
+      → Looks (basic_asked meaning offer b) old after seen → SightLeads seen after new step → GoesFrom stage.Begun step
+  sight_goes old after new (Err why) step l s = rw s.1 tt
+  sight_goes old after new (Ok (sight.Found found)) step l s =
       let none : extends found ≡ false = finds_extends meaning l.1.bytes offer b (Ok found) l.1.said in
       let r = roomless (extends found) found after new s.found none s.finds in
-      rw (s.gives, r.1) (step_extends found none)
-  sight_extends old after new (Ok (sight.Cell cell)) step l s = absurd l.1.said
+      rw (s.gives, r.1) (found_goes found none)
+  sight_goes old after new (Ok (sight.Cell cell)) step l s = absurd l.1.said
 
-  weigh_extends : (mid new : Standing) (found given : Result (Found BatchAnswer) (Halt Refusal)) (step : Step BatchAnswer Refusal)
-      → ((it : Found BatchAnswer) → found ≡ Ok it → ⊥) → Rooms found mid new given → step ≡ step_found given → StepExtendsNothing step
-  weigh_extends mid new (Err why) given step never r e = rw (e, r.1) tt
-  weigh_extends mid new (Ok found) given step never r e = absurd (never found refl)
+  weigh_goes : (cell : Cell) (old mid new : Standing) (found given : Result (Found BatchAnswer) (Halt Refusal))
+      (step : Step BatchAnswer Refusal) → Weighs (basic_asked meaning offer b) cell old mid found → Rooms found mid new given
+      → step ≡ step_found given → GoesFrom (stage.Seen cell) step
+  weigh_goes cell old mid new (Err why) given step w r e = rw (e, r.1) tt
+  weigh_goes cell old mid new (Ok found) given step w r e = let never : Ok found ≡ Err refusal.Cell = w.1.said in absurd (cc)
 
-  weighs_none : (cell : Cell) (old mid : Standing) (found : Result (Found BatchAnswer) (Halt Refusal))
-      → Weighs (basic_asked meaning offer b) cell old mid found → (it : Found BatchAnswer) → found ≡ Ok it → ⊥
-  weighs_none cell old mid (Ok found) w it e = let never : Ok found ≡ Err refusal.Cell = w.1.said in cc
-  weighs_none cell old mid (Err why) w it e = cc
-
-  change_extends : (ready : Ready BatchAnswer) (change : Deed) (fault : Option StepFault) (step : Step BatchAnswer Refusal)
+  write_goes : (ready : Ready BatchAnswer) (change : Deed) (fault : Option StepFault) (step : Step BatchAnswer Refusal)
       → change ≡ ready.change → extends_in change ≡ false → step ≡ step_made (basic_asked meaning offer b) ready fault
-      → StepExtendsNothing step
-  change_extends ready (Writing next) (Some fault) step is none e = rw e tt
-  change_extends ready (Writing next) None step is none e = rw (e, sym is) tt
-  change_extends ready _ fault step is none e = absurd (cc)
+      → GoesFrom (stage.Changing ready) step
+  write_goes ready (Writing next) (Some fault) step is none e = rw e tt
+  write_goes ready (Writing next) None step is none e = rw (e, sym is) tt
+  write_goes ready _ fault step is none e = absurd (cc)
+
+  steps_go : (call : Stage BatchAnswer) (old new : Standing) (step : Step BatchAnswer Refusal)
+      → Steps (basic_asked meaning offer b) call old new step → ExtendsNothing call → GoesFrom call step
+  steps_go stage.Begun old new step s none = sight_goes old s.middle new s.seen step s.looks s.leads
+  steps_go (stage.Seen cell) old new step s none =
+      let f = s.finds in weigh_goes cell old f.middle new f.found s.found step f.finds f.rooms s.gives
+  steps_go (stage.Changing ready) old new step s none = write_goes ready ready.change s.fault step refl none s.gives
 
   pub steps_extend : (call : Stage BatchAnswer) (old new : Standing) (step : Step BatchAnswer Refusal)
       → Steps (basic_asked meaning offer b) call old new step → ExtendsNothing call → StepExtendsNothing step
-  steps_extend stage.Begun old new step s none = sight_extends old s.middle new s.seen step s.looks s.leads
-  steps_extend (stage.Seen cell) old new step s none =
-      let f = s.finds in
-      weigh_extends f.middle new f.found s.found step (weighs_none cell old f.middle f.found f.finds) f.rooms s.gives
-  steps_extend (stage.Changing ready) old new step s none = change_extends ready ready.change s.fault step refl none s.gives
-
-  -- a step that goes on is the first, and the next one is the second
-
-  weigh_ends : (mid new : Standing) (found given : Result (Found BatchAnswer) (Halt Refusal)) (on : Stage BatchAnswer)
-      → ((it : Found BatchAnswer) → found ≡ Ok it → ⊥) → Rooms found mid new given → going on ≡ step_found given → ⊥
-  weigh_ends mid new (Err why) given on never r e = let over : going on ≡ step_found (Err why) = e ∙ ap step_found r.1 in cc
-  weigh_ends mid new (Ok found) given on never r e = never found refl
-
-  change_ends : (ready : Ready BatchAnswer) (change : Deed) (fault : Option StepFault) (on : Stage BatchAnswer)
-      → change ≡ ready.change → extends_in change ≡ false → going on ≡ step_made (basic_asked meaning offer b) ready fault → ⊥
-  change_ends ready (Writing next) (Some fault) on is none e = cc
-  change_ends ready (Writing next) None on is none e =
-      let over : going on ≡ step_to None ready.answer =
-      subst (λ (c : Deed). going on ≡ step_to (change_after c) ready.answer) (sym is) e in
-      cc
-  change_ends ready _ fault on is none e = absurd (cc)
-
-  sight_second : (old after new : Standing) (seen : Result (Sight BatchAnswer) (Halt Refusal)) (on : Stage BatchAnswer)
-      → Looks (basic_asked meaning offer b) old after seen → SightLeads seen after new (Going on) → number_of 2 on ≡ 2
-  sight_second old after new (Err why) on l s = absurd (cc)
-  sight_second old after new (Ok (sight.Found found)) on l s =
-      let none : extends found ≡ false = finds_extends meaning l.1.bytes offer b (Ok found) l.1.said in
-      let r = roomless (extends found) found after new s.found none s.finds in
-      found_second found on none (s.gives ∙ ap step_found r.1)
-  sight_second old after new (Ok (sight.Cell cell)) on l s = absurd l.1.said
-
-  goes_second : (call on : Stage BatchAnswer) (old new : Standing) → Steps (basic_asked meaning offer b) call old new (Going on)
-      → ExtendsNothing call → (call ≡ stage.Begun) × (number_of 2 on ≡ 2)
-  goes_second stage.Begun on old new s none = (refl, sight_second old s.middle new s.seen on s.looks s.leads)
-  goes_second (stage.Seen cell) on old new s none =
-      let f = s.finds in
-      absurd (weigh_ends f.middle new f.found s.found on (weighs_none cell old f.middle f.found f.finds) f.rooms s.gives)
-  goes_second (stage.Changing ready) on old new s none = absurd (change_ends ready ready.change s.fault on refl none s.gives)
+  steps_extend call old new step s none = extends_by call step (steps_go call old new step s none)
 
   pub numbers : (call on : Stage BatchAnswer) (old new : Standing) → Steps (basic_asked meaning offer b) call old new (Going on)
       → ExtendsNothing call → number_of 2 on ≡ number_of 2 call + 1
-  numbers call on old new s none = let g = goes_second call on old new s none in rw (g.1, g.0) refl
+  numbers call on old new s none = let g = steps_go call old new (Going on) s none in rw (g.1, g.2) refl
 
   -- what is left of a call
 
