@@ -81,7 +81,7 @@ pub use Rattle.mm_expect.specs.Calls.{new_ending, reached}
 pub use Rattle.mm_expect.specs.Coming.{called_on, moves_if, WentByCall, WentByEvent}
 pub use Rattle.mm_expect.specs.Genuine.{EachOfferIsDecided, IssuedAreGenuine}
 pub use Rattle.mm_expect.specs.Judged.{AreIssued, DecidesBytes, DecidesEvent, DecidesOffer, IsAmong}
-pub use Rattle.mm_expect.specs.Recorded.{barrier_of, instance_with, Recorded, recorded_instance, state_after_batch, Went}
+pub use Rattle.mm_expect.specs.Recorded.{barrier_of, instance_with, Recorded, recorded_instance, state_after_batch, outputs_of_batch, Went}
 pub use Rattle.mm_expect.specs.Traced.{after_traced, first_traced, IsAfter, Traced}
 pub use Rattle.mm_expect.specs.Walking.{move_of, step_as, steps_of, Walks}
 pub use Rattle.mm_expect.specs.declared.calls.Closing.TheVariants.{Closes, HasNone, NoSegment, Stops}

@@ -1,3 +1,4 @@
+mod CopyLaws
 mod Below
 mod Settling
 mod Walking

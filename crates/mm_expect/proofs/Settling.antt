@@ -25,50 +25,50 @@ spelled_same «module» next state members run spelled =
     let P : List ℕ → Type 0 = λ v. IsTrue ((meaning_of «module»).is_spelled v) in
     subst P (sym run) (state_from-is_spelled (meaning_of «module») (any_is_lawful «module») state members spelled)
 
--- the module's states after the batch, and before it
-abbrev pub Ran : AnyModule → History → (state next kept : List ℕ) → Batch → Type 0
-Ran «module» y state next kept b =
-    (next ≡ state_from (meaning_of «module») (state_after (meaning_of «module») (requests_of y.batches)) (members_of b)) × (kept ≡ state)
+-- the module's state after the batch, and what it says to it
+abbrev pub Ran : AnyModule → History → (next : List ℕ) (told : List (List ℕ)) → Batch → Type 0
+Ran «module» y next told b =
+    (next ≡ state_from (meaning_of «module») (state_after (meaning_of «module») (requests_of y.batches)) (members_of b))
+    × (told ≡ outputs_from (meaning_of «module») (state_after (meaning_of «module») (requests_of y.batches)) (members_of b))
     × (list_any is_long (b ∷ []) ≡ false)
 
-module _ {variant : Variant} {«module» : AnyModule} {barrier : List ℕ} {y : History} {old : Marks} {state before : List ℕ}
-    (s : IsSettled variant «module» barrier y old state before) where
+module _ {variant : Variant} {«module» : AnyModule} {barrier : List ℕ} {y : History} {old : Marks} {state : List ℕ} {said : List (List ℕ)}
+    (s : IsSettled variant «module» barrier y old state said) where
   abbrev i : Instance
   i = instance_with variant «module»
 
   -- a move that commits nothing
   settled_still : {z : History} {new : Marks} → z.batches ≡ y.batches → new ≡ marks_of i z
-      → IsSettled variant «module» barrier z new state before
+      → IsSettled variant «module» barrier z new state said
   settled_still same marks = record {
     barrier_is = s.barrier_is;
     marks_is = marks;
     state_is = s.state_is ∙ ap (λ (bs : List Batch). state_after (meaning_of «module») (requests_of bs)) (sym same);
-    before_is = λ front last e. s.before_is front last (sym same ∙ e);
+    said_is = λ front last e. s.said_is front last (sym same ∙ e);
     spelled = s.spelled;
-    begun = s.begun;
     short = ap (list_any is_long) same ∙ s.short;
   }
 
   pub settled_value : {z : History} {new : Marks} (v : List ℕ) → z ≡ record y { items = y.items ++ Value v ∷ [] } → new ≡ with_value old v
-      → IsSettled variant «module» barrier z new state before
+      → IsSettled variant «module» barrier z new state said
   settled_value v is marks = settled_still (ap (λ (h : History). h.batches) is)
       (marks ∙ ap (λ (m : Marks). with_value m v) s.marks_is ∙ sym (marks_value i y v) ∙ ap (marks_of i) (sym is))
 
   pub settled_emptied : {z : History} {new : Marks} → z ≡ record y { items = [] } → new ≡ emptied old (is_empty z.current)
-      → IsSettled variant «module» barrier z new state before
+      → IsSettled variant «module» barrier z new state said
   settled_emptied is marks = settled_still (ap (λ (h : History). h.batches) is)
       (marks ∙ (λ j. emptied (s.marks_is j) (is_empty (is j).current)) ∙ sym (marks_emptied i y) ∙ ap (marks_of i) (sym is))
 
   pub settled_shut : {z : History} {new : Marks} → z ≡ record y { closed = y.closed ++ y.items ∷ []; current = []; is_open = false }
-      → new ≡ closed_marks variant old (has_value y.items) (is_empty y.items) → IsSettled variant «module» barrier z new state before
+      → new ≡ closed_marks variant old (has_value y.items) (is_empty y.items) → IsSettled variant «module» barrier z new state said
   settled_shut is marks = settled_still (ap (λ (h : History). h.batches) is)
       (marks ∙ ap (λ (m : Marks). closed_marks variant m (has_value y.items) (is_empty y.items)) s.marks_is
       ∙ sym (marks_shut i y) ∙ ap (marks_of i) (sym is))
 
   -- a batch is committed
-  module _ (b : Batch) {next kept : List ℕ} (run : Ran «module» y state next kept b) where
+  module _ (b : Batch) {next : List ℕ} {told : List (List ℕ)} (run : Ran «module» y next told b) where
     settled_more : {z : History} {new : Marks} → z.batches ≡ y.batches ++ b ∷ [] → new ≡ marks_of i z
-        → IsSettled variant «module» barrier z new next kept
+        → IsSettled variant «module» barrier z new next told
     settled_more grows marks =
         let meaning = meaning_of «module» in
         record {
@@ -77,30 +77,30 @@ module _ {variant : Variant} {«module» : AnyModule} {barrier : List ℕ} {y : 
           state_is = run.0 ∙ sym (state_after-append meaning (requests_of y.batches) (members_of b))
               ∙ ap (state_after meaning) (sym (requests-push y.batches b))
               ∙ ap (λ (bs : List Batch). state_after meaning (requests_of bs)) (sym grows);
-          before_is = λ front last e. run.1 ∙ s.state_is
-              ∙ ap (λ (bs : List Batch). state_after meaning (requests_of bs)) (same_from_push y.batches front b last (sym grows ∙ e)).0;
+          said_is = λ front last e.
+              let p = same_from_push y.batches front b last (sym grows ∙ e) in
+              run.1 ∙ (λ j. outputs_from meaning (state_after meaning (requests_of (p.0 j))) (members_of (p.1 j)));
           spelled = spelled_same «module» next state (members_of b)
               (run.0 ∙ ap (λ (v : List ℕ). state_from meaning v (members_of b)) (sym s.state_is)) s.spelled;
-          begun = subst (λ (v : List ℕ). IsTrue (meaning.is_spelled v)) (sym run.1) s.spelled;
           short = ap (list_any is_long) grows ∙ list_any-append is_long y.batches (b ∷ [])
               ∙ ap (λ (f : Bool). f || list_any is_long (b ∷ [])) s.short ∙ run.2;
         }
 
     pub settled_linked : {z : History} {new : Marks} → variant ≡ Basic → z ≡ committed Basic y.is_open y b → new ≡ linked_marks old b
-        → IsSettled variant «module» barrier z new next kept
+        → IsSettled variant «module» barrier z new next told
     settled_linked basic is marks = settled_more (ap (λ (h : History). h.batches) is)
         (marks ∙ ap (λ (m : Marks). linked_marks m b) s.marks_is ∙ sym (marks_linked i y b basic) ∙ ap (marks_of i) (sym is))
 
     pub settled_grown : {z : History} {new : Marks} {value : List ℕ} {size : ℕ} → variant ≡ Opt → z ≡ committed Opt true y b
         → size ≡ size_of b
-        → value ≡ guard (barrier_of variant) b → new ≡ grown old size value → IsSettled variant «module» barrier z new next kept
+        → value ≡ guard (barrier_of variant) b → new ≡ grown old size value → IsSettled variant «module» barrier z new next told
     settled_grown opt is sized guards marks = settled_more (ap (λ (h : History). h.batches) is)
         (marks ∙ (λ j. grown (s.marks_is j) (sized j) (guards j)) ∙ sym (marks_grown i y b opt) ∙ ap (marks_of i) (sym is))
 
     pub settled_opened : {z : History} {new : Marks} {value register : List ℕ} {size : ℕ} → variant ≡ Opt → z ≡ committed Opt false y b
         → size ≡ size_of b
         → value ≡ guard barrier b → register ≡ register_of (values_of barrier z.items)
-        → new ≡ opened_marks old size value register (nat_le (length y.items) 1) → IsSettled variant «module» barrier z new next kept
+        → new ≡ opened_marks old size value register (nat_le (length y.items) 1) → IsSettled variant «module» barrier z new next told
     settled_opened opt is sized guards reads marks = settled_more (ap (λ (h : History). h.batches) is)
         (marks ∙ (λ j. opened_marks (s.marks_is j) (sized j) ((guards ∙ ap (λ r. guard r b) s.barrier_is) j)
         ((reads ∙ (λ k. register_of (values_of (s.barrier_is k) (is k).items))) j) (nat_le (length y.items) 1))
@@ -126,20 +126,19 @@ first_marks cell register = record {
   is_marred = false;
 }
 
-pub settled_first : {variant : Variant} {«module» : AnyModule} {barrier : List ℕ} {y : History} {marks : Marks} {state before : List ℕ}
+pub settled_first : {variant : Variant} {«module» : AnyModule} {barrier : List ℕ} {y : History} {marks : Marks} {state : List ℕ} {said : List (List ℕ)}
     {id : ℕ} → barrier ≡ barrier_of variant → y ≡ first_history → id ≡ (meaning_of «module»).id
-    → marks ≡ first_marks (start_of variant id) zero_bytes → state ≡ (meaning_of «module»).first → before ≡ (meaning_of «module»).first
-    → IsSettled variant «module» barrier y marks state before
-settled_first {variant = variant} {«module» = «module»} {y = y} b first ids m s f =
+    → marks ≡ first_marks (start_of variant id) zero_bytes → state ≡ (meaning_of «module»).first
+    → IsSettled variant «module» barrier y marks state said
+settled_first {variant = variant} {«module» = «module»} {y = y} b first ids m s =
     let i = instance_with variant «module» in
     let lawful = any_is_lawful «module» in record {
       barrier_is = b;
       marks_is = m ∙ (λ j. first_marks ((ap (start_of variant) ids ∙ cell_first «module» variant) j) (sym reads_zero j))
           ∙ ap (marks_of i) (sym first);
       state_is = s ∙ ap (λ (h : History). state_after (meaning_of «module») (requests_of h.batches)) (sym first);
-      before_is = λ front last e. absurd (no_last front last (sym (ap (λ (h : History). h.batches) first) ∙ e));
+      said_is = λ front last e. absurd (no_last front last (sym (ap (λ (h : History). h.batches) first) ∙ e));
       spelled = subst (λ (v : List ℕ). IsTrue ((meaning_of «module»).is_spelled v)) (sym s) lawful.begins;
-      begun = subst (λ (v : List ℕ). IsTrue ((meaning_of «module»).is_spelled v)) (sym f) lawful.begins;
       short = ap (λ (h : History). list_any is_long h.batches) first;
     }
 
@@ -149,13 +148,13 @@ pub fits_limit : («module» : AnyModule) {state given : List ℕ} {id : ℕ} �
 fits_limit «module» {state} {given} spelled same ids = subst (λ n. length given ≤ limit_of n) (sym ids)
     (subst (λ (v : List ℕ). length v ≤ limit_of (meaning_of «module»).id) (sym same) ((any_is_lawful «module»).fits state spelled))
 
--- what the module says to the last batch, run again
-pub outputs_last : {variant : Variant} {«module» : AnyModule} {barrier : List ℕ} {y : History} {marks : Marks} {state before : List ℕ}
-    (b : Batch) → IsSettled variant «module» barrier y marks state before → is_last y.batches b ≡ true
-    → outputs_from (meaning_of «module») before (members_of b) ≡ last_outputs (meaning_of «module») y (size_of b)
+-- what the module said to the last batch
+pub outputs_last : {variant : Variant} {«module» : AnyModule} {barrier : List ℕ} {y : History} {marks : Marks} {state : List ℕ} {said : List (List ℕ)}
+    (b : Batch) → IsSettled variant «module» barrier y marks state said → is_last y.batches b ≡ true
+    → said ≡ last_outputs (meaning_of «module») y (size_of b)
 outputs_last {«module» = «module»} {y = y} b s last =
     let h = is_last_tells y.batches b last in
-    ap (λ v. outputs_from (meaning_of «module») v (members_of b)) (s.before_is h.front b h.is)
+    s.said_is h.front b h.is
     ∙ sym (said_last (meaning_of «module») y.batches h.front b h.is)
 
 pub answered_is : (r : Recorded) (again : Bool) (b : Batch) {position : ℕ} {outputs : List (List ℕ)} {snapshot : List ℕ}
@@ -206,19 +205,19 @@ module _ {variant : Variant} {meaning : Meaning} {barrier : List ℕ} {y : Histo
       }) w
 
 -- more of it is kept
-module _ {variant : Variant} {«module» : AnyModule} {barrier : List ℕ} {y : History} {marks : Marks} {state before : List ℕ} where
-  pub kept_by : {ways : Waymarks} → IsSettled variant «module» barrier y marks state before
+module _ {variant : Variant} {«module» : AnyModule} {barrier : List ℕ} {y : History} {marks : Marks} {state : List ℕ} {said : List (List ℕ)} where
+  pub kept_by : {ways : Waymarks} → IsSettled variant «module» barrier y marks state said
       → AreWaymarks variant (meaning_of «module») (barrier_of variant) y ways
-      → IsKept variant «module» barrier y marks state before ways
+      → IsKept variant «module» barrier y marks state said ways
   kept_by {ways} s w = record {
     settled = s;
     ways_are = subst (λ (b : List ℕ). AreWaymarks variant (meaning_of «module») b y ways) (sym s.barrier_is) w;
   }
 
-  pub kept_more : {ways new : Waymarks} → IsKept variant «module» barrier y marks state before ways
+  pub kept_more : {ways new : Waymarks} → IsKept variant «module» barrier y marks state said ways
       → (AreWaymarks variant (meaning_of «module») (barrier_of variant) y ways
       → AreWaymarks variant (meaning_of «module») (barrier_of variant) y new)
-      → IsKept variant «module» barrier y marks state before new
+      → IsKept variant «module» barrier y marks state said new
   kept_more {ways} {new} s more = kept_by s.settled
       (more (subst (λ (b : List ℕ). AreWaymarks variant (meaning_of «module») b y ways) s.barrier_is s.ways_are))
 

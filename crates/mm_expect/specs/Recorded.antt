@@ -3,6 +3,7 @@ use Rattle.std.specs.Prelude.{◌≡◌, ℕ, true, false, List, [], ◌∷◌, 
 use Rattle.mm_expect.specs.Below.{zero_bytes, extended_message, anchored_message, Variant, Basic, Opt, Batch, members_of, state_after}
 use Rattle.mm_expect.specs.Below.{state_from, meaning_of, AnyModule, History, Move, requests_of, first_history, Instance, by_lists}
 use Rattle.mm_expect.specs.Below.{all_made, world_key, world_barrier}
+use Rattle.mm_module.specs.Meaning.{outputs_from}
 use Rattle.mm_expect.specs.Numbered.{messages_where}
 
 -- a variant and a module, and a history of them; and the messages of the moves since they were last
@@ -65,4 +66,10 @@ closing_listed Opt cell register = anchored_message cell register ∷ []
 abbrev pub state_after_batch : Recorded → Batch → List ℕ
 state_after_batch r b =
     state_from (meaning_of r.«module»)
+    (state_after (meaning_of r.«module») (requests_of r.history.batches)) (members_of b)
+
+-- what the module says to the batch, run behind the history
+abbrev pub outputs_of_batch : Recorded → Batch → List (List ℕ)
+outputs_of_batch r b =
+    outputs_from (meaning_of r.«module»)
     (state_after (meaning_of r.«module») (requests_of r.history.batches)) (members_of b)

@@ -6,12 +6,11 @@ use mm_base::{Bytes, Memory};
 use mm_call::{Ran, run_batch};
 use mm_digest::{Digest, Variant, zero};
 use mm_history::{Lists, Marks, Waymarks, anchored_message, guard, joined};
-use mm_module::{Batch, Module};
+use mm_module::{Batch, Module, Outputs};
 use mm_modules::AnyModule;
 use mm_run::world_barrier;
 use std::alloc::Global;
 use std::marker::Model;
-use std::mem;
 
 /// A history as lists, and beside it what would take long to find again. Contracts see the variant, the module and the
 /// history, and the messages of the moves since they were last taken out.
@@ -25,8 +24,8 @@ pub(crate) struct Chronicle {
     pub(crate) marks: Marks,
     /// The module's state.
     pub(crate) state: Bytes,
-    /// The module's state before the last batch.
-    pub(crate) before: Bytes,
+    /// What the module said to the last batch.
+    pub(crate) said: Outputs,
     pub(crate) waymarks: Waymarks,
     pub(crate) extending: Vec<Bytes>,
     pub(crate) closing: Vec<Bytes>,
@@ -47,7 +46,7 @@ impl Model for Chronicle {
     } };
 
     ghost invariant = { λ s. IsKept s.variant s.«module» s.barrier s.lists s.marks s.state
-        s.before s.waymarks };
+        s.said s.waymarks };
 }
 
 impl Chronicle {
@@ -59,7 +58,7 @@ impl Chronicle {
     ghost use Rattle.mm_model.specs.Long.{is_long};
     ghost use Rattle.mm_model.specs.History.{Move, Commit, Foreign, Placed, Reset, Close, Power, committed, register_value_of, total_of};
     ghost use Rattle.mm_model.specs.HistoryWords.{cell_digest_of};
-    ghost use Rattle.mm_expect.specs.Recorded.{first_recorded, Went, recorded_instance, extension_messages, closing_listed, state_after_batch};
+    ghost use Rattle.mm_expect.specs.Recorded.{first_recorded, Went, recorded_instance, extension_messages, closing_listed, state_after_batch, outputs_of_batch};
 
     /// The first history of a variant and a module.
     pub(crate) fn new(
@@ -70,7 +69,6 @@ impl Chronicle {
         ensures { IfOk result (λ it. it ≡ first_recorded variant «module») }
     {
         let state = module.first_state(alloc)?;
-        let before = module.first_state(alloc)?;
         let barrier = match variant {
             Variant::Basic => zero().bytes,
             Variant::Opt => world_barrier(),
@@ -86,7 +84,7 @@ impl Chronicle {
             lists,
             marks,
             state,
-            before,
+            said: Outputs::new(alloc),
             waymarks,
             extending: Vec::new(alloc),
             closing: Vec::new(alloc),
@@ -209,52 +207,56 @@ impl Chronicle {
         requires { is_long (batch_of batch) ≡ false }
         ensures { OnOk result (Went self.old self.new (Commit (batch_of batch.entry) ∷ [])) }
     {
-        let Ran { state, .. } = run_batch(self.alloc, &self.module, self.state.as_slice(), batch)?;
+        let ran = run_batch(self.alloc, &self.module, self.state.as_slice(), batch)?;
         let size = batch.len() as u64;
         if size > u64::MAX - self.marks.total {
             return Err(Memory);
         }
         match self.variant {
-            Variant::Basic => self.link(batch, size, state)?,
+            Variant::Basic => self.link(batch, size, ran)?,
             Variant::Opt => {
                 if self.lists.is_open() {
-                    self.grow(batch, size, state)?
+                    self.grow(batch, size, ran)?
                 } else {
-                    self.begin_segment(batch, size, state)?
+                    self.begin_segment(batch, size, ran)?
                 }
             }
         }
         self.keep_position()
     }
 
-    // Basic: a batch of this size is committed, after which the module has this state.
-    fn link(&mut self, batch: Batch<'_>, size: u64, state: Bytes) -> Result<(), Memory>
+    // Basic: a batch of this size is committed, which ran so.
+    fn link(&mut self, batch: Batch<'_>, size: u64, ran: Ran) -> Result<(), Memory>
         requires variant { self.old.variant ≡ Basic }
         requires short { is_long (batch_of batch) ≡ false }
         requires size { size ≡ size_of (batch_of batch) }
         requires fits { total_of self.old.history.batches + size < 2 ^ 64 }
-        requires state { state ≡ state_after_batch self.old (batch_of batch) }
+        requires state { ran.state ≡ state_after_batch self.old (batch_of batch) }
+        requires said { ran.outputs ≡ outputs_of_batch self.old (batch_of batch) }
         ensures { OnOk result (Went self.old self.new (Commit (batch_of batch.entry) ∷ [])) }
     {
         self.lists.add(batch)?;
         self.marks = self.marks.linked(batch, size);
-        self.before = mem::replace(&mut self.state, state);
+        let Ran { state, outputs } = ran;
+        self.state = state;
+        self.said = outputs;
         Ok(())
     }
 
     // Opt, inside a segment: likewise.
-    fn grow(&mut self, batch: Batch<'_>, size: u64, state: Bytes) -> Result<(), Memory>
+    fn grow(&mut self, batch: Batch<'_>, size: u64, ran: Ran) -> Result<(), Memory>
         requires variant { self.old.variant ≡ Opt }
         requires inside { self.old.history.is_open ≡ true }
         requires short { is_long (batch_of batch) ≡ false }
         requires size { size ≡ size_of (batch_of batch) }
         requires fits { total_of self.old.history.batches + size < 2 ^ 64 }
-        requires state { state ≡ state_after_batch self.old (batch_of batch) }
+        requires state { ran.state ≡ state_after_batch self.old (batch_of batch) }
+        requires said { ran.outputs ≡ outputs_of_batch self.old (batch_of batch) }
         ensures { OnOk result (Went self.old self.new (Commit (batch_of batch.entry) ∷ [])) }
     {
         let value = guard(&self.barrier, batch);
         self.tell_extension(&value)?;
-        self.add_inside(batch, size, state, &value)
+        self.add_inside(batch, size, ran, &value)
     }
 
     // The same, whose message is listed, by the batch's guard.
@@ -262,14 +264,15 @@ impl Chronicle {
         &mut self,
         batch: Batch<'_>,
         size: u64,
-        state: Bytes,
+        ran: Ran,
         value: &Digest,
     ) -> Result<(), Memory>
         requires variant { self.old.variant ≡ Opt }
         requires short { is_long (batch_of batch) ≡ false }
         requires size { size ≡ size_of (batch_of batch) }
         requires fits { total_of self.old.history.batches + size < 2 ^ 64 }
-        requires state { state ≡ state_after_batch self.old (batch_of batch) }
+        requires state { ran.state ≡ state_after_batch self.old (batch_of batch) }
+        requires said { ran.outputs ≡ outputs_of_batch self.old (batch_of batch) }
         requires guards { value.now.bytes
             ≡ guard (recorded_instance self.old).barrier (batch_of batch) }
         ensures { OnOk result
@@ -279,18 +282,21 @@ impl Chronicle {
     {
         self.lists.add_inside(batch)?;
         self.marks = self.marks.grown(size, value);
-        self.before = mem::replace(&mut self.state, state);
+        let Ran { state, outputs } = ran;
+        self.state = state;
+        self.said = outputs;
         Ok(())
     }
 
     // Opt, with no segment open: likewise.
-    fn begin_segment(&mut self, batch: Batch<'_>, size: u64, state: Bytes) -> Result<(), Memory>
+    fn begin_segment(&mut self, batch: Batch<'_>, size: u64, ran: Ran) -> Result<(), Memory>
         requires variant { self.old.variant ≡ Opt }
         requires outside { self.old.history.is_open ≡ false }
         requires short { is_long (batch_of batch) ≡ false }
         requires size { size ≡ size_of (batch_of batch) }
         requires fits { total_of self.old.history.batches + size < 2 ^ 64 }
-        requires state { state ≡ state_after_batch self.old (batch_of batch) }
+        requires state { ran.state ≡ state_after_batch self.old (batch_of batch) }
+        requires said { ran.outputs ≡ outputs_of_batch self.old (batch_of batch) }
         ensures { OnOk result (Went self.old self.new (Commit (batch_of batch.entry) ∷ [])) }
     {
         let value = guard(&self.barrier, batch);
@@ -298,7 +304,9 @@ impl Chronicle {
         self.lists.open(batch)?;
         let register = self.lists.register(&self.barrier);
         self.marks = self.marks.opened(size, &value, register, is_alone);
-        self.before = mem::replace(&mut self.state, state);
+        let Ran { state, outputs } = ran;
+        self.state = state;
+        self.said = outputs;
         Ok(())
     }
 }

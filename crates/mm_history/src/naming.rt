@@ -16,7 +16,7 @@ ghost use Rattle.mm_seal.specs.Body.{content_of};
 ghost use Rattle.mm_model.specs.Places.{Names};
 ghost use Rattle.mm_call.specs.Standing.{instance_by};
 ghost use Rattle.mm_model.specs.Kept.{kept_batches, kept_entries, kept_segments};
-ghost use Rattle.mm_history.specs.Naming.{BasicNamesAreDecided, OptNamesAreDecided, first_with, anchor_at, is_at, is_behind, is_here, is_inside_at, some_place, is_place_in, IsDecided};
+ghost use Rattle.mm_history.specs.Naming.{BasicNamesAreDecided, OptNamesAreDecided, first_with, anchor_at, is_at, is_behind, is_here, is_inside_at, is_within, some_place, is_place_in, IsDecided};
 ghost use Rattle.mm_history.specs.Waymarks.{AreWaymarks, EndsWithCurrent, IsStage, IsWaymark, digest_behind, stage_at};
 
 use crate::lists::Lists;
@@ -240,6 +240,16 @@ fn stage_behind(
     }
 }
 
+// Whether the place is within a segment of this size, by whether it is the end.
+fn is_within(start: usize, sought: &Sought<'_>, size: usize, ends: bool) -> bool
+    ensures { result ≡ is_within start (kept_batches sought.now.named.now) size ends }
+{
+    if sought.named.len().saturating_sub(start) <= size {
+        return true;
+    }
+    ends
+}
+
 // Whether the place is at the segment that comes next, which has so many entries: by whether it is the end.
 fn is_here(
     is_clean: bool,
@@ -258,13 +268,10 @@ fn is_here(
     if is_at(is_clean, here, start, sought) {
         return true;
     }
-    if !is_behind(barrier, here, start, sought) {
+    if !is_within(start, sought, size, ends) {
         return false;
     }
-    if sought.named.len().saturating_sub(start) <= size {
-        return true;
-    }
-    ends
+    is_behind(barrier, here, start, sought)
 }
 
 fn both(one: bool, other: bool) -> bool

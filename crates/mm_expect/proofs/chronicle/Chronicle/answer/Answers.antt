@@ -1,4 +1,4 @@
-use Rattle.mm_expect.proofs.Below.{ap, ◌∙◌, members_of, size_of, batch_of, outputs_from, meaning_of, is_last, total_of, last_outputs, Marks}
+use Rattle.mm_expect.proofs.Below.{ap, ◌∙◌, size_of, batch_of, meaning_of, is_last, total_of, last_outputs, Marks}
 use Rattle.mm_expect.proofs.Below.{Recorded}
 use Rattle.mm_expect.proofs.Settling.{outputs_last, answered_is}
 use Rattle.mm_expect.proofs.chronicle.Chronicle.answer.Goals as goal
@@ -9,6 +9,5 @@ returns c =
     let last = ap (λ (r : Recorded). is_last r.history.batches b) c.self.view_is ∙ c.requires.last in
     answered_is c.args.self.now c.args.again b
     (ap (λ (m : Marks). m.total) c.self.invariant.marks_is ∙ ap (λ (r : Recorded). total_of r.history.batches) c.self.view_is)
-    (c.in_ok-outputs.ensures.outputs ∙ ap (λ v. outputs_from (meaning_of c.self.inside.«module») v (members_of b)) c.as_slice.ensures.value
-    ∙ outputs_last b c.self.invariant.settled last
+    (c.in_ok-outputs.ensures ∙ outputs_last b c.self.invariant.settled last
     ∙ ap (λ (r : Recorded). last_outputs (meaning_of r.«module») r.history (size_of b)) c.self.view_is) c.in_ok-snapshot.ensures

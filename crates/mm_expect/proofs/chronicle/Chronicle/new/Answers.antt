@@ -9,6 +9,6 @@ invariant_of-result c =
       | in-Basic w ↦ w.barrier-is ∙ w.zero.ensures ∙ ap barrier_of (sym w.in-Basic.is)
       | in-Opt w ↦ w.barrier-is ∙ w.world_barrier-barrier.ensures ∙ ap barrier_of (sym w.in-Opt.is)
     ] in
-    let settled = settled_first barrier_is c.new-lists.ensures c.id.ensures c.first-marks.ensures c.in_ok-state.ensures c.in_ok-before.ensures in
+    let settled = settled_first barrier_is c.new-lists.ensures c.id.ensures c.first-marks.ensures c.in_ok-state.ensures in
     kept_by settled (c.in_ok-waymarks.ensures (instance_with c.args.variant c.args.«module») refl settled.marks_is
     (c.as_slice.ensures.value ∙ settled.state_is) (first_ends c.new-lists.ensures))
