@@ -1,6 +1,6 @@
 -- Whether an offer is genuine.
 use Rattle.mm_expect.proofs.Below.{◌≡◌, ℕ, Bool, true, List, Option, None, Some, refl, sym, ap, ◌∙◌, subst, slice_get, IfOk}
-use Rattle.mm_expect.proofs.Below.{AllByRecursion, Variant, Basic, Opt, Meaning, AnyModule, meaning_of, any_is_lawful, parts_of, Content}
+use Rattle.mm_expect.proofs.Below.{AllByRecursion, Variant, Basic, Opt, Meaning, AnyModule, meaning_of, any_is_lawful, Content}
 use Rattle.mm_expect.proofs.Below.{Instance, opt, Names, IsGenuine, right_content, History, instance_by, Header, Event, offered_bytes}
 use Rattle.mm_expect.proofs.Below.{expected, world_of, world_key, world_barrier, IsIssued, IsGenuineEvent, basic_issued_named}
 use Rattle.mm_expect.proofs.Below.{opt_issued_named, AreIssued, IsAmong, DecidesBytes, DecidesOffer}

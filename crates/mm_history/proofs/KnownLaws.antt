@@ -1,9 +1,9 @@
 -- What is kept of a position decides what names it.
-use Rattle.mm_history.proofs.Below.{◌≡◌, ℕ, zero, suc, ◌+◌, ◌-◌, ◌<◌, ◌≤◌, Bool, true, false, ◌&&◌, List, [], ◌∷◌, ◌++◌, length, take, drop}
-use Rattle.mm_history.proofs.Below.{None, Some, refl, sym, ap, ◌∙◌, subst, arith, length-append, bytes_eq, append-nil, ◌⊎◌, inl, inr, ◌==◌}
+use Rattle.mm_history.proofs.Below.{◌≡◌, ℕ, ◌+◌, ◌-◌, ◌<◌, ◌≤◌, Bool, true, false, ◌&&◌, List, [], ◌∷◌, ◌++◌, length, take, drop}
+use Rattle.mm_history.proofs.Below.{None, Some, refl, sym, ap, ◌∙◌, arith, length-append, bytes_eq, append-nil, inl, inr, ◌==◌}
 use Rattle.mm_history.proofs.Below.{option_map, Decides-eqb, take-map, length-map, length-take, take_all, Batch, size_of, total_of, Meaning}
 use Rattle.mm_history.proofs.Below.{Variant, Basic, Opt, zero_bytes, register_of, own_values, History, KeptBatch, kept_batch, kept_batches}
-use Rattle.mm_history.proofs.Below.{first_with, total-cons, nat_le, reads_zero, Option, requests_of, state_after}
+use Rattle.mm_history.proofs.Below.{first_with, total-cons, nat_le, reads_zero, requests_of, state_after}
 use Rattle.std.specs.List.{AllByRecursion, slice_get}
 use Rattle.std.specs.Prelude.{nat_lt}
 use Rattle.std.proofs.lemmas.Bool.{ne_eqb}
@@ -11,7 +11,7 @@ use Rattle.std.proofs.lemmas.Slice.Eq.{bytes_eq-Decides}
 use Rattle.std.proofs.Math.Seq.{take-append_seam, drop-length}
 use Rattle.mm_model.specs.BatchLaws.{same_tests}
 use Rattle.mm_history.proofs.FirstLaws.{first_is, le-Decides}
-use Rattle.mm_history.specs.Waymarks.{AreWaymarks, IsBetween, IsWaymark, digest_behind, is_behind_all, is_inside_batch}
+use Rattle.mm_history.specs.Waymarks.{IsBetween, IsWaymark, digest_behind}
 use Rattle.mm_history.specs.Marks.{marks_of}
 use Rattle.mm_history.specs.declared.marks.Marks.{Marks}
 use Rattle.mm_digest.specs.declared.digest.Digest.{Digest}

@@ -2,9 +2,9 @@
 use Rattle.mm_history.proofs.Below.{◌≡◌, ℕ, ◌+◌, ◌-◌, ◌<◌, ◌≤◌, Bool, true, false, List, [], ◌∷◌, ◌++◌, length, take, drop, get_or, Option}
 use Rattle.mm_history.proofs.Below.{None, Some, refl, sym, ap, ◌∙◌, subst, arith, length-append, length-drop, Vec, not, ◌==◌, bytes_eq}
 use Rattle.mm_history.proofs.Below.{option_map, Decides-eqb, take-map, drop-map, take_all, length-map, Batch, Meaning, state_after, Variant}
-use Rattle.mm_history.proofs.Below.{Place, InBasic, Content, Instance, Names, Basic, Opt, start_of, anchored_of, register_of, Entry}
-use Rattle.mm_history.proofs.Below.{History, requests_of, joined, values_of, is_empty, has_value, has_value-append, joined-push, KeptBatch}
-use Rattle.mm_history.proofs.Below.{KeptEntry, kept_batch, kept_batches, kept_entry, kept_entries, kept_segments, first_with, same_batches}
+use Rattle.mm_history.proofs.Below.{Place, InBasic, Content, Instance, Names, Basic, Opt, register_of, Entry}
+use Rattle.mm_history.proofs.Below.{History, requests_of, joined, is_empty, has_value, joined-push, KeptBatch}
+use Rattle.mm_history.proofs.Below.{KeptEntry, kept_batch, kept_batches, kept_entry, kept_entries, kept_segments, first_with}
 use Rattle.mm_history.proofs.Below.{anchor_at, is_at, is_behind, is_here, is_inside_at, some_place, is_place_in, is_place, is_named_at}
 use Rattle.mm_history.proofs.Below.{instance_by, IsDecided, and_true, zero_bytes, nat_lt}
 use Rattle.std.specs.Prelude.{◌&&◌}
@@ -16,7 +16,7 @@ use Rattle.std.specs.List.{AllByRecursion}
 use Rattle.std.proofs.Math.Seq.{drop-append_seam}
 use Rattle.mm_history.proofs.Below.{suc, own_values, map, map-append, take-append-drop}
 use Rattle.std.proofs.lemmas.Bool.{and_left, and_right, ne_eqb, le-ltb}
-use Rattle.mm_history.proofs.TakenLaws.{not_or, segments_left, anchor_more, taken}
+use Rattle.mm_history.proofs.TakenLaws.{segments_left, taken}
 
 -- all from a place on
 pub back_is : (xs : List KeptBatch) (n : ℕ) → take (length xs - n) (drop n xs) ≡ drop n xs

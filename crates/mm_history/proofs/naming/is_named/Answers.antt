@@ -1,6 +1,4 @@
-use Rattle.mm_history.proofs.Below.{sym, ◌∙◌, subst, refl, None, List, meaning_of, content_of}
-use Rattle.mm_history.specs.Waymarks.{IsBetween}
-use Rattle.mm_history.specs.declared.waymarks.Waymark.{Waymark}
+use Rattle.mm_history.proofs.Below.{sym, refl, None, meaning_of, content_of}
 use Rattle.mm_history.proofs.PlaceLaws.{not_counted}
 use Rattle.mm_history.proofs.KnownLaws.{nowhere}
 use Rattle.mm_history.proofs.naming.is_named.Goals as goal

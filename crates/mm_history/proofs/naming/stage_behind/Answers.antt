@@ -1,4 +1,4 @@
-use Rattle.mm_history.proofs.Below.{◌∙◌, ap, refl, kept_entries}
+use Rattle.mm_history.proofs.Below.{◌∙◌, refl, kept_entries}
 use Rattle.std.proofs.lemmas.Option.{slice_get_read}
 use Rattle.mm_history.proofs.KnownLaws.{stage_found, stage_made}
 use Rattle.mm_history.proofs.naming.stage_behind.Goals as goal
