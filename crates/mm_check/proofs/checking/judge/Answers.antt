@@ -1,3 +1,5 @@
+use Rattle.mm_play.proofs.Above.{plays_err, unrefused}
+use Rattle.mm_check.specs.declared.verdicts.Verdicts.{Verdicts}
 use Rattle.mm_check.proofs.CheckingLaws.{judged_ok, judged_err}
 use Rattle.mm_check.proofs.checking.judge.Goals as goal
 
@@ -8,3 +10,7 @@ returns-in-Ok-into_verdicts-clause-judges g c =
 pub returns-in-Err-clause-judges : goal.returns-in-Err-clause-judges
 returns-in-Err-clause-judges g c =
     judged_err c.new-player.ensures c.play.ensures.plays c.in-Err.fault c.play.ensures.wrote c.in-Err.is
+
+pub returns-in-Err-clause-complete : goal.returns-in-Err-clause-complete
+returns-in-Err-clause-complete g c =
+    unrefused (plays_err {R = Verdicts} c.new-player.ensures c.play.ensures.plays c.in-Err.fault c.in-Err.is)
