@@ -100,8 +100,8 @@ module _ (are : CommandsAreLife) (keep : LivesKeepPromises) (offers : SessionsOf
             elim (clash_or i (life_messages i after.platform l.stages l.life) [] (life_batches i after.platform l.stages l.life)) [
               | inl clash ↦ inr clash
               | inr fine ↦
-                let whole = one (meaning_of it) (any_is_lawful it) key after.platform l.stages l.life stands fine.0 untagged in
-                inl (record { whole = whole; kept = keep it Basic after.platform l.stages l.life whole.requests whole.follows })
+                  let whole = one (meaning_of it) (any_is_lawful it) key after.platform l.stages l.life stands fine.0 untagged in
+                  inl (record { whole = whole; kept = keep it Basic after.platform l.stages l.life whole.requests whole.follows })
             ];
         untagged = λ first.
             all_untagged offers i (first_slots i)
@@ -123,9 +123,9 @@ module _ (are : CommandsAreLife) (keep : LivesKeepPromises) (offers : SessionsOf
             (life_batches i after.platform l.stages l.life)) [
               | inl clash ↦ inr clash
               | inr fine ↦
-                let whole = one (meaning_of it) (any_is_lawful it) key barrier values after.platform l.stages l.life stands fine.0
-                (fine.1 refl) untagged in
-                inl (record { whole = whole; kept = keep it Opt after.platform l.stages l.life whole.requests whole.follows })
+                  let whole = one (meaning_of it) (any_is_lawful it) key barrier values after.platform l.stages l.life stands fine.0
+                  (fine.1 refl) untagged in
+                  inl (record { whole = whole; kept = keep it Opt after.platform l.stages l.life whole.requests whole.follows })
             ];
         untagged = λ first.
             all_untagged offers i (first_slots i)

@@ -143,8 +143,8 @@ module _ (meaning : Meaning) (lawful : IsLawful meaning) (offers : SessionsOffer
         elim (clash_or B (life_messages B (two_cells start) (One ∷ Two ∷ []) f) [] (life_batches B (two_cells start) (One ∷ Two ∷ []) f)) [
           | inl clash ↦ inr clash
           | inr fine ↦
-            inl (basic_one meaning lawful key (two_cells start) (One ∷ Two ∷ []) f (starts.stands [] refl) fine.0
-            (first_session f.0, (second_session (two_cells middle) issued f.1.0 old, tt)))
+              inl (basic_one meaning lawful key (two_cells start) (One ∷ Two ∷ []) f (starts.stands [] refl) fine.0
+              (first_session f.0, (second_session (two_cells middle) issued f.1.0 old, tt)))
         ]
 
     pub lives_on_copy : IsLife Basic meaning (two_cells start) (One ∷ Two ∷ [])
@@ -160,8 +160,8 @@ module _ (meaning : Meaning) (lawful : IsLawful meaning) (offers : SessionsOffer
         elim (clash_or B (life_messages B (two_cells start) stages f) [] (life_batches B (two_cells start) stages f)) [
           | inl clash ↦ inr clash
           | inr fine ↦
-            inl (basic_one meaning lawful key (two_cells start) stages f (starts.stands [] refl) fine.0
-            (first_session f.0, (tt, (rw (append-nil issued) (second_session empty issued f.1.1.0 old), tt))))
+              inl (basic_one meaning lawful key (two_cells start) stages f (starts.stands [] refl) fine.0
+              (first_session f.0, (tt, (rw (append-nil issued) (second_session empty issued f.1.1.0 old), tt))))
         ]
 
     pub lives_without_power : (empty : Standing)
@@ -194,19 +194,19 @@ module _ (meaning : Meaning) (lawful : IsLawful meaning) (offers : SessionsOffer
         (life_batches O (two_cells start) stages f)) [
           | inl clash ↦ inr clash
           | inr fine ↦
-            inl (opt_one meaning lawful (take 32 starts.secrets) (drop 32 starts.secrets) values (two_cells start) stages f
-            (starts.stands values shows) fine.0 (fine.1 refl) (
-              start_untagged offers O none (two_cells start) (two_cells middle) pages left_pages (Some first) (Some first')
-                  (Some received) (Some between) one f.0 (first_slots O) starts.slots (opt_old []),
-              (
-                tt,
+              inl (opt_one meaning lawful (take 32 starts.secrets) (drop 32 starts.secrets) values (two_cells start) stages f
+              (starts.stands values shows) fine.0 (fine.1 refl) (
+                start_untagged offers O none (two_cells start) (two_cells middle) pages left_pages (Some first) (Some first')
+                    (Some received) (Some between) one f.0 (first_slots O) starts.slots (opt_old []),
                 (
-                  rw (append-nil issued) (copy_untagged offers O issued closed (two_cells after) copy new (Some second) (Some second')
-                      (Some between) (Some received') two f.1.1.0 old),
                   tt,
+                  (
+                    rw (append-nil issued) (copy_untagged offers O issued closed (two_cells after) copy new (Some second) (Some second')
+                        (Some between) (Some received') two f.1.1.0 old),
+                    tt,
+                  ),
                 ),
-              ),
-            ))
+              ))
         ]
 
     pub lives_checkpointed : (said : Result Checkpointed CheckpointRefusal) (closed : Standing)
