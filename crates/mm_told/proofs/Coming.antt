@@ -1,6 +1,6 @@
 -- What a call tells that comes to this, and a checkpoint.
-use Rattle.std.proofs.Common.{◌≡◌, ℕ, Bool, true, false, List, [], ◌∷◌, ◌++◌, length, refl, sym, ap, ◌∙◌, subst, inl, inr}
-use Rattle.std.specs.Prelude.{◌≢◌, Some, Result, Ok, Err}
+use Rattle.std.proofs.Common.{◌≡◌, ℕ, Bool, true, false, List, [], ◌∷◌, ◌++◌, refl, subst, inl, inr}
+use Rattle.std.specs.Prelude.{Some, Result, Ok, Err}
 use Rattle.mm_digest.specs.declared.variant.Variant.{Variant}
 use Rattle.mm_digest.specs.declared.variant.Variant.TheVariants.{Basic, Opt}
 use Rattle.mm_platform.specs.declared.fault.StepFault.TheVariants.{Off}
@@ -18,11 +18,10 @@ use Rattle.mm_model.specs.Long.{is_long}
 use Rattle.mm_model.specs.declared.answer.Answer.{Answer}
 use Rattle.mm_model.specs.declared.answer.BatchAnswer.{BatchAnswer}
 use Rattle.mm_model.specs.declared.refusal.Refusal.{Refusal}
-use Rattle.mm_model.specs.declared.refusal.Refusal.TheVariants.{Device, Long, Memory}
+use Rattle.mm_model.specs.declared.refusal.Refusal.TheVariants.{Long, Memory}
 use Rattle.mm_call.specs.Ended.{result_of}
 use Rattle.mm_call.specs.Leaving.{whole_in}
 use Rattle.mm_call.specs.Machine.{end_told}
-use Rattle.mm_call.specs.Refusals.{fault_in}
 use Rattle.mm_call.specs.LeavingLaws.{same_untouched}
 use Rattle.mm_call.proofs.Above.{finish_blamed}
 use Rattle.mm_flight.proofs.Above.{commits_at}
@@ -39,12 +38,12 @@ use Rattle.mm_told.specs.declared.step.Made.{Made}
 use Rattle.mm_told.specs.declared.step.Step.{Step}
 use Rattle.mm_told.specs.declared.told.Came.{Came}
 use Rattle.mm_told.specs.declared.told.Came.TheVariants as came
-use Rattle.mm_told.specs.Asking.{AskedIn, AsksBy, AsksNext, AsksTo, IsAsked, IsTooLong, ask_course, begun, wants_memory}
-use Rattle.mm_told.specs.Closing.{ClosesBy, ClosesTo, closing_course}
+use Rattle.mm_told.specs.Asking.{AskedIn, AsksBy, AsksNext, IsAsked, ask_course, begun, wants_memory}
+use Rattle.mm_told.specs.Closing.{ClosesBy, closing_course}
 use Rattle.mm_told.specs.Comings.{IsOne, IsOneIn, IsTold, before_by, closing_by, long_told}
-use Rattle.mm_told.specs.Course.{ComesTo, Ends, Makes}
-use Rattle.mm_told.specs.Host.{AreMade, Host, IsHostOf, bare}
-use Rattle.mm_told.specs.Outcomes.{AreAsTold, Differs, IsOver, Lacks, MakesOther, Tells}
+use Rattle.mm_told.specs.Course.{ComesTo, Ends}
+use Rattle.mm_told.specs.Host.{Host, IsHostOf, bare}
+use Rattle.mm_told.specs.Outcomes.{AreAsTold, Differs, Lacks, Tells}
 use Rattle.mm_told.specs.Steps.{act_of}
 use Rattle.mm_told.proofs.Determining.{EndLacks, fits, next_or_over, one_next}
 use Rattle.mm_told.proofs.Missing.{goes_bare}

@@ -1,6 +1,6 @@
 -- What is read determines where a call goes on, but for want of memory: so a host that makes the steps that it is told makes the call's.
-use Rattle.std.proofs.Common.{◌≡◌, ℕ, Bool, true, false, List, [], ◌∷◌, refl, sym, ap, ◌∙◌, subst, inl, inr}
-use Rattle.std.specs.Prelude.{◌⊎◌, ◌≢◌, Result, Ok, Err}
+use Rattle.std.proofs.Common.{◌≡◌, ℕ, true, false, List, [], ◌∷◌, sym, ap, ◌∙◌, subst, inl, inr}
+use Rattle.std.specs.Prelude.{◌⊎◌, Result, Ok, Err}
 use Rattle.mm_platform.specs.Steps.{Act}
 use Rattle.mm_seal.specs.declared.cell.Cell.{Cell}
 use Rattle.mm_machine.specs.Asked.{Asked}
@@ -15,9 +15,9 @@ use Rattle.mm_machine.specs.declared.operation.Found.{Found}
 use Rattle.mm_machine.specs.declared.operation.Sight.{Sight}
 use Rattle.mm_told.specs.declared.step.Made.{Made}
 use Rattle.mm_told.specs.declared.step.Made.TheVariants as made
-use Rattle.mm_told.specs.Course.{Draws, Ends, Leads, Makes, Stands, step_seen, step_weighed}
+use Rattle.mm_told.specs.Course.{LeadsBy, Ends, Leads, Makes, Stands, step_seen, step_weighed}
 use Rattle.mm_told.specs.Steps.{act_made}
-use Rattle.mm_told.specs.Outcomes.{AreAsTold, Course, Differs, IsOver, MakesOther}
+use Rattle.mm_told.specs.Outcomes.{AreAsTold, Course, Differs}
 
 module _ {R : Type 0} (lacks : R → Type 0) where
   -- memory was wanting
@@ -57,13 +57,13 @@ module _ {A R : Type 0} (lacks : R → Type 0) where
 
   drawn_agree : {T : Type 0} (says : Result T R → Type 0) (leads : Result T R → Step A R) (s t : Step A R)
       → ((x : Result T R) → Lacking lacks x → StepLacks (leads x)) → ((x y : Result T R) → says x → says y → SameOrLacking lacks x y)
-      → Draws says leads s → Draws says leads t → Agree s t
+      → LeadsBy says leads s → LeadsBy says leads t → Agree s t
   drawn_agree says leads s t lack same d e =
       elim (same d.drawn e.drawn d.is_said e.is_said) [
-        inl same ↦ inl (d.gives ∙ ap leads same ∙ sym e.gives)
-      | inr l ↦ inr (elim l [
-          inl l ↦ inl (subst StepLacks (sym d.gives) (lack d.drawn l))
-        | inr l ↦ inr (subst StepLacks (sym e.gives) (lack e.drawn l))
+        | inl same ↦ inl (d.gives ∙ ap leads same ∙ sym e.gives)
+        | inr l ↦ inr (elim l [
+          | inl l ↦ inl (subst StepLacks (sym d.gives) (lack d.drawn l))
+          | inr l ↦ inr (subst StepLacks (sym e.gives) (lack e.drawn l))
         ])
       ]
 
@@ -119,7 +119,7 @@ module _ {E : Type 0} (course : Course E) where
   fits steps one over told d =
       let next : course.next d.front (act_made d.it) = told d.front d.rest d.it d.are in
       elim d.other [
-        inl m ↦ absurd (m.other (one d.front (act_made d.it) m.act next m.next))
-      | inr o ↦ let yes : course.lacks o.given ≡ true = over d.front (act_made d.it) o.given next o.gives in
-          let no : course.lacks o.given ≡ false = o.lacks in absurd (cc)
+        | inl m ↦ absurd (m.other (one d.front (act_made d.it) m.act next m.next))
+        | inr o ↦ let yes : course.lacks o.given ≡ true = over d.front (act_made d.it) o.given next o.gives in
+            let no : course.lacks o.given ≡ false = o.lacks in absurd (cc)
       ]

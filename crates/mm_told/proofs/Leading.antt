@@ -11,7 +11,7 @@ use Rattle.mm_machine.specs.declared.call.Step.TheVariants.{Going, Over}
 use Rattle.mm_told.specs.declared.step.Made.{Made}
 use Rattle.mm_told.specs.declared.told.Came.{Came}
 use Rattle.mm_told.specs.declared.told.Came.TheVariants as came
-use Rattle.mm_told.specs.Course.{ComesTo, Leads, MakesOther, Turns, over_before, turn_by}
+use Rattle.mm_told.specs.Course.{ComesTo, Leads, WasOther, Turns, over_before, turn_by}
 use Rattle.mm_told.specs.Steps.{act_made}
 
 module _ {A R : Type 0} (o : Asked A R) where
@@ -42,7 +42,7 @@ module _ {A R : Type 0} (o : Asked A R) where
   ends_here from it [] end l = inl (refl, l)
   ends_here from it (one ∷ more) end l = record { front = it ∷ []; it = one; rest = more; are = refl; ends = inl (refl, l) }
 
-  other_here : (from : Stage A) (it : Made) (more : List Made) → act_made it ≢ machine.act_of from → MakesOther o from (it ∷ more)
+  other_here : (from : Stage A) (it : Made) (more : List Made) → act_made it ≢ machine.act_of from → WasOther o from (it ∷ more)
   other_here from it more other =
       record { front = []; it = it; rest = more; are = refl; stage = from; stands = refl; other = other }
 
@@ -63,6 +63,6 @@ module _ {A R : Type 0} (o : Asked A R) where
         rw (e ∙ take_all n rest (omega (arith, counts))) (ends_here from it rest end l)
 
     pub slice_other : (steps : List Made) → 1 ≤ length steps → act_made (get_or steps 0 default) ≢ machine.act_of from
-        → MakesOther o from steps
+        → WasOther o from steps
     slice_other [] some other = absurd (omega (arith, some))
     slice_other (it ∷ rest) some other = other_here from it rest other

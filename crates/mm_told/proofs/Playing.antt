@@ -1,5 +1,5 @@
 -- The steps that were made on a host's platform are those of the machine.
-use Rattle.std.proofs.Common.{◌≡◌, ℕ, suc, Bool, true, false, List, [], ◌∷◌, length, refl, sym, subst, inl, inr, ◌≤◌, arith}
+use Rattle.std.proofs.Common.{◌≡◌, ℕ, suc, Bool, true, false, List, [], ◌∷◌, length, refl, subst, inl, inr, arith}
 use Rattle.std.specs.Prelude.{Result, Ok, Err, None, Some}
 use Rattle.mm_platform.specs.declared.fault.StepFault.TheVariants.{Off}
 use Rattle.mm_platform.specs.Standing.{Standing}
@@ -7,7 +7,7 @@ use Rattle.mm_platform.specs.Steps.{Act, Goes, ReadCell, ReadRegister}
 use Rattle.mm_seal.specs.declared.cell.Cell.{Cell}
 use Rattle.mm_machine.specs.Asked.{Asked}
 use Rattle.mm_machine.specs.Finishing.{Finishes}
-use Rattle.mm_machine.specs.Reading.{CellSays, RegisterSays, RoomFor, extends}
+use Rattle.mm_machine.specs.Reading.{RegisterSays, RoomFor, extends}
 use Rattle.mm_machine.specs.Stepping.{Steps, StepsFirst, act_of}
 use Rattle.mm_machine.specs.declared.call.Ended.{Ended}
 use Rattle.mm_machine.specs.declared.call.Ended.TheVariants.{Broken}
@@ -18,16 +18,15 @@ use Rattle.mm_machine.specs.declared.call.Step.TheVariants.{Going, Over}
 use Rattle.mm_machine.specs.declared.operation.Found.{Found}
 use Rattle.mm_machine.specs.declared.operation.Sight.{Sight}
 use Rattle.mm_machine.specs.declared.operation.Sight.TheVariants as sight
-use Rattle.mm_machine.specs.declared.reading.Halt.{Halt}
 use Rattle.mm_machine.specs.declared.reading.Halt.TheVariants as halt
 use Rattle.mm_machine.proofs.Above.{joins}
 use Rattle.mm_flight.proofs.Above.{commits_at, steps_fail}
 use Rattle.mm_told.specs.declared.step.Made.{Made}
 use Rattle.mm_told.specs.declared.step.Made.TheVariants as made
-use Rattle.mm_told.specs.Course.{Draws, Ends, Leads, Makes, Stands, step_seen, step_weighed}
-use Rattle.mm_told.specs.Host.{AreMade, Host, bare}
+use Rattle.mm_told.specs.Course.{Ends, Leads, Stands, step_seen, step_weighed}
+use Rattle.mm_told.specs.Host.{AreMade, bare}
 use Rattle.mm_told.specs.Steps.{IsMade, fault_made}
-use Rattle.mm_told.proofs.Missing.{goes_bare, made_bare}
+use Rattle.mm_told.proofs.Missing.{made_bare}
 
 module _ {A R : Type 0} (o : Asked A R) where
   -- hardware always has room

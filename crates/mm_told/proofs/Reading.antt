@@ -21,12 +21,12 @@ use Rattle.mm_model.specs.declared.refusal.Refusal.{Refusal}
 use Rattle.mm_model.specs.declared.refusal.Refusal.TheVariants.{Memory}
 use Rattle.mm_call.specs.Refusals.{OrMemory}
 use Rattle.mm_basic.specs.Answers as basic
-use Rattle.mm_basic.specs.Operating.{Sees, basic_asked}
+use Rattle.mm_basic.specs.Operating.{Sees}
 use Rattle.mm_basic.specs.Seen.{Seen, IsCellOf, IsSeen, NoCell, OtherCell, NoOffer, Both}
 use Rattle.mm_basic.specs.Steps.{FindsIn}
 use Rattle.mm_opt.specs.Answers as opt
-use Rattle.mm_opt.specs.Checkpoints.{SeesSegment, segment_in}
-use Rattle.mm_opt.specs.Closing.{GivesAs, closing, sight_of, to_write}
+use Rattle.mm_opt.specs.Checkpoints.{segment_in}
+use Rattle.mm_opt.specs.Closing.{closing, sight_of, to_write}
 use Rattle.mm_opt.specs.Operating as in_opt
 use Rattle.mm_opt.specs.Seen.{SeesCell, cell_in}
 use Rattle.mm_opt.specs.declared.segment.CheckpointRefusal.{CheckpointRefusal}

@@ -25,7 +25,6 @@ use Rattle.mm_opt.specs.Checkpoints.{closing_fault_of, closing_handed_on, one_st
 use Rattle.mm_opt.specs.Closed.{ClosedInOpt}
 use Rattle.mm_opt.specs.Closing.{closing, ended_told}
 use Rattle.mm_opt.specs.declared.segment.Checkpointed.{Checkpointed}
-use Rattle.mm_opt.specs.declared.segment.Checkpointed.TheVariants.{Done, NoSegment}
 use Rattle.mm_opt.specs.declared.segment.CheckpointRefusal.{CheckpointRefusal}
 use Rattle.mm_opt.specs.declared.segment.CheckpointRefusal.TheVariants as refusal
 use Rattle.mm_opt.specs.declared.segment.Segment.{Segment}

@@ -35,7 +35,7 @@ step_weighed (Ok found) = step_found (Ok found)
 step_weighed (Err why) = Over (Refused why)
 
 -- This is drawn from what was read, and leads there.
-pub record Draws {T A R : Type 0} (says : T → Type 0) (leads : T → Step A R) (step : Step A R)
+pub record LeadsBy {T A R : Type 0} (says : T → Type 0) (leads : T → Step A R) (step : Step A R)
     : Type 0 where
   pub drawn : T
   pub is_said : says drawn
@@ -54,13 +54,13 @@ over_before (it ∷ more) end = came.Before end
 module _ {A R : Type 0} (o : Asked A R) where
   -- what the device's answer leads to: the cell's; the register's, 32 bytes
   abbrev pub LeadsFirst : Made → Step A R → Type 0
-  LeadsFirst (made.ReadCell (Ok bytes)) step = Draws (o.sees bytes) step_seen step
+  LeadsFirst (made.ReadCell (Ok bytes)) step = LeadsBy (o.sees bytes) step_seen step
   LeadsFirst (made.ReadCell (Err fault)) step = step ≡ Over (Broken fault None)
   LeadsFirst _ step = ⊥
 
   abbrev pub LeadsSecond : Cell → Made → Step A R → Type 0
   LeadsSecond cell (made.ReadRegister (Ok value)) step =
-      (length value.bytes ≡ 32) × Draws (o.finds cell value.bytes) step_weighed step
+      (length value.bytes ≡ 32) × LeadsBy (o.finds cell value.bytes) step_weighed step
   LeadsSecond cell (made.ReadRegister (Err fault)) step = step ≡ Over (Broken fault None)
   LeadsSecond cell _ step = ⊥
 
@@ -107,7 +107,7 @@ module _ {A R : Type 0} (o : Asked A R) where
     pub ends : Ends from front end
 
   -- It makes another step than one that was made.
-  pub record MakesOther (from : Stage A) (steps : List Made) : Type 0 where
+  pub record WasOther (from : Stage A) (steps : List Made) : Type 0 where
     pub front : List Made
     pub it : Made
     pub rest : List Made
@@ -121,4 +121,4 @@ module _ {A R : Type 0} (o : Asked A R) where
   ComesTo from steps (came.Next step) = Makes from steps (act_of step)
   ComesTo from steps (came.Over end) = Ends from steps end
   ComesTo from steps (came.Before end) = WasOver from steps end
-  ComesTo from steps came.Elsewhere = MakesOther from steps
+  ComesTo from steps came.Elsewhere = WasOther from steps

@@ -92,4 +92,3 @@ fn before(given: Result<BatchAnswer, Refusal>) -> Outcome<Result<Answer, Refusal
         _ => Outcome::Differs,
     }
 }
-

@@ -16,4 +16,4 @@ pub use hosting::ask_by_steps;
 pub use making::make;
 pub use outcome::Outcome;
 pub use step::{Made, Step};
-pub use told::{Came, Turn, tell};
+pub use told::{Came, tell};

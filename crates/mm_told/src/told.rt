@@ -1,6 +1,6 @@
-//! A call, led on by what a host's devices answered.
+//! A call, which what a host's devices answered leads on.
 
-ghost use Rattle.std.specs.Prelude.{◌≡◌, None, Ok, length};
+ghost use Rattle.std.specs.Prelude.{◌≡◌, None, Ok};
 ghost use Rattle.std.specs.Result.{result_err};
 ghost use Rattle.mm_machine.specs.Acts.{act_in, change_after};
 ghost use Rattle.mm_machine.specs.Stepping as machine;
@@ -30,7 +30,7 @@ pub enum Came<A, R> {
 
 /// What a step that was made leads a call to.
 #[derive(Drop)]
-pub enum Turn<A, R> {
+enum Turn<A, R> {
     /// Here.
     To(Stage<A>),
     /// To its end.
@@ -80,6 +80,7 @@ fn next<A: Drop>(stage: &Stage<A>) -> Step
     }
 }
 
+// The step that a change makes.
 fn step_in(change: &Change) -> Step
     ensures { act_of result ≡ act_in change.now }
 {
@@ -134,6 +135,7 @@ fn find<O: Operation>(
     }
 }
 
+// This was read from the register.
 fn weigh<O: Operation>(
     op: &O,
     cell: &Cell,
@@ -146,6 +148,7 @@ fn weigh<O: Operation>(
     weighed(op.find(cell, &value, keys))
 }
 
+// The value, of which a call's result is known to have 32 bytes.
 fn copied(value: &Digest) -> Digest
     ensures { result ≡ value.now }
 {
@@ -183,6 +186,7 @@ fn weighed<A: Drop, R: Drop>(found: Result<Found<A>, R>) -> Turn<A, R>
     }
 }
 
+// Something is to be done, or nothing.
 fn at<A: Drop, R>(found: Found<A>) -> Turn<A, R>
     ensures { result ≡ turn_by (step_found (Ok found)) }
 {
@@ -193,11 +197,7 @@ fn at<A: Drop, R>(found: Found<A>) -> Turn<A, R>
 }
 
 // A changing step was made.
-fn changed<O: Operation>(
-    op: &O,
-    ready: Ready<O::Answer>,
-    it: &Made,
-) -> Turn<O::Answer, O::Refusal>
+fn changed<O: Operation>(op: &O, ready: Ready<O::Answer>, it: &Made) -> Turn<O::Answer, O::Refusal>
     ensures { Turns (O.asked op.now) (Changing ready) it.now result }
 {
     if !is_of(it, &step_in(&ready.change)) {
@@ -248,6 +248,7 @@ fn behind<A: Drop, R>(ready: Ready<A>) -> Turn<A, R>
     }
 }
 
+// The change behind it.
 fn change_behind(change: Change) -> Option<Change>
     ensures { result ≡ change_after change }
 {
