@@ -24,7 +24,7 @@ use Rattle.mm_told.specs.declared.told.Turn.{Turn}
 use Rattle.mm_told.specs.declared.told.Turn.TheVariants as turn
 use Rattle.mm_told.specs.Steps.{act_of, act_made, fault_made}
 
--- behind what was seen in the cell; and behind what was found in it, and in the register
+-- where a call stands behind what was seen in the cell; and behind what was found in the register
 abbrev pub step_seen : {A R : Type 0} → Result (Sight A) R → Step A R
 step_seen (Ok (sight.Found found)) = step_found (Ok found)
 step_seen (Ok (sight.Cell cell)) = Going (Seen cell)
@@ -41,12 +41,12 @@ pub record LeadsBy {T A R : Type 0} (says : T → Type 0) (leads : T → Step A 
   pub is_said : says drawn
   pub gives : step ≡ leads drawn
 
--- where a step leads
+-- what the code calls where a step leads
 abbrev pub turn_by : {A R : Type 0} → Step A R → Turn A R
 turn_by (Going stage) = turn.To stage
 turn_by (Over end) = turn.End end
 
--- a call that ended, before these steps were made or with none behind it
+-- a call that ended, and these steps were made behind that
 abbrev pub over_before : {A R : Type 0} → List Made → Ended A R → Came A R
 over_before [] end = came.Over end
 over_before (it ∷ more) end = came.Before end
@@ -72,6 +72,7 @@ module _ {A R : Type 0} (o : Asked A R) where
   Leads (Changing ready) it step =
       (act_made it ≡ act_in ready.change) × (step ≡ step_made o ready (fault_made it))
 
+  -- The same, as the code tells it; or the step isn't that one.
   abbrev pub Turns : Stage A → Made → Turn A R → Type 0
   Turns stage it (turn.To next) = Leads stage it (Going next)
   Turns stage it (turn.End end) = Leads stage it (Over end)
@@ -80,7 +81,7 @@ module _ {A R : Type 0} (o : Asked A R) where
   abbrev pub Weighs : Cell → Digest → Turn A R → Type 0
   Weighs cell value turn = Turns (Seen cell) (made.ReadRegister (Ok value)) turn
 
-  -- These steps lead a call from here to there; and to this end, which is at the last of them.
+  -- These steps lead a call from here to there; and to this end, at the last of them.
   abbrev pub Stands : Stage A → List Made → Stage A → Type 0
   Stands from [] stage = stage ≡ from
   Stands from (it ∷ more) stage =

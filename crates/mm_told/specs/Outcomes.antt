@@ -14,7 +14,8 @@ pub record Course (E : Type 0) : Type 1 where
   pub lacks : E → Bool
 
 module _ {E : Type 0} (course : Course E) where
-  -- it makes another step than this behind these, or it is over with them, not for want of memory
+  -- behind these it makes another step than this; or it is over with the last of them, for want of
+  -- memory or not
   pub record MakesOther (front : List Made) (it : Made) : Type 0 where
     pub act : Act
     pub next : course.next front act
@@ -25,8 +26,8 @@ module _ {E : Type 0} (course : Course E) where
     pub gives : course.gives front given
     pub lacks : course.lacks given ≡ lacking
 
-  -- The steps are other than the call's: one of them isn't the one that it makes behind those
-  -- before it.
+  -- The steps are other than the call's: behind the front ones it makes another than the one that
+  -- was made, or it was over, and memory wasn't wanting.
   pub record Differs (steps : List Made) : Type 0 where
     pub front : List Made
     pub it : Made
@@ -48,7 +49,8 @@ module _ {E : Type 0} (course : Course E) where
   Tells form steps outcome.Differs = Differs steps
   Tells form steps outcome.Memory = Lacks steps
 
-  -- Each of the steps is the one that the call makes behind those before it, which it tells as Next.
+  -- Each of the steps is the one that the call makes behind those before it: the one that it tells
+  -- as Next there.
   abbrev pub AreAsTold : List Made → Type 0
   AreAsTold steps =
       (front rest : List Made) (it : Made) → steps ≡ front ++ it ∷ rest
