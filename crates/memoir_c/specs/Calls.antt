@@ -39,8 +39,9 @@ abbrev pub AreNoSteps : List Step → Said → Type 0
 AreNoSteps steps why =
     ((why ≡ said.TooMany) × (5 < length steps)) ⊎ ((why ≡ said.NoStep) × HasNoStep steps)
 
--- The call of this variant and module with these steps made comes to this, on a platform that tells
--- nothing, on which any steps may have been made.
+-- The call of this variant and module with these steps made comes to this, by what the devices
+-- answered: it differs only where a step isn't the one that was told behind those before it. The
+-- platform is one that tells nothing, on which any steps may have been made.
 pub record IsCall (instance : Instance) (steps : List Step) (offer request : List ℕ)
     (outcome : Outcome (Result Answer Refusal)) : Type 0 where
   pub parts : Variant × AnyModule

@@ -1,3 +1,8 @@
+mod Coming
+mod Determining
+mod Leading
 mod Missing
-mod Standings
+mod Playing
+mod Reading
 mod Shutting
+mod Standings

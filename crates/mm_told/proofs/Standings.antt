@@ -3,16 +3,15 @@ use Rattle.std.proofs.Common.{ℕ, zero, suc, List, refl}
 use Rattle.mm_told.specs.declared.step.Made.{Made}
 use Rattle.mm_platform.specs.Standing.{Standing}
 use Rattle.mm_told.specs.Host.{Host, bare}
-use Rattle.mm_told.specs.Later.{later_by, no_calls, raised}
-use Rattle.mm_told.proofs.Missing.{unmade}
+use Rattle.mm_told.proofs.Missing.{after_unmade, unmade}
 
 -- a step that isn't answered has no effect
 abbrev pub host_of : List Made → (ℕ → Standing) → Host
 host_of steps stood = record {
   made = steps;
   stood = λ left. bare (stood left);
-  missed = λ left act. raised (later_by act no_calls) (bare (stood left));
-  misses = λ left act. unmade act (bare (stood left)) no_calls refl;
+  missed = λ left act. after_unmade act (bare (stood left));
+  misses = λ left act. unmade act (bare (stood left)) refl;
 }
 
 -- where it stands now, before what it stood at

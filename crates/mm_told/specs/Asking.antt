@@ -1,25 +1,32 @@
 -- What a call promises whose steps a host makes.
-use Rattle.std.specs.Prelude.{◌≡◌, ℕ, List, length, Result, Err}
+use Rattle.std.specs.Prelude.{◌≡◌, ◌≢◌, ◌⊎◌, ℕ, Bool, true, false, List, [], length, Result, Err}
 use Rattle.mm_digest.specs.declared.variant.Variant.{Variant}
 use Rattle.mm_digest.specs.declared.variant.Variant.TheVariants.{Basic, Opt}
 use Rattle.mm_platform.specs.Standing.{Standing}
+use Rattle.mm_platform.specs.Steps.{Act}
 use Rattle.mm_platform.specs.declared.fault.StepFault.TheVariants.{Off}
+use Rattle.mm_machine.specs.declared.call.Ended.{Ended}
+use Rattle.mm_machine.specs.declared.call.Stage.TheVariants.{Begun}
 use Rattle.mm_module.specs.Batch.{Batch, One}
 use Rattle.mm_module.specs.Meaning.{Meaning}
+use Rattle.mm_model.specs.Long.{is_long}
 use Rattle.mm_model.specs.declared.answer.Answer.{Answer}
 use Rattle.mm_model.specs.declared.answer.BatchAnswer.{BatchAnswer}
 use Rattle.mm_model.specs.declared.refusal.Refusal.{Refusal}
-use Rattle.mm_model.specs.declared.refusal.Refusal.TheVariants.{Device}
+use Rattle.mm_model.specs.declared.refusal.Refusal.TheVariants.{Device, Long, Memory}
+use Rattle.mm_call.specs.Ended.{result_of}
 use Rattle.mm_call.specs.Leaving.{whole_in}
+use Rattle.mm_call.specs.Machine.{end_told}
 use Rattle.mm_basic.specs.Asked.{AskedInBasic}
 use Rattle.mm_opt.specs.Asked.{AskedInOpt}
+use Rattle.mm_flight.specs.Operating.{asked_by}
 use Rattle.mm_told.specs.declared.outcome.Outcome.{Outcome}
 use Rattle.mm_told.specs.declared.outcome.Outcome.TheVariants as outcome
 use Rattle.mm_told.specs.declared.step.Made.{Made}
+use Rattle.mm_told.specs.Course.{Ends, Makes}
 use Rattle.mm_told.specs.Steps.{act_of}
-use Rattle.mm_told.specs.Host.{Host, AreLast, bare}
-use Rattle.mm_told.specs.Later.{Telling, IsOther, stands}
-use Rattle.mm_told.specs.Outcomes.{asked_by, reach_of}
+use Rattle.mm_told.specs.Host.{Host, bare}
+use Rattle.mm_told.specs.Outcomes.{Course, Tells, AreAsTold}
 
 -- what a whole call of a variant promises
 abbrev pub AskedIn : Variant → Meaning → Standing → Standing → List ℕ → Batch
@@ -31,31 +38,55 @@ AskedIn Opt meaning old new offer b result = AskedInOpt meaning old new offer b 
 abbrev pub begun : Host → List Made → Standing
 begun host steps = bare (host.stood (length steps))
 
--- The call over the told platform makes other steps than those that were made, or fewer: this is
--- what it came to there, with the last of these left. Where another step was asked for, it isn't the
--- one that was made next.
-pub record AsksOtherwise (variant : Variant) (meaning : Meaning) (host : Host) (steps : List Made)
-    (offer request : List ℕ) : Type 0 where
-  pub told : Telling
-  pub left : AreLast told.left steps
-  pub other : IsOther told.left told.state
-  pub gives : Result Answer Refusal
-  pub asked : AskedIn variant meaning (begun host steps) (stands host told) offer (One request)
-      (whole_in gives)
-  pub differs : asked_by (reach_of told) gives ≡ outcome.Differs
+-- memory was wanting
+abbrev pub wants_memory : Result BatchAnswer Refusal → Bool
+wants_memory (Err Memory) = true
+wants_memory _ = false
 
--- What a call comes to with the steps that were made. Where it is over, these were its steps, and
--- it is the call over the host's platform. Where it makes a step next, the call over the host's
--- platform makes these steps, and then that one: if no answer comes to that, it is broken off
--- there. Want of memory may come at any time.
-abbrev pub AsksBy : Variant → Meaning → Host → List Made → List ℕ → List ℕ
-    → Outcome (Result Answer Refusal) → Type 0
-AsksBy variant meaning host steps offer request (outcome.Ended gives) =
-    AskedIn variant meaning (begun host steps) (bare (host.stood 0)) offer (One request)
-    (whole_in gives)
-AsksBy variant meaning host steps offer request (outcome.Next step) =
-    AskedIn variant meaning (begun host steps) (bare (host.missed 0 (act_of step))) offer
-    (One request) (Err (Device Off))
-AsksBy variant meaning host steps offer request outcome.Differs =
-    AsksOtherwise variant meaning host steps offer request
-AsksBy variant meaning host steps offer request outcome.Memory = Unit {0}
+module _ (variant : Variant) (meaning : Meaning) (offer request : List ℕ) where
+  -- a call makes this step behind these, if its request isn't too long
+  pub record AsksNext (steps : List Made) (act : Act) : Type 0 where
+    pub short : is_long (One request) ≡ false
+    pub makes : Makes (asked_by variant meaning offer (One request)) Begun steps act
+
+  -- with the last of these it ended, and gives this; too long a request is refused before the first
+  pub record AsksTo (steps : List Made) (given : Result BatchAnswer Refusal) : Type 0 where
+    pub short : is_long (One request) ≡ false
+    pub end : Ended BatchAnswer Refusal
+    pub ends : Ends (asked_by variant meaning offer (One request)) Begun steps end
+    pub gives : given ≡ result_of (end_told end)
+
+  pub record IsTooLong (steps : List Made) (given : Result BatchAnswer Refusal) : Type 0 where
+    pub long : is_long (One request) ≡ true
+    pub none : steps ≡ []
+    pub gives : given ≡ Err Long
+
+  -- A call, by what the devices answered.
+  abbrev pub ask_course : Course (Result BatchAnswer Refusal)
+  ask_course = record {
+    next = AsksNext;
+    gives = λ steps given. AsksTo steps given ⊎ IsTooLong steps given;
+    lacks = wants_memory;
+  }
+
+  -- Where the call is over, it is the call over the host's platform. Where it makes a step next, the
+  -- call over the host's platform makes these steps, and then that one: if no answer comes to that,
+  -- it is broken off there.
+  abbrev pub IsAsked : Host → List Made → Outcome (Result Answer Refusal) → Type 0
+  IsAsked host steps (outcome.Ended given) =
+      AskedIn variant meaning (begun host steps) (bare (host.stood 0)) offer (One request)
+      (whole_in given)
+  IsAsked host steps (outcome.Next step) =
+      AskedIn variant meaning (begun host steps) (bare (host.missed 0 (act_of step))) offer
+      (One request) (Err (Device Off))
+  IsAsked host steps _ = Unit {0}
+
+-- What a call comes to with the steps that were made.
+pub record AsksBy (variant : Variant) (meaning : Meaning) (host : Host) (steps : List Made)
+    (offer request : List ℕ) (came : Outcome (Result Answer Refusal)) : Type 0 where
+  -- what it tells, by what the devices answered
+  pub tells : Tells (ask_course variant meaning offer request) whole_in steps came
+  -- over the host's platform it is a whole call
+  pub asked : IsAsked variant meaning offer request host steps came
+  -- a host that makes the steps that it is told never hears Differs
+  pub fits : AreAsTold (ask_course variant meaning offer request) steps → came ≢ outcome.Differs

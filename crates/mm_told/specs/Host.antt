@@ -1,5 +1,5 @@
 -- A host's platform, and the steps that were made on it.
-use Rattle.std.specs.Prelude.{◌≡◌, ◌⊎◌, ℕ, suc, List, [], ◌∷◌, length, None, Some}
+use Rattle.std.specs.Prelude.{◌≡◌, ℕ, suc, List, [], ◌∷◌, length, None, Some}
 use Rattle.mm_platform.specs.Standing.{Standing}
 use Rattle.mm_platform.specs.Steps.{Act, Goes}
 use Rattle.mm_platform.specs.declared.fault.StepFault.TheVariants.{Off}
@@ -24,11 +24,6 @@ AreMade stood (it ∷ more) =
 pub record IsHostOf (steps : List Made) (host : Host) : Type 0 where
   pub made_are : host.made ≡ steps
   pub are_made : AreMade host.stood steps
-
--- these are the last of the steps, or none of them
-abbrev pub AreLast : List Made → List Made → Type 0
-AreLast left [] = left ≡ []
-AreLast left (it ∷ more) = (left ≡ it ∷ more) ⊎ AreLast left more
 
 -- What stands, as hardware shows it, which tells no plan and always has room for an extension.
 abbrev pub bare : Standing → Standing

@@ -1,63 +1,57 @@
--- What a call comes to, by how far the told platform was asked.
-use Rattle.std.specs.Prelude.{Bool, true, false, ◌==◌, ◌&&◌, List, [], ◌∷◌, Result, Err, if◌then◌else◌}
-use Rattle.mm_platform.specs.declared.fault.StepFault.TheVariants.{Off}
-use Rattle.mm_model.specs.declared.answer.Answer.{Answer}
-use Rattle.mm_model.specs.declared.refusal.Refusal.{Refusal}
-use Rattle.mm_model.specs.declared.refusal.Refusal.TheVariants as refusal
-use Rattle.mm_opt.specs.declared.segment.Checkpointed.{Checkpointed}
-use Rattle.mm_opt.specs.declared.segment.CheckpointRefusal.{CheckpointRefusal}
-use Rattle.mm_opt.specs.declared.segment.CheckpointRefusal.TheVariants as closing
+-- What a call tells, by the steps that were made.
+use Rattle.std.specs.Prelude.{◌≡◌, ◌≢◌, ◌⊎◌, Bool, true, false, List, ◌∷◌, ◌++◌}
+use Rattle.mm_platform.specs.Steps.{Act}
 use Rattle.mm_told.specs.declared.outcome.Outcome.{Outcome}
 use Rattle.mm_told.specs.declared.outcome.Outcome.TheVariants as outcome
-use Rattle.mm_told.specs.declared.outcome.Reach.{Reach}
-use Rattle.mm_told.specs.declared.outcome.Reach.TheVariants as reach
-use Rattle.mm_told.specs.declared.state.Later.{Later}
-use Rattle.mm_told.specs.declared.state.State.{State}
-use Rattle.mm_told.specs.declared.state.State.TheVariants as state
 use Rattle.mm_told.specs.declared.step.Made.{Made}
-use Rattle.mm_told.specs.Later.{Telling}
+use Rattle.mm_told.specs.Steps.{act_of, act_made}
 
--- nothing was called
-abbrev pub is_none : Later → Bool
-is_none later =
-    later.steps == 0 && later.writes == 0 && later.cycles == 0 && later.faults == 0
+-- What a call makes next behind these steps, and what it gives where it ends with the last of them;
+-- and whether that is want of memory.
+pub record Course (E : Type 0) : Type 1 where
+  pub next : List Made → Act → Type 0
+  pub gives : List Made → E → Type 0
+  pub lacks : E → Bool
 
--- how far a told platform was asked
-abbrev pub reach_by : List Made → State → Reach
-reach_by [] state.Telling = reach.End
-reach_by (it ∷ more) state.Telling = reach.Elsewhere
-reach_by left (state.Differing later) = reach.Elsewhere
-reach_by [] (state.Wanting step later) =
-    if is_none later then reach.Next step else reach.Elsewhere
-reach_by (it ∷ more) (state.Wanting step later) = reach.Elsewhere
+module _ {E : Type 0} (course : Course E) where
+  -- behind these it makes another step than this; or it is over with the last of them, for want of
+  -- memory or not
+  pub record MakesOther (front : List Made) (it : Made) : Type 0 where
+    pub act : Act
+    pub next : course.next front act
+    pub other : act_made it ≢ act
 
-abbrev pub reach_of : Telling → Reach
-reach_of told = reach_by told.left told.state
+  pub record IsOver (lacking : Bool) (front : List Made) : Type 0 where
+    pub given : E
+    pub gives : course.gives front given
+    pub lacks : course.lacks given ≡ lacking
 
--- a platform that is off broke it off
-abbrev pub is_cut : Result Answer Refusal → Bool
-is_cut (Err (refusal.Device Off)) = true
-is_cut _ = false
+  -- The steps are other than the call's: behind the front ones it makes another than the one that
+  -- was made, or it was over, and memory wasn't wanting.
+  pub record Differs (steps : List Made) : Type 0 where
+    pub front : List Made
+    pub it : Made
+    pub rest : List Made
+    pub are : steps ≡ front ++ it ∷ rest
+    pub other : MakesOther front it ⊎ IsOver false front
 
-abbrev pub is_closing_cut : Result Checkpointed CheckpointRefusal → Bool
-is_closing_cut (Err (closing.Device Off)) = true
-is_closing_cut _ = false
+  -- memory was wanting behind some of the steps
+  pub record Lacks (steps : List Made) : Type 0 where
+    pub front : List Made
+    pub rest : List Made
+    pub are : steps ≡ front ++ rest
+    pub over : IsOver true front
 
--- memory was wanting
-abbrev pub wants_memory : Result Answer Refusal → Bool
-wants_memory (Err refusal.Memory) = true
-wants_memory _ = false
+  -- What the call tells; what it gives is told in this form.
+  abbrev pub Tells : {G : Type 0} → (G → E) → List Made → Outcome G → Type 0
+  Tells form steps (outcome.Ended given) = course.gives steps (form given)
+  Tells form steps (outcome.Next step) = course.next steps (act_of step)
+  Tells form steps outcome.Differs = Differs steps
+  Tells form steps outcome.Memory = Lacks steps
 
--- what a call comes to that gave this over the told platform
-abbrev pub asked_by : Reach → Result Answer Refusal → Outcome (Result Answer Refusal)
-asked_by reach.End gives = outcome.Ended gives
-asked_by (reach.Next step) gives = if is_cut gives then outcome.Next step else outcome.Differs
-asked_by reach.Elsewhere gives =
-    if wants_memory gives then outcome.Memory else outcome.Differs
-
-abbrev pub closed_by : Reach → Result Checkpointed CheckpointRefusal
-    → Outcome (Result Checkpointed CheckpointRefusal)
-closed_by reach.End gives = outcome.Ended gives
-closed_by (reach.Next step) gives =
-    if is_closing_cut gives then outcome.Next step else outcome.Differs
-closed_by reach.Elsewhere gives = outcome.Differs
+  -- Each of the steps is the one that the call makes behind those before it: the one that it tells
+  -- as Next there.
+  abbrev pub AreAsTold : List Made → Type 0
+  AreAsTold steps =
+      (front rest : List Made) (it : Made) → steps ≡ front ++ it ∷ rest
+      → course.next front (act_made it)

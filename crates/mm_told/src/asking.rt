@@ -1,19 +1,21 @@
 //! A call whose device steps a host makes.
 
-ghost use Rattle.mm_told.specs.Asking.{AsksBy};
+ghost use Rattle.std.specs.Prelude.{◌≡◌};
+ghost use Rattle.mm_call.specs.Leaving.{whole_in};
+ghost use Rattle.mm_told.specs.Asking.{AsksBy, wants_memory};
+ghost use Rattle.mm_told.specs.Comings.{IsOne, IsOneIn, IsTold, before_by, long_told};
 ghost use Rattle.mm_told.specs.Host.{Host, IsHostOf};
-ghost use Rattle.mm_digest.specs.declared.variant.Variant.TheVariants.{Basic, Opt};
 
-use crate::host::Hosted;
 use crate::outcome::Outcome;
 use crate::step::Made;
-use crate::told::Told;
-use mm_call::KeptKey;
+use crate::told::{Came, tell};
+use mm_call::{Ended, KeptKey};
 use mm_digest::Variant;
-use mm_model::{Answer, Refusal};
-use mm_module::Module;
+use mm_flight::Ask;
+use mm_machine::Stage;
+use mm_model::{Answer, BatchAnswer, Refusal};
+use mm_module::{Batch, Module};
 use std::alloc::Global;
-use std::marker::Brand;
 
 /// What a call that asks for a request comes to with these steps made, of which the first was its first: its answer or
 /// refusal, once they are all of its steps; or the step that it makes next. It is over after at most five steps. It
@@ -32,42 +34,61 @@ pub fn ask<M: Module>(
     requires { IsHostOf made.now host }
     ensures { AsksBy variant (M.meaning «module».now) host made.now offer.now request.now result }
 {
-    match variant {
-        Variant::Basic => ask_basic::<Brand, M>(alloc, module, made, offer, request, keys),
-        Variant::Opt => ask_opt::<Brand, M>(alloc, module, made, offer, request, keys),
+    let batch = Batch::One(request);
+    if mm_model::is_long(&batch) {
+        return too_long(made);
+    }
+    let ask = Ask {
+        variant,
+        alloc,
+        module,
+        offer,
+        batch,
+    };
+    told(tell(&ask, Stage::Begun, made, keys))
+}
+
+// Too long a request is refused before the first step.
+fn too_long(made: &[Made]) -> Outcome<Result<Answer, Refusal>>
+    ensures { result ≡ long_told made.now }
+{
+    if made.is_empty() {
+        Outcome::Ended(Err(Refusal::Long))
+    } else {
+        Outcome::Differs
     }
 }
 
-// The same, of Basic.
-fn ask_basic<K: Hosted, M: Module>(
-    alloc: Global,
-    module: &M,
-    made: &[Made],
-    offer: &[u8],
-    request: &[u8],
-    keys: &mut KeptKey,
-) -> Outcome<Result<Answer, Refusal>>
-    requires { IsHostOf made.now K.host }
-    ensures { AsksBy Basic (M.meaning «module».now) K.host made.now offer.now request.now result }
+// A call of one request, as it is told.
+fn told(came: Came<BatchAnswer, Refusal>) -> Outcome<Result<Answer, Refusal>>
+    requires { IsOneIn came }
+    ensures { IsTold came result }
 {
-    let mut told = Told::<K>::new(made);
-    let gives = mm_basic::ask_keeping(alloc, module, &mut told, offer, request, keys);
-    told.reach().asked(gives)
+    match came {
+        Came::Next(step) => Outcome::Next(step),
+        Came::Over(end) => Outcome::Ended(whole(Ended::of(end).result())),
+        Came::Before(end) => before(Ended::of(end).result()),
+        Came::Elsewhere => Outcome::Differs,
+    }
 }
 
-// The same, of Opt.
-fn ask_opt<K: Hosted, M: Module>(
-    alloc: Global,
-    module: &M,
-    made: &[Made],
-    offer: &[u8],
-    request: &[u8],
-    keys: &mut KeptKey,
-) -> Outcome<Result<Answer, Refusal>>
-    requires { IsHostOf made.now K.host }
-    ensures { AsksBy Opt (M.meaning «module».now) K.host made.now offer.now request.now result }
+// The answer to the one request.
+fn whole(given: Result<BatchAnswer, Refusal>) -> Result<Answer, Refusal>
+    requires { IsOne given }
+    ensures { whole_in result ≡ given }
 {
-    let mut told = Told::<K>::new(made);
-    let gives = mm_opt::ask_keeping(alloc, module, &mut told, offer, request, keys);
-    told.reach().asked(gives)
+    match given {
+        Ok(answer) => Ok(answer.into_one()),
+        Err(refusal) => Err(refusal),
+    }
+}
+
+// The call was over before, and gave this.
+fn before(given: Result<BatchAnswer, Refusal>) -> Outcome<Result<Answer, Refusal>>
+    ensures { result ≡ before_by (wants_memory given) }
+{
+    match given {
+        Err(Refusal::Memory) => Outcome::Memory,
+        _ => Outcome::Differs,
+    }
 }

@@ -1,14 +1,19 @@
 //! A checkpoint whose device steps a host makes.
 
+ghost use Rattle.mm_machine.specs.declared.call.Stage.TheVariants.{Begun};
+ghost use Rattle.mm_opt.specs.Closing.{closing};
 ghost use Rattle.mm_told.specs.Closing.{ClosesBy};
+ghost use Rattle.mm_told.specs.Course.{ComesTo};
 ghost use Rattle.mm_told.specs.Host.{Host, IsHostOf};
+ghost use Rattle.mm_told.specs.Comings.{closing_by};
+ghost use Rattle.std.specs.Prelude.{◌≡◌};
 
-use crate::host::Hosted;
 use crate::outcome::Outcome;
 use crate::step::Made;
-use crate::told::Told;
-use mm_opt::{CheckpointRefusal, Checkpointed};
-use std::marker::Brand;
+use crate::told::{Came, tell};
+use mm_machine::Stage;
+use mm_opt::{CheckpointRefusal, Checkpointed, Close, closing_result};
+use mm_seal::KeptKey;
 
 /// What a checkpoint comes to with these steps made, as `ask` says of a call. It is over after at most three steps.
 /// Takes no memory.
@@ -17,14 +22,25 @@ pub fn checkpoint(made: &[Made]) -> Outcome<Result<Checkpointed, CheckpointRefus
     requires { IsHostOf made.now host }
     ensures { ClosesBy host made.now result }
 {
-    close::<Brand>(made)
+    told(follow(made, &mut KeptKey::new()))
 }
 
-fn close<K: Hosted>(made: &[Made]) -> Outcome<Result<Checkpointed, CheckpointRefusal>>
-    requires { IsHostOf made.now K.host }
-    ensures { ClosesBy K.host made.now result }
+fn follow(made: &[Made], keys: &mut KeptKey) -> Came<Checkpointed, CheckpointRefusal>
+    ensures { ComesTo closing Begun made.now result }
 {
-    let mut told = Told::<K>::new(made);
-    let gives = mm_opt::checkpoint(&mut told);
-    told.reach().closed(gives)
+    tell(&Close, Stage::Begun, made, keys)
+}
+
+// As it is told.
+fn told(
+    came: Came<Checkpointed, CheckpointRefusal>,
+) -> Outcome<Result<Checkpointed, CheckpointRefusal>>
+    ensures { result ≡ closing_by came }
+{
+    match came {
+        Came::Next(step) => Outcome::Next(step),
+        Came::Over(end) => Outcome::Ended(closing_result(end)),
+        Came::Before(_) => Outcome::Differs,
+        Came::Elsewhere => Outcome::Differs,
+    }
 }

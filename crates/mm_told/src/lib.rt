@@ -1,23 +1,19 @@
-//! Calls whose device steps a host makes: a platform that answers from what the host's devices answered, and says the
-//! next step behind that.
+//! Calls whose device steps a host makes: they are led on by what the host's devices answered, and say the next step
+//! behind that.
 #![tactic(auto)]
 
 mod asking;
 mod closing;
-mod host;
 mod hosting;
 mod making;
 mod outcome;
-mod state;
 mod step;
 mod told;
 
 pub use asking::ask;
 pub use closing::checkpoint;
-pub use host::Hosted;
 pub use hosting::ask_by_steps;
 pub use making::make;
-pub use outcome::{Outcome, Reach};
-pub use state::{Later, State};
+pub use outcome::Outcome;
 pub use step::{Made, Step};
-pub use told::Told;
+pub use told::{Came, tell};

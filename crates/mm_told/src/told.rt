@@ -1,208 +1,261 @@
-//! A platform that answers from what a host's devices answered.
+//! A call, which what a host's devices answered leads on.
 
-ghost use Rattle.std.specs.Prelude.{◌≡◌, ◌↔◌, ◌∷◌, [], Some, IsTrue, IsFalse, length};
+ghost use Rattle.std.specs.Prelude.{◌≡◌, None, Ok};
 ghost use Rattle.std.specs.Result.{result_err};
-ghost use Rattle.mm_platform.specs.Steps.{Goes, Cycles, WriteCell, ExtendRegister};
-ghost use Rattle.mm_platform.specs.declared.fault.StepFault.TheVariants.{Off};
-ghost use Rattle.mm_told.specs.Host.{AreLast, IsHostOf, bare};
-ghost use Rattle.mm_told.specs.Later.{stands, IsGiven, IsNext, IsMissed, IsOther};
-ghost use Rattle.mm_told.specs.Outcomes.{reach_of};
-ghost use Rattle.mm_told.specs.Steps.{act_of, act_made};
+ghost use Rattle.mm_machine.specs.Acts.{act_in, change_after};
+ghost use Rattle.mm_machine.specs.Stepping as machine;
+ghost use Rattle.mm_machine.specs.Stepping.{position_if_last, step_found, step_to};
+ghost use Rattle.mm_machine.specs.declared.call.Stage.TheVariants.{Begun, Seen, Changing};
+ghost use Rattle.mm_told.specs.Course.{ComesTo, Turns, Weighs, over_before, step_seen, step_weighed, turn_by};
+ghost use Rattle.mm_told.specs.Steps.{act_of, fault_made};
 
-use crate::host::Hosted;
-use crate::outcome::Reach;
-use crate::state::State;
-use crate::step::{Made, Step};
-use mm_base::{CELL_LENGTH, Memory};
+use crate::step::{Made, Step, is_of};
 use mm_digest::Digest;
-use mm_platform::{Device, Nv, Platform, Register, StepFault};
-use std::marker::{Model, PhantomData};
+use mm_machine::{Change, Ended, Found, Operation, Ready, Sight, Stage};
+use mm_platform::StepFault;
+use mm_seal::{Cell, KeptKey};
 
-/// A platform that answers each device step by what the host's device answered to it, as long as the steps are those
-/// that the host has made; behind them it is off, and remembers the step that was asked for.
+/// What a call comes to with the steps that were made.
 #[derive(Drop)]
-pub struct Told<'a, K: Hosted> {
-    left: &'a [Made],
-    state: State,
-    host: PhantomData<K>,
+pub enum Came<A, R> {
+    /// It makes this step next.
+    Next(Step),
+    /// It ended at the last of them.
+    Over(Ended<A, R>),
+    /// It ended before the last of them.
+    Before(Ended<A, R>),
+    /// It makes another step than one of them.
+    Elsewhere,
 }
 
-impl<'a, K: Hosted> Model for Told<'a, K> {
-    ghost use Rattle.mm_told.specs.Later.{Telling};
-
-    ghost Value = { Telling };
-
-    ghost use Rattle.mm_told.specs.Later.{IsTelling};
-
-    ghost view = { λ it. record { left = it.left.now; state = it.state } };
-
-    ghost invariant = { λ it. IsTelling K.host it.left.now it.state };
+/// What a step that was made leads a call to.
+#[derive(Drop)]
+enum Turn<A, R> {
+    /// Here.
+    To(Stage<A>),
+    /// To its end.
+    End(Ended<A, R>),
+    /// It isn't the step that comes next.
+    Other,
 }
 
-impl<'a, K: Hosted> Told<'a, K> {
-    /// The platform on which these steps were made.
-    pub fn new(made: &'a [Made]) -> Told<'a, K>
-        requires { IsHostOf made.now K.host }
-        ensures { result ≡ record { left = made.now; state = State.Telling } }
-    {
-        Told {
-            left: made,
-            state: State::Telling,
-            host: PhantomData,
-        }
-    }
-
-    /// How far it was asked.
-    pub fn reach(&self) -> Reach
-        ensures reach { result ≡ reach_of self.now }
-        ensures last { AreLast self.now.left K.host.made }
-        ensures other { IsOther self.now.left self.now.state }
-    {
-        match self.state {
-            State::Telling if self.left.is_empty() => Reach::End,
-            State::Wanting(step, later) if later.is_none() && self.left.is_empty() => {
-                Reach::Next(step)
-            }
-            _ => Reach::Elsewhere,
-        }
-    }
-
-    // What the host's device answered to this step; None where that was not made next.
-    fn given(&mut self, step: &Step) -> Option<Made>
-        ensures { IsGiven (act_of step.now) (stands K.host self.old)
-            (stands K.host self.new) result }
-    {
-        if !is_next(self.left, &self.state, step) {
-            self.miss(step);
-            return None;
-        }
-        match self.left {
-            [it, more @ ..] => {
-                self.left = more;
-                Some(*it)
-            }
-            [] => unreachable!(),
-        }
-    }
-
-    // A step that was not made next.
-
-    fn miss(&mut self, step: &Step)
-        requires { IsMissed self.old.left self.old.state step.now }
-        ensures { Goes (act_of step.now) (stands K.host self.old)
-            (stands K.host self.new) (Some Off) }
-    {
-        self.state = self.state.after(step);
-    }
-}
-
-// Whether the step is the one that was made next.
-fn is_next(left: &[Made], state: &State, step: &Step) -> bool
-    ensures next { IsTrue result → IsNext left.now state.now step.now }
-    ensures missed { IsFalse result → IsMissed left.now state.now step.now }
+/// What a call comes to that stands here, with these steps made from here on.
+pub fn tell<O: Operation>(
+    op: &O,
+    stage: Stage<O::Answer>,
+    made: &[Made],
+    keys: &mut KeptKey,
+) -> Came<O::Answer, O::Refusal>
+    ensures { ComesTo (O.asked op.now) stage made.now result }
 {
-    match left {
-        [it, ..] => is_telling(state) && is_of(it, step),
-        [] => false,
+    match made {
+        [] => Came::Next(next(&stage)),
+        [it, more @ ..] => match lead(op, stage, it, keys) {
+            Turn::To(stage) => tell(op, stage, more, keys),
+            Turn::End(end) => over(end, more),
+            Turn::Other => Came::Elsewhere,
+        },
     }
 }
 
-fn is_telling(state: &State) -> bool
-    ensures { IsTrue result ↔ (state.now ≡ State.Telling) }
+// The call ended, and these steps were made behind that.
+fn over<A: Drop, R: Drop>(end: Ended<A, R>, more: &[Made]) -> Came<A, R>
+    ensures { result ≡ over_before more.now end }
 {
-    matches!(state, State::Telling)
+    if more.is_empty() {
+        Came::Over(end)
+    } else {
+        Came::Before(end)
+    }
 }
 
-// Whether this is the step that was made.
-fn is_of(it: &Made, step: &Step) -> bool
-    ensures { IsTrue result ↔ (act_made it.now ≡ act_of step.now) }
+// The step that comes next.
+fn next<A: Drop>(stage: &Stage<A>) -> Step
+    ensures { act_of result ≡ machine.act_of stage.now }
+{
+    match stage {
+        Stage::Begun => Step::ReadCell,
+        Stage::Seen(_) => Step::ReadRegister,
+        Stage::Changing(ready) => step_in(&ready.change),
+    }
+}
+
+// The step that a change makes.
+fn step_in(change: &Change) -> Step
+    ensures { act_of result ≡ act_in change.now }
+{
+    match change {
+        Change::Extending(value) => Step::ExtendRegister(*value),
+        Change::Emptying(_) => Step::ResetRegister,
+        Change::Placing(opening) => Step::ExtendRegister(opening.value),
+        Change::Writing(next) => Step::WriteCell(*next),
+    }
+}
+
+// What this step leads to.
+fn lead<O: Operation>(
+    op: &O,
+    stage: Stage<O::Answer>,
+    it: &Made,
+    keys: &mut KeptKey,
+) -> Turn<O::Answer, O::Refusal>
+    ensures { Turns (O.asked op.now) stage it.now result }
+{
+    match stage {
+        Stage::Begun => see(op, it, keys),
+        Stage::Seen(cell) => find(op, &cell, it, keys),
+        Stage::Changing(ready) => changed(op, ready, it),
+    }
+}
+
+// The cell was read.
+fn see<O: Operation>(op: &O, it: &Made, keys: &mut KeptKey) -> Turn<O::Answer, O::Refusal>
+    ensures { Turns (O.asked op.now) Begun it.now result }
 {
     match it {
-        Made::ReadCell(_) => matches!(step, Step::ReadCell),
-        Made::WriteCell(bytes, _) => is_write_of(bytes, step),
-        Made::ReadRegister(_) => matches!(step, Step::ReadRegister),
-        Made::ResetRegister(_) => matches!(step, Step::ResetRegister),
-        Made::ExtendRegister(value, _) => is_extension_by(value, step),
+        Made::ReadCell(Ok(bytes)) => sighted(op.see(bytes, keys)),
+        Made::ReadCell(Err(fault)) => broken(*fault),
+        _ => Turn::Other,
     }
 }
 
-fn is_write_of(bytes: &[u8; CELL_LENGTH], step: &Step) -> bool
-    ensures { IsTrue result ↔ (act_of step.now ≡ WriteCell bytes.now) }
+// The register was read.
+fn find<O: Operation>(
+    op: &O,
+    cell: &Cell,
+    it: &Made,
+    keys: &mut KeptKey,
+) -> Turn<O::Answer, O::Refusal>
+    ensures { Turns (O.asked op.now) (Seen cell.now) it.now result }
 {
-    match step {
-        Step::WriteCell(wanted) => bytes == wanted,
-        _ => false,
+    match it {
+        Made::ReadRegister(Ok(value)) => weigh(op, cell, value, keys),
+        Made::ReadRegister(Err(fault)) => broken(*fault),
+        _ => Turn::Other,
     }
 }
 
-fn is_extension_by(value: &Digest, step: &Step) -> bool
-    ensures { IsTrue result ↔ (act_of step.now ≡ ExtendRegister value.now.bytes) }
+// This was read from the register.
+fn weigh<O: Operation>(
+    op: &O,
+    cell: &Cell,
+    value: &Digest,
+    keys: &mut KeptKey,
+) -> Turn<O::Answer, O::Refusal>
+    ensures { Weighs (O.asked op.now) cell.now value.now result }
 {
-    match step {
-        Step::ExtendRegister(wanted) => value == wanted,
-        _ => false,
+    let value = copied(value);
+    weighed(op.find(cell, &value, keys))
+}
+
+// The value, of which a call's result is known to have 32 bytes.
+fn copied(value: &Digest) -> Digest
+    ensures { result ≡ value.now }
+{
+    *value
+}
+
+// A reading step failed.
+fn broken<A, R>(fault: StepFault) -> Turn<A, R>
+    ensures { result ≡ Turn.End (Ended.Broken fault None) }
+{
+    Turn::End(Ended::Broken {
+        fault,
+        commits: None,
+    })
+}
+
+// Behind what was seen.
+fn sighted<A: Drop, R: Drop>(seen: Result<Sight<A>, R>) -> Turn<A, R>
+    ensures { result ≡ turn_by (step_seen seen) }
+{
+    match seen {
+        Ok(Sight::Found(found)) => at(found),
+        Ok(Sight::Cell(cell)) => Turn::To(Stage::Seen(cell)),
+        Err(refusal) => Turn::End(Ended::Refused(refusal)),
     }
 }
 
-impl<K: Hosted> Device for Told<'_, K> {
-    ghost standing = { λ it. stands K.host it };
-}
-
-impl<K: Hosted> Nv for Told<'_, K> {
-    fn nv_read(&mut self, into: &mut [u8; CELL_LENGTH]) -> Result<(), StepFault> {
-        match self.given(&Step::ReadCell) {
-            Some(Made::ReadCell(Ok(bytes))) => {
-                *into = bytes;
-                Ok(())
-            }
-            Some(Made::ReadCell(Err(fault))) => Err(fault),
-            Some(_) => unreachable!(),
-            None => Err(StepFault::Off),
-        }
-    }
-
-    fn nv_write(&mut self, bytes: &[u8; CELL_LENGTH]) -> Result<(), StepFault> {
-        match self.given(&Step::WriteCell(*bytes)) {
-            Some(Made::WriteCell(_, answer)) => answer,
-            Some(_) => unreachable!(),
-            None => Err(StepFault::Off),
-        }
+// Behind what was found.
+fn weighed<A: Drop, R: Drop>(found: Result<Found<A>, R>) -> Turn<A, R>
+    ensures { result ≡ turn_by (step_weighed found) }
+{
+    match found {
+        Ok(found) => at(found),
+        Err(refusal) => Turn::End(Ended::Refused(refusal)),
     }
 }
 
-impl<K: Hosted> Register for Told<'_, K> {
-    fn reg_ready(&mut self) -> Result<(), Memory> {
-        Ok(())
-    }
-
-    fn reg_read(&mut self) -> Result<Digest, StepFault> {
-        match self.given(&Step::ReadRegister) {
-            Some(Made::ReadRegister(answer)) => answer,
-            Some(_) => unreachable!(),
-            None => Err(StepFault::Off),
-        }
-    }
-
-    fn reg_reset(&mut self) -> Result<(), StepFault> {
-        match self.given(&Step::ResetRegister) {
-            Some(Made::ResetRegister(answer)) => answer,
-            Some(_) => unreachable!(),
-            None => Err(StepFault::Off),
-        }
-    }
-
-    fn reg_extend(&mut self, value: &Digest) -> Result<(), StepFault> {
-        match self.given(&Step::ExtendRegister(*value)) {
-            Some(Made::ExtendRegister(_, answer)) => answer,
-            Some(_) => unreachable!(),
-            None => Err(StepFault::Off),
-        }
+// Something is to be done, or nothing.
+fn at<A: Drop, R>(found: Found<A>) -> Turn<A, R>
+    ensures { result ≡ turn_by (step_found (Ok found)) }
+{
+    match found {
+        Found::Repeat(answer) => Turn::End(Ended::Answered(answer)),
+        Found::Change(ready) => Turn::To(Stage::Changing(ready)),
     }
 }
 
-impl<K: Hosted> Platform for Told<'_, K> {
-    fn cycle(&mut self) -> Result<(), StepFault> {
-        self.state = self.state.after_cycle();
-        Err(StepFault::Off)
+// A changing step was made.
+fn changed<O: Operation>(op: &O, ready: Ready<O::Answer>, it: &Made) -> Turn<O::Answer, O::Refusal>
+    ensures { Turns (O.asked op.now) (Changing ready) it.now result }
+{
+    if !is_of(it, &step_in(&ready.change)) {
+        return Turn::Other;
+    }
+    let commits = commits(op, &ready);
+    match answered(it) {
+        Err(fault) => Turn::End(Ended::Broken { fault, commits }),
+        Ok(()) => behind(ready),
+    }
+}
+
+// The position that a step commits.
+fn commits<O: Operation>(op: &O, ready: &Ready<O::Answer>) -> Option<u64>
+    ensures { result ≡ position_if_last (change_after ready.now.change)
+        ((O.asked op.now).position ready.now.answer) }
+{
+    if ready.change.is_last() {
+        Some(op.position(&ready.answer))
+    } else {
+        None
+    }
+}
+
+// Whether the device failed.
+fn answered(it: &Made) -> Result<(), StepFault>
+    ensures { result_err result ≡ fault_made it.now }
+{
+    match it {
+        Made::ReadCell(Ok(_)) => Ok(()),
+        Made::ReadCell(Err(fault)) => Err(*fault),
+        Made::ReadRegister(Ok(_)) => Ok(()),
+        Made::ReadRegister(Err(fault)) => Err(*fault),
+        Made::WriteCell(_, answer) => *answer,
+        Made::ResetRegister(answer) => *answer,
+        Made::ExtendRegister(_, answer) => *answer,
+    }
+}
+
+// Behind a changing step.
+fn behind<A: Drop, R>(ready: Ready<A>) -> Turn<A, R>
+    ensures { result ≡ turn_by (step_to (change_after ready.change) ready.answer) }
+{
+    let Ready { change, answer } = ready;
+    match change_behind(change) {
+        None => Turn::End(Ended::Answered(answer)),
+        Some(change) => Turn::To(Stage::Changing(Ready { change, answer })),
+    }
+}
+
+// The change behind it.
+fn change_behind(change: Change) -> Option<Change>
+    ensures { result ≡ change_after change }
+{
+    match change {
+        Change::Extending(_) => None,
+        Change::Emptying(opening) => Some(Change::Placing(opening)),
+        Change::Placing(opening) => Some(Change::Writing(opening.next)),
+        Change::Writing(_) => None,
     }
 }

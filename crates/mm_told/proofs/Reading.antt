@@ -1,0 +1,168 @@
+-- What a call of either core, and a checkpoint, see and find is determined by what they read, but for want of memory.
+use Rattle.std.proofs.Common.{◌≡◌, ℕ, List, refl, sym, ap, ◌∙◌, subst, inl, inr}
+use Rattle.std.specs.Prelude.{Result, Ok, Err}
+use Rattle.std.specs.Result.{result_map_both}
+use Rattle.mm_digest.specs.declared.variant.Variant.{Variant}
+use Rattle.mm_digest.specs.declared.variant.Variant.TheVariants.{Basic, Opt}
+use Rattle.mm_seal.specs.Cell.{ReadsCell, SpellsCell}
+use Rattle.mm_seal.specs.CellLaws.{reads_cell-same}
+use Rattle.mm_seal.specs.Snapshot.{Snapshot}
+use Rattle.mm_seal.specs.SnapshotLaws.{reads_parts-same}
+use Rattle.mm_seal.specs.declared.cell.Cell.{Cell}
+use Rattle.mm_seal.specs.declared.cell.CellFault.{CellFault}
+use Rattle.mm_seal.specs.declared.snapshot.PartsFault.{PartsFault}
+use Rattle.mm_machine.specs.declared.operation.Found.{Found}
+use Rattle.mm_machine.specs.declared.operation.Sight.{Sight}
+use Rattle.mm_machine.specs.declared.operation.Sight.TheVariants as sight
+use Rattle.mm_module.specs.Batch.{Batch}
+use Rattle.mm_module.specs.Meaning.{Meaning}
+use Rattle.mm_model.specs.declared.answer.BatchAnswer.{BatchAnswer}
+use Rattle.mm_model.specs.declared.refusal.Refusal.{Refusal}
+use Rattle.mm_model.specs.declared.refusal.Refusal.TheVariants.{Memory}
+use Rattle.mm_call.specs.Refusals.{OrMemory}
+use Rattle.mm_basic.specs.Answers as basic
+use Rattle.mm_basic.specs.Operating.{Sees}
+use Rattle.mm_basic.specs.Seen.{Seen, IsCellOf, IsSeen, NoCell, OtherCell, NoOffer, Both}
+use Rattle.mm_basic.specs.Steps.{FindsIn}
+use Rattle.mm_opt.specs.Answers as opt
+use Rattle.mm_opt.specs.Checkpoints.{segment_in}
+use Rattle.mm_opt.specs.Closing.{closing, sight_of, to_write}
+use Rattle.mm_opt.specs.Operating as in_opt
+use Rattle.mm_opt.specs.Seen.{SeesCell, cell_in}
+use Rattle.mm_opt.specs.declared.segment.CheckpointRefusal.{CheckpointRefusal}
+use Rattle.mm_flight.specs.Operating.{asked_by}
+use Rattle.mm_told.proofs.Determining.{IsDetermined, Lacking, SameOrLacking}
+
+-- memory was wanting for a call; for a checkpoint it never is
+abbrev pub is_memory : Refusal → Type 0
+is_memory why = why ≡ Memory
+
+abbrev pub never : CheckpointRefusal → Type 0
+never why = ⊥
+
+is_lacking : {T : Type 0} (f : Result T Refusal) → f ≡ Err Memory → Lacking is_memory f
+is_lacking f e = subst (Lacking is_memory) (sym e) refl
+
+or_same : {T : Type 0} (x f g : Result T Refusal) → OrMemory x f → OrMemory x g → SameOrLacking is_memory f g
+or_same (Err why) f g o p = inl (o ∙ sym p)
+or_same (Ok it) f g (inr e) p = inr (inl (is_lacking f e))
+or_same (Ok it) f g (inl e) (inr h) = inr (inr (is_lacking g h))
+or_same (Ok it) f g (inl e) (inl h) = inl (e ∙ sym h)
+
+-- what is said of a cell's bytes
+one_cell : (bytes : List ℕ) (a b : Cell) → SpellsCell bytes a → SpellsCell bytes b → a ≡ b
+one_cell bytes a b s t = let e : ◌≡◌ {A = Result Cell CellFault} (Ok a) (Ok b) = reads_cell-same bytes (Ok a) (Ok b) s t in cc
+
+cell_or_none : (bytes : List ℕ) (a : Cell) (fault : CellFault) → SpellsCell bytes a → ReadsCell bytes (Err fault) → ⊥
+cell_or_none bytes a fault s t =
+    let e : ◌≡◌ {A = Result Cell CellFault} (Ok a) (Err fault) = reads_cell-same bytes (Ok a) (Err fault) s t in absurd (cc)
+
+-- Basic
+
+module _ (id : ℕ) (bytes offer : List ℕ) where
+  same_seen : (s t : Seen) → IsSeen id bytes offer s → IsSeen id bytes offer t → s ≡ t
+  same_seen (NoCell f) (NoCell g) s t =
+      let e : ◌≡◌ {A = Result Cell CellFault} (Err f) (Err g) = reads_cell-same bytes (Err f) (Err g) s t in cc
+  same_seen (NoCell f) OtherCell s t = absurd (cell_or_none bytes t.0 f t.1 s)
+  same_seen (NoCell f) (NoOffer g) s t = absurd (cell_or_none bytes t.0 f t.1 s)
+  same_seen (NoCell f) (Both cell offered) s t = absurd (cell_or_none bytes cell f t.0 s)
+  same_seen OtherCell (NoCell g) s t = absurd (cell_or_none bytes s.0 g s.1 t)
+  same_seen OtherCell OtherCell s t = refl
+  same_seen OtherCell (NoOffer g) s t =
+      absurd (s.2 (subst (IsCellOf id) (one_cell bytes t.0 s.0 t.1 s.1) t.2))
+  same_seen OtherCell (Both cell offered) s t = absurd (s.2 (subst (IsCellOf id) (one_cell bytes cell s.0 t.0 s.1) t.1))
+  same_seen (NoOffer f) (NoCell g) s t = absurd (cell_or_none bytes s.0 g s.1 t)
+  same_seen (NoOffer f) OtherCell s t = absurd (t.2 (subst (IsCellOf id) (one_cell bytes s.0 t.0 s.1 t.1) s.2))
+  same_seen (NoOffer f) (NoOffer g) s t =
+      let e : ◌≡◌ {A = Result Snapshot PartsFault} (Err f) (Err g) = reads_parts-same offer Basic id (Err f) (Err g) s.3 t.3 in cc
+  same_seen (NoOffer f) (Both cell offered) s t =
+      let e : ◌≡◌ {A = Result Snapshot PartsFault} (Err f) (Ok offered) = reads_parts-same offer Basic id (Err f) (Ok offered) s.3 t.2 in
+      absurd (cc)
+  same_seen (Both one offered) (NoCell g) s t = absurd (cell_or_none bytes one g s.0 t)
+  same_seen (Both one offered) OtherCell s t = absurd (t.2 (subst (IsCellOf id) (one_cell bytes one t.0 s.0 t.1) s.1))
+  same_seen (Both one offered) (NoOffer g) s t =
+      let e : ◌≡◌ {A = Result Snapshot PartsFault} (Err g) (Ok offered) = reads_parts-same offer Basic id (Err g) (Ok offered) t.3 s.2 in
+      absurd (cc)
+  same_seen (Both one a) (Both cell b) s t =
+      let c : one ≡ cell = one_cell bytes one cell s.0 t.0 in
+      let e : ◌≡◌ {A = Result Snapshot PartsFault} (Ok a) (Ok b) = reads_parts-same offer Basic id (Ok a) (Ok b) s.2 t.2 in
+      cc
+
+abbrev at_once : {T R : Type 0} → Result (Found T) R → Result (Sight T) R
+at_once (Ok found) = Ok (sight.Found found)
+at_once (Err why) = Err why
+
+lacks_at_once : (f : Result (Found BatchAnswer) Refusal) → Lacking is_memory f → Lacking is_memory (at_once f)
+lacks_at_once (Ok found) l = absurd l
+lacks_at_once (Err why) l = l
+
+at_once_same : (f g : Result (Found BatchAnswer) Refusal) → SameOrLacking is_memory f g → SameOrLacking is_memory (at_once f) (at_once g)
+at_once_same f g (inl e) = inl (ap at_once e)
+at_once_same f g (inr (inl l)) = inr (inl (lacks_at_once f l))
+at_once_same f g (inr (inr l)) = inr (inr (lacks_at_once g l))
+
+module _ (meaning : Meaning) (offer : List ℕ) (b : Batch) where
+  basic_finds : (bytes : List ℕ) (f g : Result (Found BatchAnswer) Refusal) → FindsIn meaning bytes offer b f
+      → FindsIn meaning bytes offer b g → SameOrLacking is_memory (at_once f) (at_once g)
+  basic_finds bytes f g s t =
+      at_once_same f g
+      (or_same (basic.found_in meaning s.seen b) f g s.found_is
+      (subst (λ (x : Seen). OrMemory (basic.found_in meaning x b) g)
+      (same_seen meaning.id bytes offer t.seen s.seen t.is_seen s.is_seen) t.found_is))
+
+  basic_sees : (bytes : List ℕ) (x y : Result (Sight BatchAnswer) Refusal) → Sees meaning offer b bytes x → Sees meaning offer b bytes y
+      → SameOrLacking is_memory x y
+  basic_sees bytes (Ok (sight.Cell cell)) y s t = absurd s
+  basic_sees bytes (Ok (sight.Found f)) (Ok (sight.Cell cell)) s t = absurd t
+  basic_sees bytes (Err why) (Ok (sight.Cell cell)) s t = absurd t
+  basic_sees bytes (Ok (sight.Found f)) (Ok (sight.Found g)) s t = basic_finds bytes (Ok f) (Ok g) s t
+  basic_sees bytes (Ok (sight.Found f)) (Err why) s t = basic_finds bytes (Ok f) (Err why) s t.0
+  basic_sees bytes (Err why) (Ok (sight.Found g)) s t = basic_finds bytes (Err why) (Ok g) s.0 t
+  basic_sees bytes (Err why) (Err other) s t = basic_finds bytes (Err why) (Err other) s.0 t.0
+
+-- Opt
+
+abbrev as_cell : Result Cell Refusal → Result (Sight BatchAnswer) Refusal
+as_cell (Ok cell) = Ok (sight.Cell cell)
+as_cell (Err why) = Err why
+
+same_cell : (id : ℕ) (bytes : List ℕ) (f g : Result Cell Refusal) → SeesCell id bytes f → SeesCell id bytes g → as_cell f ≡ as_cell g
+same_cell id bytes f g s t =
+    ap as_cell (s.found_is ∙ ap (cell_in id) (reads_cell-same bytes s.read t.read s.reads t.reads) ∙ sym t.found_is)
+
+opt_sees : (id : ℕ) (bytes : List ℕ) (x y : Result (Sight BatchAnswer) Refusal) → in_opt.Sees id bytes x → in_opt.Sees id bytes y
+    → SameOrLacking is_memory x y
+opt_sees id bytes (Ok (sight.Found found)) y s t = absurd s
+opt_sees id bytes (Ok (sight.Cell cell)) (Ok (sight.Found found)) s t = absurd t
+opt_sees id bytes (Err why) (Ok (sight.Found found)) s t = absurd t
+opt_sees id bytes (Ok (sight.Cell a)) (Ok (sight.Cell b)) s t = inl (same_cell id bytes (Ok a) (Ok b) s t)
+opt_sees id bytes (Ok (sight.Cell a)) (Err why) s t = inl (same_cell id bytes (Ok a) (Err why) s t.0)
+opt_sees id bytes (Err why) (Ok (sight.Cell b)) s t = inl (same_cell id bytes (Err why) (Ok b) s.0 t)
+opt_sees id bytes (Err why) (Err other) s t = inl (same_cell id bytes (Err why) (Err other) s.0 t.0)
+
+-- either
+pub determined : (variant : Variant) (meaning : Meaning) (offer : List ℕ) (b : Batch)
+    → IsDetermined is_memory (asked_by variant meaning offer b)
+determined Basic meaning offer b = record {
+  sees = basic_sees meaning offer b;
+  finds = λ cell register x y s t. inl (s ∙ sym t);
+}
+determined Opt meaning offer b = record {
+  sees = opt_sees meaning.id;
+  finds = λ cell register x y s t.
+      or_same (opt.found_in meaning cell register s.finds.taken b) x y s.finds.found_is
+      (subst (λ (taken : Result Snapshot PartsFault). OrMemory (opt.found_in meaning cell register taken b) y)
+      (reads_parts-same offer Opt meaning.id t.finds.taken s.finds.taken t.finds.reads s.finds.reads) t.finds.found_is);
+}
+
+-- a checkpoint
+
+pub closing_determined : IsDetermined never closing
+closing_determined = record {
+  sees = λ bytes x y s t.
+      inl (s.gives ∙ ap (result_map_both sight_of (λ why. why))
+      (s.finds_it.found_is ∙ ap segment_in (reads_cell-same bytes s.finds_it.read t.finds_it.read s.finds_it.reads t.finds_it.reads)
+      ∙ sym t.finds_it.found_is) ∙ sym t.gives);
+  finds = λ cell register x y s t.
+      inl (s.gives ∙ ap (result_map_both to_write (λ why. why)) (s.finds_it ∙ sym t.finds_it) ∙ sym t.gives);
+}
