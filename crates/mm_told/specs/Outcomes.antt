@@ -21,7 +21,7 @@ module _ {E : Type 0} (course : Course E) where
     pub next : course.next front act
     pub other : act_made it ≢ act
 
-  pub record IsOver (lacking : Bool) (front : List Made) : Type 0 where
+  pub record HasEnded (lacking : Bool) (front : List Made) : Type 0 where
     pub given : E
     pub gives : course.gives front given
     pub lacks : course.lacks given ≡ lacking
@@ -33,14 +33,14 @@ module _ {E : Type 0} (course : Course E) where
     pub it : Made
     pub rest : List Made
     pub are : steps ≡ front ++ it ∷ rest
-    pub other : MakesOther front it ⊎ IsOver false front
+    pub other : MakesOther front it ⊎ HasEnded false front
 
   -- memory was wanting behind some of the steps
   pub record Lacks (steps : List Made) : Type 0 where
     pub front : List Made
     pub rest : List Made
     pub are : steps ≡ front ++ rest
-    pub over : IsOver true front
+    pub over : HasEnded true front
 
   -- What the call tells; what it gives is told in this form.
   abbrev pub Tells : {G : Type 0} → (G → E) → List Made → Outcome G → Type 0
