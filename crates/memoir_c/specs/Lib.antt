@@ -3,3 +3,4 @@ pub mod Numbers
 pub mod Steps
 pub mod Telling
 pub mod Calls
+pub mod Answering

@@ -1,5 +1,9 @@
 //! Receipts.
 
+ghost use Rattle.std.specs.Prelude.{◌≡◌};
+ghost use Rattle.memoir_c.specs.Answering.{receipt_said, verify_said};
+ghost use Rattle.memoir_c.specs.Numbers.{number_of};
+
 use crate::said::Said;
 use mm_base::LONGEST_REQUEST;
 use mm_model::Refusal;
@@ -13,18 +17,28 @@ pub extern "C" fn memoir_receipt_verify(
     position: u64,
     request: &[u8],
     output: &[u8],
-) -> u32 {
+) -> u32
+    ensures { result ≡ number_of (verify_said key.now position request.now output.now) }
+{
     verdict(key, position, request, output).code()
 }
 
-fn verdict(key: &[u8], position: u64, request: &[u8], output: &[u8]) -> Said {
+fn verdict(key: &[u8], position: u64, request: &[u8], output: &[u8]) -> Said
+    ensures { result ≡ verify_said key.now position request.now output.now }
+{
     let Ok(key) = <&[u8; 32]>::try_from(key) else {
         return Said::NoKey;
     };
     if request.len() > LONGEST_REQUEST {
         return Said::Refused(Refusal::Long);
     }
-    match verify(key, position, request, output) {
+    said_of(verify(key, position, request, output))
+}
+
+fn said_of(verified: Result<(), NotReceipt>) -> Said
+    ensures { result ≡ receipt_said verified }
+{
+    match verified {
         Ok(()) => Said::Done,
         Err(NotReceipt::Form) => Said::Refused(Refusal::Form),
         Err(NotReceipt::Tag) => Said::Refused(Refusal::Tag),
