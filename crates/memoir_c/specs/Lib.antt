@@ -4,3 +4,4 @@ pub mod Steps
 pub mod Telling
 pub mod Calls
 pub mod Answering
+pub mod Records

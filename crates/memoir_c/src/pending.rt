@@ -1,6 +1,9 @@
 //! The record of a request that is pending.
 
-ghost use Rattle.std.specs.Prelude.{◌≡◌, ◌≢◌};
+ghost use Rattle.std.specs.Prelude.{◌≡◌, ◌≢◌, IfErr, IfOk};
+ghost use Rattle.mm_store.specs.Pending.{pending_spelling};
+ghost use Rattle.memoir_c.specs.Numbers.{number_of};
+ghost use Rattle.memoir_c.specs.Records.{HasNoRecord, IsKept, Puts, Records};
 
 use crate::said::Said;
 use mm_base::{Bytes, LAST_POSITION};
@@ -18,6 +21,12 @@ pub extern "C" fn memoir_pending(
     length: &mut usize,
     room: &mut [u8],
 ) -> u32
+    ensures records { Records position request.now (record {
+      before = room.old;
+      after = room.new;
+      old = length.old;
+      new = length.new;
+    }) result }
     ensures unwritten { result ≢ 0 → room.new ≡ room.old }
     ensures unsaid { result ≢ 0 → length.new ≡ length.old }
 {
@@ -31,6 +40,12 @@ fn put_record(
     length: &mut usize,
     room: &mut [u8],
 ) -> Said
+    ensures records { Records position request.now (record {
+      before = room.old;
+      after = room.new;
+      old = length.old;
+      new = length.new;
+    }) (number_of result) }
     ensures unwritten { result ≢ Said.Done → room.new ≡ room.old }
     ensures unsaid { result ≢ Said.Done → length.new ≡ length.old }
 {
@@ -41,7 +56,11 @@ fn put_record(
 }
 
 // The record's bytes.
-fn record(alloc: Global, position: u64, request: &[u8]) -> Result<Bytes, Said> {
+fn record(alloc: Global, position: u64, request: &[u8]) -> Result<Bytes, Said>
+    ensures ok { IfOk result (λ bytes.
+        bytes ≡ pending_spelling (record { position = position; request = request.now })) }
+    ensures err { IfErr result (λ says. HasNoRecord position request.now says) }
+{
     if position == 0 || position > LAST_POSITION {
         return Err(Said::NoPosition);
     }
@@ -56,6 +75,12 @@ fn record(alloc: Global, position: u64, request: &[u8]) -> Result<Bytes, Said> {
 
 // Writes these bytes and their length, where there is room.
 fn put(bytes: &[u8], length: &mut usize, room: &mut [u8]) -> Said
+    ensures puts { Puts bytes.now (record {
+      before = room.old;
+      after = room.new;
+      old = length.old;
+      new = length.new;
+    }) result }
     ensures unwritten { result ≢ Said.Done → room.new ≡ room.old }
     ensures unsaid { result ≢ Said.Done → length.new ≡ length.old }
 {

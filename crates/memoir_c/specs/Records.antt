@@ -1,0 +1,41 @@
+-- What the functions do that write and read the record of a pending request.
+use Rattle.std.specs.Prelude.{◌≡◌, ℕ, ◌<◌, ◌≤◌, ◌++◌, List, drop, length, Option, None, Some, ◌⊎◌}
+use Rattle.mm_base.specs.Limits.{last_position}
+use Rattle.mm_module.specs.Meaning.{IsLine}
+use Rattle.mm_model.specs.declared.refusal.Refusal.TheVariants as refusal
+use Rattle.mm_store.specs.Pending.{Pending, ReadsPending, pending_spelling}
+use Rattle.memoir_c.specs.declared.said.Said.{Said}
+use Rattle.memoir_c.specs.declared.said.Said.TheVariants as said
+use Rattle.memoir_c.specs.Numbers.{number_of}
+
+-- A room and a number, before and behind a call.
+pub record Held : Type 0 where
+  pub before : List ℕ
+  pub after : List ℕ
+  pub old : ℕ
+  pub new : ℕ
+
+-- nothing is written
+abbrev pub IsKept : Held → Type 0
+IsKept it = (it.after ≡ it.before) × (it.new ≡ it.old)
+
+-- these bytes are written to the front of the room, and their length; or there is too little room
+abbrev pub Puts : List ℕ → Held → Said → Type 0
+Puts bytes it says =
+    ((says ≡ said.Done) × (it.after ≡ bytes ++ drop (length bytes) it.before)
+    × (it.new ≡ length bytes))
+    ⊎ ((says ≡ said.NoRoom) × IsKept it × (length it.before < length bytes))
+
+-- a request has no record: no request has this position, or it is none; or memory is wanting
+abbrev pub HasNoRecord : (position : ℕ) (request : List ℕ) → Said → Type 0
+HasNoRecord position request says =
+    ((says ≡ said.NoPosition) × ((position ≡ 0) ⊎ (last_position < position)))
+    ⊎ (((says ≡ said.Refused refusal.Long) × (IsLine request → ⊥))
+    ⊎ (says ≡ said.Refused refusal.Memory))
+
+-- The record of a request is written, or it has none.
+pub record Records (position : ℕ) (request : List ℕ) (it : Held) (number : ℕ) : Type 0 where
+  pub says : Said
+  pub number_is : number ≡ number_of says
+  pub puts : Puts (pending_spelling (record { position = position; request = request })) it says
+      ⊎ (HasNoRecord position request says × IsKept it)
