@@ -39,3 +39,26 @@ pub record Records (position : ℕ) (request : List ℕ) (it : Held) (number : �
   pub number_is : number ≡ number_of says
   pub puts : Puts (pending_spelling (record { position = position; request = request })) it says
       ⊎ (HasNoRecord position request says × IsKept it)
+
+-- a slot's bytes are this record, and its request is written; where it is, its position too
+pub record ReadsRecord (slot : ℕ) (bytes : List ℕ) (it : Held) (position : ℕ) (says : Said)
+    : Type 0 where
+  pub read : Pending
+  pub reads : ReadsPending slot bytes (Some read)
+  pub puts : Puts read.request it says
+  pub numbers : says ≡ said.Done → position ≡ read.position
+
+-- a slot's bytes are no valid record
+pub record ReadsNone (slot : ℕ) (bytes : List ℕ) (it : Held) (says : Said) : Type 0 where
+  pub reads : ReadsPending slot bytes None
+  pub told : says ≡ said.Refused refusal.Form
+  pub kept : IsKept it
+
+abbrev pub Reads : (slot : ℕ) (bytes : List ℕ) → Held → (position : ℕ) → Said → Type 0
+Reads slot bytes it position says =
+    ReadsRecord slot bytes it position says ⊎ ReadsNone slot bytes it says
+
+pub record ReadsBack (slot : ℕ) (bytes : List ℕ) (it : Held) (position number : ℕ) : Type 0 where
+  pub says : Said
+  pub number_is : number ≡ number_of says
+  pub reads : Reads slot bytes it position says

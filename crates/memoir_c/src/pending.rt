@@ -1,9 +1,11 @@
 //! The record of a request that is pending.
 
 ghost use Rattle.std.specs.Prelude.{◌≡◌, ◌≢◌, IfErr, IfOk};
-ghost use Rattle.mm_store.specs.Pending.{pending_spelling};
+ghost use Rattle.std.specs.Option.{option_map};
+ghost use Rattle.mm_store.specs.Pending.{ReadsPending, pending_spelling};
+ghost use Rattle.mm_store.specs.Records.{pending_of};
 ghost use Rattle.memoir_c.specs.Numbers.{number_of};
-ghost use Rattle.memoir_c.specs.Records.{HasNoRecord, IsKept, Puts, Records};
+ghost use Rattle.memoir_c.specs.Records.{HasNoRecord, Puts, Reads, ReadsBack, Records};
 
 use crate::said::Said;
 use mm_base::{Bytes, LAST_POSITION};
@@ -102,24 +104,37 @@ pub extern "C" fn memoir_read_pending(
     length: &mut usize,
     room: &mut [u8],
 ) -> u32
+    ensures reads { ReadsBack slot record.now (record {
+      before = room.old;
+      after = room.new;
+      old = length.old;
+      new = length.new;
+    }) position.new result }
     ensures unwritten { result ≢ 0 → room.new ≡ room.old }
     ensures unsaid { result ≢ 0 → length.new ≡ length.old }
     ensures unnumbered { result ≢ 0 → position.new ≡ position.old }
 {
-    put_request(read_pending(slot, record), position, length, room).code()
+    put_request(slot, record, position, length, room).code()
 }
 
 fn put_request(
-    pending: Option<PendingRequest<'_>>,
+    slot: u8,
+    record: &[u8],
     position: &mut u64,
     length: &mut usize,
     room: &mut [u8],
 ) -> Said
+    ensures reads { Reads slot record.now (record {
+      before = room.old;
+      after = room.new;
+      old = length.old;
+      new = length.new;
+    }) position.new result }
     ensures unwritten { result ≢ Said.Done → room.new ≡ room.old }
     ensures unsaid { result ≢ Said.Done → length.new ≡ length.old }
     ensures unnumbered { result ≢ Said.Done → position.new ≡ position.old }
 {
-    let Some(pending) = pending else {
+    let Some(pending) = read_pending(slot, record) else {
         return Said::Refused(Refusal::Form);
     };
     let said = put(pending.request, length, room);
