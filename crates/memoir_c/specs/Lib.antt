@@ -5,3 +5,4 @@ pub mod Telling
 pub mod Calls
 pub mod Answering
 pub mod Records
+pub mod First

@@ -99,12 +99,12 @@ fn put(bytes: &[u8], length: &mut usize, room: &mut [u8]) -> Said
 #[unsafe(no_mangle)]
 pub extern "C" fn memoir_read_pending(
     slot: u8,
-    record: &[u8],
+    bytes: &[u8],
     position: &mut u64,
     length: &mut usize,
     room: &mut [u8],
 ) -> u32
-    ensures reads { ReadsBack slot record.now (record {
+    ensures reads { ReadsBack slot bytes.now (record {
       before = room.old;
       after = room.new;
       old = length.old;
@@ -114,17 +114,17 @@ pub extern "C" fn memoir_read_pending(
     ensures unsaid { result ≢ 0 → length.new ≡ length.old }
     ensures unnumbered { result ≢ 0 → position.new ≡ position.old }
 {
-    put_request(slot, record, position, length, room).code()
+    put_request(slot, bytes, position, length, room).code()
 }
 
 fn put_request(
     slot: u8,
-    record: &[u8],
+    bytes: &[u8],
     position: &mut u64,
     length: &mut usize,
     room: &mut [u8],
 ) -> Said
-    ensures reads { Reads slot record.now (record {
+    ensures reads { Reads slot bytes.now (record {
       before = room.old;
       after = room.new;
       old = length.old;
@@ -134,7 +134,7 @@ fn put_request(
     ensures unsaid { result ≢ Said.Done → length.new ≡ length.old }
     ensures unnumbered { result ≢ Said.Done → position.new ≡ position.old }
 {
-    let Some(pending) = read_pending(slot, record) else {
+    let Some(pending) = read_pending(slot, bytes) else {
         return Said::Refused(Refusal::Form);
     };
     let said = put(pending.request, length, room);

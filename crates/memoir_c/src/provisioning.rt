@@ -1,13 +1,19 @@
 //! The first cell and snapshot of an instance.
 
-ghost use Rattle.std.specs.Prelude.{◌≡◌, ◌≢◌};
+ghost use Rattle.std.specs.Prelude.{◌≡◌, ◌≢◌, IfErr, IfOk};
+ghost use Rattle.mm_modules.specs.Modules.{meaning_of};
+ghost use Rattle.mm_model.specs.Instance as model;
+ghost use Rattle.mm_call.specs.Standing.{instance_by};
+ghost use Rattle.memoir_c.specs.Numbers.{number_of};
+ghost use Rattle.memoir_c.specs.First.{IsMeant, IsUnmade, Provisions, PutsFirst, first_cell, first_snapshot};
 
 use crate::asking::{Instance, parts};
 use crate::said::Said;
-use mm_base::CELL_LENGTH;
+use mm_base::{CELL_LENGTH, Memory};
 use mm_call::Provisioned as Made;
 use mm_digest::Variant;
 use mm_model::Refusal;
+use mm_modules::AnyModule;
 use std::alloc::Global;
 
 /// The key and the barrier of an instance. Basic ignores the barrier.
@@ -35,6 +41,12 @@ pub extern "C" fn memoir_provision(
     first: &mut Provisioned,
     room: &mut [u8],
 ) -> u32
+    ensures provisions { Provisions instance.now keys.now (record {
+      old = first.old;
+      new = first.new;
+      before = room.old;
+      after = room.new;
+    }) result }
     ensures unwritten { result ≢ 0 → room.new ≡ room.old }
     ensures unsaid { result ≢ 0 → first.new ≡ first.old }
 {
@@ -44,19 +56,37 @@ pub extern "C" fn memoir_provision(
     }
 }
 
-fn made(alloc: Global, instance: &Instance, keys: &Keys) -> Result<Made, Said> {
+fn made(alloc: Global, instance: &Instance, keys: &Keys) -> Result<Made, Said>
+    ensures ok { IfOk result (λ made. (i : model.Instance) × IsMeant instance.now keys.now i
+        × (made.cell ≡ first_cell i) × (made.snapshot ≡ first_snapshot i)) }
+    ensures err { IfErr result (λ says. IsUnmade instance.now says) }
+{
     let (variant, module) = parts(instance)?;
-    let made = match variant {
-        Variant::Basic => mm_basic::provision(alloc, &module, &keys.key, &keys.barrier),
-        Variant::Opt => mm_opt::provision(alloc, &module, &keys.key, &keys.barrier),
-    };
-    match made {
+    match first(alloc, variant, &module, keys) {
         Err(_) => Err(Said::Refused(Refusal::Memory)),
         Ok(made) => Ok(made),
     }
 }
 
+fn first(alloc: Global, variant: Variant, module: &AnyModule, keys: &Keys) -> Result<Made, Memory>
+    ensures { IfOk result (λ made.
+        (made.cell ≡ first_cell (instance_by variant (meaning_of «module».now) keys.now.key keys.now.barrier))
+        × (made.snapshot ≡ first_snapshot (instance_by variant (meaning_of «module».now) keys.now.key
+        keys.now.barrier))) }
+{
+    match variant {
+        Variant::Basic => mm_basic::provision(alloc, module, &keys.key, &keys.barrier),
+        Variant::Opt => mm_opt::provision(alloc, module, &keys.key, &keys.barrier),
+    }
+}
+
 fn put(made: &Made, first: &mut Provisioned, room: &mut [u8]) -> Said
+    ensures puts { PutsFirst made.now.cell made.now.snapshot (record {
+      old = first.old;
+      new = first.new;
+      before = room.old;
+      after = room.new;
+    }) result }
     ensures unwritten { result ≢ Said.Done → room.new ≡ room.old }
     ensures unsaid { result ≢ Said.Done → first.new ≡ first.old }
 {
