@@ -16,15 +16,15 @@ pub record Held : Type 0 where
   pub new : ℕ
 
 -- nothing is written
-abbrev pub IsKept : Held → Type 0
-IsKept it = (it.after ≡ it.before) × (it.new ≡ it.old)
+abbrev pub IsUnchanged : Held → Type 0
+IsUnchanged it = (it.after ≡ it.before) × (it.new ≡ it.old)
 
 -- these bytes are written to the front of the room, and their length; or there is too little room
 abbrev pub Puts : List ℕ → Held → Said → Type 0
 Puts bytes it says =
     ((says ≡ said.Done) × (it.after ≡ bytes ++ drop (length bytes) it.before)
     × (it.new ≡ length bytes))
-    ⊎ ((says ≡ said.NoRoom) × IsKept it × (length it.before < length bytes))
+    ⊎ ((says ≡ said.NoRoom) × IsUnchanged it × (length it.before < length bytes))
 
 -- a request has no record: no request has this position, or it is none; or memory is wanting
 abbrev pub HasNoRecord : (position : ℕ) (request : List ℕ) → Said → Type 0
@@ -38,7 +38,7 @@ pub record Records (position : ℕ) (request : List ℕ) (it : Held) (number : �
   pub says : Said
   pub number_is : number ≡ number_of says
   pub puts : Puts (pending_spelling (record { position = position; request = request })) it says
-      ⊎ (HasNoRecord position request says × IsKept it)
+      ⊎ (HasNoRecord position request says × IsUnchanged it)
 
 -- a slot's bytes are this record, and its request is written; where it is, its position too
 pub record ReadsRecord (slot : ℕ) (bytes : List ℕ) (it : Held) (position : ℕ) (says : Said)
@@ -52,7 +52,7 @@ pub record ReadsRecord (slot : ℕ) (bytes : List ℕ) (it : Held) (position : �
 pub record ReadsNone (slot : ℕ) (bytes : List ℕ) (it : Held) (says : Said) : Type 0 where
   pub reads : ReadsPending slot bytes None
   pub told : says ≡ said.Refused refusal.Form
-  pub kept : IsKept it
+  pub kept : IsUnchanged it
 
 abbrev pub Reads : (slot : ℕ) (bytes : List ℕ) → Held → (position : ℕ) → Said → Type 0
 Reads slot bytes it position says =
