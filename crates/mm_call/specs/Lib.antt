@@ -19,6 +19,9 @@ pub mod Calls
 pub mod Machine
 pub mod Tied
 pub mod Premises
+pub mod Counts
+pub mod Complete
+pub mod AskedIn
 pub mod CoursesWords
 pub mod FoundWords
 pub mod CheckpointsWords
