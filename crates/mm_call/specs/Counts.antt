@@ -1,5 +1,5 @@
 -- How many device steps a whole call makes, and how many of them write the cell.
-use Rattle.std.specs.Prelude.{◌≡◌, ℕ, Bool, true, false, List, Option, None, Some, Result, Ok, Err, ◌⊎◌}
+use Rattle.std.specs.Prelude.{◌≡◌, ℕ, Bool, true, false, Option, None, Some, Result, Ok, Err, ◌⊎◌}
 use Rattle.mm_call.specs.Below.{counted, Variant, Basic, Opt, Cell, IsCell, cell_spelling, Standing, StepFault, BatchAnswer, Refusal}
 use Rattle.mm_call.specs.Below.{Device, Long}
 use Rattle.mm_model.specs.declared.refusal.Refusal.TheVariants as refusal

@@ -1,7 +1,6 @@
 use Rattle.mm_machine.specs.Acts.{acts_left}
 use Rattle.mm_call.proofs.Below.{refl, Answered}
-use Rattle.mm_call.proofs.Completing.{commits_blamed}
-use Rattle.mm_call.proofs.Machine.{commits_told, made_by}
+use Rattle.mm_call.proofs.Machine.{commits_told}
 use Rattle.mm_call.proofs.whole.commit.Goals as goal
 
 pub returns-in-Repeat-clause-commits : goal.returns-in-Repeat-clause-commits
