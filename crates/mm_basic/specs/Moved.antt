@@ -1,14 +1,10 @@
--- What a call of Basic promises that is moved by one step, or to its end.
+-- What a call of Basic promises that is moved by one step.
 use Rattle.std.specs.Prelude.{◌≡◌, ℕ, List, Option, None, Result, Ok, Err}
-use Rattle.mm_machine.specs.Finishing as machine
 use Rattle.mm_machine.specs.Stepping.{Steps}
-use Rattle.mm_machine.specs.declared.call.Ended.{Ended as End}
 use Rattle.mm_machine.specs.declared.call.Stage.{Stage}
-use Rattle.mm_machine.specs.declared.call.Stage.TheVariants.{Begun}
 use Rattle.mm_machine.specs.declared.call.Step.{Step}
 use Rattle.mm_machine.specs.declared.call.Step.TheVariants as step
-use Rattle.mm_basic.specs.Below.{Basic, Standing, StepFault, Batch, Meaning, BatchAnswer, Refusal, CallsTo, result_of, end_told, Blames}
-use Rattle.mm_basic.specs.Below.{fault_in, fault_of, Ended}
+use Rattle.mm_basic.specs.Below.{Standing, StepFault, Batch, Meaning, BatchAnswer, Refusal, result_of, end_told, Blames, fault_of}
 use Rattle.mm_basic.specs.declared.call.Turn.{Turn}
 use Rattle.mm_basic.specs.declared.call.Turn.TheVariants.{Going, Done, Refused}
 use Rattle.mm_basic.specs.Operating.{basic_asked, ExtendsNothing}
@@ -39,13 +35,6 @@ pub record Turns (meaning : Meaning) (stage : Stage BatchAnswer) (old new : Stan
   pub steps : Steps (basic_asked meaning offer b) stage old new step
   pub gives : turn ≡ turn_of step
 
--- What is left of a call: its steps are those of the machine.
-pub record Finishes (meaning : Meaning) (stage : Stage BatchAnswer) (old new : Standing)
-    (offer : List ℕ) (b : Batch) (ended : Ended) : Type 0 where
-  pub end : End BatchAnswer Refusal
-  pub finishes : machine.Finishes (basic_asked meaning offer b) stage old new end
-  pub gives : ended ≡ end_told end
-
 -- One turn of a call that stands so.
 pub record AdvancedInBasic (meaning : Meaning) (stage : Stage BatchAnswer) (old new : Standing)
     (offer : List ℕ) (b : Batch) (turn : Turn) : Type 0 where
@@ -53,14 +42,3 @@ pub record AdvancedInBasic (meaning : Meaning) (stage : Stage BatchAnswer) (old 
   pub turns : Turns meaning stage old new offer b turn
   -- the count of faults rose exactly where a device's fault is handed on
   pub faults : Blames (turn_fault turn) old.faults new.faults
-
--- What was left of a call that stood so.
-pub record FinishedInBasic (meaning : Meaning) (stage : Stage BatchAnswer) (old new : Standing)
-    (offer : List ℕ) (b : Batch) (ended : Ended) : Type 0 where
-  -- the steps that were made, and what each gave
-  pub finishes : Finishes meaning stage old new offer b ended
-  -- from its beginning it is the call that the definitions give, on some course, by digests and by
-  -- lists
-  pub ends : stage ≡ Begun → CallsTo Basic meaning old new offer b ended
-  -- the count of faults rose exactly where a device's fault is handed on
-  pub faults : Blames (fault_in (result_of ended)) old.faults new.faults

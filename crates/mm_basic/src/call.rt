@@ -7,7 +7,7 @@ ghost use Rattle.mm_machine.specs.declared.call.Stage.TheVariants.{Begun};
 
 use crate::operation::BasicAsk;
 use mm_call::{Ended, KeptKey};
-use mm_machine::{Stage, Step, advance, finish};
+use mm_machine::{Step, advance};
 use mm_model::{BatchAnswer, Refusal};
 use mm_module::{Batch, Module};
 use mm_platform::Platform;
@@ -63,24 +63,13 @@ impl Call {
     ghost use Rattle.mm_module.specs.Batches.{batch_of};
     ghost use Rattle.mm_model.specs.Long.{is_long};
     ghost use Rattle.mm_machine.specs.Stepping.{number_of};
-    ghost use Rattle.mm_basic.specs.Moved.{AdvancedInBasic, FinishedInBasic};
-    ghost use Rattle.mm_basic.specs.Operating.{position_in};
+    ghost use Rattle.mm_basic.specs.Moved.{AdvancedInBasic};
 
     /// The number of the next device step, from 1.
     pub fn next_step(&self) -> u8
         ensures { result ≡ number_of 2 self.now }
     {
         self.call.next_step(2)
-    }
-
-    /// The position after the batch, once the cell was read.
-    pub fn position(&self) -> Option<u64>
-        ensures { result ≡ position_in self.now }
-    {
-        match self.call.stage() {
-            Stage::Changing(ready) => Some(ready.answer.position),
-            _ => None,
-        }
     }
 
     /// Makes the next device step. The first reads the cell, and runs the batch in memory; the last writes the
@@ -98,71 +87,14 @@ impl Call {
         ensures { AdvancedInBasic (M.meaning «module».now) self (P.standing platform.old)
             (P.standing platform.new) offer.now (batch_of batch.entry) result }
     {
-        self.advance_keeping(alloc, module, platform, offer, batch, &mut KeptKey::new())
-    }
-
-    /// `advance` with an absorbed key that the caller keeps between calls.
-    #[inline(always)]
-    pub fn advance_keeping<M: Module, P: Platform>(
-        self,
-        alloc: Global,
-        module: &M,
-        platform: &mut P,
-        offer: &[u8],
-        batch: Batch<'_>,
-        keys: &mut KeptKey,
-    ) -> Turn
-        requires { is_long (batch_of batch) ≡ false }
-        ensures { AdvancedInBasic (M.meaning «module».now) self (P.standing platform.old)
-            (P.standing platform.new) offer.now (batch_of batch.entry) result }
-    {
         let ask = BasicAsk {
             alloc,
             module,
             offer,
             batch,
         };
+        let keys = &mut KeptKey::new();
         Turn::of(advance(&ask, self.call, platform, keys))
-    }
-
-    /// Moves the call to its end: what `advance` does, over and over. After the reading step it has no allocator.
-    pub fn finish<M: Module, P: Platform>(
-        self,
-        alloc: Global,
-        module: &M,
-        platform: &mut P,
-        offer: &[u8],
-        batch: Batch<'_>,
-    ) -> Ended
-        requires short { is_long (batch_of batch) ≡ false }
-        ensures { FinishedInBasic (M.meaning «module».now) self (P.standing platform.old)
-            (P.standing platform.new) offer.now (batch_of batch.entry) result }
-    {
-        self.finish_keeping(alloc, module, platform, offer, batch, &mut KeptKey::new())
-    }
-
-    /// `finish` with an absorbed key that the caller keeps between calls.
-    #[inline(always)]
-    pub fn finish_keeping<M: Module, P: Platform>(
-        self,
-        alloc: Global,
-        module: &M,
-        platform: &mut P,
-        offer: &[u8],
-        batch: Batch<'_>,
-        keys: &mut KeptKey,
-    ) -> Ended
-        requires short { is_long (batch_of batch) ≡ false }
-        ensures { FinishedInBasic (M.meaning «module».now) self (P.standing platform.old)
-            (P.standing platform.new) offer.now (batch_of batch.entry) result }
-    {
-        let ask = BasicAsk {
-            alloc,
-            module,
-            offer,
-            batch,
-        };
-        Ended::of(finish(&ask, self.call, platform, keys))
     }
 }
 

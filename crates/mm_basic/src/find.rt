@@ -4,7 +4,7 @@ ghost use Rattle.std.specs.Prelude.{◌≡◌, ◌≤◌, ◌↔◌, false, None
 ghost use Rattle.std.specs.Str.{bytes_eq};
 ghost use Rattle.mm_base.specs.Limits.{last_position};
 ghost use Rattle.mm_digest.specs.declared.variant.Variant.TheVariants.{Basic};
-ghost use Rattle.mm_module.specs.Batch.{Many, normal};
+ghost use Rattle.mm_module.specs.Batch.{normal};
 ghost use Rattle.mm_module.specs.Batches.{batch_of};
 ghost use Rattle.mm_seal.specs.Cell.{FitsVariant};
 ghost use Rattle.mm_seal.specs.Snapshot.{variant_of};
@@ -125,20 +125,8 @@ fn link(summary: &Digest, batch: Batch<'_>) -> Digest
     ensures { result.bytes ≡ link summary.now.bytes (normal (batch_of batch.entry)) }
 {
     match batch {
-        Batch::One(request) => successor(summary, request),
-        Batch::Many(text) => link_text(summary, text),
-    }
-}
-
-// The summary after the requests between the TABs of a text.
-#[tactic(auto, using(crate::proofs::Below::links))]
-fn link_text(summary: &Digest, text: &[u8]) -> Digest
-    ensures { result.bytes ≡ link summary.now.bytes (normal (Many text.now)) }
-{
-    if has_tab(text) {
-        successor_batch(summary, text)
-    } else {
-        successor(summary, text)
+        Batch::Many(text) if has_tab(text) => successor_batch(summary, text),
+        Batch::Many(text) | Batch::One(text) => successor(summary, text),
     }
 }
 

@@ -152,6 +152,12 @@ module _ (o : Asked BatchAnswer Refusal) (quiet : IsQuiet o) where
     room = refl;
   }
 
+  pub step_blamed : (stage : Stage BatchAnswer) (old new : Standing) (step : Step BatchAnswer Refusal) → Steps o stage old new step
+      → Blames (step_fault step) old.faults new.faults
+  step_blamed stage old new step s =
+      let by = steps_by stage old new step s in
+      rw (ap (λ (x : Standing). x.faults) by.room) (blamed (step_fault step) old by.middle by.goes.is_made by.goes.ends)
+
   -- the count of faults rises where the reading steps hand one on
 
   rooms_blamed : (act : Act) (old middle new : Standing) (found given : Result (Found BatchAnswer) (Halt Refusal))
