@@ -26,6 +26,7 @@ pub use Rattle.mm_call.proofs.OptShapes.{Brought, foreign_messages, opt_tied, re
 pub use Rattle.mm_call.proofs.OptShown.{flag_kept, pushed_open, shown_back, shown_front, shown_shut}
 pub use Rattle.mm_call.proofs.OptWalks.{AllMay, AreOwn, ask_may, before, first_in, foreign_all, holds_made, may_of, own_asked, own_checked}
 pub use Rattle.mm_call.proofs.OptWalks.{path_is, Ready, ready_closing, sight, sight_is, walk_fine}
-pub use Rattle.mm_call.proofs.Turning.{finish_blamed, IsQuiet, reads_blamed, step_blamed, step_fault, steps_by, StepsBy}
+pub use Rattle.mm_call.proofs.Turning.{finish_blamed, IsQuiet, reads_blamed, step_fault, steps_by, StepsBy, turn_blamed}
+pub use Rattle.mm_call.proofs.Turning.{turn_hands}
 pub use Rattle.mm_call.proofs.Untouched.{calls_blamed, calls_untouched, register_untouched, then_untouched}
 pub use Rattle.mm_call.specs.TrailLaws.{foreign_made as brought_digests}

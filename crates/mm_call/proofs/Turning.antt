@@ -32,6 +32,7 @@ use Rattle.mm_call.specs.Leaving.{Blames}
 use Rattle.mm_call.specs.LeavingLaws.{blamed, blamed_later}
 use Rattle.mm_call.specs.Machine.{CallReads, call_of, end_told, found_told, halt_told}
 use Rattle.mm_call.specs.Refusals.{fault_in, fault_of}
+use Rattle.mm_call.specs.Turns.{CallTurn, CallTurns, turn_fault, turn_of, turn_with}
 use Rattle.mm_call.specs.declared.ended.Ended.{Ended}
 use Rattle.mm_call.proofs.Committing.{BlamesFor, ends_blamed, refused_result, steps_blamed}
 use Rattle.mm_call.proofs.Machine.{acts_told, ends_told, halted_told}
@@ -95,6 +96,16 @@ found_fault (Err why) = halt_fault why
 found_fault (Ok (Repeat answer)) = refl
 found_fault (Ok (Change ready)) = refl
 
+-- a turn hands on the fault of its step
+
+with_fault : (given : Result BatchAnswer Refusal) → turn_fault (turn_with given) ≡ fault_in given
+with_fault (Ok answer) = refl
+with_fault (Err why) = refl
+
+pub turn_hands : (step : Step BatchAnswer Refusal) → turn_fault (turn_of step) ≡ step_fault step
+turn_hands (Going stage) = refl
+turn_hands (Over end) = with_fault (result_of (end_told end))
+
 module _ (o : Asked BatchAnswer Refusal) (quiet : IsQuiet o) where
   pub looks_goes : (old new : Standing) (seen : Result (Sight BatchAnswer) (Halt Refusal)) → Looks o old new seen
       → Goes ReadCell old new (fault_in (found_told seen))
@@ -152,11 +163,16 @@ module _ (o : Asked BatchAnswer Refusal) (quiet : IsQuiet o) where
     room = refl;
   }
 
-  pub step_blamed : (stage : Stage BatchAnswer) (old new : Standing) (step : Step BatchAnswer Refusal) → Steps o stage old new step
+  step_blamed : (stage : Stage BatchAnswer) (old new : Standing) (step : Step BatchAnswer Refusal) → Steps o stage old new step
       → Blames (step_fault step) old.faults new.faults
   step_blamed stage old new step s =
       let by = steps_by stage old new step s in
       rw (ap (λ (x : Standing). x.faults) by.room) (blamed (step_fault step) old by.middle by.goes.is_made by.goes.ends)
+
+  -- and where a turn does
+  pub turn_blamed : (stage : Stage BatchAnswer) (old new : Standing) (turn : CallTurn) → CallTurns o stage old new turn
+      → Blames (turn_fault turn) old.faults new.faults
+  turn_blamed stage old new turn t = rw (t.gives, turn_hands t.step) (step_blamed stage old new t.step t.steps)
 
   -- the count of faults rises where the reading steps hand one on
 

@@ -17,6 +17,7 @@ pub mod Checkpoints
 pub mod Ended
 pub mod Calls
 pub mod Machine
+pub mod Turns
 pub mod Tied
 pub mod Premises
 pub mod Counts

@@ -11,6 +11,7 @@ mod examining;
 mod first;
 mod laws;
 mod run;
+mod turn;
 mod whole;
 
 pub use ended::{Ended, refusal_of};
@@ -22,4 +23,5 @@ pub use laws::{
 };
 pub use mm_seal::KeptKey;
 pub use run::{Ran, answer, run_batch};
+pub use turn::Turn;
 pub use whole::{Committed, commit, finish_call, read_call};
