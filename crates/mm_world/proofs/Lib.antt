@@ -2,5 +2,6 @@ pub mod Above
 mod Below
 mod Asking
 mod Calling
+mod Planned
 mod Worlds
 mod InVain
