@@ -33,7 +33,7 @@ use Rattle.mm_call.specs.Machine.{end_told}
 use Rattle.mm_ask.specs.Operating.{asked_by}
 use Rattle.mm_ask.proofs.Above.{calls_by}
 use Rattle.mm_world.specs.Planned.{IsPlanned, WasPlanned, tells_ask, tells_close}
-use Rattle.mm_world.proofs.Planned.{asks_broken, closes_broken, IsToldBy, told_by}
+use Rattle.mm_world.proofs.OnPlan.{asks_broken, closes_broken}
 use Rattle.mm_model.specs.declared.refusal.Refusal.TheVariants as refusal
 use Rattle.mm_basic.specs.Seen as seen
 use Rattle.mm_basic.specs.Asks as basic_asks
@@ -329,27 +329,34 @@ checks_in_vain old mid new meddles stop result goes closes settles issued = λ i
     at.quiet at.register r.goes (subst (λ x. SettlesPlan stop x mid new) breaks settles) (subst (λ x. StaysOn stop x mid) breaks p.0)
     (closing_told_vain stop missed r.fault fault_is))
 
--- a checkpoint under a plan, or want of memory for that
-pub checks_either : (old new : Standing) (meddles : List Meddle) (stop : Stop) (called : Result code.Called Memory)
-    (result : Result Reply Memory) (issued : List (List ℕ)) → IsPlanned closing_asked tells_close meddles stop old new called
-    → IsToldBy called result → ChecksPlanned old new issued meddles stop result
-checks_either old new meddles stop (Err it) (Err memory) issued (inl e) is = record {
-  own = λ variant meaning. λ key barrier d s q. e.1;
-  vain = λ i d fault at. e.1;
-}
-checks_either old new meddles stop called result issued (inr w) is =
-    let at = record old { plan = Some (plan_of stop meddles) } in
-    let said = ended_told w.ended in
-    let goes = in_opt.checks_on at w.middle said (in_opt.closes_whole w.middle w.ended at w.ends) in
-    let settled : SettlesPlan stop (stops_in said) w.middle new =
-    subst (λ x. SettlesPlan stop x w.middle new) (sym (closes_broken at w.middle w.ended w.ends)) w.settles in
-    subst (λ r. ChecksPlanned old new issued meddles stop r)
-    (sym (told_by (quiet_as (told_closing stop said)) result (subst (λ (c : Result code.Called Memory). IsToldBy c result) w.told is)))
-    (record {
-      own = λ variant meaning. checks_planned old w.middle new meddles stop said goes settled variant meaning issued;
-      vain = checks_in_vain old w.middle new meddles stop said goes (in_opt.closes_whole w.middle w.ended at w.ends) settled issued;
-    })
-checks_either old new meddles stop _ _ issued _ is = absurd (cc)
+-- a checkpoint under a plan
+module _ (old new : Standing) (meddles : List Meddle) (stop : Stop) (issued : List (List ℕ)) where
+  checks_either : (called : Result code.Called Memory) (w : WasPlanned closing_asked tells_close meddles stop old new called)
+      → ChecksPlanned old new issued meddles stop (Ok (told_closing stop (ended_told w.ended)))
+  checks_either called w =
+      let at = record old { plan = Some (plan_of stop meddles) } in
+      let said = ended_told w.ended in
+      let closes = in_opt.closes_whole w.middle w.ended at w.ends in
+      let goes = in_opt.checks_on at w.middle said closes in
+      let settled : SettlesPlan stop (stops_in said) w.middle new =
+      subst (λ x. SettlesPlan stop x w.middle new) (sym (closes_broken at w.middle w.ended w.ends)) w.settles in record {
+        own = λ variant meaning. checks_planned old w.middle new meddles stop said goes settled variant meaning issued;
+        vain = checks_in_vain old w.middle new meddles stop said goes closes settled issued;
+      }
+
+  pub checks_to : (it : code.Called) → IsPlanned closing_asked tells_close meddles stop old new (Ok it)
+      → ChecksPlanned old new issued meddles stop (Ok it.reply)
+  checks_to it (inl e) = absurd (cc)
+  checks_to it (inr w) =
+      let same : it ≡ quiet_as (told_closing stop (ended_told w.ended)) = cc in
+      subst (λ (x : Reply). ChecksPlanned old new issued meddles stop (Ok x)) (sym (ap (λ (x : code.Called). x.reply) same))
+      (checks_either (Ok it) w)
+
+  -- or want of memory for that
+  pub checks_lack : (memory : Memory) → IsPlanned closing_asked tells_close meddles stop old new (Err memory)
+      → ChecksPlanned old new issued meddles stop (Err memory)
+  checks_lack memory (inl e) = record { own = λ variant meaning. λ key barrier d s q. e.1; vain = λ i d fault at. e.1 }
+  checks_lack memory (inr w) = absurd (cc)
 
 -- a call that isn't too long, over a planned platform
 

@@ -2,6 +2,6 @@ pub mod Above
 mod Below
 mod Asking
 mod Calling
-mod Planned
+mod OnPlan
 mod Worlds
 mod InVain

@@ -50,7 +50,9 @@ impl<M: Module> Telling for Ask<'_, M> {
 
     ghost tells = { λ ask. tells_ask (batch_of ask.batch) };
 
-    fn told(&self, stop: Stop, ended: Ended<BatchAnswer, Refusal>) -> Result<Called, Memory> {
+    fn told(&self, stop: Stop, ended: Ended<BatchAnswer, Refusal>) -> Result<Called, Memory>
+        ensures { tells_ask (batch_of self.now.batch) stop ended result }
+    {
         came_to(stop, mm_call::Ended::of(ended), self.batch.len() as u64)
     }
 
@@ -66,7 +68,9 @@ impl Telling for Close {
         &self,
         stop: Stop,
         ended: Ended<Checkpointed, CheckpointRefusal>,
-    ) -> Result<Called, Memory> {
+    ) -> Result<Called, Memory>
+        ensures { tells_close stop ended result }
+    {
         Ok(Called::quiet(told_closing(stop, closing_result(ended))))
     }
 

@@ -82,11 +82,3 @@ module _ (variant : Variant) (meaning : Meaning) (old new : Standing) (meddles :
       let said = ended_told w.ended in
       checks_planned old w.middle new meddles stop said (checks_on at w.middle said (closes_whole w.middle w.ended at w.ends))
       (subst (λ x. SettlesPlan stop x w.middle new) (sym (closes_broken at w.middle w.ended w.ends)) w.settles) variant meaning issued
-
--- the reply of a call that came to something
-abbrev pub IsToldBy : Result Called Memory → Result Reply Memory → Type 0
-IsToldBy (Ok it) result = result ≡ Ok it.reply
-IsToldBy (Err memory) result = result ≡ Err memory
-
-pub told_by : (it : Called) (result : Result Reply Memory) → IsToldBy (Ok it) result → result ≡ Ok it.reply
-told_by it result e = e
