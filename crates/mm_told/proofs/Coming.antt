@@ -31,7 +31,7 @@ use Rattle.mm_opt.specs.Operating.{opt_asked}
 use Rattle.mm_opt.specs.Closing.{closing, ended_told}
 use Rattle.mm_opt.specs.declared.segment.Checkpointed.{Checkpointed}
 use Rattle.mm_opt.specs.declared.segment.CheckpointRefusal.{CheckpointRefusal}
-use Rattle.mm_flight.specs.Operating.{asked_by}
+use Rattle.mm_ask.specs.Operating.{asked_by}
 use Rattle.mm_told.specs.declared.outcome.Outcome.{Outcome}
 use Rattle.mm_told.specs.declared.outcome.Outcome.TheVariants as outcome
 use Rattle.mm_told.specs.declared.step.Made.{Made}

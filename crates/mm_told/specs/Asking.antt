@@ -19,7 +19,7 @@ use Rattle.mm_call.specs.Leaving.{whole_in}
 use Rattle.mm_call.specs.Machine.{end_told}
 use Rattle.mm_basic.specs.Asked.{AskedInBasic}
 use Rattle.mm_opt.specs.Asked.{AskedInOpt}
-use Rattle.mm_flight.specs.Operating.{asked_by}
+use Rattle.mm_ask.specs.Operating.{asked_by}
 use Rattle.mm_told.specs.declared.outcome.Outcome.{Outcome}
 use Rattle.mm_told.specs.declared.outcome.Outcome.TheVariants as outcome
 use Rattle.mm_told.specs.declared.step.Made.{Made}

@@ -55,8 +55,6 @@ pub use Rattle.mm_opt.specs.declared.segment.CheckpointRefusal.{CheckpointRefusa
 pub use Rattle.mm_opt.specs.declared.segment.Checkpointed.{Checkpointed as Said}
 pub use Rattle.mm_schedule.specs.Events.{Ask, Checkpoint, Event, event_of, meddles_of}
 pub use Rattle.mm_schedule.specs.declared.reply.Reply.{Reply}
-pub use Rattle.mm_flight.specs.Asks.{AskFinishes, begun, FinishedAsk}
-pub use Rattle.mm_flight.specs.Operating.{AskAt}
 pub use Rattle.mm_run.specs.Folds.{after_stop, cause_of, closed_outcome, closing_reply, closing_then, course_of, first_digests}
 pub use Rattle.mm_run.specs.Folds.{first_issued, moves_then, Outcome, outcome_by, reads_only, reply_of, snapshots_of, uncalled, way_of}
 pub use Rattle.mm_run.proofs.Above.{broken_reply, stopped_reply}

@@ -3,3 +3,4 @@ pub mod Calls
 pub mod Held
 pub mod Asks
 pub mod InVain
+pub mod Planned

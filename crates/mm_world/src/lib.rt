@@ -3,11 +3,10 @@
 
 mod call;
 mod parts;
+mod planning;
 mod world;
 
-pub use call::{
-    Called, Caller, call_by_offer, came_to, closing, is_broken, is_stopped, planned_checkpoint,
-    settle, takes_effect,
-};
+pub use call::{Called, Caller, call_by_offer, planned_checkpoint, settle, takes_effect};
 pub use parts::{keep, listed, provisioned};
+pub use planning::{Telling, planned, settled};
 pub use world::World;

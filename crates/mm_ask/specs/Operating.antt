@@ -8,18 +8,8 @@ use Rattle.mm_model.specs.declared.answer.BatchAnswer.{BatchAnswer}
 use Rattle.mm_model.specs.declared.refusal.Refusal.{Refusal}
 use Rattle.mm_machine.specs.Asked.{Asked}
 use Rattle.mm_machine.specs.declared.call.Stage.{Stage}
-use Rattle.mm_machine.specs.declared.call.Stage.TheVariants.{Begun}
 use Rattle.mm_basic.specs.Operating.{basic_asked, ExtendsNothing}
 use Rattle.mm_opt.specs.Operating.{opt_asked}
-
--- a call of a variant, and where it stands
-pub record AskAt : Type 0 where
-  pub variant : Variant
-  pub stage : Stage BatchAnswer
-
--- a call of a variant before its first step
-abbrev pub begun : Variant → AskAt
-begun variant = record { variant = variant; stage = Begun }
 
 -- what it asks
 abbrev pub asked_by : Variant → Meaning → List ℕ → Batch → Asked BatchAnswer Refusal
@@ -31,7 +21,7 @@ abbrev pub writes_at : Variant → ℕ
 writes_at Basic = 2
 writes_at Opt = 5
 
--- a call of Basic extends nothing
+-- where it can stand: a call of Basic extends nothing
 abbrev pub IsStageOf : Variant → Stage BatchAnswer → Type 0
 IsStageOf Basic stage = ExtendsNothing stage
 IsStageOf Opt stage = Unit {0}
