@@ -1,28 +1,16 @@
 -- Each turn makes exactly the device step that comes next.
-use Rattle.mm_opt.proofs.Below.{◌≡◌, ℕ, Bool, true, false, List, Result, Ok, Err, refl, sym, ap, ◌∙◌, subst}
-use Rattle.mm_opt.proofs.Below.{StepFault, Standing, Goes, blamed, Meaning, Batch, BatchAnswer, Refusal, Blames, Found}
-use Rattle.mm_opt.proofs.Below.{Stage, MakesRoom, result_of, fault_in}
-use Rattle.mm_machine.specs.Reading.{extends}
-use Rattle.mm_machine.specs.Stepping.{StepMayGoOn, Steps}
+use Rattle.mm_opt.proofs.Below.{◌≡◌, ℕ, List, Result, Ok, Err, refl, sym, ap, ◌∙◌, subst}
+use Rattle.mm_opt.proofs.Below.{Standing, Goes, blamed, Meaning, Batch, BatchAnswer, Refusal, Blames}
+use Rattle.mm_opt.proofs.Below.{Stage, result_of, fault_in, opt_asked}
+use Rattle.mm_machine.specs.Stepping.{StepMayGoOn, Steps, act_of}
 use Rattle.mm_machine.specs.declared.call.Step.{Step}
 use Rattle.mm_machine.specs.declared.call.Step.TheVariants as step
 use Rattle.mm_call.specs.Machine.{end_told}
 use Rattle.mm_call.proofs.Above.{step_fault, steps_by}
 use Rattle.mm_opt.specs.declared.call.Turn.{Turn}
 use Rattle.mm_opt.specs.Moved.{AdvancedInOpt}
-use Rattle.mm_opt.specs.Operating.{opt_asked}
-use Rattle.mm_opt.specs.Steps.{act_of, RoomFor}
 use Rattle.mm_opt.specs.Turns.{turn_of, turn_with, Turns, TurnMayGoOn, fault_turned, ActsAt}
-use Rattle.mm_opt.proofs.Told.{quiet}
-
-room_or : (needs : Bool) (middle new : Standing) → RoomFor needs middle new → new ≡ record middle { spare = new.spare }
-room_or true middle new r = r.same
-room_or false middle new r = subst (λ (x : Standing). x ≡ record middle { spare = x.spare }) (sym r) refl
-
-pub room_only : (found : Result Found Refusal) (middle new : Standing) → MakesRoom found middle new
-    → new ≡ record middle { spare = new.spare }
-room_only (Ok found) middle new r = room_or (extends found) middle new r
-room_only (Err why) middle new r = room_or false middle new r
+use Rattle.mm_opt.proofs.Reading.{quiet}
 
 -- what a turn hands on, and the room that it leaves
 

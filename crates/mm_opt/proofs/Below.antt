@@ -54,6 +54,7 @@ pub use Rattle.mm_call.specs.CallsOn.{CallsOn}
 pub use Rattle.mm_call.specs.Checkpoints.{checkpointed, CheckpointsAgree, Closing, closing_of}
 pub use Rattle.mm_call.specs.CheckpointsWords.{closed_by}
 pub use Rattle.mm_call.specs.Courses.{closes, Course, Done, End, Fate, step_moves, walk, Walked}
+pub use Rattle.mm_call.specs.Counts.{five_steps, four_steps, one_step, StepsAre, StepsBy, StepsRefused, three_steps, two_steps, WritesByFlag}
 pub use Rattle.mm_call.specs.Ended.{CallsTo, committed_as, refused_as, result_of, StaysOn}
 pub use Rattle.mm_call.specs.Found.{Found as Accepted, found_at, found_at as accepted_at, found_by_verdict}
 pub use Rattle.mm_call.specs.Found.{found_by_verdict as accepted_from}
@@ -61,6 +62,7 @@ pub use Rattle.mm_call.specs.FoundWords.{found_unless_wanting, found_unless_want
 pub use Rattle.mm_call.specs.Leaving.{Blames, IsAccepted, IsAnswered, IsUntouched, LeavesUntouched}
 pub use Rattle.mm_call.specs.LeavingLaws.{blamed, blamed_later, read_untouched, same_untouched, wholly}
 pub use Rattle.mm_call.specs.Levels.{all_made, by_digests, by_lists, place_then}
+pub use Rattle.mm_call.specs.Machine.{acts_for, answer_in, CallFinishes, CallReads, found_told, halt_told}
 pub use Rattle.mm_call.specs.MoveLaws.{anchor-nil, same_batches}
 pub use Rattle.mm_call.specs.Order.{admitted, examined}
 pub use Rattle.mm_call.specs.OrderWords.{weighed}
@@ -73,24 +75,22 @@ pub use Rattle.mm_call.specs.WalkLaws.{asks, changing, foreign_first, foreign_in
 pub use Rattle.mm_call.specs.declared.ended.Ended.{Ended}
 pub use Rattle.mm_call.specs.declared.ended.Ended.TheVariants.{Answered, Refused}
 pub use Rattle.mm_call.proofs.Above.{Accepts, agrees_is, answered_result, AsFound as AsMade, asked_for, basic_checkpoints_agree, before}
-pub use Rattle.mm_call.proofs.Above.{BlamesFor, calls_from, course_by, each_call, ends_fates, ends_result, ends_untouched, fate_of, finds}
-pub use Rattle.mm_call.proofs.Above.{given_all, is_agrees, is_memory, lacks_in, life_bare, MakesAll, opt_calls_agree, opt_checkpoints_agree}
-pub use Rattle.mm_call.proofs.Above.{opt_tied, reading_blamed, reading_tale, refused_reading, sees, sight_is, stands_at, stands_for}
-pub use Rattle.mm_call.proofs.Above.{steps_blamed, steps_give, Tale, tale_on, Told, told_on, told_reading, two_reads}
+pub use Rattle.mm_call.proofs.Above.{BlamesFor, calls_blamed, calls_from, calls_untouched, course_by, each_call, ends_fates, ends_result, ends_untouched, fate_of, finds}
+pub use Rattle.mm_call.proofs.Above.{given_all, is_agrees, IsQuiet, is_memory, lacks_in, life_bare, MakesAll, opt_calls_agree, opt_checkpoints_agree}
+pub use Rattle.mm_call.proofs.Above.{opt_tied, reading_blamed, reading_tale, reads_blamed, refused_reading, register_untouched, sees, sight_is, stands_at, stands_for}
+pub use Rattle.mm_call.proofs.Above.{steps_blamed, steps_give, Tale, tale_on, then_untouched, Told, told_on, told_reading, two_reads}
 pub use Rattle.mm_opt.specs.Answers.{answer_of, change_by, extension_after, extension_at, found_from, found_in, found_in_offer}
 pub use Rattle.mm_opt.specs.Answers.{found_unless, opened_cell, place_after}
 pub use Rattle.mm_opt.specs.Asked.{AskedInOpt}
-pub use Rattle.mm_opt.specs.Asks.{acts_for, answer_in, five_steps, four_steps, one_step, OneStep, opt_call, Reads, ReadsOn, StepsBy}
-pub use Rattle.mm_opt.specs.Asks.{StepsRefused, three_steps, two_steps, TwoSteps, WritesBy}
+pub use Rattle.mm_opt.specs.Asks.{opt_call}
 pub use Rattle.mm_opt.specs.Checkpoints.{closed_cell, Closes, ClosesSegment, closing_by, closing_fault_in, closing_fault_of}
 pub use Rattle.mm_opt.specs.Checkpoints.{closing_handed_on, ClosingStepsBy, ClosingStepsRefused, EndsClosing, EndsLooking, FindsSegment}
 pub use Rattle.mm_opt.specs.Checkpoints.{LeavesStill, Looks, segment_by, segment_in, Weighs}
 pub use Rattle.mm_opt.specs.ChecksOn.{ChecksBy, ChecksOn, closing_told}
-pub use Rattle.mm_opt.specs.Finishes.{Finishes}
 pub use Rattle.mm_opt.specs.Found.{Found, Ready, Stage}
+pub use Rattle.mm_opt.specs.Operating.{FindsIn, opt_asked}
 pub use Rattle.mm_opt.specs.Order.{batch_value, has_lost_power, verdict_at, verdict_of}
 pub use Rattle.mm_opt.specs.Seen.{cell_in, is_cell_of, own_cell}
-pub use Rattle.mm_opt.specs.Steps.{FindsCell, FindsIn, Makes, MakesRoom, MayGoOn, ReadsOwnCell, ReadsRegister}
 pub use Rattle.mm_opt.specs.declared.segment.CheckpointRefusal.{CheckpointRefusal}
 pub use Rattle.mm_opt.specs.declared.segment.Checkpointed.{Checkpointed}
 pub use Rattle.mm_opt.specs.declared.segment.Segment.{Segment}

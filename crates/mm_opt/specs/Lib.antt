@@ -3,7 +3,6 @@ pub mod Found
 pub mod Seen
 pub mod Order
 pub mod Answers
-pub mod Steps
 pub mod Operating
 pub mod Turns
 pub mod Asks
@@ -11,8 +10,6 @@ pub mod Checkpoints
 pub mod Closing
 pub mod CheckpointTurns
 pub mod ChecksOn
-pub mod Finishes
-pub mod Complete
 pub mod Asked
 pub mod Moved
 pub mod Closed

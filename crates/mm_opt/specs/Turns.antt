@@ -1,8 +1,7 @@
 -- What each turn of a call does and gives.
-use Rattle.std.specs.Prelude.{◌≡◌, ℕ, List, Option, None, Some, Result, Ok, Err}
-use Rattle.mm_machine.specs.Acts.{change_after}
-use Rattle.mm_machine.specs.Stepping.{Steps, position_if_last}
-use Rattle.mm_machine.specs.declared.call.Stage.TheVariants.{Changing}
+use Rattle.std.specs.Prelude.{◌≡◌, ℕ, List, Option, None, Result, Ok, Err}
+use Rattle.mm_machine.specs.Stepping.{Steps, act_of}
+pub use Rattle.mm_machine.specs.Stepping.{MayGoOn}
 use Rattle.mm_machine.specs.declared.call.Step.{Step}
 use Rattle.mm_machine.specs.declared.call.Step.TheVariants as step
 use Rattle.mm_call.specs.Machine.{end_told}
@@ -10,19 +9,7 @@ use Rattle.mm_opt.specs.Below.{Standing, Goes, StepFault, Batch, Meaning, BatchA
 use Rattle.mm_opt.specs.declared.call.Turn.{Turn}
 use Rattle.mm_opt.specs.declared.call.Turn.TheVariants.{Going, Done, Refused}
 use Rattle.mm_opt.specs.Found.{Stage}
-use Rattle.mm_opt.specs.Steps.{act_of, MayGoOn}
 use Rattle.mm_opt.specs.Operating.{opt_asked}
-
--- the position after the batch, once it has run in memory
-abbrev pub stage_position : Stage → Option ℕ
-stage_position (Changing ready) = Some ready.answer.position
-stage_position _ = None
-
--- the position up to which the next step commits the batch: that of an extension in an open
--- segment, and the write of an opening
-abbrev pub stage_commits : Stage → Option ℕ
-stage_commits (Changing ready) = position_if_last (change_after ready.change) ready.answer.position
-stage_commits _ = None
 
 -- what a turn gives that ends the call
 abbrev pub turn_with : Result BatchAnswer Refusal → Turn

@@ -52,12 +52,12 @@ pub fn begin_checkpoint() -> CheckpointCall
 
 impl CheckpointCall {
     ghost use Rattle.std.specs.Prelude.{◌≡◌};
-    ghost use Rattle.mm_opt.specs.Closing.{closing_number_of, FinishesClosing};
+    ghost use Rattle.mm_machine.specs.Stepping.{number_of};
     ghost use Rattle.mm_opt.specs.CheckpointTurns.{ClosingTurns, ClosingActsAt};
 
     /// The number of the next device step, from 1.
     pub fn next_step(&self) -> u8
-        ensures { result ≡ closing_number_of self.now }
+        ensures { result ≡ number_of 3 self.now }
     {
         self.call.next_step(Close.write_step())
     }
@@ -72,19 +72,11 @@ impl CheckpointCall {
     {
         CheckpointTurn::of(advance(&Close, self.call, platform, &mut KeptKey::new()))
     }
-
-    /// Moves the checkpoint to its end: what `advance` does, over and over. Takes no memory.
-    pub fn finish<P: Platform>(self, platform: &mut P) -> Result<Checkpointed, CheckpointRefusal>
-        ensures { FinishesClosing self (P.standing platform.old) (P.standing platform.new) result }
-    {
-        closing_result(finish(&Close, self.call, platform, &mut KeptKey::new()))
-    }
 }
 
 impl CheckpointTurn {
     ghost use Rattle.std.specs.Prelude.{◌≡◌};
-    ghost use Rattle.mm_opt.specs.CheckpointTurns.{step_told};
-    ghost use Rattle.mm_opt.specs.CheckpointTurns.{StepIsClosing};
+    ghost use Rattle.mm_opt.specs.CheckpointTurns.{StepIsClosing, step_told};
 
     // What a step of the machine comes to.
     fn of(step: Step<Checkpointed, CheckpointRefusal>) -> CheckpointTurn
@@ -106,7 +98,7 @@ impl CheckpointTurn {
 pub fn checkpoint<P: Platform>(platform: &mut P) -> Result<Checkpointed, CheckpointRefusal>
     ensures { ClosedInOpt (P.standing platform.old) (P.standing platform.new) result }
 {
-    begin_checkpoint().finish(platform)
+    closing_result(finish(&Close, Call::begin(), platform, &mut KeptKey::new()))
 }
 
 /// What is told of how the machine ended. It lacks no memory, as a checkpoint extends nothing.

@@ -1,4 +1,4 @@
-use Rattle.mm_opt.proofs.ClosingByMachine.{closing_steps_as, may_close, turn_acts}
+use Rattle.mm_opt.proofs.ClosingByMachine.{turn_acts}
 use Rattle.mm_opt.proofs.closing.CheckpointCall.advance.Goals as goal
 
 pub returns-clause-turns : goal.returns-clause-turns

@@ -1,6 +1,6 @@
 use Rattle.mm_module.specs.Batches.{batch_of}
 use Rattle.mm_opt.proofs.Acting.{advanced}
-use Rattle.mm_opt.proofs.call.Call.advance_keeping.Goals as goal
+use Rattle.mm_opt.proofs.call.Call.advance.Goals as goal
 
 pub returns : goal.returns
 returns g c =
