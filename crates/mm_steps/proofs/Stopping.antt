@@ -2,8 +2,7 @@
 use Rattle.mm_steps.proofs.Below.{◌≡◌, ℕ, ◌+◌, ◌<◌, ◌≤◌, Bool, true, false, not, List, Option, None, Some, refl, sym, ap, ◌∙◌, arith, ◌==◌}
 use Rattle.mm_steps.proofs.Below.{is_some, if◌then◌else◌, option_map, counted, StepFault, Failed, Off, Meddle, Stop, Quiet, Cut, Drop, Fail}
 use Rattle.mm_steps.proofs.Below.{Plan, Standing, next_step, stopping, step_made, plan_by, under, SaySame, GoesOnAs, AlwaysFails}
-use Rattle.mm_steps.proofs.Below.{counted_few, Replans, stopped_step, SettlesPlan, BreaksNext, stop_behind, replans, quiet_plan}
-use Rattle.mm_steps.specs.Flying.{behind}
+use Rattle.mm_steps.proofs.Below.{counted_few, Replans, stopped_step, SettlesPlan, BreaksNext, stop_behind, replans, quiet_plan, behind}
 use Rattle.std.proofs.lemmas.Bool.{ne_eqb}
 use Rattle.std.proofs.lemmas.Bool.Decides.{nat_tests}
 use Rattle.mm_platform.specs.Steps.{Act, Goes, fault_at, will_answer}
