@@ -1,6 +1,6 @@
 -- How a call in flight begins, and takes in a value of others.
 use Rattle.mm_steps.proofs.Below.{◌≡◌, ℕ, ◌<◌, List, [], Some, refl, sym, subst, option_map, Variant, Meddle, Plan, Standing, meddling}
-use Rattle.mm_steps.proofs.Below.{next_plan, Meaning, Batch, Digests, instance_by, Finishes, number_of, Stage, Begun, begins, takes_in, meddled}
+use Rattle.mm_steps.proofs.Below.{next_plan, Meaning, Batch, Digests, instance_by, Finishes, Stage, Begun, begins, takes_in, meddled}
 use Rattle.mm_steps.proofs.Below.{MayGoOn, Stands, IsQuiet, asking, checkpointing, IsInFlight, Kind}
 use Rattle.mm_digest.specs.declared.digest.Digest.{Digest}
 use Rattle.mm_model.specs.Instance.{Instance}

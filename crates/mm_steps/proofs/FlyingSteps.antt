@@ -1,11 +1,11 @@
 -- The next step of a call in flight, and a step that breaks it off.
-use Rattle.mm_steps.proofs.Below.{◌≡◌, ℕ, ◌+◌, ◌<◌, ◌≤◌, Bool, true, false, List, Option, Some, None, Result, Ok, Err, refl, sym, ap, ◌∙◌}
+use Rattle.mm_steps.proofs.Below.{◌≡◌, ℕ, ◌+◌, ◌<◌, ◌≤◌, true, false, List, Option, Some, None, Result, Ok, Err, refl, sym, ◌∙◌}
 use Rattle.mm_steps.proofs.Below.{subst, arith, option_map, counted, Memory, StepFault, Failed, Meddle, Stop, Quiet, Plan, Standing, stopping}
 use Rattle.mm_steps.proofs.Below.{step_made, MayChange, number_in, Asked, Finishes, act_of, MayGoOn, number_of, Steps, Ended, Broken, Stage}
 use Rattle.mm_steps.proofs.Below.{Begun, Seen, Changing, Step, Going, Over, Move, Extending, Emptying, Placing, Writing, plan_by, under}
 use Rattle.mm_steps.proofs.Below.{EndsUnder, fault_stepped, Flies, is_broken, AlwaysFails, commits_at, finish_breaks, goes_on, steps_fail}
 use Rattle.mm_steps.proofs.Below.{steps_faultless, steps_move, steps_over, steps_then, steps_under, Called, SettlesPlan, stopped_step}
-use Rattle.mm_steps.proofs.Below.{WasPlanned, behind, BreaksAs, GoesOn, IsOver, BreaksNext, stop_behind}
+use Rattle.mm_steps.proofs.Below.{behind, BreaksAs, GoesOn, IsOver, BreaksNext, stop_behind}
 use Rattle.std.specs.Result.{IsOk}
 use Rattle.mm_steps.proofs.Stopping.{always_fails, goes_as, fails_next, replans_behind, later_than, settled_under, stopped_under}
 
@@ -34,6 +34,9 @@ pub few_steps : {A : Type 0} (writes : ℕ) (stage : Stage A) → writes ≤ 5 �
 few_steps writes Begun few = omega arith
 few_steps writes (Seen cell) few = omega arith
 few_steps writes (Changing ready) few = few_change writes ready.change few
+
+pub few_writes : (result writes : ℕ) → result ≡ writes → result ≤ 5 → writes ≤ 5
+few_writes result writes e few = omega arith
 
 few_made : (number made : ℕ) → number ≤ 5 → number ≡ made + 1 → made + 1 < 255
 few_made number made few e = omega arith
@@ -106,6 +109,9 @@ module _ {A R : Type 0} (o : Asked A R) (writes : ℕ) (stage : Stage A) (old mi
         whole = unbroken ended (steps_faultless o stage old mid (Over ended) meddles made f.is_on f.planned s');
       }
 
+never_ok : (memory : Memory) → IsOk {T = Called} (Err memory) → ⊥
+never_ok memory ok = cc
+
 module _ {A R : Type 0} (o : Asked A R) (stage : Stage A) (old stopped mid : Standing) (stop : Stop) (ended : Ended A R)
     (is : stopped ≡ record old { plan = option_map (stopping stop) old.plan }) (finishes : Finishes o stage stopped mid ended) where
   pub broken_off : (tells : Stop → Ended A R → Result Called Memory → Type 0) (new : Standing) (called : Result Called Memory) (it : Called)
@@ -125,7 +131,7 @@ module _ {A R : Type 0} (o : Asked A R) (stage : Stage A) (old stopped mid : Sta
   wants : (tells : Stop → Ended A R → Result Called Memory → Type 0) (it : Ended A R) (memory : Memory)
       → ((fault : StepFault) (commits : Option ℕ) (result : Result Called Memory) → tells stop (Broken fault commits) result → IsOk result)
       → is_broken it ≡ true → tells stop it (Err memory) → ⊥
-  wants tells (Broken fault commits) memory law broken told = let clash : IsOk (Err memory) = law fault commits (Err memory) told in absurd (cc)
+  wants tells (Broken fault commits) memory law broken told = never_ok memory (law fault commits (Err memory) told)
   wants tells _ memory law broken told = absurd (cc)
 
   -- a call that was broken off wants no memory

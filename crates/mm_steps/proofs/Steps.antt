@@ -1,6 +1,6 @@
 -- What the next step of a call in flight, and one that breaks it off, come to by the call's event.
 use Rattle.mm_steps.proofs.Below.{◌≡◌, ℕ, ◌+◌, Bool, true, false, ◌&&◌, List, Option, None, Some, Result, Ok, Err, refl, sym, ap, ◌∙◌}
-use Rattle.mm_steps.proofs.Below.{subst, MatchResult, IsErr, is_some, Memory, Variant, StepFault, Failed, Meddle, Stop, Fail, Plan, Standing}
+use Rattle.mm_steps.proofs.Below.{subst, MatchResult, Memory, Variant, Failed, Meddle, Stop, Fail, Standing}
 use Rattle.mm_steps.proofs.Below.{quiet_plan, step_made, Batch, size_of, Meaning, Digests, instance_by, act_of, number_of, Steps, Ended, Broken}
 use Rattle.mm_steps.proofs.Below.{Stage, Going, under, plan_by, is_broken, commits_at, Called, Came, HasRead, stopped_step, tells_ask, tells_close}
 use Rattle.mm_steps.proofs.Below.{WasPlanned, IsQuiet, Stands, BreaksAs, MayStepOn, StepsAs, asked_so, asking, checkpointing, closed_so}
@@ -19,7 +19,6 @@ use Rattle.mm_opt.specs.declared.segment.Checkpointed.{Checkpointed}
 use Rattle.mm_opt.specs.declared.segment.Checkpointed.TheVariants as checkpointed
 use Rattle.mm_opt.specs.declared.segment.CheckpointRefusal.{CheckpointRefusal}
 use Rattle.mm_opt.specs.declared.segment.CheckpointRefusal.TheVariants as closing_refusal
-use Rattle.mm_opt.specs.Checkpoints.{closing_fault_in}
 use Rattle.mm_opt.specs.Closing.{closing, ended_told}
 use Rattle.mm_opt.proofs.Above.{closing_steps_as}
 use Rattle.mm_schedule.specs.declared.event.Offer.{Offer}
@@ -27,7 +26,7 @@ use Rattle.mm_schedule.specs.declared.reply.Way.TheVariants as way
 use Rattle.mm_run.specs.Folds.{asked, Outcome}
 use Rattle.mm_run.specs.Offered.{offered_bytes}
 use Rattle.mm_run.proofs.Above.{stopped_reply}
-use Rattle.mm_ask.specs.Operating.{asked_by, IsStageOf, writes_at}
+use Rattle.mm_ask.specs.Operating.{asked_by, writes_at}
 use Rattle.mm_ask.proofs.Above.{counts_by, steps_stay}
 use Rattle.mm_world.specs.Asks.{quiet_as}
 use Rattle.mm_world.specs.Calls.{broken_as, CalledAs, closes_at, RefusedAs, stops_in, told_closing}

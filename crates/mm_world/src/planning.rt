@@ -31,11 +31,7 @@ pub trait Telling: Operation {
     ghost tells: { Self → Stop → Ended Self.Answer Self.Refusal → Result Called Memory → Type 0 };
 
     /// What a call came to that was stopped so and ended so. Memory exactly where that was wanting.
-    fn told(
-        &self,
-        stop: Stop,
-        ended: Ended<Self::Answer, Self::Refusal>,
-    ) -> Result<Called, Memory>
+    fn told(&self, stop: Stop, ended: Ended<Self::Answer, Self::Refusal>) -> Result<Called, Memory>
         ensures { tells self.now stop ended result };
 
     /// One that was broken off wanted none.
