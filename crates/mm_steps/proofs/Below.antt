@@ -32,7 +32,7 @@ pub use Rattle.mm_machine.specs.declared.change.Change.{Change as Move}
 pub use Rattle.mm_machine.specs.declared.change.Change.TheVariants.{Emptying, Extending, Placing, Writing}
 pub use Rattle.mm_flight.specs.InFlight.{GoesOnAs, plan_by, SaySame, under}
 pub use Rattle.mm_flight.specs.Machine.{EndsUnder, fault_stepped, Flies, is_broken}
-pub use Rattle.mm_flight.proofs.Above.{AlwaysFails, begins, commits_at, counted_few, finish_breaks, goes_on, meddled, replans, Replans}
+pub use Rattle.mm_flight.proofs.Above.{AlwaysFails, begins, commits_at, counted_few, finish_breaks, goes_on, may_planned, meddled, replans, Replans}
 pub use Rattle.mm_flight.proofs.Above.{steps_fail, steps_faultless, steps_move, steps_over, steps_then, steps_under, takes_in}
 pub use Rattle.mm_world.specs.declared.call.Called.{Called}
 pub use Rattle.mm_world.specs.Asks.{Came, HasRead}

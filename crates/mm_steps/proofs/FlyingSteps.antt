@@ -3,24 +3,17 @@ use Rattle.mm_steps.proofs.Below.{◌≡◌, ℕ, ◌+◌, ◌<◌, ◌≤◌, t
 use Rattle.mm_steps.proofs.Below.{subst, arith, option_map, counted, Memory, StepFault, Failed, Meddle, Stop, Quiet, Plan, Standing, stopping}
 use Rattle.mm_steps.proofs.Below.{step_made, MayChange, number_in, Asked, Finishes, act_of, MayGoOn, number_of, Steps, Ended, Broken, Stage}
 use Rattle.mm_steps.proofs.Below.{Begun, Seen, Changing, Step, Going, Over, Move, Extending, Emptying, Placing, Writing, plan_by, under}
-use Rattle.mm_steps.proofs.Below.{EndsUnder, fault_stepped, Flies, is_broken, AlwaysFails, commits_at, finish_breaks, goes_on, steps_fail}
+use Rattle.mm_steps.proofs.Below.{EndsUnder, fault_stepped, Flies, is_broken, AlwaysFails, commits_at, finish_breaks, goes_on, may_planned, steps_fail}
 use Rattle.mm_steps.proofs.Below.{steps_faultless, steps_move, steps_over, steps_then, steps_under, Called, SettlesPlan, stopped_step}
 use Rattle.mm_steps.proofs.Below.{behind, BreaksAs, GoesOn, IsOver, BreaksNext, stop_behind}
 use Rattle.std.specs.Result.{IsOk}
 use Rattle.mm_steps.proofs.Stopping.{always_fails, goes_as, fails_next, replans_behind, later_than, settled_under, stopped_under}
 
--- the room that a stopped call takes
-
-may_change_stopped : (change : Move) (old stopped : Standing) → MayChange change old → stopped.spare ≡ old.spare → MayChange change stopped
-may_change_stopped (Writing next) old stopped may same = tt
-may_change_stopped (Extending value) old stopped may same = rw same may
-may_change_stopped (Emptying opening) old stopped may same = rw same may
-may_change_stopped (Placing opening) old stopped may same = rw same may
-
-pub may_stop : {A : Type 0} (stage : Stage A) (old stopped : Standing) → MayGoOn stage old → stopped.spare ≡ old.spare → MayGoOn stage stopped
-may_stop Begun old stopped may same = tt
-may_stop (Seen cell) old stopped may same = tt
-may_stop (Changing ready) old stopped may same = may_change_stopped ready.change old stopped may same
+-- a stopped call takes the same room
+pub may_stop : {A : Type 0} (stage : Stage A) (old stopped : Standing) (stop : Stop)
+    → stopped ≡ record old { plan = option_map (stopping stop) old.plan } → MayGoOn stage old → MayGoOn stage stopped
+may_stop stage old stopped stop is may =
+    subst (λ (s : Standing). MayGoOn stage s) (sym is) (may_planned stage old (option_map (stopping stop) old.plan) may)
 
 -- the number of its next step is low
 

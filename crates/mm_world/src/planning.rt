@@ -46,6 +46,7 @@ impl<M: Module> Telling for Ask<'_, M> {
 
     ghost tells = { λ ask. tells_ask (batch_of ask.batch) };
 
+    #[inline(always)]
     fn told(&self, stop: Stop, ended: Ended<BatchAnswer, Refusal>) -> Result<Called, Memory>
         ensures { tells_ask (batch_of self.now.batch) stop ended result }
     {
@@ -60,6 +61,7 @@ impl Telling for Close {
 
     ghost tells = { λ close. tells_close };
 
+    #[inline(always)]
     fn told(
         &self,
         stop: Stop,
@@ -100,6 +102,7 @@ pub fn settled<O: Telling>(
 }
 
 /// Makes a whole call under the plan of this course, over a platform that is on and has none.
+#[inline(always)]
 pub fn planned<O: Telling>(
     op: &O,
     platform: &mut MemPlatform,

@@ -1,10 +1,9 @@
-use Rattle.mm_steps.proofs.Below.{Standing, ap}
 use Rattle.mm_steps.proofs.FlyingSteps.{broken_off, may_stop, wants_none}
 use Rattle.mm_steps.proofs.flying.break_off.Goals as goal
 
 pub finish-ended-requires : goal.finish-ended-requires
 finish-ended-requires g c =
-    record { room = may_stop c.args.call c.args.platform.now c.stop_with.new.self c.requires.room (ap (λ (s : Standing). s.spare) c.stop_with.ensures) }
+    record { room = may_stop c.args.call c.args.platform.now c.stop_with.new.self c.args.stop c.stop_with.ensures c.requires.room }
 
 pub unreachable-requires : goal.unreachable-requires
 unreachable-requires g c =
