@@ -73,7 +73,6 @@ pub use Rattle.mm_machine.specs.Finishing.{acts_for, answer_in}
 pub use Rattle.mm_basic.specs.Asks.{basic_call, StepsAnswered as BasicAnswered, StepsBy as BasicSteps}
 pub use Rattle.mm_basic.specs.Asks.{StepsRefused as BasicRefused}
 pub use Rattle.mm_opt.specs.Asks.{opt_call, ReadsOn, StepsAnswered, StepsBy, StepsFrom, WritesAtMostOnce}
-pub use Rattle.mm_flight.proofs.Above.{begun_may_ask}
 pub use Rattle.mm_store.specs.Calls.{CountsFailures, putting, ReadsSlot, WritesSlot}
 pub use Rattle.mm_store.specs.Kept.{StoreStanding}
 pub use Rattle.mm_store.specs.Pending.{Pending, pending_front, ReadsPending}

@@ -10,27 +10,24 @@ use Rattle.mm_basic.specs.Order.{verdict_of}
 use Rattle.mm_basic.specs.Answers.{found_from, found_in}
 use Rattle.mm_basic.specs.Steps.{Reads}
 use Rattle.mm_opt.specs.Found.{Found}
-use Rattle.mm_flight.specs.Operating.{AskAt, begun}
-use Rattle.mm_flight.specs.Asks.{FinishedAsk}
+use Rattle.mm_ask.specs.Asks.{AsksWhole}
 use Rattle.mm_recovery.proofs.CellWriting.{basic_writes, opt_writes, or_all}
 use Rattle.mm_seal.specs.declared.cell.CellFault.TheVariants as cell_fault
 use Rattle.mm_basic.proofs.Above as in_basic
 use Rattle.mm_opt.proofs.Above as in_opt
 
 pub asked_in : (variant : Variant) (meaning : Meaning) → IsLawful meaning
-    → (old new : Standing) (offer : List ℕ) (b : Batch) (call : AskAt) (ended : Ended) (result : Result BatchAnswer Refusal)
-    → is_long b ≡ false → call ≡ begun variant
-    → FinishedAsk meaning call old new offer b ended → result ≡ result_of ended → AskedIn variant meaning old new offer b result
-asked_in Basic meaning lawful old new offer b call ended result short first finished is =
-    let f : FinishedAsk meaning (begun Basic) old new offer b ended = rw (sym first) finished in
-    let g = f.finishes in
+    → (old new : Standing) (offer : List ℕ) (b : Batch) (ended : Ended) (result : Result BatchAnswer Refusal)
+    → is_long b ≡ false → AsksWhole variant meaning old new offer b ended → result ≡ result_of ended
+    → AskedIn variant meaning old new offer b result
+asked_in Basic meaning lawful old new offer b ended result short whole is =
+    let f = whole.finishes in
     rw is (in_basic.asked_by meaning lawful old new offer b ended (result_of ended) short
-    (in_basic.finished_asks meaning offer b old new ended (record { end = g.end; finishes = g.finishes; gives = g.gives })) refl)
-asked_in Opt meaning lawful old new offer b call ended result short first finished is =
-    let f : FinishedAsk meaning (begun Opt) old new offer b ended = rw (sym first) finished in
-    let g = f.finishes in
+    (in_basic.finished_asks meaning offer b old new ended (record { end = f.end; finishes = f.finishes; gives = f.gives })) refl)
+asked_in Opt meaning lawful old new offer b ended result short whole is =
+    let f = whole.finishes in
     rw is (in_opt.asked_by meaning lawful old new offer b ended (result_of ended) short
-    (in_opt.finished_asks meaning old new offer b ended (record { end = g.end; finishes = g.finishes; gives = g.gives })) refl f.faults)
+    (in_opt.finished_asks meaning old new offer b ended (record { end = f.end; finishes = f.finishes; gives = f.gives })) refl whole.faults)
 
 pub one_output : (variant : Variant) (meaning : Meaning) (old new : Standing) (offer request : List ℕ)
     (result : Result BatchAnswer Refusal) → AskedIn variant meaning old new offer (One request) result

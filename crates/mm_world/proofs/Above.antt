@@ -1,5 +1,5 @@
 -- What crates above may cite of these proofs: the other files can be read and changed by this crate alone.
 pub use Rattle.mm_world.proofs.Asking.{on_settled, power_if, reads_none, register_at, stands_settled, stop_power}
-pub use Rattle.mm_world.proofs.OnPlan.{asks_came, closes_came}
+pub use Rattle.mm_world.proofs.OnPlan.{asks_broken, asks_came, closes_broken, closes_came}
 pub use Rattle.mm_world.proofs.Asking.{count_none, reads_shown, stopped_at}
 pub use Rattle.mm_world.proofs.Worlds.{counting, digests_are, extended_by, stands_extended, stands_new}

@@ -1,14 +1,13 @@
 -- A whole call under a plan, in the words of a call that asks and of a checkpoint.
-use Rattle.mm_world.proofs.Below.{◌≡◌, ℕ, Bool, true, false, List, Option, None, Some, Result, Ok, Err, refl, sym, ap, ◌∙◌, subst}
+use Rattle.mm_world.proofs.Below.{◌≡◌, ℕ, false, List, Option, None, Some, Result, Ok, Err, refl, sym, ap, subst}
 use Rattle.mm_world.proofs.Below.{Memory, Variant, Meaning, Batch, StepFault, Meddle, Stop, Standing, is_some, is_long, size_of, Digests}
-use Rattle.mm_world.proofs.Below.{Refusal, by_digests, instance_by, is_broken, ended_with, fault_of, CallsTo, ChecksOn, Said, SettlesPlan}
-use Rattle.mm_world.proofs.Below.{CheckpointRefusal, stops_in, told_closing, Stands, IsQuiet, Came, HasRead, ChecksAs, quiet_as, plan_of}
+use Rattle.mm_world.proofs.Below.{Refusal, by_digests, instance_by, is_broken, ended_with, fault_of, Said, SettlesPlan}
+use Rattle.mm_world.proofs.Below.{CheckpointRefusal, stops_in, told_closing, Stands, IsQuiet, Came, HasRead, ChecksAs, plan_of}
 use Rattle.std.specs.Prelude.{MatchResult}
 use Rattle.std.specs.Result.{result_map_both}
 use Rattle.mm_machine.specs.Finishing.{Finishes}
 use Rattle.mm_machine.specs.declared.call.Ended.{Ended}
 use Rattle.mm_machine.specs.declared.call.Ended.TheVariants.{Answered, Refused, Lacks, Broken}
-use Rattle.mm_machine.specs.declared.call.Stage.{Stage}
 use Rattle.mm_machine.specs.declared.call.Stage.TheVariants.{Begun}
 use Rattle.mm_model.specs.declared.answer.BatchAnswer.{BatchAnswer}
 use Rattle.mm_call.specs.Machine.{end_told}
@@ -16,7 +15,6 @@ use Rattle.mm_opt.specs.Checkpoints.{closing_fault_in, closing_fault_of}
 use Rattle.mm_opt.specs.Closing.{closing, ended_told, GivesAs}
 use Rattle.mm_opt.proofs.Above.{checks_on, closes_whole}
 use Rattle.mm_run.specs.Folds.{asked}
-use Rattle.mm_schedule.specs.declared.reply.Reply.{Reply}
 use Rattle.mm_ask.specs.Operating.{asked_by}
 use Rattle.mm_ask.proofs.Above.{calls_by, quiet_by}
 use Rattle.mm_flight.specs.Machine as flight

@@ -31,11 +31,7 @@ pub trait Telling: Operation {
     ghost tells: { Self → Stop → Ended Self.Answer Self.Refusal → Result Called Memory → Type 0 };
 
     /// What a call came to that was stopped so and ended so. Memory exactly where that was wanting.
-    fn told(
-        &self,
-        stop: Stop,
-        ended: Ended<Self::Answer, Self::Refusal>,
-    ) -> Result<Called, Memory>
+    fn told(&self, stop: Stop, ended: Ended<Self::Answer, Self::Refusal>) -> Result<Called, Memory>
         ensures { tells self.now stop ended result };
 
     /// One that was broken off wanted none.
@@ -50,6 +46,7 @@ impl<M: Module> Telling for Ask<'_, M> {
 
     ghost tells = { λ ask. tells_ask (batch_of ask.batch) };
 
+    #[inline(always)]
     fn told(&self, stop: Stop, ended: Ended<BatchAnswer, Refusal>) -> Result<Called, Memory>
         ensures { tells_ask (batch_of self.now.batch) stop ended result }
     {
@@ -64,6 +61,7 @@ impl Telling for Close {
 
     ghost tells = { λ close. tells_close };
 
+    #[inline(always)]
     fn told(
         &self,
         stop: Stop,
@@ -104,6 +102,7 @@ pub fn settled<O: Telling>(
 }
 
 /// Makes a whole call under the plan of this course, over a platform that is on and has none.
+#[inline(always)]
 pub fn planned<O: Telling>(
     op: &O,
     platform: &mut MemPlatform,

@@ -1,4 +1,4 @@
-use Rattle.mm_world.proofs.Below.{Err, Memory, Ok, Result, subst}
+use Rattle.mm_world.proofs.Below.{Memory, Result, subst}
 use Rattle.mm_opt.specs.Closing.{closing}
 use Rattle.mm_world.specs.declared.call.Called.{Called}
 use Rattle.mm_world.specs.Planned.{IsPlanned, tells_close}
