@@ -2,5 +2,6 @@ pub mod Above
 mod Below
 mod Asking
 mod Calling
+mod Seating
 mod Worlds
 mod InVain
