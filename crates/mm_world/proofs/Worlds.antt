@@ -156,6 +156,24 @@ module _ (old new : Seat) (world : Held) (is : held_in old ≡ world) (k : Keeps
   wants_world event (Err memory) f =
       let w = f.own world_key world_barrier d k.stands k.quiet refl in wanting event w.0 w.1
 
+  -- the reply can be printed, and an event issues at most one snapshot
+  pub printed_world : (event : Event) (result : Result Reply Memory) → SeatFollows event old new result → IfOk result IsPrintable
+  printed_world event (Ok said) f =
+      let c = f.own world_key world_barrier d k.stands k.quiet refl in
+      subst (λ (r : Reply). IsPrintable r) (sym c.reply) (printed (held_in old) event)
+  printed_world event (Err memory) f = tt
+
+  pub grown_world : (event : Event) (result : Result Reply Memory) → SeatFollows event old new result
+      → length new.issued.items ≤ length world.issued + 1
+  grown_world event (Ok said) f =
+      let c = f.own world_key world_barrier d k.stands k.quiet refl in
+      let more = ap (λ (x : List (List ℕ)). length x) c.issued in
+      omega (arith, ap (λ (w : Held). length w.issued) is, more, grown (held_in old) event)
+  grown_world event (Err memory) f =
+      let w = f.own world_key world_barrier d k.stands k.quiet refl in
+      let same = ap (λ (x : List (List ℕ)). length x) w.0.issued in
+      omega (arith, ap (λ (w : Held). length w.issued) is, same)
+
 -- a new world
 
 length-world_key : length world_key ≡ 32
@@ -237,18 +255,3 @@ module _ (h : Header) (key barrier : List ℕ) (seat : Seat) (same_key : key ≡
         steps = (platform j).steps;
         writes = (platform j).writes;
       }
-
-pub printed_event : (old new : Held) (event : Event) (result : Result Reply Memory) → IfOk result (Follows (outcome_in old event) old new)
-    → IfOk result IsPrintable
-printed_event old new event (Err memory) f = tt
-printed_event old new event (Ok said) f = subst (λ (r : Reply). IsPrintable r) (sym f.reply) (printed old event)
-
-same_issued : (event : Event) (old new : Held) → Wants event old new → new.issued ≡ old.issued
-same_issued (Ask meddles stop offer b) old new w = elim w [ inl e ↦ ap (λ (h : Held). h.issued) e | inr e ↦ ap (λ (h : Held). h.issued) e ]
-same_issued Power old new e = absurd e
-same_issued _ old new e = ap (λ (h : Held). h.issued) e
-
-pub grown_event : (old new : Held) (event : Event) (result : Result Reply Memory) → IfOk result (Follows (outcome_in old event) old new)
-    → OnErr result (Wants event old new) → length new.issued ≤ length old.issued + 1
-grown_event old new event (Err memory) f w = omega (arith, ap (λ (x : List (List ℕ)). length x) (same_issued event old new w))
-grown_event old new event (Ok said) f w = omega (arith, ap (λ (x : List (List ℕ)). length x) f.issued, grown old event)

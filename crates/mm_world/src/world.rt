@@ -83,12 +83,17 @@ impl World {
         self.follow(line_view(meddles, text))
     }
 
-    // Follows an event where it lies.
-    fn follow(&mut self, event: EventView<'_>) -> Result<Reply, Memory>
+    /// Follows one event where it lies, and answers it, as `event` does.
+    #[inline(always)]
+    pub fn follow(&mut self, event: EventView<'_>) -> Result<Reply, Memory>
         requires { length self.old.issued < 2 ^ 32 - 1 }
         ensures ok { IfOk result
             (Follows (outcome_in self.old (event_seen event.entry)) self.old self.new) }
         ensures wants { OnErr result (Wants (event_seen event.entry) self.old self.new) }
+        ensures printable { IfOk result IsPrintable }
+        ensures grows { length self.new.issued ≤ length self.old.issued + 1 }
+        ensures few { (outcome_in self.old (event_seen event.entry)).state.count
+            ≤ self.old.digests.count + most_members }
     {
         self.seat.follow(event)
     }

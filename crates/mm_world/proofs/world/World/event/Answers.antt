@@ -1,5 +1,4 @@
 use Rattle.mm_world.proofs.Below.{IfOk, OnErr, subst, Event, event_of, Follows, outcome_in, Wants, world_few}
-use Rattle.mm_world.proofs.Worlds.{printed_event, grown_event}
 use Rattle.mm_world.proofs.world.World.event.Goals as goal
 
 pub returns-clause-ok : goal.returns-clause-ok
@@ -10,12 +9,6 @@ returns-clause-ok c =
 pub returns-clause-wants : goal.returns-clause-wants
 returns-clause-wants c =
     subst (λ (e : Event). OnErr c.follow.result (Wants e c.args.self.now c.follow.new.self)) c.owned_view.ensures c.follow.ensures.wants
-
-pub returns-clause-printable : goal.returns-clause-printable
-returns-clause-printable c = printed_event c.args.self.now c.follow.new.self _ c.follow.result c.follow.ensures.ok
-
-pub returns-clause-grows : goal.returns-clause-grows
-returns-clause-grows c = grown_event c.args.self.now c.follow.new.self _ c.follow.result c.follow.ensures.ok c.follow.ensures.wants
 
 pub returns-clause-few : goal.returns-clause-few
 returns-clause-few c = world_few c.args.self.now (event_of c.args.event.now)

@@ -1,6 +1,5 @@
 use Rattle.mm_world.proofs.Below.{IfOk, OnErr, subst, Event, Follows, outcome_in, meddles_of, Wants, world_few}
 use Rattle.mm_schedule.specs.Texts.{event_in}
-use Rattle.mm_world.proofs.Worlds.{printed_event, grown_event}
 use Rattle.mm_world.proofs.world.World.event_in_line.Goals as goal
 
 pub returns-clause-ok : goal.returns-clause-ok
@@ -11,12 +10,6 @@ returns-clause-ok c =
 pub returns-clause-wants : goal.returns-clause-wants
 returns-clause-wants c =
     subst (λ (e : Event). OnErr c.follow.result (Wants e c.args.self.now c.follow.new.self)) c.line_view.ensures c.follow.ensures.wants
-
-pub returns-clause-printable : goal.returns-clause-printable
-returns-clause-printable c = printed_event c.args.self.now c.follow.new.self _ c.follow.result c.follow.ensures.ok
-
-pub returns-clause-grows : goal.returns-clause-grows
-returns-clause-grows c = grown_event c.args.self.now c.follow.new.self _ c.follow.result c.follow.ensures.ok c.follow.ensures.wants
 
 pub returns-clause-few : goal.returns-clause-few
 returns-clause-few c = world_few c.args.self.now (event_in (meddles_of c.args.meddles.now) c.args.text)
