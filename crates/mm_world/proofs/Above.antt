@@ -3,6 +3,6 @@ pub use Rattle.mm_world.proofs.Asking.{on_settled, power_if, reads_none, registe
 pub use Rattle.mm_world.proofs.Calling.{asks_planned}
 pub use Rattle.mm_world.proofs.Calling.{checks_planned}
 pub use Rattle.mm_world.proofs.Asking.{count_none, reads_shown, stopped_at}
-pub use Rattle.mm_world.proofs.Seating.{stands_extended}
+pub use Rattle.mm_world.proofs.Seating.{kept_more, stands_extended}
 pub use Rattle.mm_world.proofs.Worlds.{counting, digests_are, stands_new}
 pub use Rattle.mm_world.specs.Seat.{extended_by}

@@ -85,7 +85,7 @@ module _ (old new : Seat) (world : Held) (is : held_in old ≡ world) (k : Keeps
   keeps_world event (Ok said) f room =
       let c = f.own world_key world_barrier d k.stands k.quiet refl in
       let more = ap (λ (x : List (List ℕ)). length x) c.issued in
-      keeps_so _ c.header c.stands c.quiet (omega (arith, room, ap (λ (w : Held). length w.issued) is, more, grown (held_in old) event))
+      keeps_so _ f.header c.stands c.quiet (omega (arith, room, ap (λ (w : Held). length w.issued) is, more, grown (held_in old) event))
   keeps_world event (Err memory) f room =
       let w = f.own world_key world_barrier d k.stands k.quiet refl in keeps_wanting event w.0 w.1
 
@@ -97,7 +97,7 @@ module _ (old new : Seat) (world : Held) (is : held_in old ≡ world) (k : Keeps
       let count = c.committed in
       subst (λ (w : Held). Follows (outcome_in w event) w (held_in new) said) is (record {
         reply = c.reply;
-        header = c.header;
+        header = f.header;
         digests = digests_are i o.state new.platform new.committed c.stands ∙ (λ j. record o.state { count = count j });
         issued = c.issued;
         steps = c.steps;

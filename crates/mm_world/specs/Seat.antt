@@ -1,5 +1,5 @@
 -- A seat: a module on a platform in memory, and what becomes of it.
-use Rattle.std.specs.Prelude.{◌≡◌, ℕ, ◌+◌, List, [], ◌∷◌, ◌++◌, Option, Some, Result, Err, MatchResult, option_to_list}
+use Rattle.std.specs.Prelude.{◌≡◌, ◌≤◌, ℕ, ◌+◌, List, [], ◌∷◌, ◌++◌, Option, Some, Result, Err, MatchResult, option_to_list}
 use Rattle.mm_base.specs.declared.fault.Memory.{Memory}
 use Rattle.mm_seal.specs.Cell.{cell_spelling}
 use Rattle.mm_seal.specs.declared.cell.CellFault.{CellFault}
@@ -37,13 +37,18 @@ pub record IsBare (header : Header) (cell : List ℕ) (seat : Seat) : Type 0 whe
   pub kept : seat.kept ≡ 0
   pub committed : seat.committed ≡ 0
 
--- a seat over a platform that was provisioned, with its first snapshot
-pub record IsFirst (header : Header) (key barrier : List ℕ) (seat : Seat) : Type 0 where
+-- a seat over a new platform with this cell, and with this first snapshot
+pub record IsOver (header : Header) (cell snapshot : List ℕ) (seat : Seat) : Type 0 where
   pub headed : seat.header ≡ header
-  pub platform : seat.platform
-      ≡ new_platform (cell_spelling (cell_of (instance_at header key barrier) first_history))
-  pub issued : seat.issued.items ≡ issued_bytes (instance_at header key barrier) first_history ∷ []
+  pub platform : seat.platform ≡ new_platform cell
+  pub issued : seat.issued.items ≡ snapshot ∷ []
   pub committed : seat.committed ≡ 0
+
+-- a seat over a platform that was provisioned
+abbrev pub IsFirst : Header → (key barrier : List ℕ) → Seat → Type 0
+IsFirst header key barrier seat =
+    let i = instance_at header key barrier in
+    IsOver header (cell_spelling (cell_of i first_history)) (issued_bytes i first_history) seat
 
 -- The seat keeps the snapshot that was handed out, if one was.
 pub record Keeps (snapshot : Option (List ℕ)) (old new : Seat) : Type 0 where
@@ -67,9 +72,9 @@ abbrev pub extended_by : Standing → List ℕ → Standing
 extended_by old value = record old { items = beside (value ∷ []) old.items }
 
 -- Nothing was issued or committed, and the platform stands so.
-pub record StaysOn (platform : Standing) (old new : Seat) : Type 0 where
+pub record StaysOn (standing : Standing) (old new : Seat) : Type 0 where
   pub header : new.header ≡ old.header
-  pub platform : new.platform ≡ platform
+  pub platform : new.platform ≡ standing
   pub issued : new.issued.items ≡ old.issued.items
   pub kept : new.kept ≡ old.kept
   pub committed : new.committed ≡ old.committed
@@ -78,9 +83,9 @@ pub record StaysOn (platform : Standing) (old new : Seat) : Type 0 where
 -- outcome says.
 pub record Comes (i : Instance) (o : Outcome Digests) (old new : Seat) (said : Reply) : Type 0 where
   pub reply : said ≡ o.reply
-  pub header : new.header ≡ old.header
   pub issued : new.issued.items ≡ o.issued
   pub committed : new.committed ≡ within_64 o.state.count
+  pub rises : old.committed ≤ o.state.count
   pub stands : Stands i new.platform o.state
   pub quiet : IsQuiet new.platform
   pub steps : new.platform.steps ≡ counted_by o.steps old.platform.steps
@@ -90,7 +95,6 @@ pub record Comes (i : Instance) (o : Outcome Digests) (old new : Seat) (said : R
 -- with: the cell is as it was, and nothing was committed.
 pub record ComesInVain (o : Outcome Digests) (old new : Seat) (said : Reply) : Type 0 where
   pub reply : said ≡ o.reply
-  pub header : new.header ≡ old.header
   pub issued : new.issued.items ≡ o.issued
   pub committed : new.committed ≡ old.committed
   pub cell : new.platform.cell ≡ old.platform.cell
@@ -114,6 +118,7 @@ WantsInVain event old new = new ≡ old
 -- An event happened at a seat, over the cell of its variant and module, under any key and barrier,
 -- and over one that is blank or spells none.
 pub record Follows (event : Event) (old new : Seat) (result : Result Reply Memory) : Type 0 where
+  pub header : new.header ≡ old.header
   pub own : (key barrier : List ℕ) (d : Digests)
       → let i = instance_at old.header key barrier in
       Stands i old.platform d → IsQuiet old.platform → d.count ≡ old.committed

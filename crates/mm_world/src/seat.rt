@@ -35,7 +35,7 @@ impl Seat {
     ghost use Rattle.mm_module.specs.Batches.{batch_of};
     ghost use Rattle.mm_platform.specs.Memory.{cycled};
     ghost use Rattle.mm_schedule.specs.Events.{Ask, Checkpoint};
-    ghost use Rattle.mm_world.specs.Seat.{IsBare, IsFirst, Keeps, EndsCall, StaysOn, Follows, extended_by};
+    ghost use Rattle.mm_world.specs.Seat.{IsBare, IsOver, IsFirst, Keeps, EndsCall, StaysOn, Follows, extended_by};
     ghost use Rattle.mm_world.specs.Views.{event_seen, offer_seen};
 
     /// A seat over a new platform with this cell, on which nothing was issued.
@@ -64,13 +64,19 @@ impl Seat {
     {
         match provisioned(alloc, header.variant, &header.module, key, barrier) {
             Err(memory) => Err(memory),
-            Ok(Provisioned { cell, snapshot }) => {
-                let mut seat = Seat::bare(alloc, header, &cell);
-                seat.make_room()?;
-                seat.keep(Some(snapshot));
-                Ok(seat)
-            }
+            Ok(made) => Seat::over(alloc, header, made),
         }
+    }
+
+    // A seat with this first cell and snapshot.
+    fn over(alloc: Global, header: Header, made: Provisioned) -> Result<Seat, Memory>
+        ensures { IfOk result (IsOver header made.cell made.snapshot) }
+    {
+        let Provisioned { cell, snapshot } = made;
+        let mut seat = Seat::bare(alloc, header, &cell);
+        seat.make_room()?;
+        seat.keep(Some(snapshot));
+        Ok(seat)
     }
 
     /// Makes room for one more snapshot.

@@ -1,5 +1,5 @@
 use Rattle.mm_world.proofs.Below.{refl, batch_of}
-use Rattle.mm_world.proofs.Seating.{ask_comes, ask_lacks, ask_none}
+use Rattle.mm_world.proofs.Seating.{ask_comes, ask_lacks}
 use Rattle.mm_world.proofs.seat.Seat.ask.Goals as goal
 
 pub returns-in-Err : goal.returns-in-Err
