@@ -1,8 +1,8 @@
 -- What an event leaves of a replay.
-use Rattle.mm_replay.proofs.Below.{◌≡◌, ◌∙◌, ◌+◌, ◌-◌, ◌^◌, ◌≤◌, ◌<◌, ℕ, List, [], ◌∷◌, ◌++◌, length, Some, None, inl, inr, refl, sym, ap}
-use Rattle.mm_replay.proofs.Below.{subst, arith, sum_by, slice_get, slice_get_past, Meddle, Stop, reading_steps, course_of}
+use Rattle.mm_replay.proofs.Below.{◌≡◌, ◌∙◌, ◌+◌, ◌-◌, ◌^◌, ◌≤◌, ◌<◌, ℕ, List, length, Some, inl, inr, refl, ap}
+use Rattle.mm_replay.proofs.Below.{subst, arith, Meddle, Stop, reading_steps, course_of}
 use Rattle.mm_replay.proofs.Below.{count_none, Event, Ask, Power, Reply, Digests, Held, instance_of}
-use Rattle.mm_replay.proofs.Below.{having_read, Follows, Wants, Issues}
+use Rattle.mm_replay.proofs.Below.{having_read, Follows, Wants}
 use Rattle.mm_replay.specs.Replaying.{replayed_in, KeepsWorld, WantsEvent}
 use Rattle.mm_replay.specs.Schedule.{after, Replayed, replaying}
 use Rattle.mm_schedule.specs.Grammar.{event_at}
@@ -11,10 +11,7 @@ use Rattle.mm_play.specs.declared.player.Refused.TheVariants.{Bad, Much}
 use Rattle.mm_play.specs.declared.player.ReplyFault.{ReplyFault}
 use Rattle.mm_play.specs.declared.player.ReplyFault.TheVariants as fault
 use Rattle.std.specs.Prelude.{Err, Ok, Result}
-use Rattle.mm_replay.proofs.Below.{◌*◌, issues}
-use Rattle.std.proofs.Common.{length-append}
-use Rattle.std.proofs.lemmas.List.Sums.{sum_by-append}
-use Rattle.mm_play.specs.Kept.{most_kept}
+use Rattle.mm_replay.proofs.Below.{◌*◌}
 use Rattle.std.proofs.Math.Nat.{min-eq_left}
 use Rattle.mm_base.specs.Limits.{most_events, most_members}
 use Rattle.mm_call.specs.Courses.{seen_in}
