@@ -2,7 +2,7 @@
 pub use Rattle.std.specs.Option.{option_map}
 pub use Rattle.std.specs.Prelude.{◌==◌, if◌then◌else◌, is_some, MatchResult, min, option_to_list, slice_index}
 pub use Rattle.std.proofs.Common.{◌&&◌, ◌++◌, ◌+◌, ◌-◌, ◌<◌, ◌^◌, ◌∙◌, ◌∷◌, ◌≡◌, ◌≤◌, [], ap, arith, Bool, drop, Err, false, IfOk, inl, inr}
-pub use Rattle.std.proofs.Common.{length, length-append, List, map, None, Ok, OnErr, Option, refl, Result, Some, subst, sym, take, true, ℕ}
+pub use Rattle.std.proofs.Common.{length, length-append, List, map, None, Ok, OnErr, OnOk, Option, refl, Result, Some, subst, sym, take, true, ℕ}
 pub use Rattle.std.proofs.lemmas.Bool.{eq-eqb, eqb-true}
 pub use Rattle.std.proofs.lemmas.List.{append-nil, map-append}
 pub use Rattle.mm_base.specs.declared.fault.Memory.{Memory}

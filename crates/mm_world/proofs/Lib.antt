@@ -3,5 +3,6 @@ mod Below
 mod Asking
 mod Calling
 mod OnPlan
+mod Seating
 mod Worlds
 mod InVain
