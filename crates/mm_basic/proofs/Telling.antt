@@ -1,7 +1,7 @@
 -- What the machine tells of a call of Basic: its reading step, and where each step leads.
 use Rattle.mm_basic.proofs.Below.{◌≡◌, ◌+◌, ℕ, Bool, true, false, List, Option, None, Some, Result, Ok, Err, refl, sym, ap, subst}
 use Rattle.mm_basic.proofs.Below.{Standing, ReadCell, Goes, StepFault, Meaning, Batch, BatchAnswer, Refusal, Deed, Writing, extends_in}
-use Rattle.mm_basic.proofs.Below.{Found, Repeat, Change, Ready, Halt, Cell, fault_in, result_of, found_told, end_told, basic_asked}
+use Rattle.mm_basic.proofs.Below.{Found, Repeat, Change, Ready, Halt, Cell, fault_in, found_told, basic_asked}
 use Rattle.mm_basic.proofs.Below.{ExtendsNothing}
 use Rattle.mm_model.specs.declared.refusal.Refusal.TheVariants as refusal
 use Rattle.mm_machine.specs.Acts.{MayChange}
@@ -16,8 +16,8 @@ use Rattle.mm_machine.specs.declared.operation.Sight.TheVariants as sight
 use Rattle.mm_machine.specs.declared.reading.Halt.TheVariants as halt
 use Rattle.mm_call.specs.Machine.{CallReads, MayCommit}
 use Rattle.mm_call.proofs.Above as told
-use Rattle.mm_basic.specs.declared.call.Turn.{Turn}
-use Rattle.mm_basic.specs.Moved.{AdvancedInBasic, StepExtendsNothing, turn_fault, turn_of, turn_with}
+use Rattle.mm_call.specs.Turns.{CallTurn, CallTurns, turn_of}
+use Rattle.mm_basic.specs.Moved.{AdvancedInBasic, StepExtendsNothing}
 use Rattle.mm_basic.proofs.Findings.{Finding, Finds, extends_none, finding_shaped, shaped}
 
 -- no room is made then, and none is taken
@@ -133,19 +133,9 @@ module _ (meaning : Meaning) (offer : List ℕ) (b : Batch) where
       → ExtendsNothing call → number_of 2 on ≡ number_of 2 call + 1
   numbers call on old new s none = let g = steps_go call old new (Going on) s none in rw (g.1, g.2) refl
 
-  -- a turn hands on the fault of its step
-
-  with_fault : (result : Result BatchAnswer Refusal) → turn_fault (turn_with result) ≡ fault_in result
-  with_fault (Ok answer) = refl
-  with_fault (Err why) = refl
-
-  of_fault : (step : Step BatchAnswer Refusal) → turn_fault (turn_of step) ≡ told.step_fault step
-  of_fault (Going next) = refl
-  of_fault (Over end) = with_fault (result_of (end_told end))
-
-  pub advanced : (call : Stage BatchAnswer) (old new : Standing) (step : Step BatchAnswer Refusal) (turn : Turn)
+  -- what a turn gives
+  pub advanced : (call : Stage BatchAnswer) (old new : Standing) (step : Step BatchAnswer Refusal) (turn : CallTurn)
       → Steps (basic_asked meaning offer b) call old new step → turn ≡ turn_of step → AdvancedInBasic meaning call old new offer b turn
-  advanced call old new step turn s gives = record {
-    turns = record { step = step; steps = s; gives = gives };
-    faults = rw (gives, of_fault step) (told.step_blamed (basic_asked meaning offer b) quiet call old new step s);
-  }
+  advanced call old new step turn s gives =
+      let t : CallTurns (basic_asked meaning offer b) call old new turn = record { step = step; steps = s; gives = gives } in
+      record { turns = t; faults = told.turn_blamed (basic_asked meaning offer b) quiet call old new turn t }

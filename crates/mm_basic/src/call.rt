@@ -4,6 +4,8 @@ ghost use Rattle.std.specs.Prelude.{◌≡◌, true, false, IfOk, IfErr};
 ghost use Rattle.mm_module.specs.Batches.{batch_of};
 ghost use Rattle.mm_model.specs.Long.{is_long};
 ghost use Rattle.mm_machine.specs.declared.call.Stage.TheVariants.{Begun};
+ghost use Rattle.mm_call.specs.Turns.{turn_of};
+ghost use Rattle.mm_basic.specs.Moved.{StepExtendsNothing};
 
 use crate::operation::BasicAsk;
 use mm_call::{Ended, KeptKey};
@@ -33,15 +35,7 @@ impl Model for Call {
 }
 
 /// What one step of a call came to.
-#[derive(Drop)]
-pub enum Turn {
-    /// The call goes on, with its next step.
-    Going(Call),
-    /// The call is over: its last step was made.
-    Done(BatchAnswer),
-    /// The call is over: it was refused.
-    Refused(Refusal),
-}
+pub type Turn = mm_call::Turn<Call, BatchAnswer, Refusal>;
 
 /// Begins a call. Long exactly where the batch is too long to be asked. Takes no memory.
 #[inline(always)]
@@ -94,26 +88,18 @@ impl Call {
             batch,
         };
         let keys = &mut KeptKey::new();
-        Turn::of(advance(&ask, self.call, platform, keys))
+        turn_of(advance(&ask, self.call, platform, keys))
     }
 }
 
-impl Turn {
-    ghost use Rattle.std.specs.Prelude.{◌≡◌};
-    ghost use Rattle.mm_basic.specs.Moved.{StepExtendsNothing, turn_of};
-
-    // What a step comes to.
-    #[inline(always)]
-    fn of(step: Step<BatchAnswer, Refusal>) -> Turn
-        requires { StepExtendsNothing step }
-        ensures { result ≡ turn_of step }
-    {
-        match step {
-            Step::Going(call) => Turn::Going(Call { call }),
-            Step::Over(end) => match Ended::of(end).result() {
-                Ok(answer) => Turn::Done(answer),
-                Err(refusal) => Turn::Refused(refusal),
-            },
-        }
+// What a step comes to.
+#[inline(always)]
+fn turn_of(step: Step<BatchAnswer, Refusal>) -> Turn
+    requires { StepExtendsNothing step }
+    ensures { result ≡ turn_of step }
+{
+    match step {
+        Step::Going(call) => Turn::Going(Call { call }),
+        Step::Over(end) => Turn::over(Ended::of(end).result()),
     }
 }
