@@ -4,9 +4,8 @@ use Rattle.mm_basic.proofs.Below.{Standing, ReadCell, Goes, StepFault, Meaning, 
 use Rattle.mm_basic.proofs.Below.{Found, Repeat, Change, Ready, Halt, Cell, fault_in, found_told, basic_asked}
 use Rattle.mm_basic.proofs.Below.{ExtendsNothing}
 use Rattle.mm_model.specs.declared.refusal.Refusal.TheVariants as refusal
-use Rattle.mm_machine.specs.Acts.{MayChange}
 use Rattle.mm_machine.specs.Reading.{FindsOn, Looks, RoomFor, Rooms, Weighs, extends}
-use Rattle.mm_machine.specs.Stepping.{MayGoOn, SightLeads, Steps, number_of, step_found, step_made, step_to}
+use Rattle.mm_machine.specs.Stepping.{SightLeads, Steps, number_of, step_found, step_made, step_to}
 use Rattle.mm_machine.specs.declared.call.Stage.{Stage}
 use Rattle.mm_machine.specs.declared.call.Stage.TheVariants as stage
 use Rattle.mm_machine.specs.declared.call.Step.{Step}
@@ -14,7 +13,7 @@ use Rattle.mm_machine.specs.declared.call.Step.TheVariants.{Going, Over}
 use Rattle.mm_machine.specs.declared.operation.Sight.{Sight}
 use Rattle.mm_machine.specs.declared.operation.Sight.TheVariants as sight
 use Rattle.mm_machine.specs.declared.reading.Halt.TheVariants as halt
-use Rattle.mm_call.specs.Machine.{CallReads, MayCommit}
+use Rattle.mm_call.specs.Machine.{CallReads}
 use Rattle.mm_call.proofs.Above as told
 use Rattle.mm_call.specs.Turns.{CallTurn, CallTurns, turn_of}
 use Rattle.mm_basic.specs.Moved.{AdvancedInBasic, StepExtendsNothing}
@@ -43,18 +42,6 @@ found_goes (Change ready) none = change_goes ready.change ready.answer none
 extends_by : (call : Stage BatchAnswer) (step : Step BatchAnswer Refusal) → GoesFrom call step → StepExtendsNothing step
 extends_by call (Going on) g = g.0
 extends_by call (Over end) g = tt
-
-pub may_change : (change : Deed) (standing : Standing) → extends_in change ≡ false → MayChange change standing
-may_change (Writing next) standing none = tt
-may_change _ standing none = absurd (cc)
-
-pub may_commit : (found : Found BatchAnswer) (standing : Standing) → extends found ≡ false → MayCommit found standing
-may_commit (Repeat answer) standing none = tt
-may_commit (Change ready) standing none = may_change ready.change standing none
-
-pub may_go_on : (call : Stage BatchAnswer) (standing : Standing) → ExtendsNothing call → MayGoOn call standing
-may_go_on (stage.Changing ready) standing none = may_change ready.change standing none
-may_go_on _ standing none = tt
 
 module _ (meaning : Meaning) (offer : List ℕ) (b : Batch) where
   pub quiet : told.IsQuiet (basic_asked meaning offer b)

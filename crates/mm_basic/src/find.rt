@@ -56,10 +56,7 @@ pub fn find<M: Module>(
 fn is_of(cell: &Cell, id: u8) -> bool
     ensures { IsTrue result ↔ IsCellOf id cell.now }
 {
-    if cell.variant != Variant::Basic {
-        return false;
-    }
-    cell.module == id
+    cell.variant == Variant::Basic && cell.module == id
 }
 
 // What is found in a cell and an offer, each of Basic and of the module.
@@ -81,10 +78,7 @@ fn weigh<M: Module>(
     let next = link(&here, ask.batch);
     let verdict = verdict(&cell.summary, &here, &next);
     let key = keys.under(&cell.key);
-    let again = match examine(ask.module, key, offered, ask.batch, verdict) {
-        Err(refusal) => return Err(refusal),
-        Ok(again) => again,
-    };
+    let again = examine(ask.module, key, offered, ask.batch, verdict)?;
     let answer = match answer(
         ask.alloc,
         ask.module,
