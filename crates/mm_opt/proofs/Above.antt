@@ -1,5 +1,4 @@
 -- What crates above may cite of these proofs: the other files can be read and changed by this crate alone.
-pub use Rattle.mm_opt.proofs.Acting.{acts_at}
 pub use Rattle.mm_opt.proofs.Asked.{asked, asked_by}
 pub use Rattle.mm_opt.proofs.Checking.{checks_on}
 pub use Rattle.mm_opt.proofs.Checkpointing.{closing_blamed, closing_steps, leaves_still}

@@ -21,9 +21,8 @@ use Rattle.mm_machine.specs.declared.reading.Halt.{Halt}
 use Rattle.mm_machine.specs.declared.reading.Halt.TheVariants.{Fault, Refused, Lacks}
 use Rattle.mm_opt.specs.declared.segment.Checkpointed.TheVariants.{Done, NoSegment}
 use Rattle.mm_opt.specs.declared.segment.CheckpointRefusal.TheVariants as refusal
-use Rattle.mm_opt.specs.declared.closing.CheckpointTurn.{CheckpointTurn}
 use Rattle.mm_opt.specs.Checkpoints.{ClosesBy, FindsClosing, WeighsAndCloses}
-use Rattle.mm_opt.specs.CheckpointTurns.{ClosingActsAt, StepIsClosing, closing_fault_turned, step_told}
+use Rattle.mm_opt.specs.CheckpointTurns.{ClosingActsAt, ClosingTurn, StepIsClosing, closing_fault_turned, step_told}
 use Rattle.mm_opt.specs.Closing.{GivesAs, IsClosing, closing, ended_told, sight_of, to_write, write_of}
 
 -- What is found, and what the machine has of it
@@ -247,7 +246,7 @@ step_fault_told (Over (Refusing why)) = refl
 step_fault_told (Over (Broken fault commits)) = refl
 step_fault_told (Over Lacking) = refl
 
-pub turn_acts : (it : Stage Checkpointed) (old new : Standing) (step : Step Checkpointed CheckpointRefusal) (turn : CheckpointTurn)
+pub turn_acts : (it : Stage Checkpointed) (old new : Standing) (step : Step Checkpointed CheckpointRefusal) (turn : ClosingTurn)
     → IsClosing it → Steps closing it old new step → turn ≡ step_told step → ClosingActsAt it old new turn
 turn_acts it old new step turn is s e = rw (e, step_fault_told step) (closing_steps_as it old new step is s).goes
 

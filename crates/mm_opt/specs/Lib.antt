@@ -4,7 +4,6 @@ pub mod Seen
 pub mod Order
 pub mod Answers
 pub mod Operating
-pub mod Turns
 pub mod Asks
 pub mod Checkpoints
 pub mod Closing

@@ -4,6 +4,7 @@ ghost use Rattle.std.specs.Prelude.{◌≡◌, true, false, IfOk, IfErr};
 ghost use Rattle.mm_module.specs.Batches.{batch_of};
 ghost use Rattle.mm_model.specs.Long.{is_long};
 ghost use Rattle.mm_machine.specs.declared.call.Stage.TheVariants.{Begun};
+ghost use Rattle.mm_call.specs.Turns.{turn_of};
 
 use crate::operation::OptAsk;
 use mm_call::{Ended, KeptKey};
@@ -29,15 +30,7 @@ impl Model for Call {
 }
 
 /// What one step of a call came to.
-#[derive(Drop)]
-pub enum Turn {
-    /// The call goes on, with its next step.
-    Going(Call),
-    /// The call is over: its last step was made.
-    Done(BatchAnswer),
-    /// The call is over: it was refused.
-    Refused(Refusal),
-}
+pub type Turn = mm_call::Turn<Call, BatchAnswer, Refusal>;
 
 /// Begins a call. Long exactly where the batch is too long to be asked. Takes no memory.
 #[inline(always)]
@@ -91,25 +84,17 @@ impl Call {
             offer,
             batch,
         };
-        Turn::of(advance(&ask, self.at, platform, &mut KeptKey::new()))
+        turn_of(advance(&ask, self.at, platform, &mut KeptKey::new()))
     }
 }
 
-impl Turn {
-    ghost use Rattle.std.specs.Prelude.{◌≡◌};
-    ghost use Rattle.mm_opt.specs.Turns.{turn_of};
-
-    // A turn of the machine's.
-    #[inline(always)]
-    fn of(step: Step<BatchAnswer, Refusal>) -> Turn
-        ensures { result ≡ turn_of step }
-    {
-        match step {
-            Step::Going(at) => Turn::Going(Call { at }),
-            Step::Over(ended) => match Ended::of(ended).result() {
-                Ok(answer) => Turn::Done(answer),
-                Err(refusal) => Turn::Refused(refusal),
-            },
-        }
+// A turn of the machine's.
+#[inline(always)]
+fn turn_of(step: Step<BatchAnswer, Refusal>) -> Turn
+    ensures { result ≡ turn_of step }
+{
+    match step {
+        Step::Going(at) => Turn::Going(Call { at }),
+        Step::Over(ended) => Turn::over(Ended::of(ended).result()),
     }
 }

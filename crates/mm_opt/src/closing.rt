@@ -2,11 +2,13 @@
 
 ghost use Rattle.std.specs.Prelude.{◌≡◌};
 ghost use Rattle.mm_machine.specs.declared.call.Stage.TheVariants.{Begun};
+ghost use Rattle.mm_opt.specs.CheckpointTurns.{StepIsClosing, step_told};
 ghost use Rattle.mm_opt.specs.Closed.{ClosedInOpt};
 ghost use Rattle.mm_opt.specs.Closing.{ended_told};
 
 use crate::close::Close;
 use crate::segment::{CheckpointRefusal, Checkpointed};
+use mm_call::Turn;
 use mm_machine::{Call, Ended, Operation, Step, advance, finish};
 use mm_platform::Platform;
 use mm_seal::KeptKey;
@@ -31,15 +33,7 @@ impl Model for CheckpointCall {
 }
 
 /// What one step of a checkpoint came to.
-#[derive(Drop)]
-pub enum CheckpointTurn {
-    /// The checkpoint goes on, with its next step.
-    Going(CheckpointCall),
-    /// The checkpoint is over: its last step was made.
-    Done(Checkpointed),
-    /// The checkpoint is over: it was refused.
-    Refused(CheckpointRefusal),
-}
+pub type CheckpointTurn = Turn<CheckpointCall, Checkpointed, CheckpointRefusal>;
 
 /// Begins a checkpoint.
 pub fn begin_checkpoint() -> CheckpointCall
@@ -70,26 +64,18 @@ impl CheckpointCall {
         ensures acts { ClosingActsAt self (P.standing platform.old) (P.standing platform.new)
             result }
     {
-        CheckpointTurn::of(advance(&Close, self.call, platform, &mut KeptKey::new()))
+        turn_of(advance(&Close, self.call, platform, &mut KeptKey::new()))
     }
 }
 
-impl CheckpointTurn {
-    ghost use Rattle.std.specs.Prelude.{◌≡◌};
-    ghost use Rattle.mm_opt.specs.CheckpointTurns.{StepIsClosing, step_told};
-
-    // What a step of the machine comes to.
-    fn of(step: Step<Checkpointed, CheckpointRefusal>) -> CheckpointTurn
-        requires { StepIsClosing step }
-        ensures { result ≡ step_told step }
-    {
-        match step {
-            Step::Going(call) => CheckpointTurn::Going(CheckpointCall { call }),
-            Step::Over(ended) => match closing_result(ended) {
-                Ok(checkpointed) => CheckpointTurn::Done(checkpointed),
-                Err(refusal) => CheckpointTurn::Refused(refusal),
-            },
-        }
+// What a step of the machine comes to.
+fn turn_of(step: Step<Checkpointed, CheckpointRefusal>) -> CheckpointTurn
+    requires { StepIsClosing step }
+    ensures { result ≡ step_told step }
+{
+    match step {
+        Step::Going(call) => Turn::Going(CheckpointCall { call }),
+        Step::Over(ended) => Turn::over(closing_result(ended)),
     }
 }
 
