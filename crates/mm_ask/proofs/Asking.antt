@@ -1,9 +1,9 @@
 -- A call of either core, by what each core gives of its own.
-use Rattle.std.proofs.Common.{◌≡◌, ◌+◌, ◌≤◌, ℕ, List, arith, refl, subst}
+use Rattle.std.proofs.Common.{◌≡◌, ◌+◌, ◌≤◌, ℕ, false, List, arith, refl, subst}
 use Rattle.mm_digest.specs.declared.variant.Variant.{Variant}
 use Rattle.mm_digest.specs.declared.variant.Variant.TheVariants.{Basic, Opt}
 use Rattle.mm_platform.specs.Standing.{Standing}
-use Rattle.mm_module.specs.Meaning.{Meaning}
+use Rattle.mm_module.specs.Meaning.{IsLawful, Meaning}
 use Rattle.mm_module.specs.Batch.{Batch}
 use Rattle.mm_model.specs.declared.answer.BatchAnswer.{BatchAnswer}
 use Rattle.mm_model.specs.declared.refusal.Refusal.{Refusal}
@@ -14,13 +14,15 @@ use Rattle.mm_machine.specs.declared.call.Stage.{Stage}
 use Rattle.mm_machine.specs.declared.call.Stage.TheVariants.{Begun}
 use Rattle.mm_machine.specs.declared.call.Step.TheVariants.{Going}
 use Rattle.mm_call.specs.declared.ended.Ended.{Ended}
-use Rattle.mm_call.specs.Ended.{CallsTo}
+use Rattle.mm_model.specs.Long.{is_long}
+use Rattle.mm_call.specs.AskedIn.{AskedIn}
+use Rattle.mm_call.specs.Ended.{CallsTo, result_of}
 use Rattle.mm_call.specs.Machine.{end_told}
 use Rattle.mm_call.proofs.Above.{finish_blamed, IsQuiet}
 use Rattle.mm_basic.proofs.Above as in_basic
 use Rattle.mm_opt.proofs.Above as in_opt
 use Rattle.mm_ask.specs.Operating.{asked_by, writes_at, IsStageOf}
-use Rattle.mm_ask.specs.Asks.{AsksWhole}
+use Rattle.mm_ask.specs.Asks.{AsksWhole, ask_call}
 
 pub few_by : (variant : Variant) → writes_at variant ≤ 5
 few_by Basic = omega arith
@@ -62,7 +64,18 @@ module _ (meaning : Meaning) (offer : List ℕ) (b : Batch) where
     calls_by Basic end f =
         in_basic.finished_to meaning offer b Begun old new (end_told end) (record { end = end; finishes = f; gives = refl }) refl
     calls_by Opt end f =
-        in_opt.finished_to Begun meaning old new offer b (end_told end) (record { end = end; finishes = f; gives = refl }) refl
+        in_opt.finished_to meaning old new offer b (end_told end) (record { end = end; finishes = f; gives = refl })
+
+    -- and promises what one does
+    pub asked_whole : (variant : Variant) (end : End BatchAnswer Refusal) → IsLawful meaning → is_long b ≡ false
+        → Finishes (asked_by variant meaning offer b) Begun old new end
+        → AskedIn (ask_call variant) meaning old new offer b (result_of (end_told end))
+    asked_whole Basic end lawful short f =
+        in_basic.asked_by meaning lawful old new offer b (end_told end) (result_of (end_told end)) short
+        (in_basic.finished_asks meaning offer b old new (end_told end) (record { end = end; finishes = f; gives = refl })) refl
+    asked_whole Opt end lawful short f =
+        in_opt.asked_by meaning lawful old new offer b (end_told end) (result_of (end_told end)) short
+        (in_opt.finished_asks meaning old new offer b (end_told end) (record { end = end; finishes = f; gives = refl })) refl
 
     pub asks_whole : (variant : Variant) (stage : Stage BatchAnswer) (end : End BatchAnswer Refusal) (ended : Ended) → stage ≡ Begun
         → Finishes (asked_by variant meaning offer b) stage old new end → ended ≡ end_told end

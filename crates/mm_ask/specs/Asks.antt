@@ -12,9 +12,15 @@ use Rattle.mm_machine.specs.declared.call.Stage.TheVariants.{Begun}
 use Rattle.mm_call.specs.declared.ended.Ended.{Ended}
 use Rattle.mm_call.specs.Ended.{CallsTo, result_of}
 use Rattle.mm_call.specs.Leaving.{Blames}
-use Rattle.mm_call.specs.Machine.{end_told}
+use Rattle.mm_call.specs.Machine.{call_of, end_told}
 use Rattle.mm_call.specs.Refusals.{fault_in}
+use Rattle.mm_machine.specs.declared.operation.Found.{Found}
+use Rattle.mm_call.specs.Calls.{CallOf}
 use Rattle.mm_ask.specs.Operating.{asked_by}
+
+-- what a variant gives of its calls
+abbrev pub ask_call : Variant → CallOf (Found BatchAnswer)
+ask_call variant = call_of variant (asked_by variant)
 
 -- Its steps are those of the machine.
 pub record AskFinishes (variant : Variant) (meaning : Meaning) (old new : Standing)

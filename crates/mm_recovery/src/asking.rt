@@ -3,7 +3,9 @@
 ghost use Rattle.std.specs.Prelude.{◌≡◌, false, IfOk, length};
 ghost use Rattle.mm_module.specs.Batch.{One};
 ghost use Rattle.mm_model.specs.Long.{is_long};
-ghost use Rattle.mm_recovery.specs.Asking.{AskedIn, IsCall};
+ghost use Rattle.mm_call.specs.AskedIn.{AskedIn};
+ghost use Rattle.mm_ask.specs.Asks.{ask_call};
+ghost use Rattle.mm_recovery.specs.Asking.{IsCall};
 
 use crate::hosted::Hosted;
 use mm_ask::Ask;
@@ -37,7 +39,7 @@ fn call_one<M: Module, P: Platform>(
     request: &[u8],
 ) -> Result<BatchAnswer, Refusal>
     requires { is_long (One request.now) ≡ false }
-    ensures asked { AskedIn hosted.now.variant (M.meaning hosted.now.«module».now)
+    ensures asked { AskedIn (ask_call hosted.now.variant) (M.meaning hosted.now.«module».now)
         (P.standing platform.old) (P.standing platform.new) offer.now (One request.now) result }
     ensures one { IfOk result (λ answer. length answer.outputs ≡ 1) }
 {

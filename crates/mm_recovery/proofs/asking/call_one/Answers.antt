@@ -1,4 +1,5 @@
-use Rattle.mm_recovery.proofs.OneCall.{asked_in, one_output}
+use Rattle.mm_basic.proofs.Above.{one_output}
+use Rattle.mm_recovery.proofs.OneCall.{asked_in}
 use Rattle.mm_recovery.proofs.asking.call_one.Goals as goal
 
 pub returns-clause-asked : goal.returns-clause-asked
@@ -7,4 +8,4 @@ returns-clause-asked g c =
     c.result.ensures
 
 pub returns-clause-one : goal.returns-clause-one
-returns-clause-one g c = one_output c.args.hosted.now.variant _ _ _ _ _ _ (returns-clause-asked g c)
+returns-clause-one g c = one_output c.args.request.now _ (returns-clause-asked g c).fits
