@@ -1,7 +1,7 @@
 -- The next step of a call in flight, and a step that breaks it off.
 use Rattle.mm_steps.proofs.Below.{◌≡◌, ℕ, ◌+◌, ◌<◌, ◌≤◌, true, false, List, Option, Some, None, Result, Ok, Err, refl, sym, ◌∙◌}
 use Rattle.mm_steps.proofs.Below.{subst, arith, option_map, counted, Memory, StepFault, Failed, Meddle, Stop, Quiet, Plan, Standing, stopping}
-use Rattle.mm_steps.proofs.Below.{step_made, MayChange, number_in, Asked, Finishes, act_of, MayGoOn, number_of, Steps, Ended, Broken, Stage}
+use Rattle.mm_steps.proofs.Below.{step_made, number_in, Asked, Finishes, act_of, MayGoOn, number_of, Steps, Ended, Broken, Stage}
 use Rattle.mm_steps.proofs.Below.{Begun, Seen, Changing, Step, Going, Over, Move, Extending, Emptying, Placing, Writing, plan_by, under}
 use Rattle.mm_steps.proofs.Below.{EndsUnder, fault_stepped, Flies, is_broken, AlwaysFails, commits_at, finish_breaks, goes_on, may_planned, steps_fail}
 use Rattle.mm_steps.proofs.Below.{steps_faultless, steps_move, steps_over, steps_then, steps_under, Called, SettlesPlan, stopped_step}
