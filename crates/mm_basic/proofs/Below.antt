@@ -64,8 +64,8 @@ pub use Rattle.mm_call.proofs.Above.{ends_fates, ends_result, ends_untouched, fa
 pub use Rattle.mm_call.proofs.Above.{reading_tale, so_far, steps_blamed, steps_give, Told, told_reading}
 pub use Rattle.mm_basic.specs.Answers.{answer_of, committed_cell, found_from, found_in, linked}
 pub use Rattle.mm_basic.specs.Asked.{AskedInBasic}
-pub use Rattle.mm_basic.specs.Asks.{basic_call, ReadsOnce, StepsAnswered, StepsBy, StepsRefused}
+pub use Rattle.mm_basic.specs.Asks.{basic_call}
 pub use Rattle.mm_basic.specs.Order.{summary_in, verdict_of}
 pub use Rattle.mm_basic.specs.Seen.{Both, IsCellOf, IsSeen, NoCell, NoOffer, OtherCell, Seen}
 pub use Rattle.mm_basic.specs.Operating.{basic_asked, ExtendsNothing, Sees}
-pub use Rattle.mm_basic.specs.Steps.{Finds, FindsIn, Reads}
+pub use Rattle.mm_basic.specs.Steps.{FindsIn}

@@ -6,7 +6,7 @@ use Rattle.mm_basic.proofs.Below.{variant_of, tag_of, extended_of, Item, Standin
 use Rattle.mm_basic.proofs.Below.{Foreign, Digests, made, verdict_by, basic_verdict, digest_of, BatchAnswer, Refusal, Verdict, OrMemory}
 use Rattle.mm_basic.proofs.Below.{all_made, by_digests, AsFound, lacks_in, brought_digests, cell_at, StandsAt, weighed_only, Found, Repeat}
 use Rattle.mm_basic.proofs.Below.{Change, Writing, Seen, found_in, found_from, answer_of, committed_cell, basic_call, SpellsCell, ReadsCell}
-use Rattle.mm_basic.proofs.Below.{IsCellOf, NoCell, OtherCell, NoOffer, Both, IsSeen as IsSight, Finds, if◌then◌else◌, linked, summary_in}
+use Rattle.mm_basic.proofs.Below.{IsCellOf, NoCell, OtherCell, NoOffer, Both, IsSeen as IsSight, if◌then◌else◌, linked, summary_in}
 use Rattle.mm_basic.proofs.Below.{verdict_by_digests, zero_bytes}
 use Rattle.std.specs.List.{fold}
 use Rattle.std.specs.Prelude.{◌&&◌}
@@ -23,6 +23,7 @@ use Rattle.mm_call.specs.FoundWords as call_words
 use Rattle.mm_seal.specs.declared.cell.CellFault.{CellFault}
 use Rattle.mm_seal.specs.CellLaws.{reads_cell-same}
 use Rattle.mm_seal.specs.SnapshotLaws.{reads_parts-same}
+use Rattle.mm_basic.proofs.Findings.{Finds}
 
 -- There is one way to see a cell and an offer.
 
@@ -141,7 +142,7 @@ module _ (meaning : Meaning) (key : List ℕ) (d : Digests) (b : Batch) where
 found_here : (meaning : Meaning) (key : List ℕ) (d : Digests) (register : List ℕ) (old : Standing) (offer : List ℕ) (b : Batch)
     (found : Result (Found BatchAnswer) Refusal)
     → IsCell (cell_at (basic meaning key) d) → old.cell ≡ Some (cell_spelling (cell_at (basic meaning key) d))
-    → (f : Finds meaning old offer b found) → found_in meaning f.finds.seen b
+    → (f : Finds meaning old offer b found) → found_in meaning f.said.seen b
     ≡ given (basic meaning key) (record d { register = register }) (normal b)
     (call.found_at (basic meaning key) (by_digests (basic meaning key)) (record d { register = register }) (normal b) offer)
 found_here meaning key d register old offer b found spells cell f =
@@ -150,8 +151,8 @@ found_here meaning key d register old offer b found spells cell f =
     let here : Cell = cell_at i d in
     let taken : Result Snapshot PartsFault = parts_of Basic meaning.id offer in
     let r = reads_parts Basic meaning.id offer in
-    ap (λ (s : Seen). found_in meaning s b) (one_sight meaning.id f.bytes offer here taken f.finds.seen
-    (spells, f.told (cell_spelling here) cell) (refl, refl) r f.finds.is_seen)
+    ap (λ (s : Seen). found_in meaning s b) (one_sight meaning.id f.bytes offer here taken f.said.seen
+    (spells, f.told (cell_spelling here) cell) (refl, refl) r f.said.is_seen)
     ∙ found_taken meaning key seen b taken offer r
     ∙ ap (λ (flag : Bool). given i seen (normal b)
     (if flag && bytes_eq register zero_bytes then Err refusal.Lost
@@ -209,4 +210,4 @@ seen_here meaning key d values old offer b found s f =
     (as_found meaning key (record d { register = r }) (normal b)
     (call.found_at i (by_digests i) (record d { register = r }) (normal b) offer) found s.spells
     (subst (λ (x : Result (Found BatchAnswer) Refusal). OrMemory x found) (found_here meaning key d r old offer b found s.spells s.cell f)
-    f.finds.found_is))
+    f.said.found_is))

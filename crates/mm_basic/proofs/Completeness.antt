@@ -21,8 +21,11 @@ use Rattle.mm_call.specs.Courses.{Walked, walk}
 use Rattle.mm_call.specs.Found as call
 use Rattle.mm_call.specs.FoundWords.{found_unless_wanting, found_with, is_fresh}
 use Rattle.mm_call.proofs.Above.{stands_at}
-use Rattle.mm_basic.specs.Complete.{IsComplete}
-use Rattle.mm_basic.proofs.Asking.{untouched, blames, steps, fits}
+use Rattle.mm_call.specs.Complete.{IsComplete}
+use Rattle.mm_call.proofs.Above.{calls_blamed, calls_untouched}
+use Rattle.mm_basic.proofs.Below.{basic_asked}
+use Rattle.mm_basic.proofs.Asking.{fits, steps, writes}
+use Rattle.mm_basic.proofs.Telling.{quiet}
 
 -- something is found at the history's digests, whatever the register holds
 found_right : (meaning : Meaning) (key : List ℕ) (y : History) (all : List (List ℕ)) (offer : List ℕ) (content : Content) (b : Batch)
@@ -56,7 +59,7 @@ answered_by None true (Ok it) i seen s b moves old new is blames = inr (inl refl
 
 pub complete : (meaning : Meaning) (old new : Standing) (offer : List ℕ) (batch : Batch) (result : Result BatchAnswer Refusal)
     → (is_long batch ≡ false → CallsOn Basic meaning old new offer batch result) → Blames (fault_in result) old.faults new.faults
-    → IsComplete meaning old new offer batch result
+    → IsComplete Basic meaning old new offer batch result
 complete meaning old new offer batch result goes blames short key y all content s right names clear accepts fits =
     let i : Instance = basic meaning key in
     let b : Batch = normal batch in
@@ -81,12 +84,16 @@ pub asked : (meaning : Meaning) → IsLawful meaning → (old new : Standing) (o
     (result : Result BatchAnswer Refusal) → Calls basic_call meaning old new offer b result
     → (is_long b ≡ false → CallsOn Basic meaning old new offer b result)
     → AskedInBasic meaning old new offer b result
-asked meaning lawful old new offer b result calls goes = record {
-  calls = calls;
-  untouched = untouched meaning old new offer b result calls;
-  faults = blames meaning old new offer b result calls;
-  steps = steps meaning lawful old new offer b result calls;
-  fits = fits meaning lawful old new offer b result calls;
-  goes = goes;
-  complete = complete meaning old new offer b result goes (blames meaning old new offer b result calls);
-}
+asked meaning lawful old new offer b result calls goes =
+    let still = quiet meaning offer b in
+    let blames = calls_blamed Basic basic_asked meaning old new offer b still result calls in
+    record {
+      calls = calls;
+      untouched = calls_untouched Basic basic_asked meaning old new offer b still result calls;
+      faults = blames;
+      steps = steps meaning old new offer b result calls;
+      writes = writes meaning old new offer b result calls;
+      fits = fits meaning lawful old new offer b result calls;
+      goes = goes;
+      complete = complete meaning old new offer b result goes blames;
+    }

@@ -4,49 +4,73 @@ use Rattle.mm_basic.proofs.Below.{IsLawful, Batch, normal, Blank, Form, InBasic,
 use Rattle.mm_basic.proofs.Below.{digest_of, BatchAnswer, extends_in, Found, Repeat, Change, Seen, NoCell, NoOffer, Both, examined, summary_in, verdict_of, linked}
 use Rattle.mm_basic.proofs.Below.{answer_of, committed_cell, found_from, found_in, OrMemory, FindsIn, weighed_only, Basic, Cell, IsCellOf}
 use Rattle.mm_basic.proofs.Below.{PartsFault, ReadsParts, SpellsCell}
+use Rattle.mm_basic.proofs.Below.{None, Standing, Goes, ReadCell, fault_in}
 use Rattle.std.proofs.lemmas.Bool.Decides.{nat_tests}
+use Rattle.mm_machine.specs.Reading.{CellSays, extends}
 use Rattle.mm_model.specs.FitLaws.{is_fit}
 
 -- An answer found says whether it is a repeat's, and is fit; and no own extension is to come.
-abbrev pub IsShaped : Batch → Result (Found BatchAnswer) Refusal → Type 0
-IsShaped b (Err why) = Unit {0}
-IsShaped b (Ok (Repeat answer)) = (answer.again ≡ true) × IsFit b answer
-IsShaped b (Ok (Change ready)) = (ready.answer.again ≡ false) × IsFit b ready.answer × (extends_in ready.change ≡ false)
+abbrev pub IsShaped : Meaning → Batch → Result (Found BatchAnswer) Refusal → Type 0
+IsShaped meaning b (Err why) = Unit {0}
+IsShaped meaning b (Ok (Repeat answer)) = (answer.again ≡ true) × (IsLawful meaning → IsFit b answer)
+IsShaped meaning b (Ok (Change ready)) =
+    (ready.answer.again ≡ false) × (IsLawful meaning → IsFit b ready.answer) × (extends_in ready.change ≡ false)
 
 shaped_from : (meaning : Meaning) (key next : List ℕ) (offered : Content) (b : Batch) (e : Result Bool Refusal)
-    → ((again : Bool) → e ≡ Ok again → IsFit b (answer_of meaning key offered b again))
-    → IsShaped b (found_from e next (answer_of meaning key offered b))
+    → ((again : Bool) → e ≡ Ok again → IsLawful meaning → IsFit b (answer_of meaning key offered b again))
+    → IsShaped meaning b (found_from e next (answer_of meaning key offered b))
 shaped_from meaning key next offered b (Err why) h = tt
 shaped_from meaning key next offered b (Ok true) h = (refl, h true refl)
 shaped_from meaning key next offered b (Ok false) h = (refl, h false refl, refl)
 
 -- an offer that is accepted leads to a fit answer
-accepted_fit : (meaning : Meaning) → IsLawful meaning → (key : List ℕ) (offered : Snapshot) (b : Batch) (verdict : Verdict) (again : Bool)
-    → examined meaning key offered b verdict ≡ Ok again → IsFit b (answer_of meaning key offered.content b again)
-accepted_fit meaning lawful key offered b verdict again e =
+accepted_fit : (meaning : Meaning) (key : List ℕ) (offered : Snapshot) (b : Batch) (verdict : Verdict) (again : Bool)
+    → examined meaning key offered b verdict ≡ Ok again → IsLawful meaning → IsFit b (answer_of meaning key offered.content b again)
+accepted_fit meaning key offered b verdict again e lawful =
     let a = weighed_only _ _ _ _ again e in
     is_fit meaning lawful key offered.content.state offered.content.position (InBasic (digest_of (linked offered.content b))) b again
     (length-link (summary_in offered.content.place) (normal b))
     (subst (λ (t : Bool). IsTrue t) (sym a.spelled) refl)
     (grind (arith, nat_tests, a.fitting))
 
-shaped_in : (meaning : Meaning) → IsLawful meaning → (seen : Seen) (b : Batch) → IsShaped b (found_in meaning seen b)
-shaped_in meaning lawful (NoCell Blank) b = tt
-shaped_in meaning lawful (NoOffer Form) b = tt
-shaped_in meaning lawful (Both cell offered) b =
+shaped_in : (meaning : Meaning) (seen : Seen) (b : Batch) → IsShaped meaning b (found_in meaning seen b)
+shaped_in meaning (NoCell Blank) b = tt
+shaped_in meaning (NoOffer Form) b = tt
+shaped_in meaning (Both cell offered) b =
     shaped_from meaning cell.key (committed_cell cell offered.content b) offered.content b
     (examined meaning cell.key offered b (verdict_of cell offered b))
-    (accepted_fit meaning lawful cell.key offered b (verdict_of cell offered b))
-shaped_in meaning lawful _ b = tt
+    (accepted_fit meaning cell.key offered b (verdict_of cell offered b))
+shaped_in meaning _ b = tt
 
-shaped_or : (b : Batch) (x found : Result (Found BatchAnswer) Refusal) → IsShaped b x → OrMemory x found → IsShaped b found
-shaped_or b (Err why) found h o = rw o tt
-shaped_or b (Ok it) found h (inl e) = rw e h
-shaped_or b (Ok it) found h (inr e) = rw e tt
+shaped_or : (meaning : Meaning) (b : Batch) (x found : Result (Found BatchAnswer) Refusal) → IsShaped meaning b x → OrMemory x found
+    → IsShaped meaning b found
+shaped_or meaning b (Err why) found h o = rw o tt
+shaped_or meaning b (Ok it) found h (inl e) = rw e h
+shaped_or meaning b (Ok it) found h (inr e) = rw e tt
 
-pub shaped : (meaning : Meaning) → IsLawful meaning → (bytes offer : List ℕ) (b : Batch) (found : Result (Found BatchAnswer) Refusal)
-    → FindsIn meaning bytes offer b found → IsShaped b found
-shaped meaning lawful bytes offer b found f = shaped_or b (found_in meaning f.seen b) found (shaped_in meaning lawful f.seen b) f.found_is
+pub shaped : (meaning : Meaning) (bytes offer : List ℕ) (b : Batch) (found : Result (Found BatchAnswer) Refusal)
+    → FindsIn meaning bytes offer b found → IsShaped meaning b found
+shaped meaning bytes offer b found f =
+    shaped_or meaning b (found_in meaning f.seen b) found (shaped_in meaning f.seen b) f.found_is
+
+-- so no own extension is to come behind what is found
+pub extends_none : (meaning : Meaning) (b : Batch) (it : Found BatchAnswer) → IsShaped meaning b (Ok it) → extends it ≡ false
+extends_none meaning b (Repeat answer) s = refl
+extends_none meaning b (Change ready) s = s.2
+
+-- What is found on a platform, whose cell is read; and the step that reads it.
+abbrev pub Finds : Meaning → Standing → List ℕ → Batch → Result (Found BatchAnswer) Refusal → Type 0
+Finds meaning old offer b found = CellSays old (λ bytes. FindsIn meaning bytes offer b found)
+
+pub record Finding (meaning : Meaning) (old new : Standing) (offer : List ℕ) (b : Batch) (found : Result (Found BatchAnswer) Refusal) : Type 0
+  where
+    pub goes : Goes ReadCell old new (fault_in found)
+    pub finds : fault_in found ≡ None → Finds meaning old offer b found
+
+pub finding_shaped : (meaning : Meaning) (old new : Standing) (offer : List ℕ) (b : Batch) (found : Result (Found BatchAnswer) Refusal)
+    → Finding meaning old new offer b found → IsShaped meaning b found
+finding_shaped meaning old new offer b (Err why) r = tt
+finding_shaped meaning old new offer b (Ok it) r = let f = r.finds refl in shaped meaning f.bytes offer b (Ok it) f.said
 
 -- an offer that is none to this module
 pub no_offer : (meaning : Meaning) (bytes offer : List ℕ) (b : Batch) (id : ℕ) (cell : Cell) (fault : PartsFault)

@@ -9,19 +9,16 @@ first_digest id said summary id_is start_is = ap digest_of (start_is ∙ ap (sta
 abbrev pub made_cell : ℕ → Digest → List ℕ → List ℕ → Cell
 made_cell id summary key barrier = record { variant = Basic; «module» = id; flag = false; summary = summary; key = key; barrier = barrier }
 
-abbrev pub made_content : ℕ → Digest → List ℕ → Content
-made_content id summary state = record { id = id; place = InBasic summary; position = 0; state = state }
+abbrev pub made_content : Meaning → Digest → Content
+made_content meaning summary = record { id = meaning.id; place = InBasic summary; position = 0; state = meaning.first }
 
-pub first_cell : (meaning : Meaning) (said : ℕ) (summary : Digest) (key barrier : List ℕ) → said ≡ meaning.id
-    → summary.bytes ≡ start_of Basic said → barrier ≡ zero_bytes
-    → cell_spelling (made_cell said summary key barrier) ≡ cell_spelling (cell_of (basic meaning key) first_history)
-first_cell meaning said summary key barrier id_is start_is barrier_is =
-    let d = first_digest meaning.id said summary id_is start_is in
-    λ j. cell_spelling (made_cell (id_is j) (d j) key (barrier_is j))
+module _ (meaning : Meaning) (said : ℕ) (summary : Digest) (key : List ℕ) (id_is : said ≡ meaning.id) (start_is : summary.bytes ≡ start_of Basic said)
+  where
+    pub first_cell : (barrier : List ℕ) → barrier ≡ zero_bytes
+        → cell_spelling (made_cell said summary key barrier) ≡ cell_spelling (cell_of (basic meaning key) first_history)
+    first_cell barrier barrier_is =
+        let d = first_digest meaning.id said summary id_is start_is in λ j. cell_spelling (made_cell (id_is j) (d j) key (barrier_is j))
 
-pub first_snapshot : (meaning : Meaning) (said : ℕ) (summary : Digest) (key state : List ℕ) → said ≡ meaning.id
-    → summary.bytes ≡ start_of Basic said → state ≡ meaning.first
-    → sealed_of key (made_content said summary state) ≡ issued_bytes (basic meaning key) first_history
-first_snapshot meaning said summary key state id_is start_is state_is =
-    let d = first_digest meaning.id said summary id_is start_is in
-    λ j. sealed_of key (made_content (id_is j) (d j) (state_is j))
+    pub first_snapshot : sealed_of key (made_content meaning summary) ≡ issued_bytes (basic meaning key) first_history
+    first_snapshot =
+        let d = first_digest meaning.id said summary id_is start_is in λ j. sealed_of key (made_content meaning (d j))

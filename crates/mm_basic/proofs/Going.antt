@@ -3,7 +3,7 @@ use Rattle.mm_basic.proofs.Below.{◌≡◌, ℕ, Bool, true, false, List, ◌�
 use Rattle.mm_basic.proofs.Below.{arith, Basic, Standing, ReadCell, Meaning, Batch, normal, Instance, basic, Move, Foreign, Digests, Step}
 use Rattle.mm_basic.proofs.Below.{Reading, ask_steps, Refusal, Ended, EndsTo, AsksTo, IsCallSoFar, CallsTo, all_made, by_digests, fault_in}
 use Rattle.mm_basic.proofs.Below.{StandsAt, basic_calls_agree, fate_of, ends_fates, reading_tale, Told, GoesTo, course_by, lacks_in}
-use Rattle.mm_basic.proofs.Below.{told_reading, so_far, BatchAnswer, Deed, Extending, Emptying, Placing, Writing, Found, Repeat, Change, Reads, acts_for, acts_left}
+use Rattle.mm_basic.proofs.Below.{told_reading, so_far, BatchAnswer, Deed, Extending, Emptying, Placing, Writing, Found, Repeat, Change, acts_for, acts_left}
 use Rattle.mm_basic.proofs.Below.{basic_call, AskedInBasic, IsLawful, is_long, calls_from, result_of}
 use Rattle.std.specs.Prelude.{◌≤◌}
 use Rattle.std.proofs.lemmas.List.{append-nil}
@@ -14,6 +14,12 @@ use Rattle.mm_call.specs.FoundWords.{found_unless_wanting, is_fresh}
 use Rattle.mm_call.proofs.Above as completing
 use Rattle.mm_basic.proofs.Calling.{writing, seen_here}
 use Rattle.mm_basic.proofs.Completeness.{asked}
+use Rattle.mm_basic.proofs.Findings.{Finding}
+use Rattle.mm_basic.proofs.Telling.{reads_told}
+use Rattle.mm_basic.proofs.Below.{basic_asked}
+use Rattle.mm_call.specs.Machine.{CallFinishes, CallReads}
+use Rattle.mm_machine.specs.declared.call.Stage.{Stage}
+use Rattle.mm_machine.specs.declared.call.Stage.TheVariants.{Begun}
 
 asks_writing : (flag fresh : Bool) (b : Batch) → ask_steps Basic flag fresh b ≡ Reading ∷ writing fresh b
 asks_writing flag true b = refl
@@ -31,7 +37,7 @@ few_acts (Change ready) = few_left ready.change
 
 -- what a call that found this came to from digests that the platform stood at
 module _ (meaning : Meaning) (offer : List ℕ) (b : Batch) (old middle new : Standing) (found : Result (Found BatchAnswer) Refusal) (ended : Ended)
-    (r : Reads meaning old middle offer b found) (e : EndsTo basic_call found middle new ended) where
+    (r : Finding meaning old middle offer b found) (e : EndsTo basic_call found middle new ended) where
   abbrev fates : List Fate
   fates = fate_of ReadCell old middle (fault_in found) r.goes ∷ ends_fates basic_call found middle new ended e
 
@@ -60,18 +66,30 @@ module _ (meaning : Meaning) (offer : List ℕ) (b : Batch) (old middle new : St
 -- a call from its first step to its end
 pub calls_to : (meaning : Meaning) (old new : Standing) (offer : List ℕ) (b : Batch) (ended : Ended)
     → AsksTo basic_call meaning old new offer b ended → CallsTo Basic meaning old new offer b ended
-calls_to meaning old new offer b ended a = found_to meaning offer b old a.middle new a.found ended a.reads a.ends
+calls_to meaning old new offer b ended a =
+    found_to meaning offer b old a.middle new a.found ended (reads_told meaning offer b old a.middle a.found a.reads) a.ends
 
 -- the reading step of a call, with the step that commits what it found, is the whole call
 pub prepared : (meaning : Meaning) (old new : Standing) (offer : List ℕ) (b : Batch) (found : Result (Found BatchAnswer) Refusal)
-    → Reads meaning old new offer b found → IsCallSoFar basic_call meaning old new offer b found
+    → CallReads (basic_asked meaning offer b) old new found → IsCallSoFar basic_call meaning old new offer b found
 prepared meaning old new offer b found r =
     so_far basic_call meaning old new offer b found
     (λ (after : Standing) (ended : Ended) (a : AsksTo basic_call meaning old after offer b ended).
     (calls_to meaning old after offer b ended a).calls) r
 
--- a whole call, by how it ended
+-- a call that was moved to its end
+module _ (meaning : Meaning) (offer : List ℕ) (b : Batch) where
+  pub finished_asks : (old new : Standing) (ended : Ended) → CallFinishes (basic_asked meaning offer b) Begun old new ended
+      → AsksTo basic_call meaning old new offer b ended
+  finished_asks old new ended f = completing.finished_asks Basic basic_asked meaning offer b (λ answer. refl) old new ended f
 
+  pub finished_to : (call : Stage BatchAnswer) (old new : Standing) (ended : Ended)
+      → CallFinishes (basic_asked meaning offer b) call old new ended → call ≡ Begun → CallsTo Basic meaning old new offer b ended
+  finished_to call old new ended f e =
+      calls_to meaning old new offer b ended
+      (finished_asks old new ended (subst (λ (s : Stage BatchAnswer). CallFinishes (basic_asked meaning offer b) s old new ended) e f))
+
+-- a whole call, by how it ended
 pub asked_by : (meaning : Meaning) → IsLawful meaning → (old new : Standing) (offer : List ℕ) (b : Batch) (ended : Ended)
     (result : Result BatchAnswer Refusal) → is_long b ≡ false → AsksTo basic_call meaning old new offer b ended
     → result ≡ result_of ended → AskedInBasic meaning old new offer b result

@@ -5,6 +5,5 @@ pub mod Answers
 pub mod Steps
 pub mod Operating
 pub mod Asks
-pub mod Complete
 pub mod Asked
 pub mod Moved

@@ -1,5 +1,5 @@
 -- What the machine is told of a call of Basic: it reads the cell alone, and writes it once.
-use Rattle.std.specs.Prelude.{◌≡◌, ℕ, false, List, Option, None, Some, Result, Ok, Err}
+use Rattle.std.specs.Prelude.{◌≡◌, ℕ, false, List, None, Result, Ok, Err}
 use Rattle.mm_machine.specs.Acts.{extends_in}
 use Rattle.mm_machine.specs.Asked.{Asked}
 use Rattle.mm_machine.specs.declared.call.Stage.{Stage}
@@ -29,8 +29,3 @@ basic_asked meaning offer b = record {
 abbrev pub ExtendsNothing : Stage BatchAnswer → Type 0
 ExtendsNothing (Changing ready) = extends_in ready.change ≡ false
 ExtendsNothing _ = Unit {0}
-
--- the position after the batch, once it is known
-abbrev pub position_in : Stage BatchAnswer → Option ℕ
-position_in (Changing ready) = Some ready.answer.position
-position_in _ = None

@@ -4,10 +4,12 @@ ghost use Rattle.std.specs.Prelude.{◌≡◌, true, false, IfOk, IfErr};
 ghost use Rattle.mm_module.specs.Batches.{batch_of};
 ghost use Rattle.mm_model.specs.Long.{is_long};
 ghost use Rattle.mm_machine.specs.declared.call.Stage.TheVariants.{Begun};
+ghost use Rattle.mm_call.specs.Turns.{turn_of};
+ghost use Rattle.mm_basic.specs.Moved.{StepExtendsNothing};
 
 use crate::operation::BasicAsk;
 use mm_call::{Ended, KeptKey};
-use mm_machine::{Stage, Step, advance, finish};
+use mm_machine::{Step, advance};
 use mm_model::{BatchAnswer, Refusal};
 use mm_module::{Batch, Module};
 use mm_platform::Platform;
@@ -33,15 +35,7 @@ impl Model for Call {
 }
 
 /// What one step of a call came to.
-#[derive(Drop)]
-pub enum Turn {
-    /// The call goes on, with its next step.
-    Going(Call),
-    /// The call is over: its last step was made.
-    Done(BatchAnswer),
-    /// The call is over: it was refused.
-    Refused(Refusal),
-}
+pub type Turn = mm_call::Turn<Call, BatchAnswer, Refusal>;
 
 /// Begins a call. Long exactly where the batch is too long to be asked. Takes no memory.
 #[inline(always)]
@@ -63,24 +57,13 @@ impl Call {
     ghost use Rattle.mm_module.specs.Batches.{batch_of};
     ghost use Rattle.mm_model.specs.Long.{is_long};
     ghost use Rattle.mm_machine.specs.Stepping.{number_of};
-    ghost use Rattle.mm_basic.specs.Moved.{AdvancedInBasic, FinishedInBasic};
-    ghost use Rattle.mm_basic.specs.Operating.{position_in};
+    ghost use Rattle.mm_basic.specs.Moved.{AdvancedInBasic};
 
     /// The number of the next device step, from 1.
     pub fn next_step(&self) -> u8
         ensures { result ≡ number_of 2 self.now }
     {
         self.call.next_step(2)
-    }
-
-    /// The position after the batch, once the cell was read.
-    pub fn position(&self) -> Option<u64>
-        ensures { result ≡ position_in self.now }
-    {
-        match self.call.stage() {
-            Stage::Changing(ready) => Some(ready.answer.position),
-            _ => None,
-        }
     }
 
     /// Makes the next device step. The first reads the cell, and runs the batch in memory; the last writes the
@@ -98,90 +81,25 @@ impl Call {
         ensures { AdvancedInBasic (M.meaning «module».now) self (P.standing platform.old)
             (P.standing platform.new) offer.now (batch_of batch.entry) result }
     {
-        self.advance_keeping(alloc, module, platform, offer, batch, &mut KeptKey::new())
-    }
-
-    /// `advance` with an absorbed key that the caller keeps between calls.
-    #[inline(always)]
-    pub fn advance_keeping<M: Module, P: Platform>(
-        self,
-        alloc: Global,
-        module: &M,
-        platform: &mut P,
-        offer: &[u8],
-        batch: Batch<'_>,
-        keys: &mut KeptKey,
-    ) -> Turn
-        requires { is_long (batch_of batch) ≡ false }
-        ensures { AdvancedInBasic (M.meaning «module».now) self (P.standing platform.old)
-            (P.standing platform.new) offer.now (batch_of batch.entry) result }
-    {
         let ask = BasicAsk {
             alloc,
             module,
             offer,
             batch,
         };
-        Turn::of(advance(&ask, self.call, platform, keys))
-    }
-
-    /// Moves the call to its end: what `advance` does, over and over. After the reading step it has no allocator.
-    pub fn finish<M: Module, P: Platform>(
-        self,
-        alloc: Global,
-        module: &M,
-        platform: &mut P,
-        offer: &[u8],
-        batch: Batch<'_>,
-    ) -> Ended
-        requires short { is_long (batch_of batch) ≡ false }
-        ensures { FinishedInBasic (M.meaning «module».now) self (P.standing platform.old)
-            (P.standing platform.new) offer.now (batch_of batch.entry) result }
-    {
-        self.finish_keeping(alloc, module, platform, offer, batch, &mut KeptKey::new())
-    }
-
-    /// `finish` with an absorbed key that the caller keeps between calls.
-    #[inline(always)]
-    pub fn finish_keeping<M: Module, P: Platform>(
-        self,
-        alloc: Global,
-        module: &M,
-        platform: &mut P,
-        offer: &[u8],
-        batch: Batch<'_>,
-        keys: &mut KeptKey,
-    ) -> Ended
-        requires short { is_long (batch_of batch) ≡ false }
-        ensures { FinishedInBasic (M.meaning «module».now) self (P.standing platform.old)
-            (P.standing platform.new) offer.now (batch_of batch.entry) result }
-    {
-        let ask = BasicAsk {
-            alloc,
-            module,
-            offer,
-            batch,
-        };
-        Ended::of(finish(&ask, self.call, platform, keys))
+        let keys = &mut KeptKey::new();
+        turn_of(advance(&ask, self.call, platform, keys))
     }
 }
 
-impl Turn {
-    ghost use Rattle.std.specs.Prelude.{◌≡◌};
-    ghost use Rattle.mm_basic.specs.Moved.{StepExtendsNothing, turn_of};
-
-    // What a step comes to.
-    #[inline(always)]
-    fn of(step: Step<BatchAnswer, Refusal>) -> Turn
-        requires { StepExtendsNothing step }
-        ensures { result ≡ turn_of step }
-    {
-        match step {
-            Step::Going(call) => Turn::Going(Call { call }),
-            Step::Over(end) => match Ended::of(end).result() {
-                Ok(answer) => Turn::Done(answer),
-                Err(refusal) => Turn::Refused(refusal),
-            },
-        }
+// What a step comes to.
+#[inline(always)]
+fn turn_of(step: Step<BatchAnswer, Refusal>) -> Turn
+    requires { StepExtendsNothing step }
+    ensures { result ≡ turn_of step }
+{
+    match step {
+        Step::Going(call) => Turn::Going(Call { call }),
+        Step::Over(end) => Turn::over(Ended::of(end).result()),
     }
 }

@@ -4,7 +4,7 @@ ghost use Rattle.std.specs.Prelude.{◌≡◌, ◌≤◌, ◌↔◌, false, None
 ghost use Rattle.std.specs.Str.{bytes_eq};
 ghost use Rattle.mm_base.specs.Limits.{last_position};
 ghost use Rattle.mm_digest.specs.declared.variant.Variant.TheVariants.{Basic};
-ghost use Rattle.mm_module.specs.Batch.{Many, normal};
+ghost use Rattle.mm_module.specs.Batch.{normal};
 ghost use Rattle.mm_module.specs.Batches.{batch_of};
 ghost use Rattle.mm_seal.specs.Cell.{FitsVariant};
 ghost use Rattle.mm_seal.specs.Snapshot.{variant_of};
@@ -56,10 +56,7 @@ pub fn find<M: Module>(
 fn is_of(cell: &Cell, id: u8) -> bool
     ensures { IsTrue result ↔ IsCellOf id cell.now }
 {
-    if cell.variant != Variant::Basic {
-        return false;
-    }
-    cell.module == id
+    cell.variant == Variant::Basic && cell.module == id
 }
 
 // What is found in a cell and an offer, each of Basic and of the module.
@@ -81,10 +78,7 @@ fn weigh<M: Module>(
     let next = link(&here, ask.batch);
     let verdict = verdict(&cell.summary, &here, &next);
     let key = keys.under(&cell.key);
-    let again = match examine(ask.module, key, offered, ask.batch, verdict) {
-        Err(refusal) => return Err(refusal),
-        Ok(again) => again,
-    };
+    let again = examine(ask.module, key, offered, ask.batch, verdict)?;
     let answer = match answer(
         ask.alloc,
         ask.module,
@@ -125,20 +119,8 @@ fn link(summary: &Digest, batch: Batch<'_>) -> Digest
     ensures { result.bytes ≡ link summary.now.bytes (normal (batch_of batch.entry)) }
 {
     match batch {
-        Batch::One(request) => successor(summary, request),
-        Batch::Many(text) => link_text(summary, text),
-    }
-}
-
-// The summary after the requests between the TABs of a text.
-#[tactic(auto, using(crate::proofs::Below::links))]
-fn link_text(summary: &Digest, text: &[u8]) -> Digest
-    ensures { result.bytes ≡ link summary.now.bytes (normal (Many text.now)) }
-{
-    if has_tab(text) {
-        successor_batch(summary, text)
-    } else {
-        successor(summary, text)
+        Batch::Many(text) if has_tab(text) => successor_batch(summary, text),
+        Batch::Many(text) | Batch::One(text) => successor(summary, text),
     }
 }
 

@@ -7,10 +7,10 @@ ghost use Rattle.mm_model.specs.InstanceWords.{basic};
 ghost use Rattle.mm_model.specs.Standing.{cell_of, issued_bytes};
 
 use mm_base::Memory;
-use mm_call::Provisioned;
+use mm_call::{Provisioned, provision_with};
 use mm_digest::{Variant, start, zero};
 use mm_module::Module;
-use mm_seal::{Body, Cell, Place, cell_bytes, seal};
+use mm_seal::{Cell, Place};
 use std::alloc::Global;
 
 /// The first cell and snapshot of a module under a key. Basic has no barrier, and ignores it.
@@ -28,27 +28,16 @@ pub fn provision<M: Module>(
 {
     let id = module.id();
     let summary = start(Variant::Basic, id);
-    let state = module.first_state(alloc)?;
-    let snapshot = seal(
-        alloc,
-        key,
-        &Body {
-            module: id,
-            place: Place::Basic(summary),
-            position: 0,
-            state: state.as_slice(),
-        },
-    )?;
+    let key = *key;
     let barrier = zero();
     let barrier = barrier.bytes;
-    let key = *key;
-    let cell = cell_bytes(&Cell {
+    let cell = Cell {
         variant: Variant::Basic,
         module: id,
         flag: false,
         summary,
         key,
         barrier,
-    });
-    Ok(Provisioned { cell, snapshot })
+    };
+    provision_with(alloc, module, &cell, Place::Basic(summary))
 }

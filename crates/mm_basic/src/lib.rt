@@ -10,6 +10,6 @@ mod whole;
 
 pub use call::{Call, Turn, begin};
 pub use first::provision;
-pub use mm_call::Provisioned;
+pub use mm_call::{Committed, Provisioned};
 pub use operation::BasicAsk;
-pub use whole::{Committed, Prepared, ask, ask_batch, ask_keeping, prepare};
+pub use whole::{Prepared, ask, ask_batch, ask_keeping, prepare};

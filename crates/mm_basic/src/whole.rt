@@ -1,6 +1,6 @@
 //! Whole calls.
 
-ghost use Rattle.std.specs.Prelude.{◌≡◌, true, false, Err, IfOk};
+ghost use Rattle.std.specs.Prelude.{◌≡◌, true, false, Err};
 ghost use Rattle.std.specs.Result.{result_err};
 ghost use Rattle.mm_module.specs.Batch.{One};
 ghost use Rattle.mm_module.specs.Batches.{batch_of};
@@ -8,16 +8,14 @@ ghost use Rattle.mm_model.specs.Long.{is_long};
 ghost use Rattle.mm_call.specs.Refusals.{fault_in};
 ghost use Rattle.mm_call.specs.Calls.{Commits, IsCallSoFar};
 ghost use Rattle.mm_call.specs.Leaving.{Blames, whole_in};
-ghost use Rattle.mm_machine.specs.Acts.{extends_in};
-ghost use Rattle.mm_machine.specs.Reading.{extends};
-ghost use Rattle.mm_machine.specs.declared.operation.Found.TheVariants.{Change};
+ghost use Rattle.mm_call.specs.Machine.{CallReads, acts_for, answer_in};
 ghost use Rattle.mm_basic.specs.Asked.{AskedInBasic};
 ghost use Rattle.mm_basic.specs.Asks.{basic_call};
-ghost use Rattle.mm_basic.specs.Steps.{Reads};
+ghost use Rattle.mm_basic.specs.Operating.{basic_asked};
 
 use crate::operation::BasicAsk;
-use mm_call::{Ended, KeptKey, refusal_of};
-use mm_machine::{Call, Found, Ready, finish, read};
+use mm_call::{Committed, KeptKey, commit, finish_call, read_call};
+use mm_machine::Found;
 use mm_model::{Answer, BatchAnswer, Refusal};
 use mm_module::{Batch, Module};
 use mm_platform::{Platform, StepFault};
@@ -43,20 +41,6 @@ impl Model for Prepared {
     ghost invariant = { λ prepared. extends prepared.found ≡ false };
 }
 
-/// A call whose batch is committed. Contracts see its answer.
-#[derive(Drop)]
-pub struct Committed {
-    answer: BatchAnswer,
-}
-
-impl Model for Committed {
-    ghost use Rattle.mm_model.specs.declared.answer.BatchAnswer.{BatchAnswer};
-
-    ghost Value = { BatchAnswer };
-
-    ghost view = { λ committed. committed.answer };
-}
-
 /// Makes the reading step of a call that asks for one request, and runs the request in memory.
 pub fn prepare<M: Module, P: Platform>(
     alloc: Global,
@@ -68,8 +52,8 @@ pub fn prepare<M: Module, P: Platform>(
     ensures long { is_long (One request.now) ≡ true →
         (result ≡ Err Refusal.Long) × (P.standing platform.new ≡ P.standing platform.old) }
     ensures reads { is_long (One request.now) ≡ false →
-        Reads (M.meaning «module».now) (P.standing platform.old) (P.standing platform.new)
-        offer.now (One request.now) result }
+        CallReads (basic_asked (M.meaning «module».now) offer.now (One request.now))
+        (P.standing platform.old) (P.standing platform.new) result }
     ensures goes { is_long (One request.now) ≡ false →
         IsCallSoFar basic_call (M.meaning «module».now) (P.standing platform.old) (P.standing platform.new)
         offer.now (One request.now) result }
@@ -86,85 +70,22 @@ pub fn prepare<M: Module, P: Platform>(
         offer,
         batch,
     };
-    match read_alone(&ask, platform) {
+    let mut keys = KeptKey::new();
+    match read_call(&ask, platform, &mut keys) {
         Err(refusal) => Err(refusal),
         Ok(found) => Ok(Prepared { found }),
-    }
-}
-
-// Makes the reading step under a key that is absorbed for it alone.
-fn read_alone<M: Module, P: Platform>(
-    ask: &BasicAsk<'_, M>,
-    platform: &mut P,
-) -> Result<Found<BatchAnswer>, Refusal>
-    ensures reads { Reads (M.meaning ask.now.«module».now) (P.standing platform.old)
-        (P.standing platform.new) ask.now.offer.now (batch_of ask.now.batch) result }
-    ensures extends { IfOk result (λ found. extends found ≡ false) }
-{
-    read_keeping(ask, platform, &mut KeptKey::new())
-}
-
-fn read_keeping<M: Module, P: Platform>(
-    ask: &BasicAsk<'_, M>,
-    platform: &mut P,
-    keys: &mut KeptKey,
-) -> Result<Found<BatchAnswer>, Refusal>
-    ensures reads { Reads (M.meaning ask.now.«module».now) (P.standing platform.old)
-        (P.standing platform.new) ask.now.offer.now (batch_of ask.now.batch) result }
-    ensures extends { IfOk result (λ found. extends found ≡ false) }
-{
-    match read(ask, platform, keys) {
-        Ok(found) => Ok(found),
-        Err(halt) => Err(refusal_of(halt)),
     }
 }
 
 impl Prepared {
     /// Makes the writing step, which commits the request; a repeat has none. Takes no memory.
     pub fn commit<P: Platform>(self, platform: &mut P) -> Result<Committed, StepFault>
-        ensures commits { Commits basic_call self
+        ensures commits { Commits (acts_for self) (answer_in self)
             (P.standing platform.old) (P.standing platform.new) result }
         ensures faults { Blames (result_err result)
             (P.standing platform.old).faults (P.standing platform.new).faults }
     {
-        commit_found(self.found, platform)
-    }
-}
-
-fn commit_found<P: Platform>(
-    found: Found<BatchAnswer>,
-    platform: &mut P,
-) -> Result<Committed, StepFault>
-    requires { extends found ≡ false }
-    ensures { Commits basic_call found (P.standing platform.old) (P.standing platform.new) result }
-{
-    match found {
-        Found::Repeat(answer) => Ok(Committed { answer }),
-        Found::Change(ready) => commit_ready(ready, platform),
-    }
-}
-
-fn commit_ready<P: Platform>(
-    ready: Ready<BatchAnswer>,
-    platform: &mut P,
-) -> Result<Committed, StepFault>
-    requires { extends_in ready.change ≡ false }
-    ensures { Commits basic_call (Change ready) (P.standing platform.old) (P.standing platform.new)
-        result }
-{
-    let Ready { change, answer } = ready;
-    match change.make(platform) {
-        Err(fault) => Err(fault),
-        Ok(_) => Ok(Committed { answer }),
-    }
-}
-
-impl Committed {
-    /// The answer. Takes no memory.
-    pub fn answer(self) -> BatchAnswer
-        ensures { result ≡ self }
-    {
-        self.answer
+        commit(self.found, platform)
     }
 }
 
@@ -190,7 +111,7 @@ fn ask_batch_keeping<M: Module, P: Platform>(
         offer,
         batch,
     };
-    Ended::of(finish(&ask, Call::begin(), platform, keys)).result()
+    finish_call(&ask, platform, keys).result()
 }
 
 /// One call: asks for a batch of requests, offering a snapshot. A new batch is committed whole or not at all, and

@@ -168,6 +168,14 @@ steps_blamed (act ∷ acts) answer old new ended (goes_on middle g s) =
 steps_blamed (act ∷ acts) answer old new ended (breaks_off fault g e) =
     rw e (blamed (Some fault) old new g.is_made g.ends)
 
+-- what is left of a call behind the steps that read
+pub ends_blamed : {F : Type 0} → (c : CallOf F) (found : Result F Refusal) (old middle new : Standing) (ended : Ended)
+    → Blames (fault_in found) old.faults middle.faults → EndsTo c found middle new ended → BlamesFor old new ended
+ends_blamed c (Err why) old middle new ended blames e = rw (e.0, e.1, refused_result why) blames
+ends_blamed c (Ok found) old middle new ended blames e =
+    blamed_later (fault_in (result_of ended)) old.faults middle.faults new.faults blames
+    (steps_blamed (c.acts found) (c.answer found) middle new ended e)
+
 pub reading_blamed : {F : Type 0} → (c : CallOf F) (found : Result F Refusal) (act : Act) (old after middle new : Standing) (ended : Ended)
     → Goes act old after (fault_in found) → middle ≡ record after { spare = middle.spare } → EndsTo c found middle new ended
     → BlamesFor old new ended

@@ -232,7 +232,8 @@ module _ {F : Type 0} (c : CallOf F) (meaning : Meaning) (old new : Standing) (o
   so_far (Err why) on r =
       subst (λ (x : Result BatchAnswer Refusal). CallsOn c.variant meaning old new offer b x) (refused_result why)
       (on new (refused_as why) (record { middle = new; found = Err why; reads = r; ends = (refl, refl) }))
-  so_far (Ok found) on r = λ (after : Standing) (written : Result BatchAnswer StepFault) (k : Commits c found new after written).
+  so_far (Ok found) on r = λ (after : Standing) (written : Result BatchAnswer StepFault)
+      (k : Commits (c.acts found) (c.answer found) new after written).
       subst (λ (x : Result BatchAnswer Refusal). CallsOn c.variant meaning old after offer b x) k.gives
       (on after k.ended (record { middle = new; found = Ok found; reads = r; ends = k.ends }))
 
@@ -269,9 +270,9 @@ module _ {F : Type 0} (c : CallOf F) where
   ends_untouched (Ok found) old middle new ended e h =
       given_untouched ended (c.answer found) old new (steps_give (c.acts found) (c.answer found) middle new ended e)
 
-  -- who is to blame, where only the steps that commit were made
-  pub commits_blamed : (found : F) (old new : Standing) (written : Result BatchAnswer StepFault) → Commits c found old new written
-      → Blames (result_err written) old.faults new.faults
-  commits_blamed found old new written k =
-      subst (λ (f : Option StepFault). Blames f old.faults new.faults) (ap fault_in k.gives ∙ fault_handed written)
-      (steps_blamed (c.acts found) (c.answer found) old new k.ended k.ends)
+-- who is to blame, where only the steps that commit were made
+pub commits_blamed : (acts : List Act) (answer : BatchAnswer) (old new : Standing) (written : Result BatchAnswer StepFault)
+    → Commits acts answer old new written → Blames (result_err written) old.faults new.faults
+commits_blamed acts answer old new written k =
+    subst (λ (f : Option StepFault). Blames f old.faults new.faults) (ap fault_in k.gives ∙ fault_handed written)
+    (steps_blamed acts answer old new k.ended k.ends)

@@ -14,6 +14,7 @@ mod OptLaw
 mod Checkpoints
 mod Committing
 mod Completing
+mod Untouched
 mod Coming
 pub mod OptAlike
 mod OptShown

@@ -11,7 +11,7 @@ use Rattle.mm_model.specs.declared.refusal.Refusal.{Refusal}
 use Rattle.mm_machine.specs.Acts.{acts_left}
 use Rattle.mm_machine.specs.Asked.{Asked}
 use Rattle.mm_machine.specs.Finishing as machine
-use Rattle.mm_machine.specs.Reading.{Draws, CellSays, FindsOn, Looks, RegisterSays, RoomFor, Rooms, Weighs, extends}
+use Rattle.mm_machine.specs.Reading.{Draws, CellSays, FindsOn, FindsRoom, Looks, Reads, RegisterSays, RoomFor, Rooms, Weighs, extends}
 use Rattle.mm_machine.specs.Stepping.{SightLeads, Steps, act_of, ended_by, step_found, step_made}
 use Rattle.mm_machine.specs.declared.call.Ended.{Ended as End}
 use Rattle.mm_machine.specs.declared.call.Stage.{Stage}
@@ -28,11 +28,13 @@ use Rattle.mm_machine.specs.declared.reading.Halt.{Halt}
 use Rattle.mm_machine.specs.declared.reading.Halt.TheVariants.{Fault, Refused, Lacks}
 use Rattle.mm_call.specs.Calls.{CallOf}
 use Rattle.mm_call.specs.Ended.{result_of}
-use Rattle.mm_call.specs.LeavingLaws.{blamed_later}
-use Rattle.mm_call.specs.Machine.{call_of, end_told, found_told, halt_told}
+use Rattle.mm_call.specs.Leaving.{Blames}
+use Rattle.mm_call.specs.LeavingLaws.{blamed, blamed_later}
+use Rattle.mm_call.specs.Machine.{CallReads, call_of, end_told, found_told, halt_told}
 use Rattle.mm_call.specs.Refusals.{fault_in, fault_of}
+use Rattle.mm_call.specs.Turns.{CallTurn, CallTurns, turn_fault, turn_of, turn_with}
 use Rattle.mm_call.specs.declared.ended.Ended.{Ended}
-use Rattle.mm_call.proofs.Committing.{BlamesFor, reading_blamed, refused_result, steps_blamed}
+use Rattle.mm_call.proofs.Committing.{BlamesFor, ends_blamed, refused_result, steps_blamed}
 use Rattle.mm_call.proofs.Machine.{acts_told, ends_told, halted_told}
 
 -- an operation whose refusals hand no device's fault on, and whose answers tell their own position
@@ -94,14 +96,24 @@ found_fault (Err why) = halt_fault why
 found_fault (Ok (Repeat answer)) = refl
 found_fault (Ok (Change ready)) = refl
 
+-- a turn hands on the fault of its step
+
+with_fault : (given : Result BatchAnswer Refusal) → turn_fault (turn_with given) ≡ fault_in given
+with_fault (Ok answer) = refl
+with_fault (Err why) = refl
+
+pub turn_hands : (step : Step BatchAnswer Refusal) → turn_fault (turn_of step) ≡ step_fault step
+turn_hands (Going stage) = refl
+turn_hands (Over end) = with_fault (result_of (end_told end))
+
 module _ (o : Asked BatchAnswer Refusal) (quiet : IsQuiet o) where
-  looks_goes : (old new : Standing) (seen : Result (Sight BatchAnswer) (Halt Refusal)) → Looks o old new seen
+  pub looks_goes : (old new : Standing) (seen : Result (Sight BatchAnswer) (Halt Refusal)) → Looks o old new seen
       → Goes ReadCell old new (fault_in (found_told seen))
   looks_goes old new seen l =
       let says : Result (Sight BatchAnswer) Refusal → Type 0 = λ x. CellSays old (λ bytes. o.sees bytes x) in
       draws_goes (Goes ReadCell old new) says (λ (why : Refusal) (s : says (Err why)). quiet.sees s.bytes why s.said) seen l
 
-  weighs_goes : (cell : Cell) (old new : Standing) (found : Result (Found BatchAnswer) (Halt Refusal)) → Weighs o cell old new found
+  pub weighs_goes : (cell : Cell) (old new : Standing) (found : Result (Found BatchAnswer) (Halt Refusal)) → Weighs o cell old new found
       → Goes ReadRegister old new (fault_in (found_told found))
   weighs_goes cell old new found w =
       let says : Result (Found BatchAnswer) Refusal → Type 0 = λ x. RegisterSays new (λ register. o.finds cell register x) in
@@ -151,41 +163,64 @@ module _ (o : Asked BatchAnswer Refusal) (quiet : IsQuiet o) where
     room = refl;
   }
 
-  -- the count of faults rises where what is left of a call hands one on
+  step_blamed : (stage : Stage BatchAnswer) (old new : Standing) (step : Step BatchAnswer Refusal) → Steps o stage old new step
+      → Blames (step_fault step) old.faults new.faults
+  step_blamed stage old new step s =
+      let by = steps_by stage old new step s in
+      rw (ap (λ (x : Standing). x.faults) by.room) (blamed (step_fault step) old by.middle by.goes.is_made by.goes.ends)
+
+  -- and where a turn does
+  pub turn_blamed : (stage : Stage BatchAnswer) (old new : Standing) (turn : CallTurn) → CallTurns o stage old new turn
+      → Blames (turn_fault turn) old.faults new.faults
+  turn_blamed stage old new turn t = rw (t.gives, turn_hands t.step) (step_blamed stage old new t.step t.steps)
+
+  -- the count of faults rises where the reading steps hand one on
+
+  rooms_blamed : (act : Act) (old middle new : Standing) (found given : Result (Found BatchAnswer) (Halt Refusal))
+      → Goes act old middle (fault_in (found_told found)) → Rooms found middle new given
+      → Blames (fault_in (found_told given)) old.faults new.faults
+  rooms_blamed act old middle new found given g r =
+      rw (← rooms_fault middle new found given r, rooms_made middle new found given r)
+      (blamed (fault_in (found_told found)) old middle g.is_made g.ends)
+
+  weighs_blamed : (cell : Cell) (old new : Standing) (given : Result (Found BatchAnswer) (Halt Refusal))
+      → FindsRoom (Weighs o cell old) new given → Blames (fault_in (found_told given)) old.faults new.faults
+  weighs_blamed cell old new given f =
+      rooms_blamed ReadRegister old f.middle new f.found given (weighs_goes cell old f.middle f.found f.finds) f.rooms
+
+  sight_blamed : (old middle new : Standing) (seen : Result (Sight BatchAnswer) (Halt Refusal))
+      (given : Result (Found BatchAnswer) (Halt Refusal)) → Goes ReadCell old middle (fault_in (found_told seen))
+      → FindsOn o seen middle new given → Blames (fault_in (found_told given)) old.faults new.faults
+  sight_blamed old middle new (Err why) given g f = rooms_blamed ReadCell old middle new (Err why) given g f
+  sight_blamed old middle new (Ok (sight.Found found)) given g f = rooms_blamed ReadCell old middle new (Ok found) given g f
+  sight_blamed old middle new (Ok (sight.Cell cell)) given g f =
+      blamed_later (fault_in (found_told given)) old.faults middle.faults new.faults g.ends.faults (weighs_blamed cell middle new given f)
+
+  given_blamed : (old new : Standing) (given : Result (Found BatchAnswer) (Halt Refusal)) → Reads o old new given
+      → Blames (fault_in (found_told given)) old.faults new.faults
+  given_blamed old new given r = sight_blamed old r.middle new r.seen given (looks_goes old r.middle r.seen r.looks) r.on
+
+  pub reads_blamed : (old new : Standing) (found : Result (Found BatchAnswer) Refusal) → CallReads o old new found
+      → Blames (fault_in found) old.faults new.faults
+  reads_blamed old new found r = rw r.gives (given_blamed old new r.given r.reads)
+
+  -- and where what is left of a call does
+
   abbrev any_call : CallOf (Found BatchAnswer)
-  any_call = call_of Basic (λ meaning old new offer b found. Unit {0})
+  any_call = call_of Basic (λ meaning offer b. o)
 
-  found_blamed : (act : Act) (old after middle new : Standing) (found given : Result (Found BatchAnswer) (Halt Refusal))
-      (end : End BatchAnswer Refusal) → Goes act old after (fault_in (found_told found)) → Rooms found after middle given
-      → machine.EndsTo o given middle new end → BlamesFor old new (end_told end)
-  found_blamed act old after middle new found given end g r e =
-      reading_blamed any_call (found_told given) act old after middle new (end_told end)
-      (subst (Goes act old after) (rooms_fault after middle found given r) g) (rooms_made after middle found given r)
-      (ends_told o quiet.tells Basic any_call.reads given middle new end e)
-
-  weighs_blamed : (cell : Cell) (old middle new : Standing) (given : Result (Found BatchAnswer) (Halt Refusal))
-      (end : End BatchAnswer Refusal) → FindsOn o (Ok (sight.Cell cell)) old middle given
-      → machine.EndsTo o given middle new end → BlamesFor old new (end_told end)
-  weighs_blamed cell old middle new given end f e =
-      found_blamed ReadRegister old f.middle middle new f.found given end (weighs_goes cell old f.middle f.found f.finds) f.rooms e
-
-  sight_blamed : (old after middle new : Standing) (seen : Result (Sight BatchAnswer) (Halt Refusal))
-      (given : Result (Found BatchAnswer) (Halt Refusal)) (end : End BatchAnswer Refusal)
-      → Goes ReadCell old after (fault_in (found_told seen)) → FindsOn o seen after middle given
-      → machine.EndsTo o given middle new end → BlamesFor old new (end_told end)
-  sight_blamed old after middle new (Err why) given end g f e = found_blamed ReadCell old after middle new (Err why) given end g f e
-  sight_blamed old after middle new (Ok (sight.Found found)) given end g f e =
-      found_blamed ReadCell old after middle new (Ok found) given end g f e
-  sight_blamed old after middle new (Ok (sight.Cell cell)) given end g f e =
-      blamed_later (fault_in (result_of (end_told end))) old.faults after.faults new.faults g.ends.faults
-      (weighs_blamed cell after middle new given end f e)
+  given_ends : (old middle new : Standing) (given : Result (Found BatchAnswer) (Halt Refusal)) (end : End BatchAnswer Refusal)
+      → Blames (fault_in (found_told given)) old.faults middle.faults → machine.EndsTo o given middle new end
+      → BlamesFor old new (end_told end)
+  given_ends old middle new given end blames e =
+      ends_blamed any_call (found_told given) old middle new (end_told end) blames
+      (ends_told Basic (λ meaning offer b. o) o quiet.tells given middle new end e)
 
   pub finish_blamed : (stage : Stage BatchAnswer) (old new : Standing) (end : End BatchAnswer Refusal)
       → machine.Finishes o stage old new end → BlamesFor old new (end_told end)
-  finish_blamed Begun old new end f =
-      let r = f.finds in
-      sight_blamed old r.middle f.middle new r.seen f.found end (looks_goes old r.middle r.seen r.looks) r.on f.ends
-  finish_blamed (Seen cell) old new end f = weighs_blamed cell old f.middle new f.found end f.finds f.ends
+  finish_blamed Begun old new end f = given_ends old f.middle new f.found end (given_blamed old f.middle f.found f.finds) f.ends
+  finish_blamed (Seen cell) old new end f =
+      given_ends old f.middle new f.found end (weighs_blamed cell old f.middle f.found f.finds) f.ends
   finish_blamed (Changing ready) old new end f =
       steps_blamed (acts_left ready.change) ready.answer old new (end_told end)
-      (acts_told o quiet.tells (acts_left ready.change) ready.answer old new end f)
+      (acts_told (o.position ready.answer) ready.answer (quiet.tells ready.answer) (acts_left ready.change) old new end f)

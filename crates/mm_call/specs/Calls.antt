@@ -66,11 +66,11 @@ pub record Calls {F : Type 0} (c : CallOf F) (meaning : Meaning) (old new : Stan
   pub long : is_long b ≡ true → (new ≡ old) × (result ≡ Err Long)
   pub asks : is_long b ≡ false → Asks c meaning old new offer b result
 
--- The steps that commit what was found, by what they give.
-pub record Commits {F : Type 0} (c : CallOf F) (found : F) (old new : Standing)
+-- The steps that commit what was found, of which this is the answer, by what they give.
+pub record Commits (acts : List Act) (answer : BatchAnswer) (old new : Standing)
     (written : Result BatchAnswer StepFault) : Type 0 where
   pub ended : Ended
-  pub ends : EndsTo c (Ok found) old new ended
+  pub ends : StepsTo acts answer old new ended
   pub gives : result_of ended ≡ handed_on written
 
 -- A call that is made in two parts. Where its reading steps refuse, that was the whole call, by
@@ -81,5 +81,6 @@ abbrev pub IsCallSoFar : {F : Type 0} → CallOf F → Meaning → Standing → 
 IsCallSoFar c meaning old new offer b (Err why) =
     CallsOn c.variant meaning old new offer b (Err why)
 IsCallSoFar c meaning old new offer b (Ok found) =
-    (after : Standing) (written : Result BatchAnswer StepFault) → Commits c found new after written
+    (after : Standing) (written : Result BatchAnswer StepFault)
+    → Commits (c.acts found) (c.answer found) new after written
     → CallsOn c.variant meaning old after offer b (handed_on written)

@@ -17,8 +17,12 @@ pub mod Checkpoints
 pub mod Ended
 pub mod Calls
 pub mod Machine
+pub mod Turns
 pub mod Tied
 pub mod Premises
+pub mod Counts
+pub mod Complete
+pub mod AskedIn
 pub mod CoursesWords
 pub mod FoundWords
 pub mod CheckpointsWords

@@ -11,13 +11,17 @@ mod examining;
 mod first;
 mod laws;
 mod run;
+mod turn;
+mod whole;
 
 pub use ended::{Ended, refusal_of};
 pub use examining::examine;
-pub use first::Provisioned;
+pub use first::{Provisioned, provision_with};
 pub use laws::{
     basic_calls_agree, basic_checkpoints_agree, opt_calls_agree, opt_checkpoints_agree, opt_tied,
     trails_lead,
 };
 pub use mm_seal::KeptKey;
 pub use run::{Ran, answer, run_batch};
+pub use turn::Turn;
+pub use whole::{Committed, commit, finish_call, read_call};

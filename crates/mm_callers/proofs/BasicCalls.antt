@@ -1,14 +1,15 @@
 -- Basic: what a call leaves, and the callers' clauses, from those of their calls.
-use Rattle.mm_callers.proofs.Below.{◌≡◌, ℕ, List, [], Result, Ok, Err, refl, sym, subst, inl, inr, Basic, StepFault, Standing, Meaning}
-use Rattle.mm_callers.proofs.Below.{IsLawful, Batch, One, Within, offer_messages, issued, basic, History, IsFit, StandsFor, BatchAnswer}
+use Rattle.mm_callers.proofs.Below.{◌≡◌, ℕ, List, [], Result, Ok, Err, refl, sym, subst, inl, inr, StepFault, Standing, Meaning}
+use Rattle.mm_callers.proofs.Below.{IsLawful, Batch, One, Within, offer_messages, issued, basic, History, StandsFor, BatchAnswer}
 use Rattle.mm_callers.proofs.Below.{Refusal, Device, basic_issued, called, Blames, by_lists, basic_content, AreAsked, fault_of}
 use Rattle.mm_callers.proofs.Below.{foreign_made, basic_asked, basic_comes, names_made, IsOnce, AsksAgain, AreAskedNext, AsksTwice}
 use Rattle.mm_callers.proofs.Below.{in_first}
-use Rattle.mm_callers.proofs.Leaving.{Call, by_length, once, IsCalm, Left, asked_on, left_long, left_short, ends_once, ends_again}
+use Rattle.mm_callers.proofs.Leaving.{by_length, once, IsCalm, Left, asked_on, left_long, left_short, ends_once, ends_again}
+use Rattle.mm_basic.specs.Asked.{AskedInBasic}
 use Rattle.mm_callers.proofs.Leaving.{ends_next, asked_next}
 
 module _ {meaning : Meaning} {old new : Standing} {offer request : List ℕ} {result : Result BatchAnswer Refusal}
-    (call : Call Basic meaning old new offer request result) where
+    (call : AskedInBasic meaning old new offer (One request) result) where
   left : (key : List ℕ) (y : History) (all others : List (List ℕ)) (asked : List Batch) → StandsFor (basic meaning key) old y
       → AreAsked all others asked (basic meaning key) y offer (One request)
       → Left all others asked (basic meaning key) y new offer (One request) result
@@ -25,21 +26,21 @@ module _ {meaning : Meaning} {old new : Standing} {offer request : List ℕ} {re
 
   -- one call
   pub asked_once : AsksAgain meaning old new offer request result
-  asked_once key y all others asked s a = ends_once old a result call.counts.faults (left key y all others asked s a)
+  asked_once key y all others asked s a = ends_once old a result call.faults (left key y all others asked s a)
 
 -- a call that is made once more
 pub asked_after_fault : {meaning : Meaning} {old middle new : Standing} {offer request : List ℕ} {first : Refusal} {fault : StepFault}
-    {result : Result BatchAnswer Refusal} → first ≡ Device fault → Call Basic meaning old middle offer request (Err first)
-    → Call Basic meaning middle new offer request result → AsksAgain meaning old new offer request result
+    {result : Result BatchAnswer Refusal} → first ≡ Device fault → AskedInBasic meaning old middle offer (One request) (Err first)
+    → AskedInBasic meaning middle new offer (One request) result → AsksAgain meaning old new offer request result
 asked_after_fault {meaning = meaning} {old = old} {middle = middle} {result = result} is before call key y all others asked s a =
     let x = (left before key y all others asked s a).leaves in
-    ends_again old a result (subst (λ (w : Refusal). Blames (fault_of w) old.faults middle.faults) is before.counts.faults)
-    call.counts.faults x
+    ends_again old a result (subst (λ (w : Refusal). Blames (fault_of w) old.faults middle.faults) is before.faults)
+    call.faults x
     (left call key x.after all others asked x.stands (asked_on all others asked (basic meaning key) x.within x.names a))
 
 -- two calls, the second on the snapshot of the first answer
 pub refused_first : {meaning : Meaning} {old new : Standing} {offer first : List ℕ} {why : Refusal} (second : List ℕ)
-    → Call Basic meaning old new offer first (Err why) → AsksTwice meaning old new offer first second (Err why)
+    → AskedInBasic meaning old new offer (One first) (Err why) → AsksTwice meaning old new offer first second (Err why)
 refused_first second call key y all others asked s a n = in_first (asked_once call key y all others asked s a)
 
 next_listed : (meaning : Meaning) (key : List ℕ) (all : List (List ℕ)) (asked : List Batch) (y after : History) (first second : Batch)
@@ -49,11 +50,11 @@ next_listed meaning key all asked y after first second n (inl more) = rw more n.
 next_listed meaning key all asked y after first second n (inr same) = rw same.0 n.after_repeat
 
 pub asked_twice : {meaning : Meaning} {old middle new : Standing} {offer next first second : List ℕ} {one : BatchAnswer}
-    {result : Result BatchAnswer Refusal} → IsLawful meaning → Call Basic meaning old middle offer first (Ok one) → IsFit (One first) one
-    → next ≡ one.snapshot → Call Basic meaning middle new next second result → AsksTwice meaning old new offer first second result
-asked_twice {meaning = meaning} {old = old} {first = first} {second = second} {one = one} {result = result} lawful before fit e call key y
+    {result : Result BatchAnswer Refusal} → IsLawful meaning → AskedInBasic meaning old middle offer (One first) (Ok one)
+    → next ≡ one.snapshot → AskedInBasic meaning middle new next (One second) result → AsksTwice meaning old new offer first second result
+asked_twice {meaning = meaning} {old = old} {first = first} {second = second} {one = one} {result = result} lawful before e call key y
     all others asked s a n =
     let x = (left before key y all others asked s a).leaves in
-    let so = asked_next old a x.within x.comes fit e (basic_content meaning lawful key x.after) (basic_issued meaning key x.after)
+    let so = asked_next old a x.within x.comes before.fits e (basic_content meaning lawful key x.after) (basic_issued meaning key x.after)
     n.is_asked (next_listed meaning key all asked y x.after (One first) (One second) n ((once x.comes).answers one refl).0) in
-    ends_next old a result before.counts.faults call.counts.faults e x so.0 (left call key x.after all others asked x.stands so.1)
+    ends_next old a result before.faults call.faults e x so.0 (left call key x.after all others asked x.stands so.1)

@@ -14,6 +14,7 @@ pub use Rattle.mm_seal.specs.Snapshot.{Content, IsContent, sealed_of}
 pub use Rattle.mm_platform.specs.Standing.{foreign_item, Item, item_values, Standing}
 pub use Rattle.mm_platform.specs.Told.{quiet_plan}
 pub use Rattle.mm_platform.specs.declared.fault.StepFault.{StepFault}
+pub use Rattle.mm_machine.specs.declared.operation.Found.{Found as Given}
 pub use Rattle.mm_module.specs.Batch.{Batch, One}
 pub use Rattle.mm_module.specs.Meaning.{IsLawful, Meaning}
 pub use Rattle.mm_model.specs.BatchLaws.{at_the_end, before_the_last, total-push}
@@ -38,11 +39,14 @@ pub use Rattle.mm_model.specs.declared.refusal.Refusal.TheVariants.{Device, Long
 pub use Rattle.mm_model.specs.declared.verdict.Verdict.{Verdict}
 pub use Rattle.mm_model.proofs.Above.{basic_issued, opt_issued, opt_names}
 pub use Rattle.mm_call.specs.Asked.{counted_moves, counted_part, foreign_in, IsAsked, IsWithin, moves_messages, right_messages}
+pub use Rattle.mm_call.specs.AskedIn.{AskedIn}
 pub use Rattle.mm_call.specs.Called.{called, Called, ended_by, given_for, reading_steps, seen_at}
 pub use Rattle.mm_call.specs.CalledWords.{called_with}
+pub use Rattle.mm_call.specs.Calls.{CallOf}
 pub use Rattle.mm_call.specs.CallsOn.{CallContinues, CallsOn}
 pub use Rattle.mm_call.specs.Checkpoints.{checkpointed, closing_of, IsClosedWithin}
 pub use Rattle.mm_call.specs.Coming.{Comes, EndsWith, grown, kept}
+pub use Rattle.mm_call.specs.Counts.{StepsBy}
 pub use Rattle.mm_call.specs.Courses.{after_step, closes, Course, Done, End, Fails, Fate, seen_in, walk, Walked}
 pub use Rattle.mm_call.specs.Found.{Found, found_at, right_content}
 pub use Rattle.mm_call.specs.FoundWords.{found_unless_wanting, is_fresh}
@@ -69,5 +73,5 @@ pub use Rattle.mm_callers.specs.Basic.{SaysFound, SaysUnlessFault}
 pub use Rattle.mm_callers.specs.Closing.{AreShownUnlessIdle, ClosesBetween, EndsBehind, in_closing, MayClose, RepeatsBehind, RepeatsReply}
 pub use Rattle.mm_callers.specs.Closing.{SaysClosing}
 pub use Rattle.mm_callers.specs.Complete.{batches_then, IsAnswer, IsOfferedAt, IsWelcome}
-pub use Rattle.mm_callers.specs.Counts.{again, alone, at_once, both, CountsAgain, CountsCall, replied, StepsFor, StepsOf}
+pub use Rattle.mm_callers.specs.Counts.{again, alone, at_once, both, CountsAgain, CountsCall, replied, StepsFor}
 pub use Rattle.mm_callers.specs.Opt.{AnswersOrLacks, AsksByQuietPlan, AsksInMemory, AsksOnce, AsksWelcome}

@@ -1,32 +1,19 @@
 -- What callers count, from the clauses of their calls.
-use Rattle.mm_callers.proofs.Below.{◌≡◌, ℕ, Bool, true, false, List, Some, Result, Ok, Err, refl, ap, subst, Variant, Basic, Opt, StepFault}
-use Rattle.mm_callers.proofs.Below.{Standing, quiet_plan, Meaning, Batch, One, is_long, BatchAnswer, Refusal, Long, Device, StepsOf}
-use Rattle.mm_callers.proofs.Below.{StepsFor, CountsCall, CountsAgain, again}
-use Rattle.mm_basic.specs.Asked.{AskedInBasic}
-use Rattle.mm_opt.specs.Asked.{AskedInOpt}
-use Rattle.mm_opt.specs.Asks.{StepsMade, one_step, two_steps, three_steps, four_steps, five_steps, StepsAnswered, StepsRefused}
-use Rattle.mm_callers.proofs.Leaving.{Call}
+use Rattle.mm_callers.proofs.Below.{◌≡◌, ℕ, Bool, true, false, List, Some, Result, Ok, Err, refl, ap, subst, Variant, Opt, StepFault}
+use Rattle.mm_callers.proofs.Below.{Standing, quiet_plan, Meaning, Batch, One, is_long, BatchAnswer, Refusal, Long, Device, StepsBy}
+use Rattle.mm_callers.proofs.Below.{AskedIn, CallOf, Given, StepsFor, CountsCall, CountsAgain, again}
+use Rattle.mm_call.specs.Counts.{StepsMade, one_step, two_steps, three_steps, four_steps, five_steps, StepsAnswered, StepsRefused}
 
-steps_by : (t : Bool) (variant : Variant) (old new : Standing) (result : Result BatchAnswer Refusal)
-    → (t ≡ true → (new ≡ old) × (result ≡ Err Long)) → (t ≡ false → StepsOf variant result old new) → StepsFor t variant result old new
-steps_by true variant old new result long short =
+steps_for : (t : Bool) (variant : Variant) (old new : Standing) (result : Result BatchAnswer Refusal)
+    → (t ≡ true → (new ≡ old) × (result ≡ Err Long)) → (t ≡ false → StepsBy variant result old new) → StepsFor t variant result old new
+steps_for true variant old new result long short =
     let l = long refl in (l.1, ap (λ (s : Standing). s.steps) l.0, ap (λ (s : Standing). s.writes) l.0)
-steps_by false variant old new result long short = short refl
+steps_for false variant old new result long short = short refl
 
-module _ {meaning : Meaning} {old new : Standing} {offer request : List ℕ} {result : Result BatchAnswer Refusal} where
-  pub basic_called : AskedInBasic meaning old new offer (One request) result → Call Basic meaning old new offer request result
-  basic_called a = record {
-    long = a.calls.long;
-    goes = a.goes;
-    counts = record { steps = steps_by (is_long (One request)) Basic old new result a.calls.long a.steps; faults = a.faults };
-  }
-
-  pub opt_called : AskedInOpt meaning old new offer (One request) result → Call Opt meaning old new offer request result
-  opt_called a = record {
-    long = a.calls.long;
-    goes = a.goes;
-    counts = record { steps = steps_by (is_long (One request)) Opt old new result a.calls.long a.steps; faults = a.faults };
-  }
+pub counts_call : {core : CallOf (Given BatchAnswer)} {meaning : Meaning} {old new : Standing} {offer : List ℕ} {b : Batch}
+    {result : Result BatchAnswer Refusal} → AskedIn core meaning old new offer b result → CountsCall core.variant b old new result
+counts_call {core = core} {old = old} {new = new} {b = b} {result = result} call =
+    record { steps = steps_for (is_long b) core.variant old new result call.calls.long call.steps; faults = call.faults }
 
 pub counted_again : {variant : Variant} {b : Batch} {old middle new : Standing} {first : Refusal} {fault : StepFault}
     {result : Result BatchAnswer Refusal} → first ≡ Device fault → CountsCall variant b old middle (Err first)
@@ -46,11 +33,11 @@ made_ended old new (three_steps s) = three_steps s
 made_ended old new (four_steps s) = four_steps s
 made_ended old new (five_steps s) = five_steps s
 
-refused_ended : (why : Refusal) (old new : Standing) → StepsRefused why (ended old) new → StepsRefused why old new
+refused_ended : (why : Refusal) (old new : Standing) → StepsRefused Opt why (ended old) new → StepsRefused Opt why old new
 refused_ended (Device fault) old new s = made_ended old new s
 refused_ended _ old new s = s
 
-answered_ended : (again : Bool) (old new : Standing) → StepsAnswered again (ended old) new → StepsAnswered again old new
+answered_ended : (again : Bool) (old new : Standing) → StepsAnswered Opt again (ended old) new → StepsAnswered Opt again old new
 answered_ended true old new s = s
 answered_ended false old new s = s
 

@@ -1,46 +1,40 @@
 -- What a call leaves and says, in either variant; and so the same call made again, or another one on its answer.
 use Rattle.mm_callers.proofs.Below.{◌≡◌, ℕ, ◌≤◌, Bool, true, false, List, [], ◌∷◌, ◌++◌, Option, None, Some, Result, Ok, Err, refl, sym, ap}
 use Rattle.mm_callers.proofs.Below.{◌∙◌, subst, ◌⊎◌, inl, inr, arith, if◌then◌else◌, Contains, last_position, Variant, Basic, Opt}
-use Rattle.mm_callers.proofs.Below.{StepFault, Standing, Meaning, Batch, One, parts_of, Content, IsContent, sealed_of, Instance, History}
+use Rattle.mm_callers.proofs.Below.{StepFault, Standing, Meaning, Batch, parts_of, Content, IsContent, sealed_of, Instance, History}
 use Rattle.mm_callers.proofs.Below.{Move, EndsWith, total_of, IsFit, is_long, Within, offer_messages, Names, issued, StandsFor, IsRight}
 use Rattle.mm_callers.proofs.Below.{issued_bytes, Reads, ask_steps, total-push, BatchAnswer, Refusal, Long, right_messages, IsWithin}
 use Rattle.mm_callers.proofs.Below.{called, seen_at, ended_by, given_for, reading_steps, CallContinues, CallsOn, Comes, kept, grown, Course}
 use Rattle.mm_callers.proofs.Below.{Walked, seen_in, walk, Found, found_at, foreign_made, right_content, found_unless_wanting, is_fresh}
-use Rattle.mm_callers.proofs.Below.{Blames, by_lists, all_made, one_content, right_of, listed_by, issued_once, AreAsked, fault_of, fault_in}
-use Rattle.mm_callers.proofs.Below.{answered_at, IsOnce, AnswersOnce, IsLeft, SaysFound, SaysUnlessFault, finds, in_second, CountsCall}
+use Rattle.mm_callers.proofs.Below.{AskedIn, CallOf, Given, Blames, by_lists, all_made, one_content, right_of, listed_by, issued_once, AreAsked, fault_of, fault_in}
+use Rattle.mm_callers.proofs.Below.{answered_at, IsOnce, AnswersOnce, IsLeft, SaysFound, SaysUnlessFault, finds, in_second}
 use Rattle.mm_base.specs.Faults.{counted, Rose}
 use Rattle.mm_module.specs.BatchLaws.{size_of-pos}
 use Rattle.mm_call.specs.Answers.{answer_on}
 use Rattle.mm_call.proofs.Above.{path_is, sight_is}
 use Rattle.mm_callers.specs.Basic.{EndsOnce, EndsNext, Stays}
 
--- A call: one that is too long is refused as it stands, any other goes on a course; and its steps and faults are counted.
-pub record Call (variant : Variant) (meaning : Meaning) (old new : Standing) (offer request : List ℕ)
-    (result : Result BatchAnswer Refusal) : Type 0 where
-  pub long : is_long (One request) ≡ true → (new ≡ old) × (result ≡ Err Long)
-  pub goes : is_long (One request) ≡ false → CallsOn variant meaning old new offer (One request) result
-  pub counts : CountsCall variant (One request) old new result
-
-module _ {variant : Variant} {meaning : Meaning} {old new : Standing} {offer request : List ℕ} {result : Result BatchAnswer Refusal}
-    (call : Call variant meaning old new offer request result) where
+module _ {core : CallOf (Given BatchAnswer)} {meaning : Meaning} {old new : Standing} {offer : List ℕ} {b : Batch}
+    {result : Result BatchAnswer Refusal} (call : AskedIn core meaning old new offer b result) where
   -- what holds of one that is too long, and of one that isn't
-  pub by_length : (P : Standing → Result BatchAnswer Refusal → Type 0) → (is_long (One request) ≡ true → P old (Err Long))
-      → (is_long (One request) ≡ false → CallsOn variant meaning old new offer (One request) result → P new result) → P new result
-  by_length P long short = cases (is_long (One request)) refl
+  pub by_length : (P : Standing → Result BatchAnswer Refusal → Type 0) → (is_long b ≡ true → P old (Err Long))
+      → (is_long b ≡ false → CallsOn core.variant meaning old new offer b result → P new result) → P new result
+  by_length P long short = cases (is_long b) refl
     where
-      cases : (t : Bool) → is_long (One request) ≡ t → P new result
+      cases : (t : Bool) → is_long b ≡ t → P new result
       cases true e =
-          let l = call.long e in subst (λ (s : Standing). P s result) (sym l.0) (subst (P old) (sym l.1) (long e))
+          let l = call.calls.long e in subst (λ (s : Standing). P s result) (sym l.0) (subst (P old) (sym l.1) (long e))
       cases false e = short e (call.goes e)
 
   -- what wasn't refused as too long went on a course
-  pub not_long : (result ≡ Err Long → ⊥) → is_long (One request) ≡ false
+  pub not_long : (result ≡ Err Long → ⊥) → is_long b ≡ false
   not_long never =
-      by_length (λ (s : Standing) (r : Result BatchAnswer Refusal). (r ≡ Err Long → ⊥) → is_long (One request) ≡ false)
+      by_length (λ (s : Standing) (r : Result BatchAnswer Refusal). (r ≡ Err Long → ⊥) → is_long b ≡ false)
       (λ e (h : Err Long ≡ Err Long → ⊥). absurd (h refl)) (λ e c h. e) never
 
-pub answered : {variant : Variant} {meaning : Meaning} {old new : Standing} {offer request : List ℕ} {answer : BatchAnswer}
-    → Call variant meaning old new offer request (Ok answer) → CallsOn variant meaning old new offer (One request) (Ok answer)
+pub answered : {core : CallOf (Given BatchAnswer)} {meaning : Meaning} {old new : Standing} {offer : List ℕ} {b : Batch}
+    {answer : BatchAnswer} → AskedIn core meaning old new offer b (Ok answer)
+    → CallsOn core.variant meaning old new offer b (Ok answer)
 answered {answer = answer} call = call.goes (not_long call (λ (is : Ok answer ≡ Err Long). cc))
 
 -- no offer names two ends

@@ -1,7 +1,7 @@
 -- Opt: what a call hands on to the next, and the callers' clauses, from those of their calls.
 use Rattle.mm_callers.proofs.Below.{◌≡◌, ℕ, Bool, true, false, List, [], ◌++◌, map, Some, Result, Ok, Err, refl, sym, ap, ◌∙◌, subst, inl}
 use Rattle.mm_callers.proofs.Below.{inr, option_map, append-nil, Opt, StepFault, Item, Standing, Meaning, IsLawful, Batch, One, Content}
-use Rattle.mm_callers.proofs.Below.{Instance, opt, History, Move, Commit, Foreign, moved, IsFit, is_long, Within, offer_messages}
+use Rattle.mm_callers.proofs.Below.{Instance, opt, History, Move, Commit, Foreign, moved, is_long, Within, offer_messages}
 use Rattle.mm_callers.proofs.Below.{digests_of, issued, StandsFor, BatchAnswer, Refusal, Device, Long, Verdict, opt_issued, same_closed}
 use Rattle.mm_callers.proofs.Below.{IsAsked, called, CallsOn, Blames, IsAccepted, by_lists, all_made, opt_content, AreAsked, AreShown}
 use Rattle.mm_callers.proofs.Below.{IsIdle, fault_of, shown, standing_items, foreign_first, opt_comes, stands_at, asked_for, asked_idle}
@@ -12,7 +12,7 @@ use Rattle.mm_opt.specs.Asked.{AskedInOpt}
 use Rattle.mm_callers.specs.Basic.{AreAskedNext}
 use Rattle.mm_callers.specs.Opt.{AsksTwice}
 use Rattle.mm_callers.proofs.Completing.{verdict_of, verdict_is}
-use Rattle.mm_callers.proofs.Leaving.{Call, by_length, not_long, answered, After, Left, asked_on, left_long, left_short, ends_once}
+use Rattle.mm_callers.proofs.Leaving.{by_length, not_long, answered, After, Left, asked_on, left_long, left_short, ends_once}
 use Rattle.mm_callers.proofs.Leaving.{ends_again, ends_next, asked_next}
 
 closed_same : (meaning : Meaning) (key barrier : List ℕ) (y after : History) (b : Batch) → Alike meaning key barrier y b after
@@ -134,7 +134,7 @@ module _ (meaning : Meaning) (key barrier : List ℕ) (all others : List (List �
       ]
 
 module _ {meaning : Meaning} {old new : Standing} {offer request : List ℕ} {result : Result BatchAnswer Refusal}
-    (call : Call Opt meaning old new offer request result) where
+    (call : AskedInOpt meaning old new offer (One request) result) where
   left : (key barrier : List ℕ) (y : History) (all others : List (List ℕ)) (asked : List Batch) (items more : List Item)
       → StandsFor (opt meaning key barrier) old y → old.items ≡ Some items
       → new.items ≡ Some (standing_items y.is_open items ++ more)
@@ -162,20 +162,20 @@ module _ {meaning : Meaning} {old new : Standing} {offer request : List ℕ} {re
   -- one call
   pub asked_once : AsksOnce meaning old new offer request result
   asked_once key barrier y all others asked items more s known ends a shown_so =
-      ends_once old a result call.counts.faults (left key barrier y all others asked items more s known ends a shown_so)
+      ends_once old a result call.faults (left key barrier y all others asked items more s known ends a shown_so)
 
 -- a call that is made again after a device's fault
 pub asked_after_fault : {meaning : Meaning} {old middle new : Standing} {offer request : List ℕ} {first : Refusal} {fault : StepFault}
-    {result : Result BatchAnswer Refusal} → first ≡ Device fault → Call Opt meaning old middle offer request (Err first)
-    → Call Opt meaning middle new offer request result → AsksOnce meaning old new offer request result
+    {result : Result BatchAnswer Refusal} → first ≡ Device fault → AskedInOpt meaning old middle offer (One request) (Err first)
+    → AskedInOpt meaning middle new offer (One request) result → AsksOnce meaning old new offer request result
 asked_after_fault {meaning = meaning} {old = old} {middle = middle} {new = new} {first = first} {result = result} is before call key barrier
     y all others asked items more s known ends a shown_so =
     let short = not_long before (λ (e : Err first ≡ Err Long). cc) in
     let h = hands_on meaning key barrier all others asked new (before.goes short) short (goes_on call key barrier all others asked) items
     more s known ends a shown_so in
     let x = h.left in
-    ends_again old a result (subst (λ (w : Refusal). Blames (fault_of w) old.faults middle.faults) is before.counts.faults)
-    call.counts.faults x
+    ends_again old a result (subst (λ (w : Refusal). Blames (fault_of w) old.faults middle.faults) is before.faults)
+    call.faults x
     (left call key barrier x.after all others asked h.items h.more x.stands h.known h.ends
     (asked_on all others asked (opt meaning key barrier) x.within x.names a) h.shown_are)
 
@@ -195,7 +195,7 @@ asked_welcome {request = request} call key barrier y all others asked items more
 
 -- two calls, the second on the snapshot of the first answer
 pub refused_first : {meaning : Meaning} {old new : Standing} {offer first : List ℕ} {why : Refusal} (second : List ℕ)
-    → Call Opt meaning old new offer first (Err why) → AsksTwice meaning old new offer first second (Err why)
+    → AskedInOpt meaning old new offer (One first) (Err why) → AsksTwice meaning old new offer first second (Err why)
 refused_first second call key barrier y all others asked items more s known ends a n shown_so =
     in_first (asked_once call key barrier y all others asked items more s known ends a (λ busy. shown_so))
 
@@ -211,15 +211,15 @@ next_listed meaning key barrier all asked y after first second n (grown_by e) =
     (sym (issued_alike meaning key barrier after (moved (opt meaning key barrier) y (Commit first)) e)) n.after_new
 
 pub asked_twice : {meaning : Meaning} {old middle new : Standing} {offer next first second : List ℕ} {one : BatchAnswer}
-    {result : Result BatchAnswer Refusal} → IsLawful meaning → Call Opt meaning old middle offer first (Ok one) → IsFit (One first) one
-    → next ≡ one.snapshot → Call Opt meaning middle new next second result → AsksTwice meaning old new offer first second result
+    {result : Result BatchAnswer Refusal} → IsLawful meaning → AskedInOpt meaning old middle offer (One first) (Ok one)
+    → next ≡ one.snapshot → AskedInOpt meaning middle new next (One second) result → AsksTwice meaning old new offer first second result
 asked_twice {meaning = meaning} {old = old} {middle = middle} {new = new} {offer = offer} {first = first} {second = second} {one = one}
-    {result = result} lawful before fit e call key barrier y all others asked items more s known ends a n shown_so =
+    {result = result} lawful before e call key barrier y all others asked items more s known ends a n shown_so =
     let h = hands meaning key barrier all others asked y old middle new offer first (Ok one) items more (answered before)
     (goes_on call key barrier all others asked) s known ends a shown_so in
     let l = h.left in
-    let so = asked_next old a l.within l.comes fit e (opt_content meaning lawful key barrier l.after)
+    let so = asked_next old a l.within l.comes before.fits e (opt_content meaning lawful key barrier l.after)
     (opt_issued meaning key barrier l.after l.within.sound (l.clean one refl)) n.is_asked
     (next_listed meaning key barrier all asked y l.after (One first) (One second) n l.alike) in
-    ends_next old a result before.counts.faults call.counts.faults e (after_left meaning key barrier all others asked a l) so.0
+    ends_next old a result before.faults call.faults e (after_left meaning key barrier all others asked a l) so.0
     (left call key barrier l.after all others asked h.items h.more l.stands h.known h.ends so.1 (λ busy. h.shown_are))

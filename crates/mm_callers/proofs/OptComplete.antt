@@ -7,7 +7,7 @@ use Rattle.mm_callers.proofs.Below.{walk, Called, called, given_for, called_with
 use Rattle.mm_callers.proofs.Below.{moves_messages, foreign_in, IsAsked, AreAsked, asked_by, IsWelcome, AnswersOrLacks, AsksByQuietPlan}
 use Rattle.mm_callers.proofs.Below.{AsksInMemory}
 use Rattle.mm_callers.proofs.Completing.{complete, welcome_found}
-use Rattle.mm_callers.proofs.Leaving.{Call}
+use Rattle.mm_opt.specs.Asked.{AskedInOpt}
 
 -- the course of a call that nothing disturbs
 abbrev still_fates : ℕ → Fate
@@ -63,7 +63,7 @@ course_is : (c : Course) → ((n : ℕ) → c.fates n ≡ still_fates n) → c �
 course_is c told_so = λ j. record { fates = λ n. told_so n j; lacks = c.lacks }
 
 pub asked_quietly : {meaning : Meaning} {old new : Standing} {offer request : List ℕ} {result : Result BatchAnswer Refusal}
-    → Call Opt meaning old new offer request result → AsksByQuietPlan meaning old new offer request result
+    → AskedInOpt meaning old new offer (One request) result → AsksByQuietPlan meaning old new offer request result
 asked_quietly {meaning = meaning} {new = new} {offer = offer} {request = request} {result = result} call on plan key barrier y all others
     asked again short s a m w =
     let i : Instance = opt meaning key barrier in
@@ -87,7 +87,7 @@ asked_in_memory meaning {old = old} new offer request result e complete on key b
 
 -- a first call by a quiet plan doesn't end by a device's fault
 pub asked_faultless : {meaning : Meaning} {old middle : Standing} {offer request : List ℕ} {why : Refusal} {fault : StepFault}
-    (new : Standing) (result : Result BatchAnswer Refusal) → why ≡ Device fault → Call Opt meaning old middle offer request (Err why)
+    (new : Standing) (result : Result BatchAnswer Refusal) → why ≡ Device fault → AskedInOpt meaning old middle offer (One request) (Err why)
     → AsksByQuietPlan meaning old new offer request result
 asked_faultless {fault = fault} new result is first on plan key barrier y all others asked again short s a m w =
     let t = asked_quietly first on plan key barrier y all others asked again short s a m w in

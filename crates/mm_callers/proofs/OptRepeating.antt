@@ -9,7 +9,8 @@ use Rattle.mm_callers.proofs.Below.{RepeatsBehind, EndsBehind, in_closing, Close
 use Rattle.mm_callers.proofs.Below.{CallsOn, AreAsked, AreShown, StandsAt, shown, standing_items, stands_at, placed, right_at, Said}
 use Rattle.mm_callers.proofs.Below.{ChecksOn, DigestMoves, call_goes_on, is_long, Answer, foreign_in, whole, Long, CheckpointRefusal}
 use Rattle.mm_call.specs.ShowingLaws.{shown_same}
-use Rattle.mm_callers.proofs.Leaving.{Call, answered, asked_on, not_long, After, Left, Offers, not_at_end, once, once_twice, answers_once}
+use Rattle.mm_opt.specs.Asked.{AskedInOpt}
+use Rattle.mm_callers.proofs.Leaving.{answered, asked_on, not_long, After, Left, Offers, not_at_end, once, once_twice, answers_once}
 use Rattle.mm_callers.specs.Closing.{in_first, in_second}
 use Rattle.mm_callers.specs.declared.closing.Halted.TheVariants as halted
 use Rattle.mm_callers.proofs.OptCalls.{hands_on, asked_once, left_idle}
@@ -68,7 +69,7 @@ repeats_by {first = first} {second = second} same s c (kept is gives) =
     }
 
 module _ {meaning : Meaning} {old answered_at closed : Standing} {offer request : List ℕ} {first : BatchAnswer}
-    {said : Result Said CheckpointRefusal} (call : Call Opt meaning old answered_at offer request (Ok first))
+    {said : Result Said CheckpointRefusal} (call : AskedInOpt meaning old answered_at offer (One request) (Ok first))
     (k : ChecksOn answered_at closed said) (key barrier : List ℕ) (all others : List (List ℕ)) (asked : List Batch) (y : History) where
   abbrev I : Instance
   I = opt meaning key barrier
@@ -209,13 +210,13 @@ ends_behind None h = h refl
 
 -- the call was refused
 pub refused_first : {meaning : Meaning} {old new : Standing} {offer request : List ℕ} {why : Refusal}
-    → Call Opt meaning old new offer request (Err why) → RepeatsBehind meaning old new offer request (Err (halted.Asking why))
+    → AskedInOpt meaning old new offer (One request) (Err why) → RepeatsBehind meaning old new offer request (Err (halted.Asking why))
 refused_first {why = why} call key barrier y all others asked items more s known ends a shown_so =
     in_first why refl (asked_once call key barrier y all others asked items more s known ends a (λ busy. (shown_so busy).0))
 
 -- the checkpoint was refused
 pub refused_closing : {meaning : Meaning} {old answered_at closed : Standing} {offer request : List ℕ} {first : BatchAnswer}
-    {why : CheckpointRefusal} → Call Opt meaning old answered_at offer request (Ok first) → ChecksOn answered_at closed (Err why)
+    {why : CheckpointRefusal} → AskedInOpt meaning old answered_at offer (One request) (Ok first) → ChecksOn answered_at closed (Err why)
     → RepeatsBehind meaning old closed offer request (Err (halted.Closing why))
 refused_closing {request = request} {first = first} {why = why} call k key barrier y all others asked items more s known ends a shown_so =
     let x = behind call k key barrier all others asked y items more s known ends a shown_so in
@@ -228,8 +229,8 @@ refused_closing {request = request} {first = first} {why = why} call k key barri
 
 -- the call once more was refused
 pub refused_again : {meaning : Meaning} {old answered_at closed new : Standing} {offer request : List ℕ} {first : BatchAnswer} {said : Said}
-    {why : Refusal} → Call Opt meaning old answered_at offer request (Ok first) → ChecksOn answered_at closed (Ok said)
-    → Call Opt meaning closed new offer request (Err why)
+    {why : Refusal} → AskedInOpt meaning old answered_at offer (One request) (Ok first) → ChecksOn answered_at closed (Ok said)
+    → AskedInOpt meaning closed new offer (One request) (Err why)
     → RepeatsBehind meaning old new offer request (Err (halted.Asking why))
 refused_again {said = said} {why = why} call k again key barrier y all others asked items more s known ends a shown_so =
     let r = again.goes (short call k key barrier all others asked y) in
@@ -239,8 +240,8 @@ refused_again {said = said} {why = why} call k again key barrier y all others as
 
 -- the second reply, where it is told as a repeat, and the register's items are known at the end
 pub repeats_behind : {meaning : Meaning} {old answered_at closed new : Standing} {offer request : List ℕ} {said : Said}
-    (first second : Answer) → Call Opt meaning old answered_at offer request (Ok (whole first)) → ChecksOn answered_at closed (Ok said)
-    → Call Opt meaning closed new offer request (Ok (whole second))
+    (first second : Answer) → AskedInOpt meaning old answered_at offer (One request) (Ok (whole first)) → ChecksOn answered_at closed (Ok said)
+    → AskedInOpt meaning closed new offer (One request) (Ok (whole second))
     → RepeatsBehind meaning old new offer request (Ok (record { first = first; second = second }))
 repeats_behind {said = said} first second call k again is_again key barrier y all others asked items more s known ends a shown_so =
     let r = answered again in
@@ -249,8 +250,8 @@ repeats_behind {said = said} first second call k again is_again key barrier y al
 
 -- the second reply, where the register's items are known when the checkpoint was over
 pub never_twice : {meaning : Meaning} {old answered_at closed new : Standing} {offer request : List ℕ} {said : Said}
-    (first second : Answer) → Call Opt meaning old answered_at offer request (Ok (whole first)) → ChecksOn answered_at closed (Ok said)
-    → Call Opt meaning closed new offer request (Ok (whole second)) → ClosesBetween meaning old new offer request first second
+    (first second : Answer) → AskedInOpt meaning old answered_at offer (One request) (Ok (whole first)) → ChecksOn answered_at closed (Ok said)
+    → AskedInOpt meaning closed new offer (One request) (Ok (whole second)) → ClosesBetween meaning old new offer request first second
 never_twice {answered_at = answered_at} {closed = closed} {said = said} first second call k again = record {
   answered = answered_at;
   closed = closed;

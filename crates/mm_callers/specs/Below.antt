@@ -29,6 +29,7 @@ pub use Rattle.mm_call.specs.Asked.{counted_part}
 pub use Rattle.mm_call.specs.Called.{Answers, Called, called, seen_at}
 pub use Rattle.mm_call.specs.CallsOn.{CallsOn}
 pub use Rattle.mm_call.specs.Coming.{EndsWith}
+pub use Rattle.mm_call.specs.Counts.{StepsBy}
 pub use Rattle.mm_call.specs.Courses.{Course, Done}
 pub use Rattle.mm_call.specs.Found.{Found, found_at}
 pub use Rattle.mm_call.specs.Leaving.{Blames, IsAnswered, whole}
@@ -36,8 +37,6 @@ pub use Rattle.mm_call.specs.Levels.{by_lists}
 pub use Rattle.mm_call.specs.Premises.{AreAsked, AreShown, IsIdle}
 pub use Rattle.mm_call.specs.Refusals.{fault_in, fault_of}
 pub use Rattle.mm_call.specs.Tied.{foreign_items, standing_items}
-pub use Rattle.mm_basic.specs.Asks.{StepsBy as BasicSteps}
-pub use Rattle.mm_opt.specs.Asks.{StepsBy as OptSteps}
 pub use Rattle.mm_opt.specs.Checkpoints.{ClosingStepsBy, closing_fault_in}
 pub use Rattle.mm_opt.specs.ChecksOn.{ChecksOn}
 pub use Rattle.mm_opt.specs.declared.segment.CheckpointRefusal.{CheckpointRefusal}

@@ -1,22 +1,17 @@
 -- What callers count: their calls' steps, and the faults of devices, told and recovered.
 use Rattle.std.specs.Prelude.{◌≡◌, Bool, true, false, None, Result, Ok, Err}
-use Rattle.mm_callers.specs.Below.{Variant, Basic, Opt, Standing, StepFault, Batch, is_long, Answer, BatchAnswer, Refusal, Long, Blames}
-use Rattle.mm_callers.specs.Below.{whole, fault_in, BasicSteps, OptSteps, ClosingStepsBy, closing_fault_in, CheckpointRefusal, Checkpointed}
+use Rattle.mm_callers.specs.Below.{Variant, Opt, Standing, StepFault, Batch, is_long, Answer, BatchAnswer, Refusal, Long, Blames}
+use Rattle.mm_callers.specs.Below.{whole, fault_in, StepsBy, ClosingStepsBy, closing_fault_in, CheckpointRefusal, Checkpointed}
 use Rattle.mm_model.specs.declared.refusal.Refusal.TheVariants.{Device}
 use Rattle.mm_callers.specs.declared.closing.Replies.{Replies}
 use Rattle.mm_callers.specs.declared.closing.Halted.{Halted}
 use Rattle.mm_callers.specs.declared.closing.Halted.TheVariants.{Asking, Closing}
 
--- the steps of a call, by what it gives
-abbrev pub StepsOf : Variant → Result BatchAnswer Refusal → Standing → Standing → Type 0
-StepsOf Basic result old new = BasicSteps result old new
-StepsOf Opt result old new = OptSteps result old new
-
--- Of a batch that is too long, none.
+-- the steps of a call, by what it gives; of a batch that is too long, none
 abbrev pub StepsFor : Bool → Variant → Result BatchAnswer Refusal → Standing → Standing → Type 0
 StepsFor true variant result old new =
     (result ≡ Err Long) × (new.steps ≡ old.steps) × (new.writes ≡ old.writes)
-StepsFor false variant result old new = StepsOf variant result old new
+StepsFor false variant result old new = StepsBy variant result old new
 
 -- One call counts its steps, and a fault exactly where it hands one on.
 pub record CountsCall (variant : Variant) (b : Batch) (old new : Standing)

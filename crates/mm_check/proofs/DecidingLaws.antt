@@ -5,12 +5,13 @@ use Rattle.mm_check.proofs.Below.{variant_byte, Meaning, meaning_of, Instance, H
 use Rattle.mm_check.proofs.Below.{lines_of_reply, end_line, by_lists, Followed, followed, event_outcome, first_issued, expected, world_of}
 use Rattle.mm_check.proofs.Below.{world_key, world_barrier, IsGenuineEvent, AreGenuine, IsClearRun, numbered_event, listed, message_digests}
 use Rattle.mm_check.proofs.Below.{shared_in, zero_in, Lists, pair_of, numbered_from, numbered, secured_in, expected_lines, IsForgedAt}
-use Rattle.mm_check.proofs.Below.{Decides, secured_by, IsFirstForged, StandsBehind, first_then, premise_by, ◌<◌, take, sha256, length-map}
-use Rattle.mm_check.proofs.Below.{length-take, most_events, CodeEvent, event_of, events_of, not}
+use Rattle.mm_check.proofs.Below.{Decides, secured_by, IsFirstForged, StandsBehind, premise_by, ◌<◌, take, sha256, length-map}
+use Rattle.mm_check.proofs.Below.{length-take, most_events, CodeEvent, event_of, events_of}
+use Rattle.mm_check.specs.Deciding.{LooksAt}
 use Rattle.std.proofs.lemmas.List.Sums.{fold-append}
 use Rattle.mm_call.specs.Standing.{instance_by}
 use Rattle.mm_expect.specs.Hears.{Hears}
-use Rattle.mm_history.specs.Naming.{IsDecided}
+use Rattle.mm_expect.specs.Judged.{DecidesLater}
 use Rattle.mm_expect.specs.Traced.{Traced, IsAfter}
 use Rattle.mm_expect.specs.declared.expecting.Heard.{Heard}
 use Rattle.mm_check.proofs.FewLaws.{heard_few, numbered_few}
@@ -20,20 +21,17 @@ use Rattle.mm_check.specs.declared.deciding.Deciding.{Deciding}
 
 -- what is heard of an event behind those that were followed so far
 abbrev pub IsHeard : Instance → Followed History → Event → Heard → Type 0
-IsHeard i before event heard =
-    Hears i before.state before.issued event heard × IsDecided heard.is_genuine (IsGenuineEvent i before.state before.issued event)
+IsHeard i before event heard = Hears i before.state before.issued event heard
+
+-- what stands behind some events is what is expected of them
+stands_as : (header : Header) (es : List Event) (it : Traced) → IsAfter header es it
+    → (let f = expected (world_of header) es in it ≡ record { header = header; history = f.state; issued = f.issued })
+stands_as header es it after = λ j. record { header = after.header_is j; history = after.history_is j; issued = after.issued_is j }
 
 pub heard_after : (header : Header) (es : List Event) (it : Traced) (e : Event) (heard : Heard) → IsAfter header es it
-    → Hears (world_of it.header) it.history it.issued e heard
-    → IsDecided heard.is_genuine (IsGenuineEvent (world_of header) it.history it.issued e)
-    → IsHeard (world_of header) (expected (world_of header) es) e heard
-heard_after header es it e heard after hears genuine =
-    let f = expected (world_of header) es in
-    let stands : it ≡ record { header = header; history = f.state; issued = f.issued } =
-    (λ j. record { header = after.header_is j; history = after.history_is j; issued = after.issued_is j }) in (
-      subst (λ (t : Traced). Hears (world_of t.header) t.history t.issued e heard) stands hears,
-      subst (λ (t : Traced). IsDecided heard.is_genuine (IsGenuineEvent (world_of header) t.history t.issued e)) stands genuine,
-    )
+    → Hears (world_of it.header) it.history it.issued e heard → IsHeard (world_of header) (expected (world_of header) es) e heard
+heard_after header es it e heard after hears =
+    subst (λ (t : Traced). Hears (world_of t.header) t.history t.issued e heard) (stands_as header es it after) hears
 
 from_push : (i : Instance) (es : List Event) (e : Event) (y : History) (issued : List (List ℕ))
     → (let f : Followed History = followed i (by_lists i) y issued es in
@@ -70,31 +68,41 @@ still_forged i es e n h = record {
   forged = h.forged;
 }
 
-forged-push : (i : Instance) (es : List Event) (e : Event) (first : Option ℕ) (is_genuine : Bool) → IsFirstForged i es first
-    → IsDecided is_genuine (IsGenuineEvent i (expected i es).state (expected i es).issued e)
-    → IsFirstForged i (es ++ e ∷ []) (first_then first (not is_genuine) (length es + 1))
-forged-push i es e (Some n) is_genuine h t = still_forged i es e n h
-forged-push i es e None true h t = genuine_push i es e first_history (first_issued i) h t
-forged-push i es e None false h t = record { before = es; event = e; after = []; split = refl; place = refl; genuine = h; forged = t }
+-- the first forged event, once one more is looked at
+
+pub looks_behind : (it : Traced) (e : Event) (n number : ℕ) → LooksAt it (Some n) e number (Some n)
+looks_behind it e n number = λ header es after h count. still_forged (world_of header) es e n h
+
+pub looks_genuine : (it : Traced) (e : Event) (number : ℕ) → DecidesLater it e true → LooksAt it None e number None
+looks_genuine it e number d = λ header es after h count.
+    let i = world_of header in
+    let here : IsGenuineEvent i (expected i es).state (expected i es).issued e =
+    subst (λ (t : Traced). IsGenuineEvent i t.history t.issued e) (stands_as header es it after) (d header es after) in
+    genuine_push i es e first_history (first_issued i) h here
+
+pub looks_forged : (it : Traced) (e : Event) (number : ℕ) → DecidesLater it e false → LooksAt it None e number (Some number)
+looks_forged it e number d = λ header es after h count.
+    let i = world_of header in
+    let here : ¬ IsGenuineEvent i (expected i es).state (expected i es).issued e =
+    subst (λ (t : Traced). ¬ IsGenuineEvent i t.history t.issued e) (stands_as header es it after) (d header es after) in
+    record { before = es; event = e; after = []; split = refl; place = count; genuine = h; forged = here }
 
 pub stands_next : (header : Header) (es : List Event) (e : Event) (old new : Deciding) (heard : Heard) → StandsBehind header es old
     → IsHeard (world_of header) (expected (world_of header) es) e heard → IsAfter header (es ++ e ∷ []) new.expecting
     → length new.expecting.issued ≤ length old.expecting.issued + 1
     → Lists (fold listed (numbered (world_of header) es) heard.messages.items) new.numbers
     → new.lines.items ≡ old.lines.items ++ lines_of_reply heard.reply
-    → new.forged ≡ first_then old.forged (not heard.is_genuine) (length es + 1)
-    → StandsBehind header (es ++ e ∷ []) new
+    → LooksAt old.expecting old.forged e (length es + 1) new.forged → StandsBehind header (es ++ e ∷ []) new
 stands_next header es e old new heard h hears after few lists lines forged =
     let i = world_of header in
     record {
       after = after;
       few = omega (arith, few, h.few, length-append es (e ∷ []));
       lists = subst (λ (l : List (List ℕ)). Lists l new.numbers)
-          (ap (λ (l : List (List ℕ)). fold listed (numbered i es) l) hears.0.messages ∙ sym (numbered-push i es e)) lists;
-      lines = lines ∙ (λ j. h.lines j ++ lines_of_reply (hears.0.reply j))
+          (ap (λ (l : List (List ℕ)). fold listed (numbered i es) l) hears.messages ∙ sym (numbered-push i es e)) lists;
+      lines = lines ∙ (λ j. h.lines j ++ lines_of_reply (hears.reply j))
           ∙ sym (lines-push i (by_lists i) first_history (first_issued i) es e);
-      forged = subst (λ (o : Option ℕ). IsFirstForged i (es ++ e ∷ []) o) (sym forged)
-          (forged-push i es e old.forged heard.is_genuine h.forged hears.1);
+      forged = forged header es h.after h.forged refl;
     }
 
 -- what is told at the end
@@ -176,6 +184,6 @@ room_for header es index event it heard few h hears =
       h.lists.counts.count,
       length-map (numbered i (events_of (take index es))) sha256,
       numbered_few i (take index es),
-      ap length hears.0.messages,
+      ap length hears.messages,
       heard_few i f.state f.issued event,
     )

@@ -1,6 +1,7 @@
 -- What the code that decides holds behind some first events.
-use Rattle.std.specs.Prelude.{◌≡◌, ℕ, ◌+◌, ◌≤◌, List, length, Option, None, Some}
+use Rattle.std.specs.Prelude.{◌≡◌, ℕ, ◌+◌, ◌≤◌, List, [], ◌∷◌, ◌++◌, length, Option, None, Some}
 use Rattle.mm_check.specs.Below.{Instance, Event, Header, expected, world_of, IsGenuineRun, IsAfter}
+use Rattle.mm_expect.specs.Traced.{Traced}
 use Rattle.mm_check.specs.Lists.{Lists}
 use Rattle.mm_check.specs.Numbering.{numbered, lines_of_all, IsForgedAt, Decides, expected_lines}
 use Rattle.mm_check.specs.declared.deciding.Deciding.{Deciding}
@@ -12,6 +13,14 @@ use Rattle.mm_check.specs.declared.verdicts.Premise.TheVariants.{Held, Shared, Z
 abbrev pub IsFirstForged : Instance → List Event → Option ℕ → Type 0
 IsFirstForged i events None = IsGenuineRun i events
 IsFirstForged i events (Some number) = IsForgedAt i events number
+
+-- The first forged event, once the one with this number is looked at, behind whatever events lead to
+-- this and have that first forged one.
+abbrev pub LooksAt : Traced → Option ℕ → Event → ℕ → Option ℕ → Type 0
+LooksAt it first event number forged =
+    (header : Header) (events : List Event) → IsAfter header events it
+    → IsFirstForged (world_of header) events first → number ≡ length events + 1
+    → IsFirstForged (world_of header) (events ++ event ∷ []) forged
 
 -- It stands behind these events.
 pub record StandsBehind (header : Header) (events : List Event) (it : Deciding) : Type 0 where

@@ -4,9 +4,9 @@ ghost use Rattle.std.specs.Prelude.{◌≡◌, ◌+◌, ◌<◌, ◌≤◌, [], 
 ghost use Rattle.mm_base.specs.Limits.{most_events};
 ghost use Rattle.mm_check.specs.Guards.{events_of};
 ghost use Rattle.mm_check.specs.Lists.{pair_of};
-ghost use Rattle.mm_check.specs.Deciding.{StandsBehind, DecidesRun, premise_by};
+ghost use Rattle.mm_schedule.specs.Events.{event_of};
+ghost use Rattle.mm_check.specs.Deciding.{LooksAt, StandsBehind, DecidesRun, premise_by};
 
-use crate::difference::first_then;
 use crate::guards::first_secured;
 use crate::lines::{put_last, put_reply};
 use crate::messages::Numbers;
@@ -67,11 +67,28 @@ impl Deciding {
         ensures { OnOk result
             (StandsBehind header.now (events_of (take (index + 1) events.now)) self.new) }
     {
-        let heard = self.expecting.event(&events[index])?;
+        let event = &events[index];
+        let forged = self.first_forged(event, index as u32 + 1)?;
+        let heard = self.expecting.event(event)?;
         self.numbers.list_all(alloc, heard.messages.as_slice())?;
         put_reply(alloc, &mut self.lines, &heard.reply)?;
-        self.forged = first_then(self.forged, !heard.is_genuine, index as u32 + 1);
+        self.forged = forged;
         Ok(())
+    }
+
+    // The first forged event, once that of this number is looked at. Behind the first one none needs to be.
+    fn first_forged(&self, event: &Event, number: u32) -> Result<Option<u32>, Memory>
+        ensures { IfOk result (λ forged.
+            LooksAt self.now.expecting self.now.forged (event_of event.now) number forged) }
+    {
+        if self.forged.is_some() {
+            return Ok(self.forged);
+        }
+        if self.expecting.is_genuine(event)? {
+            Ok(None)
+        } else {
+            Ok(Some(number))
+        }
     }
 
     // What is told of the premises, by the first event at which others bring a guard.

@@ -9,7 +9,7 @@ use mm_call::Ended;
 use mm_digest::{Variant, zero};
 use mm_model::BatchAnswer;
 use mm_module::{Batch, Module, Outputs};
-use mm_seal::{Body, Place, SealingKey, seal_under};
+use mm_seal::{Body, Place, SealingKey};
 use std::alloc::Global;
 
 // The same outputs.
@@ -58,12 +58,13 @@ impl Chronicle {
         }
     }
 
-    /// The snapshot of an answer.
-    pub(crate) fn snapshot(&self, key: &SealingKey) -> Result<Bytes, Memory>
-        requires key { key.now ≡ world_key }
+    /// The snapshot of an answer. The key remembers what it sealed last, so an offer of that is not hashed again.
+    pub(crate) fn snapshot(&self, key: &mut SealingKey) -> Result<Bytes, Memory>
+        requires key { key.old ≡ world_key }
         requires few { total_of self.now.history.batches ≤ last_position }
-        ensures { IfOk result
+        ensures bytes { IfOk result
             (λ bytes. bytes ≡ issued_bytes (recorded_instance self.now) self.now.history) }
+        ensures key { key.new ≡ key.old }
     {
         let body = Body {
             module: self.module.id(),
@@ -71,20 +72,21 @@ impl Chronicle {
             position: self.marks.total,
             state: self.state.as_slice(),
         };
-        seal_under(self.alloc, key, &body)
+        key.seal(self.alloc, &body)
     }
 
     /// The answer to the last batch, by whether it is a repeat.
     pub(crate) fn answer(
         &self,
-        key: &SealingKey,
+        key: &mut SealingKey,
         batch: Batch<'_>,
         again: bool,
     ) -> Result<Ended, Memory>
-        requires key { key.now ≡ world_key }
+        requires key { key.old ≡ world_key }
         requires few { total_of self.now.history.batches ≤ last_position }
         requires last { is_last self.now.history.batches (batch_of batch) ≡ true }
-        ensures { IfOk result
+        ensures key { key.new ≡ key.old }
+        ensures answer { IfOk result
             (λ ended. ended ≡ Answered
             (answer_on (recorded_instance self.now) self.now.history (batch_of batch.entry)
             again)) }

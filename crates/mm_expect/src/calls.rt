@@ -70,14 +70,15 @@ impl Chronicle {
     /// A call that offers these bytes and asks for the batch.
     pub(crate) fn call(
         &mut self,
-        key: &SealingKey,
+        key: &mut SealingKey,
         course: &Course<'_>,
         bytes: &[u8],
         batch: Batch<'_>,
     ) -> Result<Ended, Memory>
-        requires key { key.now ≡ world_key }
+        requires key { key.old ≡ world_key }
         requires short { is_long (batch_of batch) ≡ false }
-        ensures { IfOk result
+        ensures key { key.new ≡ key.old }
+        ensures calls { IfOk result
             (CallsBy self.old self.new
             (called (recorded_instance self.old) (by_lists (recorded_instance self.old))
             self.old.history
@@ -99,14 +100,15 @@ impl Chronicle {
     // The rest of a call whose batch is a new one.
     fn call_new(
         &mut self,
-        key: &SealingKey,
+        key: &mut SealingKey,
         course: &Course<'_>,
         batch: Batch<'_>,
     ) -> Result<Ended, Memory>
-        requires key { key.now ≡ world_key }
+        requires key { key.old ≡ world_key }
         requires short { is_long (batch_of batch) ≡ false }
         requires admits { Admits self.old.history (batch_of batch) false }
-        ensures { IfOk result (GoesOnNew self.old self.new course.now.stop course.now.meddles.now
+        ensures key { key.new ≡ key.old }
+        ensures goes { IfOk result (GoesOnNew self.old self.new course.now.stop course.now.meddles.now
             (batch_of batch.entry)) }
     {
         let before = self.total();

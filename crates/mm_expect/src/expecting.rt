@@ -36,8 +36,6 @@ pub struct Heard {
     pub reply: Reply,
     /// The messages of the event, in the order of their numbers; one may have come before.
     pub messages: Vec<Bytes>,
-    /// Whether the offer, where it is right, names a position of the history before the event.
-    pub is_genuine: bool,
 }
 
 /// A schedule followed by lists, which contracts see as the header, the history and the issued snapshots.
@@ -112,15 +110,16 @@ fn restore(chronicle: &mut Chronicle, stop: Stop, is_broken: bool)
 // A call that offers these bytes: what is said, and its messages.
 fn call_and_list(
     chronicle: &mut Chronicle,
-    key: &SealingKey,
+    key: &mut SealingKey,
     course: &Course<'_>,
     bytes: &[u8],
     batch: Batch<'_>,
     messages: &mut Vec<Bytes>,
 ) -> Result<Said, Memory>
-    requires key { key.now ≡ world_key }
+    requires key { key.old ≡ world_key }
     requires short { is_long (batch_of batch) ≡ false }
-    ensures { IfOk result (WentByCall chronicle.old chronicle.new course.now.stop
+    ensures key { key.new ≡ key.old }
+    ensures went { IfOk result (WentByCall chronicle.old chronicle.new course.now.stop
         course.now.meddles.now bytes.now (batch_of batch.entry) messages.old.items
         messages.new.items) }
 {
@@ -146,15 +145,16 @@ fn is_broken(ended: &Ended) -> bool
 // An event that asks for a batch of what is offered.
 fn follow_ask(
     chronicle: &mut Chronicle,
-    key: &SealingKey,
+    key: &mut SealingKey,
     issued: &[Bytes],
     offer: &Offer,
     course: &Course<'_>,
     batch: Batch<'_>,
     messages: &mut Vec<Bytes>,
 ) -> Result<Said, Memory>
-    requires key { key.now ≡ world_key }
-    ensures { IfOk result (WentByEvent chronicle.old chronicle.new issued.now
+    requires key { key.old ≡ world_key }
+    ensures key { key.new ≡ key.old }
+    ensures went { IfOk result (WentByEvent chronicle.old chronicle.new issued.now
         (Ask course.now.meddles.now course.now.stop offer.now (batch_of batch.entry))
         messages.old.items messages.new.items) }
 {
@@ -222,13 +222,14 @@ fn follow_extend(
 // One event.
 fn follow(
     chronicle: &mut Chronicle,
-    key: &SealingKey,
+    key: &mut SealingKey,
     issued: &[Bytes],
     event: &Event,
     messages: &mut Vec<Bytes>,
 ) -> Result<Said, Memory>
-    requires { key.now ≡ world_key }
-    ensures { IfOk result (WentByEvent chronicle.old chronicle.new issued.now (event_of event.now)
+    requires { key.old ≡ world_key }
+    ensures key { key.new ≡ key.old }
+    ensures went { IfOk result (WentByEvent chronicle.old chronicle.new issued.now (event_of event.now)
         messages.old.items messages.new.items) }
 {
     match event {
@@ -295,9 +296,9 @@ impl Expecting {
         ensures first { IfOk result (λ it. it ≡ first_traced header.now) }
         ensures after { IfOk result (IsAfter header.now []) }
     {
-        let key = SealingKey::new(&world_key());
+        let mut key = SealingKey::new(&world_key());
         let chronicle = Chronicle::new(alloc, header.variant, header.module)?;
-        let snapshot = chronicle.snapshot(&key)?;
+        let snapshot = chronicle.snapshot(&mut key)?;
         let mut issued = Vec::new(alloc);
         issued.push(snapshot)?;
         Ok(Expecting {
@@ -314,28 +315,28 @@ impl Expecting {
         ensures hears { IfOk result (Hears (world_of self.old.header) self.old.history
             self.old.issued (event_of event.now)) }
         ensures after { OnOk result (StandsLater self.old (event_of event.now) self.new) }
-        ensures genuine { IfOk result
-            (λ heard. DecidesLater self.old (event_of event.now) heard.is_genuine) }
 
         // The reply can be printed, and at most one snapshot is issued.
         ensures printable { IfOk result (λ heard. IsPrintable heard.reply) }
         ensures grows { OnOk result (length self.new.issued ≤ length self.old.issued + 1) }
     {
-        let is_genuine = is_genuine(&self.chronicle, &self.key, self.issued.as_slice(), event)?;
         let mut messages = Vec::new(self.alloc);
         let Said { reply, snapshot } = follow(
             &mut self.chronicle,
-            &self.key,
+            &mut self.key,
             self.issued.as_slice(),
             event,
             &mut messages,
         )?;
         keep(&mut self.issued, snapshot)?;
-        Ok(Heard {
-            reply,
-            messages,
-            is_genuine,
-        })
+        Ok(Heard { reply, messages })
+    }
+
+    /// Whether the offer of an event that is to come names a position of the history, where it is right.
+    pub fn is_genuine(&self, event: &Event) -> Result<bool, Memory>
+        ensures { IfOk result (λ yes. DecidesLater self.now (event_of event.now) yes) }
+    {
+        is_genuine(&self.chronicle, &self.key, self.issued.as_slice(), event)
     }
 
     /// How many requests are committed.

@@ -71,12 +71,12 @@ replans plan now meddles made on planned few same = record {
 }
 
 pub goes_on : {E : Type 0} (calls rest later : Standing → Standing → E
-    → Type 0) (old now new : Standing) (meddles : List Meddle) (made number next : ℕ) → InFlight calls rest old now meddles made
-    → Moves now new number next → made + 1 < 255
+    → Type 0) (old now new : Standing) (meddles : List Meddle) (made : ℕ) → InFlight calls rest old now meddles made
+    → Moves now new → made + 1 < 255
     → ((plan : Plan) → Replans plan (plan_by Quiet meddles) made now → (end : Standing) (ended : E)
     → later (under plan (counted made) new) end ended → rest (under plan made now) end ended)
     → InFlight calls later old new meddles (made + 1)
-goes_on calls rest later old now new meddles made number next f m few leads =
+goes_on calls rest later old now new meddles made f m few leads =
     let q : Plan = plan_by Quiet meddles in
     let is : IsAt now q made = record { is_on = f.is_on; planned = f.planned } in
     let on = room_at m.middle new q (counted made) m.room (then_at m.act now m.middle q made is m.goes) in

@@ -1,7 +1,6 @@
 pub mod Above
 mod Below
-mod Replanning
-mod Machine
-mod AskTurning
-mod Asking
+mod Ending
 mod Flying
+mod Machine
+mod Replanning

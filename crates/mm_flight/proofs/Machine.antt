@@ -186,7 +186,7 @@ module _ {A R : Type 0} where
     keeps_cell (Seen it) on old new s made cell = refl
     keeps_cell (Changing ready) on old new s made cell = after_made ready.change ready.answer s.fault on s.gives made cell
 
-    pub steps_move : (stage on : Stage A) (old new : Standing) → Steps o stage old new (Going on) → Moves old new 0 1
+    pub steps_move : (stage on : Stage A) (old new : Standing) → Steps o stage old new (Going on) → Moves old new
     steps_move stage on old new s =
         let a = steps_act stage old new (Going on) s in record {
           act = act_of stage;
@@ -194,7 +194,6 @@ module _ {A R : Type 0} where
           goes = a.goes;
           room = a.room;
           keeps = a.goes.cell ∙ keeps_cell stage on old new s a.goes.is_made old.cell;
-          counts = refl;
         }
 
     -- What is left behind a step, and a step that fails

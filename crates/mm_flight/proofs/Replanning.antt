@@ -1,7 +1,6 @@
 -- A device step that goes as its plan says goes so under each plan that says the same of it.
 use Rattle.mm_flight.proofs.Below.{◌≡◌, ℕ, ◌+◌, ◌<◌, true, Bool, List, Option, None, Some, refl, ap, ◌∙◌, subst, arith, counted, StepFault}
-use Rattle.mm_flight.proofs.Below.{Meddle, Quiet, Plan, Standing, Act, Goes, cell_after, EndsBy, GoesByPlan, will_answer, Ended, ended_with}
-use Rattle.mm_flight.proofs.Below.{is_broken, Refusal, plan_by, under, SaySame}
+use Rattle.mm_flight.proofs.Below.{Meddle, Quiet, Plan, Standing, Act, Goes, EndsBy, GoesByPlan, will_answer, plan_by, under, SaySame}
 use Rattle.mm_platform.specs.declared.fault.StepFault.TheVariants.{Failed, Off}
 
 pub counted_few : (made : ℕ) → made < 255 → counted made ≡ made + 1
@@ -52,41 +51,13 @@ replanned act p q made now new fault r g =
           subst (λ (x : Plan). GoesByPlan x (under p made now) (under p (counted made) new) g.is_made g.others fault) same told;
     }
 
--- A device step that didn't fail and wrote no cell, and room that may have been made behind it. The next one is that of the
--- next number.
-pub record Moves (old new : Standing) (number next : ℕ) : Type 0 where
+-- A device step that didn't fail and wrote no cell, and room that may have been made behind it.
+pub record Moves (old new : Standing) : Type 0 where
   pub act : Act
   pub middle : Standing
   pub goes : Goes act old middle None
   pub room : new ≡ record middle { spare = new.spare }
   pub keeps : middle.cell ≡ old.cell
-  pub counts : next ≡ number + 1
-
--- What a turn of a call that goes on comes to, by the numbers of its steps, the step that comes next and what is left of the call:
--- the step wrote no cell, and the next is that of the next number; whatever ends what is left behind it ends what was left before.
-pub record GoesTo {C E : Type 0} (number : C → ℕ) (act : C → Act) (finishes : C → Standing → Standing → E → Type 0) (call : C)
-    (old new : Standing) (next : C) : Type 0 where
-  pub counts : number next ≡ number call + 1
-  pub keeps : (made : Bool) (cell : Option (List ℕ)) → cell_after (act call) made cell ≡ cell
-  pub joins : (end : Standing) (ended : E) → finishes next new end ended → finishes call old end ended
-
-module _ {C E : Type 0} {number : C → ℕ} {act : C → Act} {finishes : C → Standing → Standing → E → Type 0} {call next : C}
-    {old new : Standing} where
-  pub goes_to : number next ≡ number call + 1 → ((made : Bool) (cell : Option (List ℕ)) → cell_after (act call) made cell ≡ cell)
-      → ((end : Standing) (ended : E) → finishes next new end ended → finishes call old end ended)
-      → GoesTo number act finishes call old new next
-  goes_to counts keeps joins = record { counts = counts; keeps = keeps; joins = joins }
-
-  pub moves_by : {middle : Standing} → Goes (act call) old middle None → new ≡ record middle { spare = new.spare }
-      → GoesTo number act finishes call old new next → Moves old new (number call) (number next)
-  moves_by {middle = middle} goes room c = record {
-    act = act call;
-    middle = middle;
-    goes = goes;
-    room = room;
-    keeps = goes.cell ∙ c.keeps goes.is_made old.cell;
-    counts = c.counts;
-  }
 
 -- with nothing planned to go wrong a step answers no fault
 pub quiet_step : (act : Act) (now new : Standing) (fault : Option StepFault) (meddles : List Meddle) (made : ℕ) → now.is_on ≡ true
@@ -99,9 +70,3 @@ quiet_step act now new fault meddles made on planned g =
 -- every device step fails on this platform
 abbrev pub AlwaysFails : Standing → Type 0
 AlwaysFails now = (act : Act) (new : Standing) (fault : Option StepFault) → Goes act now new fault → fault ≡ None → ⊥
-
--- a refusal that hands a fault on is a call that was broken off
-pub broken_by : (fault : Option StepFault) (why : Refusal) (ended : Ended) → (fault ≡ None → ⊥) → ended ≡ ended_with fault why
-    → is_broken ended ≡ true
-broken_by None why ended never e = absurd (never refl)
-broken_by (Some fault) why ended never e = ap is_broken e

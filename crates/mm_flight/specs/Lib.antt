@@ -1,4 +1,2 @@
-pub mod Operating
-pub mod Asks
 pub mod InFlight
 pub mod Machine

@@ -1,5 +1,5 @@
 -- A call of the machine in flight.
-use Rattle.std.specs.Prelude.{ℕ, List, Option, None, Some}
+use Rattle.std.specs.Prelude.{ℕ, Bool, true, false, List, Option, None, Some}
 use Rattle.mm_platform.specs.declared.fault.StepFault.{StepFault}
 use Rattle.mm_platform.specs.declared.plan.Meddle.{Meddle}
 use Rattle.mm_platform.specs.declared.plan.Stop.{Stop}
@@ -14,7 +14,7 @@ use Rattle.mm_machine.specs.declared.call.Step.{Step}
 use Rattle.mm_machine.specs.declared.call.Step.TheVariants.{Going, Over}
 use Rattle.mm_flight.specs.InFlight.{InFlight, plan_by, under}
 
--- the fault that a call hands on
+-- the fault that a call hands on, and whether one broke it off
 abbrev pub fault_ended : {A R : Type 0} → Ended A R → Option StepFault
 fault_ended (Broken fault commits) = Some fault
 fault_ended _ = None
@@ -22,6 +22,10 @@ fault_ended _ = None
 abbrev pub fault_stepped : {A R : Type 0} → Step A R → Option StepFault
 fault_stepped (Going stage) = None
 fault_stepped (Over ended) = fault_ended ended
+
+abbrev pub is_broken : {A R : Type 0} → Ended A R → Bool
+is_broken (Broken fault commits) = true
+is_broken _ = false
 
 module _ {A R : Type 0} (o : Asked A R) where
   -- A call that began over a platform that stood so is in flight, and stands here.

@@ -1,8 +1,3 @@
-//! A call of either core, moved one device step at a time or to its end.
+//! The laws of a call in flight, whatever it asks: a call that is made a device step at a time, in what others plan
+//! meanwhile, is the call in one go. There are definitions and proofs here, and no code.
 #![tactic(auto)]
-
-mod ask;
-mod operation;
-
-pub use ask::{AskCall, AskTurn};
-pub use operation::Ask;

@@ -47,16 +47,19 @@ pub use Rattle.mm_model.specs.declared.refusal.Refusal.TheVariants.{Device, Full
 pub use Rattle.mm_model.specs.declared.verdict.Verdict.{Verdict}
 pub use Rattle.mm_model.proofs.Above.{basic_issued, basic_names, opt_issued, opt_names}
 pub use Rattle.mm_call.specs.Asked.{IsAsked, IsWithin}
+pub use Rattle.mm_call.specs.AskedIn.{AskedIn}
 pub use Rattle.mm_call.specs.Called.{called, ended_by, given_for, reading_steps, seen_at}
 pub use Rattle.mm_call.specs.Calls.{breaks_off, EndsTo, goes_on}
 pub use Rattle.mm_call.specs.CallsOn.{CallContinues, CallsOn}
 pub use Rattle.mm_call.specs.Coming.{Comes, grown, kept}
+pub use Rattle.mm_call.specs.Counts.{StepsAnswered, StepsBroken, StepsBy, StepsFrom, WritesAtMostOnce}
 pub use Rattle.mm_call.specs.Courses.{after_step, commits, Course, End, Fate, seen_in, walk, Walked}
 pub use Rattle.mm_call.specs.Ended.{result_of}
 pub use Rattle.mm_call.specs.Found.{Found, found_at, found_by_verdict}
 pub use Rattle.mm_call.specs.FoundWords.{found_unless_wanting, found_with, is_fresh}
 pub use Rattle.mm_call.specs.Leaving.{Blames, whole, whole_in}
 pub use Rattle.mm_call.specs.Levels.{all_made, by_digests, by_lists}
+pub use Rattle.mm_call.specs.Machine.{CallReads}
 pub use Rattle.mm_call.specs.MoveLaws.{more_batches, same_batches}
 pub use Rattle.mm_call.specs.OfferLaws.{basic_content, one_content, opt_content}
 pub use Rattle.mm_call.specs.Order.{admitted}
@@ -70,17 +73,16 @@ pub use Rattle.mm_call.proofs.Above.{Alike, alike_call, AllMay, answered_clean_a
 pub use Rattle.mm_call.proofs.Above.{basic_comes, before, ends_result, Given, names_after, names_made, opt_comes as comes, refused_result}
 pub use Rattle.mm_call.proofs.Above.{fresh_found, found_with_tells, stands_at, steps_give, unlacked, unless_lost, weighed_tells}
 pub use Rattle.mm_machine.specs.Finishing.{acts_for, answer_in}
-pub use Rattle.mm_basic.specs.Asks.{basic_call, StepsAnswered as BasicAnswered, StepsBy as BasicSteps}
-pub use Rattle.mm_basic.specs.Asks.{StepsRefused as BasicRefused}
-pub use Rattle.mm_opt.specs.Asks.{opt_call, ReadsOn, StepsAnswered, StepsBy, StepsFrom, WritesAtMostOnce}
-pub use Rattle.mm_flight.proofs.Above.{begun_may_ask}
+pub use Rattle.mm_basic.specs.Asks.{basic_call}
+pub use Rattle.mm_opt.specs.Asks.{opt_call}
+pub use Rattle.mm_ask.specs.Asks.{ask_call}
 pub use Rattle.mm_store.specs.Calls.{CountsFailures, putting, ReadsSlot, WritesSlot}
 pub use Rattle.mm_store.specs.Kept.{StoreStanding}
 pub use Rattle.mm_store.specs.Pending.{Pending, pending_front, ReadsPending}
 pub use Rattle.mm_store.specs.Slots.{longest_slot, slot_read, Slots, with_slot}
 pub use Rattle.mm_store.specs.declared.fault.StoreFault.{StoreFault}
 pub use Rattle.mm_store.proofs.Above.{length-pending_front, longest_slot-is, one_reading, reads_none-short, slot_in-with_slot}
-pub use Rattle.mm_recovery.specs.Asking.{AskedIn, IsCall}
+pub use Rattle.mm_recovery.specs.Asking.{IsCall}
 pub use Rattle.mm_recovery.specs.Begins.{Begins, BlamesDevice, first_on, first_slots, IsFirstStore, Leaves, ShowsValues, TellsUse}
 pub use Rattle.mm_recovery.specs.CellWrites.{CallWrites, is_open_after, IsNewAt, IsNewOf, LeavesFlag, LeavesOpen, new_by, new_first, openings}
 pub use Rattle.mm_recovery.specs.CellWrites.{RequestWrites, TellsFlag, WritesByOpening, WritesFor}

@@ -3,12 +3,11 @@ use Rattle.mm_recovery.proofs.Below.{◌≡◌, ◌∙◌, ◌+◌, ◌≤◌, �
 use Rattle.mm_recovery.proofs.Below.{◌⊎◌, counted, Variant, Basic, Opt, Standing, Answer, counted_by, WritesAtMostOnce, LeavesOpen, TellsFlag}
 use Rattle.mm_recovery.proofs.Below.{WritesByOpening, WritesFor, is_open_after, openings, Option, None, Result, Err, StepFault, cell_after}
 use Rattle.mm_recovery.proofs.Below.{Meaning, Batch, PartsFault, IsCell, ReadsCell, SpellsCell, cell_spelling, Snapshot, BatchAnswer, Refusal}
-use Rattle.mm_recovery.proofs.Below.{Memory, Device, is_long, whole, whole_in, Ended, goes_on, breaks_off, EndsTo, result_of}
-use Rattle.mm_recovery.proofs.Below.{fault_of, OrMemory, refused_result, BasicSteps, BasicAnswered, BasicRefused, ReadsOn, opt_call}
+use Rattle.mm_recovery.proofs.Below.{Memory, Device, is_long, whole, whole_in, Ended, goes_on, breaks_off, EndsTo, result_of, acts_for, answer_in}
+use Rattle.mm_recovery.proofs.Below.{fault_of, OrMemory, refused_result, CallReads, StepsBroken, StepsBy, opt_call}
 use Rattle.mm_recovery.proofs.Below.{StepsAnswered, StepsFrom, CallWrites, IsNewAt, LeavesFlag, new_by, [], ◌∷◌}
 use Rattle.mm_platform.specs.Steps.{Act}
 use Rattle.mm_machine.specs.Acts.{acts_left}
-use Rattle.mm_machine.specs.Reading.{extends}
 use Rattle.mm_call.specs.Calls.{StepsTo}
 use Rattle.std.proofs.Math.Nat.{suc-add, zero-add}
 use Rattle.mm_seal.specs.declared.cell.Cell.{Cell}
@@ -21,9 +20,9 @@ use Rattle.mm_opt.specs.Found.{Found}
 use Rattle.mm_opt.specs.Seen.{cell_in}
 use Rattle.mm_opt.specs.Order.{has_lost_power}
 use Rattle.mm_opt.specs.Answers.{opened_cell, found_from, found_in_offer, found_unless, found_in}
-use Rattle.mm_opt.specs.Steps.{ReadsOwnCell, FindsCell, MakesRoom, RoomFor}
-use Rattle.mm_opt.specs.Asks.{Reads, acts_for, answer_in}
+use Rattle.mm_opt.specs.Operating.{opt_asked}
 use Rattle.mm_opt.specs.Asked.{AskedInOpt}
+use Rattle.mm_opt.proofs.Above.{ReadsOn, ReadsOwnCell, reads_told}
 
 -- counts
 counted_sum : (n m count : ℕ) → counted_by m (counted_by n count) ≡ counted_by (n + m) count
@@ -116,17 +115,17 @@ both_writes variant n m before middle after a b = record {
 }
 
 -- Basic
-basic_answered : (again : Bool) (old new : Standing) → BasicAnswered again old new → new.writes ≡ counted_by (new_by again) old.writes
+basic_answered : (again : Bool) (old new : Standing) → StepsAnswered Basic again old new → new.writes ≡ counted_by (new_by again) old.writes
 basic_answered again old new s = grind (arith, s)
 
 -- the requests that a refused call came to write
-basic_refused : (broken : Option StepFault) (old new : Standing) → BasicRefused broken old new
+basic_refused : (broken : Option StepFault) (old new : Standing) → StepsBroken broken old new
     → (requests : ℕ) × IsNewAt broken requests × (new.writes ≡ counted_by requests old.writes)
 basic_refused None old new s = (0, refl, s.1)
 basic_refused (Some fault) old new (inl s) = (0, omega arith, s.1)
 basic_refused (Some fault) old new (inr s) = (1, omega arith, s.1)
 
-pub basic_writes : (old new : Standing) (result : Result Answer Refusal) → BasicSteps (whole_in result) old new
+pub basic_writes : (old new : Standing) (result : Result Answer Refusal) → StepsBy Basic (whole_in result) old new
     → CallWrites Basic result old new
 basic_writes old new (Ok answer) s =
     record { requests = new_by answer.again; new = refl; writes = basic_answered answer.again old new s; leaves = tt }
@@ -160,13 +159,6 @@ or_all P x found h m o = grind (arith, h, m, o)
 seen_spelled : (id : ℕ) (bytes : List ℕ) (read : Result Cell CellFault) (seen : Cell) → ReadsCell bytes read → Ok seen ≡ cell_in id read
     → SpellsCell bytes seen
 seen_spelled id bytes read seen r e = grind (arith, r, e)
-
-room_kept : (needs : Bool) (old new : Standing) → RoomFor needs old new → new.cell ≡ old.cell
-room_kept true old new r = ap (λ (x : Standing). x.cell) r.same
-room_kept false old new r = ap (λ (x : Standing). x.cell) r
-
-room_cell : (found : Found) (old new : Standing) → MakesRoom (Ok found) old new → new.cell ≡ old.cell
-room_cell found old new r = room_kept (extends found) old new r
 
 -- the cell after these steps; a call that gave an answer made all of its own
 abbrev cells_after : List Act → Option (List ℕ) → Option (List ℕ)
@@ -210,17 +202,17 @@ flag_left seen (Change ready) new is by e = change_left seen ready.change ready.
 module _ (meaning : Meaning) (offer : List ℕ) (b : Batch) (old new : Standing) (ended : Ended) (answer : BatchAnswer)
     (done : result_of ended ≡ Ok answer) where
   leaves_seen : (read : Result Cell Refusal) (one middle : Standing) (found : Found) → ReadsOwnCell meaning.id old one read
-      → ReadsOn meaning read one middle offer b (Ok found) → EndsTo opt_call (Ok found) middle new ended
+      → ReadsOn meaning offer b read one middle (Ok found) → EndsTo opt_call (Ok found) middle new ended
       → LeavesFlag (new_by answer.again) old new
   leaves_seen (Err why) one middle found r on ends = let e : Ok found ≡ Err why = on.1 in absurd (cc)
   leaves_seen (Ok seen) one middle found r on ends =
-      let f : FindsCell meaning.id old (Ok seen) = r.finds refl in
-      let s = seen_spelled meaning.id f.bytes f.sees.read seen f.sees.reads f.sees.found_is in
+      let f = r.finds refl in
+      let s = seen_spelled meaning.id f.bytes f.said.read seen f.said.reads f.said.found_is in
       let told : (bytes : List ℕ) → old.cell ≡ Some bytes → bytes ≡ cell_spelling seen = λ bytes e. sym (f.told bytes e) ∙ s.1 in
       let g = on.finds refl in
       let by : IsByCell seen (Ok found) =
-      or_all (λ (x : Result Found Refusal). IsByCell seen x) (found_in meaning seen g.register g.finds.taken b) (Ok found)
-      (at_by_cell (has_lost_power seen g.register) meaning seen g.register g.finds.taken b) tt g.finds.found_is in
+      or_all (λ (x : Result Found Refusal). IsByCell seen x) (found_in meaning seen g.register g.said.taken b) (Ok found)
+      (at_by_cell (has_lost_power seen g.register) meaning seen g.register g.said.taken b) tt g.said.found_is in
       let made = all_made (acts_for found) (answer_in found) answer middle new ended ends done in
       record {
         finds = λ bytes e. (seen.flag, record { cell = seen; is_cell = s.0; tells = e ∙ ap Some (told bytes e); shows = refl });
@@ -229,15 +221,16 @@ module _ (meaning : Meaning) (offer : List ℕ) (b : Batch) (old new : Standing)
             reads_cell-same (cell_spelling t.cell) (Ok t.cell) (Ok seen) (t.is_cell, refl) (s.0, told (cell_spelling t.cell) t.tells) in
             let same : t.cell ≡ seen = cc in
             rw (made.0, sym t.shows, same)
-            (flag_left seen found new s.0 by (made.1 ∙ ap (cells_after (acts_for found)) (room_cell found on.middle middle on.room
+            (flag_left seen found new s.0 by (made.1 ∙ ap (cells_after (acts_for found)) (ap (λ (x : Standing). x.cell) on.room
             ∙ on.goes.cell ∙ r.goes.cell ∙ t.tells ∙ ap (λ (c : Cell). Some (cell_spelling c)) same)));
       }
 
-  ends_flag : (found : Result Found Refusal) (middle : Standing) → Reads meaning old middle offer b found
+  ends_flag : (found : Result Found Refusal) (middle : Standing) → CallReads (opt_asked meaning offer b) old middle found
       → EndsTo opt_call found middle new ended → LeavesFlag (new_by answer.again) old new
   ends_flag (Err why) middle r e =
       let failed : Ok answer ≡ Err why = sym done ∙ ap result_of e.1 ∙ refused_result why in absurd (cc)
-  ends_flag (Ok found) middle r e = leaves_seen r.cell r.middle middle found r.reads r.on e
+  ends_flag (Ok found) middle r e =
+      let t = reads_told meaning offer b old middle (Ok found) r in leaves_seen t.cell t.middle middle found t.reads t.on e
 
 -- a new request
 writes_new : (old new : Standing) → WritesAtMostOnce old new
@@ -251,7 +244,7 @@ writes_new old new once opens = record {
 opens_from : (flag : Bool) (old new : Standing) → StepsFrom flag false old new → new.writes ≡ counted_by (openings flag 1) old.writes
 opens_from flag old new s = grind (arith, s)
 
-opt_answered : (again : Bool) (old new : Standing) → StepsAnswered again old new → WritesAtMostOnce old new
+opt_answered : (again : Bool) (old new : Standing) → StepsAnswered Opt again old new → WritesAtMostOnce old new
     → ((flag : Bool) → TellsFlag old flag → StepsFrom flag again old new) → WritesByOpening (new_by again) old new
 opt_answered true old new s once from = writes_none old new s.1
 opt_answered false old new s once from = writes_new old new once (λ flag t. opens_from flag old new (from flag t))

@@ -1,14 +1,8 @@
 -- One call of either variant.
 use Rattle.std.specs.Prelude.{◌≢◌, ℕ, List, Result, Err, IfOk}
-use Rattle.mm_recovery.specs.Below.{Variant, Basic, Opt, Standing, Batch, One, Meaning, IsFit, Answer, BatchAnswer, Refusal, Long, CallsOn}
-use Rattle.mm_recovery.specs.Below.{LeavesUntouched, Blames, whole, whole_in, fault_in, AskedInBasic, AskedInOpt}
+use Rattle.mm_recovery.specs.Below.{Variant, Standing, One, Meaning, IsFit, Answer, Refusal, Long, CallsOn, LeavesUntouched}
+use Rattle.mm_recovery.specs.Below.{Blames, whole, whole_in, fault_in}
 use Rattle.mm_recovery.specs.CellWrites.{CallWrites}
-
--- what a whole call promises, in either core
-abbrev pub AskedIn : Variant → Meaning → Standing → Standing → List ℕ → Batch
-    → Result BatchAnswer Refusal → Type 0
-AskedIn Basic meaning old new offer b result = AskedInBasic meaning old new offer b result
-AskedIn Opt meaning old new offer b result = AskedInOpt meaning old new offer b result
 
 -- One call, for a request that isn't too long: it goes as a call of the variant does, from any
 -- history; its count of faults rose exactly where it tells of a device; its answer has its sizes;

@@ -25,13 +25,13 @@ pub use Rattle.mm_model.specs.Places.{Names}
 pub use Rattle.mm_model.specs.Sound.{IsSound}
 pub use Rattle.mm_model.specs.Standing.{IsGenuine, IsRight, StandsFor, cell_of, issued_bytes}
 pub use Rattle.mm_model.specs.declared.answer.Answer.{Answer}
-pub use Rattle.mm_model.specs.declared.answer.BatchAnswer.{BatchAnswer}
 pub use Rattle.mm_model.specs.declared.refusal.Refusal.{Refusal}
 pub use Rattle.mm_model.specs.declared.refusal.Refusal.TheVariants.{Device, Long, Lost, Stale}
 pub use Rattle.mm_call.specs.Answers.{answer_on}
 pub use Rattle.mm_call.specs.Asked.{IsWithin, right_messages}
 pub use Rattle.mm_call.specs.CallsOn.{CallsOn}
 pub use Rattle.mm_call.specs.Coming.{EndsWith}
+pub use Rattle.mm_call.specs.Counts.{WritesAtMostOnce}
 pub use Rattle.mm_call.specs.Courses.{commits}
 pub use Rattle.mm_call.specs.Found.{right_content}
 pub use Rattle.mm_call.specs.Leaving.{Blames, LeavesUntouched, whole, whole_in}
@@ -39,9 +39,6 @@ pub use Rattle.mm_call.specs.Premises.{AreShown, IsIdle}
 pub use Rattle.mm_call.specs.Refusals.{fault_in, fault_of}
 pub use Rattle.mm_call.specs.Standing.{counted_by, instance_by}
 pub use Rattle.mm_call.specs.Tied.{standing_items}
-pub use Rattle.mm_basic.specs.Asked.{AskedInBasic}
-pub use Rattle.mm_opt.specs.Asked.{AskedInOpt}
-pub use Rattle.mm_opt.specs.Asks.{WritesAtMostOnce}
 pub use Rattle.mm_store.specs.Calls.{ReadsSlot, WritesSlot}
 pub use Rattle.mm_store.specs.Kept.{StoreStanding}
 pub use Rattle.mm_store.specs.Pending.{Pending, ReadsPending, pending_spelling}

@@ -3,11 +3,13 @@
 ghost use Rattle.std.specs.Prelude.{◌≡◌, false, IfOk, length};
 ghost use Rattle.mm_module.specs.Batch.{One};
 ghost use Rattle.mm_model.specs.Long.{is_long};
-ghost use Rattle.mm_recovery.specs.Asking.{AskedIn, IsCall};
+ghost use Rattle.mm_call.specs.AskedIn.{AskedIn};
+ghost use Rattle.mm_ask.specs.Asks.{ask_call};
+ghost use Rattle.mm_recovery.specs.Asking.{IsCall};
 
 use crate::hosted::Hosted;
+use mm_ask::Ask;
 use mm_call::KeptKey;
-use mm_flight::AskCall;
 use mm_model::{Answer, BatchAnswer, Refusal};
 use mm_module::{Batch, Module};
 use mm_platform::Platform;
@@ -37,23 +39,16 @@ fn call_one<M: Module, P: Platform>(
     request: &[u8],
 ) -> Result<BatchAnswer, Refusal>
     requires { is_long (One request.now) ≡ false }
-    ensures asked { AskedIn hosted.now.variant (M.meaning hosted.now.«module».now)
+    ensures asked { AskedIn (ask_call hosted.now.variant) (M.meaning hosted.now.«module».now)
         (P.standing platform.old) (P.standing platform.new) offer.now (One request.now) result }
     ensures one { IfOk result (λ answer. length answer.outputs ≡ 1) }
 {
-    let batch = Batch::One(request);
-    match AskCall::begin(hosted.variant, batch) {
-        Ok(call) => {
-            call.finish(
-                hosted.alloc,
-                hosted.module,
-                platform,
-                offer,
-                batch,
-                &mut KeptKey::new(),
-            )
-            .result()
-        }
-        Err(_) => unreachable!(),
-    }
+    let ask = Ask {
+        variant: hosted.variant,
+        alloc: hosted.alloc,
+        module: hosted.module,
+        offer,
+        batch: Batch::One(request),
+    };
+    ask.call(platform, &mut KeptKey::new()).result()
 }

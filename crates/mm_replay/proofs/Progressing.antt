@@ -1,8 +1,8 @@
 -- What an event leaves of a replay.
-use Rattle.mm_replay.proofs.Below.{◌≡◌, ◌∙◌, ◌+◌, ◌-◌, ◌^◌, ◌≤◌, ◌<◌, ℕ, List, [], ◌∷◌, ◌++◌, length, Some, None, inl, inr, refl, sym, ap}
-use Rattle.mm_replay.proofs.Below.{subst, arith, sum_by, slice_get, slice_get_past, Meddle, Stop, reading_steps, course_of}
+use Rattle.mm_replay.proofs.Below.{◌≡◌, ◌∙◌, ◌+◌, ◌-◌, ◌^◌, ◌≤◌, ◌<◌, ℕ, List, length, Some, inl, inr, refl, ap}
+use Rattle.mm_replay.proofs.Below.{subst, arith, Meddle, Stop, reading_steps, course_of}
 use Rattle.mm_replay.proofs.Below.{count_none, Event, Ask, Power, Reply, Digests, Held, instance_of}
-use Rattle.mm_replay.proofs.Below.{having_read, Follows, Wants, Issues}
+use Rattle.mm_replay.proofs.Below.{having_read, Follows, Wants}
 use Rattle.mm_replay.specs.Replaying.{replayed_in, KeepsWorld, WantsEvent}
 use Rattle.mm_replay.specs.Schedule.{after, Replayed, replaying}
 use Rattle.mm_schedule.specs.Grammar.{event_at}
@@ -11,10 +11,7 @@ use Rattle.mm_play.specs.declared.player.Refused.TheVariants.{Bad, Much}
 use Rattle.mm_play.specs.declared.player.ReplyFault.{ReplyFault}
 use Rattle.mm_play.specs.declared.player.ReplyFault.TheVariants as fault
 use Rattle.std.specs.Prelude.{Err, Ok, Result}
-use Rattle.mm_replay.proofs.Below.{◌*◌, issues}
-use Rattle.std.proofs.Common.{length-append}
-use Rattle.std.proofs.lemmas.List.Sums.{sum_by-append}
-use Rattle.mm_play.specs.Kept.{most_kept}
+use Rattle.mm_replay.proofs.Below.{◌*◌}
 use Rattle.std.proofs.Math.Nat.{min-eq_left}
 use Rattle.mm_base.specs.Limits.{most_events, most_members}
 use Rattle.mm_call.specs.Courses.{seen_in}
@@ -44,11 +41,6 @@ stays (Ask meddles stop offer b) old new w = elim w [ inl e ↦ same_stays old n
 stays Power old new e = absurd e
 stays event old new e = same_stays old new e
 
--- the snapshot that was handed out last
-last_of : (xs : List (List ℕ)) (x : List ℕ) → slice_get (xs ++ x ∷ []) (length xs) ≡ Some x
-last_of [] x = refl
-last_of (y ∷ xs) x = last_of xs x
-
 -- what an event leaves, where few requests are committed
 module _ (old new : Held) (event : Event) (said : Reply) (events : ℕ) (fits : old.digests.count ≤ most_members * events)
     (few : events ≤ most_events) (more : (held.outcome_in old event).state.count ≤ old.digests.count + most_members)
@@ -63,30 +55,12 @@ module _ (old new : Held) (event : Event) (said : Reply) (events : ℕ) (fits : 
   pub stands_after : replayed_in new (events + 1) ≡ after (replayed_in old events) event
   stands_after = λ j. record { header = f.header j; digests = same j; issued = f.issued j; events = events + 1 }
 
-  -- the bytes of the snapshots, by what was issued
-  pub counted_after : (count n added : ℕ) → n ≡ length old.issued
-      → ((snapshot : List ℕ) → slice_get new.issued n ≡ Some snapshot → added ≡ length snapshot)
-      → (slice_get new.issued n ≡ None → added ≡ 0) → count ≡ sum_by length old.issued → count + added ≡ sum_by length new.issued
-  counted_after count n added len some none is =
-      elim (subst (Issues old.issued) (sym f.issued) (issues (instance_of old) old.digests old.issued event)) [
-        | inl alike ↦
-            let at : slice_get new.issued n ≡ None = rw (alike, len) (slice_get_past old.issued (length old.issued) (omega arith)) in
-            omega (arith, none at, is, ap (sum_by length) alike)
-        | inr one ↦
-            let at : slice_get new.issued n ≡ Some one.0 = rw (one.1, len) (last_of old.issued one.0) in
-            let size : sum_by length (one.0 ∷ []) ≡ length one.0 = omega arith in
-            omega (arith, some one.0 at, is, ap (sum_by length) one.1, sum_by-append length old.issued (one.0 ∷ []), size)
-      ]
-
 -- where memory was wanting nothing is issued or committed
-pub keeps_still : (event : Event) (old new : Held) (events issued : ℕ) → KeepsWorld old events issued → Wants event old new
-    → KeepsWorld new events issued
-keeps_still event old new events issued k w =
+pub keeps_still : (event : Event) (old new : Held) (events : ℕ) → KeepsWorld old events → Wants event old new → KeepsWorld new events
+keeps_still event old new events k w =
     let s = stays event old new w in
     record {
       few = k.few;
-      counted = k.counted ∙ ap (λ (x : List (List ℕ)). sum_by length x) (sym s.issued);
-      small = k.small;
       one_each = omega (arith, ap (λ (x : List (List ℕ)). length x) s.issued, k.one_each);
       fits = omega (arith, s.count, k.fits);
     }
@@ -108,26 +82,14 @@ line_played old new line event (Err (fault.Refused Bad)) is h = (ap (answer_by r
 line_played old new line event (Err (fault.Refused Much)) is h = h
 
 -- an event was followed: no more was committed and issued than it can
-pub keeps_on : (old new : Held) (event : Event) (said : Reply) (r : Replayed) (events issued n added : ℕ) → KeepsWorld old events issued
-    → replayed_in old events ≡ r → r.events < most_events → sum_by length r.issued ≤ most_kept
-    → (held.outcome_in old event).state.count ≤ old.digests.count + most_members
-    → Follows (held.outcome_in old event) old new said → n ≡ length old.issued
-    → ((snapshot : List ℕ) → slice_get new.issued n ≡ Some snapshot → added ≡ length snapshot) → (slice_get new.issued n ≡ None → added ≡ 0)
-    → added < 2 ^ 63 → KeepsWorld new (events + 1) (issued + added)
-keeps_on old new event said r events issued n added k view few room more f len some none bound =
+pub keeps_on : (old new : Held) (event : Event) (said : Reply) (r : Replayed) (events : ℕ) → KeepsWorld old events
+    → replayed_in old events ≡ r → r.events < most_events → length new.issued ≤ length old.issued + 1
+    → (held.outcome_in old event).state.count ≤ old.digests.count + most_members → Follows (held.outcome_in old event) old new said
+    → KeepsWorld new (events + 1)
+keeps_on old new event said r events k view few one more f =
     let less : events < most_events = omega (arith, few, ap (λ (x : Replayed). x.events) view) in
-    let kept : sum_by length old.issued ≤ most_kept = omega (arith, room, ap (λ (x : Replayed). sum_by length x.issued) view) in
     record {
       few = omega (arith, less);
-      counted = counted_after old new event said events k.fits k.few more f issued n added len some none k.counted;
-      small = omega (arith, bound, k.counted, kept);
-      one_each = one_more old.issued new.issued events k.one_each
-          (subst (Issues old.issued) (sym f.issued) (issues (instance_of old) old.digests old.issued event));
+      one_each = omega (arith, one, k.one_each);
       fits = fits_after old new event said events k.fits k.few more f;
     }
-  where
-    one_more : (old new : List (List ℕ)) (events : ℕ) → length old ≤ events + 1 → Issues old new → length new ≤ events + 1 + 1
-    one_more old new events most it = elim it [
-      | inl alike ↦ omega (arith, most, ap (λ (xs : List (List ℕ)). length xs) alike)
-      | inr one ↦ omega (arith, most, ap (λ (xs : List (List ℕ)). length xs) one.1, length-append old (one.0 ∷ []))
-    ]

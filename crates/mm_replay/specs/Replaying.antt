@@ -1,6 +1,5 @@
 -- A replay among its events, as contracts see it.
-use Rattle.std.specs.Prelude.{◌≡◌, ◌≤◌, ◌<◌, ◌+◌, ◌*◌, ◌^◌, ℕ, length}
-use Rattle.std.specs.List.{sum_by}
+use Rattle.std.specs.Prelude.{◌≡◌, ◌≤◌, ◌+◌, ◌*◌, ℕ, length}
 use Rattle.mm_base.specs.Limits.{most_events, most_members}
 use Rattle.mm_run.specs.Held.{Held, Wants}
 use Rattle.mm_schedule.specs.Events.{Event}
@@ -20,11 +19,8 @@ WantsEvent old event new =
     (was : Held) × (now : Held) × (replayed_in was old.events ≡ old) × Wants event was now
     × (replayed_in now old.events ≡ new)
 
--- The world has issued snapshots of so many bytes, and no more of them, and committed no more
--- requests, than so many events can.
-pub record KeepsWorld (world : Held) (events issued : ℕ) : Type 0 where
+-- The world has issued no more snapshots, and committed no more requests, than so many events can.
+pub record KeepsWorld (world : Held) (events : ℕ) : Type 0 where
   pub few : events ≤ most_events
-  pub counted : issued ≡ sum_by length world.issued
-  pub small : issued < 2 ^ 63 + 2 ^ 62
   pub one_each : length world.issued ≤ events + 1
   pub fits : world.digests.count ≤ most_members * events

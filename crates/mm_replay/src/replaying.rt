@@ -1,41 +1,25 @@
 //! A replay among its events.
 
-ghost use Rattle.std.specs.Prelude.{◌≡◌, ◌≤◌, ◌<◌, ◌+◌, ◌*◌, ◌^◌, length, IfOk, OnErr, OnOk, ◌++◌, false, ℕ, List, Some, None, slice_get};
-ghost use Rattle.std.specs.List.{sum_by};
-ghost use Rattle.mm_base.specs.Limits.{longest_line, most_events, most_members};
-ghost use Rattle.mm_play.specs.Kept.{most_kept};
+ghost use Rattle.std.specs.Prelude.{◌≡◌, ◌<◌, ◌++◌, length, IfOk, OnErr, OnOk, Some};
+ghost use Rattle.mm_base.specs.Limits.{most_events};
 
 use crate::put::put_reply;
 use crate::report::Report;
 use mm_base::{Bytes, Memory};
 use mm_play::{Refused, ReplyFault, Stage};
-use mm_schedule::{Event, EventText, Header, Meddles, Reply, event_in, put_end};
-use mm_world::World;
+use mm_schedule::{Event, Header, Meddles, Reply, event_in, put_end};
+use mm_world::{EventView, World, line_view, owned_view};
 use std::alloc::Global;
 use std::marker::Model;
 
 /// The bytes that are reserved for a reply: most have no more.
 const USUAL_REPLY: usize = 48;
 
-// The bytes of the issued snapshot with this number. None where it isn't issued.
-fn snapshot_length(world: &World, number: u32) -> u64
-    ensures some { (snapshot : List ℕ) → slice_get world.now.issued number ≡ Some snapshot
-        → result ≡ length snapshot }
-    ensures none { slice_get world.now.issued number ≡ None → result ≡ 0 }
-    ensures bound { result < 2 ^ 63 }
-{
-    match world.snapshot(number) {
-        Some(snapshot) => snapshot.len() as u64,
-        None => 0,
-    }
-}
-
-/// A replay among its events: a world, how many events it followed, and the bytes of the snapshots issued.
+/// A replay among its events: a world, and how many events it followed.
 #[derive(Drop)]
 pub struct Replaying {
     world: World,
     events: u32,
-    issued: u64,
 }
 
 impl Model for Replaying {
@@ -46,85 +30,60 @@ impl Model for Replaying {
 
     ghost view = { λ p. replayed_in p.world p.events };
 
-    ghost invariant = { λ p. KeepsWorld p.world p.events p.issued };
+    ghost invariant = { λ p. KeepsWorld p.world p.events };
 }
 
 impl Replaying {
     ghost use Rattle.mm_replay.specs.Schedule.{after, begun, outcome_of, replaying};
-    ghost use Rattle.mm_schedule.specs.Events.{event_of, meddles_of};
-    ghost use Rattle.mm_schedule.specs.Texts as texts;
+    ghost use Rattle.mm_schedule.specs.Events.{event_of};
     ghost use Rattle.mm_schedule.specs.Replies.{IsPrintable, end_line};
     ghost use Rattle.mm_play.specs.Stage.{PlaysEvent, answer_by};
     ghost use Rattle.mm_replay.specs.Replaying.{WantsEvent};
+    ghost use Rattle.mm_world.specs.Views.{event_seen};
 
     /// A replay at its first event.
     pub fn new(alloc: Global, header: &Header) -> Result<Replaying, Memory>
         ensures { IfOk result (λ it. it ≡ begun header.now) }
     {
         let world = World::new(alloc, header)?;
-        let issued = match world.snapshot(0) {
-            Some(first) => first.len() as u64,
-            None => unreachable!(),
-        };
-        Ok(Replaying {
-            world,
-            events: 0,
-            issued,
-        })
+        Ok(Replaying { world, events: 0 })
     }
 
     /// Plays an event in the world. After want of memory it isn't counted, and all is as the world leaves it then.
     #[inline(always)]
     pub fn event(&mut self, event: &Event) -> Result<Reply, Memory>
-        requires few { self.old.events < most_events }
-        requires room { sum_by length self.old.issued ≤ most_kept }
+        requires { self.old.events < most_events }
         ensures reply { IfOk result
             (λ reply. reply ≡ (outcome_of self.old (event_of event.now)).reply) }
         ensures printable { IfOk result IsPrintable }
         ensures after { OnOk result (self.new ≡ after self.old (event_of event.now)) }
         ensures wants { OnErr result (WantsEvent self.old (event_of event.now) self.new) }
     {
-        let before = self.world.issued();
-        let reply = self.world.event(event)?;
-        self.issued += snapshot_length(&self.world, before);
-        self.events += 1;
-        Ok(reply)
+        self.follow(owned_view(event))
     }
 
-    // Plays an event as it lies in a line, with its meddles.
+    // Plays an event where it lies.
     #[inline(always)]
-    fn event_in_line(&mut self, meddles: &Meddles, text: EventText<'_>) -> Result<Reply, Memory>
-        requires few { self.old.events < most_events }
-        requires room { sum_by length self.old.issued ≤ most_kept }
-        ensures reply { IfOk result (λ reply. reply
-            ≡ (outcome_of self.old (texts.event_in (meddles_of meddles.now) text.entry)).reply) }
+    fn follow(&mut self, event: EventView<'_>) -> Result<Reply, Memory>
+        requires { self.old.events < most_events }
+        ensures reply { IfOk result
+            (λ reply. reply ≡ (outcome_of self.old (event_seen event.entry)).reply) }
         ensures printable { IfOk result IsPrintable }
-        ensures after { OnOk result
-            (self.new ≡ after self.old (texts.event_in (meddles_of meddles.now) text.entry)) }
-        ensures wants { OnErr result (WantsEvent self.old
-            (texts.event_in (meddles_of meddles.now) text.entry) self.new) }
+        ensures after { OnOk result (self.new ≡ after self.old (event_seen event.entry)) }
+        ensures wants { OnErr result (WantsEvent self.old (event_seen event.entry) self.new) }
     {
-        let before = self.world.issued();
-        let reply = self.world.event_in_line(meddles, text)?;
-        self.issued += snapshot_length(&self.world, before);
+        let reply = self.world.follow(event)?;
         self.events += 1;
         Ok(reply)
     }
 
-    // The reply to an event as it lies in a line, with its meddles, as text.
-    fn written_reply(
-        &mut self,
-        alloc: Global,
-        meddles: &Meddles,
-        text: EventText<'_>,
-    ) -> Result<Bytes, ReplyFault>
-        requires few { self.old.events < most_events }
-        requires room { sum_by length self.old.issued ≤ most_kept }
-        ensures { let event = texts.event_in (meddles_of meddles.now) text.entry in
-            PlaysEvent (WantsEvent self.old event self.new)
-            (answer_by replaying self.old (Some event)) self.old self.new result }
+    // The reply to an event where it lies, as text.
+    fn written_reply(&mut self, alloc: Global, event: EventView<'_>) -> Result<Bytes, ReplyFault>
+        requires { self.old.events < most_events }
+        ensures { PlaysEvent (WantsEvent self.old (event_seen event.entry) self.new)
+            (answer_by replaying self.old (Some (event_seen event.entry))) self.old self.new result }
     {
-        let reply = match self.event_in_line(meddles, text) {
+        let reply = match self.follow(event) {
             Ok(reply) => reply,
             Err(_) => return Err(ReplyFault::Memory),
         };
@@ -173,7 +132,7 @@ impl Stage for Replaying {
     }
 
     fn kept(&self) -> u64 {
-        self.issued
+        self.world.kept()
     }
 
     fn is_event(&self, _alloc: Global, line: &[u8]) -> Result<bool, Memory> {
@@ -184,7 +143,7 @@ impl Stage for Replaying {
     fn play(&mut self, alloc: Global, line: &[u8]) -> Result<Bytes, ReplyFault> {
         let mut meddles = Meddles::none();
         match event_in(line, &mut meddles) {
-            Some(text) => self.written_reply(alloc, &meddles, text),
+            Some(text) => self.written_reply(alloc, line_view(&meddles, text)),
             None => Err(ReplyFault::Refused(Refused::Bad)),
         }
     }

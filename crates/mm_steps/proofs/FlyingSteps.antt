@@ -1,41 +1,44 @@
--- The next step of a call of the machine, and a step that breaks it off.
-use Rattle.mm_steps.proofs.Below.{◌≡◌, ℕ, ◌+◌, ◌<◌, List, Option, Some, refl, subst, arith, option_map, counted, Failed, Meddle, Stop, Quiet}
-use Rattle.mm_steps.proofs.Below.{Plan, Standing, stopping, step_made, plan_by, under, goes_on, stopped_step, stop_behind}
-use Rattle.mm_machine.specs.Acts.{MayChange}
-use Rattle.mm_machine.specs.Asked.{Asked}
-use Rattle.mm_machine.specs.Finishing.{Finishes}
-use Rattle.mm_machine.specs.Stepping.{MayGoOn, Steps, act_of}
-use Rattle.mm_machine.specs.declared.call.Ended.{Ended}
-use Rattle.mm_machine.specs.declared.call.Ended.TheVariants.{Broken}
-use Rattle.mm_machine.specs.declared.call.Stage.{Stage}
-use Rattle.mm_machine.specs.declared.call.Stage.TheVariants.{Begun, Seen, Changing}
-use Rattle.mm_machine.specs.declared.call.Step.{Step}
-use Rattle.mm_machine.specs.declared.call.Step.TheVariants.{Going, Over}
-use Rattle.mm_machine.specs.declared.change.Change.{Change as Move}
-use Rattle.mm_machine.specs.declared.change.Change.TheVariants.{Extending, Emptying, Placing, Writing}
-use Rattle.mm_flight.specs.Machine.{EndsUnder, Flies}
-use Rattle.mm_flight.proofs.Above.{commits_at, steps_fail, steps_move, steps_over, steps_then, steps_under}
-use Rattle.mm_steps.specs.Flying.{BreaksFlying, FliesTo, StepsOnFlying, behind}
-use Rattle.mm_steps.proofs.Stopping.{goes_as, fails_next, replans_behind, later_than, stopped_under}
+-- The next step of a call in flight, and a step that breaks it off.
+use Rattle.mm_steps.proofs.Below.{◌≡◌, ℕ, ◌+◌, ◌<◌, ◌≤◌, true, false, List, Option, Some, None, Result, Ok, Err, refl, sym, ◌∙◌}
+use Rattle.mm_steps.proofs.Below.{subst, arith, option_map, counted, Memory, StepFault, Failed, Meddle, Stop, Quiet, Plan, Standing, stopping}
+use Rattle.mm_steps.proofs.Below.{step_made, MayChange, number_in, Asked, Finishes, act_of, MayGoOn, number_of, Steps, Ended, Broken, Stage}
+use Rattle.mm_steps.proofs.Below.{Begun, Seen, Changing, Step, Going, Over, Move, Extending, Emptying, Placing, Writing, plan_by, under}
+use Rattle.mm_steps.proofs.Below.{EndsUnder, fault_stepped, Flies, is_broken, AlwaysFails, commits_at, finish_breaks, goes_on, may_planned, steps_fail}
+use Rattle.mm_steps.proofs.Below.{steps_faultless, steps_move, steps_over, steps_then, steps_under, Called, SettlesPlan, stopped_step}
+use Rattle.mm_steps.proofs.Below.{behind, BreaksAs, GoesOn, IsOver, BreaksNext, stop_behind}
+use Rattle.std.specs.Result.{IsOk}
+use Rattle.mm_steps.proofs.Stopping.{always_fails, goes_as, fails_next, replans_behind, later_than, settled_under, stopped_under}
 
--- the room that a stopped call takes
+-- a stopped call takes the same room
+pub may_stop : {A : Type 0} (stage : Stage A) (old stopped : Standing) (stop : Stop)
+    → stopped ≡ record old { plan = option_map (stopping stop) old.plan } → MayGoOn stage old → MayGoOn stage stopped
+may_stop stage old stopped stop is may =
+    subst (λ (s : Standing). MayGoOn stage s) (sym is) (may_planned stage old (option_map (stopping stop) old.plan) may)
 
-may_change_stopped : (change : Move) (old stopped : Standing) → MayChange change old → stopped.spare ≡ old.spare → MayChange change stopped
-may_change_stopped (Writing next) old stopped may same = tt
-may_change_stopped (Extending value) old stopped may same = rw same may
-may_change_stopped (Emptying opening) old stopped may same = rw same may
-may_change_stopped (Placing opening) old stopped may same = rw same may
+-- the number of its next step is low
 
-pub may_stop : {A : Type 0} (stage : Stage A) (old stopped : Standing) → MayGoOn stage old → stopped.spare ≡ old.spare → MayGoOn stage stopped
-may_stop Begun old stopped may same = tt
-may_stop (Seen cell) old stopped may same = tt
-may_stop (Changing ready) old stopped may same = may_change_stopped ready.change old stopped may same
+few_change : (writes : ℕ) (change : Move) → writes ≤ 5 → number_in writes change ≤ 5
+few_change writes (Extending value) few = omega arith
+few_change writes (Emptying opening) few = omega arith
+few_change writes (Placing opening) few = omega arith
+few_change writes (Writing next) few = few
+
+pub few_steps : {A : Type 0} (writes : ℕ) (stage : Stage A) → writes ≤ 5 → number_of writes stage ≤ 5
+few_steps writes Begun few = omega arith
+few_steps writes (Seen cell) few = omega arith
+few_steps writes (Changing ready) few = few_change writes ready.change few
+
+pub few_writes : (result writes : ℕ) → result ≡ writes → result ≤ 5 → writes ≤ 5
+few_writes result writes e few = omega arith
+
+few_made : (number made : ℕ) → number ≤ 5 → number ≡ made + 1 → made + 1 < 255
+few_made number made few e = omega arith
 
 module _ {A R : Type 0} (o : Asked A R) (from : Standing) (meddles : List Meddle) (made : ℕ) (stage : Stage A) (now : Standing)
     (f : Flies o from meddles made stage now) where
   flies_on : (on : Stage A) (new : Standing) → Steps o stage now new (Going on) → made + 1 < 255 → Flies o from meddles (made + 1) on new
   flies_on on new s few =
-      goes_on (Finishes o Begun) (Finishes o stage) (Finishes o on) from now new meddles made 0 1 f (steps_move o stage on now new s) few
+      goes_on (Finishes o Begun) (Finishes o stage) (Finishes o on) from now new meddles made f (steps_move o stage on now new s) few
       (λ plan r end ended rest. steps_then o stage on (under plan made now) (under plan (counted made) new) end ended
       (steps_under o plan (plan_by Quiet meddles) made now r stage new (Going on) s) rest)
 
@@ -47,10 +50,6 @@ module _ {A R : Type 0} (o : Asked A R) (from : Standing) (meddles : List Meddle
       f.joins plan (goes_as (stop_behind (made + 1)) meddles made (omega arith)) (under plan (counted made) new) ended
       (steps_over o stage (under plan made now) (under plan (counted made) new) ended
       (steps_under o plan (plan_by Quiet meddles) made now r stage new (Over ended) s))
-
-  flies_to : (step : Step A R) (new : Standing) → Steps o stage now new step → made + 1 < 255 → FliesTo o from meddles made new step
-  flies_to (Going on) new s few = flies_on on new s few
-  flies_to (Over ended) new s few = flies_over new ended s
 
   -- it has done nothing yet: its next step may still fail without effect
   pub flies_failing : EndsUnder o from meddles (stop_behind made) (step_made (act_of stage) (under (behind meddles made) made now))
@@ -68,11 +67,69 @@ module _ {A R : Type 0} (o : Asked A R) (from : Standing) (meddles : List Meddle
       f.joins (plan_by stop meddles) (goes_as stop meddles made (later_than made (stopped_step stop) (made + 1) at refl)) new ended
       (subst (λ (s : Standing). Finishes o stage s new ended) (stopped_under stop now stopped meddles made f.planned is) finishes)
 
-module _ {A R : Type 0} (o : Asked A R) (stage : Stage A) (old new : Standing) where
-  pub steps_on_flying : (step : Step A R) → Steps o stage old new step → StepsOnFlying o stage old new step
-  steps_on_flying step s = λ from meddles made f few. flies_to o from meddles made stage old f step new s few
+-- in the words of the code
 
-  pub breaks_flying : (stop : Stop) (stopped : Standing) (ended : Ended A R) → stopped ≡ record old { plan = option_map (stopping stop) old.plan }
-      → Finishes o stage stopped new ended → BreaksFlying o stage old new stop ended
-  breaks_flying stop stopped ended is finishes =
-      λ from meddles made f at. flies_broken o from meddles made stage old f stop stopped new ended at is finishes
+unbroken : {A R : Type 0} (ended : Ended A R) → fault_stepped {A = A} {R = R} (Over ended) ≡ None → is_broken ended ≡ false
+unbroken (Broken fault commits) e = let clash : Some fault ≡ None = e in absurd (cc)
+unbroken _ e = refl
+
+module _ {A R : Type 0} (o : Asked A R) (writes : ℕ) (stage : Stage A) (old mid : Standing) (step : Step A R)
+    (s : Steps o stage old mid step) where
+  pub going_on : writes ≤ 5 → (on : Stage A) → step ≡ Going on → (from : Standing) (meddles : List Meddle) (made : ℕ)
+      → Flies o from meddles made stage old → number_of writes stage ≡ made + 1 → GoesOn o stage old from meddles made on mid
+  going_on few on is from meddles made f number =
+      let s' = subst (λ (x : Step A R). Steps o stage old mid x) is s in record {
+        steps = s';
+        flies = flies_on o from meddles made stage old f on mid s' (few_made (number_of writes stage) made (few_steps writes stage few) number);
+      }
+
+  pub is_over : (tells : Stop → Ended A R → Result Called Memory → Type 0) (number : ℕ) (new : Standing) (ended : Ended A R)
+      (called result : Result Called Memory) → number ≡ number_of writes stage → step ≡ Over ended
+      → SettlesPlan (stop_behind number) (is_broken ended) mid new → tells (stop_behind number) ended called → called ≡ result
+      → (from : Standing) (meddles : List Meddle) (made : ℕ) → Flies o from meddles made stage old → number_of writes stage ≡ made + 1
+      → IsOver o tells from meddles made new result
+  is_over tells number new ended called result counts is settles told e from meddles made f n =
+      let s' = subst (λ (x : Step A R). Steps o stage old mid x) is s in
+      let settled = subst (λ (k : ℕ). SettlesPlan (stop_behind k) (is_broken ended) mid new) (counts ∙ n) settles in record {
+        was = record {
+          middle = under (behind meddles (made + 1)) (counted made) mid;
+          ended = ended;
+          ends = flies_over o from meddles made stage old f mid ended s';
+          settles = settled_under (stop_behind (made + 1)) (is_broken ended) (behind meddles (made + 1)) (counted made) mid new settled;
+          told = subst (λ (r : Result Called Memory). tells (stop_behind (made + 1)) ended r) e
+              (subst (λ (k : ℕ). tells (stop_behind k) ended called) (counts ∙ n) told);
+        };
+        whole = unbroken ended (steps_faultless o stage old mid (Over ended) meddles made f.is_on f.planned s');
+      }
+
+never_ok : (memory : Memory) → IsOk {T = Called} (Err memory) → ⊥
+never_ok memory ok = cc
+
+module _ {A R : Type 0} (o : Asked A R) (stage : Stage A) (old stopped mid : Standing) (stop : Stop) (ended : Ended A R)
+    (is : stopped ≡ record old { plan = option_map (stopping stop) old.plan }) (finishes : Finishes o stage stopped mid ended) where
+  pub broken_off : (tells : Stop → Ended A R → Result Called Memory → Type 0) (new : Standing) (called : Result Called Memory) (it : Called)
+      → SettlesPlan stop (is_broken ended) mid new → tells stop ended called → called ≡ Ok it → BreaksAs o tells stage old new stop it
+  broken_off tells new called it settles told e = λ from meddles made f at. record {
+    middle = mid;
+    ended = ended;
+    ends = flies_broken o from meddles made stage old f stop stopped mid ended at is finishes;
+    settles = settles;
+    told = subst (λ (r : Result Called Memory). tells stop ended r) e told;
+  }
+
+  is_cut_off : BreaksNext stop old → is_broken ended ≡ true
+  is_cut_off breaks =
+      finish_breaks o stage stopped mid ended (subst (λ (s : Standing). AlwaysFails s) (sym is) (always_fails stop old breaks)) finishes
+
+  wants : (tells : Stop → Ended A R → Result Called Memory → Type 0) (it : Ended A R) (memory : Memory)
+      → ((fault : StepFault) (commits : Option ℕ) (result : Result Called Memory) → tells stop (Broken fault commits) result → IsOk result)
+      → is_broken it ≡ true → tells stop it (Err memory) → ⊥
+  wants tells (Broken fault commits) memory law broken told = never_ok memory (law fault commits (Err memory) told)
+  wants tells _ memory law broken told = absurd (cc)
+
+  -- a call that was broken off wants no memory
+  pub wants_none : (tells : Stop → Ended A R → Result Called Memory → Type 0) (called : Result Called Memory) (memory : Memory)
+      → ((fault : StepFault) (commits : Option ℕ) (result : Result Called Memory) → tells stop (Broken fault commits) result → IsOk result)
+      → BreaksNext stop old → tells stop ended called → called ≡ Err memory → ⊥
+  wants_none tells called memory law breaks told e =
+      wants tells ended memory law (is_cut_off breaks) (subst (λ (r : Result Called Memory). tells stop ended r) e told)

@@ -3,5 +3,4 @@ mod Below
 mod Stopping
 mod FlyingSteps
 mod Steps
-mod Closing
 mod Beginning

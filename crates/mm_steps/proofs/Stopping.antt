@@ -1,12 +1,11 @@
 -- A stop says nothing of the steps before it; and what its step comes to.
-use Rattle.mm_steps.proofs.Below.{◌≡◌, ℕ, ◌+◌, ◌<◌, ◌≤◌, Bool, true, false, not, List, Option, None, Some, refl, sym, ap, ◌∙◌, arith, ◌==◌}
-use Rattle.mm_steps.proofs.Below.{is_some, if◌then◌else◌, option_map, counted, StepFault, Failed, Off, Meddle, Stop, Quiet, Cut, Drop, Fail}
+use Rattle.mm_steps.proofs.Below.{◌≡◌, ℕ, ◌+◌, ◌<◌, ◌≤◌, Bool, true, false, List, Option, None, Some, refl, sym, ap, ◌∙◌, arith, ◌==◌}
+use Rattle.mm_steps.proofs.Below.{is_some, option_map, counted, StepFault, Failed, Meddle, Stop, Quiet, Cut, Drop, Fail}
 use Rattle.mm_steps.proofs.Below.{Plan, Standing, next_step, stopping, step_made, plan_by, under, SaySame, GoesOnAs, AlwaysFails}
-use Rattle.mm_steps.proofs.Below.{counted_few, Replans, stopped_step, SettlesPlan, BreaksNext, stop_behind, replans, quiet_plan}
-use Rattle.mm_steps.specs.Flying.{behind}
+use Rattle.mm_steps.proofs.Below.{counted_few, Replans, stopped_step, SettlesPlan, BreaksNext, stop_behind, replans, quiet_plan, behind}
 use Rattle.std.proofs.lemmas.Bool.{ne_eqb}
 use Rattle.std.proofs.lemmas.Bool.Decides.{nat_tests}
-use Rattle.mm_platform.specs.Steps.{Act, Goes, fault_at, will_answer}
+use Rattle.mm_platform.specs.Steps.{Act, Goes, fault_at}
 use Rattle.mm_platform.specs.StepLaws.{goes}
 
 same_at : (stop : Stop) (meddles : List Meddle) (n : ℕ) → (stopped_step stop ≡ n → ⊥)

@@ -1,4 +1,3 @@
 pub mod Stopping
 pub mod Flying
-pub mod Asking
-pub mod Closing
+pub mod InFlight

@@ -1,12 +1,11 @@
 -- What a call tells that comes to this, and a checkpoint.
 use Rattle.std.proofs.Common.{◌≡◌, ℕ, Bool, true, false, List, [], ◌∷◌, ◌++◌, refl, subst, inl, inr}
-use Rattle.std.specs.Prelude.{Some, Result, Ok, Err}
+use Rattle.std.specs.Prelude.{Some, Result, Ok, Err, IfOk}
 use Rattle.mm_digest.specs.declared.variant.Variant.{Variant}
 use Rattle.mm_digest.specs.declared.variant.Variant.TheVariants.{Basic, Opt}
 use Rattle.mm_platform.specs.declared.fault.StepFault.TheVariants.{Off}
 use Rattle.mm_platform.specs.Standing.{Standing}
 use Rattle.mm_platform.specs.Steps.{Act, Goes}
-use Rattle.mm_machine.specs.Finishing.{Finishes}
 use Rattle.mm_machine.specs.Stepping as machine
 use Rattle.mm_machine.specs.declared.call.Ended.{Ended}
 use Rattle.mm_machine.specs.declared.call.Ended.TheVariants as ended
@@ -14,31 +13,33 @@ use Rattle.mm_machine.specs.declared.call.Stage.{Stage}
 use Rattle.mm_machine.specs.declared.call.Stage.TheVariants.{Begun}
 use Rattle.mm_module.specs.Batch.{Batch, One}
 use Rattle.mm_module.specs.Meaning.{IsLawful, Meaning}
+use Rattle.mm_model.specs.Fit.{IsFit}
 use Rattle.mm_model.specs.Long.{is_long}
 use Rattle.mm_model.specs.declared.answer.Answer.{Answer}
 use Rattle.mm_model.specs.declared.answer.BatchAnswer.{BatchAnswer}
 use Rattle.mm_model.specs.declared.refusal.Refusal.{Refusal}
 use Rattle.mm_model.specs.declared.refusal.Refusal.TheVariants.{Long, Memory}
+use Rattle.mm_call.specs.AskedIn.{AskedIn}
+use Rattle.mm_call.specs.Complete.{IsComplete}
+use Rattle.mm_call.specs.Counts.{WritesBy}
 use Rattle.mm_call.specs.Ended.{result_of}
 use Rattle.mm_call.specs.Leaving.{whole_in}
 use Rattle.mm_call.specs.Machine.{end_told}
 use Rattle.mm_call.specs.LeavingLaws.{same_untouched}
-use Rattle.mm_call.proofs.Above.{finish_blamed}
 use Rattle.mm_flight.proofs.Above.{commits_at}
-use Rattle.mm_basic.proofs.Above as in_basic
-use Rattle.mm_opt.proofs.Above as in_opt
-use Rattle.mm_opt.specs.Operating.{opt_asked}
 use Rattle.mm_opt.specs.Closing.{closing, ended_told}
 use Rattle.mm_opt.specs.declared.segment.Checkpointed.{Checkpointed}
 use Rattle.mm_opt.specs.declared.segment.CheckpointRefusal.{CheckpointRefusal}
-use Rattle.mm_flight.specs.Operating.{asked_by}
+use Rattle.mm_ask.specs.Asks.{ask_call}
+use Rattle.mm_ask.specs.Operating.{asked_by}
+use Rattle.mm_ask.proofs.Above.{asked_whole}
 use Rattle.mm_told.specs.declared.outcome.Outcome.{Outcome}
 use Rattle.mm_told.specs.declared.outcome.Outcome.TheVariants as outcome
 use Rattle.mm_told.specs.declared.step.Made.{Made}
 use Rattle.mm_told.specs.declared.step.Step.{Step}
 use Rattle.mm_told.specs.declared.told.Came.{Came}
 use Rattle.mm_told.specs.declared.told.Came.TheVariants as came
-use Rattle.mm_told.specs.Asking.{AskedIn, AsksBy, AsksNext, IsAsked, ask_course, begun, wants_memory}
+use Rattle.mm_told.specs.Asking.{AsksBy, AsksNext, IsAsked, ask_course, begun, wants_memory}
 use Rattle.mm_told.specs.Closing.{ClosesBy, closing_course}
 use Rattle.mm_told.specs.Comings.{IsOne, IsOneIn, IsTold, before_by, closing_by, long_told}
 use Rattle.mm_told.specs.Course.{ComesTo, Ends}
@@ -51,40 +52,34 @@ use Rattle.mm_told.proofs.Playing.{breaks, finishes}
 use Rattle.mm_told.proofs.Reading.{closing_determined, determined, is_memory, never}
 use Rattle.mm_told.proofs.Shutting.{closed_in}
 
--- by how it ended a call of either core is a whole call
-asked_in : (variant : Variant) (meaning : Meaning) → IsLawful meaning → (old new : Standing) (offer : List ℕ) (b : Batch)
-    (end : Ended BatchAnswer Refusal) → is_long b ≡ false → Finishes (asked_by variant meaning offer b) Begun old new end
-    → AskedIn variant meaning old new offer b (result_of (end_told end))
-asked_in Basic meaning lawful old new offer b end short f =
-    in_basic.asked_by meaning lawful old new offer b (end_told end) (result_of (end_told end)) short
-    (in_basic.finished_asks meaning offer b old new (end_told end) (record { end = end; finishes = f; gives = refl })) refl
-asked_in Opt meaning lawful old new offer b end short f =
-    in_opt.asked_by meaning lawful old new offer b (end_told end) (result_of (end_told end)) short
-    (in_opt.asks_told meaning offer b old new end f) refl
-    (finish_blamed (opt_asked meaning offer b) (in_opt.quiet meaning offer b) Begun old new end f)
+-- too long a batch is refused before the first step
 
-asked_long : (variant : Variant) (meaning : Meaning) → IsLawful meaning → (at : Standing) (offer : List ℕ) (b : Batch)
-    → is_long b ≡ true → AskedIn variant meaning at at offer b (Err Long)
-asked_long Basic meaning lawful at offer b long = record {
+never_written : (variant : Variant) (at : Standing) → WritesBy variant (Err Long) at at
+never_written Basic at = inl refl
+never_written Opt at = record { once = inl refl; inside = λ cell is told inside. refl; answers = λ cell is told. tt }
+
+never_complete : (variant : Variant) (meaning : Meaning) (at : Standing) (offer : List ℕ) (b : Batch) → is_long b ≡ true
+    → IsComplete variant meaning at at offer b (Err Long)
+never_complete Basic meaning at offer b long = λ (short : is_long b ≡ false). absurd (cc)
+never_complete Opt meaning at offer b long = λ (short : is_long b ≡ false). absurd (cc)
+
+asked_long : (variant : Variant) (meaning : Meaning) (at : Standing) (offer : List ℕ) (b : Batch) → is_long b ≡ true
+    → AskedIn (ask_call variant) meaning at at offer b (Err Long)
+asked_long variant meaning at offer b long = record {
   calls = record { long = λ _. (refl, refl); asks = λ (short : is_long b ≡ false). absurd (cc) };
   untouched = λ quiet. same_untouched at;
   faults = refl;
   steps = λ (short : is_long b ≡ false). absurd (cc);
+  writes = never_written variant at;
   fits = tt;
   goes = λ (short : is_long b ≡ false). absurd (cc);
-  complete = λ (short : is_long b ≡ false). absurd (cc);
+  complete = never_complete variant meaning at offer b long;
 }
-asked_long Opt meaning lawful at offer b long =
-    in_opt.asked meaning lawful at at offer b (Err Long)
-    (record { long = λ _. (refl, refl); asks = λ (short : is_long b ≡ false). absurd (cc) }) refl
 
 -- an answer to one request has one output
-one_in : (variant : Variant) (meaning : Meaning) (old new : Standing) (offer request : List ℕ) (result : Result BatchAnswer Refusal)
-    → AskedIn variant meaning old new offer (One request) result → IsOne result
-one_in Basic meaning old new offer request (Ok answer) a = a.fits.counted
-one_in Opt meaning old new offer request (Ok answer) a = a.fits.counted
-one_in Basic meaning old new offer request (Err why) a = tt
-one_in Opt meaning old new offer request (Err why) a = tt
+one_in : (request : List ℕ) (result : Result BatchAnswer Refusal) → IfOk result (λ answer. IsFit (One request) answer) → IsOne result
+one_in request (Ok answer) fits = fits.counted
+one_in request (Err why) fits = tt
 
 -- where the next step isn't answered
 missed_at : {A : Type 0} (host : Host) (step : Step) (stage : Stage A) → act_of step ≡ machine.act_of stage
@@ -135,15 +130,15 @@ module _ (variant : Variant) (meaning : Meaning) (offer request : List ℕ) wher
             → AsksBy variant meaning host steps offer request (outcome.Ended given)
         over_so end given c e =
             told_so (outcome.Ended given) (inl (record { short = short; end = end; ends = c; gives = e }))
-            (rw e (asked_in variant meaning lawful (begun host steps) (bare (host.stood 0)) offer (One request) end short
+            (rw e (asked_whole meaning offer (One request) (begun host steps) (bare (host.stood 0)) variant end lawful short
             (finishes (asked_by variant meaning offer (One request)) host.stood Begun steps end c h.are_made)))
 
         pub one_answer : (told : Came BatchAnswer Refusal) → ComesTo (asked_by variant meaning offer (One request)) Begun steps told
             → IsOneIn told
         one_answer (came.Over end) c =
-            one_in variant meaning (begun host steps) (bare (host.stood 0)) offer request (result_of (end_told end))
-            (asked_in variant meaning lawful (begun host steps) (bare (host.stood 0)) offer (One request) end short
-            (finishes (asked_by variant meaning offer (One request)) host.stood Begun steps end c h.are_made))
+            one_in request (result_of (end_told end))
+            (asked_whole meaning offer (One request) (begun host steps) (bare (host.stood 0)) variant end lawful short
+            (finishes (asked_by variant meaning offer (One request)) host.stood Begun steps end c h.are_made)).fits
         one_answer _ c = tt
 
         before_so : (lacking : Bool) (front rest : List Made) (it : Made) (end : Ended BatchAnswer Refusal)
@@ -179,8 +174,8 @@ module _ (variant : Variant) (meaning : Meaning) (offer request : List ℕ) wher
             → AsksBy variant meaning host steps offer request out
         asks (came.Next step) out c t =
             rw t (told_so (outcome.Next step) (record { short = short; makes = c })
-            (asked_in variant meaning lawful (begun host steps) (bare (host.missed 0 (act_of step))) offer (One request)
-            (ended.Broken Off (commits_at (asked_by variant meaning offer (One request)) c.stage)) short
+            (asked_whole meaning offer (One request) (begun host steps) (bare (host.missed 0 (act_of step))) variant
+            (ended.Broken Off (commits_at (asked_by variant meaning offer (One request)) c.stage)) lawful short
             (breaks (asked_by variant meaning offer (One request)) host.stood Begun steps c.stage (host.missed 0 (act_of step)) c.stands
             h.are_made (missed_at host step c.stage c.next))))
         asks (came.Over end) out c t = rw t.is (over_so end t.answer c t.gives)
@@ -200,12 +195,12 @@ module _ (variant : Variant) (meaning : Meaning) (offer request : List ℕ) wher
             }) tt)
 
   -- too long a request
-  pub long_so : (host : Host) (steps : List Made) → IsLawful meaning → is_long (One request) ≡ true
+  pub long_so : (host : Host) (steps : List Made) → is_long (One request) ≡ true
       → AsksBy variant meaning host steps offer request (long_told steps)
-  long_so host [] lawful long =
+  long_so host [] long =
       told_so host [] (outcome.Ended (Err Long)) (inr (record { long = long; none = refl; gives = refl }))
-      (asked_long variant meaning lawful (bare (host.stood 0)) offer (One request) long)
-  long_so host (it ∷ more) lawful long =
+      (asked_long variant meaning (bare (host.stood 0)) offer (One request) long)
+  long_so host (it ∷ more) long =
       told_so host (it ∷ more) outcome.Differs (record {
         front = [];
         it = it;

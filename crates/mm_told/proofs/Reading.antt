@@ -30,7 +30,7 @@ use Rattle.mm_opt.specs.Closing.{closing, sight_of, to_write}
 use Rattle.mm_opt.specs.Operating as in_opt
 use Rattle.mm_opt.specs.Seen.{SeesCell, cell_in}
 use Rattle.mm_opt.specs.declared.segment.CheckpointRefusal.{CheckpointRefusal}
-use Rattle.mm_flight.specs.Operating.{asked_by}
+use Rattle.mm_ask.specs.Operating.{asked_by}
 use Rattle.mm_told.proofs.Determining.{IsDetermined, Lacking, SameOrLacking}
 
 -- memory was wanting for a call; for a checkpoint it never is

@@ -1,25 +1,24 @@
 -- What a call promises whose steps a host makes.
 use Rattle.std.specs.Prelude.{◌≡◌, ◌≢◌, ◌⊎◌, ℕ, Bool, true, false, List, [], length, Result, Err}
 use Rattle.mm_digest.specs.declared.variant.Variant.{Variant}
-use Rattle.mm_digest.specs.declared.variant.Variant.TheVariants.{Basic, Opt}
 use Rattle.mm_platform.specs.Standing.{Standing}
 use Rattle.mm_platform.specs.Steps.{Act}
 use Rattle.mm_platform.specs.declared.fault.StepFault.TheVariants.{Off}
 use Rattle.mm_machine.specs.declared.call.Ended.{Ended}
 use Rattle.mm_machine.specs.declared.call.Stage.TheVariants.{Begun}
-use Rattle.mm_module.specs.Batch.{Batch, One}
+use Rattle.mm_module.specs.Batch.{One}
 use Rattle.mm_module.specs.Meaning.{Meaning}
 use Rattle.mm_model.specs.Long.{is_long}
 use Rattle.mm_model.specs.declared.answer.Answer.{Answer}
 use Rattle.mm_model.specs.declared.answer.BatchAnswer.{BatchAnswer}
 use Rattle.mm_model.specs.declared.refusal.Refusal.{Refusal}
 use Rattle.mm_model.specs.declared.refusal.Refusal.TheVariants.{Device, Long, Memory}
+use Rattle.mm_call.specs.AskedIn.{AskedIn}
 use Rattle.mm_call.specs.Ended.{result_of}
 use Rattle.mm_call.specs.Leaving.{whole_in}
 use Rattle.mm_call.specs.Machine.{end_told}
-use Rattle.mm_basic.specs.Asked.{AskedInBasic}
-use Rattle.mm_opt.specs.Asked.{AskedInOpt}
-use Rattle.mm_flight.specs.Operating.{asked_by}
+use Rattle.mm_ask.specs.Asks.{ask_call}
+use Rattle.mm_ask.specs.Operating.{asked_by}
 use Rattle.mm_told.specs.declared.outcome.Outcome.{Outcome}
 use Rattle.mm_told.specs.declared.outcome.Outcome.TheVariants as outcome
 use Rattle.mm_told.specs.declared.step.Made.{Made}
@@ -27,12 +26,6 @@ use Rattle.mm_told.specs.Course.{Ends, Makes}
 use Rattle.mm_told.specs.Steps.{act_of}
 use Rattle.mm_told.specs.Host.{Host, bare}
 use Rattle.mm_told.specs.Outcomes.{Course, Tells, AreAsTold}
-
--- what a whole call of a variant promises
-abbrev pub AskedIn : Variant → Meaning → Standing → Standing → List ℕ → Batch
-    → Result BatchAnswer Refusal → Type 0
-AskedIn Basic meaning old new offer b result = AskedInBasic meaning old new offer b result
-AskedIn Opt meaning old new offer b result = AskedInOpt meaning old new offer b result
 
 -- where the host's platform stood before the first of the steps that were made
 abbrev pub begun : Host → List Made → Standing
@@ -74,11 +67,11 @@ module _ (variant : Variant) (meaning : Meaning) (offer request : List ℕ) wher
   -- it is broken off there.
   abbrev pub IsAsked : Host → List Made → Outcome (Result Answer Refusal) → Type 0
   IsAsked host steps (outcome.Ended given) =
-      AskedIn variant meaning (begun host steps) (bare (host.stood 0)) offer (One request)
-      (whole_in given)
+      AskedIn (ask_call variant) meaning (begun host steps) (bare (host.stood 0)) offer
+      (One request) (whole_in given)
   IsAsked host steps (outcome.Next step) =
-      AskedIn variant meaning (begun host steps) (bare (host.missed 0 (act_of step))) offer
-      (One request) (Err (Device Off))
+      AskedIn (ask_call variant) meaning (begun host steps) (bare (host.missed 0 (act_of step)))
+      offer (One request) (Err (Device Off))
   IsAsked host steps _ = Unit {0}
 
 -- What a call comes to with the steps that were made.

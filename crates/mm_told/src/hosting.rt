@@ -1,11 +1,10 @@
 //! A host of Basic in Rattle: it makes the steps that it is told on a platform, to copy.
 
 ghost use Rattle.std.specs.Prelude.{◌≡◌, ℕ, IfSome, length};
-ghost use Rattle.mm_digest.specs.declared.variant.Variant.TheVariants.{Basic};
 ghost use Rattle.mm_platform.specs.Standing.{Standing};
 ghost use Rattle.mm_module.specs.Batch.{One};
 ghost use Rattle.mm_call.specs.Leaving.{whole_in};
-ghost use Rattle.mm_told.specs.Asking.{AskedIn};
+ghost use Rattle.mm_basic.specs.Asked.{AskedInBasic};
 ghost use Rattle.mm_told.specs.Host.{AreMade, bare};
 ghost use Rattle.mm_told.specs.Steps.{IsMade};
 
@@ -29,7 +28,7 @@ pub fn ask_by_steps<M: Module, P: Platform>(
     offer: &[u8],
     request: &[u8],
 ) -> Option<Result<Answer, Refusal>>
-    ensures { IfSome result (λ gives. AskedIn Basic (M.meaning «module».now)
+    ensures { IfSome result (λ gives. AskedInBasic (M.meaning «module».now)
         (bare (P.standing platform.old)) (bare (P.standing platform.new)) offer.now
         (One request.now) (whole_in gives)) }
 {
@@ -47,7 +46,7 @@ fn begin<M: Module, P: Platform>(
 ) -> Option<Result<Answer, Refusal>>
     ghost start: { Standing }
     requires { start ≡ bare (P.standing platform.old) }
-    ensures { IfSome result (λ gives. AskedIn Basic (M.meaning «module».now) start
+    ensures { IfSome result (λ gives. AskedInBasic (M.meaning «module».now) start
         (bare (P.standing platform.new)) offer.now (One request.now) (whole_in gives)) }
 {
     match ask(alloc, Variant::Basic, module, &[], offer, request, keys) {
@@ -74,7 +73,7 @@ fn go_on<M: Module, P: Platform>(
     ghost start: { Standing × Standing }
     requires here { start.1 ≡ bare (P.standing platform.old) }
     requires one { IsMade one.now start.0 start.1 }
-    ensures { IfSome result (λ gives. AskedIn Basic (M.meaning «module».now) (bare start.0)
+    ensures { IfSome result (λ gives. AskedInBasic (M.meaning «module».now) (bare start.0)
         (bare (P.standing platform.new)) offer.now (One request.now) (whole_in gives)) }
 {
     match ask(alloc, Variant::Basic, module, &[*one], offer, request, keys) {
@@ -100,7 +99,7 @@ fn end<M: Module, P: Platform>(
 ) -> Option<Result<Answer, Refusal>>
     ghost stood: { ℕ → Standing }
     requires { AreMade (λ left. bare (stood left)) made.now }
-    ensures { IfSome result (λ gives. AskedIn Basic (M.meaning «module».now) (bare (stood (length made.now)))
+    ensures { IfSome result (λ gives. AskedInBasic (M.meaning «module».now) (bare (stood (length made.now)))
         (bare (stood 0)) offer.now (One request.now) (whole_in gives)) }
 {
     match ask(alloc, Variant::Basic, module, made, offer, request, keys) {

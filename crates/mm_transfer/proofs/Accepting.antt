@@ -10,10 +10,12 @@ use Rattle.mm_transfer.proofs.Below.{CommandDone, CommandLacks, has_moved, link_
 use Rattle.mm_transfer.proofs.Below.{cell_of_role, stood, GivesEntry, GivesEntryBy, FitsLive, Matches, FitsCell}
 use Rattle.mm_move.specs.declared.accepting.Accepted.{Accepted}
 use Rattle.mm_transfer.specs.declared.reply.MoveReply.TheVariants as reply
-use Rattle.mm_transfer.proofs.Commanded.{by_known, IsIdle, chosen, whole, tell, Told, told_still, move_done, err_match, lacks_done, SameSide, unissued_done, Named}
-use Rattle.mm_transfer.proofs.Commanding.{Knows, KnowsOf, Came, came_by, moved_by, at_then, away_then}
-use Rattle.mm_transfer.proofs.Matching.{accepts_match}
-use Rattle.mm_transfer.proofs.SideStands.{variant_by, meaning_by, KeepsFor, same_keeps, kept_more}
+use Rattle.mm_transfer.proofs.Commanded.{by_known, IsIdle, chosen, whole, tell, Told, told_still, move_done, Named}
+use Rattle.mm_transfer.proofs.Lacking.{err_match, lacks_done, SameSide, unissued_done}
+use Rattle.mm_transfer.proofs.Commanding.{Knows, KnowsOf, Came, came_by, at_then, away_then}
+use Rattle.mm_transfer.proofs.Moved.{moved_by}
+use Rattle.mm_transfer.proofs.AcceptMatching.{accepts_match}
+use Rattle.mm_transfer.proofs.SideStands.{variant_by, meaning_by, KeepsFor, same_keeps}
 
 -- its effect is that the module enters
 record IsEntered (role : Role) (d : Digests) (away : ℕ) (kept : List ℕ) (again : Bool) (effect : Effect) : Type 0 where
@@ -77,7 +79,7 @@ accepts_pair pair which role d bytes fit =
 -- the platform is as the move left it, and so is what is kept of the digest
 entered_over : (live : Bool) (away : ℕ) (stop : Stop) (came : Result Accepted MoveRefusal) (mid new : CodeSide)
     (result : Result MoveReply Memory) → EnteredAs live away stop came mid new result
-    → (new.platform ≡ mid.platform) × (new.digest ≡ mid.digest)
+    → (new.seat.platform ≡ mid.seat.platform) × (new.digest ≡ mid.digest)
 entered_over live away stop (Ok accepted) mid new result e = (e.platform, e.digest)
 entered_over live away stop (Err why) mid new result e = (e.platform, e.digest)
 
@@ -85,21 +87,19 @@ entered_over live away stop (Err why) mid new result e = (e.platform, e.digest)
 pub accepted_done : (pair : Pair) (which : Which) (offer : Offer) (stop : Stop) (meddles : List Meddle) (old mid new : CodeSide)
     (between : Between) (live : Bool) (cell : List ℕ) (came : Result Accepted MoveRefusal) (result : Result MoveReply Memory)
     → Named (λ bytes (cell : List ℕ). accepts_in pair.meaning pair.variant (link_of pair) bytes (moved_of cell)) stop meddles
-    (offered_bytes between.tickets.items offer) old.platform mid.platform came → live ≡ is_live (role_in (Some cell))
-    → old.platform.cell ≡ Some cell → SameSide old mid → EnteredAs live between.away stop came mid new result → FitsSide pair which old
+    (offered_bytes between.tickets.items offer) old.seat.platform mid.seat.platform came → live ≡ is_live (role_in (Some cell))
+    → old.seat.platform.cell ≡ Some cell → SameSide old mid → EnteredAs live between.away stop came mid new result → FitsSide pair which old
     → FitsBetween between
     → MatchResult result (CommandDone pair which old new between between (commanded pair which old between meddles stop (Accept offer)))
     (λ _. CommandLacks pair which meddles stop old new between between)
 accepted_done pair which offer stop meddles old mid new between live cell came result named lives holds s entered fits counted =
     let i = instance_on pair which in
-    let role = role_in old.platform.cell in
+    let role = role_in old.seat.platform.cell in
     let d = at_in old in
     let away = between.away in
     let gives = GivesEntry i d in
     let over = entered_over live away stop came mid new result entered in
     let keeps = same_keeps old new (over.1 ∙ s.digest) in
-    let sum : mid.kept ≡ within_64 (sum_by length mid.issued.items) =
-    subst (λ (x : List (List ℕ)). mid.kept ≡ within_64 (sum_by length x)) (sym s.issued) (s.kept ∙ fits.kept) in
     let lives' : live ≡ is_live role = lives ∙ ap (λ x. is_live (role_in x)) (sym holds) in
     elim (named.planned i d (cell_of_role i role d) fits.stands.cell fits.stands.register fits.quiet) [
       | inl made ↦
@@ -107,7 +107,7 @@ accepted_done pair which offer stop meddles old mid new between live cell came r
           let fates = (course_of stop meddles).fates in
           let effect = effect_of fates found in
           let c = subst (λ (x : Standing). Came gives i role d stop meddles found x came) (sym over.0)
-          (came_by gives i role d stop meddles mid.platform came _ found
+          (came_by gives i role d stop meddles mid.seat.platform came _ found
           (accepts_pair pair which role d named.bytes fits.stands.fits) made) in
           let enters = λ (it : FoundMove) (k : Knows gives role d it).
           is_entered i role d (stood d it) away new.digest.bytes it.again it.effect k.answer k.gave k.live in
@@ -119,8 +119,8 @@ accepted_done pair which offer stop meddles old mid new between live cell came r
           let t = tell gives pair i role d stop (walk fates 1 (move_steps found)).broken found effect came
           (λ b f e. Told pair i stop b f e result old new between between d) c.says (moved_by stop meddles found) c.knows
           (λ why e r. let t = subst (λ (c : Result Accepted MoveRefusal). EnteredAs live away stop c mid new result) e entered in
-          told_still pair i stop _ found effect why result old new between between d r t.says (t.issued ∙ s.issued) (t.kept ∙ s.kept) refl
-          refl fits.kept counted (t.position ∙ ap (λ n. if not live && has_moved stop why then away else n) s.position
+          told_still pair i stop _ found effect why result old new between between d r t.says (t.issued ∙ s.issued) refl
+          refl counted (t.committed ∙ ap (λ n. if not live && has_moved stop why then away else n) s.committed
           ∙ count (has_moved stop why) found c.knows r.idle) (same (has_moved stop why) found c.knows))
           (λ it accepted e g k. let t = subst (λ (c : Result Accepted MoveRefusal). EnteredAs live away stop c mid new result) e entered in
           let issued = t.issued ∙ ap (λ (x : List (List ℕ)). x ++ accepted.snapshot ∷ []) s.issued in
@@ -136,13 +136,12 @@ accepted_done pair which offer stop meddles old mid new between live cell came r
                 tickets = all j;
               }),
             );
-            position = t.position ∙ turned live mid.position away ∙ ap (λ n. if not live then away else n) s.position
+            position = t.committed ∙ turned live mid.seat.committed away ∙ ap (λ n. if not live then away else n) s.committed
                 ∙ whole (not live) away d.count ∙ count true (Ok it) k tt;
             away = same true (Ok it) k;
-            kept = kept_more mid.kept new.kept mid.issued.items new.issued.items (Some accepted.snapshot) sum t.issued t.kept;
             between = counted;
             issued = let n = ap length issued in
-                let m = length-append old.issued.items (accepted.snapshot ∷ []) in omega (arith, n, m);
+                let m = length-append old.seat.issued.items (accepted.snapshot ∷ []) in omega (arith, n, m);
             tickets = omega arith;
           }) in
           move_done gives pair which stop meddles (Accept offer) found old new between between came result fits c t keeps
@@ -151,8 +150,8 @@ accepted_done pair which offer stop meddles old mid new between live cell came r
       | inr w ↦
           let t = subst (λ (c : Result Accepted MoveRefusal). EnteredAs live away stop c mid new result) w.says entered in
           err_match _ _ result t.says
-          (lacks_done pair which stop meddles old new between between old.platform mid.platform came fits w refl t.platform
-          (t.position ∙ never live mid.position away ∙ s.position) keeps (t.issued ∙ s.issued) (t.kept ∙ s.kept) refl refl refl)
+          (lacks_done pair which stop meddles old new between between old.seat.platform mid.seat.platform came fits w refl t.platform
+          (t.committed ∙ never live mid.seat.committed away ∙ s.committed) keeps (t.issued ∙ s.issued) refl refl refl)
     ]
   where
     turned : (live : Bool) (position away : ℕ) → (if live then position else away) ≡ (if not live then away else position)
@@ -165,7 +164,7 @@ accepted_done pair which offer stop meddles old mid new between live cell came r
 
 -- a ticket that isn't issued
 pub accepted_unissued : (pair : Pair) (which : Which) (offer : Offer) (stop : Stop) (meddles : List Meddle) (old new : CodeSide)
-    (between : Between) → (offered_bytes between.tickets.items offer ≡ None) × (new.platform ≡ old.platform) → SameSide old new
+    (between : Between) → (offered_bytes between.tickets.items offer ≡ None) × (new.seat.platform ≡ old.seat.platform) → SameSide old new
     → FitsSide pair which old → FitsBetween between
     → CommandDone pair which old new between between (commanded pair which old between meddles stop (Accept offer)) reply.NoTicket
 accepted_unissued pair which offer stop meddles old new between none s fits counted =

@@ -52,11 +52,11 @@ done_acts : (pair : Pair) (which : Which) (meddles : List Meddle) (stop : Stop) 
     → CommandDone pair which old new was now (commanded pair which old was meddles stop command) said
     → ActDone pair which old new was now committed committed (acted pair which old was committed (Moves meddles stop command)) said
 done_acts pair which meddles stop command old new was now committed said w d =
-    let counts = d.counts committed w.position w.away in
+    let counts = d.counts committed w.here w.away in
     record {
       fits = d.fits;
       between = d.between;
-      within = record { position = counts.0; away = counts.1 };
+      within = record { here = counts.0; away = counts.1 };
       both = λ other. d.both other committed;
       says = λ other. d.says other committed;
       sayable = subst IsSayable (sym (d.says (side_in old) committed))
@@ -72,15 +72,15 @@ lacks_acts : (pair : Pair) (which : Which) (meddles : List Meddle) (stop : Stop)
     → CommandLacks pair which meddles stop old new was now
     → ActLacks pair which (Moves meddles stop command) old new was now committed committed
 lacks_acts pair which meddles stop command old new was now committed f w l =
-    let position = l.position in
+    let same = l.committed in
     let away = l.away in
-    let less = w.position in
+    let less = w.here in
     let less_away = w.away in
     let kept = l.kept in
     record {
       fits = l.fits;
       between = kept ∙ f ∙ ap (λ (x : List (List ℕ)). within_64 (sum_by length x)) (sym l.tickets);
-      within = record { position = omega (arith, position, less); away = omega (arith, away, less_away) };
+      within = record { here = omega (arith, same, less); away = omega (arith, away, less_away) };
       side = l.side;
       away = l.away;
       tickets = l.tickets;
@@ -167,14 +167,16 @@ second_comes header first second second' between between' committed committed' a
 pub event_first : (old : Inside) (held : BothHeld) (event : SideEvent) (new : Both Digests ℕ) (here : CodeSide) (between : Between)
     (committed : ℕ) (result came : Result MoveReply Memory) → held_in old.header old.first old.second old.between old.committed ≡ held
     → held.both.committed < 2 ^ 63 → event.which ≡ which.First → result ≡ came → new ≡ both_with here between (side_in old.second) committed
-    → Acts (pair_of old.header) First (act_of event.act) old.first here old.between between old.committed committed came
+    → Acts (pair_of old.first.seat.header) First (act_of event.act) old.first here old.between between old.committed committed came
     → Comes held (side_event_of event) new result
 event_first old held event new here between committed result came view few is came_is now acts =
     let act = act_of event.act in
-    let within : AreWithin old.first old.between old.committed = record { position = old.first_within; away = old.away_within } in
+    let here_acts = subst (λ (h : Header). Acts (pair_of h) First act old.first here old.between between old.committed committed came)
+    old.first_headed acts in
+    let within : AreWithin old.first old.between old.committed = record { here = old.first_within; away = old.away_within } in
     let room = subst (λ (h : BothHeld). h.both.committed < 2 ^ 63) (sym view) few in
     let comes = first_comes old.header old.first here old.second old.between between old.committed committed act came
-    (acts old.first_fits old.between_fits within room) in
+    (here_acts old.first_fits old.between_fits within room) in
     let event : BothEvent = record { which = First; act = act } in
     let held_comes = subst (λ (h : BothHeld). Comes h event (both_with here between (side_in old.second) committed) came) view comes in
     let new_comes = subst (λ (both : Both Digests ℕ). Comes held event both came) (sym now) held_comes in
@@ -184,14 +186,16 @@ event_first old held event new here between committed result came view few is ca
 pub event_second : (old : Inside) (held : BothHeld) (event : SideEvent) (new : Both Digests ℕ) (here : CodeSide) (between : Between)
     (committed : ℕ) (result came : Result MoveReply Memory) → held_in old.header old.first old.second old.between old.committed ≡ held
     → held.both.committed < 2 ^ 63 → event.which ≡ which.Second → result ≡ came → new ≡ both_with old.first between (side_in here) committed
-    → Acts (pair_of old.header) Second (act_of event.act) old.second here old.between between old.committed committed came
+    → Acts (pair_of old.second.seat.header) Second (act_of event.act) old.second here old.between between old.committed committed came
     → Comes held (side_event_of event) new result
 event_second old held event new here between committed result came view few is came_is now acts =
     let act = act_of event.act in
-    let within : AreWithin old.second old.between old.committed = record { position = old.second_within; away = old.away_within } in
+    let here_acts = subst (λ (h : Header). Acts (pair_of h) Second act old.second here old.between between old.committed committed came)
+    old.second_headed acts in
+    let within : AreWithin old.second old.between old.committed = record { here = old.second_within; away = old.away_within } in
     let room = subst (λ (h : BothHeld). h.both.committed < 2 ^ 63) (sym view) few in
     let comes = second_comes old.header old.first old.second here old.between between old.committed committed act came
-    (acts old.second_fits old.between_fits within room) in
+    (here_acts old.second_fits old.between_fits within room) in
     let event : BothEvent = record { which = Second; act = act } in
     let held_comes = subst (λ (h : BothHeld). Comes h event (both_with old.first between (side_in here) committed) came) view comes in
     let new_comes = subst (λ (both : Both Digests ℕ). Comes held event both came) (sym now) held_comes in

@@ -82,18 +82,18 @@ pub use Rattle.mm_sides.specs.Roles.{role_after, Waiting, Waiting as Waits}
 pub use Rattle.mm_sides.proofs.Above.{any_value, AreOuter, foreign_outer, found_outer, IsOuter, stop_outer, stopped_outer}
 pub use Rattle.mm_world.specs.Calls.{is_cut, SettlesPlan, takes_effect}
 pub use Rattle.mm_world.specs.Held.{digest_in, value_in}
-pub use Rattle.mm_world.specs.InVain.{AsksPlanned, CameInVain, ChecksPlanned, IsRead}
+pub use Rattle.mm_world.specs.InVain.{IsRead}
+pub use Rattle.mm_world.specs.Lengths.{within_64}
 pub use Rattle.mm_world.specs.Stands.{IsQuiet, Stands}
-pub use Rattle.mm_world.proofs.Above.{digests_are, on_settled, power_if, reads_none, reads_shown, register_at, stands_new, stop_power}
+pub use Rattle.mm_world.proofs.Above.{digests_are, kept_more, on_settled, power_if, reads_none, reads_shown, register_at, stands_new, stop_power}
 pub use Rattle.mm_world.proofs.Above.{stopped_at}
 pub use Rattle.mm_play.proofs.Above.{events_err, events_ok, plays_err, unrefused}
 pub use Rattle.mm_transfer.specs.Between.{both_with, CommandDone, commanded, CommandLacks, Commands, EnteredAs, FitsBetween, has_moved}
 pub use Rattle.mm_transfer.specs.Between.{InvitedAs, KeepsDigest, LeftAs, RefusedAs, Tried}
 pub use Rattle.mm_transfer.specs.Events.{act_of, command_of, side_event_of, which_of}
 pub use Rattle.mm_transfer.specs.Headline.{IsOneTransfer}
-pub use Rattle.mm_transfer.specs.Lengths.{length_if}
-pub use Rattle.mm_transfer.specs.OneSide.{at_by, at_in, Comes, EndsCall, FitsSide, IsBare, IsNew, Lacks, link_of, outcome_on, role_in}
-pub use Rattle.mm_transfer.specs.OneSide.{role_of, side_in, StandsAs, within_64}
+pub use Rattle.mm_transfer.specs.OneSide.{at_by, at_in, Comes, FitsSide, IsNew, Lacks, link_of, outcome_on, role_in}
+pub use Rattle.mm_transfer.specs.OneSide.{role_of, side_in, StandsAs}
 pub use Rattle.mm_transfer.specs.Pairs.{pair_of}
 pub use Rattle.mm_transfer.specs.Planned.{ended_as, Ends, later_steps, MakesMove, moves_at, MovesPlanned, WantsMemory, written_by}
 pub use Rattle.mm_transfer.specs.Planned.{written_if}

@@ -11,9 +11,9 @@ use Rattle.mm_transfer.proofs.Below.{within_64, FitsSide, WantsMemory, MovesPlan
 use Rattle.mm_model.specs.declared.refusal.Refusal.TheVariants as core
 use Rattle.mm_move.specs.declared.refusal.MoveRefusal.TheVariants as refusal
 use Rattle.mm_transfer.specs.declared.reply.MoveReply.TheVariants as reply
-use Rattle.mm_transfer.proofs.Commanding.{said_cause, never_moved, CameAs, Knows, KnowsOf, Came, made_if, MovedBy, moved_by, role_then, at_then, away_then, both_of, affected_is, within_then, FitsThen, brought_then, side_then}
-use Rattle.mm_transfer.proofs.SideStands.{KeepsFor, same_keeps, side_stays}
-use Rattle.mm_transfer.proofs.SideEvents.{seen_digests}
+use Rattle.mm_transfer.proofs.Commanding.{said_cause, never_moved, CameAs, Knows, KnowsOf, Came, role_then, at_then, away_then, both_of, affected_is, within_then, FitsThen, brought_then, side_then}
+use Rattle.mm_transfer.proofs.Moved.{made_if, MovedBy, moved_by}
+use Rattle.mm_transfer.proofs.SideStands.{KeepsFor}
 
 -- the effect that was made, whether the move was whole or broken off
 
@@ -118,26 +118,24 @@ pub record Told (pair : Pair) (i : Instance) (stop : Stop) (broken : Option Step
     (effect : Option Effect) (result : Result MoveReply Memory) (old new : CodeSide) (was now : Between) (d : Digests) : Type 0 where
   pub said : MoveReply
   pub is : result ≡ Ok said
-  pub ends : (both : Both Digests ℕ) → both.first.at.digest ≡ (at_then was.away d effect).digest → both.first.issued ≡ old.issued.items
+  pub ends : (both : Both Digests ℕ) → both.first.at.digest ≡ (at_then was.away d effect).digest → both.first.issued ≡ old.seat.issued.items
       → both.tickets ≡ was.tickets.items → (let o = move_ended digests_move pair i both stop broken found effect in
       (said ≡ reply_said o.reply)
-      × (o.both ≡ record both { first = record both.first { issued = new.issued.items }; tickets = now.tickets.items }))
-  pub position : new.position ≡ (at_then was.away d effect).count
+      × (o.both ≡ record both { first = record both.first { issued = new.seat.issued.items }; tickets = now.tickets.items }))
+  pub position : new.seat.committed ≡ (at_then was.away d effect).count
   pub away : now.away ≡ away_then was.away d effect
-  pub kept : new.kept ≡ within_64 (sum_by length new.issued.items)
   pub between : FitsBetween now
-  pub issued : length new.issued.items ≤ length old.issued.items + 1
+  pub issued : length new.seat.issued.items ≤ length old.seat.issued.items + 1
   pub tickets : length now.tickets.items ≤ length was.tickets.items + 1
 
 -- nothing was handed out
 pub told_still : (pair : Pair) (i : Instance) (stop : Stop) (broken : Option StepFault) (found : Result FoundMove MoveCause)
     (effect : Option Effect) (why : MoveRefusal) (result : Result MoveReply Memory) (old new : CodeSide) (was now : Between) (d : Digests)
-    → Refuses pair i stop broken found effect why → RefusedAs stop why result → new.issued.items ≡ old.issued.items
-    → new.kept ≡ old.kept → now.tickets.items ≡ was.tickets.items → now.kept ≡ was.kept
-    → old.kept ≡ within_64 (sum_by length old.issued.items) → FitsBetween was → (let made = made_if (has_moved stop why) found in
-    new.position ≡ (at_then was.away d made).count
+    → Refuses pair i stop broken found effect why → RefusedAs stop why result → new.seat.issued.items ≡ old.seat.issued.items
+    → now.tickets.items ≡ was.tickets.items → now.kept ≡ was.kept → FitsBetween was → (let made = made_if (has_moved stop why) found in
+    new.seat.committed ≡ (at_then was.away d made).count
     → now.away ≡ away_then was.away d made → Told pair i stop broken found effect result old new was now d)
-told_still pair i stop broken found effect why result old new was now d r told issued kept tickets counted sum fits position away = record {
+told_still pair i stop broken found effect why result old new was now d r told issued tickets counted fits position away = record {
   said = r.said;
   is = r.is result told;
   ends = λ both digest own all. (
@@ -149,7 +147,6 @@ told_still pair i stop broken found effect why result old new was now d r told i
   );
   position = position ∙ ap (λ e. (at_then was.away d e).count) (sym r.made);
   away = away ∙ ap (away_then was.away d) (sym r.made);
-  kept = subst (λ (x : List (List ℕ)). new.kept ≡ within_64 (sum_by length x)) (sym issued) (kept ∙ sum);
   between = subst (λ (x : List (List ℕ)). now.kept ≡ within_64 (sum_by length x)) (sym tickets) (counted ∙ fits);
   issued = omega (arith, ap length issued);
   tickets = omega (arith, ap length tickets);
@@ -159,10 +156,10 @@ told_still pair i stop broken found effect why result old new was now d r told i
 pub move_done : {A : Type 0} (gives : FoundMove → A → Type 0) (pair : Pair) (which : Which) (stop : Stop) (meddles : List Meddle)
     (command : Command) (found : Result FoundMove MoveCause) (old new : CodeSide) (was now : Between) (came : Result A MoveRefusal)
     (result : Result MoveReply Memory) → FitsSide pair which old → (let i = instance_on pair which in
-    let role = role_in old.platform.cell in
+    let role = role_in old.seat.platform.cell in
     let d = at_in old in
     let fates = (course_of stop meddles).fates in
-    Came gives i role d stop meddles found new.platform came
+    Came gives i role d stop meddles found new.seat.platform came
     → Told pair i stop (walk fates 1 (move_steps found)).broken found (effect_of fates found) result old new was now d
     → KeepsFor role new.digest.bytes d
     → ((it : FoundMove) → Knows gives role d it → KeepsFor (role_after it.effect) new.digest.bytes (at_then was.away d (Some it.effect)))
@@ -171,30 +168,29 @@ pub move_done : {A : Type 0} (gives : FoundMove → A → Type 0) (pair : Pair) 
     (λ _. CommandLacks pair which meddles stop old new was now))
 move_done gives pair which stop meddles command found old new was now came result fits c t keeps next finds =
     let i = instance_on pair which in
-    let role = role_in old.platform.cell in
+    let role = role_in old.seat.platform.cell in
     let d = at_in old in
     let effect = effect_of (course_of stop meddles).fates found in
     let m = made_as stop _ found effect (moved_by stop meddles found) in
     let then_fits = subst (FitsThen d) (sym m.is) (by_known gives role d (FitsThen d) m.moved found c.knows tt (λ it k. k.fits)) in
     let K : Option Effect → Type 0 = λ e. KeepsFor (role_then role e) new.digest.bytes (at_then was.away d e) in
     let then_keeps = subst K (sym m.is) (by_known gives role d K m.moved found c.knows keeps next) in
-    let s = side_then gives pair which role d stop meddles found new came was.away c fits.stands.fits then_fits t.position then_keeps t.kept
-    in
+    let s = side_then gives pair which role d stop meddles found new came was.away c fits.stands.fits then_fits t.position then_keeps in
     let brought = brought_to digests_move i d meddles stop (move_steps found) in
     let b = brought_then i d stop meddles found was.away effect in
     let gone = t.away ∙ b.away_is in
     let is = λ (other : Side Digests) (committed : ℕ).
-    affected_is role brought old.issued.items was.tickets.items other was.away committed effect in
+    affected_is role brought old.seat.issued.items was.tickets.items other was.away committed effect in
     let ends = λ (other : Side Digests) (committed : ℕ).
-    t.ends (affected_if digests_move (both_of role brought old.issued.items was.tickets.items other was.away committed) effect)
+    t.ends (affected_if digests_move (both_of role brought old.seat.issued.items was.tickets.items other was.away committed) effect)
     (ap (λ (x : Both Digests ℕ). x.first.at.digest) (is other committed) ∙ b.digest)
     (ap (λ (x : Both Digests ℕ). x.first.issued) (is other committed)) (ap (λ (x : Both Digests ℕ). x.tickets) (is other committed)) in
     ok_match _ _ result t.said t.is (record {
       fits = s.fits;
       between = t.between;
       both = λ other committed.
-          (λ j. both_of (s.role_is j) (s.at_is j) new.issued.items now.tickets.items other (gone j) committed)
-          ∙ ap (λ (x : Both Digests ℕ). record x { first = record x.first { issued = new.issued.items }; tickets = now.tickets.items })
+          (λ j. both_of (s.role_is j) (s.at_is j) new.seat.issued.items now.tickets.items other (gone j) committed)
+          ∙ ap (λ (x : Both Digests ℕ). record x { first = record x.first { issued = new.seat.issued.items }; tickets = now.tickets.items })
           (sym (is other committed)) ∙ sym (ends other committed).1
           ∙ sym (ap (λ x. (moved_if digests_move pair i (both_with old was other committed) meddles stop command x).both)
           (finds other committed));
@@ -210,114 +206,6 @@ move_done gives pair which stop meddles command found old new was now came resul
     ok_match : (P : MoveReply → Type 0) (Q : Type 0) (result : Result MoveReply Memory) (said : MoveReply) → result ≡ Ok said → P said
         → MatchResult result P (λ _. Q)
     ok_match P Q result said e p = subst (λ (r : Result MoveReply Memory). MatchResult r P (λ _. Q)) (sym e) p
-
--- want of memory
-
-pub err_match : (P : MoveReply → Type 0) (Q : Type 0) (result : Result MoveReply Memory) → IsErr result → Q → MatchResult result P (λ _. Q)
-err_match P Q (Ok said) is q = absurd (cc)
-err_match P Q (Err memory) is q = q
-
--- the register has the value that it had, or that it has once the first step is made
-abbrev IsReached : Instance → Digests → List Meddle → Stop → List ℕ → Type 0
-IsReached i d meddles stop value =
-    (value ≡ d.register)
-    ⊎ (value ≡ (all_made (by_digests i) d (seen_in (course_of stop meddles).fates (Reads ∷ []) 1)).register)
-
--- a side whose cell is as it was
-lacks_side : (pair : Pair) (which : Which) (stop : Stop) (meddles : List Meddle) (old new : CodeSide) (was now : Between) (value : List ℕ)
-    → IsReached (instance_on pair which) (at_in old) meddles stop value → FitsSide pair which old
-    → new.platform.cell ≡ old.platform.cell → register_reads new.platform ≡ Some value → IsQuiet new.platform
-    → new.position ≡ old.position → KeepsFor (role_in old.platform.cell) new.digest.bytes (at_in old)
-    → new.issued.items ≡ old.issued.items → new.kept ≡ old.kept → now.tickets.items ≡ was.tickets.items → now.kept ≡ was.kept
-    → now.away ≡ was.away → CommandLacks pair which meddles stop old new was now
-lacks_side pair which stop meddles old new was now value reached fits cell register quiet position keeps issued kept tickets counted away =
-    let i = instance_on pair which in
-    let d = at_in old in
-    let is = side_stays pair which old new value fits cell register quiet position keeps
-    (subst (λ (x : List (List ℕ)). new.kept ≡ within_64 (sum_by length x)) (sym issued) (kept ∙ fits.kept)) in
-    let side = λ (seen : Digests) (e : record d { register = value } ≡ seen).
-    let at = is.at_is ∙ e in
-    let whole : side_in new ≡ record (side_in old) { at = seen } =
-    (λ j. record { role = is.role_is j; at = at j; issued = issued j }) in whole in
-    record {
-      fits = is.fits;
-      side = elim reached [
-        | inl e ↦ inl (side d (λ j. record d { register = e j }))
-        | inr e ↦
-            let fates = (course_of stop meddles).fates in
-            let seen : Digests = all_made (by_digests i) d (seen_in fates (Reads ∷ []) 1) in
-            inr (side seen ((λ j. record d { register = e j }) ∙ sym (seen_digests i d fates (Reads ∷ []) 1)))
-      ];
-      position = position;
-      tickets = tickets;
-      kept = counted;
-      away = away;
-    }
-
-pub lacks_done : {A : Type 0} (pair : Pair) (which : Which) (stop : Stop) (meddles : List Meddle) (old new : CodeSide) (was now : Between)
-    (from to : Standing) (came : Result A MoveRefusal) → FitsSide pair which old
-    → WantsMemory (instance_on pair which) (at_in old) stop meddles from to came → from.cell ≡ old.platform.cell → new.platform ≡ to
-    → new.position ≡ old.position → KeepsFor (role_in old.platform.cell) new.digest.bytes (at_in old)
-    → new.issued.items ≡ old.issued.items → new.kept ≡ old.kept → now.tickets.items ≡ was.tickets.items → now.kept ≡ was.kept
-    → now.away ≡ was.away → CommandLacks pair which meddles stop old new was now
-lacks_done pair which stop meddles old new was now from to came fits w cell platform position keeps issued kept tickets counted away =
-    elim w.register [ inl e ↦ reads _ (inl refl) e | inr e ↦ reads _ (inr refl) e ]
-  where
-    reads : (value : List ℕ) → IsReached (instance_on pair which) (at_in old) meddles stop value → register_reads to ≡ Some value
-        → CommandLacks pair which meddles stop old new was now
-    reads value reached e = lacks_side pair which stop meddles old new was now value reached fits
-        (ap (λ (s : Standing). s.cell) platform ∙ w.cell ∙ cell)
-        (ap register_reads platform ∙ e) (subst IsQuiet (sym platform) w.quiet) position keeps issued kept tickets counted away
-
--- nothing happened to a side, but to its platform
-
-pub record SameSide (old new : CodeSide) : Type 0 where
-  pub digest : new.digest ≡ old.digest
-  pub issued : new.issued.items ≡ old.issued.items
-  pub kept : new.kept ≡ old.kept
-  pub position : new.position ≡ old.position
-
-pub record SameBetween (was now : Between) : Type 0 where
-  pub tickets : now.tickets.items ≡ was.tickets.items
-  pub kept : now.kept ≡ was.kept
-  pub away : now.away ≡ was.away
-
-pub still_lacks : (pair : Pair) (which : Which) (stop : Stop) (meddles : List Meddle) (old new : CodeSide) (was now : Between)
-    → FitsSide pair which old → new.platform ≡ old.platform → SameSide old new → SameBetween was now
-    → CommandLacks pair which meddles stop old new was now
-still_lacks pair which stop meddles old new was now fits platform s b =
-    lacks_side pair which stop meddles old new was now (at_in old).register (inl refl) fits (ap (λ (x : Standing). x.cell) platform)
-    (ap register_reads platform ∙ fits.stands.register) (subst IsQuiet (sym platform) fits.quiet) s.position (same_keeps old new s.digest)
-    s.issued s.kept b.tickets b.kept b.away
-
--- a number that isn't issued: nothing is called
-pub unissued_done : (pair : Pair) (which : Which) (stop : Stop) (meddles : List Meddle) (command : Command) (said : MoveReply)
-    (old new : CodeSide) (was now : Between) → FitsSide pair which old → FitsBetween was → new.platform ≡ old.platform → SameSide old new
-    → SameBetween was now → said ≡ reply_said (unissued command)
-    → ((other : Side Digests) (committed : ℕ) → finding digests_move pair (instance_on pair which)
-    (both_with old was other committed) command ≡ None)
-    → CommandDone pair which old new was now (commanded pair which old was meddles stop command) said
-unissued_done pair which stop meddles command said old new was now fits counted platform s b says none =
-    let i = instance_on pair which in
-    let same : side_in new ≡ side_in old = λ j. record {
-      role = role_in (platform j).cell;
-      at = at_by (role_in (platform j).cell) (platform j) (s.digest j).bytes (s.position j);
-      issued = s.issued j;
-    } in
-    record {
-      fits = (still_lacks pair which stop meddles old new was now fits platform s b).fits;
-      between = subst (λ (x : List (List ℕ)). now.kept ≡ within_64 (sum_by length x)) (sym b.tickets) (b.kept ∙ counted);
-      both = λ other committed.
-          (λ j. record { first = same j; second = other; away = b.away j; tickets = b.tickets j; committed = committed })
-          ∙ sym (ap (λ x. (moved_if digests_move pair i (both_with old was other committed) meddles stop command x).both)
-          (none other committed));
-      says = λ other committed.
-          says ∙ sym (ap (λ x. reply_said (moved_if digests_move pair i (both_with old was other committed) meddles stop command x).reply)
-          (none other committed));
-      issued = omega (arith, ap length s.issued);
-      tickets = omega (arith, ap length b.tickets);
-      counts = λ most p q. (omega (arith, s.position), omega (arith, b.away));
-    }
 
 -- a move with what an offer names
 

@@ -13,7 +13,7 @@ use Rattle.mm_move.specs.declared.refusal.MoveRefusal.TheVariants as refusal
 use Rattle.mm_transfer.specs.RoleCells.{cell_after}
 use Rattle.mm_transfer.proofs.SideCells.{fits_linked, cell_reading, fits_reading}
 use Rattle.mm_transfer.proofs.SideStands.{KeepsFor, keeps_reading, IsSide, side_is}
-use Rattle.mm_transfer.proofs.SideEvents.{outer_digests}
+use Rattle.mm_transfer.proofs.Vain.{outer_digests}
 
 -- what a move that was found makes of the cell, and what it gives
 
@@ -119,62 +119,6 @@ never_moved stop (Refused (core.Device fault)) is = absurd is
 never_moved stop (Refused core.Lost) is = refl
 never_moved stop _ is = refl
 
--- which effect a move had, by how it was stopped
-
-fail_first : (stop : Stop) (fault : StepFault) (made : Bool) → end_of (fault_at stop 1) (is_made_at stop 1) ≡ Fails fault made
-    → false ≡ moves_at stop
-fail_first stop fault made e = sym (ap (λ n. (n == 2) && takes_effect stop) (stopped_at stop 1 fault made e).number)
-
-fail_second : (stop : Stop) (fault : StepFault) (made : Bool) → end_of (fault_at stop 2) (is_made_at stop 2) ≡ Fails fault made
-    → made ≡ moves_at stop
-fail_second stop fault made e =
-    let at = stopped_at stop 2 fault made e in at.effect ∙ sym (ap (λ n. (n == 2) && takes_effect stop) at.number)
-
--- the effect of what was found, if it is made
-abbrev pub made_if : Bool → Result FoundMove MoveCause → Option Effect
-made_if moved (Ok found) = if found.again then None else effect_if moved found.effect
-made_if moved (Err cause) = None
-
--- A whole move has its effect; one that is broken off has it as its stop says, and is told so.
-abbrev pub MovedBy : Stop → Option StepFault → Result FoundMove MoveCause → Option Effect → Type 0
-MovedBy stop None found effect = effect ≡ made_if true found
-MovedBy stop (Some fault) found effect = (effect ≡ made_if (moves_at stop) found) × (is_some effect ≡ moves_at stop)
-
-one_moved : (stop : Stop) (values : List (List ℕ)) (e other : End) (found : Result FoundMove MoveCause)
-    → end_of (fault_at stop 1) (is_made_at stop 1) ≡ e → ((moved : Bool) → made_if moved found ≡ None)
-    → MovedBy stop (after_step Reads values e (record { moves = []; steps = 0; writes = 0; broken = None })).broken found None
-one_moved stop values Done other found e none = sym (none true)
-one_moved stop values (Fails fault made) other found e none = (sym (none (moves_at stop)), fail_first stop fault made e)
-
-two_moved : (stop : Stop) (v w : List (List ℕ)) (e f : End) (effect : Effect) → end_of (fault_at stop 1) (is_made_at stop 1) ≡ e
-    → end_of (fault_at stop 2) (is_made_at stop 2) ≡ f
-    → MovedBy stop (after_step Reads v e (after_step Reads w f (record { moves = []; steps = 0; writes = 0; broken = None }))).broken
-    (Ok (record { again = false; effect = effect })) (effect_if (is_moved e f) effect)
-two_moved stop v w Done Done effect e f = refl
-two_moved stop v w Done (Fails fault made) effect e f =
-    let is : made ≡ moves_at stop = fail_second stop fault made f in (ap (λ b. effect_if b effect) is, some_if made effect ∙ is)
-  where
-    some_if : (moved : Bool) (effect : Effect) → is_some (effect_if moved effect) ≡ moved
-    some_if true effect = refl
-    some_if false effect = refl
-two_moved stop v w (Fails fault made) other effect e f =
-    let is : false ≡ moves_at stop = fail_first stop fault made e in (ap (λ b. effect_if b effect) is, is)
-
-pub moved_by : (stop : Stop) (meddles : List Meddle) (found : Result FoundMove MoveCause)
-    → MovedBy stop (walk (course_of stop meddles).fates 1 (move_steps found)).broken found (effect_of (course_of stop meddles).fates found)
-moved_by stop meddles (Err cause) = one_moved stop _ (end_of (fault_at stop 1) (is_made_at stop 1)) Done (Err cause) refl (λ moved. refl)
-moved_by stop meddles (Ok found) = moved_found found.again found.effect
-  where
-    moved_found : (again : Bool) (effect : Effect)
-        → (let found : Result FoundMove MoveCause = Ok (record { again = again; effect = effect }) in
-        MovedBy stop (walk (course_of stop meddles).fates 1 (move_steps found)).broken found
-        (effect_of (course_of stop meddles).fates found))
-    moved_found true effect =
-        one_moved stop _ (end_of (fault_at stop 1) (is_made_at stop 1)) Done (Ok (record { again = true; effect = effect })) refl
-        (λ moved. refl)
-    moved_found false effect =
-        two_moved stop _ _ (end_of (fault_at stop 1) (is_made_at stop 1)) (end_of (fault_at stop 2) (is_made_at stop 2)) effect refl refl
-
 -- others change the register alone
 
 pub brought_digests : (i : Instance) (d : Digests) (stop : Stop) (meddles : List Meddle) (found : Result FoundMove MoveCause)
@@ -276,12 +220,11 @@ brought_then i d stop meddles found away effect =
 pub side_then : {A : Type 0} (gives : FoundMove → A → Type 0) (pair : Pair) (which : Which) (role : Role) (d : Digests) (stop : Stop)
     (meddles : List Meddle) (found : Result FoundMove MoveCause) (new : CodeSide) (came : Result A MoveRefusal) (away : ℕ)
     → (let effect = effect_of (course_of stop meddles).fates found in
-    Came gives (instance_on pair which) role d stop meddles found new.platform came
-    → FitsCell (instance_on pair which) (link_of pair) role d → FitsThen d effect → new.position ≡ (at_then away d effect).count
-    → KeepsFor (role_then role effect) new.digest.bytes (at_then away d effect)
-    → new.kept ≡ within_64 (sum_by length new.issued.items) → IsSide pair which (role_then role effect)
+    Came gives (instance_on pair which) role d stop meddles found new.seat.platform came
+    → FitsCell (instance_on pair which) (link_of pair) role d → FitsThen d effect → new.seat.committed ≡ (at_then away d effect).count
+    → KeepsFor (role_then role effect) new.digest.bytes (at_then away d effect) → IsSide pair which (role_then role effect)
     (at_then away (brought_to digests_move (instance_on pair which) d meddles stop (move_steps found)) effect) new)
-side_then gives pair which role d stop meddles found new came away c fit fits count keeps kept =
+side_then gives pair which role d stop meddles found new came away c fit fits count keeps =
     let i = instance_on pair which in
     let effect = effect_of (course_of stop meddles).fates found in
     let brought : Digests = brought_to digests_move i d meddles stop (move_steps found) in
@@ -299,7 +242,7 @@ side_then gives pair which role d stop meddles found new came away c fit fits co
           };
       cell = c.cell ∙ ap Some (cell_then i role d register away effect);
       register = c.register ∙ ap Some (register_then (reading d register) away effect);
-    }) c.quiet (count ∙ (same_then away d register effect).count) (keeps_then role d register away effect new.digest.bytes keeps) kept in
+    }) c.quiet (count ∙ (same_then away d register effect).count) (keeps_then role d register away effect new.digest.bytes keeps) in
     subst (λ (x : Digests). IsSide pair which (role_then role effect) (at_then away x effect) new) to here
   where
     keeps_then : (role : Role) (d : Digests) (register : List ℕ) (away : ℕ) (effect : Option Effect) (kept : List ℕ)

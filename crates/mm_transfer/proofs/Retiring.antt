@@ -7,12 +7,15 @@ use Rattle.mm_transfer.proofs.Below.{Invites, Leaves, is_live, Which, Pair, key_
 use Rattle.mm_transfer.proofs.Below.{Invite, Retire, invited_on, retired_on, move_steps, effect_of, handed, told, retiring, role_after, Between}
 use Rattle.mm_transfer.proofs.Below.{MoveReply, CodeSide, InvitedAs, KeepsDigest, LeftAs, both_with, commanded, FitsBetween, CommandDone}
 use Rattle.mm_transfer.proofs.Below.{CommandLacks, has_moved, link_of, role_in, at_in, FitsSide, MovesPlanned, reply_said, cell_of_role}
-use Rattle.mm_transfer.proofs.Below.{GivesInvited, GivesInvitedBy, GivesTicket, GivesTicketBy, FitsLive, Instance, within_64, sum_by, false}
+use Rattle.mm_transfer.proofs.Below.{GivesInvited, GivesInvitedBy, GivesTicket, GivesTicketBy, FitsLive, Instance, within_64, false, kept_more}
+use Rattle.mm_world.specs.declared.seat.Seat.{Seat}
 use Rattle.mm_transfer.specs.declared.reply.MoveReply.TheVariants as reply
-use Rattle.mm_transfer.proofs.Commanded.{by_known, IsIdle, chosen, whole, tell, Told, told_still, move_done, err_match, lacks_done, SameSide, SameBetween, unissued_done, Named}
-use Rattle.mm_transfer.proofs.Commanding.{Knows, KnowsOf, came_by, made_if, moved_by, at_then, away_then}
+use Rattle.mm_transfer.proofs.Commanded.{by_known, IsIdle, chosen, whole, tell, Told, told_still, move_done, Named}
+use Rattle.mm_transfer.proofs.Lacking.{err_match, lacks_done, SameSide, SameBetween, unissued_done}
+use Rattle.mm_transfer.proofs.Commanding.{Knows, KnowsOf, came_by, at_then, away_then}
+use Rattle.mm_transfer.proofs.Moved.{made_if, moved_by}
 use Rattle.mm_transfer.proofs.Matching.{invites_match, retires_match}
-use Rattle.mm_transfer.proofs.SideStands.{variant_by, meaning_by, key_by, KeepsFor, keeps_equal, same_keeps, kept_more}
+use Rattle.mm_transfer.proofs.SideStands.{variant_by, meaning_by, key_by, KeepsFor, keeps_equal, same_keeps}
 
 -- an invitation
 
@@ -62,35 +65,34 @@ pub invited_done : (pair : Pair) (which : Which) (nonce : List ℕ) (stop : Stop
     (between : Between) (came : Result Invited MoveRefusal) (result : Result MoveReply Memory) → length nonce ≡ 32
     → KeepsDigest old mid → MovesPlanned (λ (bytes : List ℕ). invites_in
     (waiting_for (link_of pair) (instance_on pair which).variant (instance_on pair which).meaning.id nonce (instance_on pair which).key)
-    (moved_of bytes)) stop meddles mid.platform new.platform came → SameSide mid new → InvitedAs stop came result → FitsSide pair which old
+    (moved_of bytes)) stop meddles mid.seat.platform new.seat.platform came → SameSide mid new → InvitedAs stop came result → FitsSide pair which old
     → FitsBetween between
     → MatchResult result (CommandDone pair which old new between between (commanded pair which old between meddles stop (Invite nonce)))
     (λ _. CommandLacks pair which meddles stop old new between between)
 invited_done pair which nonce stop meddles old mid new between came result size k planned s says fits counted =
     let i = instance_on pair which in
-    let role = role_in old.platform.cell in
+    let role = role_in old.seat.platform.cell in
     let d = at_in old in
-    let same_cell = ap (λ (x : Standing). x.cell) k.platform in
+    let platform = ap (λ (x : Seat). x.platform) k.seat in
+    let same_cell = ap (λ (x : Standing). x.cell) platform in
     let digest : new.digest.bytes ≡ d.digest = ap (λ x. x.bytes) s.digest ∙ k.digest in
     let keeps = keeps_equal role new.digest.bytes d digest in
-    let issued = s.issued ∙ k.issued in
-    let kept = s.kept ∙ k.kept in
-    let position = s.position ∙ k.position in
-    elim (planned i d (cell_of_role i role d) (same_cell ∙ fits.stands.cell) (ap register_reads k.platform ∙ fits.stands.register)
-    (subst IsQuiet (sym k.platform) fits.quiet)) [
+    let issued = s.issued ∙ ap (λ (x : Seat). x.issued.items) k.seat in
+    let position = s.committed ∙ ap (λ (x : Seat). x.committed) k.seat in
+    elim (planned i d (cell_of_role i role d) (same_cell ∙ fits.stands.cell) (ap register_reads platform ∙ fits.stands.register)
+    (subst IsQuiet (sym platform) fits.quiet)) [
       | inl made ↦
           let found = invited_on role nonce in
           let fates = (course_of stop meddles).fates in
-          let c = came_by GivesInvited i role d stop meddles new.platform came _ found
+          let c = came_by GivesInvited i role d stop meddles new.seat.platform came _ found
           (invites_match i (link_of pair) role d nonce fits.stands.fits size) made in
           let effect = effect_of fates found in
           let n = same_counts role d between.away new.digest.bytes digest in
-          let sum = subst (λ (x : List (List ℕ)). new.kept ≡ within_64 (sum_by length x)) (sym issued) (kept ∙ fits.kept) in
           let t = tell GivesInvited pair i role d stop (walk fates 1 (move_steps found)).broken found effect came
           (λ b f e. Told pair i stop b f e result old new between between d) c.says (moved_by stop meddles found) c.knows
           (λ why e r. let m = n (has_moved stop why) found c.knows in
           told_still pair i stop _ found effect why result old new between between d r
-          (subst (λ (c : Result Invited MoveRefusal). InvitedAs stop c result) e says) issued kept refl refl fits.kept counted
+          (subst (λ (c : Result Invited MoveRefusal). InvitedAs stop c result) e says) issued refl refl counted
           (position ∙ m.0) m.1)
           (λ it answer e g k. let m = n true (Ok it) k in
           record {
@@ -102,7 +104,6 @@ invited_done pair which nonce stop meddles old mid new between came result size 
             );
             position = position ∙ m.0;
             away = m.1;
-            kept = sum;
             between = counted;
             issued = omega (arith, ap length issued);
             tickets = omega arith;
@@ -111,9 +112,8 @@ invited_done pair which nonce stop meddles old mid new between came result size 
           (λ it k. (waits d between.away new.digest.bytes it.effect digest k.gave).keeps) (λ other committed. refl)
       | inr w ↦
           err_match _ _ result (subst (λ (c : Result Invited MoveRefusal). InvitedAs stop c result) w.says says)
-          (lacks_done pair which stop meddles old new between between mid.platform new.platform came fits w same_cell refl position keeps
-          issued
-          kept refl refl refl)
+          (lacks_done pair which stop meddles old new between between mid.seat.platform new.seat.platform came fits w same_cell refl position keeps
+          issued refl refl refl)
     ]
 
 -- a retirement
@@ -155,25 +155,25 @@ pub retired_done : (pair : Pair) (which : Which) (nonce : List ℕ) (offer : Off
     (was mid now : Between) (live : Bool) (cell : List ℕ) (came : Result (List ℕ) MoveRefusal) (result : Result MoveReply Memory)
     → length nonce ≡ 32
     → Named (λ bytes (cell : List ℕ). retires_in pair.meaning pair.variant (link_of pair) nonce bytes (moved_of cell)) stop meddles
-    (offered_bytes old.issued.items offer) old.platform new.platform came → live ≡ is_live (role_in (Some cell))
-    → old.platform.cell ≡ Some cell → SameSide old new → SameBetween was mid → LeftAs live old.position stop came mid now result
+    (offered_bytes old.seat.issued.items offer) old.seat.platform new.seat.platform came → live ≡ is_live (role_in (Some cell))
+    → old.seat.platform.cell ≡ Some cell → SameSide old new → SameBetween was mid → LeftAs live old.seat.committed stop came mid now result
     → FitsSide pair which old → FitsBetween was
     → MatchResult result (CommandDone pair which old new was now (commanded pair which old was meddles stop (Retire nonce offer)))
     (λ _. CommandLacks pair which meddles stop old new was now)
 retired_done pair which nonce offer stop meddles old new was mid now live cell came result size named lives holds s b left fits counted =
     let i = instance_on pair which in
-    let role = role_in old.platform.cell in
+    let role = role_in old.seat.platform.cell in
     let d = at_in old in
     let gives = GivesTicket pair.link in
     let keeps = same_keeps old new s.digest in
     let lives' : live ≡ is_live role = lives ∙ ap (λ x. is_live (role_in x)) (sym holds) in
-    elim (retires_planned pair which nonce named.bytes stop meddles old.platform new.platform came named.planned i d (cell_of_role i role d)
+    elim (retires_planned pair which nonce named.bytes stop meddles old.seat.platform new.seat.platform came named.planned i d (cell_of_role i role d)
     fits.stands.cell fits.stands.register fits.quiet) [
       | inl made ↦
           let found = retired_on digests_move i role d nonce named.bytes in
           let fates = (course_of stop meddles).fates in
           let effect = effect_of fates found in
-          let c = came_by gives i role d stop meddles new.platform came _ found
+          let c = came_by gives i role d stop meddles new.seat.platform came _ found
           (retires_match i (link_of pair) role d nonce named.bytes fits.stands.fits size) made in
           let leaves = λ (it : FoundMove) (k : Knows gives role d it).
           is_left pair.link role d was.away new.digest.bytes it.again it.effect k.answer k.gave k.live in
@@ -184,12 +184,12 @@ retired_done pair which nonce offer stop meddles old new was mid now live cell c
           (λ it k. (lives' ∙ (leaves it k).live, (leaves it k).away_is)) in
           let t = tell gives pair i role d stop (walk fates 1 (move_steps found)).broken found effect came
           (λ b f e. Told pair i stop b f e result old new was now d) c.says (moved_by stop meddles found) c.knows
-          (λ why e r. let t = subst (λ (c : Result (List ℕ) MoveRefusal). LeftAs live old.position stop c mid now result) e left in
-          told_still pair i stop _ found effect why result old new was now d r t.says s.issued s.kept (t.tickets ∙ b.tickets)
-          (t.kept ∙ b.kept) fits.kept counted (s.position ∙ count (has_moved stop why) found c.knows)
+          (λ why e r. let t = subst (λ (c : Result (List ℕ) MoveRefusal). LeftAs live old.seat.committed stop c mid now result) e left in
+          told_still pair i stop _ found effect why result old new was now d r t.says s.issued (t.tickets ∙ b.tickets)
+          (t.kept ∙ b.kept) counted (s.committed ∙ count (has_moved stop why) found c.knows)
           (t.away ∙ ap (λ n. if live && has_moved stop why then d.count else n) b.away ∙ gone (has_moved stop why) found c.knows r.idle))
           (λ it ticket e g k.
-          let t = subst (λ (c : Result (List ℕ) MoveRefusal). LeftAs live old.position stop c mid now result) e left in
+          let t = subst (λ (c : Result (List ℕ) MoveRefusal). LeftAs live old.seat.committed stop c mid now result) e left in
           let tickets = t.tickets ∙ ap (λ (x : List (List ℕ)). x ++ ticket ∷ []) b.tickets in
           record {
             said = reply.Left (length was.tickets.items);
@@ -201,9 +201,8 @@ retired_done pair which nonce offer stop meddles old new was mid now live cell c
                 tickets = (ap (λ (y : List (List ℕ)). y ++ ticket ∷ []) all ∙ sym tickets) j;
               }),
             );
-            position = s.position ∙ count true (Ok it) k;
+            position = s.committed ∙ count true (Ok it) k;
             away = t.away ∙ ap (λ n. if live then d.count else n) b.away ∙ whole live d.count was.away ∙ gone true (Ok it) k tt;
-            kept = subst (λ (x : List (List ℕ)). new.kept ≡ within_64 (sum_by length x)) (sym s.issued) (s.kept ∙ fits.kept);
             between = kept_more was.kept now.kept was.tickets.items now.tickets.items (Some ticket) counted tickets
                 (t.kept ∙ ap (λ n. within_64 (n + length ticket)) b.kept);
             issued = omega (arith, ap length s.issued);
@@ -213,11 +212,10 @@ retired_done pair which nonce offer stop meddles old new was mid now live cell c
           (λ it k. (leaves it k).keeps) (λ other committed. ap (retiring digests_move i (both_with old was other committed).first nonce)
           named.names)
       | inr w ↦
-          let t = subst (λ (c : Result (List ℕ) MoveRefusal). LeftAs live old.position stop c mid now result) w.says left in
+          let t = subst (λ (c : Result (List ℕ) MoveRefusal). LeftAs live old.seat.committed stop c mid now result) w.says left in
           err_match _ _ result t.says
-          (lacks_done pair which stop meddles old new was now old.platform new.platform came fits w refl refl s.position keeps s.issued
-          s.kept
-          (t.tickets ∙ b.tickets) (t.kept ∙ b.kept) (t.away ∙ never live old.position mid.away ∙ b.away))
+          (lacks_done pair which stop meddles old new was now old.seat.platform new.seat.platform came fits w refl refl s.committed keeps s.issued
+          (t.tickets ∙ b.tickets) (t.kept ∙ b.kept) (t.away ∙ never live old.seat.committed mid.away ∙ b.away))
     ]
   where
     never : (live : Bool) (position away : ℕ) → (if live && false then position else away) ≡ away
@@ -226,7 +224,7 @@ retired_done pair which nonce offer stop meddles old new was mid now live cell c
 
 -- a snapshot that isn't issued
 pub retired_unissued : (pair : Pair) (which : Which) (nonce : List ℕ) (offer : Offer) (stop : Stop) (meddles : List Meddle)
-    (old new : CodeSide) (was now : Between) → (offered_bytes old.issued.items offer ≡ None) × (new.platform ≡ old.platform)
+    (old new : CodeSide) (was now : Between) → (offered_bytes old.seat.issued.items offer ≡ None) × (new.seat.platform ≡ old.seat.platform)
     → SameSide old new → SameBetween was now → FitsSide pair which old → FitsBetween was
     → CommandDone pair which old new was now (commanded pair which old was meddles stop (Retire nonce offer)) reply.NoSnapshot
 retired_unissued pair which nonce offer stop meddles old new was now none s b fits counted =

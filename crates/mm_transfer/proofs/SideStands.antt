@@ -1,24 +1,20 @@
 -- Where a side in code stands, by its role.
-use Rattle.mm_transfer.proofs.Below.{◌≡◌, ◌∙◌, ◌+◌, ◌<◌, ℕ, false, List, [], ◌∷◌, ◌++◌, length, get_or, Option, None, Some, Err, refl, sym}
-use Rattle.mm_transfer.proofs.Below.{ap, subst, arith, sum_by-append, ◌≢◌, option_to_list, sum_by, Variant, Basic, Opt}
-use Rattle.mm_transfer.proofs.Below.{start_of, Meaning, meaning_of, Standing, IsNoCell, Instance, first_history, Digests, register_reads}
-use Rattle.mm_transfer.proofs.Below.{cell_of, issued_bytes, instance_by, Header, first_digests, world_key, world_barrier, IsRead, CellFault}
-use Rattle.mm_transfer.proofs.Below.{value_in, digest_in, Stands, IsQuiet, register_at, digests_are, stands_new, WaitingCell, barrier_of}
-use Rattle.mm_transfer.proofs.Below.{three, length-zero_bytes, Role, Blank, Live, Waiting, Retired, is_live, Which, First, Second, Pair}
-use Rattle.mm_transfer.proofs.Below.{first_both, key_of, instance_on, CodeSide, pair_of, link_of, length_if, role_in, role_of, at_by, at_in}
-use Rattle.mm_transfer.proofs.Below.{StandsAs, within_64, FitsSide, IsBare, IsNew, waiting_at, retired_at, cell_of_role}
-use Rattle.mm_platform.specs.Memory.{new_platform}
+use Rattle.mm_transfer.proofs.Below.{◌≡◌, ◌∙◌, ◌<◌, ℕ, false, List, length, get_or, Some, Err, refl, sym, ap, subst, arith, ◌≢◌}
+use Rattle.mm_transfer.proofs.Below.{Variant, Basic, Opt, Meaning, Standing, IsNoCell, Instance, Digests, register_reads, instance_by}
+use Rattle.mm_transfer.proofs.Below.{IsRead, CellFault, value_in, digest_in, Stands, IsQuiet, register_at, digests_are, WaitingCell}
+use Rattle.mm_transfer.proofs.Below.{barrier_of, three, Role, Blank, Live, Waiting, Retired, is_live, Which, Pair, key_of, instance_on}
+use Rattle.mm_transfer.proofs.Below.{CodeSide, link_of, role_in, role_of, at_by, at_in, StandsAs, FitsSide, waiting_at, retired_at}
+use Rattle.mm_transfer.proofs.Below.{cell_of_role}
 use Rattle.mm_seal.specs.declared.cell.Cell.{Cell}
 use Rattle.mm_seal.specs.declared.cell.CellFault.TheVariants as fault
 use Rattle.mm_seal.specs.Cell.{cell_spelling, blank_cell, ReadsCell}
-use Rattle.mm_run.specs.Held.{rising_from}
 use Rattle.mm_move.specs.Cells.{waiting_spelling, retired_spelling}
 use Rattle.mm_move.specs.declared.cell.Retired.{Retired as RetiredCell}
 use Rattle.mm_transfer.proofs.SideCells.{read_as, role_read, cell_reading, fits_reading}
 
 -- an instance by its variant
 
-linked_by : (variant : Variant) (meaning : Meaning) (key barrier link : List ℕ)
+pub linked_by : (variant : Variant) (meaning : Meaning) (key barrier link : List ℕ)
     → barrier_of (instance_by variant meaning key barrier).variant (record { key = link; barrier = barrier })
     ≡ (instance_by variant meaning key barrier).barrier
 linked_by Basic meaning key barrier link = refl
@@ -37,11 +33,6 @@ meaning_by Opt meaning key barrier = refl
 pub key_by : (variant : Variant) (meaning : Meaning) (key barrier : List ℕ) → (instance_by variant meaning key barrier).key ≡ key
 key_by Basic meaning key barrier = refl
 key_by Opt meaning key barrier = refl
-
-barrier_by : (variant : Variant) (meaning : Meaning) (key barrier : List ℕ) → length barrier ≡ 32
-    → length (instance_by variant meaning key barrier).barrier ≡ 32
-barrier_by Basic meaning key barrier e = length-zero_bytes
-barrier_by Opt meaning key barrier e = e
 
 -- a live side stands as its platform does
 
@@ -85,9 +76,9 @@ keeps_own Live standing kept position = tt
 keeps_own (Retired nonce) standing kept position = tt
 keeps_own role standing kept position = refl
 
-pub same_keeps : (old new : CodeSide) → new.digest ≡ old.digest → KeepsFor (role_in old.platform.cell) new.digest.bytes (at_in old)
-same_keeps old new e = subst (λ x. KeepsFor (role_in old.platform.cell) x.bytes (at_in old)) (sym e)
-    (keeps_own (role_in old.platform.cell) old.platform old.digest.bytes old.position)
+pub same_keeps : (old new : CodeSide) → new.digest ≡ old.digest → KeepsFor (role_in old.seat.platform.cell) new.digest.bytes (at_in old)
+same_keeps old new e = subst (λ x. KeepsFor (role_in old.seat.platform.cell) x.bytes (at_in old)) (sym e)
+    (keeps_own (role_in old.seat.platform.cell) old.seat.platform old.digest.bytes old.seat.committed)
 
 pub keeps_reading : (role : Role) (d : Digests) (register kept : List ℕ) → KeepsFor role kept d
     → KeepsFor role kept (record d { register = register })
@@ -132,26 +123,24 @@ role_back i _ d = refl
 
 pub record IsSide (pair : Pair) (which : Which) (role : Role) (d : Digests) (side : CodeSide) : Type 0 where
   pub fits : FitsSide pair which side
-  pub role_is : role_in side.platform.cell ≡ role
+  pub role_is : role_in side.seat.platform.cell ≡ role
   pub at_is : at_in side ≡ d
 
-pub side_is : (pair : Pair) (which : Which) (role : Role) (d : Digests) (side : CodeSide) → StandsAs pair which role side.platform d
-    → IsQuiet side.platform → side.position ≡ d.count → KeepsFor role side.digest.bytes d
-    → side.kept ≡ within_64 (sum_by length side.issued.items) → IsSide pair which role d side
-side_is pair which role d side s quiet count keeps kept =
+pub side_is : (pair : Pair) (which : Which) (role : Role) (d : Digests) (side : CodeSide) → StandsAs pair which role side.seat.platform d
+    → IsQuiet side.seat.platform → side.seat.committed ≡ d.count → KeepsFor role side.digest.bytes d → IsSide pair which role d side
+side_is pair which role d side s quiet count keeps =
     let i = instance_on pair which in
-    let is : role_in side.platform.cell ≡ role =
+    let is : role_in side.seat.platform.cell ≡ role =
     ap role_in s.cell ∙ ap role_of (role_read i (link_of pair) role d s.fits) ∙ role_back i role d in
     let at : at_in side ≡ d =
-    ap (λ r. at_by r side.platform side.digest.bytes side.position) is
-    ∙ at_back pair which role side.platform side.digest.bytes side.position d s count keeps in
+    ap (λ r. at_by r side.seat.platform side.digest.bytes side.seat.committed) is
+    ∙ at_back pair which role side.seat.platform side.digest.bytes side.seat.committed d s count keeps in
     record {
       fits = record {
         stands =
-            subst (λ r. StandsAs pair which r side.platform (at_in side)) (sym is)
-            (subst (λ (x : Digests). StandsAs pair which role side.platform x) (sym at) s);
+            subst (λ r. StandsAs pair which r side.seat.platform (at_in side)) (sym is)
+            (subst (λ (x : Digests). StandsAs pair which role side.seat.platform x) (sym at) s);
         quiet = quiet;
-        kept = kept;
       };
       role_is = is;
       at_is = at;
@@ -160,20 +149,19 @@ side_is pair which role d side s quiet count keeps kept =
 -- a side goes on: its cell is as it was, and the register has this value
 
 pub side_stays : (pair : Pair) (which : Which) (old new : CodeSide) (value : List ℕ) → FitsSide pair which old
-    → new.platform.cell ≡ old.platform.cell → register_reads new.platform ≡ Some value → IsQuiet new.platform
-    → new.position ≡ old.position → KeepsFor (role_in old.platform.cell) new.digest.bytes (at_in old)
-    → new.kept ≡ within_64 (sum_by length new.issued.items)
-    → IsSide pair which (role_in old.platform.cell) (record (at_in old) { register = value }) new
-side_stays pair which old new value f cell register quiet position keeps kept =
+    → new.seat.platform.cell ≡ old.seat.platform.cell → register_reads new.seat.platform ≡ Some value → IsQuiet new.seat.platform
+    → new.seat.committed ≡ old.seat.committed → KeepsFor (role_in old.seat.platform.cell) new.digest.bytes (at_in old)
+    → IsSide pair which (role_in old.seat.platform.cell) (record (at_in old) { register = value }) new
+side_stays pair which old new value f cell register quiet position keeps =
     let i = instance_on pair which in
-    let role = role_in old.platform.cell in
+    let role = role_in old.seat.platform.cell in
     let d = at_in old in
     let was = f.stands.fits in
     side_is pair which role (record d { register = value }) new (record {
       fits = record { key = was.key; barrier = was.barrier; linked = was.linked; fits = fits_reading i role d value was.fits };
       cell = cell ∙ f.stands.cell ∙ ap Some (cell_reading i role d value);
       register = register;
-    }) quiet position (keeps_reading role d value new.digest.bytes keeps) kept
+    }) quiet position (keeps_reading role d value new.digest.bytes keeps)
 
 -- the first three letters of a cell's bytes are told apart
 
@@ -213,21 +201,6 @@ retired_unspelled cell =
     let b = begins_retired cell
     in (no_blank (retired_spelling cell) b.1, no_cell (retired_spelling cell) 0x58 b.0 (above 0x58 (omega arith)))
 
--- the bytes that are kept, with one more snapshot
-sum_more : (issued : List (List ℕ)) (snapshot : Option (List ℕ))
-    → sum_by length (issued ++ option_to_list snapshot) ≡ sum_by length issued + length_if snapshot
-sum_more issued None = sum_by-append length issued []
-sum_more issued (Some bytes) =
-    let one : sum_by length (bytes ∷ []) ≡ length bytes = omega arith in
-    sum_by-append length issued (bytes ∷ []) ∙ ap (λ (n : ℕ). sum_by length issued + n) one
-
-pub kept_more : (kept kept' : ℕ) (issued issued' : List (List ℕ)) (snapshot : Option (List ℕ)) → kept ≡ within_64 (sum_by length issued)
-    → issued' ≡ issued ++ option_to_list snapshot → kept' ≡ within_64 (kept + length_if snapshot)
-    → kept' ≡ within_64 (sum_by length issued')
-kept_more kept kept' issued issued' snapshot is more e =
-    subst (λ (x : List (List ℕ)). kept' ≡ within_64 (sum_by length x)) (sym more)
-    (let sum = sum_more issued snapshot in omega (arith, is, e, sum))
-
 -- the cell is as it was, the register has this value, and the platform is quiet
 pub record Stays (old new : Standing) (value : List ℕ) : Type 0 where
   pub cell : new.cell ≡ old.cell
@@ -261,77 +234,3 @@ vain_reads pair which role standing d dead s q = record {
   register = s.register;
   quiet = q;
 }
-
--- a side at first
-
-start_on : (variant : Variant) (meaning : Meaning) (key barrier : List ℕ)
-    → start_of (instance_by variant meaning key barrier).variant (instance_by variant meaning key barrier).meaning.id ≡ start_of variant
-    meaning.id
-start_on Basic meaning key barrier = refl
-start_on Opt meaning key barrier = refl
-
-length-first_key : length world_key ≡ 32
-unfolding rising_from
-length-first_key = refl
-
-length-second_key : length (rising_from 0x40) ≡ 32
-unfolding rising_from
-length-second_key = refl
-
-length-barrier : length world_barrier ≡ 32
-unfolding rising_from
-length-barrier = refl
-
-pub live_new : (header : Header) (cell snapshot : List ℕ) (bare new : CodeSide) → IsBare header cell bare
-    → cell ≡ cell_spelling (cell_of (instance_on (pair_of header) First) first_history)
-    → snapshot ≡ issued_bytes (instance_on (pair_of header) First) first_history → new.platform ≡ bare.platform
-    → new.position ≡ bare.position → new.issued.items ≡ bare.issued.items ++ snapshot ∷ []
-    → new.kept ≡ within_64 (bare.kept + length snapshot) → IsNew (pair_of header) First (first_both (pair_of header)).first new
-live_new header cell snapshot bare new is spelled issues platform position issued kept =
-    let pair = pair_of header in
-    let i = instance_on pair First in
-    let there : new.platform ≡ new_platform cell = platform ∙ is.platform in
-    let stands : Stands i new.platform (first_digests i) = subst (λ (s : Standing). Stands i s (first_digests i)) (sym there)
-    (stands_new header.variant (meaning_of header.«module») world_key world_barrier cell length-first_key length-barrier spelled) in
-    let none = ap (λ (s : Standing). s.is_on) there in
-    let plan = ap (λ (s : Standing). s.plan) there in
-    let first : new.position ≡ 0 = position ∙ is.position in
-    let none_kept = is.kept in
-    let one : new.issued.items ≡ snapshot ∷ [] = issued ∙ ap (λ (x : List (List ℕ)). x ++ snapshot ∷ []) is.issued in
-    let sum : new.kept ≡ within_64 (sum_by length (snapshot ∷ [])) = omega (arith, kept, none_kept) in
-    let side = side_is pair First Live (first_digests i) new (live_stands pair First new.platform (first_digests i) stands)
-    (record { is_on = none; plan = plan }) first tt (subst (λ (x : List (List ℕ)). new.kept ≡ within_64 (sum_by length x)) (sym one) sum) in
-    let issued' = one ∙ ap (λ (x : List ℕ). x ∷ []) issues in
-    record { fits = side.fits; stands = λ j. record { role = side.role_is j; at = side.at_is j; issued = issued' j }; position = first }
-
-pub blank_new : (header : Header) (cell : List ℕ) (new : CodeSide) → cell ≡ blank_cell → IsBare header cell new
-    → IsNew (pair_of header) Second (first_both (pair_of header)).second new
-blank_new header cell new is bare =
-    let pair = pair_of header in
-    let i = instance_on pair Second in
-    let d = first_digests i in
-    let there : new.platform ≡ new_platform blank_cell = bare.platform ∙ ap new_platform is in
-    let digest : new.digest.bytes ≡ d.digest =
-    bare.digest ∙ sym (start_on pair.variant pair.meaning (key_of pair Second) pair.barrier) in
-    let empty : List (List ℕ) = [] in
-    let sum : new.kept ≡ within_64 (sum_by length empty) = bare.kept in
-    let key : length i.key ≡ 32 = ap length (key_by pair.variant pair.meaning (key_of pair Second) pair.barrier) ∙ length-second_key in
-    let stands : StandsAs pair Second Blank new.platform d = record {
-      fits = record {
-        key = key;
-        barrier = barrier_by pair.variant pair.meaning (key_of pair Second) pair.barrier length-barrier;
-        linked = linked_by pair.variant pair.meaning (key_of pair Second) pair.barrier pair.link;
-        fits = refl;
-      };
-      cell = ap (λ (s : Standing). s.cell) there;
-      register = ap register_reads there;
-    } in
-    let side = side_is pair Second Blank d new stands
-    (record { is_on = ap (λ (s : Standing). s.is_on) there; plan = ap (λ (s : Standing). s.plan) there }) bare.position digest
-    (subst (λ (x : List (List ℕ)). new.kept ≡ within_64 (sum_by length x)) (sym bare.issued) sum) in
-    let issued = bare.issued in
-    record {
-      fits = side.fits;
-      stands = λ j. record { role = side.role_is j; at = side.at_is j; issued = issued j };
-      position = bare.position;
-    }

@@ -19,7 +19,7 @@ acted pair which here between committed act other =
 
 -- no count is greater than that of the requests committed, on either side
 pub record AreWithin (here : CodeSide) (between : Between) (committed : ℕ) : Type 0 where
-  pub position : here.position ≤ committed
+  pub here : here.seat.committed ≤ committed
   pub away : between.away ≤ committed
 
 -- A side with what passes between both, and with how many requests were committed, has come to this
@@ -35,7 +35,7 @@ pub record ActDone (pair : Pair) (which : Which) (old new : CodeSide) (was now :
   pub sayable : IsSayable said
   pub rises : before ≤ after
   pub few : after ≤ before + most_members
-  pub issued : length new.issued.items ≤ length old.issued.items + 1
+  pub issued : length new.seat.issued.items ≤ length old.seat.issued.items + 1
   pub tickets : length now.tickets.items ≤ length was.tickets.items + 1
 
 -- Memory was wanting for what happened on the side, and nothing beside it has changed.

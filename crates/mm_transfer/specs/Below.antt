@@ -63,7 +63,6 @@ pub use Rattle.mm_sides.specs.Roles.{Waiting as Waits, is_live, no_notes}
 pub use Rattle.mm_world.specs.Calls.{stopped_step, takes_effect}
 pub use Rattle.mm_world.specs.Held.{digest_in, flag_in, value_in}
 pub use Rattle.mm_world.specs.Stands.{IsQuiet}
-pub use Rattle.mm_world.specs.declared.call.Called.{Called}
 pub use Rattle.mm_replay.specs.Text.{text_of_replies}
 pub use Rattle.mm_play.specs.declared.player.Refused.{Refused}
 pub use Rattle.mm_play.specs.declared.player.Refused.TheVariants.{Bad, Much}

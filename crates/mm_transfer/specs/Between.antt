@@ -6,12 +6,13 @@ use Rattle.mm_transfer.specs.Below.{Memory, Standing, Meddle, Stop, Digests, Rea
 use Rattle.mm_transfer.specs.Below.{way_of, Which, Pair, instance_on, Side, Both, digests_move, BothOutcome, move_outcome, Command}
 use Rattle.mm_model.specs.declared.refusal.Refusal.TheVariants as core
 use Rattle.mm_move.specs.declared.refusal.MoveRefusal.TheVariants as refusal
+use Rattle.mm_world.specs.Lengths.{within_64}
 use Rattle.mm_transfer.specs.declared.between.Between.{Between}
 use Rattle.mm_transfer.specs.declared.reply.MoveCause.TheVariants as cause
 use Rattle.mm_transfer.specs.declared.reply.MoveReply.{MoveReply}
 use Rattle.mm_transfer.specs.declared.reply.MoveReply.TheVariants as reply
 use Rattle.mm_transfer.specs.declared.side.Side.{Side as CodeSide}
-use Rattle.mm_transfer.specs.OneSide.{side_in, at_in, within_64, FitsSide}
+use Rattle.mm_transfer.specs.OneSide.{side_in, at_in, FitsSide}
 use Rattle.mm_transfer.specs.Planned.{MovesPlanned, moves_at}
 use Rattle.mm_transfer.specs.Replies.{reply_said}
 use Rattle.mm_transfer.specs.Wanting.{MayHaveRead}
@@ -67,21 +68,20 @@ LeftAs was_live position stop (Err why) old new result =
 -- there.
 pub record EntryKept (was_live : Bool) (away : ℕ) (accepted : Accepted) (old new : CodeSide)
     (result : Result MoveReply Memory) : Type 0 where
-  pub platform : new.platform ≡ old.platform
+  pub platform : new.seat.platform ≡ old.seat.platform
   pub digest : new.digest ≡ old.digest
-  pub issued : new.issued.items ≡ old.issued.items ++ accepted.snapshot ∷ []
-  pub kept : new.kept ≡ within_64 (old.kept + length accepted.snapshot)
-  pub position : new.position ≡ (if was_live then old.position else away)
+  pub issued : new.seat.issued.items ≡ old.seat.issued.items ++ accepted.snapshot ∷ []
+  pub committed : new.seat.committed ≡ (if was_live then old.seat.committed else away)
   pub says : result ≡ Ok (reply.Entered accepted.position)
 
 pub record EntryRefused (was_live : Bool) (away : ℕ) (stop : Stop) (why : MoveRefusal)
     (old new : CodeSide) (result : Result MoveReply Memory)
     : Type 0 where
-  pub platform : new.platform ≡ old.platform
+  pub platform : new.seat.platform ≡ old.seat.platform
   pub digest : new.digest ≡ old.digest
-  pub issued : new.issued.items ≡ old.issued.items
-  pub kept : new.kept ≡ old.kept
-  pub position : new.position ≡ (if not was_live && has_moved stop why then away else old.position)
+  pub issued : new.seat.issued.items ≡ old.seat.issued.items
+  pub committed : new.seat.committed
+      ≡ (if not was_live && has_moved stop why then away else old.seat.committed)
   pub says : RefusedAs stop why result
 
 abbrev pub EnteredAs : Bool → ℕ → Stop → Result Accepted MoveRefusal → CodeSide → CodeSide
@@ -104,10 +104,7 @@ Tried finds stop meddles (Some bytes) old new (Ok (Some came)) =
 
 -- The side keeps the digest of its cell, where that has one; and nothing else changes.
 pub record KeepsDigest (old new : CodeSide) : Type 0 where
-  pub platform : new.platform ≡ old.platform
-  pub issued : new.issued.items ≡ old.issued.items
-  pub kept : new.kept ≡ old.kept
-  pub position : new.position ≡ old.position
+  pub seat : new.seat ≡ old.seat
   pub digest : new.digest.bytes ≡ (at_in old).digest
 
 -- both sides, of which this is the first
@@ -141,10 +138,10 @@ pub record CommandDone (pair : Pair) (which : Which) (old new : CodeSide) (was n
   pub both : (other : Side Digests) (committed : ℕ)
       → both_with new now other committed ≡ (o other committed).both
   pub says : (other : Side Digests) (committed : ℕ) → said ≡ reply_said (o other committed).reply
-  pub issued : length new.issued.items ≤ length old.issued.items + 1
+  pub issued : length new.seat.issued.items ≤ length old.seat.issued.items + 1
   pub tickets : length now.tickets.items ≤ length was.tickets.items + 1
-  pub counts : (most : ℕ) → old.position ≤ most → was.away ≤ most
-      → (new.position ≤ most) × (now.away ≤ most)
+  pub counts : (most : ℕ) → old.seat.committed ≤ most → was.away ≤ most
+      → (new.seat.committed ≤ most) × (now.away ≤ most)
 
 -- Memory was wanting: nothing has changed, but that the first step may have been made.
 pub record CommandLacks (pair : Pair) (which : Which) (meddles : List Meddle) (stop : Stop)
@@ -152,7 +149,7 @@ pub record CommandLacks (pair : Pair) (which : Which) (meddles : List Meddle) (s
   pub fits : FitsSide pair which new
   pub side : MayHaveRead (instance_on pair which) (Reads ∷ []) meddles stop (side_in old)
       (side_in new)
-  pub position : new.position ≡ old.position
+  pub committed : new.seat.committed ≡ old.seat.committed
   pub tickets : now.tickets.items ≡ was.tickets.items
   pub kept : now.kept ≡ was.kept
   pub away : now.away ≡ was.away

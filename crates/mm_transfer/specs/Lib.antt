@@ -2,7 +2,6 @@ pub mod Below
 pub mod Pairs
 pub mod Events
 pub mod Replies
-pub mod Lengths
 pub mod Wanting
 pub mod OneSide
 pub mod OneProof

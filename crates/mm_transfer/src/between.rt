@@ -21,7 +21,7 @@ pub struct Between {
 
 impl Between {
     ghost use Rattle.std.specs.Prelude.{◌≡◌, ◌<◌, ◌^◌, [], length, vec_len, vec_capacity, ◌+◌, ◌++◌, ◌∷◌};
-    ghost use Rattle.mm_transfer.specs.OneSide.{within_64};
+    ghost use Rattle.mm_world.specs.Lengths.{within_64};
     ghost use Rattle.mm_transfer.specs.Between.{LeftAs};
 
     /// No ticket was handed out, and the module hasn't left.

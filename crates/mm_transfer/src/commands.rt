@@ -19,16 +19,15 @@ ghost use Rattle.mm_transfer.specs.Pairs.{pair_of};
 
 use crate::between::{Between, either};
 use crate::event::{Command, Which};
-use crate::moving::{has_moved, planned_accept, planned_invite, planned_retire, refused};
+use crate::moving::{Mover, has_moved, planned_accept, planned_invite, planned_retire, refused};
 use crate::reply::MoveReply;
 use crate::side::Side;
 use mm_base::{Bytes, CELL_LENGTH, Memory};
 use mm_digest::Digest;
-use mm_module::Module;
 use mm_move::{Accepted, Invited, Link, MoveRefusal, MovedCell, read_moved};
 use mm_platform::{MemPlatform, Stop};
 use mm_run::{Course, offered, rising, world_barrier, world_key};
-use mm_schedule::{Header, Offer};
+use mm_schedule::Offer;
 use std::alloc::Global;
 
 // The key that the snapshots of a side are sealed under.
@@ -83,7 +82,7 @@ fn digest_in(cell: &[u8; CELL_LENGTH]) -> Digest
 fn keep_digest(here: &mut Side)
     ensures { KeepsDigest here.old here.new }
 {
-    here.digest = rests_at(here.platform.cell(), here.digest);
+    here.digest = rests_at(here.seat.platform.cell(), here.digest);
 }
 
 // What an invitation is told as.
@@ -98,21 +97,20 @@ fn invited(stop: Stop, came: Result<Invited, MoveRefusal>) -> Result<MoveReply, 
 
 // The module is invited to the side.
 fn invite(
-    header: &Header,
     which: Which,
     here: &mut Side,
     nonce: &[u8; 32],
     course: &Course<'_>,
 ) -> Result<MoveReply, Memory>
-    ensures { (between : Between) → Commands (pair_of header.now) (which_of which) course.now.meddles.now course.now.stop
-        (Invite nonce.now) here.old here.new between between result }
+    ensures made { (between : Between) → Commands (pair_of here.old.seat.header) (which_of which) course.now.meddles.now
+        course.now.stop (Invite nonce.now) here.old here.new between between result }
+    ensures headed { here.new.seat.header ≡ here.old.seat.header }
 {
     keep_digest(here);
     let came = planned_invite(
-        &mut here.platform,
+        &here.seat.header,
+        &mut here.seat.platform,
         &link(),
-        header.variant,
-        header.module.id(),
         nonce,
         &key_on(which),
         course,
@@ -122,24 +120,23 @@ fn invite(
 
 // Retires the platform with the snapshot that the offer names.
 fn try_retire(
-    alloc: Global,
-    header: &Header,
+    mover: &Mover<'_>,
     platform: &mut MemPlatform,
     issued: &[Bytes],
     nonce: &[u8; 32],
     offer: &Offer,
     course: &Course<'_>,
 ) -> Result<Option<Result<Bytes, MoveRefusal>>, Memory>
-    ensures { (link : Link) → link ≡ link_of (pair_of header.now) → Tried (λ bytes cell.
-        retires_in (meaning_of header.now.«module») header.now.variant link nonce.now bytes (moved_of cell)) course.now.stop
-        course.now.meddles.now (offered_bytes issued.now offer.now) platform.old platform.new result }
+    ensures { (link : Link) → link ≡ link_of (pair_of mover.now.header.now) → Tried (λ bytes cell.
+        retires_in (meaning_of mover.now.header.now.«module») mover.now.header.now.variant link nonce.now bytes
+        (moved_of cell)) course.now.stop course.now.meddles.now (offered_bytes issued.now offer.now) platform.old
+        platform.new result }
 {
-    match offered(alloc, issued, offer) {
+    match offered(mover.alloc, issued, offer) {
         Err(memory) => Err(memory),
         Ok(None) => Ok(None),
         Ok(Some(offered)) => Ok(Some(planned_retire(
-            alloc,
-            header,
+            mover,
             platform,
             &link(),
             nonce,
@@ -152,7 +149,6 @@ fn try_retire(
 // The module leaves the side.
 fn retire(
     alloc: Global,
-    header: &Header,
     here: &mut Side,
     between: &mut Between,
     nonce: &[u8; 32],
@@ -160,45 +156,47 @@ fn retire(
     course: &Course<'_>,
 ) -> Result<MoveReply, Memory>
     requires { vec_len between.old.tickets < 2 ^ 32 }
-    ensures { (which : both.Which) → Commands (pair_of header.now) which course.now.meddles.now course.now.stop
-        (Retire nonce.now offer.now) here.old here.new between.old between.new result }
+    ensures made { (which : both.Which) → Commands (pair_of here.old.seat.header) which course.now.meddles.now
+        course.now.stop (Retire nonce.now offer.now) here.old here.new between.old between.new result }
+    ensures headed { here.new.seat.header ≡ here.old.seat.header }
 {
     between.tickets.reserve(1)?;
-    let was_live = is_live(here.platform.cell());
-    match try_retire(
+    let was_live = is_live(here.seat.platform.cell());
+    let mover = Mover {
         alloc,
-        header,
-        &mut here.platform,
-        here.issued.as_slice(),
+        header: &here.seat.header,
+    };
+    match try_retire(
+        &mover,
+        &mut here.seat.platform,
+        here.seat.issued.as_slice(),
         nonce,
         offer,
         course,
     ) {
         Err(memory) => Err(memory),
         Ok(None) => Ok(MoveReply::NoSnapshot),
-        Ok(Some(came)) => between.leave(was_live, here.position, course.stop, came),
+        Ok(Some(came)) => between.leave(was_live, here.seat.committed, course.stop, came),
     }
 }
 
 // Accepts the ticket that the offer names on the platform.
 fn try_accept(
-    alloc: Global,
-    header: &Header,
+    mover: &Mover<'_>,
     platform: &mut MemPlatform,
     tickets: &[Bytes],
     offer: &Offer,
     course: &Course<'_>,
 ) -> Result<Option<Result<Accepted, MoveRefusal>>, Memory>
-    ensures { (link : Link) → link ≡ link_of (pair_of header.now) → Tried (λ bytes cell.
-        accepts_in (meaning_of header.now.«module») header.now.variant link bytes (moved_of cell)) course.now.stop
-        course.now.meddles.now (offered_bytes tickets.now offer.now) platform.old platform.new result }
+    ensures { (link : Link) → link ≡ link_of (pair_of mover.now.header.now) → Tried (λ bytes cell.
+        accepts_in (meaning_of mover.now.header.now.«module») mover.now.header.now.variant link bytes (moved_of cell))
+        course.now.stop course.now.meddles.now (offered_bytes tickets.now offer.now) platform.old platform.new result }
 {
-    match offered(alloc, tickets, offer) {
+    match offered(mover.alloc, tickets, offer) {
         Err(memory) => Err(memory),
         Ok(None) => Ok(None),
         Ok(Some(offered)) => Ok(Some(planned_accept(
-            alloc,
-            header,
+            mover,
             platform,
             &link(),
             offered.bytes(),
@@ -215,18 +213,20 @@ fn enter(
     stop: Stop,
     came: Result<Accepted, MoveRefusal>,
 ) -> Result<MoveReply, Memory>
-    requires { vec_len here.old.issued < vec_capacity here.old.issued }
-    ensures { EnteredAs was_live away stop came here.old here.new result }
+    requires { vec_len here.old.seat.issued < vec_capacity here.old.seat.issued }
+    ensures entered { EnteredAs was_live away stop came here.old here.new result }
+    ensures headed { here.new.seat.header ≡ here.old.seat.header }
 {
     match came {
         Ok(accepted) => {
             let Accepted { position, snapshot } = accepted;
-            here.position = either(was_live, here.position, away);
-            here.keep(Some(snapshot));
+            here.seat.committed = either(was_live, here.seat.committed, away);
+            here.seat.keep(Some(snapshot));
             Ok(MoveReply::Entered { position })
         }
         Err(why) => {
-            here.position = either(!was_live && has_moved(stop, why), away, here.position);
+            let moved = !was_live && has_moved(stop, why);
+            here.seat.committed = either(moved, away, here.seat.committed);
             refused(stop, why)
         }
     }
@@ -235,21 +235,24 @@ fn enter(
 // The module enters the side.
 fn accept(
     alloc: Global,
-    header: &Header,
     here: &mut Side,
     between: &Between,
     offer: &Offer,
     course: &Course<'_>,
 ) -> Result<MoveReply, Memory>
-    ensures { (which : both.Which) → Commands (pair_of header.now) which course.now.meddles.now course.now.stop (Accept offer.now)
-        here.old here.new between.now between.now result }
+    ensures made { (which : both.Which) → Commands (pair_of here.old.seat.header) which course.now.meddles.now
+        course.now.stop (Accept offer.now) here.old here.new between.now between.now result }
+    ensures headed { here.new.seat.header ≡ here.old.seat.header }
 {
-    here.issued.reserve(1)?;
-    let was_live = is_live(here.platform.cell());
-    match try_accept(
+    here.seat.issued.reserve(1)?;
+    let was_live = is_live(here.seat.platform.cell());
+    let mover = Mover {
         alloc,
-        header,
-        &mut here.platform,
+        header: &here.seat.header,
+    };
+    match try_accept(
+        &mover,
+        &mut here.seat.platform,
         between.tickets.as_slice(),
         offer,
         course,
@@ -264,7 +267,6 @@ fn accept(
 /// its first step.
 pub fn command(
     alloc: Global,
-    header: &Header,
     which: Which,
     here: &mut Side,
     between: &mut Between,
@@ -272,14 +274,13 @@ pub fn command(
     command: &Command,
 ) -> Result<MoveReply, Memory>
     requires { vec_len between.old.tickets < 2 ^ 32 }
-    ensures { Commands (pair_of header.now) (which_of which) course.now.meddles.now course.now.stop
+    ensures made { Commands (pair_of here.old.seat.header) (which_of which) course.now.meddles.now course.now.stop
         (command_of command.now) here.old here.new between.old between.new result }
+    ensures headed { here.new.seat.header ≡ here.old.seat.header }
 {
     match command {
-        Command::Invite { nonce } => invite(header, which, here, nonce, course),
-        Command::Retire { nonce, offer } => retire(
-            alloc, header, here, between, nonce, offer, course,
-        ),
-        Command::Accept { offer } => accept(alloc, header, here, between, offer, course),
+        Command::Invite { nonce } => invite(which, here, nonce, course),
+        Command::Retire { nonce, offer } => retire(alloc, here, between, nonce, offer, course),
+        Command::Accept { offer } => accept(alloc, here, between, offer, course),
     }
 }

@@ -1,6 +1,6 @@
 //! Moves under the plan of an event.
 
-ghost use Rattle.std.specs.Prelude.{◌≡◌, is_some};
+ghost use Rattle.std.specs.Prelude.{◌≡◌, ℕ, is_some};
 ghost use Rattle.mm_modules.specs.Modules.{meaning_of};
 ghost use Rattle.mm_move.specs.Cells.{moved_of};
 ghost use Rattle.mm_move.specs.Orders.{waiting_for, invites_in, retires_in, accepts_in};
@@ -10,8 +10,8 @@ ghost use Rattle.mm_transfer.specs.Planned.{MovesPlanned, moves_at};
 
 use crate::reply::{MoveCause, MoveReply};
 use mm_base::{Bytes, Memory};
-use mm_digest::Variant;
 use mm_model::Refusal;
+use mm_module::Module;
 use mm_move::{Accepted, Invited, Link, MoveRefusal};
 use mm_platform::{MemPlatform, Stop};
 use mm_run::{Course, cause, way};
@@ -68,24 +68,30 @@ pub fn refused(stop: Stop, why: MoveRefusal) -> Result<MoveReply, Memory>
     }
 }
 
+/// The header whose module moves, and the allocator of its moves.
+#[derive(Drop)]
+pub struct Mover<'a> {
+    pub alloc: Global,
+    pub header: &'a Header,
+}
+
 /// Invites the platform under this plan.
 pub fn planned_invite(
+    header: &Header,
     platform: &mut MemPlatform,
     link: &Link,
-    variant: Variant,
-    module: u8,
     nonce: &[u8; 32],
     key: &[u8; 32],
     course: &Course<'_>,
 ) -> Result<Invited, MoveRefusal>
-    ensures { MovesPlanned (λ bytes.
-        invites_in (waiting_for link.now variant «module» nonce.now key.now) (moved_of bytes))
+    ensures { (id : ℕ) → id ≡ (meaning_of header.now.«module»).id → MovesPlanned (λ bytes.
+        invites_in (waiting_for link.now header.now.variant id nonce.now key.now) (moved_of bytes))
         course.now.stop course.now.meddles.now platform.old platform.new result }
 {
     match platform.plan(course.stop, course.meddles) {
         Err(_) => Err(NO_MEMORY),
         Ok(()) => {
-            let came = mm_move::invite(platform, link, variant, module, nonce, key);
+            let came = mm_move::invite(platform, link, header.variant, header.module.id(), nonce, key);
             settle(platform, course.stop, is_broken(&came));
             came
         }
@@ -94,8 +100,7 @@ pub fn planned_invite(
 
 /// Retires the platform under such a plan.
 pub fn planned_retire(
-    alloc: Global,
-    header: &Header,
+    mover: &Mover<'_>,
     platform: &mut MemPlatform,
     link: &Link,
     nonce: &[u8; 32],
@@ -103,16 +108,16 @@ pub fn planned_retire(
     course: &Course<'_>,
 ) -> Result<Bytes, MoveRefusal>
     ensures { MovesPlanned (λ bytes.
-        retires_in (meaning_of header.now.«module») header.now.variant link.now nonce.now offer.now (moved_of bytes))
+        retires_in (meaning_of mover.now.header.now.«module») mover.now.header.now.variant link.now nonce.now offer.now (moved_of bytes))
         course.now.stop course.now.meddles.now platform.old platform.new result }
 {
     match platform.plan(course.stop, course.meddles) {
         Err(_) => Err(NO_MEMORY),
         Ok(()) => {
             let came = mm_move::retire(
-                alloc,
-                &header.module,
-                header.variant,
+                mover.alloc,
+                &mover.header.module,
+                mover.header.variant,
                 platform,
                 link,
                 nonce,
@@ -126,24 +131,23 @@ pub fn planned_retire(
 
 /// Accepts a ticket on the platform under such a plan.
 pub fn planned_accept(
-    alloc: Global,
-    header: &Header,
+    mover: &Mover<'_>,
     platform: &mut MemPlatform,
     link: &Link,
     ticket: &[u8],
     course: &Course<'_>,
 ) -> Result<Accepted, MoveRefusal>
     ensures { MovesPlanned (λ bytes.
-        accepts_in (meaning_of header.now.«module») header.now.variant link.now ticket.now (moved_of bytes))
+        accepts_in (meaning_of mover.now.header.now.«module») mover.now.header.now.variant link.now ticket.now (moved_of bytes))
         course.now.stop course.now.meddles.now platform.old platform.new result }
 {
     match platform.plan(course.stop, course.meddles) {
         Err(_) => Err(NO_MEMORY),
         Ok(()) => {
             let came = mm_move::accept(
-                alloc,
-                &header.module,
-                header.variant,
+                mover.alloc,
+                &mover.header.module,
+                mover.header.variant,
                 platform,
                 link,
                 ticket,

@@ -34,14 +34,16 @@ pub struct Sides {
     between: Between,
     /// How many requests were committed, on either side.
     committed: u64,
+    ghost first_headed: { first.seat.header ≡ header },
+    ghost second_headed: { second.seat.header ≡ header },
     ghost first_fits: { FitsSide (pair_of header) First first } by { fits_prop (pair_of header) First first },
     ghost second_fits: { FitsSide (pair_of header) Second second } by { fits_prop (pair_of header) Second second },
     ghost between_fits: { FitsBetween between },
-    ghost first_within: { first.position ≤ committed },
-    ghost second_within: { second.position ≤ committed },
+    ghost first_within: { first.seat.committed ≤ committed },
+    ghost second_within: { second.seat.committed ≤ committed },
     ghost away_within: { between.away ≤ committed },
-    ghost first_few: { length first.issued.items < 2 ^ 32 },
-    ghost second_few: { length second.issued.items < 2 ^ 32 },
+    ghost first_few: { length first.seat.issued.items < 2 ^ 32 },
+    ghost second_few: { length second.seat.issued.items < 2 ^ 32 },
     ghost tickets_few: { length between.tickets.items < 2 ^ 32 },
 }
 
@@ -54,22 +56,18 @@ impl Model for Sides {
 }
 
 // Follows an event of a schedule on a side, and counts what it committed.
-fn play(
-    alloc: Global,
-    header: &Header,
-    here: &mut Side,
-    committed: &mut u64,
-    event: &Event,
-) -> Result<MoveReply, Memory>
-    requires { here.old.position < 2 ^ 63 }
-    ensures { (which : both.Which) (between : Between) → Acts (pair_of header.now) which (folds.Plain (event_of event.now))
-        here.old here.new between between committed.old committed.new result }
+fn play(here: &mut Side, committed: &mut u64, event: &Event) -> Result<MoveReply, Memory>
+    requires { here.old.seat.committed < 2 ^ 63 }
+    ensures acts { (which : both.Which) (between : Between)
+        → Acts (pair_of here.old.seat.header) which (folds.Plain (event_of event.now)) here.old here.new between between
+        committed.old committed.new result }
+    ensures headed { here.new.seat.header ≡ here.old.seat.header }
 {
-    let before = here.position;
-    match here.event(alloc, header, event) {
+    let before = here.seat.committed;
+    match here.event(event) {
         Err(memory) => Err(memory),
         Ok(said) => {
-            *committed = committed.saturating_add(here.position.saturating_sub(before));
+            *committed = committed.saturating_add(here.seat.committed.saturating_sub(before));
             Ok(MoveReply::Said(said))
         }
     }
@@ -78,20 +76,20 @@ fn play(
 // Follows what happens on a side, and answers it.
 fn act(
     alloc: Global,
-    header: &Header,
     which: Which,
     here: &mut Side,
     between: &mut Between,
     committed: &mut u64,
     act: &Act,
 ) -> Result<MoveReply, Memory>
-    requires position { here.old.position < 2 ^ 63 }
+    requires position { here.old.seat.committed < 2 ^ 63 }
     requires tickets { vec_len between.old.tickets < 2 ^ 32 }
-    ensures { Acts (pair_of header.now) (which_of which) (act_of act.now) here.old here.new between.old between.new
-        committed.old committed.new result }
+    ensures acts { Acts (pair_of here.old.seat.header) (which_of which) (act_of act.now) here.old here.new between.old
+        between.new committed.old committed.new result }
+    ensures headed { here.new.seat.header ≡ here.old.seat.header }
 {
     match act {
-        Act::Plain(event) => play(alloc, header, here, committed, event),
+        Act::Plain(event) => play(here, committed, event),
         Act::Moves {
             meddles,
             stop,
@@ -102,7 +100,7 @@ fn act(
                 stop: *stop,
                 meddles,
             };
-            commands::command(alloc, header, which, here, between, &course, command)
+            commands::command(alloc, which, here, between, &course, command)
         }
     }
 }
@@ -140,31 +138,15 @@ impl Sides {
         ensures wants { OnErr result (HeldWants (side_event_of event.now) self.old self.new) }
     {
         let Sides {
-            header,
+            header: _,
             first,
             second,
             between,
             committed,
         } = self;
         match event.which {
-            Which::First => act(
-                alloc,
-                header,
-                Which::First,
-                first,
-                between,
-                committed,
-                &event.act,
-            ),
-            Which::Second => act(
-                alloc,
-                header,
-                Which::Second,
-                second,
-                between,
-                committed,
-                &event.act,
-            ),
+            Which::First => act(alloc, Which::First, first, between, committed, &event.act),
+            Which::Second => act(alloc, Which::Second, second, between, committed, &event.act),
         }
     }
 
@@ -173,8 +155,9 @@ impl Sides {
         ensures { result ≡ min (kept_in self.now.both) (2 ^ 64 - 1) }
     {
         self.first
+            .seat
             .kept
-            .saturating_add(self.second.kept)
+            .saturating_add(self.second.seat.kept)
             .saturating_add(self.between.kept)
     }
 
@@ -190,8 +173,8 @@ impl Sides {
         ensures { result ≡ length (facing (which_of which) self.now.both).first.issued }
     {
         match which {
-            Which::First => self.first.issued.len() as u32,
-            Which::Second => self.second.issued.len() as u32,
+            Which::First => self.first.seat.issued.len() as u32,
+            Which::Second => self.second.seat.issued.len() as u32,
         }
     }
 

@@ -2,11 +2,11 @@
 use Rattle.mm_world.proofs.Below.{◌≡◌, ℕ, Bool, true, false, ◌&&◌, List, Option, None, Some, Result, Ok, Err, refl, sym, ap, ◌∙◌, subst}
 use Rattle.mm_world.proofs.Below.{eq-eqb, if◌then◌else◌, ◌==◌, Variant, Basic, Opt, Meaning, Batch, StepFault, Standing, ReadCell, Goes}
 use Rattle.mm_world.proofs.Below.{Cell, CellFault, Blank, Unspelled, ReadsCell, same_variant, Refusal, Ended, Refused, ended_with, fault_of}
-use Rattle.mm_world.proofs.Below.{OrMemory, Said, CheckpointRefusal, closing_fault_of, segment_in, SeesSegment, Looks, EndsLooking, AskAt}
-use Rattle.mm_world.proofs.Below.{begun, AskFinishes, why_vain, [], ◌∷◌, ◌++◌, map, append-nil, is_some, MatchResult, option_to_list}
+use Rattle.mm_world.proofs.Below.{OrMemory, Said, CheckpointRefusal, closing_fault_of, segment_in, SeesSegment, Looks, EndsLooking}
+use Rattle.mm_world.proofs.Below.{why_vain, [], ◌∷◌, ◌++◌, map, append-nil, is_some, MatchResult, option_to_list}
 use Rattle.mm_world.proofs.Below.{Memory, One, size_of, Meddle, Stop, fault_at, is_made_at, will_answer, will_bring, Instance}
 use Rattle.mm_world.proofs.Below.{Foreign, is_long, Digests, made, register_reads, by_digests, all_made, Walked, after_step, commits}
-use Rattle.mm_world.proofs.Below.{end_of, Reads, called_by, kept_at, is_broken, StaysOn, FinishedAsk, Reply, Outcome, way_of, cause_of}
+use Rattle.mm_world.proofs.Below.{end_of, Reads, called_by, kept_at, is_broken, StaysOn, CallsTo, inl, inr, Reply, Outcome, way_of, cause_of}
 use Rattle.mm_world.proofs.Below.{outcome_by, uncalled, reads_only, plan_of, broken_reply, stopped_reply, IsQuiet, quiet_as, refused_call}
 use Rattle.mm_world.proofs.Below.{broken_as, takes_effect, size_if, is_cut, CalledAs, SettlesPlan, told_closing, stops_in, missing}
 use Rattle.mm_world.proofs.Below.{CameInVain, AsksInVain, ChecksInVain, AsksPlanned, ChecksPlanned, beside, reads_of, reads_beside}
@@ -18,11 +18,22 @@ use Rattle.mm_call.specs.Refusals.{fault_in}
 use Rattle.mm_opt.specs.Seen.{cell_in, own_cell, is_opt, SeesCell}
 use Rattle.mm_opt.specs.declared.segment.Segment.{Segment}
 use Rattle.mm_platform.specs.StandingWords.{due}
-use Rattle.mm_opt.specs.Closed.{ClosedInOpt}
+use Rattle.mm_opt.specs.Checkpoints.{ClosesSegment}
+use Rattle.mm_opt.specs.ChecksOn.{ChecksOn}
+use Rattle.mm_opt.specs.Closing.{closing as closing_asked, ended_told}
 use Rattle.mm_world.proofs.Asking.{stopped_at}
 use Rattle.mm_world.proofs.Asking.{settled_reads, stop_power, on_settled, power_if}
 use Rattle.mm_world.proofs.Calling.{asks_as}
 use Rattle.mm_world.proofs.Calling.{checks_planned}
+use Rattle.mm_machine.specs.Finishing.{Finishes}
+use Rattle.mm_machine.specs.declared.call.Ended.{Ended as End}
+use Rattle.mm_machine.specs.declared.call.Stage.TheVariants.{Begun}
+use Rattle.mm_model.specs.declared.answer.BatchAnswer.{BatchAnswer}
+use Rattle.mm_call.specs.Machine.{end_told}
+use Rattle.mm_ask.specs.Operating.{asked_by}
+use Rattle.mm_ask.proofs.Above.{calls_by}
+use Rattle.mm_world.specs.Planned.{IsPlanned, WasPlanned, tells_ask, tells_close}
+use Rattle.mm_world.proofs.OnPlan.{asks_broken, closes_broken}
 use Rattle.mm_model.specs.declared.refusal.Refusal.TheVariants as refusal
 use Rattle.mm_basic.specs.Seen as seen
 use Rattle.mm_basic.specs.Asks as basic_asks
@@ -134,16 +145,12 @@ module _ (meaning : Meaning) (bytes offer : List ℕ) (b : Batch) (read : Result
         subst (λ (x : Result Found Refusal). last x asks.middle new ended) on.1 asks.ends in
         (e.0 ∙ on.0, e.1 ∙ with_why (fault_of w) w why known))
 
-    ask_stops : (variant : Variant) (call : AskAt) → call ≡ begun variant → AskFinishes meaning call old new offer b ended
-        → why_vain variant meaning.id read ≡ Some why → StopsReading old new why ended
-    ask_stops Basic call is asks vain =
-        let f = subst (λ (c : AskAt). AskFinishes meaning c old new offer b ended) is asks in
-        basic_stops vain
-        (in_basic.finished_asks meaning offer b old new ended (record { end = f.end; finishes = f.finishes; gives = f.gives }))
-    ask_stops Opt call is asks vain =
-        let f = subst (λ (c : AskAt). AskFinishes meaning c old new offer b ended) is asks in
-        opt_stops vain
-        (in_opt.finished_asks meaning old new offer b ended (record { end = f.end; finishes = f.finishes; gives = f.gives }))
+    ask_stops : (variant : Variant) (end : End BatchAnswer Refusal) → Finishes (asked_by variant meaning offer b) Begun old new end
+        → ended ≡ end_told end → why_vain variant meaning.id read ≡ Some why → StopsReading old new why ended
+    ask_stops Basic end f is vain =
+        basic_stops vain (in_basic.finished_asks meaning offer b old new ended (record { end = end; finishes = f; gives = is }))
+    ask_stops Opt end f is vain =
+        opt_stops vain (in_opt.finished_asks meaning old new offer b ended (record { end = end; finishes = f; gives = is }))
 
 -- a checkpoint
 
@@ -306,13 +313,13 @@ closing_told_vain stop _ None e = record { reply = refl; snapshot = refl; commit
 
 -- a checkpoint over a planned platform
 checks_in_vain : (old mid new : Standing) (meddles : List Meddle) (stop : Stop) (result : Result Said CheckpointRefusal)
-    → ClosedInOpt (record old { plan = Some (plan_of stop meddles) }) mid result → SettlesPlan stop (stops_in result) mid new
+    → ChecksOn (record old { plan = Some (plan_of stop meddles) }) mid result
+    → ClosesSegment (record old { plan = Some (plan_of stop meddles) }) mid result → SettlesPlan stop (stops_in result) mid new
     → (issued : List (List ℕ)) → ChecksInVain old new issued meddles stop (Ok (told_closing stop result))
-checks_in_vain old mid new meddles stop result closed settles issued = λ i d missed at.
-    let closes = closed.closes in
+checks_in_vain old mid new meddles stop result goes closes settles issued = λ i d missed at.
     let r = stops_looking (record old { plan = Some (plan_of stop meddles) }) closes.middle mid at.bytes missed closes.found result at.cell
     at.reads closes.looks closes.ends in
-    let p = closed.goes.plans (plan_of stop meddles) at.quiet.is_on refl refl in
+    let p = goes.plans (plan_of stop meddles) at.quiet.is_on refl refl in
     let breaks : stops_in result ≡ is_some r.fault = ap stops_in r.ends ∙ stopped_ended r.fault missed in
     let fault_is : r.fault ≡ fault_at stop 1 = (r.goes.told (plan_of stop meddles) refl).answers
     ∙ ap (λ on. will_answer on (plan_of stop meddles)) at.quiet.is_on in
@@ -322,50 +329,85 @@ checks_in_vain old mid new meddles stop result closed settles issued = λ i d mi
     at.quiet at.register r.goes (subst (λ x. SettlesPlan stop x mid new) breaks settles) (subst (λ x. StaysOn stop x mid) breaks p.0)
     (closing_told_vain stop missed r.fault fault_is))
 
-pub checks_either : (old planned_at mid new : Standing) (meddles : List Meddle) (stop : Stop) (broken : Bool) (said : Reply)
-    (result : Result Said CheckpointRefusal) → planned_at ≡ record old { plan = Some (plan_of stop meddles) }
-    → ClosedInOpt planned_at mid result → broken ≡ stops_in result → SettlesPlan stop broken mid new → said ≡ told_closing stop result
-    → (issued : List (List ℕ)) → ChecksPlanned old new issued meddles stop (Ok said)
-checks_either old planned_at mid new meddles stop broken said result planned closed is settles told issued =
-    let there = subst (λ (s : Standing). ClosedInOpt s mid result) planned closed in
-    let settled = subst (λ x. SettlesPlan stop x mid new) is settles in
-    subst (λ r. ChecksPlanned old new issued meddles stop (Ok r)) (sym told) (record {
-      own = λ variant meaning. checks_planned old mid new meddles stop result there.goes settled variant meaning issued;
-      vain = checks_in_vain old mid new meddles stop result there settled issued;
-    })
+-- a checkpoint under a plan
+module _ (old new : Standing) (meddles : List Meddle) (stop : Stop) (issued : List (List ℕ)) where
+  checks_either : (called : Result code.Called Memory) (w : WasPlanned closing_asked tells_close meddles stop old new called)
+      → ChecksPlanned old new issued meddles stop (Ok (told_closing stop (ended_told w.ended)))
+  checks_either called w =
+      let at = record old { plan = Some (plan_of stop meddles) } in
+      let said = ended_told w.ended in
+      let closes = in_opt.closes_whole w.middle w.ended at w.ends in
+      let goes = in_opt.checks_on at w.middle said closes in
+      let settled : SettlesPlan stop (stops_in said) w.middle new =
+      subst (λ x. SettlesPlan stop x w.middle new) (sym (closes_broken at w.middle w.ended w.ends)) w.settles in record {
+        own = λ variant meaning. checks_planned old w.middle new meddles stop said goes settled variant meaning issued;
+        vain = checks_in_vain old w.middle new meddles stop said goes closes settled issued;
+      }
+
+  pub checks_to : (it : code.Called) → IsPlanned closing_asked tells_close meddles stop old new (Ok it)
+      → ChecksPlanned old new issued meddles stop (Ok it.reply)
+  checks_to it (inl e) = absurd (cc)
+  checks_to it (inr w) =
+      let same : it ≡ quiet_as (told_closing stop (ended_told w.ended)) = cc in
+      subst (λ (x : Reply). ChecksPlanned old new issued meddles stop (Ok x)) (sym (ap (λ (x : code.Called). x.reply) same))
+      (checks_either (Ok it) w)
+
+  -- or want of memory for that
+  pub checks_lack : (memory : Memory) → IsPlanned closing_asked tells_close meddles stop old new (Err memory)
+      → ChecksPlanned old new issued meddles stop (Err memory)
+  checks_lack memory (inl e) = record { own = λ variant meaning. λ key barrier d s q. e.1; vain = λ i d fault at. e.1 }
+  checks_lack memory (inr w) = absurd (cc)
 
 -- a call that isn't too long, over a planned platform
 
-module _ (variant : Variant) (meaning : Meaning) (old planned_at mid new : Standing) (meddles : List Meddle) (stop : Stop) (offer : List ℕ)
-    (b : Batch) (size : ℕ) (call : AskAt) (ended : Ended) (result : Result code.Called Memory) (short : is_long b ≡ false)
-    (is : call ≡ begun variant) (told : CalledAs stop size ended result) (issued : List (List ℕ)) where
-  asks_in_vain : FinishedAsk meaning call (record old { plan = Some (plan_of stop meddles) }) mid offer b ended
-      → SettlesPlan stop (is_broken ended) mid new → AsksInVain variant meaning old new issued meddles stop (Some offer) b result
-  asks_in_vain finished settles = λ i d read why at vain.
-      let r = ask_stops meaning at.bytes offer b read why at.reads (record old { plan = Some (plan_of stop meddles) }) mid ended at.cell
-      variant call is finished.finishes vain in
-      let calls = finished.ends variant is in let p = calls.plans (plan_of stop meddles) at.quiet.is_on refl refl in
-      let breaks : is_broken ended ≡ is_some r.fault = ap is_broken r.ends ∙ broken_with r.fault why in
-      let it : code.Called = vain_call stop size r.fault why in
-      let vain_outcome : Bool → Outcome Digests = λ long. if long then uncalled d issued (reply.No cause.Long) else reads_only (by_digests
-      i) d
-      issued meddles stop why in
-      let came : CameInVain (vain_outcome false) issued old new it = stopped_came i d stop meddles issued why old mid new it r.fault
-      at.quiet
-      at.register r.goes (subst (λ x. SettlesPlan stop x mid new) breaks settles) (subst (λ x. StaysOn stop x mid) breaks p.0)
-      (vain_told stop size r.fault why) in
-      let gives : result ≡ Ok it = vain_result stop size r.fault why result (λ e. never_memory variant meaning.id read (vain ∙ ap Some e))
-      (subst (λ (x : Ended). CalledAs stop size x result) r.ends told) in
-      subst (λ (x : Result code.Called Memory). MatchResult x (CameInVain (vain_outcome (is_long b)) issued old new) (λ _. new ≡ old))
-      (sym gives) (subst (λ (long : Bool). CameInVain (vain_outcome long) issued old new it) (sym short) came)
+module _ (variant : Variant) (meaning : Meaning) (old new : Standing) (meddles : List Meddle) (stop : Stop) (offer : List ℕ) (b : Batch)
+    (result : Result code.Called Memory) (short : is_long b ≡ false) (issued : List (List ℕ)) where
+  abbrev at : Standing
+  at = record old { plan = Some (plan_of stop meddles) }
 
-  pub asks_either : (broken : Bool) → size ≡ size_of b → planned_at ≡ record old { plan = Some (plan_of stop meddles) }
-      → FinishedAsk meaning call planned_at mid offer b ended → broken ≡ is_broken ended → SettlesPlan stop broken mid new
-      → AsksPlanned variant meaning old new issued meddles stop (Some offer) b result
-  asks_either broken n planned finished breaks settles =
-      let there = subst (λ (s : Standing). FinishedAsk meaning call s mid offer b ended) planned finished in
-      let settled = subst (λ x. SettlesPlan stop x mid new) breaks settles in record {
-        own = asks_as variant meaning old mid new meddles stop offer b size ended result short n (there.ends variant is) settled told
-            issued;
-        vain = asks_in_vain there settled;
-      }
+  module _ (w : WasPlanned (asked_by variant meaning offer b) (tells_ask b) meddles stop old new result) where
+    abbrev ended : Ended
+    ended = end_told w.ended
+
+    asks_in_vain : CallsTo variant meaning at w.middle offer b ended → SettlesPlan stop (is_broken ended) w.middle new
+        → AsksInVain variant meaning old new issued meddles stop (Some offer) b result
+    asks_in_vain calls settles = λ i d read why cell vain.
+        let r = ask_stops meaning cell.bytes offer b read why cell.reads at w.middle ended cell.cell variant w.ended w.ends refl vain in
+        let p = calls.plans (plan_of stop meddles) cell.quiet.is_on refl refl in
+        let breaks : is_broken ended ≡ is_some r.fault = ap is_broken r.ends ∙ broken_with r.fault why in
+        let it : code.Called = vain_call stop (size_of b) r.fault why in
+        let vain_outcome : Bool → Outcome Digests = λ long. if long then uncalled d issued (reply.No cause.Long) else reads_only (by_digests
+        i) d
+        issued meddles stop why in
+        let came : CameInVain (vain_outcome false) issued old new it = stopped_came i d stop meddles issued why old w.middle new it r.fault
+        cell.quiet
+        cell.register r.goes (subst (λ x. SettlesPlan stop x w.middle new) breaks settles) (subst (λ x. StaysOn stop x w.middle) breaks p.0)
+        (vain_told stop (size_of b) r.fault why) in
+        let gives : result ≡ Ok it = vain_result stop (size_of b) r.fault why result
+        (λ e. never_memory variant meaning.id read (vain ∙ ap Some e))
+        (subst (λ (x : Ended). CalledAs stop (size_of b) x result) r.ends w.told) in
+        subst (λ (x : Result code.Called Memory). MatchResult x (CameInVain (vain_outcome (is_long b)) issued old new) (λ _. new ≡ old))
+        (sym gives) (subst (λ (long : Bool). CameInVain (vain_outcome long) issued old new it) (sym short) came)
+
+    asks_either : AsksPlanned variant meaning old new issued meddles stop (Some offer) b result
+    asks_either =
+        let calls = calls_by meaning offer b at w.middle variant w.ended w.ends in
+        let settled = subst (λ x. SettlesPlan stop x w.middle new) (sym (asks_broken variant meaning offer b at w.middle w.ended w.ends))
+        w.settles in record {
+          own = asks_as variant meaning old w.middle new meddles stop offer b (size_of b) ended result short refl calls settled w.told
+              issued;
+          vain = asks_in_vain calls settled;
+        }
+
+-- or want of memory for the plan
+pub asks_to : (variant : Variant) (meaning : Meaning) (old new : Standing) (meddles : List Meddle) (stop : Stop) (offer : List ℕ) (b : Batch)
+    (result : Result code.Called Memory) (short : is_long b ≡ false) (issued : List (List ℕ))
+    → IsPlanned (asked_by variant meaning offer b) (tells_ask b) meddles stop old new result
+    → AsksPlanned variant meaning old new issued meddles stop (Some offer) b result
+asks_to variant meaning old new meddles stop offer b (Ok it) short issued (inl e) = absurd (cc)
+asks_to variant meaning old new meddles stop offer b (Err memory) short issued (inl e) = record {
+  own = λ key barrier d s q. inl e.1;
+  vain = λ i d read why at vain. e.1;
+}
+asks_to variant meaning old new meddles stop offer b result short issued (inr w) =
+    asks_either variant meaning old new meddles stop offer b result short issued w

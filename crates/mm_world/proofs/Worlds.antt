@@ -1,25 +1,23 @@
--- A world goes on as its platform does; each of its replies can be printed, and an event issues at most one snapshot.
-use Rattle.mm_world.proofs.Below.{◌≡◌, ℕ, ◌+◌, ◌-◌, ◌<◌, ◌≤◌, ◌^◌, Bool, true, false, List, [], ◌∷◌, ◌++◌, length, take, drop, Option, None}
-use Rattle.mm_world.proofs.Below.{Some, Result, Ok, Err, IfOk, OnErr, inl, inr, refl, sym, ap, ◌∙◌, subst, arith, length-append, ◌==◌}
-use Rattle.mm_world.proofs.Below.{option_to_list, min, slice_index, Memory, Variant, Basic, Opt, Batch, Meaning, Cell}
-use Rattle.mm_world.proofs.Below.{flag_byte, Meddle, Stop, Standing, beside, Instance, Foreign, first_history, Digests, made, cell_of}
-use Rattle.mm_world.proofs.Below.{issued_bytes, register_reads, by_digests, seen_in, seen_at, reading_steps, instance_by, cell_at}
-use Rattle.mm_world.proofs.Below.{anchor-nil, summary-nil, seen_none, meaning_of, Reply, Ask, Checkpoint, Outcome, course_of, first_issued}
-use Rattle.mm_world.proofs.Below.{first_digests, Held, world_of, first_held, outcome_in, Follows, Wants, Stands, IsQuiet, Came}
-use Rattle.mm_world.proofs.Below.{Lacks, AsksAs, ChecksAs, quiet_as, reads_beside, Event, printed, grown}
+-- A world goes on as its seat does; each of its replies can be printed, and an event issues at most one snapshot.
+use Rattle.mm_world.proofs.Below.{◌≡◌, ℕ, ◌+◌, ◌-◌, ◌<◌, ◌≤◌, ◌^◌, Bool, true, false, List, [], ◌∷◌, ◌++◌, length, take, drop}
+use Rattle.mm_world.proofs.Below.{Result, Ok, Err, IfOk, OnErr, inl, inr, refl, sym, ap, ◌∙◌, subst, arith, ◌==◌}
+use Rattle.mm_world.proofs.Below.{slice_index, Memory, Variant, Basic, Opt, Meaning, Cell, flag_byte, Standing, Instance, first_history}
+use Rattle.mm_world.proofs.Below.{Digests, cell_of, issued_bytes, register_reads, by_digests, seen_in, seen_at, reading_steps, instance_by}
+use Rattle.mm_world.proofs.Below.{cell_at, anchor-nil, summary-nil, seen_none, meaning_of, Reply, Ask, Checkpoint, course_of}
+use Rattle.mm_world.proofs.Below.{first_digests, Held, world_of, first_held, outcome_in, Follows, Wants, Stands, IsQuiet, Event, printed}
+use Rattle.mm_world.proofs.Below.{grown}
 use Rattle.mm_digest.specs.LengthLaws.{length-zero_bytes, length-start_of}
 use Rattle.mm_seal.specs.Cell.{cell_spelling}
 use Rattle.mm_seal.specs.FieldLaws.{take_front}
 use Rattle.mm_platform.specs.Memory.{new_platform}
 use Rattle.mm_schedule.specs.declared.header.Header.{Header}
-use Rattle.mm_schedule.specs.declared.event.Offer.{Offer}
-use Rattle.mm_run.specs.Held.{rising_from, world_key, world_barrier}
-use Rattle.mm_run.specs.Offered.{offered_bytes}
-use Rattle.mm_world.specs.declared.call.Called.{Called}
-use Rattle.mm_world.specs.Held.{digest_in, flag_in, value_in, digests_in, held_in, KeepsWorld}
-use Rattle.mm_world.proofs.Asking.{count_none, stands_read}
-use Rattle.mm_schedule.specs.Events.{Power}
+use Rattle.mm_schedule.specs.Events.{Power, Extend}
 use Rattle.mm_schedule.specs.Replies.{IsPrintable}
+use Rattle.mm_run.specs.Held.{having_read, rising_from, world_key, world_barrier}
+use Rattle.mm_world.specs.declared.seat.Seat.{Seat}
+use Rattle.mm_world.specs.Held.{digest_in, flag_in, value_in, digests_in, held_in, KeepsWorld}
+use Rattle.mm_world.specs.Seat.{instance_at, IsFirst, StaysOn, Follows as SeatFollows, Wants as SeatWants}
+use Rattle.mm_world.proofs.Asking.{count_none}
 
 -- what a cell and a register show
 
@@ -47,130 +45,134 @@ digests_are i d s committed a =
 pub counting : (i : Instance) (d : Digests) (s : Standing) (count : ℕ) → Stands i s d → Stands i s (record d { count = count })
 counting i d s count a = record { at = record { spells = a.at.spells; cell = a.at.cell; reads = a.at.reads }; register = a.register }
 
-pub settles : (h : Header) (s : Standing) (d : Digests) (issued : List (List ℕ)) (committed : ℕ) → Stands (world_of h) s d → IsQuiet s
-    → length issued ≤ 2 ^ 32 - 1 → committed ≤ 2 ^ 64 - 1 → KeepsWorld h s issued committed
-settles h s d issued committed a q few fits = record {
-  stands = subst (Stands (world_of h) s) (sym (digests_are (world_of h) d s committed a)) (counting (world_of h) d s committed a);
-  quiet = q;
-  few = few;
-  fits = fits;
-}
+-- the seat of a world, by an event
 
-few_more : (issued : List (List ℕ)) (snapshot : Option (List ℕ)) → length issued < 2 ^ 32 - 1
-    → length (issued ++ option_to_list snapshot) ≤ 2 ^ 32 - 1
-few_more issued None h = omega (arith, length-append issued [])
-few_more issued (Some s) h = omega (arith, length-append issued (s ∷ []))
+module _ (old new : Seat) (world : Held) (is : held_in old ≡ world) (k : KeepsWorld old) where
+  abbrev i : Instance
+  i = world_of old.header
 
-follows : (h : Header) (o : Outcome Digests) (old new : Standing) (issued issued' : List (List ℕ)) (committed committed' : ℕ) (it : Called)
-    → Came (world_of h) o committed issued old new it
-    → issued' ≡ issued ++ option_to_list it.snapshot → committed' ≡ min (committed + it.committed) (2 ^ 64 - 1)
-    → Follows o (held_in h old issued committed) (held_in h new issued' committed') it.reply
-follows h o old new issued issued' committed committed' it c i n =
-    let e : committed' ≡ min o.state.count (2 ^ 64 - 1) = n ∙ ap (λ (x : ℕ). min x (2 ^ 64 - 1)) (sym c.counts) in
-    record {
-      reply = c.reply;
-      header = refl;
-      digests = digests_are (world_of h) o.state new committed' c.stands ∙ (λ j. record o.state { count = e j });
-      issued = i ∙ c.issues;
-      steps = c.steps;
-      writes = c.writes;
-    }
-
--- over the fields of a world, from which a world is told
-module _ (h : Header) (old new : Standing) (issued : List (List ℕ)) (committed : ℕ) (world : Held)
-    (is : held_in h old issued committed ≡ world) (s : KeepsWorld h old issued committed) where
   abbrev d : Digests
-  d = digests_in old committed
+  d = digests_in old.platform old.committed
 
-  abbrev Holds : List (List ℕ) → ℕ → Type 0
-  Holds issued' committed' = KeepsWorld h new issued' committed'
+  keeps_so : (at : Digests) → new.header ≡ old.header → Stands i new.platform at → IsQuiet new.platform
+      → length new.issued.items ≤ 2 ^ 32 - 1 → KeepsWorld new
+  keeps_so at header a q few =
+      let there : Stands i new.platform (digests_in new.platform new.committed) =
+      subst (Stands i new.platform) (sym (digests_are i at new.platform new.committed a)) (counting i at new.platform new.committed a) in
+      record {
+        stands = subst (λ (h : Header). Stands (world_of h) new.platform (digests_in new.platform new.committed)) (sym header) there;
+        quiet = q;
+        few = few;
+      }
 
-  -- an ask
-  module _ (lent issued' : List (List ℕ)) (committed' : ℕ) (meddles : List Meddle) (stop : Stop) (offer : Offer) (b : Batch) where
-    abbrev Asks : List (List ℕ) → Result Called Memory → Type 0
-    Asks offered result = AsksAs h.variant (meaning_of h.«module») old new offered meddles stop (offered_bytes offered offer) b result
+  keeps_same : StaysOn new.platform old new → new.platform ≡ old.platform → KeepsWorld new
+  keeps_same s e =
+      let there = subst (λ (x : Standing). Stands i x d) (sym e) k.stands in
+      keeps_so d s.header there (subst IsQuiet (sym e) k.quiet)
+      (subst (λ (x : List (List ℕ)). length x ≤ 2 ^ 32 - 1) (sym s.issued) k.few)
 
-    pub follows_ask : (it : Called) → lent ≡ issued → Asks lent (Ok it) → issued' ≡ issued ++ option_to_list it.snapshot
-        → committed' ≡ min (committed + it.committed) (2 ^ 64 - 1)
-        → Follows (outcome_in world (Ask meddles stop offer b)) world (held_in h new issued' committed') it.reply
-    follows_ask it same asks i n =
-        let there : Asks issued (Ok it) = subst (λ (x : List (List ℕ)). Asks x (Ok it)) same asks in
-        subst (λ (w : Held). Follows (outcome_in w (Ask meddles stop offer b)) w (held_in h new issued' committed') it.reply) is
-        (follows h (outcome_in (held_in h old issued committed) (Ask meddles stop offer b)) old new issued issued' committed committed' it
-        (there world_key world_barrier d s.stands s.quiet) i n)
+  keeps_wanting : (event : Event) → StaysOn new.platform old new → SeatWants i d event old.platform new.platform → KeepsWorld new
+  keeps_wanting (Ask meddles stop offer b) s w = elim w [
+    | inl e ↦ keeps_same s e
+    | inr e ↦ keeps_so _ s.header e.stands e.quiet (subst (λ (x : List (List ℕ)). length x ≤ 2 ^ 32 - 1) (sym s.issued) k.few)
+  ]
+  keeps_wanting Power s w = absurd w
+  keeps_wanting event s w = keeps_same s w
 
-    pub settled_ask : (it : Called) → Asks lent (Ok it) → issued' ≡ issued ++ option_to_list it.snapshot
-        → committed' ≡ min (committed + it.committed) (2 ^ 64 - 1) → length world.issued < 2 ^ 32 - 1 → Holds issued' committed'
-    settled_ask it asks i n room =
-        let c = asks world_key world_barrier d s.stands s.quiet in
-        let few : length issued < 2 ^ 32 - 1 = omega (arith, room, ap (λ (w : Held). length w.issued) is) in
-        subst (λ (x : List (List ℕ)). Holds x committed') (sym i) (settles h new _ (issued ++ option_to_list it.snapshot)
-        committed' c.stands c.quiet (few_more issued it.snapshot few) (omega (arith, n)))
+  -- the world is one after an event, too
+  pub keeps_world : (event : Event) (result : Result Reply Memory) → SeatFollows event old new result → length world.issued < 2 ^ 32 - 1
+      → KeepsWorld new
+  keeps_world event (Ok said) f room =
+      let c = f.own world_key world_barrier d k.stands k.quiet refl in
+      let more = ap (λ (x : List (List ℕ)). length x) c.issued in
+      keeps_so _ f.header c.stands c.quiet (omega (arith, room, ap (λ (w : Held). length w.issued) is, more, grown (held_in old) event))
+  keeps_world event (Err memory) f room =
+      let w = f.own world_key world_barrier d k.stands k.quiet refl in keeps_wanting event w.0 w.1
 
-    -- memory was wanting: the world is as before, or its reading steps were made
-    pub wants_ask : (memory : Memory) → Asks lent (Err memory) → issued' ≡ issued
-        → Wants (Ask meddles stop offer b) world (held_in h new issued' committed)
-    wants_ask memory asks i =
+  pub follows_world : (event : Event) (result : Result Reply Memory) → SeatFollows event old new result
+      → IfOk result (Follows (outcome_in world event) world (held_in new))
+  follows_world event (Ok said) f =
+      let c = f.own world_key world_barrier d k.stands k.quiet refl in
+      let o = outcome_in (held_in old) event in
+      let count = c.committed in
+      subst (λ (w : Held). Follows (outcome_in w event) w (held_in new) said) is (record {
+        reply = c.reply;
+        header = f.header;
+        digests = digests_are i o.state new.platform new.committed c.stands ∙ (λ j. record o.state { count = count j });
+        issued = c.issued;
+        steps = c.steps;
+        writes = c.writes;
+      })
+  follows_world event (Err memory) f = tt
+
+  -- memory was wanting
+
+  same_world : StaysOn new.platform old new → new.platform ≡ old.platform → held_in new ≡ world
+  same_world s e =
+      let header = s.header in
+      let issued = s.issued in
+      let committed = s.committed in
+      let there : held_in new ≡ held_in old = λ j. record {
+        header = header j;
+        digests = digests_in (e j) (committed j);
+        issued = issued j;
+        steps = (e j).steps;
+        writes = (e j).writes;
+      } in
+      there ∙ is
+
+  wanting : (event : Event) → StaysOn new.platform old new → SeatWants i d event old.platform new.platform
+      → Wants event world (held_in new)
+  wanting (Ask meddles stop offer b) s w = elim w [
+    | inl e ↦ inl (same_world s e)
+    | inr e ↦
         let c = course_of stop meddles in
-        let l : Lacks (world_of h) d meddles stop old new = asks world_key world_barrier d s.stands s.quiet in
-        subst (λ (w : Held). Wants (Ask meddles stop offer b) w (held_in h new issued' committed)) is (elim l [
-          | inl e ↦ inl (λ j. held_in h (e j) (i j) committed)
-          | inr e ↦
-              let seen = seen_at (world_of h) (by_digests (world_of h)) d c in
-              let n : seen.count ≡ committed = count_none (world_of h) (seen_in c.fates (reading_steps (world_of h).variant) 1) d
-              (seen_none c.fates (reading_steps (world_of h).variant) 1) in
-              let there : digests_in new committed ≡ seen = digests_are (world_of h) seen new committed e.stands
-              ∙ (λ j. record seen { count = sym n j }) in
-              let steps = e.steps in
-              let w = e.writes in
-              inr (λ j. record { header = h; digests = there j; issued = i j; steps = steps j; writes = w j })
-        ])
+        let seen = seen_at i (by_digests i) d c in
+        let n : seen.count ≡ old.committed = count_none i (seen_in c.fates (reading_steps i.variant) 1) d
+        (seen_none c.fates (reading_steps i.variant) 1) in
+        let header = s.header in
+        let issued = s.issued in
+        let count = s.committed ∙ sym n in
+        let there : digests_in new.platform new.committed ≡ seen = digests_are i seen new.platform new.committed e.stands
+        ∙ (λ j. record seen { count = count j }) in
+        let steps = e.steps in
+        let writes = e.writes in
+        let read : held_in new ≡ having_read stop meddles (held_in old) = λ j. record {
+          header = header j;
+          digests = there j;
+          issued = issued j;
+          steps = steps j;
+          writes = writes j;
+        } in
+        inr (read ∙ ap (having_read stop meddles) is)
+  ]
+  wanting Power s w = absurd w
+  wanting (Checkpoint meddles stop) s w = same_world s w
+  wanting (Extend value) s w = same_world s w
 
-    pub settled_lacking : (memory : Memory) → Asks lent (Err memory) → issued' ≡ issued → Holds issued' committed
-    settled_lacking memory asks i =
-        let l : Lacks (world_of h) d meddles stop old new = asks world_key world_barrier d s.stands s.quiet in
-        subst (λ (x : List (List ℕ)). Holds x committed) (sym i) (elim l [
-          | inl e ↦ subst (λ (x : Standing). KeepsWorld h x issued committed) (sym e) s
-          | inr e ↦ settles h new _ issued committed e.stands e.quiet s.few s.fits
-        ])
+  pub wants_world : (event : Event) (result : Result Reply Memory) → SeatFollows event old new result
+      → OnErr result (Wants event world (held_in new))
+  wants_world event (Ok said) f = tt
+  wants_world event (Err memory) f =
+      let w = f.own world_key world_barrier d k.stands k.quiet refl in wanting event w.0 w.1
 
-  -- a checkpoint
-  module _ (meddles : List Meddle) (stop : Stop) where
-    abbrev Checks : Result Reply Memory → Type 0
-    Checks result = ChecksAs h.variant (meaning_of h.«module») old new issued meddles stop result
+  -- the reply can be printed, and an event issues at most one snapshot
+  pub printed_world : (event : Event) (result : Result Reply Memory) → SeatFollows event old new result → IfOk result IsPrintable
+  printed_world event (Ok said) f =
+      let c = f.own world_key world_barrier d k.stands k.quiet refl in
+      subst (λ (r : Reply). IsPrintable r) (sym c.reply) (printed (held_in old) event)
+  printed_world event (Err memory) f = tt
 
-    pub settled_checked : (result : Result Reply Memory) → Checks result → Holds issued committed
-    settled_checked (Ok said) checks =
-        let c = checks world_key world_barrier d s.stands s.quiet in settles h new _ issued committed c.stands c.quiet s.few s.fits
-    settled_checked (Err memory) checks =
-        let e : new ≡ old = checks world_key world_barrier d s.stands s.quiet in
-        subst (λ (x : Standing). KeepsWorld h x issued committed) (sym e) s
-
-    pub follows_checked : (result : Result Reply Memory) → Checks result
-        → IfOk result (Follows (outcome_in world (Checkpoint meddles stop)) world (held_in h new issued committed))
-    follows_checked (Ok said) checks =
-        let o : Outcome Digests = outcome_in (held_in h old issued committed) (Checkpoint meddles stop) in
-        let n : committed ≡ min (committed + 0) (2 ^ 64 - 1) = (let fits = s.fits in omega (arith, fits)) in
-        let f = follows h o old new issued (issued ++ []) committed committed (quiet_as said)
-        (checks world_key world_barrier d s.stands s.quiet) refl n in
-        subst (λ (w : Held). Follows (outcome_in w (Checkpoint meddles stop)) w (held_in h new issued committed) said) is
-        (record { reply = f.reply; header = refl; digests = f.digests; issued = refl; steps = f.steps; writes = f.writes })
-    follows_checked (Err memory) checks = tt
-
-    pub same_checked : (result : Result Reply Memory) → Checks result → OnErr result (held_in h new issued committed ≡ world)
-    same_checked (Ok said) checks = tt
-    same_checked (Err memory) checks =
-        let e : new ≡ old = checks world_key world_barrier d s.stands s.quiet in
-        ap (λ (x : Standing). held_in h x issued committed) e ∙ is
-
--- others extend the register
-abbrev pub extended_by : Standing → List ℕ → Standing
-extended_by old value = record old { items = beside (value ∷ []) old.items }
-
-pub stands_extended : (i : Instance) (d : Digests) (value : List ℕ) (old : Standing) → Stands i old d
-    → Stands i (extended_by old value) (made i d (Foreign value))
-stands_extended i d value old s =
-    stands_read i d old (extended_by old value) _ s refl (reads_beside old.items (value ∷ []) d.register s.register)
+  pub grown_world : (event : Event) (result : Result Reply Memory) → SeatFollows event old new result
+      → length new.issued.items ≤ length world.issued + 1
+  grown_world event (Ok said) f =
+      let c = f.own world_key world_barrier d k.stands k.quiet refl in
+      let more = ap (λ (x : List (List ℕ)). length x) c.issued in
+      omega (arith, ap (λ (w : Held). length w.issued) is, more, grown (held_in old) event)
+  grown_world event (Err memory) f =
+      let w = f.own world_key world_barrier d k.stands k.quiet refl in
+      let same = ap (λ (x : List (List ℕ)). length x) w.0.issued in
+      omega (arith, ap (λ (w : Held). length w.issued) is, same)
 
 -- a new world
 
@@ -207,35 +209,49 @@ stands_new Opt meaning key barrier cell length-key length-barrier e =
       register = refl;
     }
 
-module _ (h : Header) (cell snapshot : List ℕ) (standing : Standing) (issued : List (List ℕ))
-    (e : cell ≡ cell_spelling (cell_of (world_of h) first_history)) (f : standing ≡ new_platform cell) (i : issued ≡ snapshot ∷ []) where
-  stands_first : Stands (world_of h) standing (first_digests (world_of h))
-  stands_first = subst (λ (x : Standing). Stands (world_of h) x (first_digests (world_of h))) (sym f)
-      (stands_new h.variant (meaning_of h.«module») world_key world_barrier cell length-world_key length-world_barrier e)
+module _ (h : Header) (key barrier : List ℕ) (seat : Seat) (same_key : key ≡ world_key) (same_barrier : barrier ≡ world_barrier)
+    (first : IsFirst h key barrier seat) where
+  instance_same : instance_at h key barrier ≡ world_of h
+  instance_same = λ j. instance_at h (same_key j) (same_barrier j)
 
-  pub settled_provisioned : KeepsWorld h standing issued 0
-  settled_provisioned = settles h standing (first_digests (world_of h)) issued 0 stands_first
-      (record { is_on = ap (λ (x : Standing). x.is_on) f; plan = ap (λ (x : Standing). x.plan) f })
-      (omega (arith, ap (λ (x : List (List ℕ)). length x) i)) (omega arith)
+  abbrev cell_by : Instance → List ℕ
+  cell_by i = cell_spelling (cell_of i first_history)
 
-  pub world_provisioned : snapshot ≡ issued_bytes (world_of h) first_history → held_in h standing issued 0 ≡ first_held h
-  world_provisioned s =
-      let there : digests_in standing 0 ≡ first_digests (world_of h) = digests_are (world_of h) (first_digests (world_of h)) standing 0
-      stands_first in
-      let snapshots : issued ≡ first_issued (world_of h) = i ∙ ap (λ (x : List ℕ). x ∷ []) s in
-      λ j. record { header = h; digests = there j; issued = snapshots j; steps = (f j).steps; writes = (f j).writes }
+  platform_same : seat.platform ≡ new_platform (cell_by (world_of h))
+  platform_same = first.platform ∙ ap (λ (i : Instance). new_platform (cell_by i)) instance_same
 
-pub printed_event : (old new : Held) (event : Event) (result : Result Reply Memory) → IfOk result (Follows (outcome_in old event) old new)
-    → IfOk result IsPrintable
-printed_event old new event (Err memory) f = tt
-printed_event old new event (Ok said) f = subst (λ (r : Reply). IsPrintable r) (sym f.reply) (printed old event)
+  stands_first : Stands (world_of h) seat.platform (first_digests (world_of h))
+  stands_first = subst (λ (x : Standing). Stands (world_of h) x (first_digests (world_of h))) (sym platform_same)
+      (stands_new h.variant (meaning_of h.«module») world_key world_barrier (cell_by (world_of h)) length-world_key length-world_barrier refl)
 
-same_issued : (event : Event) (old new : Held) → Wants event old new → new.issued ≡ old.issued
-same_issued (Ask meddles stop offer b) old new w = elim w [ inl e ↦ ap (λ (h : Held). h.issued) e | inr e ↦ ap (λ (h : Held). h.issued) e ]
-same_issued Power old new e = absurd e
-same_issued _ old new e = ap (λ (h : Held). h.issued) e
+  pub first_keeps : KeepsWorld seat
+  first_keeps =
+      let at = first_digests (world_of h) in
+      let there : Stands (world_of h) seat.platform (digests_in seat.platform seat.committed) =
+      subst (Stands (world_of h) seat.platform) (sym (digests_are (world_of h) at seat.platform seat.committed stands_first))
+      (counting (world_of h) at seat.platform seat.committed stands_first) in
+      record {
+        stands = subst (λ (x : Header). Stands (world_of x) seat.platform (digests_in seat.platform seat.committed)) (sym first.headed) there;
+        quiet = record {
+          is_on = ap (λ (x : Standing). x.is_on) platform_same;
+          plan = ap (λ (x : Standing). x.plan) platform_same;
+        };
+        few = omega (arith, ap (λ (x : List (List ℕ)). length x) first.issued);
+      }
 
-pub grown_event : (old new : Held) (event : Event) (result : Result Reply Memory) → IfOk result (Follows (outcome_in old event) old new)
-    → OnErr result (Wants event old new) → length new.issued ≤ length old.issued + 1
-grown_event old new event (Err memory) f w = omega (arith, ap (λ (x : List (List ℕ)). length x) (same_issued event old new w))
-grown_event old new event (Ok said) f w = omega (arith, ap (λ (x : List (List ℕ)). length x) f.issued, grown old event)
+  pub first_world : held_in seat ≡ first_held h
+  first_world =
+      let at = first_digests (world_of h) in
+      let count = first.committed in
+      let there : digests_in seat.platform seat.committed ≡ at =
+      digests_are (world_of h) at seat.platform seat.committed stands_first ∙ (λ j. record at { count = count j }) in
+      let issued = first.issued ∙ ap (λ (i : Instance). issued_bytes i first_history ∷ []) instance_same in
+      let header = first.headed in
+      let platform = platform_same in
+      λ j. record {
+        header = header j;
+        digests = there j;
+        issued = issued j;
+        steps = (platform j).steps;
+        writes = (platform j).writes;
+      }

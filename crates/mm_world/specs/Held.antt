@@ -3,8 +3,8 @@ use Rattle.std.specs.Prelude.{◌≡◌, ◌≤◌, ◌-◌, ◌^◌, ◌==◌, 
 use Rattle.mm_platform.specs.Standing.{Standing}
 use Rattle.mm_model.specs.Moves.{Digests}
 use Rattle.mm_model.specs.Standing.{register_reads}
-use Rattle.mm_schedule.specs.declared.header.Header.{Header}
 use Rattle.mm_run.specs.Held.{Held, world_of, instance_of}
+use Rattle.mm_world.specs.declared.seat.Seat.{Seat}
 use Rattle.mm_world.specs.Stands.{Stands, IsQuiet}
 
 -- The summary or anchor that a cell holds, and its flag; and the register's value.
@@ -29,13 +29,13 @@ digests_in standing committed = record {
   count = committed;
 }
 
-abbrev pub held_in : Header → Standing → List (List ℕ) → ℕ → Held
-held_in header standing issued committed = record {
-  header = header;
-  digests = digests_in standing committed;
-  issued = issued;
-  steps = standing.steps;
-  writes = standing.writes;
+abbrev pub held_in : Seat → Held
+held_in seat = record {
+  header = seat.header;
+  digests = digests_in seat.platform seat.committed;
+  issued = seat.issued.items;
+  steps = seat.platform.steps;
+  writes = seat.platform.writes;
 }
 
 -- the platform's cell and register have these digests, and its counts are the world's
@@ -45,10 +45,8 @@ pub record HoldsWorld (world : Held) (standing : Standing) : Type 0 where
   pub steps : world.steps ≡ standing.steps
   pub writes : world.writes ≡ standing.writes
 
--- what the fields of a world keep
-pub record KeepsWorld (header : Header) (standing : Standing) (issued : List (List ℕ))
-    (committed : ℕ) : Type 0 where
-  pub stands : Stands (world_of header) standing (digests_in standing committed)
-  pub quiet : IsQuiet standing
-  pub few : length issued ≤ 2 ^ 32 - 1
-  pub fits : committed ≤ 2 ^ 64 - 1
+-- what the seat of a world keeps
+pub record KeepsWorld (seat : Seat) : Type 0 where
+  pub stands : Stands (world_of seat.header) seat.platform (digests_in seat.platform seat.committed)
+  pub quiet : IsQuiet seat.platform
+  pub few : length seat.issued.items ≤ 2 ^ 32 - 1

@@ -4,18 +4,20 @@ ghost use Rattle.std.specs.Prelude.{◌≡◌, ℕ, List, Some};
 ghost use Rattle.mm_module.specs.Batches.{batch_of};
 ghost use Rattle.mm_module.specs.Meaning.{Meaning};
 ghost use Rattle.mm_digest.specs.declared.variant.Variant.{Variant};
-ghost use Rattle.mm_call.specs.Ended.{is_broken};
 ghost use Rattle.mm_run.specs.Offered.{offered_bytes};
 ghost use Rattle.mm_world.specs.InVain.{AsksPlanned, ChecksPlanned};
-ghost use Rattle.mm_world.specs.Calls.{refused_call, answered_call, broken_as, takes_effect, CalledAs, Restores, SettlesPlan, closes_at, told_closing, stops_in};
+ghost use Rattle.mm_world.specs.Calls.{refused_call, answered_call, broken_as, takes_effect, CalledAs, Restores, SettlesPlan, closes_at, told_closing};
+ghost use Rattle.mm_world.specs.Planned.{IsPlanned, tells_close};
+ghost use Rattle.mm_opt.specs.Closing.{closing};
 
+use crate::planning::planned;
+use mm_ask::Ask;
 use mm_base::{Bytes, Memory};
 use mm_call::{Ended, KeptKey};
 use mm_digest::Variant;
-use mm_flight::AskCall;
 use mm_model::{BatchAnswer, Refusal};
 use mm_module::{Batch, Module};
-use mm_opt::{CheckpointRefusal, Checkpointed};
+use mm_opt::{CheckpointRefusal, Checkpointed, Close};
 use mm_platform::{Meddle, MemPlatform, Stop};
 use mm_run::{Course, cause, offered, way};
 use mm_schedule::{Cause, Offer, Reply};
@@ -33,13 +35,21 @@ pub struct Called {
 
 impl Called {
     ghost use Rattle.std.specs.Prelude.{◌≡◌};
+    ghost use Rattle.mm_world.specs.Asks.{quiet_as};
     ghost use Rattle.mm_world.specs.Calls.{refused_call, answered_call, broken_as};
 
     fn refused(cause: Cause) -> Called
         ensures { result ≡ refused_call cause }
     {
+        Called::quiet(Reply::No(cause))
+    }
+
+    // A call that hands out no snapshot and commits nothing.
+    pub(crate) fn quiet(reply: Reply) -> Called
+        ensures { result ≡ quiet_as reply }
+    {
         Called {
-            reply: Reply::No(cause),
+            reply,
             snapshot: None,
             committed: 0,
         }
@@ -106,8 +116,8 @@ pub fn settle(platform: &mut MemPlatform, stop: Stop, is_broken: bool)
     platform.end_plan();
 }
 
-/// What a call of a batch of this size came to, that was stopped so. Memory exactly where it was refused for that.
-pub fn came_to(stop: Stop, ended: Ended, size: u64) -> Result<Called, Memory>
+// What a call of a batch of this size came to, that was stopped so. Memory exactly where it was refused for that.
+pub(crate) fn came_to(stop: Stop, ended: Ended, size: u64) -> Result<Called, Memory>
     ensures { CalledAs stop size ended result }
 {
     match ended {
@@ -118,16 +128,6 @@ pub fn came_to(stop: Stop, ended: Ended, size: u64) -> Result<Called, Memory>
             let kept = if takes_effect(stop) { commits } else { None };
             Ok(Called::broken(stop, kept, size))
         }
-    }
-}
-
-/// Whether a device's fault broke a call off.
-pub fn is_broken(ended: &Ended) -> bool
-    ensures { result ≡ is_broken ended.now }
-{
-    match ended {
-        Ended::Broken { .. } => true,
-        Ended::Answered(_) | Ended::Refused(_) => false,
     }
 }
 
@@ -162,17 +162,17 @@ fn planned_call<M: Module>(
         platform.new issued course.now.meddles.now course.now.stop (Some offer.now)
         (batch_of batch.entry) result }
 {
-    match AskCall::begin(caller.variant, batch) {
-        Err(_) => Ok(Called::refused(Cause::Long)),
-        Ok(call) => match platform.plan(course.stop, course.meddles) {
-            Err(memory) => Err(memory),
-            Ok(()) => {
-                let ended = call.finish(caller.alloc, caller.module, platform, offer, batch, keys);
-                settle(platform, course.stop, is_broken(&ended));
-                came_to(course.stop, ended, batch.len() as u64)
-            }
-        },
+    if mm_model::is_long(&batch) {
+        return Ok(Called::refused(Cause::Long));
     }
+    let ask = Ask {
+        variant: caller.variant,
+        alloc: caller.alloc,
+        module: caller.module,
+        offer,
+        batch,
+    };
+    planned(&ask, platform, course, keys)
 }
 
 /// Makes the call that asks for a batch, with the bytes that the offer names, over a platform that is on and has no plan.
@@ -208,8 +208,8 @@ fn closes(stop: Stop) -> bool
     }
 }
 
-/// What a checkpoint that ended so and was stopped so is told as.
-pub fn closing(stop: Stop, ended: Result<Checkpointed, CheckpointRefusal>) -> Reply
+// What a checkpoint that ended so and was stopped so is told as.
+pub(crate) fn told_closing(stop: Stop, ended: Result<Checkpointed, CheckpointRefusal>) -> Reply
     ensures { result ≡ told_closing stop ended }
 {
     match ended {
@@ -224,11 +224,12 @@ pub fn closing(stop: Stop, ended: Result<Checkpointed, CheckpointRefusal>) -> Re
     }
 }
 
-/// Whether a device's fault broke a checkpoint off.
-pub fn is_stopped(ended: &Result<Checkpointed, CheckpointRefusal>) -> bool
-    ensures { result ≡ stops_in ended.now }
+// A checkpoint under a plan.
+fn close(platform: &mut MemPlatform, course: &Course<'_>) -> Result<Called, Memory>
+    ensures { IsPlanned closing tells_close course.now.meddles.now course.now.stop platform.old
+        platform.new result }
 {
-    matches!(ended, Err(CheckpointRefusal::Device(_)))
+    planned(&Close, platform, course, &mut KeptKey::new())
 }
 
 /// Makes a checkpoint under such a plan, which closes the open segment. In Basic there is none, and its first step finds that.
@@ -240,8 +241,8 @@ pub fn planned_checkpoint(
     ensures { (issued : List (List ℕ)) → ChecksPlanned platform.old platform.new issued meddles.now
         stop result }
 {
-    platform.plan(stop, meddles)?;
-    let ended = mm_opt::checkpoint(platform);
-    settle(platform, stop, is_stopped(&ended));
-    Ok(closing(stop, ended))
+    match close(platform, &Course { stop, meddles }) {
+        Err(memory) => Err(memory),
+        Ok(called) => Ok(called.reply),
+    }
 }

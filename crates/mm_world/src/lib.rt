@@ -3,11 +3,14 @@
 
 mod call;
 mod parts;
+mod planning;
+mod seat;
+mod views;
 mod world;
 
-pub use call::{
-    Called, Caller, call_by_offer, came_to, closing, is_broken, is_stopped, planned_checkpoint,
-    settle, takes_effect,
-};
-pub use parts::{keep, listed, provisioned};
+pub use call::{Called, Caller, call_by_offer, planned_checkpoint, settle, takes_effect};
+pub use parts::{listed, provisioned};
+pub use planning::{Telling, planned, settled};
+pub use seat::Seat;
+pub use views::{EventView, OfferView, line_view, owned_view};
 pub use world::World;

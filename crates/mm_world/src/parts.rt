@@ -1,11 +1,12 @@
-//! Parts of events and worlds.
+//! Parts of events and seats.
 
-ghost use Rattle.std.specs.Prelude.{◌≡◌, ◌<◌, ◌∷◌, [], ◌++◌, IfOk, vec_len, vec_capacity, option_to_list};
+ghost use Rattle.std.specs.Prelude.{◌≡◌, IfOk};
 ghost use Rattle.mm_seal.specs.Cell.{cell_spelling};
 ghost use Rattle.mm_model.specs.History.{first_history};
 ghost use Rattle.mm_model.specs.Standing.{cell_of, issued_bytes};
 ghost use Rattle.mm_call.specs.Standing.{instance_by};
 ghost use Rattle.mm_schedule.specs.Events.{meddles_of};
+ghost use Rattle.mm_world.specs.Lengths.{length_if};
 
 use mm_base::{Bytes, Memory};
 use mm_call::Provisioned;
@@ -23,23 +24,14 @@ pub fn listed(meddles: &Meddles) -> &[Meddle]
     front
 }
 
-/// Keeps the snapshot that was handed out, if one was.
-pub fn keep(issued: &mut Vec<Bytes>, snapshot: Option<Bytes>)
-    requires { vec_len issued.old < vec_capacity issued.old }
-    ensures { issued.new.items ≡ issued.old.items ++ option_to_list snapshot }
+/// How many bytes there are, if any.
+pub fn length_if(bytes: &Option<Bytes>) -> u64
+    ensures { result ≡ length_if bytes.now }
 {
-    if let Some(snapshot) = snapshot {
-        issued.push_reserved(snapshot);
+    match bytes {
+        Some(bytes) => bytes.as_slice().len() as u64,
+        None => 0,
     }
-}
-
-/// The list of one snapshot.
-pub fn first(alloc: Global, snapshot: Bytes) -> Result<Vec<Bytes>, Memory>
-    ensures { IfOk result (λ issued. issued.items ≡ snapshot ∷ []) }
-{
-    let mut issued = Vec::new(alloc);
-    issued.push(snapshot)?;
-    Ok(issued)
 }
 
 /// The first cell and snapshot of a platform with this key and barrier. Basic ignores the barrier.

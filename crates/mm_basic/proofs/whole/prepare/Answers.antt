@@ -1,26 +1,34 @@
-use Rattle.mm_basic.proofs.Below.{◌≡◌, false, Ok, Err, One, is_long}
-use Rattle.mm_basic.proofs.Asking.{read_blamed}
+use Rattle.mm_basic.proofs.Below.{◌≡◌, false, Ok, Err, One, basic_asked, is_long}
+use Rattle.mm_call.proofs.Above.{reads_blamed}
 use Rattle.mm_basic.proofs.Going.{prepared}
+use Rattle.mm_basic.proofs.Telling.{quiet, reads_extend}
 use Rattle.mm_basic.proofs.whole.prepare.Goals as goal
 
 pub returns-in-Err-clause-goes : goal.returns-in-Err-clause-goes
 returns-in-Err-clause-goes g c =
     λ (short : is_long (One c.args.request.now) ≡ false).
     prepared (g.M.Module.meaning c.args.module.now) (g.P.Device.standing c.args.platform.now)
-    (g.P.Device.standing c.read_alone.new.platform) c.args.offer.now (One c.args.request.now) (Err c.in-Err.refusal) c.in-Err.ensures.reads
+    (g.P.Device.standing c.read_call.new.platform) c.args.offer.now (One c.args.request.now) (Err c.in-Err.refusal) c.in-Err.ensures.reads
 
-pub returns-in-Ok-clause-goes : goal.returns-in-Ok-clause-goes
-returns-in-Ok-clause-goes g c =
+pub returns-clause-goes : goal.returns-clause-goes
+returns-clause-goes g c =
     λ (short : is_long (One c.args.request.now) ≡ false).
     prepared (g.M.Module.meaning c.args.module.now) (g.P.Device.standing c.args.platform.now)
-    (g.P.Device.standing c.read_alone.new.platform) c.args.offer.now (One c.args.request.now) (Ok c.in-Ok.found) c.in-Ok.ensures.reads
+    (g.P.Device.standing c.read_call.new.platform) c.args.offer.now (One c.args.request.now) (Ok c.in-Ok.found) c.in-Ok.ensures.reads
 
 pub returns-in-Err-clause-faults : goal.returns-in-Err-clause-faults
 returns-in-Err-clause-faults g c =
-    read_blamed (g.M.Module.meaning c.args.module.now) (g.P.Device.standing c.args.platform.now)
-    (g.P.Device.standing c.read_alone.new.platform) c.args.offer.now (One c.args.request.now) (Err c.in-Err.refusal) c.in-Err.ensures.reads
+    let meaning = g.M.Module.meaning c.args.module.now in
+    reads_blamed (basic_asked meaning c.args.offer.now (One c.args.request.now)) (quiet meaning c.args.offer.now (One c.args.request.now))
+    (g.P.Device.standing c.args.platform.now) (g.P.Device.standing c.read_call.new.platform) (Err c.in-Err.refusal) c.in-Err.ensures.reads
 
-pub returns-in-Ok-clause-faults : goal.returns-in-Ok-clause-faults
-returns-in-Ok-clause-faults g c =
-    read_blamed (g.M.Module.meaning c.args.module.now) (g.P.Device.standing c.args.platform.now)
-    (g.P.Device.standing c.read_alone.new.platform) c.args.offer.now (One c.args.request.now) (Ok c.in-Ok.found) c.in-Ok.ensures.reads
+pub returns-clause-faults : goal.returns-clause-faults
+returns-clause-faults g c =
+    let meaning = g.M.Module.meaning c.args.module.now in
+    reads_blamed (basic_asked meaning c.args.offer.now (One c.args.request.now)) (quiet meaning c.args.offer.now (One c.args.request.now))
+    (g.P.Device.standing c.args.platform.now) (g.P.Device.standing c.read_call.new.platform) (Ok c.in-Ok.found) c.in-Ok.ensures.reads
+
+pub invariant_of-result : goal.invariant_of-result
+invariant_of-result g c =
+    reads_extend (g.M.Module.meaning c.args.module.now) c.args.offer.now (One c.args.request.now)
+    (g.P.Device.standing c.args.platform.now) (g.P.Device.standing c.read_call.new.platform) c.in-Ok.found c.in-Ok.ensures.reads

@@ -1,16 +1,16 @@
-use Rattle.mm_callers.proofs.Counting.{opt_called}
+use Rattle.mm_callers.proofs.Counting.{counts_call}
 use Rattle.mm_callers.proofs.OptCalls.{asked_once, asked_welcome}
 use Rattle.mm_callers.proofs.OptComplete.{asked_quietly}
 use Rattle.mm_callers.proofs.opt.ask_once.Goals as goal
 
 pub returns-clause-once : goal.returns-clause-once
-returns-clause-once g c = asked_once (opt_called c.ask.ensures)
+returns-clause-once g c = asked_once c.ask.ensures
 
 pub returns-clause-welcome : goal.returns-clause-welcome
 returns-clause-welcome g c = asked_welcome c.ask.ensures
 
 pub returns-clause-complete : goal.returns-clause-complete
-returns-clause-complete g c = asked_quietly (opt_called c.ask.ensures)
+returns-clause-complete g c = asked_quietly c.ask.ensures
 
 pub returns-clause-counts : goal.returns-clause-counts
-returns-clause-counts g c = (opt_called c.ask.ensures).counts
+returns-clause-counts g c = counts_call c.ask.ensures

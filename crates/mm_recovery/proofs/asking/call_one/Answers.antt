@@ -1,15 +1,11 @@
-use Rattle.mm_recovery.proofs.Below.{begun_may_ask}
-use Rattle.mm_recovery.proofs.OneCall.{asked_in, one_output}
+use Rattle.mm_basic.proofs.Above.{one_output}
+use Rattle.mm_recovery.proofs.OneCall.{asked_in}
 use Rattle.mm_recovery.proofs.asking.call_one.Goals as goal
-
-pub finish-requires-clause-room : goal.finish-requires-clause-room
-finish-requires-clause-room g c =
-    begun_may_ask c.args.hosted.now.variant c.in-Ok.call (g.P.Device.standing c.args.platform.now) c.in-Ok.ensures.ok.0
 
 pub returns-clause-asked : goal.returns-clause-asked
 returns-clause-asked g c =
-    asked_in c.args.hosted.now.variant _ (g.met.M.Module.is_lawful c.args.hosted.now.module.now) _ _ _ _ _ _ _ c.requires
-    c.in-Ok.ensures.ok.0 c.finish.ensures c.result.ensures
+    asked_in c.args.hosted.now.variant _ (g.met.M.Module.is_lawful c.args.hosted.now.module.now) _ _ _ _ _ _ c.requires c.call.ensures
+    c.result.ensures
 
 pub returns-clause-one : goal.returns-clause-one
-returns-clause-one g c = one_output c.args.hosted.now.variant _ _ _ _ _ _ (returns-clause-asked g c)
+returns-clause-one g c = one_output c.args.request.now _ (returns-clause-asked g c).fits

@@ -6,7 +6,7 @@ pub returns-then-is_long : goal.returns-then-is_long
 returns-then-is_long g c =
     rw c.too_long.ensures
     (long_so c.args.variant (g.M.Module.meaning c.args.module.now) c.args.offer.now c.args.request.now g.host c.args.made.now
-    (g.met.M.Module.is_lawful c.args.module.now) (sym c.is_long.ensures ∙ c.if-is_long.true))
+    (sym c.is_long.ensures ∙ c.if-is_long.true))
 
 pub told-requires : goal.told-requires
 told-requires g c =

@@ -1,17 +1,22 @@
-use Rattle.mm_transfer.proofs.Below.{refl, which_of, pair_of}
+use Rattle.mm_transfer.proofs.Below.{List, ℕ, refl, ap, subst, Header, meaning_of, moved_of, waiting_for, invites_in, MovesPlanned}
+use Rattle.mm_transfer.proofs.Below.{which_of, pair_of}
+use Rattle.mm_world.specs.declared.seat.Seat.{Seat}
 use Rattle.mm_transfer.proofs.Retiring.{invited_done, invites_planned}
 use Rattle.mm_transfer.proofs.commands.invite.Goals as goal
 
-pub returns : goal.returns
-returns c = λ between fits counted.
-    let pair = pair_of c.args.header.now in
+pub returns-clause-made : goal.returns-clause-made
+returns-clause-made c = λ between fits counted.
+    let header = c.args.here.now.seat.header in
+    let pair = pair_of header in
     let which = which_of c.args.which in
-    invited_done pair which c.args.nonce.now c.args.course.now.stop c.args.course.now.meddles.now c.args.here.now c.keep_digest.new.here _
-    between
+    let mid = c.keep_digest.new.here in
+    let planned = subst (λ (h : Header). MovesPlanned (λ (bytes : List ℕ). invites_in
+    (waiting_for c.link.result h.variant (meaning_of h.module).id c.args.nonce.now c.key_on.result) (moved_of bytes))
+    c.args.course.now.stop c.args.course.now.meddles.now mid.seat.platform c.planned_invite-came.new.platform
+    c.planned_invite-came.result) (ap (λ (s : Seat). s.header) c.keep_digest.ensures.seat) (c.planned_invite-came.ensures _ refl) in
+    invited_done pair which c.args.nonce.now c.args.course.now.stop c.args.course.now.meddles.now c.args.here.now mid _ between
     c.planned_invite-came.result c.invited.result c.told-nonce c.keep_digest.ensures
-    (invites_planned pair which c.args.nonce.now c.args.course.now.stop c.args.course.now.meddles.now c.link.result c.id.result
-    c.key_on.result
-    c.keep_digest.new.here.platform
-    c.planned_invite-came.new.platform c.planned_invite-came.result (c.link.ensures c.args.header.now) c.id.ensures
-    (c.key_on.ensures c.args.header.now) c.planned_invite-came.ensures)
-    (record { digest = refl; issued = refl; kept = refl; position = refl }) c.invited.ensures fits counted
+    (invites_planned pair which c.args.nonce.now c.args.course.now.stop c.args.course.now.meddles.now c.link.result pair.meaning.id
+    c.key_on.result mid.seat.platform c.planned_invite-came.new.platform c.planned_invite-came.result (c.link.ensures header) refl
+    (c.key_on.ensures header) planned)
+    (record { digest = refl; issued = refl; committed = refl }) c.invited.ensures fits counted

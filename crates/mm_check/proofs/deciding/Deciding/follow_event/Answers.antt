@@ -1,5 +1,6 @@
 use Rattle.mm_check.proofs.Below.{◌∙◌, ℕ, ◌≡◌, ◌+◌, List, length, take, ap, subst, arith, length-map, length-take, fold, world_of, Event}
-use Rattle.mm_check.proofs.Below.{not, event_of, events_of, first_then, listed, Lists, numbered, StandsBehind}
+use Rattle.mm_check.proofs.Below.{event_of, events_of, listed, Lists, numbered, StandsBehind}
+use Rattle.mm_check.specs.Deciding.{LooksAt}
 use Rattle.mm_check.specs.declared.deciding.Deciding.{Deciding}
 use Rattle.mm_check.proofs.DecidingLaws.{heard_after, room_for, stands_next}
 use Rattle.mm_check.proofs.GuardLaws.{events_more}
@@ -14,7 +15,7 @@ list_all-requires c =
     omega (
       arith,
       room_for header c.args.events.now c.args.index c.index-events-index.result c.args.self.now c.in_ok-heard.heard c.requires.few
-          c.requires.stands (heard_after header before _ _ _ after told.hears (told.genuine header before after)),
+          c.requires.stands (heard_after header before _ _ _ after told.hears),
       ap length c.as_slice.ensures.value,
     )
 
@@ -31,12 +32,13 @@ returns c =
     let new : Deciding = record {
       expecting = c.event.new.self;
       numbers = c.list_all.new.self;
-      forged = c.first_then-self.result;
+      forged = c.in_ok-forged.forged;
       lines = c.put_reply.new.lines;
     } in
     subst (λ (l : List Event). StandsBehind header l new) (events_more all index event c.requires.within c.index-events-index.is)
     (stands_next header before (event_of event) c.args.self.now new c.in_ok-heard.heard c.requires.stands
-    (heard_after header before _ _ _ after told.hears (told.genuine header before after)) (told.after header before after) told.grows
+    (heard_after header before _ _ _ after told.hears) (told.after header before after) told.grows
     (subst (λ (l : List (List ℕ)). Lists (fold listed (numbered (world_of header) before) l) c.list_all.new.self) c.as_slice.ensures.value
     (c.in_ok-list_all.ensures (numbered (world_of header) before) c.requires.stands.lists)) c.in_ok-put_reply.ensures
-    (c.first_then-self.ensures ∙ ap (λ (n : ℕ). first_then c.args.self.now.forged (not c.in_ok-heard.heard.is_genuine) (n + 1)) count))
+    (subst (λ (n : ℕ). LooksAt c.args.self.now.expecting c.args.self.now.forged (event_of event) n c.in_ok-forged.forged)
+    (ap (λ (n : ℕ). n + 1) count) c.in_ok-forged.ensures))

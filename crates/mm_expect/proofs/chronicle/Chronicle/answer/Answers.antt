@@ -3,11 +3,11 @@ use Rattle.mm_expect.proofs.Below.{Recorded}
 use Rattle.mm_expect.proofs.Settling.{outputs_last, answered_is}
 use Rattle.mm_expect.proofs.chronicle.Chronicle.answer.Goals as goal
 
-pub returns : goal.returns
-returns c =
+pub returns-clause-answer : goal.returns-clause-answer
+returns-clause-answer c =
     let b = batch_of c.args.batch in
     let last = ap (λ (r : Recorded). is_last r.history.batches b) c.self.view_is ∙ c.requires.last in
     answered_is c.args.self.now c.args.again b
     (ap (λ (m : Marks). m.total) c.self.invariant.marks_is ∙ ap (λ (r : Recorded). total_of r.history.batches) c.self.view_is)
     (c.in_ok-outputs.ensures ∙ outputs_last b c.self.invariant.settled last
-    ∙ ap (λ (r : Recorded). last_outputs (meaning_of r.«module») r.history (size_of b)) c.self.view_is) c.in_ok-snapshot.ensures
+    ∙ ap (λ (r : Recorded). last_outputs (meaning_of r.«module») r.history (size_of b)) c.self.view_is) c.in_ok-snapshot.ensures.bytes

@@ -12,8 +12,8 @@ pub answer-requires-clause-last : goal.answer-requires-clause-last
 answer-requires-clause-last c = new_last c.args.self.now _ c.args.course.now.stop c.args.course.now.meddles.now (batch_of c.args.batch)
     (rw c.in-None.is at c.in_ok-change.ensures)
 
-pub returns-after-total-before : goal.returns-after-total-before
-returns-after-total-before c =
+pub returns-after-total-before-clause-goes : goal.returns-after-total-before-clause-goes
+returns-after-total-before-clause-goes c =
     let stop = c.args.course.now.stop in
     let meddles = c.args.course.now.meddles.now in
     let b = batch_of c.args.batch in

@@ -1,13 +1,14 @@
-use Rattle.mm_world.proofs.Below.{event_of, world_few}
-use Rattle.mm_world.proofs.Worlds.{printed_event, grown_event}
+use Rattle.mm_world.proofs.Below.{IfOk, OnErr, subst, Event, event_of, Follows, outcome_in, Wants, world_few}
 use Rattle.mm_world.proofs.world.World.event.Goals as goal
 
-pub returns-clause-printable : goal.returns-clause-printable
-returns-clause-printable c = printed_event c.args.self.now c.follow.new.self (event_of c.args.event.now) c.follow.result c.follow.ensures.ok
+pub returns-clause-ok : goal.returns-clause-ok
+returns-clause-ok c =
+    subst (λ (e : Event). IfOk c.follow.result (Follows (outcome_in c.args.self.now e) c.args.self.now c.follow.new.self))
+    c.owned_view.ensures c.follow.ensures.ok
 
-pub returns-clause-grows : goal.returns-clause-grows
-returns-clause-grows c =
-    grown_event c.args.self.now c.follow.new.self (event_of c.args.event.now) c.follow.result c.follow.ensures.ok c.follow.ensures.memory
+pub returns-clause-wants : goal.returns-clause-wants
+returns-clause-wants c =
+    subst (λ (e : Event). OnErr c.follow.result (Wants e c.args.self.now c.follow.new.self)) c.owned_view.ensures c.follow.ensures.wants
 
 pub returns-clause-few : goal.returns-clause-few
 returns-clause-few c = world_few c.args.self.now (event_of c.args.event.now)

@@ -1,9 +1,0 @@
-use Rattle.mm_module.specs.Batches.{batch_of}
-use Rattle.mm_basic.proofs.Telling.{finished}
-use Rattle.mm_basic.proofs.call.Call.finish_keeping.Goals as goal
-
-pub returns : goal.returns
-returns g c =
-    rw (← c.self.view_is) (finished (g.M.Module.meaning c.args.module.now) c.args.offer.now (batch_of c.args.batch)
-    c.self.inside.call (g.P.Device.standing c.args.platform.now) (g.P.Device.standing c.finish.new.platform)
-    c.finish.result c.of.result c.finish.ensures c.of.ensures)

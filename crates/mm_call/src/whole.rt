@@ -1,0 +1,104 @@
+//! A whole call of either core, and its two parts: the steps that read, and those that commit what they found.
+
+ghost use Rattle.std.specs.Prelude.{◌≡◌};
+ghost use Rattle.std.specs.Result.{result_err};
+ghost use Rattle.mm_machine.specs.Finishing.{acts_for, answer_in};
+ghost use Rattle.mm_machine.specs.declared.call.Stage.TheVariants.{Begun};
+ghost use Rattle.mm_call.specs.Calls.{Commits};
+ghost use Rattle.mm_call.specs.Ended.{result_of};
+ghost use Rattle.mm_call.specs.Leaving.{Blames};
+ghost use Rattle.mm_call.specs.Machine.{CallFinishes, CallReads, IsMade, LeavesRoom, MayCommit, end_told};
+ghost use Rattle.mm_call.specs.Refusals.{handed_on};
+
+use crate::ended::{Ended, refusal_of};
+use mm_machine::{Call, Found, Operation, finish, finish_change, read};
+use mm_model::{BatchAnswer, Refusal};
+use mm_platform::{Platform, StepFault};
+use mm_seal::KeptKey;
+use std::marker::Model;
+
+/// A call whose batch is committed. Contracts see its answer.
+#[derive(Drop)]
+pub struct Committed {
+    answer: BatchAnswer,
+}
+
+impl Model for Committed {
+    ghost use Rattle.mm_model.specs.declared.answer.BatchAnswer.{BatchAnswer};
+
+    ghost Value = { BatchAnswer };
+
+    ghost view = { λ committed. committed.answer };
+}
+
+impl Committed {
+    /// The answer. Takes no memory.
+    pub fn answer(self) -> BatchAnswer
+        ensures { result ≡ self }
+    {
+        self.answer
+    }
+}
+
+/// Makes the reading steps, and room for what they found.
+#[inline(always)]
+pub fn read_call<O: Operation<Answer = BatchAnswer, Refusal = Refusal>, P: Platform>(
+    op: &O,
+    platform: &mut P,
+    keys: &mut KeptKey,
+) -> Result<Found<BatchAnswer>, Refusal>
+    ensures reads { CallReads (O.asked op.now) (P.standing platform.old) (P.standing platform.new)
+        result }
+    ensures room { LeavesRoom result (P.standing platform.new) }
+{
+    match read(op, platform, keys) {
+        Ok(found) => Ok(found),
+        Err(halt) => Err(refusal_of(halt)),
+    }
+}
+
+/// Makes the changing steps, which commit what was found; a repeat has none. Takes no memory, but the room that the
+/// reading steps left.
+pub fn commit<P: Platform>(
+    found: Found<BatchAnswer>,
+    platform: &mut P,
+) -> Result<Committed, StepFault>
+    requires { MayCommit found (P.standing platform.old) }
+    ensures commits { Commits (acts_for found) (answer_in found) (P.standing platform.old)
+        (P.standing platform.new) result }
+    ensures faults { Blames (result_err result)
+        (P.standing platform.old).faults (P.standing platform.new).faults }
+{
+    match found {
+        Found::Repeat(answer) => Ok(Committed { answer }),
+        Found::Change(ready) => {
+            handed_out(finish_change(ready.answer.position, ready, platform))
+        }
+    }
+}
+
+// What the changing steps of a call gave.
+#[inline(always)]
+fn handed_out(ended: mm_machine::Ended<BatchAnswer, Refusal>) -> Result<Committed, StepFault>
+    requires { IsMade ended }
+    ensures { result_of (end_told ended) ≡ handed_on result }
+{
+    match ended {
+        mm_machine::Ended::Answered(answer) => Ok(Committed { answer }),
+        mm_machine::Ended::Broken { fault, .. } => Err(fault),
+        mm_machine::Ended::Refused(_) | mm_machine::Ended::Lacks => unreachable!(),
+    }
+}
+
+/// The whole call, from its first step to its end. After the reading steps it has no allocator.
+#[inline(always)]
+pub fn finish_call<O: Operation<Answer = BatchAnswer, Refusal = Refusal>, P: Platform>(
+    op: &O,
+    platform: &mut P,
+    keys: &mut KeptKey,
+) -> Ended
+    ensures { CallFinishes (O.asked op.now) Begun (P.standing platform.old)
+        (P.standing platform.new) result }
+{
+    Ended::of(finish(op, Call::begin(), platform, keys))
+}

@@ -1,0 +1,121 @@
+-- A command for which memory was wanting, or whose offer names nothing.
+use Rattle.mm_transfer.proofs.Below.{◌≡◌, ◌≤◌, ◌+◌, ◌&&◌, ℕ, Bool, true, false, not, List, length, Option, None, Some, Result, Ok, Err, IsErr}
+use Rattle.mm_transfer.proofs.Below.{inl, inr, refl, sym, ap, ◌∙◌, subst, arith, MatchResult, if◌then◌else◌, is_some, sum_by, Memory, StepFault}
+use Rattle.mm_transfer.proofs.Below.{Meddle, Stop, Standing, Instance, Digests, register_reads, walk, course_of, way_of, offered_bytes, Offer}
+use Rattle.mm_transfer.proofs.Below.{IsQuiet, Link, Ready, MoveRefusal, Role, Effect, Which, Pair, instance_on, Side, Both, digests_move}
+use Rattle.mm_transfer.proofs.Below.{MoveCause, FoundMove, Command, Denied, move_steps, effect_if, effect_of, brought_to, affected_if}
+use Rattle.mm_transfer.proofs.Below.{finding, moved_if, move_ended, unissued, role_after, Between, MoveReply, CodeSide, RefusedAs, Tried}
+use Rattle.mm_transfer.proofs.Below.{both_with, commanded, FitsBetween, CommandDone, CommandLacks, has_moved, role_in, at_by, at_in, side_in}
+use Rattle.mm_transfer.proofs.Below.{Reads, [], ◌∷◌, ◌⊎◌, seen_in, all_made, by_digests}
+use Rattle.mm_transfer.proofs.Below.{within_64, FitsSide, WantsMemory, MovesPlanned, moves_at, reply_said, refusal_of}
+use Rattle.mm_model.specs.declared.refusal.Refusal.TheVariants as core
+use Rattle.mm_move.specs.declared.refusal.MoveRefusal.TheVariants as refusal
+use Rattle.mm_transfer.specs.declared.reply.MoveReply.TheVariants as reply
+use Rattle.mm_transfer.proofs.SideStands.{KeepsFor, same_keeps, side_stays}
+use Rattle.mm_transfer.proofs.Vain.{seen_digests}
+
+-- want of memory
+
+pub err_match : (P : MoveReply → Type 0) (Q : Type 0) (result : Result MoveReply Memory) → IsErr result → Q → MatchResult result P (λ _. Q)
+err_match P Q (Ok said) is q = absurd (cc)
+err_match P Q (Err memory) is q = q
+
+-- the register has the value that it had, or that it has once the first step is made
+abbrev IsReached : Instance → Digests → List Meddle → Stop → List ℕ → Type 0
+IsReached i d meddles stop value =
+    (value ≡ d.register)
+    ⊎ (value ≡ (all_made (by_digests i) d (seen_in (course_of stop meddles).fates (Reads ∷ []) 1)).register)
+
+-- a side whose cell is as it was
+lacks_side : (pair : Pair) (which : Which) (stop : Stop) (meddles : List Meddle) (old new : CodeSide) (was now : Between) (value : List ℕ)
+    → IsReached (instance_on pair which) (at_in old) meddles stop value → FitsSide pair which old
+    → new.seat.platform.cell ≡ old.seat.platform.cell → register_reads new.seat.platform ≡ Some value → IsQuiet new.seat.platform
+    → new.seat.committed ≡ old.seat.committed → KeepsFor (role_in old.seat.platform.cell) new.digest.bytes (at_in old)
+    → new.seat.issued.items ≡ old.seat.issued.items → now.tickets.items ≡ was.tickets.items → now.kept ≡ was.kept → now.away ≡ was.away
+    → CommandLacks pair which meddles stop old new was now
+lacks_side pair which stop meddles old new was now value reached fits cell register quiet position keeps issued tickets counted away =
+    let i = instance_on pair which in
+    let d = at_in old in
+    let is = side_stays pair which old new value fits cell register quiet position keeps in
+    let side = λ (seen : Digests) (e : record d { register = value } ≡ seen).
+    let at = is.at_is ∙ e in
+    let whole : side_in new ≡ record (side_in old) { at = seen } =
+    (λ j. record { role = is.role_is j; at = at j; issued = issued j }) in whole in
+    record {
+      fits = is.fits;
+      side = elim reached [
+        | inl e ↦ inl (side d (λ j. record d { register = e j }))
+        | inr e ↦
+            let fates = (course_of stop meddles).fates in
+            let seen : Digests = all_made (by_digests i) d (seen_in fates (Reads ∷ []) 1) in
+            inr (side seen ((λ j. record d { register = e j }) ∙ sym (seen_digests i d fates (Reads ∷ []) 1)))
+      ];
+      committed = position;
+      tickets = tickets;
+      kept = counted;
+      away = away;
+    }
+
+pub lacks_done : {A : Type 0} (pair : Pair) (which : Which) (stop : Stop) (meddles : List Meddle) (old new : CodeSide) (was now : Between)
+    (from to : Standing) (came : Result A MoveRefusal) → FitsSide pair which old
+    → WantsMemory (instance_on pair which) (at_in old) stop meddles from to came → from.cell ≡ old.seat.platform.cell → new.seat.platform ≡ to
+    → new.seat.committed ≡ old.seat.committed → KeepsFor (role_in old.seat.platform.cell) new.digest.bytes (at_in old)
+    → new.seat.issued.items ≡ old.seat.issued.items → now.tickets.items ≡ was.tickets.items → now.kept ≡ was.kept → now.away ≡ was.away
+    → CommandLacks pair which meddles stop old new was now
+lacks_done pair which stop meddles old new was now from to came fits w cell platform position keeps issued tickets counted away =
+    elim w.register [ inl e ↦ reads _ (inl refl) e | inr e ↦ reads _ (inr refl) e ]
+  where
+    reads : (value : List ℕ) → IsReached (instance_on pair which) (at_in old) meddles stop value → register_reads to ≡ Some value
+        → CommandLacks pair which meddles stop old new was now
+    reads value reached e = lacks_side pair which stop meddles old new was now value reached fits
+        (ap (λ (s : Standing). s.cell) platform ∙ w.cell ∙ cell)
+        (ap register_reads platform ∙ e) (subst IsQuiet (sym platform) w.quiet) position keeps issued tickets counted away
+
+-- nothing happened to a side, but to its platform
+
+pub record SameSide (old new : CodeSide) : Type 0 where
+  pub digest : new.digest ≡ old.digest
+  pub issued : new.seat.issued.items ≡ old.seat.issued.items
+  pub committed : new.seat.committed ≡ old.seat.committed
+
+pub record SameBetween (was now : Between) : Type 0 where
+  pub tickets : now.tickets.items ≡ was.tickets.items
+  pub kept : now.kept ≡ was.kept
+  pub away : now.away ≡ was.away
+
+pub still_lacks : (pair : Pair) (which : Which) (stop : Stop) (meddles : List Meddle) (old new : CodeSide) (was now : Between)
+    → FitsSide pair which old → new.seat.platform ≡ old.seat.platform → SameSide old new → SameBetween was now
+    → CommandLacks pair which meddles stop old new was now
+still_lacks pair which stop meddles old new was now fits platform s b =
+    lacks_side pair which stop meddles old new was now (at_in old).register (inl refl) fits (ap (λ (x : Standing). x.cell) platform)
+    (ap register_reads platform ∙ fits.stands.register) (subst IsQuiet (sym platform) fits.quiet) s.committed (same_keeps old new s.digest)
+    s.issued b.tickets b.kept b.away
+
+-- a number that isn't issued: nothing is called
+pub unissued_done : (pair : Pair) (which : Which) (stop : Stop) (meddles : List Meddle) (command : Command) (said : MoveReply)
+    (old new : CodeSide) (was now : Between) → FitsSide pair which old → FitsBetween was → new.seat.platform ≡ old.seat.platform → SameSide old new
+    → SameBetween was now → said ≡ reply_said (unissued command)
+    → ((other : Side Digests) (committed : ℕ) → finding digests_move pair (instance_on pair which)
+    (both_with old was other committed) command ≡ None)
+    → CommandDone pair which old new was now (commanded pair which old was meddles stop command) said
+unissued_done pair which stop meddles command said old new was now fits counted platform s b says none =
+    let i = instance_on pair which in
+    let same : side_in new ≡ side_in old = λ j. record {
+      role = role_in (platform j).cell;
+      at = at_by (role_in (platform j).cell) (platform j) (s.digest j).bytes (s.committed j);
+      issued = s.issued j;
+    } in
+    record {
+      fits = (still_lacks pair which stop meddles old new was now fits platform s b).fits;
+      between = subst (λ (x : List (List ℕ)). now.kept ≡ within_64 (sum_by length x)) (sym b.tickets) (b.kept ∙ counted);
+      both = λ other committed.
+          (λ j. record { first = same j; second = other; away = b.away j; tickets = b.tickets j; committed = committed })
+          ∙ sym (ap (λ x. (moved_if digests_move pair i (both_with old was other committed) meddles stop command x).both)
+          (none other committed));
+      says = λ other committed.
+          says ∙ sym (ap (λ x. reply_said (moved_if digests_move pair i (both_with old was other committed) meddles stop command x).reply)
+          (none other committed));
+      issued = omega (arith, ap length s.issued);
+      tickets = omega (arith, ap length b.tickets);
+      counts = λ most p q. (omega (arith, s.committed), omega (arith, b.away));
+    }

@@ -1,0 +1,132 @@
+-- A seat: a module on a platform in memory, and what becomes of it.
+use Rattle.std.specs.Prelude.{◌≡◌, ◌≤◌, ℕ, ◌+◌, List, [], ◌∷◌, ◌++◌, Option, Some, Result, Err, MatchResult, option_to_list}
+use Rattle.mm_base.specs.declared.fault.Memory.{Memory}
+use Rattle.mm_seal.specs.Cell.{cell_spelling}
+use Rattle.mm_seal.specs.declared.cell.CellFault.{CellFault}
+use Rattle.mm_platform.specs.Memory.{new_platform}
+use Rattle.mm_platform.specs.Standing.{Standing}
+use Rattle.mm_platform.specs.Steps.{beside}
+use Rattle.mm_modules.specs.Modules.{meaning_of}
+use Rattle.mm_model.specs.History.{first_history}
+use Rattle.mm_model.specs.Instance.{Instance}
+use Rattle.mm_model.specs.Moves.{Digests}
+use Rattle.mm_model.specs.Standing.{cell_of, issued_bytes, register_reads}
+use Rattle.mm_call.specs.Levels.{by_digests}
+use Rattle.mm_call.specs.Standing.{instance_by, counted_by}
+use Rattle.mm_schedule.specs.Events.{Event, Ask, Power}
+use Rattle.mm_schedule.specs.declared.header.Header.{Header}
+use Rattle.mm_schedule.specs.declared.reply.Reply.{Reply}
+use Rattle.mm_run.specs.Folds.{Outcome, event_outcome, event_in_vain}
+use Rattle.mm_world.specs.declared.call.Called.{Called}
+use Rattle.mm_world.specs.declared.seat.Seat.{Seat}
+use Rattle.mm_world.specs.Asks.{Lacks}
+use Rattle.mm_world.specs.InVain.{IsRead, missing}
+use Rattle.mm_world.specs.Lengths.{length_if, within_64}
+use Rattle.mm_world.specs.Stands.{Stands, IsQuiet}
+
+-- the instance of a header's variant and module that has this key and barrier
+abbrev pub instance_at : Header → (key barrier : List ℕ) → Instance
+instance_at header key barrier =
+    instance_by header.variant (meaning_of header.«module») key barrier
+
+-- a seat over a new platform with this cell, on which nothing was issued
+pub record IsBare (header : Header) (cell : List ℕ) (seat : Seat) : Type 0 where
+  pub headed : seat.header ≡ header
+  pub platform : seat.platform ≡ new_platform cell
+  pub issued : seat.issued.items ≡ []
+  pub kept : seat.kept ≡ 0
+  pub committed : seat.committed ≡ 0
+
+-- a seat over a new platform with this cell, and with this first snapshot
+pub record IsOver (header : Header) (cell snapshot : List ℕ) (seat : Seat) : Type 0 where
+  pub headed : seat.header ≡ header
+  pub platform : seat.platform ≡ new_platform cell
+  pub issued : seat.issued.items ≡ snapshot ∷ []
+  pub committed : seat.committed ≡ 0
+
+-- a seat over a platform that was provisioned
+abbrev pub IsFirst : Header → (key barrier : List ℕ) → Seat → Type 0
+IsFirst header key barrier seat =
+    let i = instance_at header key barrier in
+    IsOver header (cell_spelling (cell_of i first_history)) (issued_bytes i first_history) seat
+
+-- The seat keeps the snapshot that was handed out, if one was.
+pub record Keeps (snapshot : Option (List ℕ)) (old new : Seat) : Type 0 where
+  pub header : new.header ≡ old.header
+  pub platform : new.platform ≡ old.platform
+  pub issued : new.issued.items ≡ old.issued.items ++ option_to_list snapshot
+  pub kept : new.kept ≡ within_64 (old.kept + length_if snapshot)
+  pub committed : new.committed ≡ old.committed
+
+-- A call is over that came to this, and was answered so.
+pub record EndsCall (it : Called) (old new : Seat) (said : Reply) : Type 0 where
+  pub header : new.header ≡ old.header
+  pub platform : new.platform ≡ old.platform
+  pub issued : new.issued.items ≡ old.issued.items ++ option_to_list it.snapshot
+  pub kept : new.kept ≡ within_64 (old.kept + length_if it.snapshot)
+  pub committed : new.committed ≡ within_64 (old.committed + it.committed)
+  pub says : said ≡ it.reply
+
+-- a platform whose register others extend by this value
+abbrev pub extended_by : Standing → List ℕ → Standing
+extended_by old value = record old { items = beside (value ∷ []) old.items }
+
+-- Nothing was issued or committed, and the platform stands so.
+pub record StaysOn (standing : Standing) (old new : Seat) : Type 0 where
+  pub header : new.header ≡ old.header
+  pub platform : new.platform ≡ standing
+  pub issued : new.issued.items ≡ old.issued.items
+  pub kept : new.kept ≡ old.kept
+  pub committed : new.committed ≡ old.committed
+
+-- An event came to this outcome, and was answered so: the platform is quiet, and stands as the
+-- outcome says.
+pub record Comes (i : Instance) (o : Outcome Digests) (old new : Seat) (said : Reply) : Type 0 where
+  pub reply : said ≡ o.reply
+  pub issued : new.issued.items ≡ o.issued
+  pub committed : new.committed ≡ within_64 o.state.count
+  pub rises : old.committed ≤ o.state.count
+  pub stands : Stands i new.platform o.state
+  pub quiet : IsQuiet new.platform
+  pub steps : new.platform.steps ≡ counted_by o.steps old.platform.steps
+  pub writes : new.platform.writes ≡ counted_by o.writes old.platform.writes
+
+-- An event came to this outcome, and was answered so, where the cell is none that a call goes on
+-- with: the cell is as it was, and nothing was committed.
+pub record ComesInVain (o : Outcome Digests) (old new : Seat) (said : Reply) : Type 0 where
+  pub reply : said ≡ o.reply
+  pub issued : new.issued.items ≡ o.issued
+  pub committed : new.committed ≡ old.committed
+  pub cell : new.platform.cell ≡ old.platform.cell
+  pub register : register_reads new.platform ≡ Some o.state.register
+  pub quiet : IsQuiet new.platform
+  pub steps : new.platform.steps ≡ counted_by o.steps old.platform.steps
+  pub writes : new.platform.writes ≡ counted_by o.writes old.platform.writes
+
+-- Memory was wanting for an event: nothing has changed, but that a call that asks may have made its
+-- reading steps. A loss of power wants none.
+abbrev pub Wants : Instance → Digests → Event → Standing → Standing → Type 0
+Wants i d (Ask meddles stop offer b) old new = Lacks i d meddles stop old new
+Wants i d Power old new = ⊥
+Wants i d event old new = new ≡ old
+
+-- where the cell is none that a call goes on with, no call has then made a step
+abbrev pub WantsInVain : Event → Standing → Standing → Type 0
+WantsInVain Power old new = ⊥
+WantsInVain event old new = new ≡ old
+
+-- An event happened at a seat, over the cell of its variant and module, under any key and barrier,
+-- and over one that is blank or spells none.
+pub record Follows (event : Event) (old new : Seat) (result : Result Reply Memory) : Type 0 where
+  pub header : new.header ≡ old.header
+  pub own : (key barrier : List ℕ) (d : Digests)
+      → let i = instance_at old.header key barrier in
+      Stands i old.platform d → IsQuiet old.platform → d.count ≡ old.committed
+      → MatchResult result
+      (Comes i (event_outcome i (by_digests i) d old.issued.items event) old new)
+      (λ _. StaysOn new.platform old new × Wants i d event old.platform new.platform)
+  pub vain : (i : Instance) (d : Digests) (fault : CellFault)
+      → IsRead (Err fault) d old.platform
+      → MatchResult result
+      (ComesInVain (event_in_vain (by_digests i) d old.issued.items (missing fault) event) old new)
+      (λ _. StaysOn new.platform old new × WantsInVain event old.platform new.platform)

@@ -1,0 +1,112 @@
+//! Events where they lie: with bytes of their own, or in a line.
+
+ghost use Rattle.std.specs.Prelude.{◌≡◌};
+ghost use Rattle.mm_schedule.specs.Events.{event_of, meddles_of};
+ghost use Rattle.mm_schedule.specs.Texts.{event_in};
+ghost use Rattle.mm_world.specs.Views.{event_seen};
+
+use crate::parts::listed;
+use mm_digest::Digest;
+use mm_module::Batch;
+use mm_run::Course;
+use mm_schedule::{Event, EventText, Meddles, Offer, OfferText};
+
+/// The snapshot that an event offers, where it lies.
+#[derive(Drop)]
+pub enum OfferView<'a> {
+    Owned(&'a Offer),
+    Text(OfferText<'a>),
+}
+
+/// An event where it lies. Nothing of it is copied that has no fixed length.
+#[derive(Drop)]
+pub enum EventView<'a> {
+    Ask {
+        course: Course<'a>,
+        from: OfferView<'a>,
+        batch: Batch<'a>,
+    },
+    Checkpoint {
+        course: Course<'a>,
+    },
+    Power,
+    Extend {
+        value: Digest,
+    },
+}
+
+/// An event with bytes of its own.
+#[inline(always)]
+pub fn owned_view(event: &Event) -> EventView<'_>
+    ensures { event_seen result ≡ event_of event.now }
+{
+    match event {
+        Event::Ask {
+            meddles,
+            stop,
+            offer,
+            request,
+        } => EventView::Ask {
+            course: Course {
+                stop: *stop,
+                meddles: listed(meddles),
+            },
+            from: OfferView::Owned(offer),
+            batch: Batch::One(request.as_slice()),
+        },
+        Event::Batch {
+            meddles,
+            stop,
+            offer,
+            text,
+        } => EventView::Ask {
+            course: Course {
+                stop: *stop,
+                meddles: listed(meddles),
+            },
+            from: OfferView::Owned(offer),
+            batch: Batch::Many(text.as_slice()),
+        },
+        Event::Checkpoint { meddles, stop } => EventView::Checkpoint {
+            course: Course {
+                stop: *stop,
+                meddles: listed(meddles),
+            },
+        },
+        Event::Power => EventView::Power,
+        Event::Extend { value } => EventView::Extend { value: *value },
+    }
+}
+
+/// An event in its line, with its meddles.
+#[inline(always)]
+pub fn line_view<'a>(meddles: &'a Meddles, text: EventText<'a>) -> EventView<'a>
+    ensures { event_seen result ≡ event_in (meddles_of meddles.now) text.entry }
+{
+    let meddles = listed(meddles);
+    match text {
+        EventText::Ask {
+            stop,
+            from,
+            request,
+        } => EventView::Ask {
+            course: Course { stop, meddles },
+            from: OfferView::Text(from),
+            batch: Batch::One(request),
+        },
+        EventText::Batch {
+            stop,
+            from,
+            members,
+        } => EventView::Ask {
+            course: Course { stop, meddles },
+            from: OfferView::Text(from),
+            batch: Batch::Many(members),
+        },
+        EventText::Checkpoint { stop } => EventView::Checkpoint {
+            course: Course { stop, meddles },
+        },
+        EventText::Power => EventView::Power,
+        EventText::Extend { value } => EventView::Extend { value },
+    }
+}
