@@ -9,7 +9,7 @@ pub use Rattle.std.proofs.lemmas.Bool.{eq-eqb, eqb-true, ne_eqb}
 pub use Rattle.std.proofs.lemmas.Bool.Decides.{nat_tests}
 pub use Rattle.std.proofs.lemmas.Grind.{flat_map-append}
 pub use Rattle.std.proofs.lemmas.List.{append_assoc, drop-set-lt, drop_more, length-take-le, map-append, take_more, take_more_set}
-pub use Rattle.std.proofs.lemmas.List.Sums.{sum_by-append, sum_by-cons}
+pub use Rattle.std.proofs.lemmas.Option.{slice_get-get_or}
 pub use Rattle.mm_base.specs.Limits.{longest_line, most_events, most_members}
 pub use Rattle.mm_digest.specs.declared.variant.Variant.{Variant}
 pub use Rattle.mm_digest.specs.declared.variant.Variant.TheVariants.{Basic, Opt}
@@ -43,40 +43,41 @@ pub use Rattle.mm_flight.proofs.Above.{meddled}
 pub use Rattle.mm_run.specs.Folds.{course_of, expected, first_digests, Followed, followed, Outcome, replies_by_digests}
 pub use Rattle.mm_run.specs.Held.{rising_from}
 pub use Rattle.mm_run.specs.Offered.{offered_bytes}
-pub use Rattle.mm_run.proofs.Above.{few_committed, printable}
+pub use Rattle.mm_run.proofs.Above.{few_committed, issues_one, printable}
 pub use Rattle.mm_world.specs.Asks.{Came, quiet_as}
 pub use Rattle.mm_world.specs.Held.{digest_in, flag_in, value_in}
 pub use Rattle.mm_world.specs.Stands.{IsQuiet, Stands}
 pub use Rattle.mm_world.specs.declared.call.Called.{Called}
-pub use Rattle.mm_world.proofs.Above.{count_none, counting, digests_are, extended_by, stands_extended, stands_new, stands_settled}
+pub use Rattle.mm_world.proofs.Above.{count_none, counting, digests_are, stands_extended, stands_new, stands_settled}
 pub use Rattle.mm_steps.specs.Asking.{BreaksAs, StepsAs}
 pub use Rattle.mm_steps.specs.Closing.{BreaksClosingAs, StepsClosingAs}
 pub use Rattle.mm_steps.specs.Stopping.{is_nothing, stop_behind}
 pub use Rattle.mm_steps.proofs.Above.{asks_begun, closes_begun, flight_takes_in, may_take_in}
 pub use Rattle.mm_play.proofs.Above.{events_err, events_ok, plays_err, unrefused}
 pub use Rattle.mm_slots.specs.Answers.{answer_text, answers_text, end_lines, IsSayable, slot_end_line}
-pub use Rattle.mm_slots.specs.First.{AddsSlot, AreFirst, IsFirst}
 pub use Rattle.mm_slots.specs.Grammar.{action_at, event_at}
-pub use Rattle.mm_slots.specs.Held.{call_in, Comes, digests_in, EndsCall, Fits, FitsCall, FitsFlight, flight_in, flown, GoesOn, HasRegister}
-pub use Rattle.mm_slots.specs.Held.{instance_in, IsNewSlot, KeepsSlot, Lacks, Loses as Lost, slot_in, within_64}
+pub use Rattle.mm_slots.specs.Held.{call_in, ComesTo, digests_in, Fits, FitsCall, FitsFlight, flight_in, flown, GoesOn, HasRegister}
+pub use Rattle.mm_slots.specs.Held.{instance_in, EndsIn, LacksIn, LosesIn, row_in, slot_in}
+pub use Rattle.mm_slots.specs.Lengths.{within_64}
 pub use Rattle.mm_slots.specs.Laws.{SlotRuns, SlotsAreAlone, SlotsRun}
 pub use Rattle.mm_slots.specs.Plays.{Reports}
-pub use Rattle.mm_slots.specs.Rows.{ActsAt, AllFit, FitsWithin, Follows, IsInside, KeepsAll, LosesAll, LosesAt, LosesIf, LosesUnless}
-pub use Rattle.mm_slots.specs.Rows.{only_at, others_lose, row_in, rows_in, Tells, touched, Touches}
-pub use Rattle.mm_slots.specs.Slot.{acted, acted_by, Acts, Asks, beginning, begun, event_by, first_slot, Flight, flying, folded}
+pub use Rattle.mm_slots.specs.Rows.{ActsAs, ActsAt, CanCount, IsCounted, IsInside, IsWithin, KeepsAll, LacksAs, one_loses}
+pub use Rattle.mm_slots.specs.Rows.{only_at, others_lose, Tells, touched}
+pub use Rattle.mm_slots.specs.Seat.{extended_by, IsFirst, StaysOn}
+pub use Rattle.mm_slots.specs.Slot.{acted, acted_by, Acts, Asks, beginning, begun, Call, Closes, event_by, first_slot, Flight, flying, folded}
 pub use Rattle.mm_slots.specs.Slot.{joined, Loses, merely, Met, outcome_in, plays, Slot, slot_instance, so_far, stepped}
-pub use Rattle.mm_slots.specs.Slot.{stop_at, Turned, turned, unpowered}
+pub use Rattle.mm_slots.specs.Slot.{stop_at, Turned, turned, unpowered, Wants}
 pub use Rattle.mm_slots.specs.Slots.{all_cycled, selected_of, Slots}
 pub use Rattle.mm_slots.specs.Stage.{kept_in, playing, Running}
 pub use Rattle.mm_slots.specs.Table.{after_event, after_events, Answer, answers, answers_to, by_place, cuts_all, first_row, first_rows}
-pub use Rattle.mm_slots.specs.Table.{instance_of, is_cut, met_by, met_in, PowerLost, Row, row_after, said_at, said_for, Says}
-pub use Rattle.mm_slots.specs.Totals.{AreCounted, bytes_in, ends_from, requests_in, snapshots_in}
+pub use Rattle.mm_slots.specs.Table.{EventWants, instance_of, is_cut, met_by, met_in, PowerLost, Row, row_after, said_at, said_for, Says}
+pub use Rattle.mm_slots.specs.Table.{WantsAt}
 pub use Rattle.mm_slots.specs.declared.event.Action.{Action}
 pub use Rattle.mm_slots.specs.declared.event.SlotEvent.{SlotEvent}
 pub use Rattle.mm_slots.specs.declared.event.SlotEvent.TheVariants.{At, Power}
 pub use Rattle.mm_slots.specs.declared.flight.Asking.{Asking}
 pub use Rattle.mm_slots.specs.declared.flight.Closing.{Closing}
 pub use Rattle.mm_slots.specs.declared.flight.Flight.{Flight as CodeFlight}
+pub use Rattle.mm_slots.specs.declared.parts.Parts.{Parts}
 pub use Rattle.mm_slots.specs.declared.said.Said.{Said}
 pub use Rattle.mm_slots.specs.declared.said.Said.TheVariants.{Begun, Going, Replied}
-pub use Rattle.mm_slots.specs.declared.slot.Slot.{Slot as CodeSlot}

@@ -1,28 +1,27 @@
 -- All slots lose their power, and what an event leaves of them.
 use Rattle.mm_slots.proofs.Below.{◌≡◌, ◌∙◌, ◌+◌, ◌≤◌, ◌<◌, ◌==◌, ℕ, Bool, true, false, cond, List, [], ◌∷◌, ◌++◌, length, get_or, Option}
-use Rattle.mm_slots.proofs.Below.{refl, sym, ap, arith, option_map_or, ne_eqb, Standing, new_platform, Action, Power, At, Said, CodeSlot}
-use Rattle.mm_slots.proofs.Below.{slot_in, Acts, Loses, Row, is_cut, cuts_all, met_in, rows_in, AllFit, ActsAt, LosesIf, LosesAll}
-use Rattle.mm_slots.proofs.Below.{others_lose, only_at, Follows, Tells}
-use Rattle.std.proofs.Common.{inr}
-use Rattle.mm_slots.specs.Rows.{LacksEvent}
-use Rattle.mm_slots.proofs.Rowing.{touches_as, touches_then, touches_none, rows_length, all_more, same_length, get_row}
+use Rattle.mm_slots.proofs.Below.{refl, sym, ap, arith, option_map_or, slice_get-get_or, ne_eqb, if◌then◌else◌, Action, Power, At, Said}
+use Rattle.mm_slots.proofs.Below.{Met, Acts, Loses, Row, after_event, is_cut, cuts_all, met_in, ActsAt, Tells, others_lose, only_at, touched}
+use Rattle.mm_slots.proofs.Rowing.{touched_more, touched_none, touched_same}
 
 -- where no slot has the number, all lose their power
 all_lose : (but k : ℕ) → (k ≡ but → ⊥) → others_lose but k ≡ Loses ∷ []
 all_lose but k other = rw (ne_eqb k but other) refl
 
-pub power_follows : (events n : ℕ) (standings standings' : List Standing) (slots slots' : List CodeSlot) → length slots ≤ n
-    → AllFit events standings slots
-    → LosesAll events n standings standings' slots slots' → Follows events Power standings standings' slots slots'
-power_follows events n standings standings' slots slots' past fit l =
-    let t = touches_as l (λ k. met_in k (rows_in standings slots) Power)
-    (λ k few. let size = rows_length events standings slots fit in all_lose n k (λ e. omega (arith, e, few, size, past))) in
-    record { rows = t.rows; fit = all_more events (events + 1) standings' slots' (omega arith) t.fit }
+pub power_follows : (n : ℕ) (rows rows' : List Row) → length rows ≤ n → rows' ≡ touched (others_lose n) rows
+    → rows' ≡ after_event rows Power
+power_follows n rows rows' past l = l
+    ∙ touched_same (others_lose n) (λ k. met_in k rows Power) rows (λ k few. all_lose n k (λ e. omega (arith, e, few, past)))
 
-pub uncut_loses : (events but : ℕ) (cuts : Bool) (standings : List Standing) (slots : List CodeSlot) → cuts ≡ false
-    → AllFit events standings slots → LosesIf events but cuts standings standings slots slots
-uncut_loses events but true standings slots is fit = cc
-uncut_loses events but false standings slots is fit = touches_none events standings slots fit
+pub uncut_loses : (but : ℕ) (cuts : Bool) (rows : List Row) → cuts ≡ false
+    → rows ≡ touched (λ k. if cuts then others_lose but k else []) rows
+uncut_loses but true rows is = cc
+uncut_loses but false rows is = touched_none rows
+
+pub cut_loses : (but : ℕ) (cuts : Bool) (rows rows' : List Row) → cuts ≡ true → rows' ≡ touched (others_lose but) rows
+    → rows' ≡ touched (λ k. if cuts then others_lose but k else []) rows
+cut_loses but true rows rows' is l = l
+cut_loses but false rows rows' is l = cc
 
 -- what a slot meets where one acts, and where that is a cut
 acts_then : (number k : ℕ) (what : Action) (own cuts : Bool) → (k == number) ≡ own
@@ -32,31 +31,24 @@ acts_then number k what true false own = rw own refl
 acts_then number k what false true own = rw own refl
 acts_then number k what false false own = rw own refl
 
-pub tells : (events number : ℕ) (what : Action) (cuts : Bool) (first second last : List Standing) (slots0 slots1 slots2 : List CodeSlot)
-    (said : Said) → cuts ≡ cuts_all (rows_in first slots0) number what → ActsAt events number what first second slots0 slots1 said
-    → LosesIf (events + 1) number cuts second last slots1 slots2 → Tells events number what first last slots0 slots2 said
-tells events number what cuts first second last slots0 slots1 slots2 said is a l =
-    let rows = rows_in first slots0 in
+pub tells : (number : ℕ) (what : Action) (cuts : Bool) (first second last : List Row) (said : Said) → cuts ≡ cuts_all first number what
+    → ActsAt number what first second said → last ≡ touched (λ k. if cuts then others_lose number k else []) second
+    → Tells number what first last said
+tells number what cuts first second last said is a l =
+    let f : ℕ → List Met = only_at number (Acts what) in
+    let g : ℕ → List Met = λ k. if cuts then others_lose number k else [] in
     record {
-      follows = touches_as (touches_then a.touches l) (λ k. met_in k rows (At number what))
+      stands = l ∙ ap (touched g) a.stands ∙ touched_more f g first
+          ∙ touched_same (λ k. f k ++ g k) (λ k. met_in k first (At number what)) first
           (λ k few. acts_then number k what (k == number) cuts refl
           ∙ ap (λ (c : Bool). cond (k == number) (Acts what ∷ []) (cond c (Loses ∷ []) [])) is);
       says = a.says;
       sayable = a.sayable;
     }
 
--- an event that was followed, where memory was wanting for its answer
-pub untold : (events number : ℕ) (what : Action) (first last : List Standing) (slots0 slots2 : List CodeSlot) (said : Said)
-    → Tells events number what first last slots0 slots2 said → LacksEvent events (At number what) first last slots0 slots2
-untold events number what first last slots0 slots2 said t = record { fit = t.follows.fit; wants = inr t.follows.rows }
-
 -- whether it is a cut is told by the slot
-pub cuts_at : (events number : ℕ) (what : Action) (standings : List Standing) (slots : List CodeSlot) (dc : CodeSlot) (cuts : Bool)
-    → number < length slots → AllFit events standings slots
-    → ((standing : Standing) → cuts ≡ is_cut (slot_in standing (get_or slots number dc)).flight what)
-    → cuts ≡ cuts_all (rows_in standings slots) number what
-cuts_at events number what standings slots dc cuts few fit is =
-    let ds : Standing = new_platform [] in
-    let there : number < length standings = omega (arith, few, same_length events standings slots fit) in
-    is (get_or standings number ds) ∙ sym (ap (λ (found : Option Row). option_map_or (λ (r : Row). is_cut r.slot.flight what) found false)
-    (get_row number standings slots ds dc there few))
+pub cuts_at : (number : ℕ) (what : Action) (rows : List Row) (d : Row) (cuts : Bool) → number < length rows
+    → cuts ≡ is_cut (get_or rows number d).slot.flight what → cuts ≡ cuts_all rows number what
+cuts_at number what rows d cuts few is =
+    is ∙ sym (ap (λ (found : Option Row). option_map_or (λ (r : Row). is_cut r.slot.flight what) found false)
+    (slice_get-get_or rows number d few))

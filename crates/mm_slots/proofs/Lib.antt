@@ -11,3 +11,6 @@ mod Following
 mod Starting
 mod Totalling
 mod Progressing
+mod Growing
+mod Roomy
+mod Seeing

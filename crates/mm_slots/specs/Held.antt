@@ -1,9 +1,6 @@
--- A slot in code, over the platform in it.
-use Rattle.std.specs.Prelude.{◌≡◌, ◌≤◌, ◌<◌, ◌+◌, ◌-◌, ◌^◌, ℕ, false, List, [], ◌∷◌, ◌++◌, length, min, Option, None, Some}
-use Rattle.std.specs.Prelude.{option_to_list, vec_capacity}
-use Rattle.std.specs.List.{sum_by}
-use Rattle.mm_base.specs.Limits.{most_members}
-use Rattle.mm_digest.specs.Messages.{zero_bytes}
+-- The parts of a slot in code, and what they keep.
+use Rattle.std.specs.Prelude.{◌≡◌, ◌+◌, ◌<◌, ℕ, false, List, [], ◌∷◌, length, Option, None, Some}
+use Rattle.std.specs.Prelude.{vec_capacity}
 use Rattle.mm_module.specs.Batch.{One}
 use Rattle.mm_modules.specs.Modules.{meaning_of}
 use Rattle.mm_platform.specs.Standing.{Plan, Standing}
@@ -23,13 +20,14 @@ use Rattle.mm_world.specs.Held.{digest_in, flag_in}
 use Rattle.mm_world.specs.Stands.{Stands, IsQuiet}
 use Rattle.mm_slots.specs.declared.flight.Flight.{Flight as CodeFlight}
 use Rattle.mm_slots.specs.declared.flight.Flight.TheVariants as code
+use Rattle.mm_slots.specs.declared.parts.Parts.{Parts}
 use Rattle.mm_slots.specs.declared.said.Said.{Said}
-use Rattle.mm_slots.specs.declared.slot.Slot.{Slot as CodeSlot}
-use Rattle.mm_slots.specs.Answers.{IsSayable}
 use Rattle.mm_slots.specs.declared.said.Said.TheVariants.{Replied}
-use Rattle.mm_slots.specs.Lengths.{length_if}
+use Rattle.mm_slots.specs.Answers.{IsSayable}
+use Rattle.mm_slots.specs.Seat.{EndsCall}
 use Rattle.mm_slots.specs.declared.event.Action.{Action}
 use Rattle.mm_slots.specs.Slot.{Slot, Flight, Call, Asks, Closes, Turned, Wants, slot_instance, unpowered}
+use Rattle.mm_slots.specs.Table.{Row}
 
 -- what a call in flight asks
 abbrev pub call_in : CodeFlight → Call
@@ -44,23 +42,28 @@ flight_in plan (Some flight) =
 
 -- Where a slot stands by digests: a call in flight has left the cell's as they were, and the slot
 -- has the register's as it was before the call.
-abbrev pub digests_in : Standing → CodeSlot → Digests
-digests_in standing slot = record {
-  digest = digest_in standing.cell;
-  flag = flag_in standing.cell;
-  register = slot.register.bytes;
-  count = slot.committed;
+abbrev pub digests_in : Parts → Digests
+digests_in parts = record {
+  digest = digest_in parts.seat.platform.cell;
+  flag = flag_in parts.seat.platform.cell;
+  register = parts.register.bytes;
+  count = parts.seat.committed;
 }
 
-abbrev pub slot_in : Standing → CodeSlot → Slot
-slot_in standing slot = record {
-  digests = digests_in standing slot;
-  issued = slot.issued.items;
-  flight = flight_in (next_plan standing) slot.flight;
+abbrev pub slot_in : Parts → Slot
+slot_in parts = record {
+  digests = digests_in parts;
+  issued = parts.seat.issued.items;
+  flight = flight_in (next_plan parts.seat.platform) parts.flight;
 }
 
-abbrev pub instance_in : CodeSlot → Instance
-instance_in slot = slot_instance slot.header slot.number
+abbrev pub instance_in : Parts → Instance
+instance_in parts = slot_instance parts.seat.header parts.number
+
+-- the slot with its header and number
+abbrev pub row_in : Parts → Row
+row_in parts =
+    record { header = parts.seat.header; number = parts.number; slot = slot_in parts }
 
 -- what is left of a call in flight
 abbrev pub left_of : Header → CodeFlight → CallLeft
@@ -99,79 +102,47 @@ FitsFlight header number d issued capacity standing None =
 FitsFlight header number d issued capacity standing (Some flight) =
     FitsCall header number d issued capacity standing flight
 
--- a count of 64 bits stays at the greatest once it is there
-abbrev pub within_64 : ℕ → ℕ
-within_64 n = min n (2 ^ 64 - 1)
-
--- the slot is over this platform
-pub record Fits (standing : Standing) (slot : CodeSlot) : Type 0 where
-  pub flight : FitsFlight slot.header slot.number (digests_in standing slot) slot.issued.items
-      (vec_capacity slot.issued) standing slot.flight
-  pub kept : slot.kept ≡ within_64 (sum_by length slot.issued.items)
+-- the platform stands so that the call in flight goes on, or none is
+abbrev pub Fits : Parts → Type 0
+Fits parts =
+    FitsFlight parts.seat.header parts.number (digests_in parts) parts.seat.issued.items
+    (vec_capacity parts.seat.issued) parts.seat.platform parts.flight
 
 -- the slot with this call in flight
-abbrev pub flown : CodeSlot → CodeFlight → CodeSlot
-flown slot flight = record slot { flight = Some flight }
+abbrev pub flown : Parts → CodeFlight → Parts
+flown parts flight = record parts { flight = Some flight }
 
 -- The slot has the register's value as the platform tells it.
-abbrev pub HasRegister : Standing → CodeSlot → Type 0
-HasRegister standing slot = register_reads standing ≡ Some slot.register.bytes
+abbrev pub HasRegister : Parts → Type 0
+HasRegister parts = register_reads parts.seat.platform ≡ Some parts.register.bytes
 
 -- A call of the slot is over that came to this, and the slot is as it leaves it.
-pub record EndsCall (standing : Standing) (it : Called) (slot slot' : CodeSlot)
-    (said : Said) : Type 0 where
-  pub header : slot'.header ≡ slot.header
-  pub number : slot'.number ≡ slot.number
-  pub flight : slot'.flight ≡ slot.flight
-  pub register : HasRegister standing slot'
-  pub issued : slot'.issued.items ≡ slot.issued.items ++ option_to_list it.snapshot
-  pub kept : slot'.kept ≡ within_64 (slot.kept + length_if it.snapshot)
-  pub committed : slot'.committed ≡ within_64 (slot.committed + it.committed)
+pub record EndsIn (it : Called) (old new : Parts) (said : Said) : Type 0 where
+  pub ends : EndsCall it old.seat new.seat it.reply
+  pub number : new.number ≡ old.number
+  pub flight : new.flight ≡ old.flight
+  pub register : HasRegister new
   pub says : said ≡ Replied it.reply
 
--- the same slot, over which something happened
-pub record GoesOn (new : Standing) (slot slot' : CodeSlot) : Type 0 where
-  pub fits : Fits new slot'
-  pub header : slot'.header ≡ slot.header
-  pub number : slot'.number ≡ slot.number
-  pub few : slot'.committed ≤ slot.committed + most_members
-  pub short : length slot'.issued.items ≤ length slot.issued.items + 1
+-- the same slot, in which something happened
+pub record GoesOn (old new : Parts) : Type 0 where
+  pub fits : Fits new
+  pub header : new.seat.header ≡ old.seat.header
+  pub number : new.number ≡ old.number
 
 -- Memory was wanting for what happened in the slot, which can go on.
-pub record Lacks (what : Action) (old new : Standing) (slot slot' : CodeSlot) : Type 0 where
-  pub goes : GoesOn new slot slot'
-  pub stands : Wants (instance_in slot) what (slot_in old slot) (slot_in new slot')
-  pub cell : new.cell ≡ old.cell
-  pub committed : slot'.committed ≡ slot.committed
+pub record LacksIn (what : Action) (old new : Parts) : Type 0 where
+  pub goes : GoesOn old new
+  pub wants : Wants (instance_in old) what (slot_in old) (slot_in new)
 
 -- Something happened in the slot that comes to this, and this was said.
-pub record Comes (new : Standing) (slot slot' : CodeSlot) (it : Turned) (said : Said) : Type 0 where
-  pub goes : GoesOn new slot slot'
-  pub stands : slot_in new slot' ≡ it.slot
+pub record ComesTo (old new : Parts) (it : Turned) (said : Said) : Type 0 where
+  pub goes : GoesOn old new
+  pub stands : slot_in new ≡ it.slot
   pub says : it.said ≡ said ∷ []
   pub sayable : IsSayable said
 
 -- the slot lost its power
-pub record Loses (old new : Standing) (slot slot' : CodeSlot) : Type 0 where
-  pub goes : GoesOn new slot slot'
-  pub stands : slot_in new slot' ≡ (unpowered (instance_in slot) (slot_in old slot)).slot
-  pub same : slot'.committed ≡ slot.committed
-
--- the slot but for the snapshots that it has
-pub record KeepsSlot (slot slot' : CodeSlot) : Type 0 where
-  pub header : slot'.header ≡ slot.header
-  pub number : slot'.number ≡ slot.number
-  pub committed : slot'.committed ≡ slot.committed
-  pub register : slot'.register ≡ slot.register
-  pub flight : slot'.flight ≡ slot.flight
-
--- A slot at first: its first snapshot is issued, and its register is empty.
-pub record IsNewSlot (number : ℕ) (header : Header) (snapshot : List ℕ) (slot : CodeSlot) : Type 0
-  where
-    pub numbered : slot.number ≡ number
-    pub headed : slot.header ≡ header
-    pub issued : slot.issued.items ≡ snapshot ∷ []
-    pub kept : slot.kept ≡ within_64 (length snapshot)
-    pub committed : slot.committed ≡ 0
-    pub register : slot.register.bytes ≡ zero_bytes
-    pub flight : slot.flight ≡ None
+pub record LosesIn (old new : Parts) : Type 0 where
+  pub goes : GoesOn old new
+  pub stands : slot_in new ≡ (unpowered (instance_in old) (slot_in old)).slot

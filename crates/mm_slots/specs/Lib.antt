@@ -8,11 +8,10 @@ pub mod Texts
 pub mod Answers
 pub mod Held
 pub mod Rows
-pub mod First
-pub mod Totals
 pub mod Stage
 pub mod Headline
 pub mod Plays
 pub mod Lengths
+pub mod Seat
 pub mod StageLaws
 pub mod Opening

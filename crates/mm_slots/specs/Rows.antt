@@ -1,39 +1,25 @@
--- The slots of a platform in code.
-use Rattle.std.specs.Prelude.{◌≡◌, ◌≤◌, ◌<◌, ◌+◌, ◌*◌, ◌==◌, ℕ, Bool, List, [], ◌∷◌, length, if◌then◌else◌}
+-- What becomes of the slots of a platform, or of one of them.
+use Rattle.std.specs.Prelude.{◌≡◌, ◌≤◌, ◌<◌, ◌+◌, ◌*◌, ◌==◌, ◌^◌, ℕ, List, [], ◌∷◌, length, if◌then◌else◌}
+use Rattle.std.specs.List.{All}
 use Rattle.mm_base.specs.Limits.{most_events, most_members}
-use Rattle.mm_platform.specs.Standing.{Standing}
 use Rattle.mm_slots.specs.declared.event.Action.{Action}
 use Rattle.mm_slots.specs.declared.event.SlotEvent.{SlotEvent}
 use Rattle.mm_slots.specs.declared.event.SlotEvent.TheVariants.{Power, At}
 use Rattle.mm_slots.specs.declared.said.Said.{Said}
-use Rattle.mm_slots.specs.declared.slot.Slot.{Slot as CodeSlot}
-use Rattle.mm_slots.specs.Answers.{IsSayable, answers_text}
-use Rattle.mm_slots.specs.Held.{slot_in, Fits}
-use Rattle.mm_slots.specs.Slot.{Met, Acts, Loses}
-use Rattle.mm_slots.specs.Table.{Row, row_after, WantsAt, EventWants, by_place, met_in, said_at, answers_to}
+use Rattle.mm_slots.specs.Answers.{IsSayable}
+use Rattle.mm_slots.specs.Slot.{Met, Acts, Loses, Wants, acted}
+use Rattle.mm_slots.specs.Table.{Row, after_event, by_place, instance_of, row_after, said_at}
 
-abbrev pub row_in : Standing → CodeSlot → Row
-row_in standing slot =
-    record { header = slot.header; number = slot.number; slot = slot_in standing slot }
+-- Something happened in a slot, and this was said.
+pub record ActsAs (what : Action) (old new : Row) (said : Said) : Type 0 where
+  pub stands : new ≡ row_after old (Acts what ∷ [])
+  pub says : (acted (instance_of old) old.slot what).said ≡ said ∷ []
+  pub sayable : IsSayable said
 
--- what stands in each slot, by the platforms and the slots over them
-abbrev pub rows_in : List Standing → List CodeSlot → List Row
-rows_in [] slots = []
-rows_in (standing ∷ standings) [] = []
-rows_in (standing ∷ standings) (slot ∷ slots) = row_in standing slot ∷ rows_in standings slots
-
--- the slot is over this platform, and has committed and issued no more than so many events can
-pub record FitsWithin (events : ℕ) (standing : Standing) (slot : CodeSlot) : Type 0 where
-  pub fits : Fits standing slot
-  pub few : slot.committed ≤ most_members * events
-  pub short : length slot.issued.items ≤ events + 1
-
--- each slot is over its platform
-abbrev pub AllFit : ℕ → List Standing → List CodeSlot → Type 0
-AllFit events [] [] = Unit {0}
-AllFit events (standing ∷ standings) (slot ∷ slots) =
-    FitsWithin events standing slot × AllFit events standings slots
-AllFit events _ _ = ⊥
+-- Memory was wanting for what happened in a slot.
+pub record LacksAs (what : Action) (old new : Row) : Type 0 where
+  pub same : new ≡ record old { slot = new.slot }
+  pub wants : Wants (instance_of old) what old.slot new.slot
 
 -- each slot after what it meets, by its number
 abbrev pub touched : (ℕ → List Met) → List Row → List Row
@@ -43,87 +29,48 @@ touched mets rows = by_place (λ number row. row_after row (mets number)) 0 rows
 abbrev pub only_at : ℕ → Met → ℕ → List Met
 only_at number met other = if other == number then met ∷ [] else []
 
--- Each slot has met this, by its number, and is over its platform.
-pub record Touches (mets : ℕ → List Met) (events : ℕ) (standings standings' : List Standing)
-    (slots slots' : List CodeSlot) : Type 0 where
-  pub rows : rows_in standings' slots' ≡ touched mets (rows_in standings slots)
-  pub fit : AllFit events standings' slots'
-
--- Something happened in the slot with this number, and this was said.
-pub record ActsAt (events number : ℕ) (what : Action) (standings standings' : List Standing)
-    (slots slots' : List CodeSlot)
-    (said : Said) : Type 0 where
-  pub touches : Touches (only_at number (Acts what)) (events + 1) standings standings' slots slots'
-  pub says : said_at (rows_in standings slots) number what ≡ said ∷ []
-  pub sayable : IsSayable said
-
--- the slot with this number lost its power
-abbrev pub LosesAt : (events number : ℕ) → List Standing → List Standing → List CodeSlot
-    → List CodeSlot → Type 0
-LosesAt events number = Touches (only_at number Loses) events
-
--- what the fields of slots among their events keep
-pub record KeepsAll (standings : List Standing) (slots : List CodeSlot) (events : ℕ) : Type 0 where
-  pub fit : AllFit events standings slots
-  pub some : 1 ≤ length slots
-  pub most : length slots ≤ 16
-  pub few : events ≤ most_events
-
 -- one slot loses its power, but for the one with this number
 abbrev pub others_lose : ℕ → ℕ → List Met
 others_lose but number = if number == but then [] else Loses ∷ []
 
--- all slots lost their power but the one with this number, if there is one
-abbrev pub LosesAll : (events but : ℕ) → List Standing → List Standing → List CodeSlot
-    → List CodeSlot → Type 0
-LosesAll events but = Touches (others_lose but) events
+-- the slot with this number loses its power, if it isn't that one
+abbrev pub one_loses : (number but : ℕ) → ℕ → List Met
+one_loses number but k = if k == number then others_lose but number else []
 
--- the slot with this number lost its power, if it isn't that one
-abbrev pub LosesUnless : (events number but : ℕ) → List Standing → List Standing → List CodeSlot
-    → List CodeSlot → Type 0
-LosesUnless events number but =
-    Touches (λ k. if k == number then others_lose but number else []) events
+-- Something happened in the slot with this number, and in no other, and this was said.
+pub record ActsAt (number : ℕ) (what : Action) (old new : List Row) (said : Said) : Type 0 where
+  pub stands : new ≡ touched (only_at number (Acts what)) old
+  pub says : said_at old number what ≡ said ∷ []
+  pub sayable : IsSayable said
 
--- where a call was cut, all slots but the one with this number lost their power
-abbrev pub LosesIf : (events but : ℕ) → Bool → List Standing → List Standing → List CodeSlot
-    → List CodeSlot → Type 0
-LosesIf events but is_cut = Touches (λ k. if is_cut then others_lose but k else []) events
+-- Something happened in the slot with this number, by which others may have lost their power, and
+-- this was said.
+pub record Tells (number : ℕ) (what : Action) (old new : List Row) (said : Said) : Type 0 where
+  pub stands : new ≡ after_event old (At number what)
+  pub says : said_at old number what ≡ said ∷ []
+  pub sayable : IsSayable said
+
+-- 64 bits count the requests of one more event
+abbrev pub CanCount : Row → Type 0
+CanCount row = row.slot.digests.count < 2 ^ 63
+
+-- 32 bits count the snapshots
+abbrev pub IsCounted : Row → Type 0
+IsCounted row = length row.slot.issued < 2 ^ 32
+
+-- the slot has committed and issued no more than so many events can
+pub record IsWithin (events : ℕ) (row : Row) : Type 0 where
+  pub few : row.slot.digests.count ≤ most_members * events
+  pub short : length row.slot.issued ≤ events + 1
+
+-- what slots among their events keep
+pub record KeepsAll (rows : List Row) (events : ℕ) : Type 0 where
+  pub within : All (IsWithin events) rows
+  pub some : 1 ≤ length rows
+  pub most : length rows ≤ 16
+  pub few : events ≤ most_events
 
 -- the event is in one of so many slots, or in all
 abbrev pub IsInside : ℕ → SlotEvent → Type 0
 IsInside slots Power = Unit {0}
 IsInside slots (At number what) = number < slots
-
--- all slots are as this event leaves them
-abbrev pub Follows : ℕ → SlotEvent → List Standing → List Standing → List CodeSlot → List CodeSlot
-    → Type 0
-Follows events event standings standings' slots slots' =
-    Touches (λ k. met_in k (rows_in standings slots) event) (events + 1) standings standings' slots
-    slots'
-
--- something happened in the slot with this number, and this was said
-pub record Tells (events number : ℕ) (what : Action) (standings standings' : List Standing)
-    (slots slots' : List CodeSlot)
-    (said : Said) : Type 0 where
-  pub follows : Follows events (At number what) standings standings' slots slots'
-  pub says : said_at (rows_in standings slots) number what ≡ said ∷ []
-  pub sayable : IsSayable said
-
--- the event was followed, and this is its answer
-pub record Answers (events : ℕ) (event : SlotEvent) (standings standings' : List Standing)
-    (slots slots' : List CodeSlot)
-    (text : List ℕ) : Type 0 where
-  pub follows : Follows events event standings standings' slots slots'
-  pub answers : text ≡ answers_text (answers_to (rows_in standings slots) event)
-
--- memory was wanting for what happened in the slot with this number, and all slots can go on
-pub record LacksAt (events number : ℕ) (what : Action) (standings standings' : List Standing)
-    (slots slots' : List CodeSlot) : Type 0 where
-  pub fit : AllFit (events + 1) standings' slots'
-  pub wants : WantsAt number what (rows_in standings slots) (rows_in standings' slots')
-
--- memory was wanting for the event, and all slots can go on
-pub record LacksEvent (events : ℕ) (event : SlotEvent) (standings standings' : List Standing)
-    (slots slots' : List CodeSlot) : Type 0 where
-  pub fit : AllFit (events + 1) standings' slots'
-  pub wants : EventWants event (rows_in standings slots) (rows_in standings' slots')

@@ -2,6 +2,8 @@
 //! common. Calls of different slots interleave at single device steps.
 #![tactic(auto)]
 
+mod asking;
+mod closing;
 mod event;
 mod first;
 mod flight;
@@ -10,12 +12,14 @@ mod heads;
 mod laws;
 mod opening;
 mod outside;
+mod parts;
 mod platform;
 mod put;
 mod read;
 mod report;
 mod rows;
 mod said;
+mod seat;
 mod slot;
 mod stage;
 mod totals;

@@ -4,8 +4,7 @@ ghost use Rattle.std.specs.Prelude.{◌≡◌, ◌≤◌, ◌<◌, ◌+◌, ◌+
 ghost use Rattle.mm_base.specs.Limits.{longest_line, most_events};
 
 use crate::event::SlotEvent;
-use crate::first::{FirstSlots, first_slots};
-use crate::platform::SlotPlatform;
+use crate::first::first_slots;
 use crate::read::read_slot_event;
 use crate::report::SlotReport;
 use crate::rows::follow;
@@ -17,24 +16,23 @@ use mm_schedule::{EventFault, Header};
 use std::alloc::Global;
 use std::marker::Model;
 
-/// Slots among their events, over their platform. Contracts see what stands in each slot, by digests.
+/// Slots among their events. Contracts see what stands in each slot, by digests.
 #[derive(Drop)]
 pub struct SlotsStage {
-    platform: SlotPlatform,
     slots: Vec<Slot>,
     /// The events followed.
     events: u32,
 }
 
 impl Model for SlotsStage {
-    ghost use Rattle.mm_slots.specs.Rows.{rows_in, KeepsAll};
+    ghost use Rattle.mm_slots.specs.Rows.{KeepsAll};
     ghost use Rattle.mm_slots.specs.Stage.{Running};
 
     ghost Value = { Running };
 
-    ghost view = { λ p. record { rows = rows_in p.platform.slots p.slots.items; events = p.events } };
+    ghost view = { λ p. record { rows = p.slots.items; events = p.events } };
 
-    ghost invariant = { λ p. KeepsAll p.platform.slots p.slots.items p.events };
+    ghost invariant = { λ p. KeepsAll p.slots.items p.events };
 }
 
 impl SlotsStage {
@@ -51,13 +49,8 @@ impl SlotsStage {
         requires few { length headers.now ≤ 16 }
         ensures { IfOk result (λ it. it ≡ begun headers.now) }
     {
-        let FirstSlots { cells, slots } = first_slots(alloc, headers)?;
-        let platform = SlotPlatform::new(alloc, cells.as_slice())?;
-        Ok(SlotsStage {
-            platform,
-            slots,
-            events: 0,
-        })
+        let slots = first_slots(alloc, headers)?;
+        Ok(SlotsStage { slots, events: 0 })
     }
 
     // Follows an event, and answers it as text. It counts also where memory is wanting, for it or for the answer.
@@ -70,7 +63,7 @@ impl SlotsStage {
         ensures wants { OnErr result (WantsEvent self.old event self.new) }
     {
         self.events += 1;
-        follow(alloc, &mut self.platform, self.slots.as_mut_slice(), event)
+        follow(alloc, self.slots.as_mut_slice(), event)
     }
 
     // How many slots there are.

@@ -1,9 +1,12 @@
 //! What all slots count together, and the last line of each.
 
 ghost use Rattle.std.specs.Prelude.{◌≡◌, ◌≤◌, ◌<◌, ◌^◌, ◌++◌, OnOk, length};
-ghost use Rattle.mm_slots.specs.Answers.{slot_end_line};
-ghost use Rattle.mm_slots.specs.Held.{within_64};
-ghost use Rattle.mm_slots.specs.Totals.{bytes_in, requests_in, snapshots_in, AreCounted, ends_from};
+ghost use Rattle.std.specs.List.{All};
+ghost use Rattle.mm_slots.specs.Answers.{slot_end_line, end_lines};
+ghost use Rattle.mm_slots.specs.Plays.{committed_in, issued_in};
+ghost use Rattle.mm_slots.specs.Rows.{IsCounted};
+ghost use Rattle.mm_slots.specs.Lengths.{within_64};
+ghost use Rattle.mm_slots.specs.Stage.{kept_in};
 
 use crate::put::put_slot_end;
 use crate::slot::Slot;
@@ -11,33 +14,33 @@ use mm_base::{Bytes, Memory};
 
 /// The bytes of the snapshots issued in these slots, or the most that 64 bits tell.
 pub fn bytes_in(slots: &[Slot]) -> u64
-    ensures { result ≡ within_64 (bytes_in slots.now) }
+    ensures { result ≡ within_64 (kept_in slots.now) }
 {
     let mut total = 0u64;
     for slot in slots {
-        total = total.saturating_add(slot.kept);
+        total = total.saturating_add(slot.kept());
     }
     total
 }
 
 /// The requests committed in these slots, or the most that 64 bits tell.
 pub fn requests_in(slots: &[Slot]) -> u64
-    ensures { result ≡ within_64 (requests_in slots.now) }
+    ensures { result ≡ within_64 (committed_in slots.now) }
 {
     let mut total = 0u64;
     for slot in slots {
-        total = total.saturating_add(slot.committed);
+        total = total.saturating_add(slot.committed());
     }
     total
 }
 
 /// The snapshots issued in these slots, or the most that 64 bits tell.
 pub fn snapshots_in(slots: &[Slot]) -> u64
-    ensures { result ≡ within_64 (snapshots_in slots.now) }
+    ensures { result ≡ within_64 (issued_in slots.now) }
 {
     let mut total = 0u64;
     for slot in slots {
-        total = total.saturating_add(slot.issued.len() as u64);
+        total = total.saturating_add(slot.snapshots());
     }
     total
 }
@@ -45,8 +48,8 @@ pub fn snapshots_in(slots: &[Slot]) -> u64
 /// Puts the last lines at the end, one for each slot.
 pub fn put_ends(slots: &[Slot], into: &mut Bytes) -> Result<(), Memory>
     requires few { length slots.now ≤ 16 }
-    requires counted { AreCounted slots.now }
-    ensures { OnOk result (into.new ≡ into.old ++ ends_from 0 slots.now) }
+    requires counted { All IsCounted slots.now }
+    ensures { OnOk result (into.new ≡ into.old ++ end_lines 0 slots.now) }
 {
     for number in 0..slots.len() {
         put_end_of(number as u8, &slots[number], into)?;
@@ -56,9 +59,9 @@ pub fn put_ends(slots: &[Slot], into: &mut Bytes) -> Result<(), Memory>
 
 // Puts the last line of the slot with this number at the end.
 fn put_end_of(number: u8, slot: &Slot, into: &mut Bytes) -> Result<(), Memory>
-    requires { length slot.now.issued.items < 2 ^ 32 }
+    requires { length slot.now.slot.issued < 2 ^ 32 }
     ensures { OnOk result (into.new ≡ into.old
-        ++ slot_end_line number slot.now.committed (length slot.now.issued.items)) }
+        ++ slot_end_line number slot.now.slot.digests.count (length slot.now.slot.issued)) }
 {
-    put_slot_end(number, slot.committed, slot.issued.len() as u32, into)
+    put_slot_end(number, slot.committed(), slot.snapshots() as u32, into)
 }

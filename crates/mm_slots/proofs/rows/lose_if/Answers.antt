@@ -1,6 +1,9 @@
-use Rattle.mm_slots.proofs.Following.{uncut_loses}
+use Rattle.mm_slots.proofs.Following.{cut_loses, uncut_loses}
 use Rattle.mm_slots.proofs.rows.lose_if.Goals as goal
 
+pub returns-then-is_cut : goal.returns-then-is_cut
+returns-then-is_cut c =
+    cut_loses c.args.but c.args.is_cut c.args.slots.now c.lose_all.new.slots c.if-is_cut.true c.lose_all.ensures
+
 pub returns-else-is_cut : goal.returns-else-is_cut
-returns-else-is_cut c = λ events fit.
-    uncut_loses events c.args.but c.args.is_cut c.args.platform.now.slots c.args.slots.now c.if-is_cut.false fit
+returns-else-is_cut c = uncut_loses c.args.but c.args.is_cut c.args.slots.now c.if-is_cut.false

@@ -1,5 +1,5 @@
-use Rattle.mm_slots.proofs.Below.{◌≡◌, ◌++◌, take, ends_from}
+use Rattle.mm_slots.proofs.Below.{◌≡◌, ◌++◌, take, end_lines}
 use Rattle.mm_slots.proofs.totals.put_ends.Given as goal
 
 abbrev pub invariant-loop-number : goal.invariant-loop-number
-invariant-loop-number l = l.into ≡ l.fn.into ++ ends_from 0 (take l.number l.slots)
+invariant-loop-number l = l.into ≡ l.fn.into ++ end_lines 0 (take l.number l.slots)

@@ -1,6 +1,0 @@
-use Rattle.std.proofs.Common.{rules}
-use Rattle.mm_slots.proofs.Beginning.{close_begins}
-use Rattle.mm_slots.proofs.slot.Slot.begin_closing.Goals as goal
-
-pub returns : goal.returns
-returns c = rw c.begin.ensures (close_begins c.args.platform.now c.args.self.now c.requires.fits (search rules))

@@ -1,0 +1,99 @@
+//! The parts of a slot: what they are, and what becomes of them.
+
+ghost use Rattle.std.specs.Prelude.{◌≡◌};
+ghost use Rattle.mm_slots.specs.Slot.{stop_at};
+
+use crate::event::{Action, Breaking};
+use crate::flight::Flight;
+use crate::said::Said;
+use crate::seat::Seat;
+use mm_base::Memory;
+use mm_digest::Digest;
+use mm_platform::Stop;
+use mm_world::Called;
+use std::alloc::Global;
+
+/// The number of a slot, the seat in it, and the call in flight.
+#[derive(Drop)]
+pub struct Parts {
+    pub number: u8,
+    pub seat: Seat,
+    /// The register's value before the call in flight, or now where there is none.
+    pub register: Digest,
+    pub flight: Option<Flight>,
+}
+
+/// How a call is stopped at this step.
+pub fn stop_at(how: Breaking, step: u8) -> Stop
+    ensures { result ≡ stop_at how step }
+{
+    match how {
+        Breaking::Cut => Stop::Cut(step),
+        Breaking::Drop => Stop::Drop(step),
+        Breaking::Fail { done } => Stop::Fail { step, done },
+    }
+}
+
+impl Parts {
+    ghost use Rattle.std.specs.Prelude.{◌≡◌, ◌<◌, ◌^◌, IfOk, OnErr, IsSome, vec_len, vec_capacity};
+    ghost use Rattle.mm_slots.specs.Held.{instance_in, slot_in, Fits, ComesTo, LacksIn, EndsIn};
+    ghost use Rattle.mm_slots.specs.Slot.{acted};
+
+    /// Lets something happen in the slot. After want of memory nothing has changed, but that a call in flight is over whose
+    /// step it was, with nothing done but its reading steps.
+    pub fn act(&mut self, alloc: Global, action: Action) -> Result<Said, Memory>
+        requires fits { Fits self.old }
+        requires few { self.old.seat.committed < 2 ^ 63 }
+        ensures ok { IfOk result (ComesTo self.old self.new
+            (acted (instance_in self.old) (slot_in self.old) action)) }
+        ensures err { OnErr result (LacksIn action self.old self.new) }
+    {
+        match action {
+            Action::Begin { offer, request } => self.begin(alloc, offer, request),
+            Action::Close => Ok(self.begin_closing()),
+            Action::Step => self.step(alloc),
+            Action::Break(how) => Ok(self.break_off(alloc, how)),
+            Action::Extend { value } => self.extend(&value),
+        }
+    }
+
+    // The call in flight makes its next step. After want of memory the call is over, with nothing done but its reading steps.
+    fn step(&mut self, alloc: Global) -> Result<Said, Memory>
+        requires fits { Fits self.old }
+        requires few { self.old.seat.committed < 2 ^ 63 }
+        ensures ok { IfOk result (ComesTo self.old self.new
+            (acted (instance_in self.old) (slot_in self.old) Action.Step)) }
+        ensures err { OnErr result (LacksIn Action.Step self.old self.new) }
+    {
+        match self.flight.take() {
+            None => Ok(Said::Idle),
+            Some(Flight::Asks(asking)) => self.step_asking(alloc, asking),
+            Some(Flight::Closes(closing)) => Ok(self.step_closing(closing)),
+        }
+    }
+
+    // The call in flight makes its next step, which breaks it off.
+    fn break_off(&mut self, alloc: Global, how: Breaking) -> Said
+        requires fits { Fits self.old }
+        requires few { self.old.seat.committed < 2 ^ 63 }
+        ensures { ComesTo self.old self.new
+            (acted (instance_in self.old) (slot_in self.old) (Action.Break how)) result }
+    {
+        match self.flight.take() {
+            None => Said::Idle,
+            Some(Flight::Asks(asking)) => self.break_asking(alloc, asking, how),
+            Some(Flight::Closes(closing)) => self.break_closing(closing, how),
+        }
+    }
+
+    /// A call is over: counts what it committed, and keeps the snapshot that it hands out.
+    pub fn end(&mut self, called: Called) -> Said
+        requires { IsSome called.snapshot
+            → vec_len self.old.seat.issued < vec_capacity self.old.seat.issued }
+        ensures { EndsIn called self.old self.new result }
+    {
+        let reply = self.seat.end(called);
+        self.register = *self.seat.platform.register();
+        Said::Replied(reply)
+    }
+}
