@@ -3,16 +3,15 @@ use Rattle.mm_opt.proofs.Below.{◌≡◌, ℕ, Bool, true, false, List, Option,
 use Rattle.mm_opt.proofs.Below.{bytes_eq}
 use Rattle.mm_opt.proofs.Below.{Variant, Basic, Opt, zero_bytes, StepFault, Standing, ReadCell, WriteCell, ReadRegister, Goes, Cell}
 use Rattle.mm_opt.proofs.Below.{CellFault}
-use Rattle.mm_opt.proofs.Below.{Blames, blamed, blamed_later, read_untouched, Checkpointed, CheckpointRefusal, Segment, Open, Shut, OneStep}
-use Rattle.mm_opt.proofs.Below.{TwoSteps, closing_fault_of, closing_fault_in, segment_by, segment_in, closed_cell, closing_by, Looks}
+use Rattle.mm_opt.proofs.Below.{Blames, blamed, blamed_later, read_untouched, register_untouched, then_untouched, Checkpointed, CheckpointRefusal, Segment, Open, Shut, StepsAre}
+use Rattle.mm_opt.proofs.Below.{closing_fault_of, closing_fault_in, segment_by, segment_in, closed_cell, closing_by, Looks}
 use Rattle.mm_opt.proofs.Below.{FindsSegment, Weighs}
 use Rattle.mm_opt.proofs.Below.{Closes, closing_handed_on, EndsClosing, EndsLooking, ClosesSegment, LeavesStill, ClosingStepsRefused}
 use Rattle.mm_opt.proofs.Below.{ClosingStepsBy}
 use Rattle.mm_seal.specs.declared.cell.CellFault.TheVariants as fault
 use Rattle.mm_opt.specs.declared.segment.Checkpointed.TheVariants.{Done, NoSegment}
 use Rattle.mm_opt.specs.declared.segment.CheckpointRefusal.TheVariants as refusal
-use Rattle.mm_opt.specs.Checkpoints.{FindsClosing, ThreeStepsAndWrite, one_step, two_steps, three_steps}
-use Rattle.mm_opt.proofs.Asking.{register_untouched, then_untouched}
+use Rattle.mm_opt.specs.Checkpoints.{FindsClosing, one_step, two_steps, three_steps}
 
 -- what a checkpoint gives by its last step
 abbrev pub closed_or : Option StepFault → Result Checkpointed CheckpointRefusal
@@ -98,7 +97,7 @@ never_lost (Err fault.Blank) e = cc
 never_lost (Err fault.Cell) e = cc
 never_lost (Ok cell) e = never_by cell.variant cell.flag cell e
 
-first_steps : (why : CheckpointRefusal) (old one : Standing) → OneStep old one → (closing_fault_of why ≡ None → FindsSegment old (Err why))
+first_steps : (why : CheckpointRefusal) (old one : Standing) → StepsAre 1 0 old one → (closing_fault_of why ≡ None → FindsSegment old (Err why))
     → ClosingStepsRefused why old one
 first_steps (refusal.Device fault) old one s f = one_step s
 first_steps refusal.Lost old one s f = absurd (never_lost (f refl).sees.read (f refl).sees.found_is)
@@ -113,7 +112,7 @@ pub closing_is : (lost : Bool) (cell : Cell) (register : List ℕ) → ClosingIs
 closing_is true cell register = (refl, refl)
 closing_is false cell register = (refl, refl)
 
-later_steps : (why : CheckpointRefusal) (cell : Cell) (old two : Standing) → TwoSteps old two
+later_steps : (why : CheckpointRefusal) (cell : Cell) (old two : Standing) → StepsAre 2 0 old two
     → (closing_fault_of why ≡ None → FindsClosing cell two (Err why)) → ClosingStepsRefused why old two
 later_steps (refusal.Device fault) cell old two s f = two_steps s
 later_steps _ cell old two s f =
@@ -122,7 +121,7 @@ later_steps _ cell old two s f =
     (closing_is (bytes_eq w.register zero_bytes) cell w.register) in
     subst (λ (x : CheckpointRefusal). ClosingStepsRefused x old two) (sym c.1) s
 
-last_steps : (fault : Option StepFault) (old new : Standing) → ThreeStepsAndWrite old new → ClosingStepsBy (closed_or fault) old new
+last_steps : (fault : Option StepFault) (old new : Standing) → StepsAre 3 1 old new → ClosingStepsBy (closed_or fault) old new
 last_steps None old new s = s
 last_steps (Some fault) old new s = three_steps s
 

@@ -20,7 +20,7 @@ use Rattle.mm_call.specs.Found.{Found}
 use Rattle.mm_call.specs.Courses.{Fails}
 use Rattle.mm_call.specs.Tied.{standing_items, foreign_items}
 use Rattle.mm_call.specs.ShowingLaws.{shown_same, counts_open}
-use Rattle.mm_opt.specs.Complete.{AnswersAccepted}
+use Rattle.mm_call.specs.Complete.{IsComplete}
 use Rattle.mm_opt.proofs.Going.{calls_on}
 
 -- What the verdict accepts.
@@ -117,7 +117,7 @@ answered_by None true i sees end b moves old new x finds blames = rw (finds refl
 
 pub complete : (meaning : Meaning) (old new : Standing) (offer : List ℕ) (batch : Batch) (result : Result BatchAnswer Refusal)
     → Calls opt_call meaning old new offer batch result → Blames (fault_in result) old.faults new.faults
-    → AnswersAccepted meaning old new offer batch result
+    → IsComplete Opt meaning old new offer batch result
 complete meaning old new offer batch result calls blames short key barrier y all others asked items more content s known ends alone a
     shown_so right accepted few =
     let i : Instance = opt meaning key barrier in

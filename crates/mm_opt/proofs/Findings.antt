@@ -1,27 +1,20 @@
 -- What is found, and the room that is made after it.
-use Rattle.mm_opt.proofs.Below.{◌≡◌, ℕ, Bool, true, false, List, length, None, Result, Ok, Err, refl, sym, ◌∙◌, subst}
+use Rattle.mm_opt.proofs.Below.{◌≡◌, ℕ, Bool, true, false, List, length, None, Result, Ok, Err, refl, sym, subst}
 use Rattle.mm_opt.proofs.Below.{inl, inr, arith, IsTrue, nat_tests, Standing}
 use Rattle.mm_opt.proofs.Below.{nat_le, bytes_eq, last_position, IsLawful, Meaning, Batch, size_of, Cell, CellFault, Blank, IsCell}
 use Rattle.mm_opt.proofs.Below.{Unspelled, PartsFault, Form, Kind, Snapshot, tag_of, BatchAnswer, Refusal, Verdict, Fresh, Again}
 use Rattle.mm_opt.proofs.Below.{admitted, examined, weighed, fault_of, fault_in, OrMemory, Found, Repeat, Change, Extending, Emptying}
 use Rattle.mm_opt.proofs.Below.{is_cell_of, own_cell, cell_in, batch_value, has_lost_power, verdict_of, answer_of, answer_in, change_by}
-use Rattle.mm_opt.proofs.Below.{found_from, found_in_offer, found_unless, found_in, opened_cell, ReadsOwnCell}
-use Rattle.mm_opt.proofs.Below.{ReadsRegister, ReadsOn, OneStep, TwoSteps, one_step, two_steps, StepsRefused, extension_at, extension_after}
-use Rattle.mm_opt.proofs.Below.{place_after, length-zero_bytes, length-extended_of}
+use Rattle.mm_opt.proofs.Below.{found_from, found_in_offer, found_unless, found_in, opened_cell}
+use Rattle.mm_opt.proofs.Below.{Opt, StepsAre, one_step, two_steps, StepsRefused, extension_at, extension_after, place_after}
+use Rattle.mm_opt.proofs.Below.{length-zero_bytes, length-extended_of}
 use Rattle.std.specs.Prelude.{◌+◌}
 use Rattle.mm_machine.specs.declared.change.Change as change
 use Rattle.mm_model.specs.Fit.{IsFit}
 use Rattle.mm_model.specs.FitLaws.{is_fit}
 use Rattle.mm_model.specs.declared.refusal.Refusal.TheVariants as refusal
 use Rattle.mm_call.specs.WeighingLaws.{weighed_only}
-
--- want of memory, twice
-pub or_then : (x : Result Found Refusal) (found : Found) (result : Result Found Refusal) → OrMemory x (Ok found) → OrMemory (Ok found) result
-    → OrMemory x result
-or_then (Err why) found result o p = cc
-or_then (Ok it) found result (inl e) (inl f) = inl (f ∙ e)
-or_then (Ok it) found result (inl e) (inr f) = inr f
-or_then (Ok it) found result (inr e) p = cc
+use Rattle.mm_opt.proofs.Reading.{ReadsOwnCell, ReadsRegister}
 
 -- the cell that is seen is the one that was read
 pub own_is : (t : Bool) (cell seen : Cell) → own_cell t cell ≡ Ok seen → seen ≡ cell
@@ -30,10 +23,10 @@ own_is false cell seen e = cc
 
 -- what the first step refuses, and what the second does: by the steps that are counted of it
 abbrev pub IsFirst : Refusal → Type 0
-IsFirst why = (old new : Standing) → OneStep old new → StepsRefused why old new
+IsFirst why = (old new : Standing) → StepsAre 1 0 old new → StepsRefused Opt why old new
 
 abbrev pub IsSecond : Refusal → Type 0
-IsSecond why = (old new : Standing) → TwoSteps old new → StepsRefused why old new
+IsSecond why = (old new : Standing) → StepsAre 2 0 old new → StepsRefused Opt why old new
 
 abbrev IsFirstIn : Result Cell Refusal → Type 0
 IsFirstIn (Ok cell) = Unit {0}
@@ -61,7 +54,7 @@ pub first_refused : (id : ℕ) (old new : Standing) (why : Refusal) → ReadsOwn
 first_refused id old new why r =
     first_unless why (λ (h : fault_of why ≡ None).
     let f = r.finds h in
-    subst IsFirstIn (sym f.sees.found_is) (first_cell_in id f.sees.read))
+    subst IsFirstIn (sym f.said.found_is) (first_cell_in id f.said.read))
 
 -- an answer found says whether it is a repeat's
 abbrev pub IsShaped : Result Found Refusal → Type 0
@@ -156,17 +149,11 @@ module _ (meaning : Meaning) (cell : Cell) (b : Batch) where
   made_unless (Ok found) h = h refl
 
   -- what the second step finds
-  pub made : (old new : Standing) (offer : List ℕ) (found : Result Found Refusal) → ReadsRegister meaning cell old new offer b found
+  pub made : (offer : List ℕ) (old new : Standing) (found : Result Found Refusal) → ReadsRegister meaning offer b cell old new found
       → IsMade found
-  made old new offer found r =
+  made offer old new found r =
       made_unless found (λ (h : fault_in found ≡ None).
       let f = r.finds h in
-      or_made (found_in meaning cell f.register f.finds.taken b) found
-      (unless_made (has_lost_power cell f.register) (found_in_offer meaning cell f.register f.finds.taken b)
-      (at_made f.register f.size f.finds.taken)) f.finds.found_is)
-
--- what was found, once the cell and the register were read
-pub reads_shaped : (seen : Result Cell Refusal) (meaning : Meaning) (old new : Standing) (offer : List ℕ) (b : Batch) (found : Found)
-    → ReadsOn meaning seen old new offer b (Ok found) → IsShaped (Ok found)
-reads_shaped (Err why) meaning old new offer b found on = let e : Ok found ≡ Err why = on.1 in absurd (cc)
-reads_shaped (Ok cell) meaning old new offer b found on = (made meaning cell b old new offer (Ok found) on).shape
+      or_made (found_in meaning cell f.register f.said.taken b) found
+      (unless_made (has_lost_power cell f.register) (found_in_offer meaning cell f.register f.said.taken b)
+      (at_made f.register f.size f.said.taken)) f.said.found_is)

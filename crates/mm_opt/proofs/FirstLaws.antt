@@ -10,19 +10,18 @@ first_anchor id said anchor id_is start_is = start_is ∙ ap (start_of Opt) id_i
 abbrev pub made_cell : ℕ → Digest → List ℕ → List ℕ → Cell
 made_cell id anchor key barrier = record { variant = Opt; «module» = id; flag = false; summary = anchor; key = key; barrier = barrier }
 
-abbrev pub made_content : ℕ → Digest → Digest → List ℕ → Content
-made_content id anchor extension state = record { id = id; place = InOpt anchor extension; position = 0; state = state }
+abbrev pub made_content : Meaning → Digest → Digest → Content
+made_content meaning anchor extension =
+    record { id = meaning.id; place = InOpt anchor extension; position = 0; state = meaning.first }
 
-pub first_cell : (meaning : Meaning) (said : ℕ) (anchor : Digest) (key barrier : List ℕ) → said ≡ meaning.id
-    → anchor.bytes ≡ start_of Opt said
-    → cell_spelling (made_cell said anchor key barrier) ≡ cell_spelling (cell_of (opt meaning key barrier) first_history)
-first_cell meaning said anchor key barrier id_is start_is =
-    let a = first_anchor meaning.id said anchor id_is start_is in
-    λ j. cell_spelling (made_cell (id_is j) (digest_of (a j)) key barrier)
+module _ (meaning : Meaning) (said : ℕ) (anchor : Digest) (key barrier : List ℕ) (id_is : said ≡ meaning.id)
+    (start_is : anchor.bytes ≡ start_of Opt said) where
+  pub first_cell : cell_spelling (made_cell said anchor key barrier) ≡ cell_spelling (cell_of (opt meaning key barrier) first_history)
+  first_cell =
+      let a = first_anchor meaning.id said anchor id_is start_is in λ j. cell_spelling (made_cell (id_is j) (digest_of (a j)) key barrier)
 
-pub first_snapshot : (meaning : Meaning) (said : ℕ) (anchor extension : Digest) (key barrier state : List ℕ) → said ≡ meaning.id
-    → anchor.bytes ≡ start_of Opt said → extension.bytes ≡ zero_bytes → state ≡ meaning.first
-    → sealed_of key (made_content said anchor extension state) ≡ issued_bytes (opt meaning key barrier) first_history
-first_snapshot meaning said anchor extension key barrier state id_is start_is extension_is state_is =
-    let a = first_anchor meaning.id said anchor id_is start_is in
-    λ j. sealed_of key (made_content (id_is j) (digest_of (a j)) (digest_of (extension_is j)) (state_is j))
+  pub first_snapshot : (extension : Digest) → extension.bytes ≡ zero_bytes
+      → sealed_of key (made_content meaning anchor extension) ≡ issued_bytes (opt meaning key barrier) first_history
+  first_snapshot extension extension_is =
+      let a = first_anchor meaning.id said anchor id_is start_is in
+      λ j. sealed_of key (made_content meaning (digest_of (a j)) (digest_of (extension_is j)))

@@ -7,13 +7,15 @@ use Rattle.mm_opt.proofs.Below.{CallsOn, Course, Fate, step_moves, refused_as, C
 use Rattle.mm_opt.proofs.Below.{is_fresh, all_made, by_digests, fault_of, fault_in, cell_at, StandsAt}
 use Rattle.mm_opt.proofs.Below.{with_register, IsWrite, changing, asks, fate_of, ends_fates, tale_on, reading_tale, MakesAll, AsMade}
 use Rattle.mm_opt.proofs.Below.{Told, course_by, lacks_in, told_on, refused_reading, told_reading, sees, finds, opt_calls_agree}
-use Rattle.mm_opt.proofs.Below.{Found, Repeat, Change, Extending, Emptying, Placing, Writing, Opening, opened_cell, acts_left, FindsCell, ReadsOwnCell, ReadsRegister}
-use Rattle.mm_opt.proofs.Below.{ReadsOn, Reads, acts_for, opt_call}
+use Rattle.mm_opt.proofs.Below.{Found, Repeat, Change, Extending, Emptying, Opening, opened_cell, acts_left, acts_for}
+use Rattle.mm_opt.proofs.Below.{Begun, CallFinishes, CallReads, opt_asked, opt_call}
 use Rattle.std.specs.Prelude.{◌≤◌}
 use Rattle.mm_call.proofs.Above.{Accepts}
+use Rattle.mm_machine.specs.Reading.{CellSays}
 use Rattle.mm_machine.specs.declared.change.Change as change
 use Rattle.mm_call.proofs.Above as completing
-use Rattle.mm_opt.proofs.Acting.{room_only}
+use Rattle.mm_opt.specs.Seen.{SeesCell}
+use Rattle.mm_opt.proofs.Reading.{ReadsOn, ReadsOwnCell, ReadsRegister, reads_told, room_only}
 use Rattle.mm_opt.proofs.Asking.{refused_first}
 use Rattle.mm_opt.proofs.Accepting.{AsFound, IsForIn, as_found}
 use Rattle.mm_opt.proofs.Stepping.{two_brought, seen_is, change_inside, change_emptied, change_placed, write_opened, reset_kept}
@@ -62,8 +64,7 @@ module _ (meaning : Meaning) (key barrier : List ℕ) (seen : Digests) (b : Batc
   change_made (Emptying opening) x answer is for so =
       let same : changing seen.flag (is_fresh x) b ≡ changing false true b = simp (so.found_is, for.0) in
       subst (MakesAll here seen (acts_left (Emptying opening))) (sym same) (opening_made opening for.0 for.1 for.2 is)
-  change_made (Placing opening) x answer is for so = absurd for
-  change_made (Writing next) x answer is for so = absurd for
+  change_made _ x answer is for so = absurd for
 
   as_made : (found : Result Found Refusal) (x : Result Accepted Refusal) → IsCell (cell_at here seen) → AsFound here seen b x found
       → AsMade opt_call here seen b x found (changing seen.flag (is_fresh x) b)
@@ -77,7 +78,7 @@ module _ (meaning : Meaning) (key barrier : List ℕ) (seen : Digests) (b : Batc
 -- The reading steps
 
 unseen : (why : Refusal) (meaning : Meaning) (key barrier : List ℕ) (d : Digests) (old : Standing)
-    → StandsAt (opt meaning key barrier) old d → FindsCell meaning.id old (Err why) → ⊥
+    → StandsAt (opt meaning key barrier) old d → CellSays old (λ bytes. SeesCell meaning.id bytes (Err why)) → ⊥
 unseen why meaning key barrier d old s f =
     let i : Instance = opt meaning key barrier in
     let e : Err why ≡ Ok (cell_at i d) = seen_cell meaning key barrier d old (Err why) f s in cc
@@ -110,7 +111,7 @@ module _ (meaning : Meaning) (offer : List ℕ) (b : Batch) (old new : Standing)
 
   -- where it doesn't
   found_to : (cell : Cell) (found : Result Found Refusal) (one two : Standing) → ReadsOwnCell meaning.id old one (Ok cell)
-      → ReadsRegister meaning cell one two offer b found → EndsTo opt_call found two new ended → CallsTo Opt meaning old new offer b ended
+      → ReadsRegister meaning offer b cell one two found → EndsTo opt_call found two new ended → CallsTo Opt meaning old new offer b ended
   found_to cell found one two r on e =
       let later : List Fate = fate_of ReadRegister one on.middle (fault_in found) on.goes ∷ ends_fates opt_call found two new ended e in
       let lacks : Bool = lacks_in found in
@@ -135,7 +136,7 @@ module _ (meaning : Meaning) (offer : List ℕ) (b : Batch) (old new : Standing)
       subst (λ (y : Digests). AsMade opt_call i y (normal b) (x y) found (changing d.flag (is_fresh (x y)) (normal b)))
       (sym (two_brought i d r.goes.others on.goes.others))
       (as_made meaning key barrier (with_register d value) (normal b) found (x (with_register d value)) s.spells
-      (as_found meaning key barrier (with_register d value) b offer found (rw (own, read) at f.finds))) in
+      (as_found meaning key barrier (with_register d value) b offer found (rw (own, read) at f.said))) in
       subst (λ (y : Digests). Told i d y fates 1 (ask_steps Opt d.flag (is_fresh (x y)) (normal b)) (normal b) (x y) old new ended)
       (sym (seen_is i d r.goes.others on.goes.others))
       (subst (λ (st : List Step). Told i d seen fates 1 st (normal b) (x seen) old new ended)
@@ -148,18 +149,29 @@ module _ (meaning : Meaning) (offer : List ℕ) (b : Batch) (old new : Standing)
 -- a call from its first step to its end
 pub calls_to : (meaning : Meaning) (old new : Standing) (offer : List ℕ) (b : Batch) (ended : Ended)
     → AsksTo opt_call meaning old new offer b ended → CallsTo Opt meaning old new offer b ended
-calls_to meaning old new offer b ended a = by_cell a.reads.cell a.reads.reads a.reads.on
+calls_to meaning old new offer b ended a =
+    let r = reads_told meaning offer b old a.middle a.found a.reads in by_cell r.cell r.middle r.reads r.on
   where
-    by_cell : (cell : Result Cell Refusal) → ReadsOwnCell meaning.id old a.reads.middle cell
-        → ReadsOn meaning cell a.reads.middle a.middle offer b a.found → CallsTo Opt meaning old new offer b ended
-    by_cell (Err why) r on =
-        refused_to meaning offer b old new ended why a.reads.middle r
-        (refused_first why a.found meaning a.reads.middle a.middle new offer b ended on a.ends)
-    by_cell (Ok cell) r on = found_to meaning offer b old new ended cell a.found a.reads.middle a.middle r on a.ends
+    by_cell : (cell : Result Cell Refusal) (one : Standing) → ReadsOwnCell meaning.id old one cell
+        → ReadsOn meaning offer b cell one a.middle a.found → CallsTo Opt meaning old new offer b ended
+    by_cell (Err why) one r on =
+        refused_to meaning offer b old new ended why one r
+        (refused_first why a.found meaning one a.middle new offer b ended on a.ends)
+    by_cell (Ok cell) one r on = found_to meaning offer b old new ended cell a.found one a.middle r on a.ends
+
+-- a call that was finished from its begin
+pub finished_asks : (meaning : Meaning) (old new : Standing) (offer : List ℕ) (b : Batch) (ended : Ended)
+    → CallFinishes (opt_asked meaning offer b) Begun old new ended → AsksTo opt_call meaning old new offer b ended
+finished_asks meaning old new offer b ended f =
+    completing.finished_asks Opt opt_asked meaning offer b (λ answer. refl) old new ended f
+
+pub finished_to : (meaning : Meaning) (old new : Standing) (offer : List ℕ) (b : Batch) (ended : Ended)
+    → CallFinishes (opt_asked meaning offer b) Begun old new ended → CallsTo Opt meaning old new offer b ended
+finished_to meaning old new offer b ended f = calls_to meaning old new offer b ended (finished_asks meaning old new offer b ended f)
 
 -- the reading steps of a call, with the steps that commit what they found, are the whole call
 pub prepared : (meaning : Meaning) (old new : Standing) (offer : List ℕ) (b : Batch) (found : Result Found Refusal)
-    → Reads meaning old new offer b found → IsCallSoFar opt_call meaning old new offer b found
+    → CallReads (opt_asked meaning offer b) old new found → IsCallSoFar opt_call meaning old new offer b found
 prepared meaning old new offer b found r =
     completing.so_far opt_call meaning old new offer b found
     (λ (after : Standing) (ended : Ended) (a : AsksTo opt_call meaning old after offer b ended).

@@ -2,8 +2,9 @@ pub mod Above
 mod Below
 mod Guards
 mod FirstLaws
+mod Reading
 mod Findings
-mod Told
+mod Numbering
 mod Asking
 mod Writing
 mod ClosingByMachine
@@ -13,6 +14,5 @@ mod Accepting
 mod Stepping
 mod Going
 mod Checking
-mod Finishing
 mod Completeness
 mod Asked

@@ -7,7 +7,9 @@ use Rattle.mm_opt.proofs.Below.{Foreign, Placed, Reset, Digests, made, Refusal}
 use Rattle.mm_opt.proofs.Below.{all_made, by_digests}
 use Rattle.mm_opt.proofs.Below.{cell_at, StandsAt, shown_by, IsChange, IsWrite, reads_of, reads_beside, StepFault, Goes, ReadCell}
 use Rattle.mm_opt.proofs.Below.{ReadRegister}
-use Rattle.mm_opt.proofs.Below.{with_register, foreign_made, all_made-append, FindsCell}
+use Rattle.mm_opt.proofs.Below.{with_register, foreign_made, all_made-append}
+use Rattle.mm_machine.specs.Reading.{CellSays}
+use Rattle.mm_opt.specs.Seen.{SeesCell}
 use Rattle.std.proofs.lemmas.List.{append-nil}
 
 -- The steps of a call
@@ -86,12 +88,12 @@ same_number n = grind (arith, nat_tests)
 
 -- the cell that is found
 pub seen_cell : (meaning : Meaning) (key barrier : List ℕ) (d : Digests) (old : Standing) (found : Result Cell Refusal)
-    → FindsCell meaning.id old found → StandsAt (opt meaning key barrier) old d → found ≡ Ok (cell_at (opt meaning key barrier) d)
+    → CellSays old (λ bytes. SeesCell meaning.id bytes found) → StandsAt (opt meaning key barrier) old d → found ≡ Ok (cell_at (opt meaning key barrier) d)
 seen_cell meaning key barrier d old found f s =
     let i : Instance = opt meaning key barrier in
-    let same : f.sees.read ≡ Ok (cell_at i d) =
-    reads_cell-same f.bytes f.sees.read (Ok (cell_at i d)) f.sees.reads (s.spells, f.told (cell_spelling (cell_at i d)) s.cell) in
-    f.sees.found_is ∙ simp (same, same_number meaning.id)
+    let same : f.said.read ≡ Ok (cell_at i d) =
+    reads_cell-same f.bytes f.said.read (Ok (cell_at i d)) f.said.reads (s.spells, f.told (cell_spelling (cell_at i d)) s.cell) in
+    f.said.found_is ∙ simp (same, same_number meaning.id)
 
 -- the register's value that is read
 read_value : (items : Option (List Item)) (r register : List ℕ) → reads_of items ≡ Some r

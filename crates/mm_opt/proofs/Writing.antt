@@ -2,14 +2,13 @@
 use Rattle.mm_opt.proofs.Below.{◌≡◌, ℕ, true, false, List, Some, Result, Ok, Err, refl, sym, ap, ◌∙◌, inl, inr, counted, Standing}
 use Rattle.mm_opt.proofs.Below.{Meaning, Batch, Cell, CellFault, IsCell, cell_spelling, reads_cell-same, is_long, BatchAnswer, Refusal}
 use Rattle.mm_opt.proofs.Below.{Long}
-use Rattle.mm_opt.proofs.Below.{Ended, goes_on, breaks_off, StepsTo, AsksTo, Calls, result_of, each_call, answered_result, Found, Repeat, Change, Extending, Emptying, Placing, Writing}
-use Rattle.mm_opt.proofs.Below.{acts_left, is_cell_of, cell_in, ReadsOwnCell, ReadsRegister, acts_for, answer_in, opt_call, TwoSteps}
-use Rattle.mm_opt.proofs.Below.{three_steps, four_steps, five_steps, StepsRefused, StepsBy, WritesBy}
+use Rattle.mm_opt.proofs.Below.{Ended, goes_on, breaks_off, StepsTo, AsksTo, Calls, result_of, each_call, answered_result, Found, Repeat, Change, Extending, Emptying}
+use Rattle.mm_opt.proofs.Below.{acts_left, is_cell_of, cell_in, acts_for, answer_in, opt_call, Opt, StepsAre}
+use Rattle.mm_opt.proofs.Below.{three_steps, four_steps, five_steps, StepsRefused, StepsBy, WritesByFlag}
 use Rattle.mm_machine.specs.declared.change.Change as change
 use Rattle.mm_model.specs.declared.refusal.Refusal.TheVariants.{Device}
-use Rattle.mm_opt.specs.Asks.{ThreeSteps, FiveSteps}
-use Rattle.mm_opt.proofs.Acting.{room_only}
 use Rattle.mm_opt.proofs.Findings.{Made, own_is, first_refused, made}
+use Rattle.mm_opt.proofs.Reading.{ReadsOwnCell, ReadsRegister, room_only}
 use Rattle.mm_opt.proofs.Asking.{Each, each_ask}
 
 -- the cell that is seen is the one that is told
@@ -18,12 +17,12 @@ told_cell : (id : ℕ) (old one : Standing) (cell seen : Cell) → ReadsOwnCell 
 told_cell id old one cell seen r is told =
     let f = r.finds refl in
     let e : f.bytes ≡ cell_spelling cell = f.told (cell_spelling cell) told in
-    let same : f.sees.read ≡ Ok cell = reads_cell-same f.bytes f.sees.read (Ok cell) f.sees.reads (is, e) in
-    own_is (is_cell_of id cell) cell seen (sym (f.sees.found_is ∙ ap (λ (x : Result Cell CellFault). cell_in id x) same))
+    let same : f.said.read ≡ Ok cell = reads_cell-same f.bytes f.said.read (Ok cell) f.said.reads (is, e) in
+    own_is (is_cell_of id cell) cell seen (sym (f.said.found_is ∙ ap (λ (x : Result Cell CellFault). cell_in id x) same))
 
 -- the reading steps
 two_made : (meaning : Meaning) (cell : Cell) (offer : List ℕ) (b : Batch) (found : Result Found Refusal) (old one two : Standing)
-    → ReadsOwnCell meaning.id old one (Ok cell) → ReadsRegister meaning cell one two offer b found → TwoSteps old two
+    → ReadsOwnCell meaning.id old one (Ok cell) → ReadsRegister meaning offer b cell one two found → StepsAre 2 0 old two
 two_made meaning cell offer b found old one two r on =
     let room = room_only found on.middle two on.room in (
       ap (λ (s : Standing). s.steps) room ∙ on.goes.steps ∙ ap counted r.goes.steps,
@@ -32,16 +31,16 @@ two_made meaning cell offer b found old one two r on =
 
 -- What is counted of a call.
 abbrev Counted : Standing → Standing → Result BatchAnswer Refusal → Type 0
-Counted old new result = StepsBy result old new × WritesBy result old new
+Counted old new result = StepsBy Opt result old new × WritesByFlag result old new
 
-quiet_writes : (why : Refusal) (old new : Standing) → new.writes ≡ old.writes → WritesBy (Err why) old new
+quiet_writes : (why : Refusal) (old new : Standing) → new.writes ≡ old.writes → WritesByFlag (Err why) old new
 quiet_writes why old new w = record { once = inl w; inside = λ cell is told set. w; answers = λ cell is told. tt }
 
-quiet : (why : Refusal) (old new : Standing) → StepsRefused why old new → new.writes ≡ old.writes → Counted old new (Err why)
+quiet : (why : Refusal) (old new : Standing) → StepsRefused Opt why old new → new.writes ≡ old.writes → Counted old new (Err why)
 quiet why old new s w = (s, quiet_writes why old new w)
 
 -- the changing steps
-module _ (meaning : Meaning) (b : Batch) (old two new : Standing) (cell : Cell) (ended : Ended) (t : TwoSteps old two)
+module _ (meaning : Meaning) (b : Batch) (old two new : Standing) (cell : Cell) (ended : Ended) (t : StepsAre 2 0 old two)
     (told : (c : Cell) → IsCell c → old.cell ≡ Some (cell_spelling c) → cell ≡ c) where
   -- a segment was opened, so the flag is clear
   shut : cell.flag ≡ false → (c : Cell) → IsCell c → old.cell ≡ Some (cell_spelling c) → c.flag ≡ true → ⊥
@@ -54,7 +53,7 @@ module _ (meaning : Meaning) (b : Batch) (old two new : Standing) (cell : Cell) 
   change_counted (Extending value) answer m (breaks_off fault g e) =
       rw e (quiet (Device fault) old new (three_steps (g.steps ∙ ap counted t.0, g.writes ∙ t.1)) (g.writes ∙ t.1))
   change_counted (Extending value) answer m (goes_on last g s) =
-      let three : ThreeSteps old last = (g.steps ∙ ap counted t.0, g.writes ∙ t.1) in
+      let three : StepsAre 3 0 old last = (g.steps ∙ ap counted t.0, g.writes ∙ t.1) in
       answered_result (Counted old) answer last new ended s (
         rw m.shape (inl three),
         record {
@@ -69,7 +68,7 @@ module _ (meaning : Meaning) (b : Batch) (old two new : Standing) (cell : Cell) 
       rw e (quiet (Device fault) old new (four_steps (h.steps ∙ ap counted (g.steps ∙ ap counted t.0), h.writes ∙ g.writes ∙ t.1))
       (h.writes ∙ g.writes ∙ t.1))
   change_counted (Emptying opening) answer m (goes_on third g (goes_on fourth h (breaks_off fault k e))) =
-      let five : FiveSteps old new =
+      let five : StepsAre 5 1 old new =
       (k.steps ∙ ap counted (h.steps ∙ ap counted (g.steps ∙ ap counted t.0)), k.writes ∙ ap counted (h.writes ∙ g.writes ∙ t.1)) in
       rw e (
         five_steps five,
@@ -80,7 +79,7 @@ module _ (meaning : Meaning) (b : Batch) (old two new : Standing) (cell : Cell) 
         },
       )
   change_counted (Emptying opening) answer m (goes_on third g (goes_on fourth h (goes_on last k s))) =
-      let five : FiveSteps old last =
+      let five : StepsAre 5 1 old last =
       (k.steps ∙ ap counted (h.steps ∙ ap counted (g.steps ∙ ap counted t.0)), k.writes ∙ ap counted (h.writes ∙ g.writes ∙ t.1)) in
       answered_result (Counted old) answer last new ended s (
         rw m.shape (inr five),
@@ -90,8 +89,7 @@ module _ (meaning : Meaning) (b : Batch) (old two new : Standing) (cell : Cell) 
           answers = λ c is at. rw (← told c is at, m.by_flag, m.shape) five;
         },
       )
-  change_counted (Placing opening) answer m s = absurd m.by_flag
-  change_counted (Writing next) answer m s = absurd m.by_flag
+  change_counted _ answer m s = absurd m.by_flag
 
   commits_counted : (found : Found) → Made meaning cell b found → StepsTo (acts_for found) (answer_in found) two new ended
       → Counted old new (result_of ended)
@@ -105,22 +103,22 @@ each_counted meaning offer b old = record {
       quiet why old one (first_refused meaning.id old one why r old one (r.goes.steps, r.goes.writes)) r.goes.writes;
   later_refuses = λ why cell one two r on.
       let t = two_made meaning cell offer b (Err why) old one two r on in
-      quiet why old two (made meaning cell b one two offer (Err why) on old two t) t.1;
+      quiet why old two (made meaning cell b offer one two (Err why) on old two t) t.1;
   commits = λ found cell one two new ended r on s.
       commits_counted meaning b old two new cell ended (two_made meaning cell offer b (Ok found) old one two r on)
-      (λ c is told. told_cell meaning.id old one c cell r is told) found (made meaning cell b one two offer (Ok found) on) s;
+      (λ c is told. told_cell meaning.id old one c cell r is told) found (made meaning cell b offer one two (Ok found) on) s;
 }
 
 pub steps : (meaning : Meaning) (old new : Standing) (offer : List ℕ) (b : Batch) (result : Result BatchAnswer Refusal)
-    → Calls opt_call meaning old new offer b result → is_long b ≡ false → StepsBy result old new
+    → Calls opt_call meaning old new offer b result → is_long b ≡ false → StepsBy Opt result old new
 steps meaning old new offer b result c short =
     let k = c.asks short in
     rw k.gives (each_ask meaning offer b old (Counted old) (each_counted meaning offer b old) new k.ended k.asks).0
 
 pub writes : (meaning : Meaning) (old new : Standing) (offer : List ℕ) (b : Batch) (result : Result BatchAnswer Refusal)
-    → Calls opt_call meaning old new offer b result → WritesBy result old new
+    → Calls opt_call meaning old new offer b result → WritesByFlag result old new
 writes meaning old new offer b result =
-    each_call opt_call meaning old new offer b (λ (s : Standing) (r : Result BatchAnswer Refusal). WritesBy r old s) result
+    each_call opt_call meaning old new offer b (λ (s : Standing) (r : Result BatchAnswer Refusal). WritesByFlag r old s) result
     (quiet_writes Long old old refl)
     (λ (ended : Ended) (a : AsksTo opt_call meaning old new offer b ended).
     (each_ask meaning offer b old (Counted old) (each_counted meaning offer b old) new ended a).1)

@@ -1,18 +1,18 @@
 -- The device steps of a checkpoint: what each does to the platform, and what it gives.
-use Rattle.std.specs.Prelude.{◌≡◌, ℕ, Bool, true, false, List, Option, None, Some, Result, Ok, Err}
+use Rattle.std.specs.Prelude.{◌≡◌, ℕ, Bool, true, false, List, Option, None, Some, Result, Ok, Err, IfOk}
+use Rattle.std.specs.Result.{result_err}
 use Rattle.std.specs.Str.{bytes_eq}
 use Rattle.mm_opt.specs.Below.{zero_bytes, anchored_of, Variant, Basic, Opt, ReadsCell, cell_spelling, Cell, CellFault, Item}
-use Rattle.mm_opt.specs.Below.{Standing, item_values, register_after, Act, ReadCell, WriteCell, ReadRegister, Goes, StepFault, digest_of}
+use Rattle.mm_opt.specs.Below.{Standing, item_values, register_after, ReadCell, WriteCell, ReadRegister, Goes, StepFault, digest_of}
 use Rattle.mm_opt.specs.Below.{IsUntouched}
 use Rattle.mm_seal.specs.declared.cell.CellFault.TheVariants as fault
+use Rattle.mm_call.specs.Counts.{StepsAre}
 use Rattle.mm_opt.specs.declared.segment.Checkpointed.{Checkpointed}
 use Rattle.mm_opt.specs.declared.segment.Checkpointed.TheVariants.{Done, NoSegment}
 use Rattle.mm_opt.specs.declared.segment.CheckpointRefusal.{CheckpointRefusal}
 use Rattle.mm_opt.specs.declared.segment.CheckpointRefusal.TheVariants as refusal
 use Rattle.mm_opt.specs.declared.segment.Segment.{Segment}
 use Rattle.mm_opt.specs.declared.segment.Segment.TheVariants.{Open, Shut}
-use Rattle.mm_opt.specs.Steps.{Makes}
-use Rattle.mm_opt.specs.Asks.{OneStep, StepsAre, TwoSteps}
 
 -- the fault of a device step that a refusal hands on
 abbrev pub closing_fault_of : CheckpointRefusal → Option StepFault
@@ -84,9 +84,11 @@ pub record Weighs (cell : Cell) (old new : Standing)
   pub goes : Goes ReadRegister old new (closing_fault_in found)
   pub finds : closing_fault_in found ≡ None → FindsClosing cell new found
 
--- The last step, which closes the segment.
-abbrev pub Closes : List ℕ → Standing → Standing → Result Checkpointed StepFault → Type 0
-Closes next old new written = Makes (WriteCell next) Done old new written
+-- The last step, which closes the segment where it doesn't fail.
+pub record Closes (next : List ℕ) (old new : Standing)
+    (written : Result Checkpointed StepFault) : Type 0 where
+  pub goes : Goes (WriteCell next) old new (result_err written)
+  pub gives : IfOk written (λ it. it ≡ Done)
 
 -- a device's fault is handed on as it is
 abbrev pub closing_handed_on : Result Checkpointed StepFault → Result Checkpointed CheckpointRefusal
@@ -134,21 +136,18 @@ LeavesStill (Ok NoSegment) old new = IsUntouched old new
 LeavesStill (Err why) old new = closing_fault_of why ≡ None → IsUntouched old new
 
 -- the third step of a checkpoint writes the cell
-abbrev pub ThreeStepsAndWrite : Standing → Standing → Type 0
-ThreeStepsAndWrite = StepsAre 3 1
-
 pub data ClosingStepsMade (old new : Standing) : Type 0 where
-  one_step : OneStep old new → ClosingStepsMade old new
-  two_steps : TwoSteps old new → ClosingStepsMade old new
-  three_steps : ThreeStepsAndWrite old new → ClosingStepsMade old new
+  one_step : StepsAre 1 0 old new → ClosingStepsMade old new
+  two_steps : StepsAre 2 0 old new → ClosingStepsMade old new
+  three_steps : StepsAre 3 1 old new → ClosingStepsMade old new
 
 abbrev pub ClosingStepsRefused : CheckpointRefusal → Standing → Standing → Type 0
 ClosingStepsRefused (refusal.Device fault) old new = ClosingStepsMade old new
-ClosingStepsRefused refusal.Lost old new = TwoSteps old new
-ClosingStepsRefused _ old new = OneStep old new
+ClosingStepsRefused refusal.Lost old new = StepsAre 2 0 old new
+ClosingStepsRefused _ old new = StepsAre 1 0 old new
 
 -- The steps that a checkpoint makes: one where no segment is open, and three where one is closed.
 abbrev pub ClosingStepsBy : Result Checkpointed CheckpointRefusal → Standing → Standing → Type 0
-ClosingStepsBy (Ok Done) old new = ThreeStepsAndWrite old new
-ClosingStepsBy (Ok NoSegment) old new = OneStep old new
+ClosingStepsBy (Ok Done) old new = StepsAre 3 1 old new
+ClosingStepsBy (Ok NoSegment) old new = StepsAre 1 0 old new
 ClosingStepsBy (Err why) old new = ClosingStepsRefused why old new

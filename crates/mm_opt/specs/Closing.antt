@@ -1,11 +1,8 @@
 -- A checkpoint, as the machine is asked it, and what it tells of how the machine ended.
 use Rattle.std.specs.Prelude.{◌≡◌, ℕ, false, List, None, Result, Ok, Err}
 use Rattle.std.specs.Result.{result_map_both}
-use Rattle.mm_platform.specs.Standing.{Standing}
 use Rattle.mm_machine.specs.Acts.{extends_in}
 use Rattle.mm_machine.specs.Asked.{Asked}
-use Rattle.mm_machine.specs.Finishing.{Finishes}
-use Rattle.mm_machine.specs.Stepping.{number_of}
 use Rattle.mm_machine.specs.declared.call.Ended.{Ended}
 use Rattle.mm_machine.specs.declared.call.Ended.TheVariants as ended
 use Rattle.mm_machine.specs.declared.call.Stage.{Stage}
@@ -57,10 +54,6 @@ abbrev pub IsClosing : Stage Checkpointed → Type 0
 IsClosing (Changing ready) = extends_in ready.change ≡ false
 IsClosing _ = Unit {0}
 
--- the number of the device step that a checkpoint makes next
-abbrev pub closing_number_of : Stage Checkpointed → ℕ
-closing_number_of = number_of 3
-
 -- what is told of how the machine ended: a device's fault is handed on; and memory never lacks, as
 -- a checkpoint extends nothing
 abbrev pub ended_told : Ended Checkpointed CheckpointRefusal → Result Checkpointed CheckpointRefusal
@@ -68,10 +61,3 @@ ended_told (ended.Answered it) = Ok it
 ended_told (ended.Refused why) = Err why
 ended_told (ended.Broken fault commits) = Err (refusal.Device fault)
 ended_told ended.Lacks = Ok NoSegment
-
--- What is left of a checkpoint: its steps are those of the machine.
-pub record FinishesClosing (call : Stage Checkpointed) (old new : Standing)
-    (result : Result Checkpointed CheckpointRefusal) : Type 0 where
-  pub ended : Ended Checkpointed CheckpointRefusal
-  pub finishes : Finishes closing call old new ended
-  pub gives : result ≡ ended_told ended

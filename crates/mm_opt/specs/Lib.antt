@@ -3,16 +3,12 @@ pub mod Found
 pub mod Seen
 pub mod Order
 pub mod Answers
-pub mod Steps
 pub mod Operating
-pub mod Turns
 pub mod Asks
 pub mod Checkpoints
 pub mod Closing
 pub mod CheckpointTurns
 pub mod ChecksOn
-pub mod Finishes
-pub mod Complete
 pub mod Asked
 pub mod Moved
 pub mod Closed

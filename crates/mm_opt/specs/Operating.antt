@@ -3,10 +3,11 @@ use Rattle.std.specs.Prelude.{◌≡◌, ℕ, List, None, Result, Ok, Err}
 use Rattle.mm_machine.specs.Asked.{Asked}
 use Rattle.mm_machine.specs.declared.operation.Sight as sight
 use Rattle.mm_machine.specs.declared.operation.Sight.TheVariants as seen
-use Rattle.mm_opt.specs.Below.{Batch, BatchAnswer, Cell, Meaning, Refusal, fault_in, fault_of}
+use Rattle.mm_opt.specs.Below.{Batch, BatchAnswer, Cell, Meaning, Opt, OrMemory, PartsFault, ReadsParts, Refusal, Snapshot}
+use Rattle.mm_opt.specs.Below.{fault_in, fault_of}
+use Rattle.mm_opt.specs.Answers.{found_in}
 use Rattle.mm_opt.specs.Found.{Found}
 use Rattle.mm_opt.specs.Seen.{SeesCell}
-use Rattle.mm_opt.specs.Steps.{FindsIn}
 
 -- The cell is seen, and the register is wanted. A refusal hands no fault on.
 abbrev pub Sees : ℕ → List ℕ → Result (sight.Sight BatchAnswer) Refusal → Type 0
@@ -14,7 +15,14 @@ Sees id bytes (Ok (seen.Found found)) = ⊥
 Sees id bytes (Ok (seen.Cell cell)) = SeesCell id bytes (Ok cell)
 Sees id bytes (Err why) = SeesCell id bytes (Err why) × (fault_of why ≡ None)
 
--- What is found there. A refusal hands no fault on.
+-- What is found in this cell, with this value of the register, and in the offered bytes.
+pub record FindsIn (meaning : Meaning) (cell : Cell) (register offer : List ℕ) (b : Batch)
+    (found : Result Found Refusal) : Type 0 where
+  pub taken : Result Snapshot PartsFault
+  pub reads : ReadsParts offer Opt meaning.id taken
+  pub found_is : OrMemory (found_in meaning cell register taken b) found
+
+-- The same, where a refusal hands no fault on.
 pub record FindsQuietly (meaning : Meaning) (cell : Cell) (register offer : List ℕ) (b : Batch)
     (found : Result Found Refusal) : Type 0 where
   pub finds : FindsIn meaning cell register offer b found

@@ -4,10 +4,11 @@ ghost use Rattle.std.specs.Prelude.{◌≡◌, true, false, IfOk, IfErr};
 ghost use Rattle.mm_module.specs.Batches.{batch_of};
 ghost use Rattle.mm_model.specs.Long.{is_long};
 ghost use Rattle.mm_machine.specs.declared.call.Stage.TheVariants.{Begun};
+ghost use Rattle.mm_call.specs.Turns.{turn_of};
 
 use crate::operation::OptAsk;
 use mm_call::{Ended, KeptKey};
-use mm_machine::{Stage, Step, advance, finish};
+use mm_machine::{Step, advance};
 use mm_model::{BatchAnswer, Refusal};
 use mm_module::{Batch, Module};
 use mm_platform::Platform;
@@ -29,15 +30,7 @@ impl Model for Call {
 }
 
 /// What one step of a call came to.
-#[derive(Drop)]
-pub enum Turn {
-    /// The call goes on, with its next step.
-    Going(Call),
-    /// The call is over: its last step was made.
-    Done(BatchAnswer),
-    /// The call is over: it was refused.
-    Refused(Refusal),
-}
+pub type Turn = mm_call::Turn<Call, BatchAnswer, Refusal>;
 
 /// Begins a call. Long exactly where the batch is too long to be asked. Takes no memory.
 #[inline(always)]
@@ -58,35 +51,14 @@ impl Call {
     ghost use Rattle.std.specs.Prelude.{◌≡◌, false};
     ghost use Rattle.mm_module.specs.Batches.{batch_of};
     ghost use Rattle.mm_model.specs.Long.{is_long};
-    ghost use Rattle.mm_opt.specs.Steps.{step_number, MayGoOn};
-    ghost use Rattle.mm_opt.specs.Turns.{stage_position, stage_commits};
-    ghost use Rattle.mm_opt.specs.Moved.{AdvancedInOpt, FinishedInOpt};
+    ghost use Rattle.mm_machine.specs.Stepping.{MayGoOn, number_of};
+    ghost use Rattle.mm_opt.specs.Moved.{AdvancedInOpt};
 
     /// The number of the next device step, from 1.
     pub fn next_step(&self) -> u8
-        ensures { result ≡ step_number self.now }
+        ensures { result ≡ number_of 5 self.now }
     {
         self.at.next_step(5)
-    }
-
-    /// The position after the batch, once it has run in memory.
-    pub fn position(&self) -> Option<u64>
-        ensures { result ≡ stage_position self.now }
-    {
-        match self.at.stage() {
-            Stage::Changing(ready) => Some(ready.answer.position),
-            _ => None,
-        }
-    }
-
-    /// The position up to which the next device step commits the batch, where it is the step that commits.
-    pub fn commits(&self) -> Option<u64>
-        ensures { result ≡ stage_commits self.now }
-    {
-        match self.at.stage() {
-            Stage::Changing(ready) if ready.change.is_last() => Some(ready.answer.position),
-            _ => None,
-        }
     }
 
     /// Makes the next device step. The first reads the cell. The second reads the register, runs the batch in memory
@@ -106,100 +78,23 @@ impl Call {
         ensures { AdvancedInOpt (M.meaning «module».now) self (P.standing platform.old)
             (P.standing platform.new) offer.now (batch_of batch.entry) result }
     {
-        self.advance_keeping(alloc, module, platform, offer, batch, &mut KeptKey::new())
-    }
-
-    /// `advance` with an absorbed key that the caller keeps between calls.
-    #[inline(always)]
-    pub fn advance_keeping<M: Module, P: Platform>(
-        self,
-        alloc: Global,
-        module: &M,
-        platform: &mut P,
-        offer: &[u8],
-        batch: Batch<'_>,
-        keys: &mut KeptKey,
-    ) -> Turn
-        requires short { is_long (batch_of batch) ≡ false }
-        requires room { MayGoOn self (P.standing platform.old) }
-        ensures { AdvancedInOpt (M.meaning «module».now) self (P.standing platform.old)
-            (P.standing platform.new) offer.now (batch_of batch.entry) result }
-    {
         let ask = OptAsk {
             alloc,
             module,
             offer,
             batch,
         };
-        Turn::of(advance(&ask, self.at, platform, keys))
-    }
-
-    /// Moves the call to its end: what `advance` does, over and over. After the reading steps it has no allocator.
-    pub fn finish<M: Module, P: Platform>(
-        self,
-        alloc: Global,
-        module: &M,
-        platform: &mut P,
-        offer: &[u8],
-        batch: Batch<'_>,
-    ) -> Ended
-        requires short { is_long (batch_of batch) ≡ false }
-        requires room { MayGoOn self (P.standing platform.old) }
-        ensures { FinishedInOpt (M.meaning «module».now) self (P.standing platform.old)
-            (P.standing platform.new) offer.now (batch_of batch.entry) result }
-    {
-        self.finish_keeping(alloc, module, platform, offer, batch, &mut KeptKey::new())
-    }
-
-    /// `finish` with an absorbed key that the caller keeps between calls.
-    #[inline(always)]
-    pub fn finish_keeping<M: Module, P: Platform>(
-        self,
-        alloc: Global,
-        module: &M,
-        platform: &mut P,
-        offer: &[u8],
-        batch: Batch<'_>,
-        keys: &mut KeptKey,
-    ) -> Ended
-        requires short { is_long (batch_of batch) ≡ false }
-        requires room { MayGoOn self (P.standing platform.old) }
-        ensures { FinishedInOpt (M.meaning «module».now) self (P.standing platform.old)
-            (P.standing platform.new) offer.now (batch_of batch.entry) result }
-    {
-        let ask = OptAsk {
-            alloc,
-            module,
-            offer,
-            batch,
-        };
-        Ended::of(finish(&ask, self.at, platform, keys))
+        turn_of(advance(&ask, self.at, platform, &mut KeptKey::new()))
     }
 }
 
-impl Turn {
-    ghost use Rattle.std.specs.Prelude.{◌≡◌};
-    ghost use Rattle.mm_opt.specs.Turns.{turn_of, turn_with};
-
-    // A turn of the machine's.
-    #[inline(always)]
-    fn of(step: Step<BatchAnswer, Refusal>) -> Turn
-        ensures { result ≡ turn_of step }
-    {
-        match step {
-            Step::Going(at) => Turn::Going(Call { at }),
-            Step::Over(ended) => Turn::given(Ended::of(ended).result()),
-        }
-    }
-
-    // The last turn of a call that gives this.
-    #[inline(always)]
-    fn given(whole: Result<BatchAnswer, Refusal>) -> Turn
-        ensures { result ≡ turn_with whole }
-    {
-        match whole {
-            Ok(answer) => Turn::Done(answer),
-            Err(refusal) => Turn::Refused(refusal),
-        }
+// A turn of the machine's.
+#[inline(always)]
+fn turn_of(step: Step<BatchAnswer, Refusal>) -> Turn
+    ensures { result ≡ turn_of step }
+{
+    match step {
+        Step::Going(at) => Turn::Going(Call { at }),
+        Step::Over(ended) => Turn::over(Ended::of(ended).result()),
     }
 }

@@ -1,7 +1,7 @@
 //! What a checkpoint asks of a platform: that it close the open segment.
 
 ghost use Rattle.std.specs.Prelude.{◌≡◌, ℕ, None};
-ghost use Rattle.mm_opt.specs.Checkpoints.{SeesSegment, segment_by, closing_fault_in, closing_in};
+ghost use Rattle.mm_opt.specs.Checkpoints.{SeesSegment, closing_fault_in, closing_in};
 ghost use Rattle.mm_opt.specs.Closing.{closing};
 
 use crate::segment::{CheckpointRefusal, Checkpointed, Segment};
@@ -67,19 +67,11 @@ fn find_segment(bytes: &[u8; CELL_LENGTH]) -> Result<Segment, CheckpointRefusal>
     match read_cell(bytes) {
         Err(CellFault::Blank) => Err(CheckpointRefusal::Blank),
         Err(CellFault::Cell) => Err(CheckpointRefusal::Cell),
-        Ok(cell) => segment_of(cell),
-    }
-}
-
-// The segment of a cell.
-fn segment_of(cell: Cell) -> Result<Segment, CheckpointRefusal>
-    ensures segment { result ≡ segment_by cell.variant cell.flag cell }
-    ensures no_fault { closing_fault_in result ≡ None }
-{
-    match cell.variant {
-        Variant::Basic => Err(CheckpointRefusal::Kind),
-        Variant::Opt if cell.flag => Ok(Segment::Open(cell)),
-        Variant::Opt => Ok(Segment::Shut),
+        Ok(cell) => match cell.variant {
+            Variant::Basic => Err(CheckpointRefusal::Kind),
+            Variant::Opt if cell.flag => Ok(Segment::Open(cell)),
+            Variant::Opt => Ok(Segment::Shut),
+        },
     }
 }
 

@@ -2,11 +2,13 @@
 
 ghost use Rattle.std.specs.Prelude.{◌≡◌};
 ghost use Rattle.mm_machine.specs.declared.call.Stage.TheVariants.{Begun};
+ghost use Rattle.mm_opt.specs.CheckpointTurns.{StepIsClosing, step_told};
 ghost use Rattle.mm_opt.specs.Closed.{ClosedInOpt};
 ghost use Rattle.mm_opt.specs.Closing.{ended_told};
 
 use crate::close::Close;
 use crate::segment::{CheckpointRefusal, Checkpointed};
+use mm_call::Turn;
 use mm_machine::{Call, Ended, Operation, Step, advance, finish};
 use mm_platform::Platform;
 use mm_seal::KeptKey;
@@ -31,15 +33,7 @@ impl Model for CheckpointCall {
 }
 
 /// What one step of a checkpoint came to.
-#[derive(Drop)]
-pub enum CheckpointTurn {
-    /// The checkpoint goes on, with its next step.
-    Going(CheckpointCall),
-    /// The checkpoint is over: its last step was made.
-    Done(Checkpointed),
-    /// The checkpoint is over: it was refused.
-    Refused(CheckpointRefusal),
-}
+pub type CheckpointTurn = Turn<CheckpointCall, Checkpointed, CheckpointRefusal>;
 
 /// Begins a checkpoint.
 pub fn begin_checkpoint() -> CheckpointCall
@@ -52,12 +46,12 @@ pub fn begin_checkpoint() -> CheckpointCall
 
 impl CheckpointCall {
     ghost use Rattle.std.specs.Prelude.{◌≡◌};
-    ghost use Rattle.mm_opt.specs.Closing.{closing_number_of, FinishesClosing};
+    ghost use Rattle.mm_machine.specs.Stepping.{number_of};
     ghost use Rattle.mm_opt.specs.CheckpointTurns.{ClosingTurns, ClosingActsAt};
 
     /// The number of the next device step, from 1.
     pub fn next_step(&self) -> u8
-        ensures { result ≡ closing_number_of self.now }
+        ensures { result ≡ number_of 3 self.now }
     {
         self.call.next_step(Close.write_step())
     }
@@ -70,34 +64,18 @@ impl CheckpointCall {
         ensures acts { ClosingActsAt self (P.standing platform.old) (P.standing platform.new)
             result }
     {
-        CheckpointTurn::of(advance(&Close, self.call, platform, &mut KeptKey::new()))
-    }
-
-    /// Moves the checkpoint to its end: what `advance` does, over and over. Takes no memory.
-    pub fn finish<P: Platform>(self, platform: &mut P) -> Result<Checkpointed, CheckpointRefusal>
-        ensures { FinishesClosing self (P.standing platform.old) (P.standing platform.new) result }
-    {
-        closing_result(finish(&Close, self.call, platform, &mut KeptKey::new()))
+        turn_of(advance(&Close, self.call, platform, &mut KeptKey::new()))
     }
 }
 
-impl CheckpointTurn {
-    ghost use Rattle.std.specs.Prelude.{◌≡◌};
-    ghost use Rattle.mm_opt.specs.CheckpointTurns.{step_told};
-    ghost use Rattle.mm_opt.specs.CheckpointTurns.{StepIsClosing};
-
-    // What a step of the machine comes to.
-    fn of(step: Step<Checkpointed, CheckpointRefusal>) -> CheckpointTurn
-        requires { StepIsClosing step }
-        ensures { result ≡ step_told step }
-    {
-        match step {
-            Step::Going(call) => CheckpointTurn::Going(CheckpointCall { call }),
-            Step::Over(ended) => match closing_result(ended) {
-                Ok(checkpointed) => CheckpointTurn::Done(checkpointed),
-                Err(refusal) => CheckpointTurn::Refused(refusal),
-            },
-        }
+// What a step of the machine comes to.
+fn turn_of(step: Step<Checkpointed, CheckpointRefusal>) -> CheckpointTurn
+    requires { StepIsClosing step }
+    ensures { result ≡ step_told step }
+{
+    match step {
+        Step::Going(call) => Turn::Going(CheckpointCall { call }),
+        Step::Over(ended) => Turn::over(closing_result(ended)),
     }
 }
 
@@ -106,7 +84,7 @@ impl CheckpointTurn {
 pub fn checkpoint<P: Platform>(platform: &mut P) -> Result<Checkpointed, CheckpointRefusal>
     ensures { ClosedInOpt (P.standing platform.old) (P.standing platform.new) result }
 {
-    begin_checkpoint().finish(platform)
+    closing_result(finish(&Close, Call::begin(), platform, &mut KeptKey::new()))
 }
 
 /// What is told of how the machine ended. It lacks no memory, as a checkpoint extends nothing.

@@ -3,14 +3,15 @@
 ghost use Rattle.std.specs.Prelude.{◌≡◌, ◌+◌, ◌≤◌, IfOk, IsTrue, None, Ok};
 ghost use Rattle.mm_base.specs.Limits.{last_position};
 ghost use Rattle.mm_digest.specs.declared.variant.Variant.TheVariants.{Opt};
-ghost use Rattle.mm_module.specs.Batch.{Many, normal};
+ghost use Rattle.mm_module.specs.Batch.{normal};
 ghost use Rattle.mm_module.specs.Batches.{batch_of};
 ghost use Rattle.mm_seal.specs.Snapshot.{variant_of};
 ghost use Rattle.mm_model.specs.Chains.{guard};
 ghost use Rattle.mm_model.specs.Judge.{forms_of, opt_verdict};
-ghost use Rattle.mm_opt.specs.Seen.{is_cell_of, own_cell, SeesCell};
+ghost use Rattle.mm_opt.specs.Seen.{SeesCell};
 ghost use Rattle.mm_opt.specs.Order.{anchor_in, extension_in};
-ghost use Rattle.mm_opt.specs.Answers.{place_after, extension_at, extension_after, change_of, found_in_offer};
+ghost use Rattle.mm_opt.specs.Operating.{FindsIn};
+ghost use Rattle.mm_opt.specs.Answers.{place_after, change_of, found_in_offer};
 ghost use Rattle.mm_call.specs.Refusals.{OrMemory, fault_in};
 
 use crate::operation::OptAsk;
@@ -31,102 +32,60 @@ pub fn find_cell(bytes: &[u8; CELL_LENGTH], id: u8) -> Result<Cell, Refusal>
     match read_cell(bytes) {
         Err(CellFault::Blank) => Err(Refusal::Blank),
         Err(CellFault::Cell) => Err(Refusal::Cell),
-        Ok(cell) => own_cell(cell, id),
+        Ok(cell) => match cell.variant {
+            Variant::Opt if cell.module == id => Ok(cell),
+            _ => Err(Refusal::Cell),
+        },
     }
 }
 
-// The cell, where it is one of Opt and of the module with this id.
-fn own_cell(cell: Cell, id: u8) -> Result<Cell, Refusal>
-    ensures { result ≡ own_cell (is_cell_of id cell) cell }
+/// What is found in the cell, the register's value and the offered bytes, in the order of the refusals.
+#[inline(always)]
+pub fn find_in<M: Module>(
+    ask: &OptAsk<'_, M>,
+    cell: &Cell,
+    register: &Digest,
+    keys: &mut KeptKey,
+) -> Result<Found<BatchAnswer>, Refusal>
+    ensures finds { FindsIn (M.meaning ask.now.«module».now) cell.now register.now.bytes
+        ask.now.offer.now (batch_of ask.now.batch) result }
+    ensures no_fault { fault_in result ≡ None }
 {
-    if is_of(&cell, id) {
-        return Ok(cell);
+    let taken = parts(ask.offer, Variant::Opt, ask.module.id());
+    if has_lost_power(cell, register) {
+        return Err(Refusal::Lost);
     }
-    Err(Refusal::Cell)
+    match taken {
+        Err(PartsFault::Form) => Err(Refusal::Form),
+        Err(PartsFault::Kind) => Err(Refusal::Kind),
+        Ok(offered) => weigh(ask, cell, register, &offered, keys),
+    }
 }
 
-// Whether the cell is one of Opt and of the module with this id.
-fn is_of(cell: &Cell, id: u8) -> bool
-    ensures { result ≡ is_cell_of id cell.now }
+// What is found in an offer of Opt and of the module.
+fn weigh<M: Module>(
+    ask: &OptAsk<'_, M>,
+    cell: &Cell,
+    register: &Digest,
+    offered: &Offered<'_>,
+    keys: &mut KeptKey,
+) -> Result<Found<BatchAnswer>, Refusal>
+    requires variant { variant_of offered.now.content.place ≡ Opt }
+    requires position { offered.now.content.position ≤ last_position }
+    ensures { OrMemory
+        (found_in_offer (M.meaning ask.now.«module».now) cell.now register.now.bytes
+        (Ok offered.now) (batch_of ask.now.batch)) result }
 {
-    match cell.variant {
-        Variant::Basic => false,
-        Variant::Opt => cell.module == id,
-    }
-}
-
-impl<M: Module> OptAsk<'_, M> {
-    ghost use Rattle.std.specs.Prelude.{◌≡◌, ◌≤◌, None, Ok};
-    ghost use Rattle.mm_base.specs.Limits.{last_position};
-    ghost use Rattle.mm_digest.specs.declared.variant.Variant.TheVariants.{Opt};
-    ghost use Rattle.mm_module.specs.Batches.{batch_of};
-    ghost use Rattle.mm_seal.specs.Snapshot.{variant_of};
-    ghost use Rattle.mm_call.specs.Refusals.{OrMemory, fault_in};
-    ghost use Rattle.mm_opt.specs.Answers.{found_in_offer};
-    ghost use Rattle.mm_opt.specs.Steps.{FindsIn};
-
-    /// What is found in the cell, the register's value and the offered bytes, in the order of the refusals.
-    #[inline(always)]
-    pub fn find_in(
-        &self,
-        cell: &Cell,
-        register: &Digest,
-        keys: &mut KeptKey,
-    ) -> Result<Found<BatchAnswer>, Refusal>
-        ensures finds { FindsIn (M.meaning self.now.«module».now) cell.now register.now.bytes
-            self.now.offer.now (batch_of self.now.batch) result }
-        ensures no_fault { fault_in result ≡ None }
-    {
-        let taken = parts(self.offer, Variant::Opt, self.module.id());
-        if has_lost_power(cell, register) {
-            return Err(Refusal::Lost);
-        }
-        match taken {
-            Err(PartsFault::Form) => Err(Refusal::Form),
-            Err(PartsFault::Kind) => Err(Refusal::Kind),
-            Ok(offered) => self.weigh(cell, register, &offered, keys),
-        }
-    }
-
-    // What is found in an offer of Opt and of the module.
-    fn weigh(
-        &self,
-        cell: &Cell,
-        register: &Digest,
-        offered: &Offered<'_>,
-        keys: &mut KeptKey,
-    ) -> Result<Found<BatchAnswer>, Refusal>
-        requires variant { variant_of offered.now.content.place ≡ Opt }
-        requires position { offered.now.content.position ≤ last_position }
-        ensures { OrMemory
-            (found_in_offer (M.meaning self.now.«module».now) cell.now register.now.bytes
-            (Ok offered.now) (batch_of self.now.batch)) result }
-    {
-        let body = offered.body();
-        let value = guard(&cell.barrier, self.batch);
-        let verdict = verdict_on(cell, register, &body.place, &value);
-        let key = keys.under(&cell.key);
-        let again = match examine(self.module, key, offered, self.batch, verdict) {
-            Err(refusal) => return Err(refusal),
-            Ok(again) => again,
-        };
-        let place = place_after(cell, register, &value, again);
-        let answer = match answer(
-            self.alloc,
-            self.module,
-            key,
-            &body,
-            place,
-            self.batch,
-            again,
-        ) {
-            Err(_) => return Err(Refusal::Memory),
-            Ok(answer) => answer,
-        };
-        if again {
-            return Ok(Found::Repeat(answer));
-        }
-        Ok(change(cell, value, answer))
+    let body = offered.body();
+    let value = guard(&cell.barrier, ask.batch);
+    let verdict = verdict_on(cell, register, &body.place, &value);
+    let key = keys.under(&cell.key);
+    let again = examine(ask.module, key, offered, ask.batch, verdict)?;
+    let place = place_after(cell, register, &value, again);
+    match answer(ask.alloc, ask.module, key, &body, place, ask.batch, again) {
+        Err(_) => Err(Refusal::Memory),
+        Ok(answer) if again => Ok(Found::Repeat(answer)),
+        Ok(answer) => Ok(change(cell, value, answer)),
     }
 }
 
@@ -148,20 +107,8 @@ fn guard(barrier: &[u8; 32], batch: Batch<'_>) -> Digest
     ensures { result.bytes ≡ guard barrier.now (normal (batch_of batch.entry)) }
 {
     match batch {
-        Batch::One(request) => secured(barrier, request),
-        Batch::Many(text) => guard_text(barrier, text),
-    }
-}
-
-// The value of the requests between the TABs of a text.
-#[tactic(auto, using(crate::proofs::Guards::guards))]
-fn guard_text(barrier: &[u8; 32], text: &[u8]) -> Digest
-    ensures { result.bytes ≡ guard barrier.now (normal (Many text.now)) }
-{
-    if has_tab(text) {
-        secured_batch(barrier, text)
-    } else {
-        secured(barrier, text)
+        Batch::Many(text) if has_tab(text) => secured_batch(barrier, text),
+        Batch::One(text) | Batch::Many(text) => secured(barrier, text),
     }
 }
 
@@ -169,27 +116,14 @@ fn guard_text(barrier: &[u8; 32], text: &[u8]) -> Digest
 fn place_after(cell: &Cell, register: &Digest, value: &Digest, again: bool) -> Place
     ensures { result ≡ place_after cell.now register.now.bytes value.now.bytes again }
 {
-    Place::Opt {
-        anchor: cell.summary,
-        extension: extension_after(again, extension_at(cell.flag, register), value),
-    }
-}
-
-// The extension at which the open segment stands.
-fn extension_at(flag: bool, register: &Digest) -> Digest
-    ensures { result.bytes ≡ extension_at flag register.now.bytes }
-{
-    if flag { *register } else { zero() }
-}
-
-// The extension once the batch is committed.
-fn extension_after(again: bool, extension: Digest, value: &Digest) -> Digest
-    ensures { result.bytes ≡ extension_after again extension.bytes value.now.bytes }
-{
+    let anchor = cell.summary;
+    let extension = if cell.flag { *register } else { zero() };
     if again {
-        extension
-    } else {
-        extended(&extension, value)
+        return Place::Opt { anchor, extension };
+    }
+    Place::Opt {
+        anchor,
+        extension: extended(&extension, value),
     }
 }
 
@@ -197,19 +131,15 @@ fn extension_after(again: bool, extension: Digest, value: &Digest) -> Digest
 fn change(cell: &Cell, value: Digest, answer: BatchAnswer) -> Found<BatchAnswer>
     ensures { result ≡ change_of cell.now value.bytes answer }
 {
-    if cell.flag {
-        return Found::Change(Ready {
-            change: Change::Extending(value),
-            answer,
+    let change = if cell.flag {
+        Change::Extending(value)
+    } else {
+        let next = cell_bytes(&Cell {
+            variant: Variant::Opt,
+            flag: true,
+            ..*cell
         });
-    }
-    let next = cell_bytes(&Cell {
-        variant: Variant::Opt,
-        flag: true,
-        ..*cell
-    });
-    Found::Change(Ready {
-        change: Change::Emptying(Opening { value, next }),
-        answer,
-    })
+        Change::Emptying(Opening { value, next })
+    };
+    Found::Change(Ready { change, answer })
 }

@@ -7,10 +7,10 @@ ghost use Rattle.mm_model.specs.InstanceWords.{opt};
 ghost use Rattle.mm_model.specs.Standing.{cell_of, issued_bytes};
 
 use mm_base::Memory;
-use mm_call::Provisioned;
+use mm_call::{Provisioned, provision_with};
 use mm_digest::{Variant, start, zero};
 use mm_module::Module;
-use mm_seal::{Body, Cell, Place, cell_bytes, seal};
+use mm_seal::{Cell, Place};
 use std::alloc::Global;
 
 /// The first cell and snapshot of a module under a key and a barrier. No segment is open.
@@ -30,26 +30,15 @@ pub fn provision<M: Module>(
     let id = module.id();
     let anchor = start(Variant::Opt, id);
     let extension = zero();
-    let state = module.first_state(alloc)?;
-    let snapshot = seal(
-        alloc,
-        key,
-        &Body {
-            module: id,
-            place: Place::Opt { anchor, extension },
-            position: 0,
-            state: state.as_slice(),
-        },
-    )?;
     let key = *key;
     let barrier = *barrier;
-    let cell = cell_bytes(&Cell {
+    let cell = Cell {
         variant: Variant::Opt,
         module: id,
         flag: false,
         summary: anchor,
         key,
         barrier,
-    });
-    Ok(Provisioned { cell, snapshot })
+    };
+    provision_with(alloc, module, &cell, Place::Opt { anchor, extension })
 }

@@ -5,7 +5,7 @@ ghost use Rattle.mm_module.specs.Batches.{batch_of};
 ghost use Rattle.mm_model.specs.Long.{is_long};
 ghost use Rattle.mm_opt.specs.Operating.{opt_asked};
 
-use crate::find::find_cell;
+use crate::find::{find_cell, find_in};
 use mm_base::CELL_LENGTH;
 use mm_call::KeptKey;
 use mm_digest::Digest;
@@ -53,7 +53,7 @@ impl<M: Module> Operation for OptAsk<'_, M> {
         register: &Digest,
         keys: &mut KeptKey,
     ) -> Result<Found<BatchAnswer>, Refusal> {
-        self.find_in(cell, register, keys)
+        find_in(self, cell, register, keys)
     }
 
     #[inline(always)]

@@ -39,10 +39,7 @@ pub fn verdict(
 pub fn has_lost_power(cell: &Cell, register: &Digest) -> bool
     ensures { result ≡ has_lost_power cell.now register.now.bytes }
 {
-    if !cell.flag {
-        return false;
-    }
-    is_zero(register)
+    cell.flag && is_zero(register)
 }
 
 /// Whether a digest is zero.
@@ -57,13 +54,8 @@ fn is_fresh(cell: &Cell, register: &Digest, anchor: &Digest, extension: &Digest)
     ensures { result ≡ list_any (fits_fresh cell.now.flag cell.now.summary.bytes register.now.bytes)
         (forms_of anchor.now.bytes extension.now.bytes) }
 {
-    if fits_fresh(cell, register, anchor, extension) {
-        return true;
-    }
-    if is_zero(extension) {
-        return false;
-    }
-    fits_fresh(cell, register, &anchored(anchor, extension), &zero())
+    fits_fresh(cell, register, anchor, extension)
+        || !is_zero(extension) && fits_fresh(cell, register, &anchored(anchor, extension), &zero())
 }
 
 // Whether a form of the place fits as a repeat.
@@ -78,13 +70,9 @@ fn is_again(
         (fits_again cell.now.flag cell.now.summary.bytes register.now.bytes value.now.bytes)
         (forms_of anchor.now.bytes extension.now.bytes) }
 {
-    if fits_again(cell, register, anchor, extension, value) {
-        return true;
-    }
-    if is_zero(extension) {
-        return false;
-    }
-    fits_again(cell, register, &anchored(anchor, extension), &zero(), value)
+    fits_again(cell, register, anchor, extension, value)
+        || !is_zero(extension)
+            && fits_again(cell, register, &anchored(anchor, extension), &zero(), value)
 }
 
 // Whether this form is where the platform stands.
@@ -116,8 +104,5 @@ fn fits_again(
     if !cell.flag {
         return anchored(anchor, &end) == cell.summary;
     }
-    if *anchor != cell.summary {
-        return false;
-    }
-    end == *register
+    *anchor == cell.summary && end == *register
 }

@@ -1,4 +1,4 @@
-use Rattle.std.proofs.Common.{subst, sym}
+use Rattle.std.proofs.Common.{subst}
 use Rattle.mm_machine.specs.Finishing.{Finishes}
 use Rattle.mm_machine.specs.declared.call.Stage.{Stage}
 use Rattle.mm_opt.specs.declared.segment.Checkpointed.{Checkpointed}
@@ -13,13 +13,13 @@ pub returns : goal.returns
 returns g c =
     let old = g.P.Device.standing c.args.platform.now in
     let new = g.P.Device.standing c.finish.new.platform in
-    let f = c.finish.ensures in
-    let closes : ClosesSegment old new c.finish.result = rw f.gives (closes_whole new f.ended old
-    (subst (λ (x : Stage Checkpointed). Finishes closing x old new f.ended) c.begin_checkpoint.ensures f.finishes)) in
+    let result = c.closing_result.result in
+    let closes : ClosesSegment old new result = rw c.closing_result.ensures (closes_whole new c.finish.result old
+    (subst (λ (x : Stage Checkpointed). Finishes closing x old new c.finish.result) c.begin.ensures c.finish.ensures)) in
     record {
       closes = closes;
-      untouched = leaves_still old new c.finish.result closes;
-      faults = closing_blamed old new c.finish.result closes;
-      steps = closing_steps old new c.finish.result closes;
-      goes = checks_on old new c.finish.result closes;
+      untouched = leaves_still old new result closes;
+      faults = closing_blamed old new result closes;
+      steps = closing_steps old new result closes;
+      goes = checks_on old new result closes;
     }
