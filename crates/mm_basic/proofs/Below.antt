@@ -17,7 +17,7 @@ pub use Rattle.mm_seal.specs.declared.snapshot.PartsFault.TheVariants.{Form, Kin
 pub use Rattle.mm_seal.specs.declared.snapshot.Place.{Place}
 pub use Rattle.mm_seal.specs.declared.snapshot.Place.TheVariants.{Basic as InBasic, Opt as InOpt}
 pub use Rattle.mm_platform.specs.Standing.{Item, Standing}
-pub use Rattle.mm_platform.specs.Steps.{Goes, ReadCell, WriteCell}
+pub use Rattle.mm_platform.specs.Steps.{Goes, ReadCell}
 pub use Rattle.mm_platform.specs.declared.fault.StepFault.{StepFault}
 pub use Rattle.mm_module.specs.Batch.{Batch, normal, One, size_of}
 pub use Rattle.mm_module.specs.Batches.{batch_of}
@@ -44,28 +44,26 @@ pub use Rattle.mm_model.specs.Standing.{cell_of, IsRight, issued_bytes}
 pub use Rattle.mm_model.specs.Steps.{ask_steps, Reads as Reading, Step, Writes}
 pub use Rattle.mm_model.specs.declared.answer.BatchAnswer.{BatchAnswer}
 pub use Rattle.mm_model.specs.declared.refusal.Refusal.{Refusal}
-pub use Rattle.mm_model.specs.declared.refusal.Refusal.TheVariants.{Long}
 pub use Rattle.mm_model.specs.declared.verdict.Verdict.{Verdict}
 pub use Rattle.mm_model.proofs.Above.{links}
-pub use Rattle.mm_call.specs.Calls.{AsksTo, breaks_off, Calls, Commits, EndsTo, goes_on, IsCallSoFar}
+pub use Rattle.mm_call.specs.Calls.{AsksTo, breaks_off, Calls, EndsTo, goes_on, IsCallSoFar}
 pub use Rattle.mm_call.specs.Ended.{CallsTo, result_of}
-pub use Rattle.mm_call.specs.Leaving.{Blames, IsAccepted, IsAnswered, LeavesUntouched}
-pub use Rattle.mm_call.specs.LeavingLaws.{blamed, read_untouched, same_untouched, wholly}
+pub use Rattle.mm_call.specs.Leaving.{Blames, IsAccepted, IsAnswered}
+pub use Rattle.mm_call.specs.LeavingLaws.{wholly}
 pub use Rattle.mm_call.specs.Levels.{all_made, by_digests}
-pub use Rattle.mm_call.specs.Machine.{end_told, found_told, halt_told}
+pub use Rattle.mm_call.specs.Machine.{found_told}
 pub use Rattle.mm_call.specs.Order.{examined}
 pub use Rattle.mm_call.specs.Refusals.{fault_in, fault_of, OrMemory}
 pub use Rattle.mm_call.specs.Standing.{cell_at, StandsAt}
 pub use Rattle.mm_call.specs.WeighingLaws.{offered_of, weighed_only, weighs}
 pub use Rattle.mm_call.specs.declared.ended.Ended.{Ended}
-pub use Rattle.mm_call.specs.declared.ended.Ended.TheVariants.{Answered, Broken}
-pub use Rattle.mm_call.proofs.Above.{AsFound, basic_calls_agree, brought_digests, calls_from, commits_blamed, course_by, each_call}
-pub use Rattle.mm_call.proofs.Above.{ends_fates, ends_result, ends_untouched, fate_of, given_all, GoesTo, lacks_in, reading_blamed}
-pub use Rattle.mm_call.proofs.Above.{reading_tale, so_far, steps_blamed, steps_give, Told, told_reading}
+pub use Rattle.mm_call.proofs.Above.{AsFound, basic_calls_agree, brought_digests, calls_from, course_by, each_call}
+pub use Rattle.mm_call.proofs.Above.{ends_fates, ends_result, fate_of, given_all, GoesTo, lacks_in}
+pub use Rattle.mm_call.proofs.Above.{reading_tale, so_far, steps_give, Told, told_reading}
 pub use Rattle.mm_basic.specs.Answers.{answer_of, committed_cell, found_from, found_in, linked}
 pub use Rattle.mm_basic.specs.Asked.{AskedInBasic}
 pub use Rattle.mm_basic.specs.Asks.{basic_call}
 pub use Rattle.mm_basic.specs.Order.{summary_in, verdict_of}
 pub use Rattle.mm_basic.specs.Seen.{Both, IsCellOf, IsSeen, NoCell, NoOffer, OtherCell, Seen}
-pub use Rattle.mm_basic.specs.Operating.{basic_asked, ExtendsNothing, Sees}
+pub use Rattle.mm_basic.specs.Operating.{basic_asked, ExtendsNothing}
 pub use Rattle.mm_basic.specs.Steps.{FindsIn}

@@ -1,6 +1,4 @@
 -- The words that the definitions of this crate take from the crates below.
-pub use Rattle.mm_base.specs.Faults.{counted}
-pub use Rattle.mm_base.specs.Limits.{last_position}
 pub use Rattle.mm_digest.specs.declared.variant.Variant.TheVariants.{Basic}
 pub use Rattle.mm_seal.specs.Cell.{ReadsCell, SpellsCell, cell_spelling}
 pub use Rattle.mm_seal.specs.Snapshot.{Content, ReadsParts, Snapshot}
@@ -12,29 +10,17 @@ pub use Rattle.mm_seal.specs.declared.snapshot.PartsFault.TheVariants.{Form, Kin
 pub use Rattle.mm_seal.specs.declared.snapshot.Place.{Place}
 pub use Rattle.mm_seal.specs.declared.snapshot.Place.TheVariants.{Opt}
 pub use Rattle.mm_platform.specs.Standing.{Standing}
-pub use Rattle.mm_platform.specs.Steps.{Goes, ReadCell}
-pub use Rattle.mm_platform.specs.declared.fault.StepFault.{StepFault}
-pub use Rattle.mm_module.specs.Batch.{Batch, normal, size_of}
+pub use Rattle.mm_module.specs.Batch.{Batch, normal}
 pub use Rattle.mm_module.specs.Meaning.{Meaning}
 pub use Rattle.mm_model.specs.Chains.{link}
-pub use Rattle.mm_model.specs.Fit.{IsFit}
-pub use Rattle.mm_model.specs.History.{History}
-pub use Rattle.mm_model.specs.InstanceWords.{basic}
-pub use Rattle.mm_model.specs.Judge.{basic_verdict, judge}
-pub use Rattle.mm_model.specs.Long.{is_long}
-pub use Rattle.mm_model.specs.Messages.{IsClearFor}
-pub use Rattle.mm_model.specs.Places.{Names}
+pub use Rattle.mm_model.specs.Judge.{basic_verdict}
 pub use Rattle.mm_model.specs.PlacesWords.{digest_of}
-pub use Rattle.mm_model.specs.Standing.{IsRight, StandsFor}
 pub use Rattle.mm_model.specs.declared.answer.BatchAnswer.{BatchAnswer}
 pub use Rattle.mm_model.specs.declared.refusal.Refusal.{Refusal}
 pub use Rattle.mm_model.specs.declared.verdict.Verdict.{Verdict}
 pub use Rattle.mm_call.specs.Answers.{answer_at}
-pub use Rattle.mm_call.specs.Calls.{CallOf, Calls}
-pub use Rattle.mm_call.specs.CallsOn.{CallsOn}
-pub use Rattle.mm_call.specs.Ended.{CallsTo, result_of}
-pub use Rattle.mm_call.specs.Machine.{call_of, end_told}
-pub use Rattle.mm_call.specs.Leaving.{Blames, IsAccepted, IsAnswered, LeavesUntouched}
+pub use Rattle.mm_call.specs.Calls.{CallOf}
+pub use Rattle.mm_call.specs.Machine.{call_of}
+pub use Rattle.mm_call.specs.Leaving.{Blames}
 pub use Rattle.mm_call.specs.Order.{examined}
-pub use Rattle.mm_call.specs.Refusals.{OrMemory, fault_in, fault_of}
-pub use Rattle.mm_call.specs.declared.ended.Ended.{Ended}
+pub use Rattle.mm_call.specs.Refusals.{OrMemory, fault_of}

@@ -5,7 +5,7 @@ pub use Rattle.mm_call.proofs.Checkpoints.{basic_checkpoint_same, basic_checkpoi
 pub use Rattle.mm_call.proofs.Checkpoints.{opt_checkpoints_agree_by_lists, read_moves}
 pub use Rattle.mm_call.proofs.Coming.{answered_at, asked_for, asked_idle, basic_asked, basic_comes, idle_again, idle_moves, opt_comes}
 pub use Rattle.mm_call.proofs.Coming.{unless_idle}
-pub use Rattle.mm_call.proofs.Committing.{BlamesFor, ends_blamed, ends_fates, fate_of, Given, MakesAll, reading_blamed, reading_tale, refused_result}
+pub use Rattle.mm_call.proofs.Committing.{BlamesFor, ends_blamed, ends_fates, fate_of, Given, MakesAll, reading_tale, refused_result}
 pub use Rattle.mm_call.proofs.Committing.{steps_blamed, steps_give, Tale, tale_on}
 pub use Rattle.mm_call.proofs.Completing.{Accepts, answered_result, AsFound, calls_from, calls_to, commits_blamed, course_by, each_call}
 pub use Rattle.mm_call.proofs.Completing.{ends_result, ends_untouched, given_all, GoesTo, is_memory, lacks_in, refused_reading, so_far}

@@ -48,18 +48,6 @@ stays_failed act old after new fault plan at p g room =
       rw (ap (λ (s : Standing). s.plan) room ∙ g.plan ∙ ap (λ (q : Option Plan). option_map plan_after q) p.planned) refl,
     )
 
--- after the last step of a call, by whether it failed
-pub planned_done : (act : Act) (old new : Standing) (plan : Plan) (at : ℕ) → IsAt old plan at → Goes act old new None
-    → StaysOn plan.stop false new × IsSome new.plan
-planned_done act old new plan at p g = (
-  stays_done plan.stop new g.ends.is_on,
-  rw (g.plan ∙ ap (λ (q : Option Plan). option_map plan_after q) p.planned) refl,
-)
-
-pub planned_broken : (act : Act) (old new : Standing) (fault : StepFault) (plan : Plan) (at : ℕ) → IsAt old plan at
-    → Goes act old new (Some fault) → StaysOn plan.stop true new × IsSome new.plan
-planned_broken act old new fault plan at p g = stays_failed act old new new fault plan at p g refl
-
 -- The fates of steps
 
 -- the fate that a device step met
@@ -174,15 +162,6 @@ pub ends_blamed : {F : Type 0} → (c : CallOf F) (found : Result F Refusal) (ol
 ends_blamed c (Err why) old middle new ended blames e = rw (e.0, e.1, refused_result why) blames
 ends_blamed c (Ok found) old middle new ended blames e =
     blamed_later (fault_in (result_of ended)) old.faults middle.faults new.faults blames
-    (steps_blamed (c.acts found) (c.answer found) middle new ended e)
-
-pub reading_blamed : {F : Type 0} → (c : CallOf F) (found : Result F Refusal) (act : Act) (old after middle new : Standing) (ended : Ended)
-    → Goes act old after (fault_in found) → middle ≡ record after { spare = middle.spare } → EndsTo c found middle new ended
-    → BlamesFor old new ended
-reading_blamed c (Err why) act old after middle new ended g room e =
-    rw (e.0, e.1, refused_result why, room) (blamed (fault_of why) old after g.is_made g.ends)
-reading_blamed c (Ok found) act old after middle new ended g room e =
-    blamed_later (fault_in (result_of ended)) old.faults middle.faults new.faults (ap (λ (s : Standing). s.faults) room ∙ g.ends.faults)
     (steps_blamed (c.acts found) (c.answer found) middle new ended e)
 
 -- What is known of steps by digests

@@ -1,7 +1,6 @@
 -- The words and laws that the proofs of this crate take from specs/ and from the crates below.
 pub use Rattle.std.specs.List.{fold}
 pub use Rattle.std.specs.Prelude.{◌&&◌, if◌then◌else◌, is_some, IsSome, nat_eq, nat_le}
-pub use Rattle.std.specs.Result.{result_err}
 pub use Rattle.std.specs.Str.{bytes_eq}
 pub use Rattle.std.proofs.Common.{◌++◌, ◌+◌, ◌^◌, ◌∙◌, ◌∷◌, ◌≡◌, ◌≤◌, [], ap, arith, Bool, Err, false, IfOk, inl, inr, IsTrue, le-leb}
 pub use Rattle.std.proofs.Common.{length, List, map, None, Ok, Option, refl, Result, Some, subst, sym, true, ℕ}
@@ -22,10 +21,10 @@ pub use Rattle.mm_seal.specs.declared.snapshot.PartsFault.{PartsFault}
 pub use Rattle.mm_seal.specs.declared.snapshot.PartsFault.TheVariants.{Form, Kind}
 pub use Rattle.mm_seal.specs.declared.snapshot.Place.TheVariants.{Basic as InBasic, Opt as InOpt}
 pub use Rattle.mm_platform.specs.Standing.{Item, item_values, own_item, register_after, Standing}
-pub use Rattle.mm_platform.specs.Steps.{Act, beside, ExtendRegister, Goes, ReadCell, ReadRegister, ResetRegister, WriteCell}
+pub use Rattle.mm_platform.specs.Steps.{Act, ExtendRegister, Goes, ReadCell, ReadRegister, ResetRegister, WriteCell}
 pub use Rattle.mm_platform.specs.Told.{next_plan}
 pub use Rattle.mm_platform.specs.declared.fault.StepFault.{StepFault}
-pub use Rattle.mm_machine.specs.Acts.{act_in, acts_left, change_after, extends_in}
+pub use Rattle.mm_machine.specs.Acts.{acts_left}
 pub use Rattle.mm_machine.specs.declared.call.Stage.TheVariants.{Begun, Changing, Seen}
 pub use Rattle.mm_machine.specs.declared.change.Change.TheVariants.{Emptying, Extending, Placing, Writing}
 pub use Rattle.mm_machine.specs.declared.change.Opening.{Opening}
@@ -55,12 +54,12 @@ pub use Rattle.mm_call.specs.Checkpoints.{checkpointed, CheckpointsAgree, Closin
 pub use Rattle.mm_call.specs.CheckpointsWords.{closed_by}
 pub use Rattle.mm_call.specs.Courses.{closes, Course, Done, End, Fate, step_moves, walk, Walked}
 pub use Rattle.mm_call.specs.Counts.{five_steps, four_steps, one_step, StepsAre, StepsBy, StepsRefused, three_steps, two_steps, WritesByFlag}
-pub use Rattle.mm_call.specs.Ended.{CallsTo, committed_as, refused_as, result_of, StaysOn}
+pub use Rattle.mm_call.specs.Ended.{CallsTo, refused_as, result_of, StaysOn}
 pub use Rattle.mm_call.specs.Found.{Found as Accepted, found_at, found_at as accepted_at, found_by_verdict}
 pub use Rattle.mm_call.specs.Found.{found_by_verdict as accepted_from}
 pub use Rattle.mm_call.specs.FoundWords.{found_unless_wanting, found_unless_wanting as accepted_in, found_with, is_fresh}
-pub use Rattle.mm_call.specs.Leaving.{Blames, IsAccepted, IsAnswered, IsUntouched, LeavesUntouched}
-pub use Rattle.mm_call.specs.LeavingLaws.{blamed, blamed_later, read_untouched, same_untouched, wholly}
+pub use Rattle.mm_call.specs.Leaving.{Blames, IsAccepted, IsAnswered}
+pub use Rattle.mm_call.specs.LeavingLaws.{blamed, blamed_later, read_untouched, wholly}
 pub use Rattle.mm_call.specs.Levels.{all_made, by_digests, by_lists, place_then}
 pub use Rattle.mm_call.specs.Machine.{acts_for, answer_in, CallFinishes, CallReads, found_told, halt_told}
 pub use Rattle.mm_call.specs.MoveLaws.{anchor-nil, same_batches}
@@ -73,12 +72,12 @@ pub use Rattle.mm_call.specs.TrailLaws.{all_made-append, foreign_made, leads, re
 pub use Rattle.mm_call.specs.Trails.{IsChange, IsWrite, Trail}
 pub use Rattle.mm_call.specs.WalkLaws.{asks, changing, foreign_first, foreign_in-first}
 pub use Rattle.mm_call.specs.declared.ended.Ended.{Ended}
-pub use Rattle.mm_call.specs.declared.ended.Ended.TheVariants.{Answered, Refused}
+pub use Rattle.mm_call.specs.declared.ended.Ended.TheVariants.{Refused}
 pub use Rattle.mm_call.proofs.Above.{Accepts, agrees_is, answered_result, AsFound as AsMade, asked_for, basic_checkpoints_agree, before}
-pub use Rattle.mm_call.proofs.Above.{BlamesFor, calls_blamed, calls_from, calls_untouched, course_by, each_call, ends_fates, ends_result, ends_untouched, fate_of, finds}
+pub use Rattle.mm_call.proofs.Above.{calls_blamed, calls_from, calls_untouched, course_by, each_call, ends_fates, ends_result, fate_of, finds}
 pub use Rattle.mm_call.proofs.Above.{given_all, is_agrees, IsQuiet, is_memory, lacks_in, life_bare, MakesAll, opt_calls_agree, opt_checkpoints_agree}
-pub use Rattle.mm_call.proofs.Above.{opt_tied, reading_blamed, reading_tale, reads_blamed, refused_reading, register_untouched, sees, sight_is, stands_at, stands_for}
-pub use Rattle.mm_call.proofs.Above.{steps_blamed, steps_give, Tale, tale_on, then_untouched, Told, told_on, told_reading, two_reads}
+pub use Rattle.mm_call.proofs.Above.{opt_tied, reading_tale, refused_reading, register_untouched, sees, sight_is, stands_at, stands_for}
+pub use Rattle.mm_call.proofs.Above.{steps_give, Tale, tale_on, then_untouched, Told, told_on, told_reading, two_reads}
 pub use Rattle.mm_opt.specs.Answers.{answer_of, change_by, extension_after, extension_at, found_from, found_in, found_in_offer}
 pub use Rattle.mm_opt.specs.Answers.{found_unless, opened_cell, place_after}
 pub use Rattle.mm_opt.specs.Asked.{AskedInOpt}
@@ -87,7 +86,7 @@ pub use Rattle.mm_opt.specs.Checkpoints.{closed_cell, Closes, ClosesSegment, clo
 pub use Rattle.mm_opt.specs.Checkpoints.{closing_handed_on, ClosingStepsBy, ClosingStepsRefused, EndsClosing, EndsLooking, FindsSegment}
 pub use Rattle.mm_opt.specs.Checkpoints.{LeavesStill, Looks, segment_by, segment_in, Weighs}
 pub use Rattle.mm_opt.specs.ChecksOn.{ChecksBy, ChecksOn, closing_told}
-pub use Rattle.mm_opt.specs.Found.{Found, Ready, Stage}
+pub use Rattle.mm_opt.specs.Found.{Found, Stage}
 pub use Rattle.mm_opt.specs.Operating.{FindsIn, opt_asked}
 pub use Rattle.mm_opt.specs.Order.{batch_value, has_lost_power, verdict_at, verdict_of}
 pub use Rattle.mm_opt.specs.Seen.{cell_in, is_cell_of, own_cell}

@@ -8,13 +8,13 @@ use Rattle.mm_machine.specs.Finishing.{ActsTo, EndsTo, Finishes, goes_on, breaks
 use Rattle.mm_machine.specs.Reading.{CellSays, Draws, FindsOn, FindsRoom, Looks as LooksAt, RegisterSays, Rooms, Weighs as WeighsAt}
 use Rattle.mm_machine.specs.Stepping.{MayGoOn, SightLeads, Steps, act_of, ended_by, number_of, step_found, step_made}
 use Rattle.mm_machine.specs.declared.call.Ended.{Ended}
-use Rattle.mm_machine.specs.declared.call.Ended.TheVariants.{Answered, Broken, Refused as Refusing, Lacks as Lacking}
+use Rattle.mm_machine.specs.declared.call.Ended.TheVariants.{Answered, Broken}
 use Rattle.mm_machine.specs.declared.call.Stage.{Stage}
 use Rattle.mm_machine.specs.declared.call.Stage.TheVariants.{Begun, Seen, Changing}
 use Rattle.mm_machine.specs.declared.call.Step.{Step}
 use Rattle.mm_machine.specs.declared.call.Step.TheVariants.{Going, Over}
 use Rattle.mm_machine.specs.declared.change.Change.{Change as Move}
-use Rattle.mm_machine.specs.declared.change.Change.TheVariants.{Extending, Emptying, Placing, Writing}
+use Rattle.mm_machine.specs.declared.change.Change.TheVariants.{Writing}
 use Rattle.mm_machine.specs.declared.operation.Found.{Found}
 use Rattle.mm_machine.specs.declared.operation.Sight.{Sight}
 use Rattle.mm_machine.specs.declared.reading.Halt.{Halt}
@@ -22,6 +22,7 @@ use Rattle.mm_machine.specs.declared.reading.Halt.TheVariants.{Fault, Refused, L
 use Rattle.mm_opt.specs.declared.segment.Checkpointed.TheVariants.{Done, NoSegment}
 use Rattle.mm_opt.specs.declared.segment.CheckpointRefusal.TheVariants as refusal
 use Rattle.mm_opt.specs.Checkpoints.{ClosesBy, FindsClosing, WeighsAndCloses}
+use Rattle.mm_call.specs.Turns.{turn_with}
 use Rattle.mm_opt.specs.CheckpointTurns.{ClosingActsAt, ClosingTurn, StepIsClosing, closing_fault_turned, step_told}
 use Rattle.mm_opt.specs.Closing.{GivesAs, IsClosing, closing, ended_told, sight_of, to_write, write_of}
 
@@ -219,9 +220,7 @@ written_as (Writing next) answer None old new step none g e =
 written_as (Writing next) answer (Some fault) old new step none g e =
     steps_as (Changing (record { change = Writing next; answer = answer })) old new (Some fault) (Over (Broken fault (Some 0))) e refl tt tt
     refl g
-written_as (Extending value) answer fault old new step none g e = absurd (cc)
-written_as (Emptying opening) answer fault old new step none g e = absurd (cc)
-written_as (Placing opening) answer fault old new step none g e = absurd (cc)
+written_as _ answer fault old new step none g e = absurd (cc)
 
 pub closing_steps_as : (it : Stage Checkpointed) (old new : Standing) (step : Step Checkpointed CheckpointRefusal) → IsClosing it
     → Steps closing it old new step → StepsAs it old new step
@@ -239,12 +238,13 @@ closing_steps_as (Changing ready) old new step is s =
 
 -- as a turn tells it
 
+over_fault : (result : Result Checkpointed CheckpointRefusal) → closing_fault_turned (turn_with result) ≡ closing_fault_in result
+over_fault (Ok it) = refl
+over_fault (Err why) = refl
+
 step_fault_told : (step : Step Checkpointed CheckpointRefusal) → closing_fault_turned (step_told step) ≡ fault_stepped step
 step_fault_told (Going on) = refl
-step_fault_told (Over (Answered it)) = refl
-step_fault_told (Over (Refusing why)) = refl
-step_fault_told (Over (Broken fault commits)) = refl
-step_fault_told (Over Lacking) = refl
+step_fault_told (Over ended) = over_fault (ended_told ended)
 
 pub turn_acts : (it : Stage Checkpointed) (old new : Standing) (step : Step Checkpointed CheckpointRefusal) (turn : ClosingTurn)
     → IsClosing it → Steps closing it old new step → turn ≡ step_told step → ClosingActsAt it old new turn
@@ -254,9 +254,7 @@ turn_acts it old new step turn is s e = rw (e, step_fault_told step) (closing_st
 
 may_write : (change : Move) (standing : Standing) → extends_in change ≡ false → MayChange change standing
 may_write (Writing next) standing is = tt
-may_write (Extending value) standing is = absurd (cc)
-may_write (Emptying opening) standing is = absurd (cc)
-may_write (Placing opening) standing is = absurd (cc)
+may_write _ standing is = absurd (cc)
 
 pub may_close : (it : Stage Checkpointed) (standing : Standing) → IsClosing it → MayGoOn it standing
 may_close Begun standing is = tt
@@ -265,9 +263,7 @@ may_close (Changing ready) standing is = may_write ready.change standing is
 
 few_changing : (change : Move) → extends_in change ≡ false → number_in 3 change ≤ 5
 few_changing (Writing next) is = omega arith
-few_changing (Extending value) is = absurd (cc)
-few_changing (Emptying opening) is = absurd (cc)
-few_changing (Placing opening) is = absurd (cc)
+few_changing _ is = absurd (cc)
 
 pub few_closing : (it : Stage Checkpointed) → IsClosing it → number_of 3 it ≤ 5
 few_closing Begun is = omega arith

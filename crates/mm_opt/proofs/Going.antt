@@ -7,7 +7,7 @@ use Rattle.mm_opt.proofs.Below.{CallsOn, Course, Fate, step_moves, refused_as, C
 use Rattle.mm_opt.proofs.Below.{is_fresh, all_made, by_digests, fault_of, fault_in, cell_at, StandsAt}
 use Rattle.mm_opt.proofs.Below.{with_register, IsWrite, changing, asks, fate_of, ends_fates, tale_on, reading_tale, MakesAll, AsMade}
 use Rattle.mm_opt.proofs.Below.{Told, course_by, lacks_in, told_on, refused_reading, told_reading, sees, finds, opt_calls_agree}
-use Rattle.mm_opt.proofs.Below.{Found, Repeat, Change, Extending, Emptying, Placing, Writing, Opening, opened_cell, acts_left, acts_for}
+use Rattle.mm_opt.proofs.Below.{Found, Repeat, Change, Extending, Emptying, Opening, opened_cell, acts_left, acts_for}
 use Rattle.mm_opt.proofs.Below.{Begun, CallFinishes, CallReads, opt_asked, opt_call}
 use Rattle.std.specs.Prelude.{◌≤◌}
 use Rattle.mm_call.proofs.Above.{Accepts}
@@ -64,8 +64,7 @@ module _ (meaning : Meaning) (key barrier : List ℕ) (seen : Digests) (b : Batc
   change_made (Emptying opening) x answer is for so =
       let same : changing seen.flag (is_fresh x) b ≡ changing false true b = simp (so.found_is, for.0) in
       subst (MakesAll here seen (acts_left (Emptying opening))) (sym same) (opening_made opening for.0 for.1 for.2 is)
-  change_made (Placing opening) x answer is for so = absurd for
-  change_made (Writing next) x answer is for so = absurd for
+  change_made _ x answer is for so = absurd for
 
   as_made : (found : Result Found Refusal) (x : Result Accepted Refusal) → IsCell (cell_at here seen) → AsFound here seen b x found
       → AsMade opt_call here seen b x found (changing seen.flag (is_fresh x) b)

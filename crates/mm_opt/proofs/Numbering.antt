@@ -27,8 +27,7 @@ module _ (meaning : Meaning) (offer : List ℕ) (b : Batch) where
   found_number : (flag : Bool) (it : change.Change) → IsByFlagIn flag it → number_in 5 it ≡ 3
   found_number flag (Extending value) by = refl
   found_number flag (Emptying opening) by = refl
-  found_number flag (Placing opening) by = absurd by
-  found_number flag (Writing next) by = absurd by
+  found_number flag _ by = absurd by
 
   seen_next : (found : Result Found (Halt Refusal)) (cell : Cell) (old new : Standing) (next : Stage)
       → ReadsRegister meaning offer b cell old new (found_told found) → Going next ≡ stepping.step_found found

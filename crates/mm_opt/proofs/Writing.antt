@@ -2,7 +2,7 @@
 use Rattle.mm_opt.proofs.Below.{◌≡◌, ℕ, true, false, List, Some, Result, Ok, Err, refl, sym, ap, ◌∙◌, inl, inr, counted, Standing}
 use Rattle.mm_opt.proofs.Below.{Meaning, Batch, Cell, CellFault, IsCell, cell_spelling, reads_cell-same, is_long, BatchAnswer, Refusal}
 use Rattle.mm_opt.proofs.Below.{Long}
-use Rattle.mm_opt.proofs.Below.{Ended, goes_on, breaks_off, StepsTo, AsksTo, Calls, result_of, each_call, answered_result, Found, Repeat, Change, Extending, Emptying, Placing, Writing}
+use Rattle.mm_opt.proofs.Below.{Ended, goes_on, breaks_off, StepsTo, AsksTo, Calls, result_of, each_call, answered_result, Found, Repeat, Change, Extending, Emptying}
 use Rattle.mm_opt.proofs.Below.{acts_left, is_cell_of, cell_in, acts_for, answer_in, opt_call, Opt, StepsAre}
 use Rattle.mm_opt.proofs.Below.{three_steps, four_steps, five_steps, StepsRefused, StepsBy, WritesByFlag}
 use Rattle.mm_machine.specs.declared.change.Change as change
@@ -89,8 +89,7 @@ module _ (meaning : Meaning) (b : Batch) (old two new : Standing) (cell : Cell) 
           answers = λ c is at. rw (← told c is at, m.by_flag, m.shape) five;
         },
       )
-  change_counted (Placing opening) answer m s = absurd m.by_flag
-  change_counted (Writing next) answer m s = absurd m.by_flag
+  change_counted _ answer m s = absurd m.by_flag
 
   commits_counted : (found : Found) → Made meaning cell b found → StepsTo (acts_for found) (answer_in found) two new ended
       → Counted old new (result_of ended)

@@ -16,7 +16,7 @@ pub use call::{Call, Turn, begin};
 pub use close::Close;
 pub use closing::{CheckpointCall, CheckpointTurn, begin_checkpoint, checkpoint, closing_result};
 pub use first::provision;
-pub use mm_call::{Committed, Ended, Provisioned};
+pub use mm_call::{Committed, Provisioned};
 pub use operation::OptAsk;
 pub use segment::{CheckpointRefusal, Checkpointed};
 pub use whole::{Prepared, ask, ask_batch, ask_keeping, prepare};
