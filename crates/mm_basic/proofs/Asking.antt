@@ -1,13 +1,14 @@
 -- What a whole call counts, and the sizes of its answer.
-use Rattle.mm_basic.proofs.Below.{◌≡◌, ℕ, Bool, true, false, List, [], length, Option, None, Some, Result, Ok, Err, IfOk, refl, sym, ap, ◌∙◌}
-use Rattle.mm_basic.proofs.Below.{subst, inl, inr, StepFault, Standing, ReadCell, Goes, Meaning, IsLawful, Batch, One, IsFit}
+use Rattle.mm_basic.proofs.Below.{◌≡◌, ℕ, Bool, true, false, List, [], length, None, Result, Ok, Err, IfOk, refl, sym, ap, ◌∙◌}
+use Rattle.mm_basic.proofs.Below.{subst, inl, inr, Standing, ReadCell, Goes, Meaning, IsLawful, Batch, One, IsFit}
 use Rattle.mm_basic.proofs.Below.{is_long, BatchAnswer, Refusal, acts_left, extends_in, Deed, Writing, Found, Repeat, Change, Ended, goes_on, breaks_off, EndsTo}
-use Rattle.mm_basic.proofs.Below.{AsksTo, Calls, result_of, fault_of, fault_in, steps_give, each_call, ends_result}
+use Rattle.mm_basic.proofs.Below.{AsksTo, Calls, result_of, fault_in, steps_give, each_call, ends_result}
 use Rattle.mm_basic.proofs.Below.{given_all, basic_call}
 use Rattle.mm_basic.proofs.Below.{Basic}
-use Rattle.mm_call.specs.Counts.{StepsAnswered, StepsAre, StepsBroken, StepsBy, WritesAtMostOnce}
+use Rattle.mm_call.specs.Counts.{StepsAnswered, StepsAre, StepsBy, StepsRefused, WritesAtMostOnce}
 use Rattle.mm_call.specs.Calls.{StepsTo}
 use Rattle.mm_base.specs.Faults.{counted}
+use Rattle.mm_model.specs.declared.refusal.Refusal.TheVariants.{Device, Long}
 use Rattle.mm_call.proofs.Above.{answered_result}
 use Rattle.mm_basic.proofs.Findings.{IsShaped, finding_shaped}
 use Rattle.mm_basic.proofs.Telling.{reads_told}
@@ -24,16 +25,18 @@ module _ (meaning : Meaning) (old middle new : Standing) (ended : Ended) where
       (inr (h.steps ∙ ap counted g.steps, h.writes ∙ ap counted g.writes))
   writes_stepped _ answer new_one none g e = absurd (cc)
 
-  once_refused : (fault : Option StepFault) → StepsAre 1 0 old middle → StepsBroken fault old middle
-  once_refused None r = r
-  once_refused (Some fault) r = inl r
+  once_refused : (b : Batch) (why : Refusal) → IsShaped meaning b (Err why) → StepsAre 1 0 old middle
+      → StepsRefused Basic why old middle
+  once_refused b Long shape r = shape
+  once_refused b (Device fault) shape r = inl r
+  once_refused b _ shape r = r
 
   -- what is counted of a call, by what it found
   ends_stepped : (b : Batch) (found : Result (Found BatchAnswer) Refusal) → IsShaped meaning b found → Goes ReadCell old middle (fault_in found)
       → EndsTo basic_call found middle new ended → StepsBy Basic (result_of ended) old new
   ends_stepped b (Err why) shape g e =
       ends_result basic_call (λ (s : Standing) (r : Result BatchAnswer Refusal). StepsBy Basic r old s) why middle new ended e
-      (once_refused (fault_of why) (g.steps, g.writes))
+      (once_refused b why shape (g.steps, g.writes))
   ends_stepped b (Ok (Repeat answer)) shape g e =
       answered_result (λ (s : Standing) (r : Result BatchAnswer Refusal). StepsBy Basic r old s) answer middle new ended e
       (subst (λ (t : Bool). StepsAnswered Basic t old middle) (sym shape.0) (g.steps, g.writes))
@@ -60,14 +63,15 @@ module _ (meaning : Meaning) (old new : Standing) (offer : List ℕ) (b : Batch)
   once_answered true s = inl s.1
   once_answered false s = inr s.1
 
-  once_broken : (fault : Option StepFault) → StepsBroken fault old new → WritesAtMostOnce old new
-  once_broken None s = inl s.1
-  once_broken (Some fault) (inl s) = inl s.1
-  once_broken (Some fault) (inr s) = inr s.1
+  once_broken : (why : Refusal) → StepsRefused Basic why old new → WritesAtMostOnce old new
+  once_broken Long s = absurd s
+  once_broken (Device fault) (inl s) = inl s.1
+  once_broken (Device fault) (inr s) = inr s.1
+  once_broken _ s = inl s.1
 
   once : (result : Result BatchAnswer Refusal) → StepsBy Basic result old new → WritesAtMostOnce old new
   once (Ok answer) s = once_answered answer.again s
-  once (Err why) s = once_broken (fault_of why) s
+  once (Err why) s = once_broken why s
 
   pub writes : (result : Result BatchAnswer Refusal) → Calls basic_call meaning old new offer b result → WritesAtMostOnce old new
   writes result c =

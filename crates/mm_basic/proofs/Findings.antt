@@ -1,5 +1,5 @@
 -- What is found, by what the offer is examined to.
-use Rattle.mm_basic.proofs.Below.{◌≡◌, ℕ, Bool, true, false, List, Result, Ok, Err, IsTrue, refl, sym, subst, inl, inr, arith, Meaning}
+use Rattle.mm_basic.proofs.Below.{◌≡◌, ℕ, Bool, true, false, List, Result, Ok, Err, IsTrue, refl, sym, ap, subst, inl, inr, arith, Meaning}
 use Rattle.mm_basic.proofs.Below.{IsLawful, Batch, normal, Blank, Form, InBasic, Content, Snapshot, IsFit, length-link, Refusal, Verdict}
 use Rattle.mm_basic.proofs.Below.{digest_of, BatchAnswer, extends_in, Found, Repeat, Change, Seen, NoCell, NoOffer, Both, examined, summary_in, verdict_of, linked}
 use Rattle.mm_basic.proofs.Below.{answer_of, committed_cell, found_from, found_in, OrMemory, FindsIn, weighed_only, Basic, Cell, IsCellOf}
@@ -8,20 +8,31 @@ use Rattle.mm_basic.proofs.Below.{None, Standing, Goes, ReadCell, fault_in}
 use Rattle.std.proofs.lemmas.Bool.Decides.{nat_tests}
 use Rattle.mm_machine.specs.Reading.{CellSays, extends}
 use Rattle.mm_model.specs.FitLaws.{is_fit}
+use Rattle.mm_model.specs.declared.refusal.Refusal.TheVariants.{Device, Long}
+use Rattle.mm_call.specs.OrderWords.{weighed}
 
--- An answer found says whether it is a repeat's, and is fit; and no own extension is to come.
+-- An answer found says whether it is a repeat's, and is fit; no own extension is to come; and no batch is found to be too long.
 abbrev pub IsShaped : Meaning → Batch → Result (Found BatchAnswer) Refusal → Type 0
+IsShaped meaning b (Err Long) = ⊥
 IsShaped meaning b (Err why) = Unit {0}
 IsShaped meaning b (Ok (Repeat answer)) = (answer.again ≡ true) × (IsLawful meaning → IsFit b answer)
 IsShaped meaning b (Ok (Change ready)) =
     (ready.answer.again ≡ false) × (IsLawful meaning → IsFit b ready.answer) × (extends_in ready.change ≡ false)
 
-shaped_from : (meaning : Meaning) (key next : List ℕ) (offered : Content) (b : Batch) (e : Result Bool Refusal)
+never_long : (spelled tagged : Bool) (verdict : Verdict) (fits : Bool) → weighed spelled tagged verdict fits ≡ Err Long → ⊥
+never_long spelled tagged verdict fits e = grind (arith, e)
+
+shaped_refused : (meaning : Meaning) (b : Batch) (why : Refusal) → (why ≡ Long → ⊥) → IsShaped meaning b (Err why)
+shaped_refused meaning b Long never = absurd (never refl)
+shaped_refused meaning b _ never = tt
+
+shaped_from : (meaning : Meaning) (key next : List ℕ) (offered : Content) (b : Batch) (e : Result Bool Refusal) → (e ≡ Err Long → ⊥)
     → ((again : Bool) → e ≡ Ok again → IsLawful meaning → IsFit b (answer_of meaning key offered b again))
     → IsShaped meaning b (found_from e next (answer_of meaning key offered b))
-shaped_from meaning key next offered b (Err why) h = tt
-shaped_from meaning key next offered b (Ok true) h = (refl, h true refl)
-shaped_from meaning key next offered b (Ok false) h = (refl, h false refl, refl)
+shaped_from meaning key next offered b (Err why) never h =
+    shaped_refused meaning b why (λ (e : why ≡ Long). never (ap (λ (w : Refusal). Err w) e))
+shaped_from meaning key next offered b (Ok true) never h = (refl, h true refl)
+shaped_from meaning key next offered b (Ok false) never h = (refl, h false refl, refl)
 
 -- an offer that is accepted leads to a fit answer
 accepted_fit : (meaning : Meaning) (key : List ℕ) (offered : Snapshot) (b : Batch) (verdict : Verdict) (again : Bool)
@@ -39,12 +50,14 @@ shaped_in meaning (NoOffer Form) b = tt
 shaped_in meaning (Both cell offered) b =
     shaped_from meaning cell.key (committed_cell cell offered.content b) offered.content b
     (examined meaning cell.key offered b (verdict_of cell offered b))
+    (λ (e : examined meaning cell.key offered b (verdict_of cell offered b) ≡ Err Long).
+    never_long (meaning.is_spelled offered.content.state) _ (verdict_of cell offered b) _ e)
     (accepted_fit meaning cell.key offered b (verdict_of cell offered b))
 shaped_in meaning _ b = tt
 
 shaped_or : (meaning : Meaning) (b : Batch) (x found : Result (Found BatchAnswer) Refusal) → IsShaped meaning b x → OrMemory x found
     → IsShaped meaning b found
-shaped_or meaning b (Err why) found h o = rw o tt
+shaped_or meaning b (Err why) found h o = rw o h
 shaped_or meaning b (Ok it) found h (inl e) = rw e h
 shaped_or meaning b (Ok it) found h (inr e) = rw e tt
 
@@ -69,8 +82,8 @@ pub record Finding (meaning : Meaning) (old new : Standing) (offer : List ℕ) (
 
 pub finding_shaped : (meaning : Meaning) (old new : Standing) (offer : List ℕ) (b : Batch) (found : Result (Found BatchAnswer) Refusal)
     → Finding meaning old new offer b found → IsShaped meaning b found
-finding_shaped meaning old new offer b (Err why) r = tt
-finding_shaped meaning old new offer b (Ok it) r = let f = r.finds refl in shaped meaning f.bytes offer b (Ok it) f.said
+finding_shaped meaning old new offer b (Err (Device fault)) r = tt
+finding_shaped meaning old new offer b found r = let f = r.finds refl in shaped meaning f.bytes offer b found f.said
 
 -- an offer that is none to this module
 pub no_offer : (meaning : Meaning) (bytes offer : List ℕ) (b : Batch) (id : ℕ) (cell : Cell) (fault : PartsFault)

@@ -32,10 +32,10 @@ abbrev pub StepsBroken : Option StepFault → Standing → Standing → Type 0
 StepsBroken None old new = StepsAre 1 0 old new
 StepsBroken (Some fault) old new = StepsAre 1 0 old new ⊎ StepsAre 2 1 old new
 
--- a refusal makes the step that it rests on, and those before it
+-- a refusal makes the step that it rests on, and those before it; none is that of too long a batch
 abbrev pub StepsRefused : Variant → Refusal → Standing → Standing → Type 0
+StepsRefused variant Long old new = ⊥
 StepsRefused Basic why old new = StepsBroken (fault_of why) old new
-StepsRefused Opt Long old new = ⊥
 StepsRefused Opt (Device fault) old new = StepsMade old new
 StepsRefused Opt refusal.Blank old new = StepsAre 1 0 old new
 StepsRefused Opt refusal.Cell old new = StepsAre 1 0 old new

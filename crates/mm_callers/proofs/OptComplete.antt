@@ -87,7 +87,8 @@ asked_in_memory meaning {old = old} new offer request result e complete on key b
 
 -- a first call by a quiet plan doesn't end by a device's fault
 pub asked_faultless : {meaning : Meaning} {old middle : Standing} {offer request : List ℕ} {why : Refusal} {fault : StepFault}
-    (new : Standing) (result : Result BatchAnswer Refusal) → why ≡ Device fault → AskedInOpt meaning old middle offer (One request) (Err why)
+    (new : Standing) (result : Result BatchAnswer Refusal) → why ≡ Device fault
+    → AskedInOpt meaning old middle offer (One request) (Err why)
     → AsksByQuietPlan meaning old new offer request result
 asked_faultless {fault = fault} new result is first on plan key barrier y all others asked again short s a m w =
     let t = asked_quietly first on plan key barrier y all others asked again short s a m w in

@@ -240,7 +240,8 @@ refused_again {said = said} {why = why} call k again key barrier y all others as
 
 -- the second reply, where it is told as a repeat, and the register's items are known at the end
 pub repeats_behind : {meaning : Meaning} {old answered_at closed new : Standing} {offer request : List ℕ} {said : Said}
-    (first second : Answer) → AskedInOpt meaning old answered_at offer (One request) (Ok (whole first)) → ChecksOn answered_at closed (Ok said)
+    (first second : Answer) → AskedInOpt meaning old answered_at offer (One request) (Ok (whole first))
+    → ChecksOn answered_at closed (Ok said)
     → AskedInOpt meaning closed new offer (One request) (Ok (whole second))
     → RepeatsBehind meaning old new offer request (Ok (record { first = first; second = second }))
 repeats_behind {said = said} first second call k again is_again key barrier y all others asked items more s known ends a shown_so =
@@ -250,7 +251,8 @@ repeats_behind {said = said} first second call k again is_again key barrier y al
 
 -- the second reply, where the register's items are known when the checkpoint was over
 pub never_twice : {meaning : Meaning} {old answered_at closed new : Standing} {offer request : List ℕ} {said : Said}
-    (first second : Answer) → AskedInOpt meaning old answered_at offer (One request) (Ok (whole first)) → ChecksOn answered_at closed (Ok said)
+    (first second : Answer) → AskedInOpt meaning old answered_at offer (One request) (Ok (whole first))
+    → ChecksOn answered_at closed (Ok said)
     → AskedInOpt meaning closed new offer (One request) (Ok (whole second)) → ClosesBetween meaning old new offer request first second
 never_twice {answered_at = answered_at} {closed = closed} {said = said} first second call k again = record {
   answered = answered_at;

@@ -44,7 +44,6 @@ pub use Rattle.mm_model.specs.declared.answer.Answer.{Answer}
 pub use Rattle.mm_model.specs.declared.answer.BatchAnswer.{BatchAnswer}
 pub use Rattle.mm_model.specs.declared.refusal.Refusal.{Refusal}
 pub use Rattle.mm_model.specs.declared.refusal.Refusal.TheVariants.{Device, Full, Long, Lost, Memory}
-pub use Rattle.mm_model.specs.declared.verdict.Verdict.{Verdict}
 pub use Rattle.mm_model.proofs.Above.{basic_issued, basic_names, opt_issued, opt_names}
 pub use Rattle.mm_call.specs.Asked.{IsAsked, IsWithin}
 pub use Rattle.mm_call.specs.AskedIn.{AskedIn}
@@ -52,7 +51,7 @@ pub use Rattle.mm_call.specs.Called.{called, ended_by, given_for, reading_steps,
 pub use Rattle.mm_call.specs.Calls.{breaks_off, EndsTo, goes_on}
 pub use Rattle.mm_call.specs.CallsOn.{CallContinues, CallsOn}
 pub use Rattle.mm_call.specs.Coming.{Comes, grown, kept}
-pub use Rattle.mm_call.specs.Counts.{StepsAnswered, StepsBroken, StepsBy, StepsFrom, WritesAtMostOnce}
+pub use Rattle.mm_call.specs.Counts.{StepsAnswered, StepsBy, StepsFrom, StepsRefused, WritesAtMostOnce}
 pub use Rattle.mm_call.specs.Courses.{after_step, commits, Course, End, Fate, seen_in, walk, Walked}
 pub use Rattle.mm_call.specs.Ended.{result_of}
 pub use Rattle.mm_call.specs.Found.{Found, found_at, found_by_verdict}
@@ -63,17 +62,15 @@ pub use Rattle.mm_call.specs.Machine.{CallReads}
 pub use Rattle.mm_call.specs.MoveLaws.{more_batches, same_batches}
 pub use Rattle.mm_call.specs.OfferLaws.{basic_content, one_content, opt_content}
 pub use Rattle.mm_call.specs.Order.{admitted}
-pub use Rattle.mm_call.specs.OrderWords.{weighed}
 pub use Rattle.mm_call.specs.Premises.{AreAsked, AreShown, IsIdle}
 pub use Rattle.mm_call.specs.Refusals.{fault_in, fault_of, OrMemory}
 pub use Rattle.mm_call.specs.Standing.{counted_by, instance_by}
 pub use Rattle.mm_call.specs.WalkLaws.{batch, call_commits, Commits, nothing, seen_none}
 pub use Rattle.mm_call.specs.declared.ended.Ended.{Ended}
 pub use Rattle.mm_call.proofs.Above.{Alike, alike_call, AllMay, answered_clean_as, ask_may, asked_for, asked_idle, bare, basic_asked}
-pub use Rattle.mm_call.proofs.Above.{basic_comes, before, ends_result, Given, names_after, names_made, opt_comes as comes, refused_result}
-pub use Rattle.mm_call.proofs.Above.{fresh_found, found_with_tells, stands_at, steps_give, unlacked, unless_lost, weighed_tells}
+pub use Rattle.mm_call.proofs.Above.{basic_comes, before, names_after, names_made, opt_comes as comes, refused_result}
+pub use Rattle.mm_call.proofs.Above.{fresh_found, found_with_tells, stands_at, unlacked, unless_lost, weighed_tells}
 pub use Rattle.mm_machine.specs.Finishing.{acts_for, answer_in}
-pub use Rattle.mm_basic.specs.Asks.{basic_call}
 pub use Rattle.mm_opt.specs.Asks.{opt_call}
 pub use Rattle.mm_ask.specs.Asks.{ask_call}
 pub use Rattle.mm_store.specs.Calls.{CountsFailures, putting, ReadsSlot, WritesSlot}

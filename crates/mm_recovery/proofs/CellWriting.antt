@@ -4,7 +4,7 @@ use Rattle.mm_recovery.proofs.Below.{◌⊎◌, counted, Variant, Basic, Opt, St
 use Rattle.mm_recovery.proofs.Below.{WritesByOpening, WritesFor, is_open_after, openings, Option, None, Result, Err, StepFault, cell_after}
 use Rattle.mm_recovery.proofs.Below.{Meaning, Batch, PartsFault, IsCell, ReadsCell, SpellsCell, cell_spelling, Snapshot, BatchAnswer, Refusal}
 use Rattle.mm_recovery.proofs.Below.{Memory, Device, is_long, whole, whole_in, Ended, goes_on, breaks_off, EndsTo, result_of, acts_for, answer_in}
-use Rattle.mm_recovery.proofs.Below.{fault_of, OrMemory, refused_result, CallReads, StepsBroken, StepsBy, opt_call}
+use Rattle.mm_recovery.proofs.Below.{fault_of, OrMemory, refused_result, CallReads, Long, StepsRefused, StepsBy, opt_call}
 use Rattle.mm_recovery.proofs.Below.{StepsAnswered, StepsFrom, CallWrites, IsNewAt, LeavesFlag, new_by, [], ◌∷◌}
 use Rattle.mm_platform.specs.Steps.{Act}
 use Rattle.mm_machine.specs.Acts.{acts_left}
@@ -119,18 +119,19 @@ basic_answered : (again : Bool) (old new : Standing) → StepsAnswered Basic aga
 basic_answered again old new s = grind (arith, s)
 
 -- the requests that a refused call came to write
-basic_refused : (broken : Option StepFault) (old new : Standing) → StepsBroken broken old new
-    → (requests : ℕ) × IsNewAt broken requests × (new.writes ≡ counted_by requests old.writes)
-basic_refused None old new s = (0, refl, s.1)
-basic_refused (Some fault) old new (inl s) = (0, omega arith, s.1)
-basic_refused (Some fault) old new (inr s) = (1, omega arith, s.1)
+basic_refused : (why : Refusal) (old new : Standing) → StepsRefused Basic why old new
+    → (requests : ℕ) × IsNewAt (fault_of why) requests × (new.writes ≡ counted_by requests old.writes)
+basic_refused Long old new s = absurd s
+basic_refused (Device fault) old new (inl s) = (0, omega arith, s.1)
+basic_refused (Device fault) old new (inr s) = (1, omega arith, s.1)
+basic_refused _ old new s = (0, refl, s.1)
 
 pub basic_writes : (old new : Standing) (result : Result Answer Refusal) → StepsBy Basic (whole_in result) old new
     → CallWrites Basic result old new
 basic_writes old new (Ok answer) s =
     record { requests = new_by answer.again; new = refl; writes = basic_answered answer.again old new s; leaves = tt }
 basic_writes old new (Err why) s =
-    let r = basic_refused (fault_of why) old new s in record { requests = r.0; new = r.1; writes = r.2; leaves = tt }
+    let r = basic_refused why old new s in record { requests = r.0; new = r.1; writes = r.2; leaves = tt }
 
 -- What Opt finds, by the cell that it read: a repeat, or what is new.
 abbrev IsChangeBy : Cell → Bool → change.Change → Type 0
@@ -152,7 +153,7 @@ at_by_cell : (lost : Bool) (meaning : Meaning) (cell : Cell) (register : List �
 at_by_cell lost meaning cell register taken b = grind (arith, from_by_cell)
 
 -- want of memory may come in its place
-pub or_all : {A : Type 0} (P : Result A Refusal → Type 0) (x found : Result A Refusal) → P x → P (Err Memory) → OrMemory x found → P found
+or_all : {A : Type 0} (P : Result A Refusal → Type 0) (x found : Result A Refusal) → P x → P (Err Memory) → OrMemory x found → P found
 or_all P x found h m o = grind (arith, h, m, o)
 
 -- the cell that was seen

@@ -233,7 +233,8 @@ MadeOf (Ok offer) = Unit {0}
 MadeOf (Err why) = ⊥
 
 abbrev pub IsMade : (variant : Variant) (meaning : Meaning) (before after : Standing) (waiting : Result (Option Pending) StoreFault)
-    (old new : StoreStanding) (result : Result Resumed HostFault) → AfterFinding variant meaning before after waiting old new result → Type 0
+    (old new : StoreStanding) (result : Result Resumed HostFault) → AfterFinding variant meaning before after waiting old new result
+    → Type 0
 IsMade variant meaning before after (Ok (Some p)) old new result g = MadeOf g.offer
 IsMade variant meaning before after (Ok None) old new result g = ⊥
 IsMade variant meaning before after (Err why) old new result g = ⊥

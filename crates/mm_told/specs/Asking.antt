@@ -62,9 +62,9 @@ module _ (variant : Variant) (meaning : Meaning) (offer request : List ℕ) wher
     lacks = wants_memory;
   }
 
-  -- Where the call is over, it is the call over the host's platform. Where it makes a step next, the
-  -- call over the host's platform makes these steps, and then that one: if no answer comes to that,
-  -- it is broken off there.
+  -- Where the call is over, it is the call over the host's platform. Where it makes a step next,
+  -- the call over the host's platform makes these steps, and then that one: if no answer comes to
+  -- that, it is broken off there.
   abbrev pub IsAsked : Host → List Made → Outcome (Result Answer Refusal) → Type 0
   IsAsked host steps (outcome.Ended given) =
       AskedIn (ask_call variant) meaning (begun host steps) (bare (host.stood 0)) offer

@@ -18,7 +18,8 @@ use Rattle.mm_told.specs.Outcomes.{Course, Tells, AreAsTold}
 use Rattle.mm_told.specs.Asking.{begun}
 
 -- it ended with the last of these steps, and gives this
-pub record ClosesTo (steps : List Made) (given : Result Checkpointed CheckpointRefusal) : Type 0 where
+pub record ClosesTo (steps : List Made)
+    (given : Result Checkpointed CheckpointRefusal) : Type 0 where
   pub end : Ended Checkpointed CheckpointRefusal
   pub ends : Ends closing Begun steps end
   pub gives : given ≡ ended_told end

@@ -6,9 +6,9 @@ use Rattle.mm_platform.specs.declared.fault.StepFault.TheVariants.{Off}
 use Rattle.mm_told.specs.declared.step.Made.{Made}
 use Rattle.mm_told.specs.Steps.{IsMade}
 
--- A host's platform: the steps that were made on it; where it stood, by how many of these were still
--- to be made; and where it stands if, with so many of them left, it makes another step, of which no
--- answer comes.
+-- A host's platform: the steps that were made on it; where it stood, by how many of these were
+-- still to be made; and where it stands if, with so many of them left, it makes another step, of
+-- which no answer comes.
 pub record Host : Type 0 where
   pub made : List Made
   pub stood : ℕ → Standing

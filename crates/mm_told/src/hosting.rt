@@ -99,8 +99,9 @@ fn end<M: Module, P: Platform>(
 ) -> Option<Result<Answer, Refusal>>
     ghost stood: { ℕ → Standing }
     requires { AreMade (λ left. bare (stood left)) made.now }
-    ensures { IfSome result (λ gives. AskedInBasic (M.meaning «module».now) (bare (stood (length made.now)))
-        (bare (stood 0)) offer.now (One request.now) (whole_in gives)) }
+    ensures { IfSome result (λ gives. AskedInBasic (M.meaning «module».now)
+        (bare (stood (length made.now))) (bare (stood 0)) offer.now (One request.now)
+        (whole_in gives)) }
 {
     match ask(alloc, Variant::Basic, module, made, offer, request, keys) {
         Outcome::Ended(gives) => Some(gives),
