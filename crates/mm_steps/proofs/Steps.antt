@@ -165,8 +165,8 @@ module _ (variant : Variant) (meaning : Meaning) (bytes : List ℕ) (b : Batch) 
   asks_broken_off stop it breaks key barrier d from issued meddles next offer f offered at =
       let i = instance_by variant meaning key barrier in
       break_comes (asking variant meaning bytes b) (tells_ask b) i d from (asked_so i d issued meddles offer b) issued meddles
-      (asks_know variant meaning key barrier d from issued meddles offer bytes b short offered f.stands f.quiet) stage old next f new stop it
-      breaks at
+      (asks_know variant meaning key barrier d from issued meddles offer bytes b short offered f.stands f.quiet) stage old next f new stop
+      it breaks at
 
 -- a checkpoint that wasn't broken off comes to something
 
@@ -197,7 +197,8 @@ module _ (variant : Variant) (meaning : Meaning) (key barrier : List ℕ) (d : D
   ClosingComes stop new result = MatchResult result (Came its (closed_so its d issued meddles stop) d.count issued from new)
       (λ _. HasRead its d meddles stop from new)
 
-  closes_know : Stands its from d → IsQuiet from → Knows checkpointing tells_close its d from (closed_so its d issued meddles) issued meddles
+  closes_know : Stands its from d → IsQuiet from
+      → Knows checkpointing tells_close its d from (closed_so its d issued meddles) issued meddles
   closes_know s q = record {
     comes = λ stop new result w.
         subst (λ (r : Result Called Memory). ClosingComes stop new r) (sym w.told)

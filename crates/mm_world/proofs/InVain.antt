@@ -325,8 +325,9 @@ checks_in_vain old mid new meddles stop result goes closes settles issued = λ i
     let fault_is : r.fault ≡ fault_at stop 1 = (r.goes.told (plan_of stop meddles) refl).answers
     ∙ ap (λ on. will_answer on (plan_of stop meddles)) at.quiet.is_on in
     let vain : Outcome Digests = reads_only (by_digests i) d issued meddles stop (missing missed) in
-    subst (λ (x : Result Said CheckpointRefusal). CameInVain vain issued old new (quiet_as (told_closing stop (closes_at stop) x))) (sym r.ends)
-    (stopped_came i d stop meddles issued (missing missed) old mid new (quiet_as (told_closing stop (closes_at stop) (closing_ended r.fault missed))) r.fault
+    let told : Result Said CheckpointRefusal → Reply = λ x. told_closing stop (closes_at stop) x in
+    subst (λ (x : Result Said CheckpointRefusal). CameInVain vain issued old new (quiet_as (told x))) (sym r.ends)
+    (stopped_came i d stop meddles issued (missing missed) old mid new (quiet_as (told (closing_ended r.fault missed))) r.fault
     at.quiet at.register r.goes (subst (λ x. SettlesPlan stop x mid new) breaks settles) (subst (λ x. StaysOn stop x mid) breaks p.0)
     (closing_told_vain stop missed r.fault fault_is))
 
@@ -348,19 +349,28 @@ module _ (old new : Standing) (meddles : List Meddle) (stop : Stop) (issued : Li
             (checks_in_vain old w.middle new meddles stop said goes closes settled issued i d fault read);
       }
 
-  pub checks_to : (it : code.Called) → IsPlanned closing_asked tells_close meddles stop old new (Ok it)
+  checks_told : (it : code.Called) → IsPlanned closing_asked tells_close meddles stop old new (Ok it)
       → ChecksPlanned old new issued meddles stop (Ok it.reply)
-  checks_to it (inl e) = absurd (cc)
-  checks_to it (inr w) =
+  checks_told it (inl e) = absurd (cc)
+  checks_told it (inr w) =
       let same : it ≡ quiet_as (told_closing stop (closes_in stop w.ended) (ended_told w.ended)) = cc in
       subst (λ (x : Reply). ChecksPlanned old new issued meddles stop (Ok x)) (sym (ap (λ (x : code.Called). x.reply) same))
       (checks_either (Ok it) w)
 
   -- or want of memory for that
-  pub checks_lack : (memory : Memory) → IsPlanned closing_asked tells_close meddles stop old new (Err memory)
+  checks_want : (memory : Memory) → IsPlanned closing_asked tells_close meddles stop old new (Err memory)
       → ChecksPlanned old new issued meddles stop (Err memory)
-  checks_lack memory (inl e) = record { own = λ variant meaning. λ key barrier d s q. e.1; vain = λ i d fault at. e.1 }
-  checks_lack memory (inr w) = absurd (cc)
+  checks_want memory (inl e) = record { own = λ variant meaning. λ key barrier d s q. e.1; vain = λ i d fault at. e.1 }
+  checks_want memory (inr w) = absurd (cc)
+
+  module _ (called : Result code.Called Memory) (planned : IsPlanned closing_asked tells_close meddles stop old new called) where
+    pub checks_to : (it : code.Called) → called ≡ Ok it → ChecksPlanned old new issued meddles stop (Ok it.reply)
+    checks_to it is =
+        checks_told it (subst (λ (r : Result code.Called Memory). IsPlanned closing_asked tells_close meddles stop old new r) is planned)
+
+    pub checks_lack : (memory : Memory) → called ≡ Err memory → ChecksPlanned old new issued meddles stop (Err memory)
+    checks_lack memory is =
+        checks_want memory (subst (λ (r : Result code.Called Memory). IsPlanned closing_asked tells_close meddles stop old new r) is planned)
 
 -- a call that isn't too long, over a planned platform
 
@@ -404,8 +414,8 @@ module _ (variant : Variant) (meaning : Meaning) (old new : Standing) (meddles :
         }
 
 -- or want of memory for the plan
-pub asks_to : (variant : Variant) (meaning : Meaning) (old new : Standing) (meddles : List Meddle) (stop : Stop) (offer : List ℕ) (b : Batch)
-    (result : Result code.Called Memory) (short : is_long b ≡ false) (issued : List (List ℕ))
+pub asks_to : (variant : Variant) (meaning : Meaning) (old new : Standing) (meddles : List Meddle) (stop : Stop) (offer : List ℕ)
+    (b : Batch) (result : Result code.Called Memory) (short : is_long b ≡ false) (issued : List (List ℕ))
     → IsPlanned (asked_by variant meaning offer b) (tells_ask b) meddles stop old new result
     → AsksPlanned variant meaning old new issued meddles stop (Some offer) b result
 asks_to variant meaning old new meddles stop offer b (Ok it) short issued (inl e) = absurd (cc)

@@ -34,8 +34,8 @@ use Rattle.mm_world.proofs.ClosedAt.{closes_at, told_at}
 refused_unbroken : (why : Refusal) → fault_of why ≡ None → is_broken (ended_with (fault_of why) why) ≡ false
 refused_unbroken why e = ap (λ (f : Option StepFault). is_broken (ended_with f why)) e
 
-pub asks_broken : (variant : Variant) (meaning : Meaning) (offer : List ℕ) (b : Batch) (old new : Standing) (end : Ended BatchAnswer Refusal)
-    → Finishes (asked_by variant meaning offer b) Begun old new end → is_broken (end_told end) ≡ flight.is_broken end
+pub asks_broken : (variant : Variant) (meaning : Meaning) (offer : List ℕ) (b : Batch) (old new : Standing)
+    (end : Ended BatchAnswer Refusal) → Finishes (asked_by variant meaning offer b) Begun old new end → is_broken (end_told end) ≡ flight.is_broken end
 asks_broken variant meaning offer b old new (Answered answer) f = refl
 asks_broken variant meaning offer b old new (Refused why) f =
     let q = quiet_by meaning offer b variant in
@@ -85,10 +85,10 @@ module _ (old new : Standing) (meddles : List Meddle) (stop : Stop) where
   pub closes_told : (result : Result Called Memory) (w : WasPlanned closing tells_close meddles stop old new result) → old.is_on ≡ true
       → told_closing stop (closes_in stop w.ended) (ended_told w.ended) ≡ told_closing stop (closes_at stop) (ended_told w.ended)
   closes_told result w on =
+      let at : Standing = record old { plan = Some (plan_of stop meddles) } in
       told_at stop meddles old w.middle w.ended on
-      (λ why is. refusal_quiet (record old { plan = Some (plan_of stop meddles) }) w.middle why
-      (subst (λ (e : Ended Said CheckpointRefusal). Finishes closing Begun (record old { plan = Some (plan_of stop meddles) }) w.middle e) is
-      w.ends)) w.ends
+      (λ why is. refusal_quiet at w.middle why
+      (subst (λ (e : Ended Said CheckpointRefusal). Finishes closing Begun at w.middle e) is w.ends)) w.ends
 
   pub closes_came : (variant : Variant) (meaning : Meaning) (result : Result Called Memory)
       (w : WasPlanned closing tells_close meddles stop old new result) (issued : List (List ℕ))
