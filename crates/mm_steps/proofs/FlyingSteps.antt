@@ -80,7 +80,8 @@ module _ {A R : Type 0} (o : Asked A R) (writes : ℕ) (stage : Stage A) (old mi
   going_on few on is from meddles made f number =
       let s' = subst (λ (x : Step A R). Steps o stage old mid x) is s in record {
         steps = s';
-        flies = flies_on o from meddles made stage old f on mid s' (few_made (number_of writes stage) made (few_steps writes stage few) number);
+        flies = flies_on o from meddles made stage old f on mid s'
+            (few_made (number_of writes stage) made (few_steps writes stage few) number);
       }
 
   pub is_over : (tells : Stop → Ended A R → Result Called Memory → Type 0) (number : ℕ) (new : Standing) (ended : Ended A R)

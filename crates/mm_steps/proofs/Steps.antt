@@ -1,10 +1,10 @@
 -- What the next step of a call in flight, and one that breaks it off, come to by the call's event.
 use Rattle.mm_steps.proofs.Below.{◌≡◌, ℕ, ◌+◌, Bool, true, false, ◌&&◌, List, Option, None, Some, Result, Ok, Err, refl, sym, ap, ◌∙◌}
-use Rattle.mm_steps.proofs.Below.{subst, MatchResult, Memory, Variant, Failed, Meddle, Stop, Fail, Standing}
+use Rattle.mm_steps.proofs.Below.{subst, is_some, MatchResult, Memory, Variant, Failed, Meddle, Stop, Fail, Standing}
 use Rattle.mm_steps.proofs.Below.{quiet_plan, step_made, Batch, size_of, Meaning, Digests, instance_by, act_of, number_of, Steps, Ended, Broken}
 use Rattle.mm_steps.proofs.Below.{Stage, Going, under, plan_by, is_broken, commits_at, Called, Came, HasRead, stopped_step, tells_ask, tells_close}
 use Rattle.mm_steps.proofs.Below.{WasPlanned, IsQuiet, Stands, BreaksAs, MayStepOn, StepsAs, asked_so, asking, checkpointing, closed_so}
-use Rattle.mm_steps.proofs.Below.{IsInFlight, Kind, SteppedTo, is_nothing, stop_behind, ◌==◌}
+use Rattle.mm_steps.proofs.Below.{IsInFlight, Kind, SteppedTo, is_nothing, stop_behind}
 use Rattle.mm_model.specs.Instance.{Instance}
 use Rattle.mm_model.specs.Long.{is_long}
 use Rattle.mm_model.specs.declared.answer.BatchAnswer.{BatchAnswer}
@@ -29,7 +29,7 @@ use Rattle.mm_run.proofs.Above.{stopped_reply}
 use Rattle.mm_ask.specs.Operating.{asked_by, writes_at}
 use Rattle.mm_ask.proofs.Above.{counts_by, steps_stay}
 use Rattle.mm_world.specs.Asks.{quiet_as}
-use Rattle.mm_world.specs.Calls.{broken_as, CalledAs, closes_at, RefusedAs, stops_in, told_closing}
+use Rattle.mm_world.specs.Calls.{broken_as, CalledAs, closes_in, RefusedAs, stops_in, told_closing}
 use Rattle.mm_world.proofs.Above.{asks_broken, asks_came, closes_broken, closes_came}
 use Rattle.mm_steps.specs.declared.flying.Stepped.{Stepped}
 use Rattle.mm_steps.specs.declared.flying.Stepped.TheVariants as stepped
@@ -132,7 +132,7 @@ module _ (variant : Variant) (meaning : Meaning) (key barrier : List ℕ) (d : D
         subst (λ (x : Option (List ℕ)). MatchResult result
         (Came instance (asked instance (by_digests instance) d issued meddles stop x b) d.count issued from new)
         (λ _. HasRead instance d meddles stop from new)) (sym offered)
-        (asks_came variant meaning from new meddles stop bytes b result short w issued key barrier d s q);
+        (asks_came from new meddles stop variant meaning bytes b result short w issued key barrier d s q);
     fails = λ made commits. (broken_as (stop_behind made) None (size_of b), refl, refl);
     says = λ stop new it w whole.
         something stop (size_of b) (end_told w.ended) it
@@ -165,25 +165,28 @@ module _ (variant : Variant) (meaning : Meaning) (bytes : List ℕ) (b : Batch) 
   asks_broken_off stop it breaks key barrier d from issued meddles next offer f offered at =
       let i = instance_by variant meaning key barrier in
       break_comes (asking variant meaning bytes b) (tells_ask b) i d from (asked_so i d issued meddles offer b) issued meddles
-      (asks_know variant meaning key barrier d from issued meddles offer bytes b short offered f.stands f.quiet) stage old next f new stop it
-      breaks at
+      (asks_know variant meaning key barrier d from issued meddles offer bytes b short offered f.stands f.quiet) stage old next f new stop
+      it breaks at
 
 -- a checkpoint that wasn't broken off comes to something
 
-closing_something : (stop : Stop) (said : Result Checkpointed CheckpointRefusal) → stops_in said ≡ false
-    → is_nothing (told_closing stop said) ≡ false
-closing_something stop (Err (closing_refusal.Device fault)) whole = let clash : true ≡ false = whole in absurd (cc)
-closing_something stop (Ok checkpointed.Done) whole = refl
-closing_something stop _ whole = refl
+closing_something : (stop : Stop) (closed : Bool) (said : Result Checkpointed CheckpointRefusal) → stops_in said ≡ false
+    → is_nothing (told_closing stop closed said) ≡ false
+closing_something stop closed (Err (closing_refusal.Device fault)) whole = let clash : true ≡ false = whole in absurd (cc)
+closing_something stop closed (Ok checkpointed.Done) whole = refl
+closing_something stop closed _ whole = refl
 
-no_effect : (third : Bool) → (third && false) ≡ false
+no_effect : (last : Bool) → (last && false) ≡ false
 no_effect true = refl
 no_effect false = refl
 
-closing_fails : (made : ℕ) → is_nothing (told_closing (stop_behind made) (Err (closing_refusal.Device Failed))) ≡ true
-closing_fails made =
-    let effect : closes_at (stop_behind made) ≡ false = no_effect (made + 1 == 3) in
-    ap (λ (x : Bool). is_nothing (stopped_reply way.Fault x)) effect
+abbrev failing : ℕ → Option ℕ → Called
+failing made commits =
+    let stop = stop_behind made in
+    quiet_as (told_closing stop (closes_in stop (Broken Failed commits)) (Err (closing_refusal.Device Failed)))
+
+closing_fails : (made : ℕ) (commits : Option ℕ) → is_nothing (failing made commits).reply ≡ true
+closing_fails made commits = ap (λ (x : Bool). is_nothing (stopped_reply way.Fault x)) (no_effect (is_some commits))
 
 module _ (variant : Variant) (meaning : Meaning) (key barrier : List ℕ) (d : Digests) (from : Standing) (issued : List (List ℕ))
     (meddles : List Meddle) where
@@ -194,17 +197,18 @@ module _ (variant : Variant) (meaning : Meaning) (key barrier : List ℕ) (d : D
   ClosingComes stop new result = MatchResult result (Came its (closed_so its d issued meddles stop) d.count issued from new)
       (λ _. HasRead its d meddles stop from new)
 
-  closes_know : Stands its from d → IsQuiet from → Knows checkpointing tells_close its d from (closed_so its d issued meddles) issued meddles
+  closes_know : Stands its from d → IsQuiet from
+      → Knows checkpointing tells_close its d from (closed_so its d issued meddles) issued meddles
   closes_know s q = record {
     comes = λ stop new result w.
         subst (λ (r : Result Called Memory). ClosingComes stop new r) (sym w.told)
-        (closes_came variant meaning from new meddles stop result w issued key barrier d s q);
-    fails = λ made commits.
-        (quiet_as (told_closing (stop_behind made) (Err (closing_refusal.Device Failed))), refl, closing_fails made);
+        (closes_came from new meddles stop variant meaning result w issued key barrier d s q);
+    fails = λ made commits. (failing made commits, refl, closing_fails made commits);
     says = λ stop new it w whole.
-        let same : it ≡ quiet_as (told_closing stop (ended_told w.ended)) = cc in
+        let same : it ≡ quiet_as (told_closing stop (closes_in stop w.ended) (ended_told w.ended)) = cc in
         ap (λ (x : Called). is_nothing x.reply) same
-        ∙ closing_something stop (ended_told w.ended) (closes_broken (under (plan_by stop meddles) 0 from) w.middle w.ended w.ends ∙ whole);
+        ∙ closing_something stop (closes_in stop w.ended) (ended_told w.ended)
+        (closes_broken (under (plan_by stop meddles) 0 from) w.middle w.ended w.ends ∙ whole);
     stays = λ stage on old new steps is.
         let goes = closing_steps_as stage old new (Going on) is steps in (goes.closes, goes.counts);
   }

@@ -73,8 +73,8 @@ module _ {A R : Type 0} (kind : Kind A R) (i : Instance) (d : Digests) (from : S
     pub number : number_of kind.writes stage ≡ made + 1
     pub is_next : next ≡ made + 1
 
-  -- What the next step of a call in flight came to, by its event for each stop: it goes on, where it
-  -- has come to nothing so far; or it is over, and came to what its event says. Where memory was
+  -- What the next step of a call in flight came to, by its event for each stop: it goes on, where
+  -- it has come to nothing so far; or it is over, and came to what its event says. Where memory was
   -- wanting, the reading steps were made, and nothing else.
   abbrev pub SteppedTo : (Stop → Outcome Digests) → List (List ℕ) → List Meddle → ℕ → Standing
       → Result (Stepped A) Memory → Type 0

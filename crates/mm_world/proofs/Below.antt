@@ -62,7 +62,7 @@ pub use Rattle.mm_run.specs.Folds.{plan_of}
 pub use Rattle.mm_run.specs.Held.{first_held, Follows, Held, outcome_in, Wants, world_of}
 pub use Rattle.mm_run.proofs.Above.{count-made, grown, printed, sizes_of, world_few}
 pub use Rattle.mm_world.specs.Asks.{AsksAs, Came, ChecksAs, HasRead, Lacks, quiet_as}
-pub use Rattle.mm_world.specs.Calls.{answered_call, broken_as, CalledAs, closes_at, is_cut, refused_call, RefusedAs, SettlesPlan, size_if}
+pub use Rattle.mm_world.specs.Calls.{answered_call, broken_as, CalledAs, is_cut, refused_call, RefusedAs, SettlesPlan, size_if}
 pub use Rattle.mm_world.specs.Calls.{stopped_step, stops_in, takes_effect, told_closing}
 pub use Rattle.mm_world.specs.InVain.{AsksInVain, AsksPlanned, CameInVain, ChecksInVain, ChecksPlanned, missing, why_vain}
 pub use Rattle.mm_world.specs.Stands.{IsQuiet, Stands}

@@ -11,7 +11,8 @@ use Rattle.mm_world.proofs.Below.{Came, HasRead, AsksAs, call_commits, ◌&&◌,
 use Rattle.mm_world.proofs.Below.{append-nil, ◌==◌, Basic, Opt, fault_at, is_made_at, Foreign, Close, Reads, Writes, checkpoint_steps, Said}
 use Rattle.mm_world.proofs.Below.{CheckpointRefusal, closing_told, ChecksBy, ChecksOn, Walked, after_step, closes, end_of, made_move}
 use Rattle.mm_world.proofs.Below.{closes-foreign, closes_first, checkpoint_none, closing_reply, closing_then, closed_outcome, stopped_reply}
-use Rattle.mm_world.proofs.Below.{closes_at, told_closing, stops_in, ChecksAs, quiet_as, reads_of}
+use Rattle.mm_world.proofs.ClosedAt.{closes_at}
+use Rattle.mm_world.proofs.Below.{told_closing, stops_in, ChecksAs, quiet_as, reads_of}
 use Rattle.std.specs.Prelude.{◌⊎◌}
 use Rattle.mm_module.specs.BatchLaws.{members_of-normal}
 use Rattle.mm_run.specs.Folds.{asked}
@@ -257,7 +258,7 @@ closes_planned fates stop _ _ is_lost fault told broken =
 closing_said : (stop : Stop) (variant : Variant) (is_open is_lost closed : Bool) (broken : Option StepFault)
     → ((fault : StepFault) → broken ≡ Some fault → closed ≡ closes_at stop)
     → (let closing = closed_by broken closed (closing_of variant is_open is_lost) in
-    (told_closing stop (closing_told closing) ≡ closing_reply (way_of stop) closing)
+    (told_closing stop (closes_at stop) (closing_told closing) ≡ closing_reply (way_of stop) closing)
     × (closing_then stop closing ≡ power_if (stops_in (closing_told closing) && is_cut stop)))
 closing_said stop variant is_open is_lost closed (Some fault) known =
     (ap (stopped_reply (way_of stop)) (sym (known fault refl)), stop_power stop)
@@ -272,7 +273,7 @@ closed_came : (i : Instance) (d : Digests) (stop : Stop) (meddles : List Meddle)
     → ChecksBy i d (checkpointed i (by_digests i) d (course_of stop meddles)) (record old { plan = Some (plan_of stop meddles) }) mid result
     → register_reads old ≡ Some d.register → SettlesPlan stop (stops_in result) mid new → StaysOn stop (stops_in result) mid
     → Came i (closed_outcome (by_digests i) stop issued (checkpointed i (by_digests i) d (course_of stop meddles))) d.count issued old new
-    (quiet_as (told_closing stop result))
+    (quiet_as (told_closing stop (closes_at stop) result))
 closed_came i d stop meddles old mid new result issued goes register settles stays =
     let c = course_of stop meddles in let is_lost = (by_digests i).is_lost (seen_at i (by_digests i) d c) in
     let o = checkpointed i (by_digests i) d c in let w = walk c.fates 1 (checkpoint_steps i.variant d.flag is_lost) in
@@ -285,7 +286,7 @@ closed_came i d stop meddles old mid new result issued goes register settles sta
     let P : List Move → Type 0 = λ ms. Stands i new (all_made (by_digests i) o.state ms) in
     let C : List Move → Type 0 = λ ms. (all_made (by_digests i) o.state ms).count ≡ d.count + 0 in
     record {
-      reply = ap (told_closing stop) goes.gives ∙ said.0;
+      reply = ap (told_closing stop (closes_at stop)) goes.gives ∙ said.0;
       issues = append-nil issued;
       stands =
           subst P (sym power) (stands_settled i o.state mid new lost (record { at = goes.stands; register = read }) settles.cell
@@ -302,7 +303,7 @@ closed_came i d stop meddles old mid new result issued goes register settles sta
 pub checks_planned : (old mid new : Standing) (meddles : List Meddle) (stop : Stop) (result : Result Said CheckpointRefusal)
     → ChecksOn (record old { plan = Some (plan_of stop meddles) }) mid result → SettlesPlan stop (stops_in result) mid new
     → (variant : Variant) (meaning : Meaning) (issued : List (List ℕ))
-    → ChecksAs variant meaning old new issued meddles stop (Ok (told_closing stop result))
+    → ChecksAs variant meaning old new issued meddles stop (Ok (told_closing stop (closes_at stop) result))
 checks_planned old mid new meddles stop result checks settles variant meaning issued = λ key barrier d s q.
     let i = instance_by variant meaning key barrier in
     let at : Standing = record old { plan = Some (plan_of stop meddles) } in

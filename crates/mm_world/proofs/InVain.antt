@@ -24,7 +24,8 @@ use Rattle.mm_opt.specs.Closing.{closing as closing_asked, ended_told}
 use Rattle.mm_world.proofs.Asking.{stopped_at}
 use Rattle.mm_world.proofs.Asking.{settled_reads, stop_power, on_settled, power_if}
 use Rattle.mm_world.proofs.Calling.{asks_as}
-use Rattle.mm_world.proofs.Calling.{checks_planned}
+use Rattle.mm_world.proofs.ClosedAt.{closes_at}
+use Rattle.mm_world.specs.Calls.{closes_in}
 use Rattle.mm_machine.specs.Finishing.{Finishes}
 use Rattle.mm_machine.specs.declared.call.Ended.{Ended as End}
 use Rattle.mm_machine.specs.declared.call.Stage.TheVariants.{Begun}
@@ -33,7 +34,7 @@ use Rattle.mm_call.specs.Machine.{end_told}
 use Rattle.mm_ask.specs.Operating.{asked_by}
 use Rattle.mm_ask.proofs.Above.{calls_by}
 use Rattle.mm_world.specs.Planned.{IsPlanned, WasPlanned, tells_ask, tells_close}
-use Rattle.mm_world.proofs.OnPlan.{asks_broken, closes_broken}
+use Rattle.mm_world.proofs.OnPlan.{asks_broken, closes_broken, closes_came, closes_told}
 use Rattle.mm_model.specs.declared.refusal.Refusal.TheVariants as refusal
 use Rattle.mm_basic.specs.Seen as seen
 use Rattle.mm_basic.specs.Asks as basic_asks
@@ -301,7 +302,7 @@ stopped_ended None Blank = refl
 stopped_ended _ _ = refl
 
 closing_told_vain : (stop : Stop) (missed : CellFault) (fault : Option StepFault) → fault ≡ fault_at stop 1
-    → TellsVain stop (missing missed) fault (quiet_as (told_closing stop (closing_ended fault missed)))
+    → TellsVain stop (missing missed) fault (quiet_as (told_closing stop (closes_at stop) (closing_ended fault missed)))
 closing_told_vain stop missed (Some fault) e =
     let at = stopped_at stop 1 fault (is_made_at stop 1) (ap (λ f. end_of f (is_made_at stop 1)) (sym e)) in record {
       reply = ap (λ (n : ℕ). stopped_reply (way_of stop) ((n == 3) && takes_effect stop)) at.number;
@@ -315,7 +316,7 @@ closing_told_vain stop _ None e = record { reply = refl; snapshot = refl; commit
 checks_in_vain : (old mid new : Standing) (meddles : List Meddle) (stop : Stop) (result : Result Said CheckpointRefusal)
     → ChecksOn (record old { plan = Some (plan_of stop meddles) }) mid result
     → ClosesSegment (record old { plan = Some (plan_of stop meddles) }) mid result → SettlesPlan stop (stops_in result) mid new
-    → (issued : List (List ℕ)) → ChecksInVain old new issued meddles stop (Ok (told_closing stop result))
+    → (issued : List (List ℕ)) → ChecksInVain old new issued meddles stop (Ok (told_closing stop (closes_at stop) result))
 checks_in_vain old mid new meddles stop result goes closes settles issued = λ i d missed at.
     let r = stops_looking (record old { plan = Some (plan_of stop meddles) }) closes.middle mid at.bytes missed closes.found result at.cell
     at.reads closes.looks closes.ends in
@@ -324,15 +325,16 @@ checks_in_vain old mid new meddles stop result goes closes settles issued = λ i
     let fault_is : r.fault ≡ fault_at stop 1 = (r.goes.told (plan_of stop meddles) refl).answers
     ∙ ap (λ on. will_answer on (plan_of stop meddles)) at.quiet.is_on in
     let vain : Outcome Digests = reads_only (by_digests i) d issued meddles stop (missing missed) in
-    subst (λ (x : Result Said CheckpointRefusal). CameInVain vain issued old new (quiet_as (told_closing stop x))) (sym r.ends)
-    (stopped_came i d stop meddles issued (missing missed) old mid new (quiet_as (told_closing stop (closing_ended r.fault missed))) r.fault
+    let told : Result Said CheckpointRefusal → Reply = λ x. told_closing stop (closes_at stop) x in
+    subst (λ (x : Result Said CheckpointRefusal). CameInVain vain issued old new (quiet_as (told x))) (sym r.ends)
+    (stopped_came i d stop meddles issued (missing missed) old mid new (quiet_as (told (closing_ended r.fault missed))) r.fault
     at.quiet at.register r.goes (subst (λ x. SettlesPlan stop x mid new) breaks settles) (subst (λ x. StaysOn stop x mid) breaks p.0)
     (closing_told_vain stop missed r.fault fault_is))
 
 -- a checkpoint under a plan
 module _ (old new : Standing) (meddles : List Meddle) (stop : Stop) (issued : List (List ℕ)) where
   checks_either : (called : Result code.Called Memory) (w : WasPlanned closing_asked tells_close meddles stop old new called)
-      → ChecksPlanned old new issued meddles stop (Ok (told_closing stop (ended_told w.ended)))
+      → ChecksPlanned old new issued meddles stop (Ok (told_closing stop (closes_in stop w.ended) (ended_told w.ended)))
   checks_either called w =
       let at = record old { plan = Some (plan_of stop meddles) } in
       let said = ended_told w.ended in
@@ -340,23 +342,35 @@ module _ (old new : Standing) (meddles : List Meddle) (stop : Stop) (issued : Li
       let goes = in_opt.checks_on at w.middle said closes in
       let settled : SettlesPlan stop (stops_in said) w.middle new =
       subst (λ x. SettlesPlan stop x w.middle new) (sym (closes_broken at w.middle w.ended w.ends)) w.settles in record {
-        own = λ variant meaning. checks_planned old w.middle new meddles stop said goes settled variant meaning issued;
-        vain = checks_in_vain old w.middle new meddles stop said goes closes settled issued;
+        own = λ variant meaning. closes_came old new meddles stop variant meaning called w issued;
+        vain = λ i d fault read.
+            subst (λ (r : Reply). CameInVain (reads_only (by_digests i) d issued meddles stop (missing fault)) issued old new (quiet_as r))
+            (sym (closes_told old new meddles stop called w read.quiet.is_on))
+            (checks_in_vain old w.middle new meddles stop said goes closes settled issued i d fault read);
       }
 
-  pub checks_to : (it : code.Called) → IsPlanned closing_asked tells_close meddles stop old new (Ok it)
+  checks_told : (it : code.Called) → IsPlanned closing_asked tells_close meddles stop old new (Ok it)
       → ChecksPlanned old new issued meddles stop (Ok it.reply)
-  checks_to it (inl e) = absurd (cc)
-  checks_to it (inr w) =
-      let same : it ≡ quiet_as (told_closing stop (ended_told w.ended)) = cc in
+  checks_told it (inl e) = absurd (cc)
+  checks_told it (inr w) =
+      let same : it ≡ quiet_as (told_closing stop (closes_in stop w.ended) (ended_told w.ended)) = cc in
       subst (λ (x : Reply). ChecksPlanned old new issued meddles stop (Ok x)) (sym (ap (λ (x : code.Called). x.reply) same))
       (checks_either (Ok it) w)
 
   -- or want of memory for that
-  pub checks_lack : (memory : Memory) → IsPlanned closing_asked tells_close meddles stop old new (Err memory)
+  checks_want : (memory : Memory) → IsPlanned closing_asked tells_close meddles stop old new (Err memory)
       → ChecksPlanned old new issued meddles stop (Err memory)
-  checks_lack memory (inl e) = record { own = λ variant meaning. λ key barrier d s q. e.1; vain = λ i d fault at. e.1 }
-  checks_lack memory (inr w) = absurd (cc)
+  checks_want memory (inl e) = record { own = λ variant meaning. λ key barrier d s q. e.1; vain = λ i d fault at. e.1 }
+  checks_want memory (inr w) = absurd (cc)
+
+  module _ (called : Result code.Called Memory) (planned : IsPlanned closing_asked tells_close meddles stop old new called) where
+    pub checks_to : (it : code.Called) → called ≡ Ok it → ChecksPlanned old new issued meddles stop (Ok it.reply)
+    checks_to it is =
+        checks_told it (subst (λ (r : Result code.Called Memory). IsPlanned closing_asked tells_close meddles stop old new r) is planned)
+
+    pub checks_lack : (memory : Memory) → called ≡ Err memory → ChecksPlanned old new issued meddles stop (Err memory)
+    checks_lack memory is =
+        checks_want memory (subst (λ (r : Result code.Called Memory). IsPlanned closing_asked tells_close meddles stop old new r) is planned)
 
 -- a call that isn't too long, over a planned platform
 
@@ -400,8 +414,8 @@ module _ (variant : Variant) (meaning : Meaning) (old new : Standing) (meddles :
         }
 
 -- or want of memory for the plan
-pub asks_to : (variant : Variant) (meaning : Meaning) (old new : Standing) (meddles : List Meddle) (stop : Stop) (offer : List ℕ) (b : Batch)
-    (result : Result code.Called Memory) (short : is_long b ≡ false) (issued : List (List ℕ))
+pub asks_to : (variant : Variant) (meaning : Meaning) (old new : Standing) (meddles : List Meddle) (stop : Stop) (offer : List ℕ)
+    (b : Batch) (result : Result code.Called Memory) (short : is_long b ≡ false) (issued : List (List ℕ))
     → IsPlanned (asked_by variant meaning offer b) (tells_ask b) meddles stop old new result
     → AsksPlanned variant meaning old new issued meddles stop (Some offer) b result
 asks_to variant meaning old new meddles stop offer b (Ok it) short issued (inl e) = absurd (cc)

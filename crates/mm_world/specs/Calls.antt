@@ -1,5 +1,5 @@
 -- What a call over the platform of a world comes to.
-use Rattle.std.specs.Prelude.{◌≡◌, ℕ, ◌-◌, ◌==◌, ◌&&◌, Bool, true, false, length, Option, None, Some, Result, Ok, Err, IsErr, is_some}
+use Rattle.std.specs.Prelude.{◌≡◌, ℕ, ◌-◌, ◌&&◌, Bool, true, false, length, Option, None, Some, Result, Ok, Err, IsErr, is_some}
 use Rattle.std.specs.Prelude.{if◌then◌else◌}
 use Rattle.std.specs.Option.{option_map_or}
 use Rattle.mm_base.specs.declared.fault.Memory.{Memory}
@@ -11,6 +11,8 @@ use Rattle.mm_platform.specs.Told.{quiet_plan}
 use Rattle.mm_model.specs.declared.answer.BatchAnswer.{BatchAnswer}
 use Rattle.mm_model.specs.declared.refusal.Refusal.{Refusal}
 use Rattle.mm_model.specs.declared.refusal.Refusal.TheVariants as refusal
+use Rattle.mm_machine.specs.declared.call.Ended.{Ended as End}
+use Rattle.mm_machine.specs.declared.call.Ended.TheVariants as end
 use Rattle.mm_call.specs.declared.ended.Ended.{Ended}
 use Rattle.mm_call.specs.declared.ended.Ended.TheVariants.{Answered, Refused, Broken}
 use Rattle.mm_opt.specs.declared.segment.Checkpointed.{Checkpointed}
@@ -101,21 +103,23 @@ stopped_step (stop.Cut step) = step
 stopped_step (stop.Drop step) = step
 stopped_step (stop.Fail step done) = step
 
--- whether a checkpoint that is stopped so has closed its segment: its third step does that, by
--- writing the cell
-abbrev pub closes_at : Stop → Bool
-closes_at stop = (stopped_step stop == 3) && takes_effect stop
+-- whether a checkpoint that ended so and was stopped so has closed its segment: its last step does
+-- that
+abbrev pub closes_in : Stop → End Checkpointed CheckpointRefusal → Bool
+closes_in stop (end.Broken fault commits) = is_some commits && takes_effect stop
+closes_in stop _ = false
 
--- what a checkpoint that ended so and was stopped so is told as
-abbrev pub told_closing : Stop → Result Checkpointed CheckpointRefusal → Reply
-told_closing stop (Ok Done) = reply.Checkpointed
-told_closing stop (Ok NoSegment) = reply.No cause.Segment
-told_closing stop (Err closing.Lost) = reply.No cause.Lost
-told_closing stop (Err (closing.Device fault)) =
-    if closes_at stop then reply.Closed (way_of stop) else reply.Nothing (way_of stop)
-told_closing stop (Err closing.Kind) = reply.No cause.Kind
-told_closing stop (Err closing.Blank) = reply.No cause.Blank
-told_closing stop (Err closing.Cell) = reply.No cause.Cell
+-- what a checkpoint that gave this and was stopped so is told as, by whether it has closed its
+-- segment
+abbrev pub told_closing : Stop → Bool → Result Checkpointed CheckpointRefusal → Reply
+told_closing stop closed (Ok Done) = reply.Checkpointed
+told_closing stop closed (Ok NoSegment) = reply.No cause.Segment
+told_closing stop closed (Err closing.Lost) = reply.No cause.Lost
+told_closing stop closed (Err (closing.Device fault)) =
+    if closed then reply.Closed (way_of stop) else reply.Nothing (way_of stop)
+told_closing stop closed (Err closing.Kind) = reply.No cause.Kind
+told_closing stop closed (Err closing.Blank) = reply.No cause.Blank
+told_closing stop closed (Err closing.Cell) = reply.No cause.Cell
 
 -- whether a checkpoint was broken off by a fault
 abbrev pub stops_in : Result Checkpointed CheckpointRefusal → Bool

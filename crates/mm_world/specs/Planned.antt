@@ -17,7 +17,7 @@ use Rattle.mm_opt.specs.Closing.{ended_told}
 use Rattle.mm_flight.specs.Machine.{EndsUnder, is_broken}
 use Rattle.mm_world.specs.declared.call.Called.{Called}
 use Rattle.mm_world.specs.Asks.{quiet_as}
-use Rattle.mm_world.specs.Calls.{CalledAs, SettlesPlan, told_closing}
+use Rattle.mm_world.specs.Calls.{CalledAs, SettlesPlan, closes_in, told_closing}
 
 module _ {A R : Type 0} (o : Asked A R)
     (tells : Stop → Ended A R → Result Called Memory → Type 0) where
@@ -42,7 +42,8 @@ tells_ask b stop ended result = CalledAs stop (size_of b) (end_told ended) resul
 
 -- what a checkpoint is told as: it hands out no snapshot, and commits nothing
 abbrev pub tells_close : Stop → Ended Checkpointed CheckpointRefusal → Result Called Memory → Type 0
-tells_close stop ended result = result ≡ Ok (quiet_as (told_closing stop (ended_told ended)))
+tells_close stop ended result =
+    result ≡ Ok (quiet_as (told_closing stop (closes_in stop ended) (ended_told ended)))
 
 -- a call that is told as something wanted no memory
 pub told_ok : (it : Called) (result : Result Called Memory) → result ≡ Ok it → IsOk result

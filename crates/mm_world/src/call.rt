@@ -6,7 +6,7 @@ ghost use Rattle.mm_module.specs.Meaning.{Meaning};
 ghost use Rattle.mm_digest.specs.declared.variant.Variant.{Variant};
 ghost use Rattle.mm_run.specs.Offered.{offered_bytes};
 ghost use Rattle.mm_world.specs.InVain.{AsksPlanned, ChecksPlanned};
-ghost use Rattle.mm_world.specs.Calls.{refused_call, answered_call, broken_as, takes_effect, CalledAs, Restores, SettlesPlan, closes_at, told_closing};
+ghost use Rattle.mm_world.specs.Calls.{refused_call, answered_call, broken_as, takes_effect, CalledAs, Restores, SettlesPlan, closes_in, told_closing};
 ghost use Rattle.mm_world.specs.Planned.{IsPlanned, tells_close};
 ghost use Rattle.mm_opt.specs.Closing.{closing};
 
@@ -15,6 +15,7 @@ use mm_ask::Ask;
 use mm_base::{Bytes, Memory};
 use mm_call::{Ended, KeptKey};
 use mm_digest::Variant;
+use mm_machine::Ended as End;
 use mm_model::{BatchAnswer, Refusal};
 use mm_module::{Batch, Module};
 use mm_opt::{CheckpointRefusal, Checkpointed, Close};
@@ -197,28 +198,31 @@ pub fn call_by_offer<M: Module>(
     }
 }
 
-// Whether a checkpoint that is stopped so has closed its segment: its third step does that, by writing the cell.
-fn closes(stop: Stop) -> bool
-    ensures { result ≡ closes_at stop }
+// Whether a checkpoint that ended so and was stopped so has closed its segment: its last step does that.
+pub(crate) fn closes(stop: Stop, ended: &End<Checkpointed, CheckpointRefusal>) -> bool
+    ensures { result ≡ closes_in stop ended.now }
 {
-    match stop {
-        Stop::Quiet => false,
-        Stop::Cut(step) | Stop::Drop(step) => step == 3,
-        Stop::Fail { step, done } => step == 3 && done,
+    match ended {
+        End::Broken { commits, .. } => commits.is_some() && takes_effect(stop),
+        End::Answered(_) | End::Refused(_) | End::Lacks => false,
     }
 }
 
-// What a checkpoint that ended so and was stopped so is told as.
-pub(crate) fn told_closing(stop: Stop, ended: Result<Checkpointed, CheckpointRefusal>) -> Reply
-    ensures { result ≡ told_closing stop ended }
+// What a checkpoint that gave this and was stopped so is told as, by whether it has closed its segment.
+pub(crate) fn told_closing(
+    stop: Stop,
+    closed: bool,
+    given: Result<Checkpointed, CheckpointRefusal>,
+) -> Reply
+    ensures { result ≡ told_closing stop closed given }
 {
-    match ended {
+    match given {
         Ok(Checkpointed::Done) => Reply::Checkpointed,
         Ok(Checkpointed::NoSegment) => Reply::No(Cause::Segment),
         Err(CheckpointRefusal::Blank) => Reply::No(Cause::Blank),
         Err(CheckpointRefusal::Cell) => Reply::No(Cause::Cell),
         Err(CheckpointRefusal::Lost) => Reply::No(Cause::Lost),
-        Err(CheckpointRefusal::Device(_)) if closes(stop) => Reply::Closed { way: way(stop) },
+        Err(CheckpointRefusal::Device(_)) if closed => Reply::Closed { way: way(stop) },
         Err(CheckpointRefusal::Device(_)) => Reply::Nothing { way: way(stop) },
         Err(CheckpointRefusal::Kind) => Reply::No(Cause::Kind),
     }

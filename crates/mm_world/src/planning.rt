@@ -5,7 +5,7 @@ ghost use Rattle.mm_flight.specs.Machine.{is_broken};
 ghost use Rattle.mm_world.specs.Calls.{SettlesPlan};
 ghost use Rattle.mm_world.specs.Planned.{IsPlanned};
 
-use crate::call::{Called, came_to, settle, told_closing};
+use crate::call::{Called, came_to, closes, settle, told_closing};
 use mm_ask::Ask;
 use mm_base::Memory;
 use mm_call::KeptKey;
@@ -69,7 +69,8 @@ impl Telling for Close {
     ) -> Result<Called, Memory>
         ensures { tells_close stop ended result }
     {
-        Ok(Called::quiet(told_closing(stop, closing_result(ended))))
+        let closed = closes(stop, &ended);
+        Ok(Called::quiet(told_closing(stop, closed, closing_result(ended))))
     }
 
     ghost breaks = { λ it stop fault commits result e. told_ok _ result e };
