@@ -1,7 +1,7 @@
 -- What happens on a side is what happens on both.
 use Rattle.mm_transfer.proofs.Below.{◌≡◌, ◌∙◌, ◌^◌, ◌<◌, ℕ, List, length, Option, None, Some, Result, Ok, Err, refl, sym, ap, subst, arith}
 use Rattle.mm_transfer.proofs.Below.{MatchResult, IfOk, OnOk, OnErr, sum_by, Memory, StepFault, Meddle, Stop, Instance, Digests, walk, course_of}
-use Rattle.mm_transfer.proofs.Below.{meddles_of, Header, Which, First, Second, Pair, instance_on, Side, Both, turned, digests_move, Moves}
+use Rattle.mm_transfer.proofs.Below.{meddles_of, Header, Which, First, Second, Pair, instance_on, Both, turned, digests_move, Moves}
 use Rattle.mm_transfer.proofs.Below.{BothEvent, affected_if, brought_to, effect_of, finding, move_ended, move_outcome, move_steps, moved_if}
 use Rattle.mm_transfer.proofs.Below.{Command, Accept, FoundMove, MoveCause, Effect, Invites, Between, MoveReply, CodeSide}
 use Rattle.mm_transfer.proofs.Below.{Inside, both_with, commanded, FitsBetween, CommandDone, CommandLacks, Commands, act_of, command_of}
