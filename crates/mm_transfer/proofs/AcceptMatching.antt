@@ -1,26 +1,23 @@
 -- What an acceptance finds in a side's cell is what it finds by the side's role.
-use Rattle.mm_transfer.proofs.Below.{◌≡◌, ℕ, Bool, true, false, List, [], ◌∷◌, length, Option, None, Result, Ok, Err, refl, sym, ap, ◌∙◌}
-use Rattle.mm_transfer.proofs.Below.{subst, ◌&&◌, ◌||◌, not, if◌then◌else◌, list_any, bytes_eq, Variant, zero_bytes, anchored_of, Batch}
-use Rattle.mm_transfer.proofs.Below.{One, Meaning, CellFault, PartsFault, Form, Kind, Place, InBasic, InOpt, parts_of, Content, Snapshot}
-use Rattle.mm_transfer.proofs.Below.{tag_of, variant_of, Instance, Digests, digest_of, Refusal, by_digests, weighed, cell_at, MovedCell}
-use Rattle.mm_transfer.proofs.Below.{Link, MoveRefusal, IsWaiting, moved_of, waiting_spelling, retired_spelling, barrier_of, is_barred}
-use Rattle.mm_transfer.proofs.Below.{is_other, waiting_for, same_waiting, invites_in, stands_at, ticket_for, accepted_as, offer_by}
-use Rattle.mm_transfer.proofs.Below.{leaves_by, retires_in, arrives_by, has_arrived_by, accepts_in, refuse_if, TicketContent, TaggedTicket}
-use Rattle.mm_transfer.proofs.Below.{IsTicket, SpellsTicket, summary_in, place_at, sealed_ticket, ticket_of, bytes_are, bytes_tell}
-use Rattle.mm_transfer.proofs.Below.{moved_back, tickets_are_read, Blank, Live, Waits, Left, Enters, digests_move, Refused, Open}
-use Rattle.mm_transfer.proofs.Below.{Gone, stands_here, verdict_here, invited_on, left_by, offered_to, retired_on, ticket_by, entered_as}
-use Rattle.mm_transfer.proofs.Below.{entered_again, accepted_on, waiting_at, retired_at, cell_of_role, next_if, GivesInvited, GivesTicket}
-use Rattle.mm_transfer.proofs.Below.{GivesEntry, IsSaid, Matches, FitsCell, IsPlace, is_live, Role}
+use Rattle.mm_transfer.proofs.Below.{◌≡◌, ℕ, Bool, true, false, List, [], ◌∷◌, length, None, Result, Ok, Err, refl, sym, ap, ◌∙◌}
+use Rattle.mm_transfer.proofs.Below.{subst, ◌&&◌, ◌||◌, not, if◌then◌else◌, list_any, bytes_eq, Variant, zero_bytes, anchored_of}
+use Rattle.mm_transfer.proofs.Below.{Meaning, PartsFault, Form, Kind, Place, InBasic, InOpt}
+use Rattle.mm_transfer.proofs.Below.{variant_of, Instance, Digests, digest_of, Refusal, by_digests, cell_at}
+use Rattle.mm_transfer.proofs.Below.{Link, MoveRefusal, moved_of, is_barred}
+use Rattle.mm_transfer.proofs.Below.{is_other, stands_at, accepted_as}
+use Rattle.mm_transfer.proofs.Below.{arrives_by, has_arrived_by, accepts_in, refuse_if, TicketContent, TaggedTicket}
+use Rattle.mm_transfer.proofs.Below.{IsTicket, SpellsTicket, summary_in, place_at, ticket_of, bytes_are, bytes_tell}
+use Rattle.mm_transfer.proofs.Below.{tickets_are_read, Blank, Live, Waits, Left, Enters, Refused}
+use Rattle.mm_transfer.proofs.Below.{stands_here, ticket_by, entered_as}
+use Rattle.mm_transfer.proofs.Below.{entered_again, accepted_on, waiting_at, cell_of_role}
+use Rattle.mm_transfer.proofs.Below.{GivesEntry, IsSaid, Matches, FitsCell, IsPlace, Role}
 use Rattle.mm_digest.specs.declared.digest.Digest.{Digest}
 use Rattle.mm_digest.specs.declared.variant.Variant.TheVariants as variants
-use Rattle.mm_seal.specs.ReadingLaws.{spells_read}
-use Rattle.mm_model.specs.Judge.{verdict_by, verdict_by_digests, fits_fresh}
-use Rattle.mm_model.specs.StandingHere.{is_new}
+use Rattle.mm_model.specs.Judge.{fits_fresh}
 use Rattle.mm_model.specs.declared.refusal.Refusal.TheVariants as core
-use Rattle.mm_move.specs.declared.cell.MovedCell.TheVariants as moved
 use Rattle.mm_move.specs.declared.refusal.MoveRefusal.TheVariants as refusal
 use Rattle.mm_move.specs.Orders as orders
-use Rattle.mm_transfer.proofs.SideCells.{read_as, is_waiting, role_read, no_other, not_barred, same_tests, eq_turned, by_not, by_both, past, is_refused}
+use Rattle.mm_transfer.proofs.SideCells.{read_as, role_read, no_other, not_barred, eq_turned, by_not, past}
 use Rattle.mm_transfer.proofs.Matching.{stands_alike}
 
 -- acceptances

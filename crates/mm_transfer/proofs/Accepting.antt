@@ -1,12 +1,12 @@
 -- An acceptance on a side comes to what it comes to by digests.
 use Rattle.mm_transfer.proofs.Below.{◌≡◌, ◌&&◌, ℕ, Bool, true, false, not, List, [], ◌∷◌, ◌++◌, length, None, Some, Result, Ok}
-use Rattle.mm_transfer.proofs.Below.{Err, inl, inr, refl, sym, ap, ◌∙◌, subst, arith, length-append, MatchResult, if◌then◌else◌, sum_by}
+use Rattle.mm_transfer.proofs.Below.{Err, inl, inr, refl, sym, ap, ◌∙◌, subst, arith, length-append, MatchResult, if◌then◌else◌}
 use Rattle.mm_transfer.proofs.Below.{Memory, Meaning, Meddle, Stop, Standing, Instance, Digests, walk, by_digests, course_of, offered_bytes}
 use Rattle.mm_transfer.proofs.Below.{Offer, MoveRefusal, moved_of, accepts_in, TicketContent, ticket_of, place_at, Content, sealed_of}
 use Rattle.mm_transfer.proofs.Below.{digest_of, Role, Effect, Enters, is_live, role_after, Which, Pair, key_of, instance_on, Both}
 use Rattle.mm_transfer.proofs.Below.{digests_move, MoveCause, FoundMove, Accept, accepted_on, ticket_by, ticket_in, move_steps, effect_of}
 use Rattle.mm_transfer.proofs.Below.{handed, told, accepting, Between, MoveReply, CodeSide, EnteredAs, both_with, commanded, FitsBetween}
-use Rattle.mm_transfer.proofs.Below.{CommandDone, CommandLacks, has_moved, link_of, role_in, at_in, within_64, FitsSide, reply_said}
+use Rattle.mm_transfer.proofs.Below.{CommandDone, CommandLacks, has_moved, link_of, role_in, at_in, FitsSide, reply_said}
 use Rattle.mm_transfer.proofs.Below.{cell_of_role, stood, GivesEntry, GivesEntryBy, FitsLive, Matches, FitsCell}
 use Rattle.mm_move.specs.declared.accepting.Accepted.{Accepted}
 use Rattle.mm_transfer.specs.declared.reply.MoveReply.TheVariants as reply

@@ -1,7 +1,7 @@
 -- What happens on a side is what happens on both.
 use Rattle.mm_transfer.proofs.Below.{◌≡◌, ◌∙◌, ◌^◌, ◌<◌, ℕ, List, length, Option, None, Some, Result, Ok, Err, refl, sym, ap, subst, arith}
 use Rattle.mm_transfer.proofs.Below.{MatchResult, IfOk, OnOk, OnErr, sum_by, Memory, StepFault, Meddle, Stop, Instance, Digests, walk, course_of}
-use Rattle.mm_transfer.proofs.Below.{meddles_of, Header, Which, First, Second, Pair, instance_on, Side, Both, turned, digests_move, Moves}
+use Rattle.mm_transfer.proofs.Below.{meddles_of, Header, Which, First, Second, Pair, instance_on, Both, turned, digests_move, Moves}
 use Rattle.mm_transfer.proofs.Below.{BothEvent, affected_if, brought_to, effect_of, finding, move_ended, move_outcome, move_steps, moved_if}
 use Rattle.mm_transfer.proofs.Below.{Command, Accept, FoundMove, MoveCause, Effect, Invites, Between, MoveReply, CodeSide}
 use Rattle.mm_transfer.proofs.Below.{Inside, both_with, commanded, FitsBetween, CommandDone, CommandLacks, Commands, act_of, command_of}
@@ -52,11 +52,11 @@ done_acts : (pair : Pair) (which : Which) (meddles : List Meddle) (stop : Stop) 
     → CommandDone pair which old new was now (commanded pair which old was meddles stop command) said
     → ActDone pair which old new was now committed committed (acted pair which old was committed (Moves meddles stop command)) said
 done_acts pair which meddles stop command old new was now committed said w d =
-    let counts = d.counts committed w.here w.away in
+    let counts = d.counts committed w.side w.away in
     record {
       fits = d.fits;
       between = d.between;
-      within = record { here = counts.0; away = counts.1 };
+      within = record { side = counts.0; away = counts.1 };
       both = λ other. d.both other committed;
       says = λ other. d.says other committed;
       sayable = subst IsSayable (sym (d.says (side_in old) committed))
@@ -74,13 +74,13 @@ lacks_acts : (pair : Pair) (which : Which) (meddles : List Meddle) (stop : Stop)
 lacks_acts pair which meddles stop command old new was now committed f w l =
     let same = l.committed in
     let away = l.away in
-    let less = w.here in
+    let less = w.side in
     let less_away = w.away in
     let kept = l.kept in
     record {
       fits = l.fits;
       between = kept ∙ f ∙ ap (λ (x : List (List ℕ)). within_64 (sum_by length x)) (sym l.tickets);
-      within = record { here = omega (arith, same, less); away = omega (arith, away, less_away) };
+      within = record { side = omega (arith, same, less); away = omega (arith, away, less_away) };
       side = l.side;
       away = l.away;
       tickets = l.tickets;
@@ -173,7 +173,7 @@ event_first old held event new here between committed result came view few is ca
     let act = act_of event.act in
     let here_acts = subst (λ (h : Header). Acts (pair_of h) First act old.first here old.between between old.committed committed came)
     old.first_headed acts in
-    let within : AreWithin old.first old.between old.committed = record { here = old.first_within; away = old.away_within } in
+    let within : AreWithin old.first old.between old.committed = record { side = old.first_within; away = old.away_within } in
     let room = subst (λ (h : BothHeld). h.both.committed < 2 ^ 63) (sym view) few in
     let comes = first_comes old.header old.first here old.second old.between between old.committed committed act came
     (here_acts old.first_fits old.between_fits within room) in
@@ -192,7 +192,7 @@ event_second old held event new here between committed result came view few is c
     let act = act_of event.act in
     let here_acts = subst (λ (h : Header). Acts (pair_of h) Second act old.second here old.between between old.committed committed came)
     old.second_headed acts in
-    let within : AreWithin old.second old.between old.committed = record { here = old.second_within; away = old.away_within } in
+    let within : AreWithin old.second old.between old.committed = record { side = old.second_within; away = old.away_within } in
     let room = subst (λ (h : BothHeld). h.both.committed < 2 ^ 63) (sym view) few in
     let comes = second_comes old.header old.first old.second here old.between between old.committed committed act came
     (here_acts old.second_fits old.between_fits within room) in

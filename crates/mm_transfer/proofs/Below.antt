@@ -1,11 +1,10 @@
 -- The words and laws that the proofs of this crate take from specs/ and from the crates below.
 pub use Rattle.std.specs.List.{list_any, sum_by}
-pub use Rattle.std.specs.Prelude.{◌&&◌, ◌==◌, ◌||◌, ◌≢◌, ◌⊎◌, codes, IfOk, if◌then◌else◌, is_some, MatchResult, not, OnErr, OnOk, option_to_list}
+pub use Rattle.std.specs.Prelude.{◌&&◌, ◌==◌, ◌||◌, ◌≢◌, ◌⊎◌, codes, IfOk, if◌then◌else◌, is_some, MatchResult, not, OnErr, OnOk}
 pub use Rattle.std.specs.Str.{bytes_eq}
 pub use Rattle.std.proofs.Common.{◌++◌, ◌+◌, ◌<◌, ◌^◌, ◌∙◌, ◌∷◌, ◌≡◌, ◌≤◌, [], ap, append_assoc, arith, Bool, Err, false, get_or, inl, inr}
 pub use Rattle.std.proofs.Common.{IsErr, length, length-append, List, map, None, Ok, Option, refl, Result, Some, subst, sym, true, ℕ}
 pub use Rattle.std.proofs.lemmas.List.{append-nil}
-pub use Rattle.std.proofs.lemmas.List.Sums.{sum_by-append}
 pub use Rattle.mm_base.specs.declared.fault.Memory.{Memory}
 pub use Rattle.mm_digest.specs.Messages.{anchored_of, start_of, zero_bytes}
 pub use Rattle.mm_digest.specs.declared.variant.Variant.{Variant}
@@ -92,7 +91,7 @@ pub use Rattle.mm_transfer.specs.Between.{both_with, CommandDone, commanded, Com
 pub use Rattle.mm_transfer.specs.Between.{InvitedAs, KeepsDigest, LeftAs, RefusedAs, Tried}
 pub use Rattle.mm_transfer.specs.Events.{act_of, command_of, side_event_of, which_of}
 pub use Rattle.mm_transfer.specs.Headline.{IsOneTransfer}
-pub use Rattle.mm_transfer.specs.OneSide.{at_by, at_in, Comes, FitsSide, IsNew, Lacks, link_of, outcome_on, role_in}
+pub use Rattle.mm_transfer.specs.OneSide.{at_by, at_in, Comes, FitsSide, IsNew, Lacks, link_of, role_in}
 pub use Rattle.mm_transfer.specs.OneSide.{role_of, side_in, StandsAs}
 pub use Rattle.mm_transfer.specs.Pairs.{pair_of}
 pub use Rattle.mm_transfer.specs.Planned.{ended_as, Ends, later_steps, MakesMove, moves_at, MovesPlanned, WantsMemory, written_by}

@@ -1,13 +1,12 @@
 -- A command on a side comes to what it comes to by digests: what is common to all commands.
-use Rattle.mm_transfer.proofs.Below.{◌≡◌, ◌≤◌, ◌+◌, ◌&&◌, ℕ, Bool, true, false, not, List, length, Option, None, Some, Result, Ok, Err, IsErr}
-use Rattle.mm_transfer.proofs.Below.{inl, inr, refl, sym, ap, ◌∙◌, subst, arith, MatchResult, if◌then◌else◌, is_some, sum_by, Memory, StepFault}
-use Rattle.mm_transfer.proofs.Below.{Meddle, Stop, Standing, Instance, Digests, register_reads, walk, course_of, way_of, offered_bytes, Offer}
-use Rattle.mm_transfer.proofs.Below.{IsQuiet, Link, Ready, MoveRefusal, Role, Effect, Which, Pair, instance_on, Side, Both, digests_move}
+use Rattle.mm_transfer.proofs.Below.{◌≡◌, ◌≤◌, ◌+◌, ◌&&◌, ℕ, Bool, true, false, not, List, length, Option, None, Some, Result, Ok, Err}
+use Rattle.mm_transfer.proofs.Below.{refl, sym, ap, ◌∙◌, subst, arith, MatchResult, if◌then◌else◌, is_some, sum_by, Memory, StepFault}
+use Rattle.mm_transfer.proofs.Below.{Meddle, Stop, Standing, Instance, Digests, walk, course_of, way_of, offered_bytes, Offer}
+use Rattle.mm_transfer.proofs.Below.{Link, Ready, MoveRefusal, Role, Effect, Which, Pair, instance_on, Side, Both, digests_move}
 use Rattle.mm_transfer.proofs.Below.{MoveCause, FoundMove, Command, Denied, move_steps, effect_if, effect_of, brought_to, affected_if}
-use Rattle.mm_transfer.proofs.Below.{finding, moved_if, move_ended, unissued, role_after, Between, MoveReply, CodeSide, RefusedAs, Tried}
-use Rattle.mm_transfer.proofs.Below.{both_with, commanded, FitsBetween, CommandDone, CommandLacks, has_moved, role_in, at_by, at_in, side_in}
-use Rattle.mm_transfer.proofs.Below.{Reads, [], ◌∷◌, ◌⊎◌, seen_in, all_made, by_digests}
-use Rattle.mm_transfer.proofs.Below.{within_64, FitsSide, WantsMemory, MovesPlanned, moves_at, reply_said, refusal_of}
+use Rattle.mm_transfer.proofs.Below.{finding, moved_if, move_ended, role_after, Between, MoveReply, CodeSide, RefusedAs, Tried}
+use Rattle.mm_transfer.proofs.Below.{both_with, commanded, FitsBetween, CommandDone, CommandLacks, has_moved, role_in, at_in}
+use Rattle.mm_transfer.proofs.Below.{within_64, FitsSide, MovesPlanned, moves_at, reply_said, refusal_of}
 use Rattle.mm_model.specs.declared.refusal.Refusal.TheVariants as core
 use Rattle.mm_move.specs.declared.refusal.MoveRefusal.TheVariants as refusal
 use Rattle.mm_transfer.specs.declared.reply.MoveReply.TheVariants as reply

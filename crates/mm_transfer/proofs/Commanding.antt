@@ -1,13 +1,13 @@
 -- What a move that was found makes of a side's cell, and what it gives; where the side stands then.
-use Rattle.mm_transfer.proofs.Below.{◌≡◌, ℕ, Bool, true, false, List, [], Option, None, Some, Result, Ok, Err, refl, sym, ap, ◌∙◌, subst}
-use Rattle.mm_transfer.proofs.Below.{◌==◌, ◌&&◌, is_some, if◌then◌else◌, StepFault, Meddle, Stop, Standing, fault_at, is_made_at, Instance}
-use Rattle.mm_transfer.proofs.Below.{Digests, register_reads, Reads, End, Done, Fails, walk, after_step, end_of, course_of, takes_effect}
-use Rattle.mm_transfer.proofs.Below.{IsQuiet, stopped_at, Ready, MoveRefusal, Role, Effect, digests_move, MoveCause, FoundMove, move_steps}
-use Rattle.mm_transfer.proofs.Below.{is_moved, effect_if, effect_of, brought_to, written_if, ended_as, MakesMove, moves_at, cell_of_role}
+use Rattle.mm_transfer.proofs.Below.{◌≡◌, ℕ, Bool, true, false, List, Option, None, Some, Result, Ok, Err, refl, sym, ap, ◌∙◌, subst}
+use Rattle.mm_transfer.proofs.Below.{StepFault, Meddle, Stop, Standing, Instance}
+use Rattle.mm_transfer.proofs.Below.{Digests, register_reads, walk, course_of}
+use Rattle.mm_transfer.proofs.Below.{IsQuiet, Ready, MoveRefusal, Role, Effect, digests_move, MoveCause, FoundMove, move_steps}
+use Rattle.mm_transfer.proofs.Below.{is_moved, effect_if, effect_of, brought_to, written_if, ended_as, MakesMove, cell_of_role}
 use Rattle.mm_transfer.proofs.Below.{refusal_of, next_if, Matches, Memory, MoveReply, Denied, Refused, reply_said, RefusedAs, has_moved}
-use Rattle.mm_transfer.proofs.Below.{FitsEffect, FitsLive, IsSaid, length, sum_by, by_digests, all_made, Invites, Leaves, Enters}
+use Rattle.mm_transfer.proofs.Below.{FitsEffect, FitsLive, IsSaid, by_digests, all_made, Invites, Leaves, Enters}
 use Rattle.mm_transfer.proofs.Below.{role_after, Which, Pair, instance_on, Side, stopped_moves, affected_if, any_value, found_outer}
-use Rattle.mm_transfer.proofs.Below.{stopped_outer, CodeSide, link_of, within_64, FitsRole, FitsCell, ◌≤◌, Both}
+use Rattle.mm_transfer.proofs.Below.{stopped_outer, CodeSide, link_of, FitsRole, FitsCell, ◌≤◌, Both}
 use Rattle.mm_model.specs.declared.refusal.Refusal.TheVariants as core
 use Rattle.mm_move.specs.declared.refusal.MoveRefusal.TheVariants as refusal
 use Rattle.mm_transfer.specs.RoleCells.{cell_after}

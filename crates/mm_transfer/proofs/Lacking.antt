@@ -1,16 +1,13 @@
 -- A command for which memory was wanting, or whose offer names nothing.
-use Rattle.mm_transfer.proofs.Below.{◌≡◌, ◌≤◌, ◌+◌, ◌&&◌, ℕ, Bool, true, false, not, List, length, Option, None, Some, Result, Ok, Err, IsErr}
-use Rattle.mm_transfer.proofs.Below.{inl, inr, refl, sym, ap, ◌∙◌, subst, arith, MatchResult, if◌then◌else◌, is_some, sum_by, Memory, StepFault}
-use Rattle.mm_transfer.proofs.Below.{Meddle, Stop, Standing, Instance, Digests, register_reads, walk, course_of, way_of, offered_bytes, Offer}
-use Rattle.mm_transfer.proofs.Below.{IsQuiet, Link, Ready, MoveRefusal, Role, Effect, Which, Pair, instance_on, Side, Both, digests_move}
-use Rattle.mm_transfer.proofs.Below.{MoveCause, FoundMove, Command, Denied, move_steps, effect_if, effect_of, brought_to, affected_if}
-use Rattle.mm_transfer.proofs.Below.{finding, moved_if, move_ended, unissued, role_after, Between, MoveReply, CodeSide, RefusedAs, Tried}
-use Rattle.mm_transfer.proofs.Below.{both_with, commanded, FitsBetween, CommandDone, CommandLacks, has_moved, role_in, at_by, at_in, side_in}
+use Rattle.mm_transfer.proofs.Below.{◌≡◌, ℕ, List, length, None, Some, Result, Ok, Err, IsErr}
+use Rattle.mm_transfer.proofs.Below.{inl, inr, refl, sym, ap, ◌∙◌, subst, arith, MatchResult, sum_by, Memory}
+use Rattle.mm_transfer.proofs.Below.{Meddle, Stop, Standing, Instance, Digests, register_reads, course_of}
+use Rattle.mm_transfer.proofs.Below.{IsQuiet, MoveRefusal, Which, Pair, instance_on, Side, digests_move}
+use Rattle.mm_transfer.proofs.Below.{Command}
+use Rattle.mm_transfer.proofs.Below.{finding, moved_if, unissued, Between, MoveReply, CodeSide}
+use Rattle.mm_transfer.proofs.Below.{both_with, commanded, FitsBetween, CommandDone, CommandLacks, role_in, at_by, at_in, side_in}
 use Rattle.mm_transfer.proofs.Below.{Reads, [], ◌∷◌, ◌⊎◌, seen_in, all_made, by_digests}
-use Rattle.mm_transfer.proofs.Below.{within_64, FitsSide, WantsMemory, MovesPlanned, moves_at, reply_said, refusal_of}
-use Rattle.mm_model.specs.declared.refusal.Refusal.TheVariants as core
-use Rattle.mm_move.specs.declared.refusal.MoveRefusal.TheVariants as refusal
-use Rattle.mm_transfer.specs.declared.reply.MoveReply.TheVariants as reply
+use Rattle.mm_transfer.proofs.Below.{within_64, FitsSide, WantsMemory, reply_said}
 use Rattle.mm_transfer.proofs.SideStands.{KeepsFor, same_keeps, side_stays}
 use Rattle.mm_transfer.proofs.Vain.{seen_digests}
 

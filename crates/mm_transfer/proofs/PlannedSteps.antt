@@ -1,27 +1,20 @@
 -- One step under a plan, and what is left once the plan is over.
 use Rattle.mm_transfer.proofs.Below.{append_assoc, ◌≡◌, ℕ, Bool, true, false, List, [], ◌∷◌, ◌++◌, map, Option, None, Some, Result, Ok, Err}
-use Rattle.mm_transfer.proofs.Below.{inl, inr, refl, sym, ap, ◌∙◌, subst, append-nil, ◌⊎◌, ◌==◌, is_some, not, if◌then◌else◌, StepFault}
+use Rattle.mm_transfer.proofs.Below.{refl, sym, ap, ◌∙◌, subst, append-nil, ◌==◌, is_some, if◌then◌else◌, StepFault}
 use Rattle.mm_transfer.proofs.Below.{Meddle, Stop, Item, foreign_item, Plan, Standing, plan_after, item_values, register_after, Act}
-use Rattle.mm_transfer.proofs.Below.{ReadCell, WriteCell, Goes, EndsBy, fault_at, is_made_at, is_on_at, cell_after, items_after}
-use Rattle.mm_transfer.proofs.Below.{items_cycled, will_answer, will_be_made, will_be_on, will_bring, Move, Foreign, Instance, Digests}
-use Rattle.mm_transfer.proofs.Below.{made, register_reads, Reads, End, Done, Fails, Walked, walk, after_step, planned, end_of, by_digests}
+use Rattle.mm_transfer.proofs.Below.{Goes, EndsBy, fault_at, is_made_at, is_on_at, cell_after, items_after}
+use Rattle.mm_transfer.proofs.Below.{items_cycled, will_answer, will_be_made, will_be_on, will_bring, Foreign, Instance, Digests}
+use Rattle.mm_transfer.proofs.Below.{made, register_reads, Reads, End, Walked, after_step, end_of, by_digests}
 use Rattle.mm_transfer.proofs.Below.{all_made, shown, plan_of, is_cut, SettlesPlan, IsQuiet, reads_none, power_if, stop_power, on_settled}
-use Rattle.mm_transfer.proofs.Below.{reads_shown, CellFault, MovedCell, Invited, Ready, MoveRefusal, same_waiting, invites_in}
-use Rattle.mm_transfer.proofs.Below.{move_fault_of, move_fault_in, OrNoMemory, is_moved, is_written, stopped_moves, later_steps, written_if}
-use Rattle.mm_transfer.proofs.Below.{written_by, ended_as, Ends, MakesMove, WantsMemory, MovesPlanned}
+use Rattle.mm_transfer.proofs.Below.{reads_shown, Ready, MoveRefusal}
+use Rattle.mm_transfer.proofs.Below.{stopped_moves, written_if}
+use Rattle.mm_transfer.proofs.Below.{written_by}
 use Rattle.std.specs.Option.{option_map}
 use Rattle.mm_base.specs.Faults.{counted}
 use Rattle.mm_platform.specs.declared.fault.StepFault.TheVariants.{Failed}
 use Rattle.mm_platform.specs.declared.plan.Stop.TheVariants.{Quiet, Cut, Drop, Fail}
 use Rattle.mm_platform.specs.StandingWords.{due}
-use Rattle.mm_model.specs.declared.refusal.Refusal.TheVariants.{Memory, Device}
 use Rattle.mm_call.specs.Ended.{StaysOn}
-use Rattle.mm_call.specs.TrailLaws.{all_made-append}
-use Rattle.mm_seal.specs.declared.cell.CellFault.TheVariants.{Blank}
-use Rattle.mm_move.specs.declared.cell.MovedCell.TheVariants.{Waiting as Waits}
-use Rattle.mm_move.specs.declared.cell.Waiting.{Waiting}
-use Rattle.mm_move.specs.declared.refusal.MoveRefusal.TheVariants.{Core}
-use Rattle.mm_move.specs.Moves.{answered, Makes, GoesOn, AfterRead, MovedAs}
 
 -- what the register reads after values of others
 

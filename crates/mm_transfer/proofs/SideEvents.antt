@@ -1,6 +1,6 @@
 -- A side in code goes on as its events say.
 use Rattle.mm_transfer.proofs.Below.{◌≡◌, ◌∙◌, ◌+◌, ◌^◌, ◌≤◌, ◌<◌, ℕ, List, length, Some, Result, Ok, Err, inl, inr, refl, sym, ap, subst}
-use Rattle.mm_transfer.proofs.Below.{arith, MatchResult, Memory, IsLawful, meaning_of, Meddle, Stop, Standing, cell_spelling, Instance}
+use Rattle.mm_transfer.proofs.Below.{arith, Memory, IsLawful, meaning_of, Meddle, Stop, Standing, cell_spelling, Instance}
 use Rattle.mm_transfer.proofs.Below.{Digests, seen_in, reading_steps, by_digests, all_made, cell_at, Event, Ask, Checkpoint, Power}
 use Rattle.mm_transfer.proofs.Below.{Extend, IsPrintable, Offer, Reply, Outcome, Batch, course_of, event_outcome, few_committed}
 use Rattle.mm_transfer.proofs.Below.{printable, issues_one, Role, Live, Which, Pair, key_of, instance_on, digests_move, plain_on, grown}

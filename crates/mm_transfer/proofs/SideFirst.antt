@@ -1,9 +1,9 @@
 -- Both sides at first.
 use Rattle.mm_transfer.proofs.Below.{◌≡◌, ◌∙◌, ℕ, List, [], ◌∷◌, length, refl, sym, ap, subst, Variant, Basic, Opt, start_of, Meaning}
 use Rattle.mm_transfer.proofs.Below.{meaning_of, Standing, first_history, register_reads, cell_of, issued_bytes, instance_by, Header}
-use Rattle.mm_transfer.proofs.Below.{first_digests, world_key, world_barrier, Stands, stands_new, blank_cell, barrier_of, length-zero_bytes}
+use Rattle.mm_transfer.proofs.Below.{first_digests, world_key, world_barrier, Stands, stands_new, blank_cell, length-zero_bytes}
 use Rattle.mm_transfer.proofs.Below.{Blank, Live, First, Second, first_both, key_of, instance_on, CodeSide, pair_of, StandsAs, IsNew}
-use Rattle.mm_transfer.proofs.Below.{Instance, Digests}
+use Rattle.mm_transfer.proofs.Below.{Instance, Digests, IsQuiet}
 use Rattle.mm_platform.specs.Memory.{new_platform}
 use Rattle.mm_seal.specs.Cell.{cell_spelling}
 use Rattle.mm_run.specs.Held.{rising_from}
@@ -45,7 +45,7 @@ live_new header key barrier new same_key same_barrier is =
     let stands : Stands i new.seat.platform d = subst (λ (s : Standing). Stands i s d) (sym there)
     (stands_new header.variant (meaning_of header.«module») world_key world_barrier (cell_spelling (cell_of i first_history))
     length-first_key length-barrier refl) in
-    let quiet = record { is_on = ap (λ (s : Standing). s.is_on) there; plan = ap (λ (s : Standing). s.plan) there } in
+    let quiet : IsQuiet new.seat.platform = record { is_on = ap (λ (s : Standing). s.is_on) there; plan = ap (λ (s : Standing). s.plan) there } in
     let side = side_is pair First Live d new (live_stands pair First new.seat.platform d stands) quiet is.committed tt in
     let issued = is.issued ∙ ap (λ (x : Instance). issued_bytes x first_history ∷ []) same in
     record {
@@ -75,7 +75,7 @@ blank_new header cell new is bare starts =
       cell = ap (λ (s : Standing). s.cell) there;
       register = ap register_reads there;
     } in
-    let quiet = record { is_on = ap (λ (s : Standing). s.is_on) there; plan = ap (λ (s : Standing). s.plan) there } in
+    let quiet : IsQuiet new.seat.platform = record { is_on = ap (λ (s : Standing). s.is_on) there; plan = ap (λ (s : Standing). s.plan) there } in
     let side = side_is pair Second Blank d new stands quiet bare.committed digest in
     let issued = bare.issued in
     record {

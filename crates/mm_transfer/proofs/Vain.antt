@@ -1,5 +1,5 @@
 -- What an event comes to where the module isn't: the register alone changes.
-use Rattle.mm_transfer.proofs.Below.{◌≡◌, ◌∙◌, ◌+◌, ℕ, List, [], ◌∷◌, ◌++◌, map, Option, None, Some, Result, Err, refl, ap, append-nil, Bool}
+use Rattle.mm_transfer.proofs.Below.{◌≡◌, ◌∙◌, ◌+◌, ℕ, List, [], ◌∷◌, ◌++◌, map, Option, None, Some, Err, refl, ap, append-nil, Bool}
 use Rattle.mm_transfer.proofs.Below.{true, false, if◌then◌else◌, Batch, One, Meddle, Stop, Instance, Digests, made, Move, Commit, Foreign}
 use Rattle.mm_transfer.proofs.Below.{PowerMove, Step, Reads, Refusal, Walked, End, Done, Fails, Fate, after_step, commits, called_by}
 use Rattle.mm_transfer.proofs.Below.{seen_in, by_digests, all_made, Event, Ask, Checkpoint, Power, Extend, IsPrintable, Reply, Outcome}

@@ -1,5 +1,5 @@
 -- What an event leaves as it was for which memory was wanting.
-use Rattle.mm_transfer.proofs.Below.{◌≡◌, ℕ, List, [], ◌∷◌, length, Result, Ok, Err, OnErr, inl, inr, ap, Memory, Meddle, Stop, Instance}
+use Rattle.mm_transfer.proofs.Below.{◌≡◌, ℕ, List, [], ◌∷◌, Result, Ok, Err, OnErr, inl, inr, ap, Memory, Meddle, Stop, Instance}
 use Rattle.mm_transfer.proofs.Below.{Digests, Reads, Step, Event, Ask, Power, Header, Role, Live, Which, First, Second, Pair, instance_on, Side}
 use Rattle.mm_transfer.proofs.Below.{Both, BothEvent, Moves, MoveReply, pair_of}
 use Rattle.mm_sides.specs.Both.{facing}

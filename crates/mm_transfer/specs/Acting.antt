@@ -19,7 +19,7 @@ acted pair which here between committed act other =
 
 -- no count is greater than that of the requests committed, on either side
 pub record AreWithin (here : CodeSide) (between : Between) (committed : ℕ) : Type 0 where
-  pub here : here.seat.committed ≤ committed
+  pub side : here.seat.committed ≤ committed
   pub away : between.away ≤ committed
 
 -- A side with what passes between both, and with how many requests were committed, has come to this

@@ -2,12 +2,10 @@
 pub use Rattle.mm_base.specs.Limits.{most_events, most_members}
 pub use Rattle.mm_base.specs.declared.fault.Memory.{Memory}
 pub use Rattle.mm_base.specs.declared.replay_fault.ReplayFault.{ReplayFault}
-pub use Rattle.mm_digest.specs.Messages.{start_of}
 pub use Rattle.mm_digest.specs.declared.variant.Variant.{Variant}
 pub use Rattle.mm_digest.specs.declared.variant.Variant.TheVariants.{Basic, Opt}
 pub use Rattle.mm_seal.specs.Cell.{FitsVariant, blank_cell, cell_spelling}
 pub use Rattle.mm_seal.specs.declared.cell.CellFault.{CellFault}
-pub use Rattle.mm_platform.specs.Memory.{new_platform}
 pub use Rattle.mm_platform.specs.Standing.{Standing}
 pub use Rattle.mm_platform.specs.declared.fault.StepFault.{StepFault}
 pub use Rattle.mm_platform.specs.declared.plan.Meddle.{Meddle}

@@ -1,11 +1,11 @@
 -- Events of two sides whose bytes still lie in their line.
 use Rattle.mm_transfer.specs.Below.{One, Ask, Checkpoint, Power, Extend, meddles_of, offer_of, Act, Plain, Moves, BothEvent, Command}
 use Rattle.mm_transfer.specs.Below.{Invite, Retire, Accept}
-use Rattle.mm_transfer.specs.declared.read.ActText.{ActText}
-use Rattle.mm_transfer.specs.declared.read.ActText.TheVariants as text
-use Rattle.mm_transfer.specs.declared.read.CommandText.{CommandText}
-use Rattle.mm_transfer.specs.declared.read.CommandText.TheVariants as command
-use Rattle.mm_transfer.specs.declared.read.EventText.{EventText}
+use Rattle.mm_transfer.specs.declared.text.ActText.{ActText}
+use Rattle.mm_transfer.specs.declared.text.ActText.TheVariants as text
+use Rattle.mm_transfer.specs.declared.text.CommandText.{CommandText}
+use Rattle.mm_transfer.specs.declared.text.CommandText.TheVariants as command
+use Rattle.mm_transfer.specs.declared.text.EventText.{EventText}
 use Rattle.mm_transfer.specs.Events.{which_of}
 
 -- the command that stands in a line

@@ -107,8 +107,9 @@ fn invite(
     ensures headed { here.new.seat.header ≡ here.old.seat.header }
 {
     keep_digest(here);
+    let header = here.seat.header;
     let came = planned_invite(
-        &here.seat.header,
+        &header,
         &mut here.seat.platform,
         &link(),
         nonce,
@@ -120,15 +121,15 @@ fn invite(
 
 // Retires the platform with the snapshot that the offer names.
 fn try_retire(
-    mover: &Mover<'_>,
+    mover: &Mover,
     platform: &mut MemPlatform,
     issued: &[Bytes],
     nonce: &[u8; 32],
     offer: &Offer,
     course: &Course<'_>,
 ) -> Result<Option<Result<Bytes, MoveRefusal>>, Memory>
-    ensures { (link : Link) → link ≡ link_of (pair_of mover.now.header.now) → Tried (λ bytes cell.
-        retires_in (meaning_of mover.now.header.now.«module») mover.now.header.now.variant link nonce.now bytes
+    ensures { (link : Link) → link ≡ link_of (pair_of mover.now.header) → Tried (λ bytes cell.
+        retires_in (meaning_of mover.now.header.«module») mover.now.header.variant link nonce.now bytes
         (moved_of cell)) course.now.stop course.now.meddles.now (offered_bytes issued.now offer.now) platform.old
         platform.new result }
 {
@@ -161,35 +162,36 @@ fn retire(
     ensures headed { here.new.seat.header ≡ here.old.seat.header }
 {
     between.tickets.reserve(1)?;
-    let was_live = is_live(here.seat.platform.cell());
+    let seat = &mut here.seat;
+    let was_live = is_live(seat.platform.cell());
     let mover = Mover {
         alloc,
-        header: &here.seat.header,
+        header: seat.header,
     };
     match try_retire(
         &mover,
-        &mut here.seat.platform,
-        here.seat.issued.as_slice(),
+        &mut seat.platform,
+        seat.issued.as_slice(),
         nonce,
         offer,
         course,
     ) {
         Err(memory) => Err(memory),
         Ok(None) => Ok(MoveReply::NoSnapshot),
-        Ok(Some(came)) => between.leave(was_live, here.seat.committed, course.stop, came),
+        Ok(Some(came)) => between.leave(was_live, seat.committed, course.stop, came),
     }
 }
 
 // Accepts the ticket that the offer names on the platform.
 fn try_accept(
-    mover: &Mover<'_>,
+    mover: &Mover,
     platform: &mut MemPlatform,
     tickets: &[Bytes],
     offer: &Offer,
     course: &Course<'_>,
 ) -> Result<Option<Result<Accepted, MoveRefusal>>, Memory>
-    ensures { (link : Link) → link ≡ link_of (pair_of mover.now.header.now) → Tried (λ bytes cell.
-        accepts_in (meaning_of mover.now.header.now.«module») mover.now.header.now.variant link bytes (moved_of cell))
+    ensures { (link : Link) → link ≡ link_of (pair_of mover.now.header) → Tried (λ bytes cell.
+        accepts_in (meaning_of mover.now.header.«module») mover.now.header.variant link bytes (moved_of cell))
         course.now.stop course.now.meddles.now (offered_bytes tickets.now offer.now) platform.old platform.new result }
 {
     match offered(mover.alloc, tickets, offer) {
@@ -248,7 +250,7 @@ fn accept(
     let was_live = is_live(here.seat.platform.cell());
     let mover = Mover {
         alloc,
-        header: &here.seat.header,
+        header: here.seat.header,
     };
     match try_accept(
         &mover,

@@ -15,6 +15,7 @@ mod report;
 mod side;
 mod sides;
 mod stage;
+mod text;
 mod whole;
 
 pub use event::{Act, Command, SideEvent, Which};

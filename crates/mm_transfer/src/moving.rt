@@ -70,9 +70,9 @@ pub fn refused(stop: Stop, why: MoveRefusal) -> Result<MoveReply, Memory>
 
 /// The header whose module moves, and the allocator of its moves.
 #[derive(Drop)]
-pub struct Mover<'a> {
+pub struct Mover {
     pub alloc: Global,
-    pub header: &'a Header,
+    pub header: Header,
 }
 
 /// Invites the platform under this plan.
@@ -91,7 +91,14 @@ pub fn planned_invite(
     match platform.plan(course.stop, course.meddles) {
         Err(_) => Err(NO_MEMORY),
         Ok(()) => {
-            let came = mm_move::invite(platform, link, header.variant, header.module.id(), nonce, key);
+            let came = mm_move::invite(
+                platform,
+                link,
+                header.variant,
+                header.module.id(),
+                nonce,
+                key,
+            );
             settle(platform, course.stop, is_broken(&came));
             came
         }
@@ -100,7 +107,7 @@ pub fn planned_invite(
 
 /// Retires the platform under such a plan.
 pub fn planned_retire(
-    mover: &Mover<'_>,
+    mover: &Mover,
     platform: &mut MemPlatform,
     link: &Link,
     nonce: &[u8; 32],
@@ -108,7 +115,7 @@ pub fn planned_retire(
     course: &Course<'_>,
 ) -> Result<Bytes, MoveRefusal>
     ensures { MovesPlanned (λ bytes.
-        retires_in (meaning_of mover.now.header.now.«module») mover.now.header.now.variant link.now nonce.now offer.now (moved_of bytes))
+        retires_in (meaning_of mover.now.header.«module») mover.now.header.variant link.now nonce.now offer.now (moved_of bytes))
         course.now.stop course.now.meddles.now platform.old platform.new result }
 {
     match platform.plan(course.stop, course.meddles) {
@@ -131,14 +138,14 @@ pub fn planned_retire(
 
 /// Accepts a ticket on the platform under such a plan.
 pub fn planned_accept(
-    mover: &Mover<'_>,
+    mover: &Mover,
     platform: &mut MemPlatform,
     link: &Link,
     ticket: &[u8],
     course: &Course<'_>,
 ) -> Result<Accepted, MoveRefusal>
     ensures { MovesPlanned (λ bytes.
-        accepts_in (meaning_of mover.now.header.now.«module») mover.now.header.now.variant link.now ticket.now (moved_of bytes))
+        accepts_in (meaning_of mover.now.header.«module») mover.now.header.variant link.now ticket.now (moved_of bytes))
         course.now.stop course.now.meddles.now platform.old platform.new result }
 {
     match platform.plan(course.stop, course.meddles) {

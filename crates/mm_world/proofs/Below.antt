@@ -1,8 +1,8 @@
 -- The words and laws that the proofs of this crate take from specs/ and from the crates below.
 pub use Rattle.std.specs.Option.{option_map}
-pub use Rattle.std.specs.Prelude.{◌==◌, if◌then◌else◌, is_some, MatchResult, min, option_to_list, slice_index}
+pub use Rattle.std.specs.Prelude.{◌==◌, if◌then◌else◌, is_some, MatchResult, option_to_list, slice_index}
 pub use Rattle.std.proofs.Common.{◌&&◌, ◌++◌, ◌+◌, ◌-◌, ◌<◌, ◌^◌, ◌∙◌, ◌∷◌, ◌≡◌, ◌≤◌, [], ap, arith, Bool, drop, Err, false, IfOk, inl, inr}
-pub use Rattle.std.proofs.Common.{length, length-append, List, map, None, Ok, OnErr, OnOk, Option, refl, Result, Some, subst, sym, take, true, ℕ}
+pub use Rattle.std.proofs.Common.{length, List, map, None, Ok, OnErr, Option, refl, Result, Some, subst, sym, take, true, ℕ}
 pub use Rattle.std.proofs.lemmas.Bool.{eq-eqb, eqb-true}
 pub use Rattle.std.proofs.lemmas.List.{append-nil, map-append}
 pub use Rattle.mm_base.specs.declared.fault.Memory.{Memory}
@@ -56,7 +56,7 @@ pub use Rattle.mm_opt.specs.declared.segment.Checkpointed.{Checkpointed as Said}
 pub use Rattle.mm_schedule.specs.Events.{Ask, Checkpoint, Event, event_of, meddles_of}
 pub use Rattle.mm_schedule.specs.declared.reply.Reply.{Reply}
 pub use Rattle.mm_run.specs.Folds.{after_stop, cause_of, closed_outcome, closing_reply, closing_then, course_of, first_digests}
-pub use Rattle.mm_run.specs.Folds.{first_issued, moves_then, Outcome, outcome_by, reads_only, reply_of, snapshots_of, uncalled, way_of}
+pub use Rattle.mm_run.specs.Folds.{moves_then, Outcome, outcome_by, reads_only, reply_of, snapshots_of, uncalled, way_of}
 pub use Rattle.mm_run.proofs.Above.{broken_reply, stopped_reply}
 pub use Rattle.mm_run.specs.Folds.{plan_of}
 pub use Rattle.mm_run.specs.Held.{first_held, Follows, Held, outcome_in, Wants, world_of}

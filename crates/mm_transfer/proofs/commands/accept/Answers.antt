@@ -31,4 +31,4 @@ returns-in-Ok-Some-clause-made c = λ which fits counted.
     c.args.course.now.meddles.now c.args.between.now.tickets.items c.as_slice.result.now c.args.offer.now c.args.here.now.seat.platform _
     c.in-Ok-Some.field-0 c.as_slice.ensures.value (c.in-Ok-Some.ensures (link_of pair) refl) c.in-Ok-Some.came c.in-Ok-Some.field-0-is)
     c.is_live-was_live.ensures c.cell.ensures (record { digest = refl; issued = c.reserve.ensures.items; committed = refl })
-    c.enter.ensures fits counted
+    c.enter.ensures.entered fits counted

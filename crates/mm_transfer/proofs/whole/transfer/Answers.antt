@@ -1,4 +1,3 @@
-use Rattle.mm_play.specs.Stage.{AtHeading, InEvents}
 use Rattle.mm_transfer.proofs.Below.{begun, events_err, events_ok, playing, plays_err, unrefused, PairsAgreeThroughout, OneIsLive, SidesRunAsOne}
 use Rattle.mm_sides.specs.Evidence.{PairsAreDecided}
 use Rattle.mm_transfer.specs.Headline.{AreOneTransfer, moved}

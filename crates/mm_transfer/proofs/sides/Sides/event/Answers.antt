@@ -14,10 +14,10 @@ comes : (c : goal.Joined-event)
 comes c = elim c.match-event.branch [
   | in-First w ↦ event_first c.self.inside c.args.self.now c.args.event.now _ w.act.new.here w.act.new.between
       w.act.new.committed c.match-event.result w.act.result c.self.view_is c.requires.committed w.in-First.is w.result-is
-      (ap both_in w.self-inside-is) w.act.ensures
+      (ap both_in w.self-inside-is) w.act.ensures.acts
   | in-Second w ↦ event_second c.self.inside c.args.self.now c.args.event.now _ w.act-in-Second.new.here
       w.act-in-Second.new.between w.act-in-Second.new.committed c.match-event.result w.act-in-Second.result c.self.view_is
-      c.requires.committed w.in-Second.is w.result-is (ap both_in w.self-inside-is) w.act-in-Second.ensures
+      c.requires.committed w.in-Second.is w.result-is (ap both_in w.self-inside-is) w.act-in-Second.ensures.acts
 ]
 
 pub returns-clause-reply : goal.returns-clause-reply

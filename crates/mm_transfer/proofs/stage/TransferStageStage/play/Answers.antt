@@ -1,4 +1,4 @@
-use Rattle.mm_transfer.proofs.Below.{◌≡◌, ◌∙◌, Some, ap, inr, side_event_of, sym}
+use Rattle.mm_transfer.proofs.Below.{◌∙◌, Some, ap, inr, side_event_of, sym}
 use Rattle.mm_play.specs.Stage.{answer_by}
 use Rattle.mm_transfer.specs.Stage.{playing, Running, running_text}
 use Rattle.mm_transfer.proofs.stage.TransferStageStage.play.Goals as goal

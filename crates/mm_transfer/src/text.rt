@@ -1,0 +1,119 @@
+//! Events of two sides as they lie in their lines.
+
+ghost use Rattle.std.specs.Prelude.{◌≡◌, IfOk};
+ghost use Rattle.mm_transfer.specs.Events.{command_of, act_of, side_event_of};
+ghost use Rattle.mm_transfer.specs.Texts as texts;
+
+use crate::event::{Act, Command, SideEvent, Which};
+use mm_base::{Bytes, Memory};
+use mm_digest::Digest;
+use mm_platform::Stop;
+use mm_schedule::{Event, Meddles, OfferText, owned_offer};
+use std::alloc::Global;
+
+/// A command as it lies in its line.
+pub enum CommandText<'a> {
+    Invite {
+        nonce: [u8; 32],
+    },
+    Retire {
+        nonce: [u8; 32],
+        from: OfferText<'a>,
+    },
+    Accept {
+        from: OfferText<'a>,
+    },
+}
+
+/// What happens on a side, as it lies in its line.
+pub enum ActText<'a> {
+    Ask {
+        meddles: Meddles,
+        stop: Stop,
+        from: OfferText<'a>,
+        request: &'a [u8],
+    },
+    Checkpoint {
+        meddles: Meddles,
+        stop: Stop,
+    },
+    Power,
+    Extend {
+        value: Digest,
+    },
+    Moves {
+        meddles: Meddles,
+        stop: Stop,
+        command: CommandText<'a>,
+    },
+}
+
+/// An event as it lies in its line.
+pub struct EventText<'a> {
+    pub which: Which,
+    pub act: ActText<'a>,
+}
+
+/// The event with bytes of its own.
+pub fn owned(alloc: Global, event: EventText<'_>) -> Result<SideEvent, Memory>
+    ensures { IfOk result (λ own. side_event_of own ≡ texts.event_in event.entry) }
+{
+    let EventText { which, act } = event;
+    let act = owned_act(alloc, act)?;
+    Ok(SideEvent { which, act })
+}
+
+fn owned_act(alloc: Global, act: ActText<'_>) -> Result<Act, Memory>
+    ensures { IfOk result (λ own. act_of own ≡ texts.act_in act.entry) }
+{
+    match act {
+        ActText::Ask {
+            meddles,
+            stop,
+            from,
+            request,
+        } => {
+            let offer = owned_offer(alloc, from)?;
+            let request = Bytes::copy_of(alloc, request)?;
+            Ok(Act::Plain(Event::Ask {
+                meddles,
+                stop,
+                offer,
+                request,
+            }))
+        }
+        ActText::Checkpoint { meddles, stop } => {
+            Ok(Act::Plain(Event::Checkpoint { meddles, stop }))
+        }
+        ActText::Power => Ok(Act::Plain(Event::Power)),
+        ActText::Extend { value } => Ok(Act::Plain(Event::Extend { value })),
+        ActText::Moves {
+            meddles,
+            stop,
+            command,
+        } => {
+            let command = owned_command(alloc, command)?;
+            Ok(Act::Moves {
+                meddles,
+                stop,
+                command,
+            })
+        }
+    }
+}
+
+fn owned_command(alloc: Global, command: CommandText<'_>) -> Result<Command, Memory>
+    ensures { IfOk result (λ own. command_of own ≡ texts.command_in command.entry) }
+{
+    match command {
+        CommandText::Invite { nonce } => Ok(Command::Invite { nonce }),
+        CommandText::Retire { nonce, from } => {
+            let offer = owned_offer(alloc, from)?;
+            Ok(Command::Retire { nonce, offer })
+        }
+        CommandText::Accept { from } => {
+            let offer = owned_offer(alloc, from)?;
+            Ok(Command::Accept { offer })
+        }
+    }
+}
