@@ -10,7 +10,9 @@ use Rattle.mm_slots.proofs.Below.{flying, beginning, begun, acted, acted_by, joi
 use Rattle.mm_slots.proofs.Below.{Fits, ComesTo, LosesIn, flown, HasRegister, StaysOn}
 use Rattle.mm_digest.specs.declared.digest.Digest.{Digest}
 use Rattle.mm_schedule.specs.declared.reply.Reply.TheVariants as reply
+use Rattle.mm_machine.specs.declared.call.Stage.{Stage}
 use Rattle.mm_machine.specs.declared.call.Stage.TheVariants as stage
+use Rattle.mm_model.specs.declared.answer.BatchAnswer.{BatchAnswer}
 use Rattle.mm_slots.specs.declared.event.Action.TheVariants as action
 use Rattle.mm_slots.specs.declared.flight.Flight.TheVariants as code
 use Rattle.mm_steps.specs.InFlight.{IsInFlight, asking as asks_so}
@@ -78,8 +80,8 @@ ask_begins slot asking fits none some short is room =
     let begins = asks_begun slot.seat.header.variant (meaning_of slot.seat.header.«module») (rising_from slot.number)
     (rising_from (128 + slot.number)) (digests_in slot) slot.seat.platform at.0 at.1 asking.bytes (One asking.request) in
     flight_begins slot (code.Asks asking) (action.Begin asking.offer asking.request) at.1
-    (subst (λ call. IsInFlight (asks_so slot.seat.header.variant (meaning_of slot.seat.header.«module») asking.bytes (One asking.request))
-    i (digests_in slot) slot.seat.platform call slot.seat.platform [] 1) (sym is) begins)
+    (subst (λ (call : Stage BatchAnswer). IsInFlight (asks_so slot.seat.header.variant (meaning_of slot.seat.header.«module») asking.bytes
+    (One asking.request)) i (digests_in slot) slot.seat.platform call slot.seat.platform [] 1) (sym is) begins)
     (record { offered = some; short = short; room = room })
     (sym (acts_idle slot (action.Begin asking.offer asking.request) none ∙ opens))
 

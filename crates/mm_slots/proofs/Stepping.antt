@@ -13,7 +13,9 @@ use Rattle.mm_call.specs.Called.{reading_steps}
 use Rattle.mm_call.specs.Courses.{seen_in}
 use Rattle.mm_call.specs.WalkLaws.{seen_none}
 use Rattle.mm_machine.specs.Stepping.{number_of}
+use Rattle.mm_machine.specs.declared.call.Ended.{Ended}
 use Rattle.mm_machine.specs.declared.call.Stage.{Stage}
+use Rattle.mm_opt.specs.declared.segment.CheckpointRefusal.{CheckpointRefusal}
 use Rattle.mm_opt.specs.Closing.{closing as checkpoint}
 use Rattle.mm_opt.specs.declared.segment.Checkpointed.{Checkpointed}
 use Rattle.mm_ask.specs.Operating.{asked_by, writes_at}
@@ -68,11 +70,15 @@ closes_come slot it new result fits s =
     (rising_from (128 + slot.number)) (digests_in (flown slot (code.Closes it))) f.from slot.seat.issued.items p.meddles (p.at + 1) f.flies
 
 -- a checkpoint wants no memory
+none_told : (stop : Stop) (ended : Ended Checkpointed CheckpointRefusal) (memory : Memory) → tells_close stop ended (Err memory) → ⊥
+none_told stop ended memory told = cc
+
 pub closes_whole : (slot : Parts) (it : Closing) (new : Standing) (memory : Memory) → Fits (flown slot (code.Closes it))
     → ClosesStep slot it new (Err memory) → ⊥
 closes_whole slot it new memory fits s =
-    let f = (call_of slot (code.Closes it) fits).flies in
-    let told = (s.steps (call_of slot (code.Closes it) fits).from (next_plan slot.seat.platform).meddles f.made f.flies f.number).was.told in cc
+    let f = call_of slot (code.Closes it) fits in
+    let over = s.steps f.from (next_plan slot.seat.platform).meddles f.flies.made f.flies.flies f.flies.number in
+    none_told (stop_behind (f.flies.made + 1)) over.was.ended memory over.was.told
 
 -- a call goes on
 flight_goes : (slot : Parts) (before after : CodeFlight) (keys : Unit {0}) (new : Standing) (step : ℕ)

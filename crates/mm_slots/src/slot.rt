@@ -60,7 +60,7 @@ impl Slot {
     /// Lets something happen in the slot. After want of memory nothing has changed, but that a call in flight is over whose
     /// step it was, with nothing done but its reading steps.
     pub fn act(&mut self, alloc: Global, action: Action) -> Result<Said, Memory>
-        requires few { self.old.slot.digests.count < 2 ^ 63 }
+        requires { self.old.slot.digests.count < 2 ^ 63 }
         ensures ok { IfOk result (ActsAs action self.old self.new) }
         ensures err { OnErr result (LacksAs action self.old self.new) }
     {
