@@ -2,22 +2,22 @@
 use Rattle.mm_slots.proofs.Below.{◌≡◌, ◌∙◌, ◌+◌, ◌<◌, ℕ, true, false, List, [], length, Option, None, Some, IsSome, refl, sym, ap, subst}
 use Rattle.mm_slots.proofs.Below.{arith, vec_capacity, option_map, One, meaning_of, Meddle, Quiet, Item, Plan, Standing, next_step}
 use Rattle.mm_slots.proofs.Below.{item_values, register_after, next_plan, quiet_plan, meddling, cycled, Foreign, PowerMove}
-use Rattle.mm_slots.proofs.Below.{is_long, Digests, made, register_reads, Extend, rising_from, offered_bytes, begun_call, plan_by, meddled}
-use Rattle.mm_slots.proofs.Below.{digest_in, flag_in, Stands, IsQuiet, extended_by, stands_extended, stands_settled, flight_takes_in}
+use Rattle.mm_slots.proofs.Below.{is_long, Digests, made, register_reads, Extend, rising_from, offered_bytes, plan_by, meddled}
+use Rattle.mm_slots.proofs.Below.{digest_in, flag_in, Stands, IsQuiet, extended_by, stands_extended, stands_settled}
 use Rattle.mm_slots.proofs.Below.{asks_begun, closes_begun, may_take_in, Action, Asking}
 use Rattle.mm_slots.proofs.Below.{CodeFlight, Said, Begun, Replied, Parts, Turned, Asks, plays, merely}
 use Rattle.mm_slots.proofs.Below.{flying, beginning, begun, acted, acted_by, joined, digests_in, slot_in, flight_in, call_in, instance_in}
 use Rattle.mm_slots.proofs.Below.{Fits, ComesTo, LosesIn, flown, HasRegister, StaysOn}
 use Rattle.mm_digest.specs.declared.digest.Digest.{Digest}
 use Rattle.mm_schedule.specs.declared.reply.Reply.TheVariants as reply
+use Rattle.mm_machine.specs.declared.call.Stage.{Stage}
 use Rattle.mm_machine.specs.declared.call.Stage.TheVariants as stage
+use Rattle.mm_model.specs.declared.answer.BatchAnswer.{BatchAnswer}
 use Rattle.mm_slots.specs.declared.event.Action.TheVariants as action
 use Rattle.mm_slots.specs.declared.flight.Flight.TheVariants as code
-use Rattle.mm_flight.proofs.Above.{may_ask_planned}
-use Rattle.mm_schedule.specs.declared.header.Header.{Header}
-use Rattle.mm_steps.specs.Stopping.{IsInFlight}
-use Rattle.mm_slots.specs.Held.{left_of, MayGoOn}
-use Rattle.mm_slots.proofs.Fitting.{rests, idle, flight_of, plan_is, call_of}
+use Rattle.mm_steps.specs.InFlight.{IsInFlight, asking as asks_so}
+use Rattle.mm_slots.specs.Held.{Flies, MayGoOn}
+use Rattle.mm_slots.proofs.Fitting.{rests, idle, flight_of, plan_is, call_of, flight_is, takes_value}
 
 -- what is said by whether a call is in flight
 
@@ -44,15 +44,15 @@ quiet_next : (standing : Standing) → IsQuiet standing → next_plan standing �
 quiet_next standing q = plan_is standing quiet_plan q.plan
 
 flight_begins : (slot : Parts) (flight : CodeFlight) (what : Action) → IsQuiet slot.seat.platform
-    → IsInFlight (left_of slot.seat.header flight) (instance_in slot) (digests_in slot) slot.seat.platform slot.seat.platform [] 1
+    → Flies slot.seat.header (instance_in slot) (digests_in slot) slot.seat.platform flight slot.seat.platform [] 1
     → MayGoOn slot.seat.issued.items (vec_capacity slot.seat.issued) flight
     → merely (flying (slot_in slot) (beginning (call_in flight))) Begun ≡ acted (instance_in slot) (slot_in slot) what
     → ComesTo slot (flown slot flight) (acted (instance_in slot) (slot_in slot) what) Begun
 flight_begins slot flight what q begins may opens =
     let standing = slot.seat.platform in
     let next = quiet_next standing q in
-    let flies = subst (λ (p : Plan). IsInFlight (left_of slot.seat.header flight) (instance_in slot) (digests_in slot) standing standing
-    p.meddles (p.at + 1)) (sym next) begins in
+    let flies = subst (λ (p : Plan). Flies slot.seat.header (instance_in slot) (digests_in slot) standing flight standing p.meddles
+    (p.at + 1)) (sym next) begins in
     comes_by slot (flown slot flight) (merely (flying (slot_in slot) (beginning (call_in flight))) Begun)
     (acted (instance_in slot) (slot_in slot) what) Begun opens
     (record {
@@ -68,7 +68,7 @@ flight_begins slot flight what q begins may opens =
 
 pub ask_begins : (slot : Parts) (asking : Asking) → Fits slot → slot.flight ≡ None
     → offered_bytes slot.seat.issued.items asking.offer ≡ Some asking.bytes → is_long (One asking.request) ≡ false
-    → asking.call ≡ begun_call slot.seat.header.variant → length slot.seat.issued.items < vec_capacity slot.seat.issued
+    → asking.call ≡ stage.Begun → length slot.seat.issued.items < vec_capacity slot.seat.issued
     → ComesTo slot (flown slot (code.Asks asking))
     (acted (instance_in slot) (slot_in slot) (action.Begin asking.offer asking.request)) Begun
 ask_begins slot asking fits none some short is room =
@@ -77,9 +77,11 @@ ask_begins slot asking fits none some short is room =
     let at = idle slot none fits in
     let on : Turned = merely (flying s (beginning (Asks asking.offer (One asking.request)))) Begun in
     let opens : begun i s asking.offer (One asking.request) (offered_bytes s.issued asking.offer) ≡ on = rw (some, short) refl in
+    let begins = asks_begun slot.seat.header.variant (meaning_of slot.seat.header.«module») (rising_from slot.number)
+    (rising_from (128 + slot.number)) (digests_in slot) slot.seat.platform at.0 at.1 asking.bytes (One asking.request) in
     flight_begins slot (code.Asks asking) (action.Begin asking.offer asking.request) at.1
-    (asks_begun slot.seat.header.variant (meaning_of slot.seat.header.«module») (rising_from slot.number) (rising_from (128 + slot.number))
-    (digests_in slot) slot.seat.platform at.0 at.1 asking.call asking.bytes (One asking.request) is)
+    (subst (λ (call : Stage BatchAnswer). IsInFlight (asks_so slot.seat.header.variant (meaning_of slot.seat.header.«module») asking.bytes
+    (One asking.request)) i (digests_in slot) slot.seat.platform call slot.seat.platform [] 1) (sym is) begins)
     (record { offered = some; short = short; room = room })
     (sym (acts_idle slot (action.Begin asking.offer asking.request) none ∙ opens))
 
@@ -188,8 +190,10 @@ back_from slot flight some fits = subst Fits (λ j. record slot { flight = sym s
 -- there is a next step to plan a value for
 may_meddle : (slot : Parts) (flight : CodeFlight) → Fits slot → slot.flight ≡ Some flight → (next_plan slot.seat.platform).at < 255
 may_meddle slot flight fits some =
-    let a = (call_of slot flight (some_flight slot flight some fits)).flies in
-    may_take_in slot.seat.platform (plan_by Quiet (next_plan slot.seat.platform).meddles) a.made a.flies.planned a.flies.few
+    let f = call_of slot flight (some_flight slot flight some fits) in
+    let p = next_plan slot.seat.platform in
+    let a = flight_is slot.seat.header (instance_in slot) (digests_in slot) f.from flight slot.seat.platform p.meddles (p.at + 1) f.flies in
+    may_take_in slot.seat.platform (plan_by Quiet p.meddles) a.made a.planned a.few
 
 moves : (slot : Parts) (new : Standing) (value : Digest) → Moved slot.seat.platform new value → (P : Digests → Plan → Type 0)
     → (let p = next_plan slot.seat.platform in
@@ -206,25 +210,17 @@ moves slot new value m P h =
     let q : Plan = record p { stop = Quiet; meddles = meddled p.meddles (p.at + 1) value } in
     subst (λ (x : Plan). P (digests_in (over slot new)) x) (sym m.plan) (subst (λ (x : Digests). P x q) (sym d) h)
 
--- the room that a call takes is the same under another plan
-may_planned : (header : Header) (flight : CodeFlight) (old new : Standing) (plan : Option Plan) → new ≡ record old { plan = plan }
-    → (left_of header flight).may old → (left_of header flight).may new
-may_planned header (code.Asks asking) old new plan e may = rw e (may_ask_planned asking.call old plan may)
-may_planned header (code.Closes closing) old new plan e may = may
-
 extends_flying : (slot : Parts) (new : Standing) (flight : CodeFlight) (value : Digest) → Fits slot → slot.flight ≡ Some flight
     → new ≡ record slot.seat.platform { plan = option_map (meddling value) slot.seat.platform.plan }
     → ComesTo slot (over slot new) (acted (instance_in slot) (slot_in slot) (action.Extend value)) (Replied reply.Extended)
 extends_flying slot new flight value fits some e =
     let old = slot.seat.platform in
     let f = call_of slot flight (some_flight slot flight some fits) in
-    let a = f.flies in
     let p = next_plan old in
-    let left = left_of slot.seat.header flight in
-    let m = moved_by old new value a.made a.flies.planned a.flies.few a.is_next e in
-    let flies = moves slot new value m (λ x q. IsInFlight left (instance_in slot) x f.from new q.meddles (q.at + 1))
-    (flight_takes_in left (instance_in slot) (digests_in slot) f.from old new p.meddles (p.at + 1) value a e
-    (may_planned slot.seat.header flight old new (option_map (meddling value) old.plan) e a.room)) in
+    let a = flight_is slot.seat.header (instance_in slot) (digests_in slot) f.from flight old p.meddles (p.at + 1) f.flies in
+    let m = moved_by old new value a.made a.planned a.few a.is_next e in
+    let flies = moves slot new value m (λ x q. Flies slot.seat.header (instance_in slot) x f.from flight new q.meddles (q.at + 1))
+    (takes_value slot.seat.header (instance_in slot) (digests_in slot) f.from flight old new p.meddles (p.at + 1) value f.flies e) in
     joins_comes slot new flight value some m
     (back_from (over slot new) flight some (record { from = f.from; flies = flies; may = f.may }))
 
@@ -239,7 +235,10 @@ stood : (slot : Parts) (flight : Option CodeFlight) → slot.flight ≡ flight �
     → (from : Standing) × Stands (instance_in slot) from (digests_in slot) × (from.cell ≡ slot.seat.platform.cell)
 stood slot None none fits = let at = idle slot none fits in (slot.seat.platform, at.0, refl)
 stood slot (Some flight) some fits =
-    let f = call_of slot flight (some_flight slot flight some fits) in (f.from, f.flies.stands, sym f.flies.flies.cell)
+    let f = call_of slot flight (some_flight slot flight some fits) in
+    let p = next_plan slot.seat.platform in
+    let a = flight_is slot.seat.header (instance_in slot) (digests_in slot) f.from flight slot.seat.platform p.meddles (p.at + 1) f.flies in
+    (f.from, a.stands, sym a.cell)
 
 emptied : (items : Option (List Item)) (value : List ℕ) → option_map (λ xs. register_after (item_values xs))
     (option_map none_left items) ≡ Some value → option_map none_left items ≡ Some []

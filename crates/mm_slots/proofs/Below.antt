@@ -37,7 +37,6 @@ pub use Rattle.mm_schedule.specs.declared.event.Offer.{Offer}
 pub use Rattle.mm_schedule.specs.declared.header.Header.{Header}
 pub use Rattle.mm_schedule.specs.declared.reply.Reply.{Reply}
 pub use Rattle.mm_schedule.proofs.Above.{promises-kept}
-pub use Rattle.mm_flight.specs.Asks.{ask_number, begun as begun_call}
 pub use Rattle.mm_flight.specs.InFlight.{plan_by}
 pub use Rattle.mm_flight.proofs.Above.{meddled}
 pub use Rattle.mm_run.specs.Folds.{course_of, expected, first_digests, Followed, followed, Outcome, replies_by_digests}
@@ -49,21 +48,21 @@ pub use Rattle.mm_world.specs.Held.{digest_in, flag_in, value_in}
 pub use Rattle.mm_world.specs.Stands.{IsQuiet, Stands}
 pub use Rattle.mm_world.specs.declared.call.Called.{Called}
 pub use Rattle.mm_world.proofs.Above.{count_none, counting, digests_are, stands_extended, stands_new, stands_settled}
-pub use Rattle.mm_steps.specs.Asking.{BreaksAs, StepsAs}
-pub use Rattle.mm_steps.specs.Closing.{BreaksClosingAs, StepsClosingAs}
 pub use Rattle.mm_steps.specs.Stopping.{is_nothing, stop_behind}
-pub use Rattle.mm_steps.proofs.Above.{asks_begun, closes_begun, flight_takes_in, may_take_in}
+pub use Rattle.mm_steps.proofs.Above.{asks_begun, asks_broken_off, asks_stepped, closes_begun, closes_broken_off, closes_stepped}
+pub use Rattle.mm_steps.proofs.Above.{flight_takes_in, may_take_in}
+pub use Rattle.mm_steps.specs.Flying.{BreaksAs, MayStepOn, StepsAs}
 pub use Rattle.mm_play.proofs.Above.{events_err, events_ok, plays_err, unrefused}
 pub use Rattle.mm_slots.specs.Answers.{answer_text, answers_text, end_lines, IsSayable, slot_end_line}
 pub use Rattle.mm_slots.specs.Grammar.{action_at, event_at}
 pub use Rattle.mm_slots.specs.Held.{call_in, ComesTo, digests_in, Fits, FitsCall, FitsFlight, flight_in, flown, GoesOn, HasRegister}
 pub use Rattle.mm_slots.specs.Held.{instance_in, EndsIn, LacksIn, LosesIn, row_in, slot_in}
-pub use Rattle.mm_slots.specs.Lengths.{within_64}
+pub use Rattle.mm_world.specs.Lengths.{within_64}
 pub use Rattle.mm_slots.specs.Laws.{SlotRuns, SlotsAreAlone, SlotsRun}
 pub use Rattle.mm_slots.specs.Plays.{Reports}
 pub use Rattle.mm_slots.specs.Rows.{ActsAs, ActsAt, CanCount, IsCounted, IsInside, IsWithin, KeepsAll, LacksAs, one_loses}
 pub use Rattle.mm_slots.specs.Rows.{only_at, others_lose, Tells, touched}
-pub use Rattle.mm_slots.specs.Seat.{extended_by, IsFirst, StaysOn}
+pub use Rattle.mm_world.specs.Seat.{extended_by, IsFirst, StaysOn}
 pub use Rattle.mm_slots.specs.Slot.{acted, acted_by, Acts, Asks, beginning, begun, Call, Closes, event_by, first_slot, Flight, flying, folded}
 pub use Rattle.mm_slots.specs.Slot.{joined, Loses, merely, Met, outcome_in, plays, Slot, slot_instance, so_far, stepped}
 pub use Rattle.mm_slots.specs.Slot.{stop_at, Turned, turned, unpowered, Wants}

@@ -9,6 +9,13 @@ use Rattle.mm_slots.proofs.Below.{within_64, EndsIn, next_plan, Bool, true, cond
 use Rattle.mm_slots.proofs.Below.{quiet_plan, made, plan_by, is_nothing, Going, Flight, Turned, merely, flying, so_far}
 use Rattle.mm_slots.proofs.Below.{stepped, call_in, FitsCall, GoesOn}
 use Rattle.mm_modules.specs.ModulesLaws.{any_is_lawful}
+use Rattle.mm_slots.proofs.Below.{flight_takes_in, meddled, meddling, option_map, One}
+use Rattle.mm_digest.specs.declared.digest.Digest.{Digest}
+use Rattle.mm_flight.proofs.Above.{may_planned}
+use Rattle.mm_machine.specs.Stepping.{MayGoOn as MayStep}
+use Rattle.mm_steps.specs.InFlight.{asking as asks_so, checkpointing}
+use Rattle.mm_slots.specs.Held.{Flies}
+use Rattle.mm_slots.specs.declared.flight.Flight.TheVariants as code
 use Rattle.mm_schedule.specs.Replies.{IsPrintable}
 
 -- where the platform of a slot stands, by the register's value that the slot has
@@ -172,3 +179,46 @@ pub call_of : (slot : Parts) (flight : CodeFlight) → Fits (flown slot flight)
     → FitsCall slot.seat.header slot.number (digests_in (flown slot flight)) slot.seat.issued.items (vec_capacity slot.seat.issued)
     slot.seat.platform flight
 call_of slot flight f = f
+
+-- what is known of a call in flight, whatever it asks
+pub record IsOn (i : Instance) (d : Digests) (from now : Standing) (meddles : List Meddle) (next : ℕ) : Type 0 where
+  pub stands : Stands i from d
+  pub made : ℕ
+  pub cell : now.cell ≡ from.cell
+  pub is_on : now.is_on ≡ true
+  pub planned : now.plan ≡ Some (record (plan_by Quiet meddles) { at = made })
+  pub few : made < 255
+  pub is_next : next ≡ made + 1
+
+pub flight_is : (header : Header) (i : Instance) (d : Digests) (from : Standing) (flight : CodeFlight) (now : Standing)
+    (meddles : List Meddle) (next : ℕ) → Flies header i d from flight now meddles next → IsOn i d from now meddles next
+flight_is header i d from (code.Asks it) now meddles next f = record {
+  stands = f.stands;
+  made = f.made;
+  cell = f.flies.cell;
+  is_on = f.flies.is_on;
+  planned = f.flies.planned;
+  few = f.flies.few;
+  is_next = f.is_next;
+}
+flight_is header i d from (code.Closes it) now meddles next f = record {
+  stands = f.stands;
+  made = f.made;
+  cell = f.flies.cell;
+  is_on = f.flies.is_on;
+  planned = f.flies.planned;
+  few = f.flies.few;
+  is_next = f.is_next;
+}
+
+-- a call in flight takes in a value of others
+pub takes_value : (header : Header) (i : Instance) (d : Digests) (from : Standing) (flight : CodeFlight) (now new : Standing)
+    (meddles : List Meddle) (next : ℕ) (value : Digest) → Flies header i d from flight now meddles next
+    → new ≡ record now { plan = option_map (meddling value) now.plan }
+    → Flies header i d from flight new (meddled meddles next value) next
+takes_value header i d from (code.Asks it) now new meddles next value f e =
+    flight_takes_in (asks_so header.variant (meaning_of header.«module») it.bytes (One it.request)) i d from it.call now new meddles next
+    value f e (subst (MayStep it.call) (sym e) (may_planned it.call now (option_map (meddling value) now.plan) f.room))
+takes_value header i d from (code.Closes it) now new meddles next value f e =
+    flight_takes_in checkpointing i d from it.call now new meddles next value f e
+    (subst (MayStep it.call) (sym e) (may_planned it.call now (option_map (meddling value) now.plan) f.room))

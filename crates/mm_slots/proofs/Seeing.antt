@@ -35,4 +35,5 @@ module _ (old new : Parts) (row : Row) (is : row_in old ≡ row) (what : Action)
 
 pub loses_on : (old new : Parts) (row : Row) → row_in old ≡ row → LosesIn old new → row_in new ≡ row_after row (Loses ∷ [])
 loses_on old new row is l =
-    subst (λ (x : Row). row_in new ≡ row_after x (Loses ∷ [])) is (row_on old new (row_after (row_in old) (Loses ∷ [])).slot l.goes l.stands)
+    let after = (row_after (row_in old) (Loses ∷ [])).slot in
+    subst (λ (x : Row). row_in new ≡ row_after x (Loses ∷ [])) is (row_on old new after l.goes l.stands)

@@ -13,9 +13,8 @@ use Rattle.mm_world.specs.declared.call.Called.{Called}
 use Rattle.mm_schedule.specs.declared.event.Offer.{Offer}
 use Rattle.mm_schedule.specs.declared.header.Header.{Header}
 use Rattle.mm_run.specs.Offered.{offered_bytes}
-use Rattle.mm_steps.specs.Asking.{ask_left}
-use Rattle.mm_steps.specs.Closing.{close_left}
-use Rattle.mm_steps.specs.Stopping.{CallLeft, IsInFlight}
+use Rattle.mm_platform.specs.declared.plan.Meddle.{Meddle}
+use Rattle.mm_steps.specs.InFlight.{IsInFlight, asking as asks_so, checkpointing}
 use Rattle.mm_world.specs.Held.{digest_in, flag_in}
 use Rattle.mm_world.specs.Stands.{Stands, IsQuiet}
 use Rattle.mm_slots.specs.declared.flight.Flight.{Flight as CodeFlight}
@@ -24,7 +23,7 @@ use Rattle.mm_slots.specs.declared.parts.Parts.{Parts}
 use Rattle.mm_slots.specs.declared.said.Said.{Said}
 use Rattle.mm_slots.specs.declared.said.Said.TheVariants.{Replied}
 use Rattle.mm_slots.specs.Answers.{IsSayable}
-use Rattle.mm_slots.specs.Seat.{EndsCall}
+use Rattle.mm_world.specs.Seat.{EndsCall}
 use Rattle.mm_slots.specs.declared.event.Action.{Action}
 use Rattle.mm_slots.specs.Slot.{Slot, Flight, Call, Asks, Closes, Turned, Wants, slot_instance, unpowered}
 use Rattle.mm_slots.specs.Table.{Row}
@@ -65,12 +64,15 @@ abbrev pub row_in : Parts → Row
 row_in parts =
     record { header = parts.seat.header; number = parts.number; slot = slot_in parts }
 
--- what is left of a call in flight
-abbrev pub left_of : Header → CodeFlight → CallLeft
-left_of header (code.Asks asking) =
-    ask_left header.variant (meaning_of header.«module») asking.call asking.bytes
-    (One asking.request)
-left_of header (code.Closes closing) = close_left closing.call
+-- The call is in flight. It was begun over a platform that stood so, at these digests; others have
+-- extended the register by these meddles since; and its next step has this number.
+abbrev pub Flies : Header → Instance → Digests → Standing → CodeFlight → Standing → List Meddle → ℕ
+    → Type 0
+Flies header i d from (code.Asks it) now meddles next =
+    IsInFlight (asks_so header.variant (meaning_of header.«module») it.bytes (One it.request)) i d
+    from it.call now meddles next
+Flies header i d from (code.Closes it) now meddles next =
+    IsInFlight checkpointing i d from it.call now meddles next
 
 -- The bytes are those that the offer names, the request isn't too long, and there is room for the
 -- snapshot that may be handed out.
@@ -90,7 +92,7 @@ pub record FitsCall (header : Header) (number : ℕ) (d : Digests) (issued : Lis
     (capacity : ℕ) (standing : Standing)
     (flight : CodeFlight) : Type 0 where
   pub from : Standing
-  pub flies : IsInFlight (left_of header flight) (slot_instance header number) d from standing
+  pub flies : Flies header (slot_instance header number) d from flight standing
       (next_plan standing).meddles ((next_plan standing).at + 1)
   pub may : MayGoOn issued capacity flight
 

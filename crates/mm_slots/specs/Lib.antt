@@ -11,7 +11,5 @@ pub mod Rows
 pub mod Stage
 pub mod Headline
 pub mod Plays
-pub mod Lengths
-pub mod Seat
 pub mod StageLaws
 pub mod Opening

@@ -8,7 +8,9 @@ use crate::flight::{Asking, Flight};
 use crate::parts::{Parts, stop_at};
 use crate::said::Said;
 use mm_base::{Bytes, Memory};
-use mm_flight::AskCall;
+use mm_ask::Ask;
+use mm_machine::{Call, Operation};
+use mm_model::is_long;
 use mm_module::Batch;
 use mm_run::{OfferedBytes, offered};
 use mm_schedule::{Cause, Offer, Reply};
@@ -64,18 +66,16 @@ impl Parts {
         ensures { ComesTo self.old self.new
             (acted (instance_in self.old) (slot_in self.old) (Action.Begin offer request)) result }
     {
-        match AskCall::begin(self.seat.header.variant, Batch::One(request.as_slice())) {
-            Err(_) => Said::Replied(Reply::No(Cause::Long)),
-            Ok(call) => {
-                self.flight = Some(Flight::Asks(Asking {
-                    call,
-                    offer,
-                    bytes,
-                    request,
-                }));
-                Said::Begun
-            }
+        if is_long(&Batch::One(request.as_slice())) {
+            return Said::Replied(Reply::No(Cause::Long));
         }
+        self.flight = Some(Flight::Asks(Asking {
+            call: Call::begin(),
+            offer,
+            bytes,
+            request,
+        }));
+        Said::Begun
     }
 
     /// A call that asks makes its next step. After want of memory the call is over, and has committed nothing.
@@ -95,24 +95,24 @@ impl Parts {
             bytes,
             request,
         } = asking;
-        let batch = Batch::One(request.as_slice());
-        let seat = &mut self.seat;
-        match step(
+        let header = self.seat.header;
+        let ask = Ask {
+            variant: header.variant,
             alloc,
-            &seat.header.module,
-            &mut seat.platform,
-            call,
-            bytes.as_slice(),
-            batch,
-            &mut seat.keys,
-        ) {
+            module: &header.module,
+            offer: bytes.as_slice(),
+            batch: Batch::One(request.as_slice()),
+        };
+        let writes = ask.write_step();
+        let seat = &mut self.seat;
+        match step(&ask, &mut seat.platform, call, &mut seat.keys) {
             Err(memory) => {
                 self.register = *self.seat.platform.register();
                 Err(memory)
             }
             Ok(Stepped::Over(called)) => Ok(self.end(called)),
             Ok(Stepped::Going(call)) => {
-                let next = u64::from(call.next_step());
+                let next = u64::from(call.next_step(writes));
                 self.flight = Some(Flight::Asks(Asking {
                     call,
                     offer,
@@ -139,18 +139,17 @@ impl Parts {
             bytes,
             request,
         } = asking;
-        let stop = stop_at(how, call.next_step());
-        let seat = &mut self.seat;
-        let called = break_off(
+        let header = self.seat.header;
+        let ask = Ask {
+            variant: header.variant,
             alloc,
-            &seat.header.module,
-            &mut seat.platform,
-            call,
-            bytes.as_slice(),
-            Batch::One(request.as_slice()),
-            stop,
-            &mut seat.keys,
-        );
+            module: &header.module,
+            offer: bytes.as_slice(),
+            batch: Batch::One(request.as_slice()),
+        };
+        let stop = stop_at(how, call.next_step(ask.write_step()));
+        let seat = &mut self.seat;
+        let called = break_off(&ask, &mut seat.platform, call, stop, &mut seat.keys);
         self.end(called)
     }
 }

@@ -1,28 +1,12 @@
 //! A checkpoint of a slot: it begins, makes its steps, and is over.
 
-ghost use Rattle.std.specs.Prelude.{◌≡◌};
-ghost use Rattle.mm_world.specs.Asks.{quiet_as};
-
 use crate::event::Breaking;
 use crate::flight::{Closing, Flight};
 use crate::parts::{Parts, stop_at};
 use crate::said::Said;
 use mm_machine::{Call, Operation};
 use mm_opt::Close;
-use mm_schedule::Reply;
-use mm_steps::{SteppedClosing, break_closing, step_closing};
-use mm_world::Called;
-
-// A call that hands out no snapshot and commits nothing.
-fn quiet(reply: Reply) -> Called
-    ensures { result ≡ quiet_as reply }
-{
-    Called {
-        reply,
-        snapshot: None,
-        committed: 0,
-    }
-}
+use mm_steps::{Stepped, break_off, step};
 
 impl Parts {
     ghost use Rattle.std.specs.Prelude.{◌≡◌, ◌<◌, ◌^◌, None};
@@ -54,9 +38,11 @@ impl Parts {
             (acted (instance_in self.old) (slot_in (flown self.old (Flight.Closes closing)))
             Action.Step) result }
     {
-        match step_closing(&mut self.seat.platform, closing.call, &mut self.seat.keys) {
-            SteppedClosing::Over(reply) => self.end(quiet(reply)),
-            SteppedClosing::Going(call) => {
+        let seat = &mut self.seat;
+        match step(&Close, &mut seat.platform, closing.call, &mut seat.keys) {
+            Err(_) => unreachable!(),
+            Ok(Stepped::Over(called)) => self.end(called),
+            Ok(Stepped::Going(call)) => {
                 let next = u64::from(call.next_step(Close.write_step()));
                 self.flight = Some(Flight::Closes(Closing { call }));
                 Said::Going(next)
@@ -74,12 +60,8 @@ impl Parts {
             (Action.Break how)) result }
     {
         let stop = stop_at(how, closing.call.next_step(Close.write_step()));
-        let reply = break_closing(
-            &mut self.seat.platform,
-            closing.call,
-            stop,
-            &mut self.seat.keys,
-        );
-        self.end(quiet(reply))
+        let seat = &mut self.seat;
+        let called = break_off(&Close, &mut seat.platform, closing.call, stop, &mut seat.keys);
+        self.end(called)
     }
 }

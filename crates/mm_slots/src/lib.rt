@@ -19,7 +19,6 @@ mod read;
 mod report;
 mod rows;
 mod said;
-mod seat;
 mod slot;
 mod stage;
 mod totals;

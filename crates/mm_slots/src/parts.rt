@@ -6,11 +6,10 @@ ghost use Rattle.mm_slots.specs.Slot.{stop_at};
 use crate::event::{Action, Breaking};
 use crate::flight::Flight;
 use crate::said::Said;
-use crate::seat::Seat;
 use mm_base::Memory;
 use mm_digest::Digest;
 use mm_platform::Stop;
-use mm_world::Called;
+use mm_world::{Called, Seat};
 use std::alloc::Global;
 
 /// The number of a slot, the seat in it, and the call in flight.

@@ -3,11 +3,11 @@
 use crate::event::{Action, Breaking};
 use crate::parts::Parts;
 use crate::said::Said;
-use crate::seat::Seat;
 use mm_base::Memory;
 use mm_digest::zero;
 use mm_run::rising;
 use mm_schedule::Header;
+use mm_world::Seat;
 use std::alloc::Global;
 use std::marker::Model;
 
@@ -33,7 +33,7 @@ impl Slot {
     ghost use Rattle.std.specs.Prelude.{◌≡◌, ◌<◌, ◌^◌, [], ◌∷◌, IfOk, OnErr, length};
     ghost use Rattle.std.specs.List.{sum_by};
     ghost use Rattle.mm_slots.specs.Rows.{ActsAs, LacksAs};
-    ghost use Rattle.mm_slots.specs.Lengths.{within_64};
+    ghost use Rattle.mm_world.specs.Lengths.{within_64};
     ghost use Rattle.mm_slots.specs.Slot.{Loses};
     ghost use Rattle.mm_slots.specs.Table.{first_row, is_cut, row_after};
 
@@ -60,7 +60,7 @@ impl Slot {
     /// Lets something happen in the slot. After want of memory nothing has changed, but that a call in flight is over whose
     /// step it was, with nothing done but its reading steps.
     pub fn act(&mut self, alloc: Global, action: Action) -> Result<Said, Memory>
-        requires few { self.old.slot.digests.count < 2 ^ 63 }
+        requires { self.old.slot.digests.count < 2 ^ 63 }
         ensures ok { IfOk result (ActsAs action self.old self.new) }
         ensures err { OnErr result (LacksAs action self.old self.new) }
     {

@@ -5,7 +5,7 @@ ghost use Rattle.std.specs.List.{All};
 ghost use Rattle.mm_slots.specs.Answers.{slot_end_line, end_lines};
 ghost use Rattle.mm_slots.specs.Plays.{committed_in, issued_in};
 ghost use Rattle.mm_slots.specs.Rows.{IsCounted};
-ghost use Rattle.mm_slots.specs.Lengths.{within_64};
+ghost use Rattle.mm_world.specs.Lengths.{within_64};
 ghost use Rattle.mm_slots.specs.Stage.{kept_in};
 
 use crate::put::put_slot_end;

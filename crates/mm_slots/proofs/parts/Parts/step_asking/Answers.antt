@@ -5,16 +5,22 @@ use Rattle.mm_slots.proofs.parts.Parts.step_asking.Goals as goal
 pub returns-in-Err-clause-err : goal.returns-in-Err-clause-err
 returns-in-Err-clause-err c =
     ask_lacks c.args.self.now _ c.args.asking c.in-Err.memory c.requires.fits
-    (rw (c.as_slice.ensures.value, c.as_slice-2.ensures.value) at c.in-Err.ensures.steps) refl refl refl c.requires.idle refl
-    c.register.ensures
+    (record { steps = rw (c.as_slice.ensures.value, c.as_slice-2.ensures.value) at c.in-Err.ensures.steps; room = tt }) refl refl refl
+    c.requires.idle refl c.register.ensures
 
 pub returns-in-Ok-Over-clause-ok : goal.returns-in-Ok-Over-clause-ok
 returns-in-Ok-Over-clause-ok c =
     ask_over c.args.self.now c.end.new.self c.args.asking c.step.new.keys c.step.new.platform c.in-Ok-Over.called c.end.result
     c.requires.idle c.requires.few c.requires.fits
-    (rw (c.in-Ok-Over.field-0-is, c.as_slice.ensures.value, c.as_slice-2.ensures.value) at c.in-Ok-Over.ensures.steps) c.end.ensures
+    (record {
+      steps = rw (c.in-Ok-Over.field-0-is, c.as_slice.ensures.value, c.as_slice-2.ensures.value) at c.in-Ok-Over.ensures.steps;
+      room = tt;
+    }) c.end.ensures
 
 pub returns-in-Ok-Going-clause-ok : goal.returns-in-Ok-Going-clause-ok
 returns-in-Ok-Going-clause-ok c =
     ask_goes c.args.self.now c.args.asking c.in-Ok-Going.call c.step.new.keys c.step.new.platform _ c.requires.fits
-    (rw (c.in-Ok-Going.field-0-is, c.as_slice.ensures.value, c.as_slice-2.ensures.value) at c.in-Ok-Going.ensures.steps) (search rules)
+    (record {
+      steps = rw (c.in-Ok-Going.field-0-is, c.as_slice.ensures.value, c.as_slice-2.ensures.value) at c.in-Ok-Going.ensures.steps;
+      room = rw c.in-Ok-Going.field-0-is at c.in-Ok-Going.ensures.room;
+    }) (search rules)
