@@ -55,7 +55,8 @@ lacks_side pair which stop meddles old new was now value reached fits cell regis
 
 pub lacks_done : {A : Type 0} (pair : Pair) (which : Which) (stop : Stop) (meddles : List Meddle) (old new : CodeSide) (was now : Between)
     (from to : Standing) (came : Result A MoveRefusal) → FitsSide pair which old
-    → WantsMemory (instance_on pair which) (at_in old) stop meddles from to came → from.cell ≡ old.seat.platform.cell → new.seat.platform ≡ to
+    → WantsMemory (instance_on pair which) (at_in old) stop meddles from to came → from.cell ≡ old.seat.platform.cell
+    → new.seat.platform ≡ to
     → new.seat.committed ≡ old.seat.committed → KeepsFor (role_in old.seat.platform.cell) new.digest.bytes (at_in old)
     → new.seat.issued.items ≡ old.seat.issued.items → now.tickets.items ≡ was.tickets.items → now.kept ≡ was.kept → now.away ≡ was.away
     → CommandLacks pair which meddles stop old new was now
@@ -90,8 +91,8 @@ still_lacks pair which stop meddles old new was now fits platform s b =
 
 -- a number that isn't issued: nothing is called
 pub unissued_done : (pair : Pair) (which : Which) (stop : Stop) (meddles : List Meddle) (command : Command) (said : MoveReply)
-    (old new : CodeSide) (was now : Between) → FitsSide pair which old → FitsBetween was → new.seat.platform ≡ old.seat.platform → SameSide old new
-    → SameBetween was now → said ≡ reply_said (unissued command)
+    (old new : CodeSide) (was now : Between) → FitsSide pair which old → FitsBetween was → new.seat.platform ≡ old.seat.platform
+    → SameSide old new → SameBetween was now → said ≡ reply_said (unissued command)
     → ((other : Side Digests) (committed : ℕ) → finding digests_move pair (instance_on pair which)
     (both_with old was other committed) command ≡ None)
     → CommandDone pair which old new was now (commanded pair which old was meddles stop command) said

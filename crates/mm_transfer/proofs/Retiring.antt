@@ -65,8 +65,8 @@ pub invited_done : (pair : Pair) (which : Which) (nonce : List ℕ) (stop : Stop
     (between : Between) (came : Result Invited MoveRefusal) (result : Result MoveReply Memory) → length nonce ≡ 32
     → KeepsDigest old mid → MovesPlanned (λ (bytes : List ℕ). invites_in
     (waiting_for (link_of pair) (instance_on pair which).variant (instance_on pair which).meaning.id nonce (instance_on pair which).key)
-    (moved_of bytes)) stop meddles mid.seat.platform new.seat.platform came → SameSide mid new → InvitedAs stop came result → FitsSide pair which old
-    → FitsBetween between
+    (moved_of bytes)) stop meddles mid.seat.platform new.seat.platform came → SameSide mid new → InvitedAs stop came result
+    → FitsSide pair which old → FitsBetween between
     → MatchResult result (CommandDone pair which old new between between (commanded pair which old between meddles stop (Invite nonce)))
     (λ _. CommandLacks pair which meddles stop old new between between)
 invited_done pair which nonce stop meddles old mid new between came result size k planned s says fits counted =
@@ -112,8 +112,8 @@ invited_done pair which nonce stop meddles old mid new between came result size 
           (λ it k. (waits d between.away new.digest.bytes it.effect digest k.gave).keeps) (λ other committed. refl)
       | inr w ↦
           err_match _ _ result (subst (λ (c : Result Invited MoveRefusal). InvitedAs stop c result) w.says says)
-          (lacks_done pair which stop meddles old new between between mid.seat.platform new.seat.platform came fits w same_cell refl position keeps
-          issued refl refl refl)
+          (lacks_done pair which stop meddles old new between between mid.seat.platform new.seat.platform came fits w same_cell refl
+          position keeps issued refl refl refl)
     ]
 
 -- a retirement
@@ -167,8 +167,8 @@ retired_done pair which nonce offer stop meddles old new was mid now live cell c
     let gives = GivesTicket pair.link in
     let keeps = same_keeps old new s.digest in
     let lives' : live ≡ is_live role = lives ∙ ap (λ x. is_live (role_in x)) (sym holds) in
-    elim (retires_planned pair which nonce named.bytes stop meddles old.seat.platform new.seat.platform came named.planned i d (cell_of_role i role d)
-    fits.stands.cell fits.stands.register fits.quiet) [
+    elim (retires_planned pair which nonce named.bytes stop meddles old.seat.platform new.seat.platform came named.planned i d
+    (cell_of_role i role d) fits.stands.cell fits.stands.register fits.quiet) [
       | inl made ↦
           let found = retired_on digests_move i role d nonce named.bytes in
           let fates = (course_of stop meddles).fates in
@@ -214,7 +214,8 @@ retired_done pair which nonce offer stop meddles old new was mid now live cell c
       | inr w ↦
           let t = subst (λ (c : Result (List ℕ) MoveRefusal). LeftAs live old.seat.committed stop c mid now result) w.says left in
           err_match _ _ result t.says
-          (lacks_done pair which stop meddles old new was now old.seat.platform new.seat.platform came fits w refl refl s.committed keeps s.issued
+          (lacks_done pair which stop meddles old new was now old.seat.platform new.seat.platform came fits w refl refl s.committed keeps
+          s.issued
           (t.tickets ∙ b.tickets) (t.kept ∙ b.kept) (t.away ∙ never live old.seat.committed mid.away ∙ b.away))
     ]
   where

@@ -45,7 +45,8 @@ live_new header key barrier new same_key same_barrier is =
     let stands : Stands i new.seat.platform d = subst (λ (s : Standing). Stands i s d) (sym there)
     (stands_new header.variant (meaning_of header.«module») world_key world_barrier (cell_spelling (cell_of i first_history))
     length-first_key length-barrier refl) in
-    let quiet : IsQuiet new.seat.platform = record { is_on = ap (λ (s : Standing). s.is_on) there; plan = ap (λ (s : Standing). s.plan) there } in
+    let quiet : IsQuiet new.seat.platform =
+    record { is_on = ap (λ (s : Standing). s.is_on) there; plan = ap (λ (s : Standing). s.plan) there } in
     let side = side_is pair First Live d new (live_stands pair First new.seat.platform d stands) quiet is.committed tt in
     let issued = is.issued ∙ ap (λ (x : Instance). issued_bytes x first_history ∷ []) same in
     record {
@@ -75,7 +76,8 @@ blank_new header cell new is bare starts =
       cell = ap (λ (s : Standing). s.cell) there;
       register = ap register_reads there;
     } in
-    let quiet : IsQuiet new.seat.platform = record { is_on = ap (λ (s : Standing). s.is_on) there; plan = ap (λ (s : Standing). s.plan) there } in
+    let quiet : IsQuiet new.seat.platform =
+    record { is_on = ap (λ (s : Standing). s.is_on) there; plan = ap (λ (s : Standing). s.plan) there } in
     let side = side_is pair Second Blank d new stands quiet bare.committed digest in
     let issued = bare.issued in
     record {

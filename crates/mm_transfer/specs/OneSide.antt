@@ -76,8 +76,8 @@ pub record GoesOn (pair : Pair) (which : Which) (old new : CodeSide) : Type 0 wh
   pub few : new.seat.committed ≤ old.seat.committed + most_members
   pub one : length new.seat.issued.items ≤ length old.seat.issued.items + 1
 
--- An event of a schedule came to this outcome, and was answered so; the requests of the side grew by
--- what the event committed.
+-- An event of a schedule came to this outcome, and was answered so; the requests of the side grew
+-- by what the event committed.
 pub record Comes (pair : Pair) (which : Which) (old new : CodeSide) (o : Outcome Digests)
     (said : Reply) : Type 0 where
   pub goes : GoesOn pair which old new

@@ -102,8 +102,9 @@ fn invite(
     nonce: &[u8; 32],
     course: &Course<'_>,
 ) -> Result<MoveReply, Memory>
-    ensures made { (between : Between) → Commands (pair_of here.old.seat.header) (which_of which) course.now.meddles.now
-        course.now.stop (Invite nonce.now) here.old here.new between between result }
+    ensures made { (between : Between) → Commands (pair_of here.old.seat.header) (which_of which)
+        course.now.meddles.now course.now.stop (Invite nonce.now) here.old here.new between between
+        result }
     ensures headed { here.new.seat.header ≡ here.old.seat.header }
 {
     keep_digest(here);
@@ -129,9 +130,9 @@ fn try_retire(
     course: &Course<'_>,
 ) -> Result<Option<Result<Bytes, MoveRefusal>>, Memory>
     ensures { (link : Link) → link ≡ link_of (pair_of mover.now.header) → Tried (λ bytes cell.
-        retires_in (meaning_of mover.now.header.«module») mover.now.header.variant link nonce.now bytes
-        (moved_of cell)) course.now.stop course.now.meddles.now (offered_bytes issued.now offer.now) platform.old
-        platform.new result }
+        retires_in (meaning_of mover.now.header.«module») mover.now.header.variant link nonce.now
+        bytes (moved_of cell)) course.now.stop course.now.meddles.now
+        (offered_bytes issued.now offer.now) platform.old platform.new result }
 {
     match offered(mover.alloc, issued, offer) {
         Err(memory) => Err(memory),
@@ -157,8 +158,9 @@ fn retire(
     course: &Course<'_>,
 ) -> Result<MoveReply, Memory>
     requires { vec_len between.old.tickets < 2 ^ 32 }
-    ensures made { (which : both.Which) → Commands (pair_of here.old.seat.header) which course.now.meddles.now
-        course.now.stop (Retire nonce.now offer.now) here.old here.new between.old between.new result }
+    ensures made { (which : both.Which) → Commands (pair_of here.old.seat.header) which
+        course.now.meddles.now course.now.stop (Retire nonce.now offer.now) here.old here.new
+        between.old between.new result }
     ensures headed { here.new.seat.header ≡ here.old.seat.header }
 {
     between.tickets.reserve(1)?;
@@ -191,8 +193,9 @@ fn try_accept(
     course: &Course<'_>,
 ) -> Result<Option<Result<Accepted, MoveRefusal>>, Memory>
     ensures { (link : Link) → link ≡ link_of (pair_of mover.now.header) → Tried (λ bytes cell.
-        accepts_in (meaning_of mover.now.header.«module») mover.now.header.variant link bytes (moved_of cell))
-        course.now.stop course.now.meddles.now (offered_bytes tickets.now offer.now) platform.old platform.new result }
+        accepts_in (meaning_of mover.now.header.«module») mover.now.header.variant link bytes
+        (moved_of cell)) course.now.stop course.now.meddles.now
+        (offered_bytes tickets.now offer.now) platform.old platform.new result }
 {
     match offered(mover.alloc, tickets, offer) {
         Err(memory) => Err(memory),
@@ -242,8 +245,9 @@ fn accept(
     offer: &Offer,
     course: &Course<'_>,
 ) -> Result<MoveReply, Memory>
-    ensures made { (which : both.Which) → Commands (pair_of here.old.seat.header) which course.now.meddles.now
-        course.now.stop (Accept offer.now) here.old here.new between.now between.now result }
+    ensures made { (which : both.Which) → Commands (pair_of here.old.seat.header) which
+        course.now.meddles.now course.now.stop (Accept offer.now) here.old here.new
+        between.now between.now result }
     ensures headed { here.new.seat.header ≡ here.old.seat.header }
 {
     here.seat.issued.reserve(1)?;
@@ -276,8 +280,8 @@ pub fn command(
     command: &Command,
 ) -> Result<MoveReply, Memory>
     requires { vec_len between.old.tickets < 2 ^ 32 }
-    ensures made { Commands (pair_of here.old.seat.header) (which_of which) course.now.meddles.now course.now.stop
-        (command_of command.now) here.old here.new between.old between.new result }
+    ensures made { Commands (pair_of here.old.seat.header) (which_of which) course.now.meddles.now
+        course.now.stop (command_of command.now) here.old here.new between.old between.new result }
     ensures headed { here.new.seat.header ≡ here.old.seat.header }
 {
     match command {

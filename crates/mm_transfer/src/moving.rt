@@ -115,7 +115,8 @@ pub fn planned_retire(
     course: &Course<'_>,
 ) -> Result<Bytes, MoveRefusal>
     ensures { MovesPlanned (λ bytes.
-        retires_in (meaning_of mover.now.header.«module») mover.now.header.variant link.now nonce.now offer.now (moved_of bytes))
+        retires_in (meaning_of mover.now.header.«module») mover.now.header.variant link.now
+        nonce.now offer.now (moved_of bytes))
         course.now.stop course.now.meddles.now platform.old platform.new result }
 {
     match platform.plan(course.stop, course.meddles) {
@@ -145,7 +146,8 @@ pub fn planned_accept(
     course: &Course<'_>,
 ) -> Result<Accepted, MoveRefusal>
     ensures { MovesPlanned (λ bytes.
-        accepts_in (meaning_of mover.now.header.«module») mover.now.header.variant link.now ticket.now (moved_of bytes))
+        accepts_in (meaning_of mover.now.header.«module») mover.now.header.variant link.now
+        ticket.now (moved_of bytes))
         course.now.stop course.now.meddles.now platform.old platform.new result }
 {
     match platform.plan(course.stop, course.meddles) {

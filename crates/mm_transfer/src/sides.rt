@@ -59,8 +59,8 @@ impl Model for Sides {
 fn play(here: &mut Side, committed: &mut u64, event: &Event) -> Result<MoveReply, Memory>
     requires { here.old.seat.committed < 2 ^ 63 }
     ensures acts { (which : both.Which) (between : Between)
-        → Acts (pair_of here.old.seat.header) which (folds.Plain (event_of event.now)) here.old here.new between between
-        committed.old committed.new result }
+        → Acts (pair_of here.old.seat.header) which (folds.Plain (event_of event.now))
+        here.old here.new between between committed.old committed.new result }
     ensures headed { here.new.seat.header ≡ here.old.seat.header }
 {
     let before = here.seat.committed;
@@ -84,8 +84,8 @@ fn act(
 ) -> Result<MoveReply, Memory>
     requires position { here.old.seat.committed < 2 ^ 63 }
     requires tickets { vec_len between.old.tickets < 2 ^ 32 }
-    ensures acts { Acts (pair_of here.old.seat.header) (which_of which) (act_of act.now) here.old here.new between.old
-        between.new committed.old committed.new result }
+    ensures acts { Acts (pair_of here.old.seat.header) (which_of which) (act_of act.now)
+        here.old here.new between.old between.new committed.old committed.new result }
     ensures headed { here.new.seat.header ≡ here.old.seat.header }
 {
     match act {

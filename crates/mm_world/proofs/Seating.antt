@@ -88,7 +88,8 @@ module _ (meddles : List Meddle) (stop : Stop) (offer : Offer) (b : Batch) where
             let came = there.vain i d (Err fault) (missing fault) read refl in record {
               reply = ends.says ∙ came.reply;
               issued = issued ∙ came.issues;
-              committed = (let fits = old.fits in let none = came.committed in let now = ends.committed in omega (arith, fits, none, now, was));
+              committed = (let fits = old.fits in let none = came.committed in let now = ends.committed in
+                  omega (arith, fits, none, now, was));
               cell = came.cell;
               register = came.register;
               quiet = came.quiet;

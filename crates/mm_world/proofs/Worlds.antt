@@ -222,7 +222,8 @@ module _ (h : Header) (key barrier : List ℕ) (seat : Seat) (same_key : key ≡
 
   stands_first : Stands (world_of h) seat.platform (first_digests (world_of h))
   stands_first = subst (λ (x : Standing). Stands (world_of h) x (first_digests (world_of h))) (sym platform_same)
-      (stands_new h.variant (meaning_of h.«module») world_key world_barrier (cell_by (world_of h)) length-world_key length-world_barrier refl)
+      (stands_new h.variant (meaning_of h.«module») world_key world_barrier (cell_by (world_of h)) length-world_key
+      length-world_barrier refl)
 
   pub first_keeps : KeepsWorld seat
   first_keeps =
@@ -231,7 +232,8 @@ module _ (h : Header) (key barrier : List ℕ) (seat : Seat) (same_key : key ≡
       subst (Stands (world_of h) seat.platform) (sym (digests_are (world_of h) at seat.platform seat.committed stands_first))
       (counting (world_of h) at seat.platform seat.committed stands_first) in
       record {
-        stands = subst (λ (x : Header). Stands (world_of x) seat.platform (digests_in seat.platform seat.committed)) (sym first.headed) there;
+        stands = subst (λ (x : Header). Stands (world_of x) seat.platform (digests_in seat.platform seat.committed))
+            (sym first.headed) there;
         quiet = record {
           is_on = ap (λ (x : Standing). x.is_on) platform_same;
           plan = ap (λ (x : Standing). x.plan) platform_same;

@@ -31,7 +31,8 @@ returns-in-Ok-Some-clause-made c = λ which fits counted.
     (named_by
     (λ bytes (cell : List ℕ). retires_in pair.meaning pair.variant (link_of pair) c.args.nonce.now bytes (moved_of cell))
     c.args.course.now.stop c.args.course.now.meddles.now c.args.here.now.seat.issued.items c.as_slice.result.now c.args.offer.now
-    c.args.here.now.seat.platform _ c.in-Ok-Some.field-0 c.as_slice.ensures.value (c.in-Ok-Some.ensures (link_of pair) refl) c.in-Ok-Some.came
+    c.args.here.now.seat.platform _ c.in-Ok-Some.field-0 c.as_slice.ensures.value (c.in-Ok-Some.ensures (link_of pair) refl)
+    c.in-Ok-Some.came
     c.in-Ok-Some.field-0-is) c.is_live-was_live.ensures c.cell.ensures
     (record { digest = refl; issued = refl; committed = refl })
     (record { tickets = c.reserve.ensures.items; kept = refl; away = refl }) c.leave.ensures fits counted
