@@ -81,13 +81,13 @@ impl Deciding {
         ensures { IfOk result (λ forged.
             LooksAt self.now.expecting self.now.forged (event_of event.now) number forged) }
     {
-        if self.forged.is_some() {
-            return Ok(self.forged);
-        }
-        if self.expecting.is_genuine(event)? {
-            Ok(None)
-        } else {
-            Ok(Some(number))
+        match self.forged {
+            Some(first) => Ok(Some(first)),
+            None => match self.expecting.is_genuine(event) {
+                Err(memory) => Err(memory),
+                Ok(true) => Ok(None),
+                Ok(false) => Ok(Some(number)),
+            },
         }
     }
 
