@@ -96,12 +96,13 @@ impl Parts {
             request,
         } = asking;
         let header = self.seat.header;
+        let batch = Batch::One(request.as_slice());
         let ask = Ask {
             variant: header.variant,
             alloc,
             module: &header.module,
             offer: bytes.as_slice(),
-            batch: Batch::One(request.as_slice()),
+            batch,
         };
         let writes = ask.write_step();
         let seat = &mut self.seat;
@@ -140,12 +141,13 @@ impl Parts {
             request,
         } = asking;
         let header = self.seat.header;
+        let batch = Batch::One(request.as_slice());
         let ask = Ask {
             variant: header.variant,
             alloc,
             module: &header.module,
             offer: bytes.as_slice(),
-            batch: Batch::One(request.as_slice()),
+            batch,
         };
         let stop = stop_at(how, call.next_step(ask.write_step()));
         let seat = &mut self.seat;
