@@ -7,8 +7,8 @@ use crate::event::Breaking;
 use crate::flight::{Asking, Flight};
 use crate::parts::{Parts, stop_at};
 use crate::said::Said;
-use mm_base::{Bytes, Memory};
 use mm_ask::Ask;
+use mm_base::{Bytes, Memory};
 use mm_machine::{Call, Operation};
 use mm_model::is_long;
 use mm_module::Batch;
@@ -96,12 +96,13 @@ impl Parts {
             request,
         } = asking;
         let header = self.seat.header;
+        let batch = Batch::One(request.as_slice());
         let ask = Ask {
             variant: header.variant,
             alloc,
             module: &header.module,
             offer: bytes.as_slice(),
-            batch: Batch::One(request.as_slice()),
+            batch,
         };
         let writes = ask.write_step();
         let seat = &mut self.seat;
@@ -140,12 +141,13 @@ impl Parts {
             request,
         } = asking;
         let header = self.seat.header;
+        let batch = Batch::One(request.as_slice());
         let ask = Ask {
             variant: header.variant,
             alloc,
             module: &header.module,
             offer: bytes.as_slice(),
-            batch: Batch::One(request.as_slice()),
+            batch,
         };
         let stop = stop_at(how, call.next_step(ask.write_step()));
         let seat = &mut self.seat;

@@ -61,7 +61,13 @@ impl Parts {
     {
         let stop = stop_at(how, closing.call.next_step(Close.write_step()));
         let seat = &mut self.seat;
-        let called = break_off(&Close, &mut seat.platform, closing.call, stop, &mut seat.keys);
+        let called = break_off(
+            &Close,
+            &mut seat.platform,
+            closing.call,
+            stop,
+            &mut seat.keys,
+        );
         self.end(called)
     }
 }
