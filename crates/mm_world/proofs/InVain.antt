@@ -125,22 +125,23 @@ module _ (meaning : Meaning) (bytes offer : List ℕ) (b : Batch) (read : Result
     basic_stops : why_vain Basic meaning.id read ≡ Some why → AsksTo basic_asks.basic_call meaning old new offer b ended
         → StopsReading old new why ended
     basic_stops vain asks =
+        let first = in_basic.reads_told meaning offer b old asks.middle asks.found asks.reads in
         stops_at fault_in (λ fault. ended_with fault why) (λ found. EndsTo basic_asks.basic_call found asks.middle new ended) why old
-        asks.middle new ended asks.found (λ it. refl) asks.reads.goes
-        (λ none. let f = asks.reads.finds none in found_basic vain asks.found f.finds.seen
-        (subst (λ (x : List ℕ). seen.IsSeen meaning.id x offer f.finds.seen) (f.told bytes cell) f.finds.is_seen) f.finds.found_is)
+        asks.middle new ended asks.found (λ it. refl) first.goes
+        (λ none. let f = first.finds none in found_basic vain asks.found f.said.seen
+        (subst (λ (x : List ℕ). seen.IsSeen meaning.id x offer f.said.seen) (f.told bytes cell) f.said.is_seen) f.said.found_is)
         asks.ends (λ w e known. (e.0, e.1 ∙ with_why (fault_of w) w why known))
 
     opt_stops : why_vain Opt meaning.id read ≡ Some why → AsksTo opt_asks.opt_call meaning old new offer b ended
         → StopsReading old new why ended
     opt_stops vain asks =
-        let first = asks.reads in
+        let first = in_opt.reads_told meaning offer b old asks.middle asks.found asks.reads in
         let last = EndsTo opt_asks.opt_call in
         stops_at fault_in (λ fault. ended_with fault why)
-        (λ found. opt_asks.ReadsOn meaning found first.middle asks.middle offer b asks.found) why old
+        (λ found. in_opt.ReadsOn meaning offer b found first.middle asks.middle asks.found) why old
         first.middle new ended first.cell (λ it. refl) first.reads.goes
         (λ none. let f = first.reads.finds none in
-        let sees = subst (λ (x : List ℕ). SeesCell meaning.id x first.cell) (f.told bytes cell) f.sees in
+        let sees = subst (λ (x : List ℕ). SeesCell meaning.id x first.cell) (f.told bytes cell) f.said in
         sees.found_is ∙ ap (cell_in meaning.id) (sym (same_read sees.read sees.reads)) ∙ found_opt meaning.id read why vain)
         first.on (λ w on known. let e : (new ≡ asks.middle) × (ended ≡ ended_with (fault_of w) w) =
         subst (λ (x : Result Found Refusal). last x asks.middle new ended) on.1 asks.ends in
