@@ -17,7 +17,7 @@ use Rattle.mm_slots.specs.declared.event.Action.TheVariants as action
 use Rattle.mm_slots.specs.declared.flight.Flight.TheVariants as code
 use Rattle.mm_steps.specs.InFlight.{IsInFlight, asking as asks_so}
 use Rattle.mm_slots.specs.Held.{Flies, MayGoOn}
-use Rattle.mm_slots.proofs.Fitting.{rests, idle, flight_of, plan_is, call_of, flight_is, takes_value}
+use Rattle.mm_slots.proofs.Fitting.{Counted, Bounded, rests, idle, flight_of, plan_is, call_of, flight_is, takes_value}
 
 -- what is said by whether a call is in flight
 
@@ -130,8 +130,8 @@ meddled_plan old new meddles made next value planned few is e =
     ∙ ap (λ (n : ℕ). record (plan_by Quiet (meddled meddles n value)) { at = made }) step
 
 -- the slot whose platform stands so
-abbrev pub over : Parts → Standing → Parts
-over slot new = record slot { seat = record slot.seat { platform = new } }
+abbrev pub over : (slot : Parts) → Standing → Counted slot → Bounded slot → Parts
+over slot new tally bound = record slot { seat = record slot.seat { platform = new; counted = tally; fits = bound } }
 
 -- What held of where the slot stood, and of the plan with the value in it, holds of where it stands and of its plan.
 record Moved (old new : Standing) (value : Digest) : Type 0 where
@@ -152,17 +152,17 @@ moved_by old new value made planned few is e =
     }
 
 -- what a value that comes leaves of a call in flight
-joins_comes : (slot : Parts) (new : Standing) (flight : CodeFlight) (value : Digest) → slot.flight ≡ Some flight
-    → Moved slot.seat.platform new value → Fits (over slot new)
-    → ComesTo slot (over slot new) (acted (instance_in slot) (slot_in slot) (action.Extend value)) (Replied reply.Extended)
-joins_comes slot new flight value some m fits =
+joins_comes : (slot : Parts) (new : Standing) (tally : Counted slot) (bound : Bounded slot) (flight : CodeFlight) (value : Digest) → slot.flight ≡ Some flight
+    → Moved slot.seat.platform new value → Fits (over slot new tally bound)
+    → ComesTo slot (over slot new tally bound) (acted (instance_in slot) (slot_in slot) (action.Extend value)) (Replied reply.Extended)
+joins_comes slot new tally bound flight value some m fits =
     let s = slot_in slot in
     let old = slot.seat.platform in
     let on : Turned = merely (flying s (joined (flight_of old flight) value.bytes)) (Replied reply.Extended) in
     let flies : flight_in (next_plan new) slot.flight ≡ Some (joined (flight_of old flight) value.bytes) =
     ap (flight_in (next_plan new)) some
     ∙ (λ j. Some (record { call = call_in flight; meddles = (m.plan j).meddles; next = (m.plan j).at + 1 })) in
-    comes_by slot (over slot new) on (acted (instance_in slot) s (action.Extend value)) (Replied reply.Extended)
+    comes_by slot (over slot new tally bound) on (acted (instance_in slot) s (action.Extend value)) (Replied reply.Extended)
     (sym (acts_flying slot (action.Extend value) flight some))
     (record {
       goes = record { fits = fits; header = refl; number = refl };
@@ -195,12 +195,12 @@ may_meddle slot flight fits some =
     let a = flight_is slot.seat.header (instance_in slot) (digests_in slot) f.from flight slot.seat.platform p.meddles (p.at + 1) f.flies in
     may_take_in slot.seat.platform (plan_by Quiet p.meddles) a.made a.planned a.few
 
-moves : (slot : Parts) (new : Standing) (value : Digest) → Moved slot.seat.platform new value → (P : Digests → Plan → Type 0)
+moves : (slot : Parts) (new : Standing) (tally : Counted slot) (bound : Bounded slot) (value : Digest) → Moved slot.seat.platform new value → (P : Digests → Plan → Type 0)
     → (let p = next_plan slot.seat.platform in
     P (digests_in slot) (record p { stop = Quiet; meddles = meddled p.meddles (p.at + 1) value })
-    → P (digests_in (over slot new)) (next_plan new))
-moves slot new value m P h =
-    let d : digests_in (over slot new) ≡ digests_in slot = (λ j. record {
+    → P (digests_in (over slot new tally bound)) (next_plan new))
+moves slot new tally bound value m P h =
+    let d : digests_in (over slot new tally bound) ≡ digests_in slot = (λ j. record {
       digest = digest_in (m.cell j);
       flag = flag_in (m.cell j);
       register = slot.register.bytes;
@@ -208,21 +208,21 @@ moves slot new value m P h =
     }) in
     let p = next_plan slot.seat.platform in
     let q : Plan = record p { stop = Quiet; meddles = meddled p.meddles (p.at + 1) value } in
-    subst (λ (x : Plan). P (digests_in (over slot new)) x) (sym m.plan) (subst (λ (x : Digests). P x q) (sym d) h)
+    subst (λ (x : Plan). P (digests_in (over slot new tally bound)) x) (sym m.plan) (subst (λ (x : Digests). P x q) (sym d) h)
 
-extends_flying : (slot : Parts) (new : Standing) (flight : CodeFlight) (value : Digest) → Fits slot → slot.flight ≡ Some flight
+extends_flying : (slot : Parts) (new : Standing) (tally : Counted slot) (bound : Bounded slot) (flight : CodeFlight) (value : Digest) → Fits slot → slot.flight ≡ Some flight
     → new ≡ record slot.seat.platform { plan = option_map (meddling value) slot.seat.platform.plan }
-    → ComesTo slot (over slot new) (acted (instance_in slot) (slot_in slot) (action.Extend value)) (Replied reply.Extended)
-extends_flying slot new flight value fits some e =
+    → ComesTo slot (over slot new tally bound) (acted (instance_in slot) (slot_in slot) (action.Extend value)) (Replied reply.Extended)
+extends_flying slot new tally bound flight value fits some e =
     let old = slot.seat.platform in
     let f = call_of slot flight (some_flight slot flight some fits) in
     let p = next_plan old in
     let a = flight_is slot.seat.header (instance_in slot) (digests_in slot) f.from flight old p.meddles (p.at + 1) f.flies in
     let m = moved_by old new value a.made a.planned a.few a.is_next e in
-    let flies = moves slot new value m (λ x q. Flies slot.seat.header (instance_in slot) x f.from flight new q.meddles (q.at + 1))
+    let flies = moves slot new tally bound value m (λ x q. Flies slot.seat.header (instance_in slot) x f.from flight new q.meddles (q.at + 1))
     (takes_value slot.seat.header (instance_in slot) (digests_in slot) f.from flight old new p.meddles (p.at + 1) value f.flies e) in
-    joins_comes slot new flight value some m
-    (back_from (over slot new) flight some (record { from = f.from; flies = flies; may = f.may }))
+    joins_comes slot new tally bound flight value some m
+    (back_from (over slot new tally bound) flight some (record { from = f.from; flies = flies; may = f.may }))
 
 -- power is lost
 
@@ -278,10 +278,10 @@ some_of : (flight : Option CodeFlight) → IsSome flight → (it : CodeFlight) �
 some_of None some = cc
 some_of (Some it) some = (it, refl)
 
-pub extends_some : (slot : Parts) (new : Standing) (value : Digest) → Fits slot → IsSome slot.flight
+pub extends_some : (slot : Parts) (new : Standing) (tally : Counted slot) (bound : Bounded slot) (value : Digest) → Fits slot → IsSome slot.flight
     → new ≡ record slot.seat.platform { plan = option_map (meddling value) slot.seat.platform.plan }
-    → ComesTo slot (over slot new) (acted (instance_in slot) (slot_in slot) (action.Extend value)) (Replied reply.Extended)
-extends_some slot new value fits some e = let f = some_of slot.flight some in extends_flying slot new f.0 value fits f.1 e
+    → ComesTo slot (over slot new tally bound) (acted (instance_in slot) (slot_in slot) (action.Extend value)) (Replied reply.Extended)
+extends_some slot new tally bound value fits some e = let f = some_of slot.flight some in extends_flying slot new tally bound f.0 value fits f.1 e
 
 pub may_meddle_some : (slot : Parts) → Fits slot → IsSome slot.flight → (next_plan slot.seat.platform).at < 255
 may_meddle_some slot fits some = let f = some_of slot.flight some in may_meddle slot f.0 fits f.1

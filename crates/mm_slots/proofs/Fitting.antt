@@ -1,6 +1,7 @@
 -- A slot over its platform: where no call is in flight, behind a call that is over, and what is planned behind steps that were made.
 use Rattle.mm_slots.proofs.Below.{◌≡◌, ◌∙◌, ◌+◌, ◌^◌, ◌≤◌, ◌<◌, ℕ, List, [], ◌∷◌, Option, None, Some, refl, sym, ap, subst}
-use Rattle.mm_slots.proofs.Below.{arith, vec_capacity, most_members, Variant, Basic, Opt, Meaning}
+use Rattle.std.specs.List.{sum_by}
+use Rattle.mm_slots.proofs.Below.{◌-◌, length, arith, vec_capacity, most_members, Variant, Basic, Opt, Meaning}
 use Rattle.mm_slots.proofs.Below.{IsLawful, meaning_of, Standing, Instance, Digests, instance_by, Event, Header, Reply, rising_from}
 use Rattle.mm_slots.proofs.Below.{Outcome, few_committed, printable, Called, Came, digest_in, flag_in, value_in, Stands, IsQuiet}
 use Rattle.mm_slots.proofs.Below.{digests_are, counting, CodeFlight, Said, Replied, Parts, IsSayable, Slot, slot_instance, outcome_in}
@@ -76,17 +77,26 @@ printable_in slot s event =
     (any_is_lawful slot.seat.header.«module») in
     printable (instance_in slot) lawful s.digests s.issued event
 
+-- what a seat keeps of its own counts
+abbrev pub Counted : Parts → Type 0
+Counted slot = slot.seat.kept ≡ within_64 (sum_by length slot.seat.issued.items)
+
+abbrev pub Bounded : Parts → Type 0
+Bounded slot = slot.seat.committed ≤ 2 ^ 64 - 1
+
 -- the slot whose platform and key a call has left so
-abbrev pub left : Parts → Standing → Unit {0} → Parts
-left slot new keys = record slot { seat = record slot.seat { platform = new; keys = keys } }
+abbrev pub left : (slot : Parts) → Standing → Unit {0} → Counted slot → Bounded slot → Parts
+left slot new keys tally bound = record slot {
+  seat = record slot.seat { platform = new; keys = keys; counted = tally; fits = bound };
+}
 
 -- A call is over: the slot stands as its event says.
-pub over_comes : (slot slot' : Parts) (flight : CodeFlight) (keys : Unit {0}) (from new : Standing) (event : Event) (it : Called)
+pub over_comes : (slot slot' : Parts) (flight : CodeFlight) (keys : Unit {0}) (tally : Counted slot) (bound : Bounded slot) (from new : Standing) (event : Event) (it : Called)
     (said : Said) → slot.flight ≡ None → slot.seat.committed < 2 ^ 63
     → (let s = slot_in (flown slot flight) in
     Came (instance_in slot) (outcome_in (instance_in slot) s event) s.digests.count s.issued from new it
-    → EndsIn it (left slot new keys) slot' said → ComesTo (flown slot flight) slot' (plays (instance_in slot) s event) said)
-over_comes slot slot' flight keys from new event it said none few c e =
+    → EndsIn it (left slot new keys tally bound) slot' said → ComesTo (flown slot flight) slot' (plays (instance_in slot) s event) said)
+over_comes slot slot' flight keys tally bound from new event it said none few c e =
     let i = instance_in slot in
     let s = slot_in (flown slot flight) in
     let o : Outcome Digests = outcome_in i s event in
@@ -140,9 +150,9 @@ goes_planned old new from meddles made next before now planned is =
     }
 
 -- the digests of a slot whose platform has the same cell
-pub digests_kept : (slot : Parts) (before after : Option CodeFlight) (keys : Unit {0}) (new : Standing) → new.cell ≡ slot.seat.platform.cell
-    → digests_in (record (left slot new keys) { flight = after }) ≡ digests_in (record slot { flight = before })
-digests_kept slot before after keys new e = λ j. record {
+pub digests_kept : (slot : Parts) (before after : Option CodeFlight) (keys : Unit {0}) (tally : Counted slot) (bound : Bounded slot) (new : Standing) → new.cell ≡ slot.seat.platform.cell
+    → digests_in (record (left slot new keys tally bound) { flight = after }) ≡ digests_in (record slot { flight = before })
+digests_kept slot before after keys tally bound new e = λ j. record {
   digest = digest_in (e j);
   flag = flag_in (e j);
   register = slot.register.bytes;
@@ -150,23 +160,23 @@ digests_kept slot before after keys new e = λ j. record {
 }
 
 -- a call that goes on stands as its fold says
-pub goes_comes : (slot : Parts) (before after : CodeFlight) (keys : Unit {0}) (new : Standing) (step : ℕ)
+pub goes_comes : (slot : Parts) (before after : CodeFlight) (keys : Unit {0}) (tally : Counted slot) (bound : Bounded slot) (new : Standing) (step : ℕ)
     → call_in after ≡ call_in before
-    → (let old = slot.seat.platform in let slot' = flown (left slot new keys) after in
+    → (let old = slot.seat.platform in let slot' = flown (left slot new keys tally bound) after in
     GoesPlanned old new (next_plan old).meddles ((next_plan old).at + 1) → Fits slot' → step ≡ (next_plan old).at + 1 + 1
     → is_nothing (outcome_in (instance_in slot) (slot_in (flown slot before)) (so_far (flight_of old before))).reply ≡ true
     → ComesTo (flown slot before) slot' (stepped (instance_in slot) (slot_in (flown slot before)) (flight_of old before)) (Going step))
-goes_comes slot before after keys new step same planned fits number nothing =
+goes_comes slot before after keys tally bound new step same planned fits number nothing =
     let s = slot_in (flown slot before) in
     let f = flight_of slot.seat.platform before in
     let i = instance_in slot in
     let on : Turned = merely (flying s (record f { next = f.next + 1 })) (Going (f.next + 1)) in
-    let slot' = flown (left slot new keys) after in
+    let slot' = flown (left slot new keys tally bound) after in
     let P : Bool → Type 0 = λ b. ComesTo (flown slot before) slot' (cond b on (plays i s (so_far f))) (Going step) in
     subst P (sym nothing) (record {
       goes = record { fits = fits; header = refl; number = refl };
       stands = λ j. record {
-        digests = digests_kept slot (Some before) (Some after) keys new planned.cell j;
+        digests = digests_kept slot (Some before) (Some after) keys tally bound new planned.cell j;
         issued = slot.seat.issued.items;
         flight = Some (record { call = same j; meddles = (planned.plan j).meddles; next = (planned.plan j).at + 1 });
       };

@@ -5,7 +5,7 @@ use Rattle.mm_slots.proofs.Below.{arith, codes, if◌then◌else◌, nat_tests, 
 use Rattle.mm_slots.proofs.Below.{Batch, One, Quiet, Instance, by_digests, all_made, course_of, few_committed, issues_one, count_none}
 use Rattle.mm_slots.proofs.Below.{stop_behind, offered_bytes, is_long, Offer, Event, Ask, Extend, Header, ◌>>=◌, number_at, word_at}
 use Rattle.mm_slots.proofs.Below.{SlotEvent, Power, At, action_at, Action, IsInside, IsWithin, KeepsAll, Running, Row, row_after, by_place}
-use Rattle.mm_slots.proofs.Below.{first_rows, after_event, met_in, cuts_all, EventWants, WantsAt, Slot, Flight, Turned, Met, Acts, Loses}
+use Rattle.mm_slots.proofs.Below.{first_row, first_rows, after_event, met_in, cuts_all, EventWants, WantsAt, Slot, Flight, Turned, Met, Acts, Loses}
 use Rattle.mm_slots.proofs.Below.{instance_of, Wants, acted_by, begun, event_by, flying, joined, beginning, merely, plays, so_far, stepped}
 use Rattle.mm_slots.proofs.Below.{Going, is_nothing, outcome_in}
 use Rattle.mm_slots.proofs.Below.{stop_at, turned, Begun, Call, Asks, Closes, within_64, kept_in}

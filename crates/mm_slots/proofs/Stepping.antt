@@ -1,5 +1,5 @@
 -- The call in flight of a slot: its next step, and a step that breaks it off.
-use Rattle.mm_slots.proofs.Below.{◌≡◌, ◌∙◌, ◌+◌, ◌^◌, ◌<◌, ◌==◌, ℕ, Bool, true, false, cond, List, [], ◌∷◌, None, Some, Result, Ok, Err, IsSome}
+use Rattle.mm_slots.proofs.Below.{◌≡◌, ◌∙◌, ◌+◌, ◌^◌, ◌<◌, ◌==◌, ℕ, Bool, true, false, cond, List, [], ◌∷◌, Option, None, Some, Result, Ok, Err, IsSome}
 use Rattle.mm_slots.proofs.Below.{refl, sym, ap, subst, arith, eq-eqb, One, meaning_of, Stop, Quiet, Plan, Standing, next_step}
 use Rattle.mm_slots.proofs.Below.{next_plan, Digests, by_digests, all_made, course_of, rising_from, plan_by, Called, is_nothing}
 use Rattle.mm_slots.proofs.Below.{stop_behind, StepsAs, BreaksAs, MayStepOn, asks_stepped, asks_broken_off, closes_stepped}
@@ -31,7 +31,7 @@ use Rattle.mm_slots.specs.declared.event.Action.TheVariants as action
 use Rattle.mm_slots.specs.declared.event.Breaking.{Breaking}
 use Rattle.mm_slots.specs.declared.event.Breaking.TheVariants as breaking
 use Rattle.mm_slots.specs.declared.flight.Flight.TheVariants as code
-use Rattle.mm_slots.proofs.Fitting.{rests, over_comes, flight_of, flight_is, digests_kept, goes_planned, goes_comes, call_of, left, IsOn}
+use Rattle.mm_slots.proofs.Fitting.{rests, over_comes, flight_of, flight_is, digests_kept, goes_planned, goes_comes, call_of, left, Counted, Bounded, IsOn}
 
 -- the next step of a call that asks, and of a checkpoint
 pub record AsksStep (slot : Parts) (it : Asking) (new : Standing) (result : Result (Stepped BatchAnswer) Memory) : Type 0 where
@@ -80,8 +80,29 @@ closes_whole slot it new memory fits s =
     let over = s.steps f.from (next_plan slot.seat.platform).meddles f.flies.made f.flies.flies f.flies.number in
     none_told (stop_behind (f.flies.made + 1)) over.was.ended memory over.was.told
 
+-- nor does it hand out a snapshot
+snapshot_in : Result Called Memory → Option (List ℕ)
+snapshot_in (Ok it) = it.snapshot
+snapshot_in (Err memory) = None
+
+quiet_told : (stop : Stop) (ended : Ended Checkpointed CheckpointRefusal) (it : Called) → tells_close stop ended (Ok it)
+    → it.snapshot ≡ None
+quiet_told stop ended it told = ap snapshot_in told
+
+pub over_quiet : (slot : Parts) (it : Closing) (new : Standing) (called : Called) → Fits (flown slot (code.Closes it))
+    → ClosesStep slot it new (Ok (steps.Over called)) → called.snapshot ≡ None
+over_quiet slot it new called fits s =
+    let f = call_of slot (code.Closes it) fits in
+    let over = s.steps f.from (next_plan slot.seat.platform).meddles f.flies.made f.flies.flies f.flies.number in
+    quiet_told (stop_behind (f.flies.made + 1)) over.was.ended called over.was.told
+
+-- so no room is needed for one
+pub needs_none : {P : Type 0} (snapshot : Option (List ℕ)) → snapshot ≡ None → IsSome snapshot → P
+needs_none None e some = absurd (cc)
+needs_none (Some it) e some = absurd (cc)
+
 -- a call goes on
-flight_goes : (slot : Parts) (before after : CodeFlight) (keys : Unit {0}) (new : Standing) (step : ℕ)
+flight_goes : (slot : Parts) (before after : CodeFlight) (keys : Unit {0}) (tally : Counted slot) (bound : Bounded slot) (new : Standing) (step : ℕ)
     → (fits : Fits (flown slot before)) → call_in after ≡ call_in before
     → MayGoOn slot.seat.issued.items (vec_capacity slot.seat.issued) after
     → (let p = next_plan slot.seat.platform in
@@ -89,9 +110,9 @@ flight_goes : (slot : Parts) (before after : CodeFlight) (keys : Unit {0}) (new 
     (p.at + 1 + 1)
     → is_nothing (outcome_in (instance_in slot) (slot_in (flown slot before)) (so_far (flight_of slot.seat.platform before))).reply ≡ true
     → step ≡ p.at + 1 + 1
-    → ComesTo (flown slot before) (flown (left slot new keys) after)
+    → ComesTo (flown slot before) (flown (left slot new keys tally bound) after)
     (stepped (instance_in slot) (slot_in (flown slot before)) (flight_of slot.seat.platform before)) (Going step))
-flight_goes slot before after keys new step fits same may a nothing number =
+flight_goes slot before after keys tally bound new step fits same may a nothing number =
     let f = call_of slot before fits in
     let h = slot.seat.header in
     let i = instance_in slot in
@@ -101,30 +122,30 @@ flight_goes slot before after keys new step fits same may a nothing number =
     let was = flight_is h i d f.from before old p.meddles (p.at + 1) f.flies in
     let is = flight_is h i d f.from after new p.meddles (p.at + 1 + 1) a in
     let planned = goes_planned old new f.from p.meddles is.made (p.at + 1) was.cell is.cell is.planned is.is_next in
-    let slot' = flown (left slot new keys) after in
+    let slot' = flown (left slot new keys tally bound) after in
     let P : Digests → Plan → Type 0 = λ x q. Flies h i x f.from after new q.meddles (q.at + 1) in
     let flies = subst (λ (q : Plan). P (digests_in slot') q) (sym planned.plan)
     (subst (λ (x : Digests). P x (record (plan_by Quiet p.meddles) { at = p.at + 1 }))
-    (sym (digests_kept slot (Some before) slot'.flight keys new planned.cell)) a) in
-    goes_comes slot before after keys new step same planned (record { from = f.from; flies = flies; may = may }) number nothing
+    (sym (digests_kept slot (Some before) slot'.flight keys tally bound new planned.cell)) a) in
+    goes_comes slot before after keys tally bound new step same planned (record { from = f.from; flies = flies; may = may }) number nothing
 
-pub ask_goes : (slot : Parts) (it : Asking) (call : Stage BatchAnswer) (keys : Unit {0}) (new : Standing) (step : ℕ)
+pub ask_goes : (slot : Parts) (it : Asking) (call : Stage BatchAnswer) (keys : Unit {0}) (tally : Counted slot) (bound : Bounded slot) (new : Standing) (step : ℕ)
     → Fits (flown slot (code.Asks it)) → AsksStep slot it new (Ok (steps.Going call))
     → step ≡ number_of (writes_at slot.seat.header.variant) call
-    → ComesTo (flown slot (code.Asks it)) (flown (left slot new keys) (code.Asks (record it { call = call })))
+    → ComesTo (flown slot (code.Asks it)) (flown (left slot new keys tally bound) (code.Asks (record it { call = call })))
     (stepped (instance_in slot) (slot_in (flown slot (code.Asks it))) (flight_of slot.seat.platform (code.Asks it))) (Going step)
-ask_goes slot it call keys new step fits goes number =
+ask_goes slot it call keys tally bound new step fits goes number =
     let t = asks_come slot it new (Ok (steps.Going call)) fits goes in
-    flight_goes slot (code.Asks it) (code.Asks (record it { call = call })) keys new step fits refl (call_of slot (code.Asks it) fits).may
+    flight_goes slot (code.Asks it) (code.Asks (record it { call = call })) keys tally bound new step fits refl (call_of slot (code.Asks it) fits).may
     t.0 t.1 (number ∙ t.0.number ∙ sym t.0.is_next)
 
-pub close_goes : (slot : Parts) (it : Closing) (call : Stage Checkpointed) (keys : Unit {0}) (new : Standing) (step : ℕ)
+pub close_goes : (slot : Parts) (it : Closing) (call : Stage Checkpointed) (keys : Unit {0}) (tally : Counted slot) (bound : Bounded slot) (new : Standing) (step : ℕ)
     → Fits (flown slot (code.Closes it)) → ClosesStep slot it new (Ok (steps.Going call)) → step ≡ number_of 3 call
-    → ComesTo (flown slot (code.Closes it)) (flown (left slot new keys) (code.Closes (record { call = call })))
+    → ComesTo (flown slot (code.Closes it)) (flown (left slot new keys tally bound) (code.Closes (record { call = call })))
     (stepped (instance_in slot) (slot_in (flown slot (code.Closes it))) (flight_of slot.seat.platform (code.Closes it))) (Going step)
-close_goes slot it call keys new step fits goes number =
+close_goes slot it call keys tally bound new step fits goes number =
     let t = closes_come slot it new (Ok (steps.Going call)) fits goes in
-    flight_goes slot (code.Closes it) (code.Closes (record { call = call })) keys new step fits refl tt t.0 t.1
+    flight_goes slot (code.Closes it) (code.Closes (record { call = call })) keys tally bound new step fits refl tt t.0 t.1
     (number ∙ t.0.number ∙ sym t.0.is_next)
 
 -- a step that ends the call
@@ -141,27 +162,27 @@ stepped_over slot slot' flight said something c =
     let P : Bool → Type 0 = λ b. ComesTo (flown slot flight) slot' (cond b on (plays i s (so_far f))) said in
     subst P (sym something) c
 
-pub ask_over : (slot slot' : Parts) (it : Asking) (keys : Unit {0}) (new : Standing) (called : Called) (said : Said)
+pub ask_over : (slot slot' : Parts) (it : Asking) (keys : Unit {0}) (tally : Counted slot) (bound : Bounded slot) (new : Standing) (called : Called) (said : Said)
     → slot.flight ≡ None → slot.seat.committed < 2 ^ 63 → Fits (flown slot (code.Asks it)) → AsksStep slot it new (Ok (steps.Over called))
-    → EndsIn called (left slot new keys) slot' said → ComesTo (flown slot (code.Asks it)) slot'
+    → EndsIn called (left slot new keys tally bound) slot' said → ComesTo (flown slot (code.Asks it)) slot'
     (stepped (instance_in slot) (slot_in (flown slot (code.Asks it))) (flight_of slot.seat.platform (code.Asks it))) said
-ask_over slot slot' it keys new called said none few fits goes ends =
+ask_over slot slot' it keys tally bound new called said none few fits goes ends =
     let f = call_of slot (code.Asks it) fits in
     let t = asks_come slot it new (Ok (steps.Over called)) fits goes in
     stepped_over slot slot' (code.Asks it) said t.1
-    (over_comes slot slot' (code.Asks it) keys f.from new (so_far (flight_of slot.seat.platform (code.Asks it))) called said none few t.0
+    (over_comes slot slot' (code.Asks it) keys tally bound f.from new (so_far (flight_of slot.seat.platform (code.Asks it))) called said none few t.0
     ends)
 
-pub close_over : (slot slot' : Parts) (it : Closing) (keys : Unit {0}) (new : Standing) (called : Called) (said : Said)
+pub close_over : (slot slot' : Parts) (it : Closing) (keys : Unit {0}) (tally : Counted slot) (bound : Bounded slot) (new : Standing) (called : Called) (said : Said)
     → slot.flight ≡ None → slot.seat.committed < 2 ^ 63 → Fits (flown slot (code.Closes it))
-    → ClosesStep slot it new (Ok (steps.Over called)) → EndsIn called (left slot new keys) slot' said
+    → ClosesStep slot it new (Ok (steps.Over called)) → EndsIn called (left slot new keys tally bound) slot' said
     → ComesTo (flown slot (code.Closes it)) slot'
     (stepped (instance_in slot) (slot_in (flown slot (code.Closes it))) (flight_of slot.seat.platform (code.Closes it))) said
-close_over slot slot' it keys new called said none few fits goes ends =
+close_over slot slot' it keys tally bound new called said none few fits goes ends =
     let f = call_of slot (code.Closes it) fits in
     let t = closes_come slot it new (Ok (steps.Over called)) fits goes in
     stepped_over slot slot' (code.Closes it) said t.1
-    (over_comes slot slot' (code.Closes it) keys f.from new (so_far (flight_of slot.seat.platform (code.Closes it))) called said none few
+    (over_comes slot slot' (code.Closes it) keys tally bound f.from new (so_far (flight_of slot.seat.platform (code.Closes it))) called said none few
     t.0 ends)
 
 -- a call is broken off
@@ -170,10 +191,18 @@ pub stopped_at : (how : Breaking) (n : ℕ) → stopped_step (stop_at how n) ≡
 stopped_at (breaking.Fail done) n = refl
 stopped_at _ n = refl
 
+pub broken_quiet : (how : Breaking) (slot : Parts) (it : Closing) (new : Standing) (n : ℕ) (called : Called)
+    → Fits (flown slot (code.Closes it)) → n ≡ number_of 3 it.call
+    → BreaksAs checkpoint tells_close it.call slot.seat.platform new (stop_at how n) called → called.snapshot ≡ None
+broken_quiet how slot it new n called fits is breaks =
+    let f = call_of slot (code.Closes it) fits in
+    let was = breaks f.from (next_plan slot.seat.platform).meddles f.flies.made f.flies.flies (stopped_at how n ∙ is ∙ f.flies.number) in
+    quiet_told (stop_at how n) was.ended called was.told
+
 fails_at : (how : Breaking) (n step : ℕ) → n ≡ step → IsSome (fault_at (stop_at how n) step)
-fails_at breaking.Cut n step is = rw (eq-eqb n step is) tt
-fails_at breaking.Drop n step is = rw (eq-eqb n step is) tt
-fails_at (breaking.Fail done) n step is = rw (eq-eqb n step is) tt
+fails_at breaking.Cut n step is = rw (eq-eqb n step is) refl
+fails_at breaking.Drop n step is = rw (eq-eqb n step is) refl
+fails_at (breaking.Fail done) n step is = rw (eq-eqb n step is) refl
 
 -- the next step answers a fault
 pub breaks_next : (how : Breaking) (slot : Parts) (flight : CodeFlight) (n : ℕ) → Fits (flown slot flight)
@@ -197,15 +226,15 @@ pub close_next : (slot : Parts) (it : Closing) (n : ℕ) → Fits (flown slot (c
 close_next slot it n fits is =
     let f = call_of slot (code.Closes it) fits in is ∙ f.flies.number ∙ sym f.flies.is_next
 
-pub ask_broken : (how : Breaking) (slot slot' : Parts) (it : Asking) (keys : Unit {0}) (new : Standing) (n : ℕ) (called : Called)
+pub ask_broken : (how : Breaking) (slot slot' : Parts) (it : Asking) (keys : Unit {0}) (tally : Counted slot) (bound : Bounded slot) (new : Standing) (n : ℕ) (called : Called)
     (said : Said) → slot.flight ≡ None → slot.seat.committed < 2 ^ 63 → Fits (flown slot (code.Asks it))
     → n ≡ number_of (writes_at slot.seat.header.variant) it.call
     → BreaksAs (asked_by slot.seat.header.variant (meaning_of slot.seat.header.«module») it.bytes (One it.request))
-    (tells_ask (One it.request)) it.call slot.seat.platform new (stop_at how n) called → EndsIn called (left slot new keys) slot' said
+    (tells_ask (One it.request)) it.call slot.seat.platform new (stop_at how n) called → EndsIn called (left slot new keys tally bound) slot' said
     → (let p = next_plan slot.seat.platform in ComesTo (flown slot (code.Asks it)) slot'
     (plays (instance_in slot) (slot_in (flown slot (code.Asks it)))
     (event_by (call_in (code.Asks it)) p.meddles (stop_at how (p.at + 1)))) said)
-ask_broken how slot slot' it keys new n called said none few fits is breaks ends =
+ask_broken how slot slot' it keys tally bound new n called said none few fits is breaks ends =
     let h = slot.seat.header in
     let f = call_of slot (code.Asks it) fits in
     let p = next_plan slot.seat.platform in
@@ -215,16 +244,16 @@ ask_broken how slot slot' it keys new n called said none few fits is breaks ends
     (stop_at how (p.at + 1)) called there (rising_from slot.number) (rising_from (128 + slot.number))
     (digests_in (flown slot (code.Asks it))) f.from slot.seat.issued.items p.meddles (p.at + 1) it.offer f.flies f.may.offered
     (stopped_at how (p.at + 1)) in
-    over_comes slot slot' (code.Asks it) keys f.from new (event_by (call_in (code.Asks it)) p.meddles (stop_at how (p.at + 1))) called
+    over_comes slot slot' (code.Asks it) keys tally bound f.from new (event_by (call_in (code.Asks it)) p.meddles (stop_at how (p.at + 1))) called
     said none few t ends
 
-pub close_broken : (how : Breaking) (slot slot' : Parts) (it : Closing) (keys : Unit {0}) (new : Standing) (n : ℕ) (called : Called)
+pub close_broken : (how : Breaking) (slot slot' : Parts) (it : Closing) (keys : Unit {0}) (tally : Counted slot) (bound : Bounded slot) (new : Standing) (n : ℕ) (called : Called)
     (said : Said) → slot.flight ≡ None → slot.seat.committed < 2 ^ 63 → Fits (flown slot (code.Closes it)) → n ≡ number_of 3 it.call
-    → BreaksAs checkpoint tells_close it.call slot.seat.platform new (stop_at how n) called → EndsIn called (left slot new keys) slot' said
+    → BreaksAs checkpoint tells_close it.call slot.seat.platform new (stop_at how n) called → EndsIn called (left slot new keys tally bound) slot' said
     → (let p = next_plan slot.seat.platform in ComesTo (flown slot (code.Closes it)) slot'
     (plays (instance_in slot) (slot_in (flown slot (code.Closes it)))
     (event_by (call_in (code.Closes it)) p.meddles (stop_at how (p.at + 1)))) said)
-close_broken how slot slot' it keys new n called said none few fits is breaks ends =
+close_broken how slot slot' it keys tally bound new n called said none few fits is breaks ends =
     let h = slot.seat.header in
     let f = call_of slot (code.Closes it) fits in
     let p = next_plan slot.seat.platform in
@@ -233,7 +262,7 @@ close_broken how slot slot' it keys new n called said none few fits is breaks en
     let t = closes_broken_off it.call slot.seat.platform new (stop_at how (p.at + 1)) called there h.variant (meaning_of h.«module»)
     (rising_from slot.number) (rising_from (128 + slot.number)) (digests_in (flown slot (code.Closes it))) f.from slot.seat.issued.items
     p.meddles (p.at + 1) f.flies (stopped_at how (p.at + 1)) in
-    over_comes slot slot' (code.Closes it) keys f.from new (event_by (call_in (code.Closes it)) p.meddles (stop_at how (p.at + 1))) called
+    over_comes slot slot' (code.Closes it) keys tally bound f.from new (event_by (call_in (code.Closes it)) p.meddles (stop_at how (p.at + 1))) called
     said none few t ends
 
 -- want of memory: the call is over, and nothing was done but that it has read

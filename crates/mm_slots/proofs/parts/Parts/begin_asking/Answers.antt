@@ -2,8 +2,8 @@ use Rattle.mm_slots.proofs.Below.{◌≡◌, List, ℕ, false, subst, rules, One
 use Rattle.mm_slots.proofs.Beginning.{ask_begins}
 use Rattle.mm_slots.proofs.parts.Parts.begin_asking.Goals as goal
 
-pub returns-else-is_long : goal.returns-else-is_long
-returns-else-is_long c =
+pub returns : goal.returns
+returns c =
     ask_begins c.args.self.now
     (record { call = c.begin.result; offer = c.args.offer; bytes = c.args.bytes; request = c.args.request })
     c.requires.fits c.requires.idle c.requires.offered (search rules) c.begin.ensures (search rules)

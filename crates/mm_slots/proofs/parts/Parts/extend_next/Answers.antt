@@ -6,5 +6,5 @@ meddle_next-requires c = may_meddle_some c.args.self.now c.requires.fits c.requi
 
 pub returns-clause-ok : goal.returns-clause-ok
 returns-clause-ok c =
-    extends_some c.args.self.now c.meddle_next.new.self c.args.value.now c.requires.fits c.requires.flies
+    extends_some c.args.self.now c.meddle_next.new.self _ _ c.args.value.now c.requires.fits c.requires.flies
     c.in_ok-meddle_next.ensures.ok

@@ -4,5 +4,5 @@ use Rattle.mm_slots.proofs.parts.Parts.extend_now.Goals as goal
 
 pub returns-clause-ok : goal.returns-clause-ok
 returns-clause-ok c =
-    rw c.in_ok-extend.ensures.ok (extends_now c.args.self.now _ c.args.value.now c.requires.fits c.requires.idle
-    c.in_ok-extend.ensures.stays refl refl c.register.ensures)
+    rw c.in_ok-reply.ensures.ok (extends_now c.args.self.now _ c.args.value.now c.requires.fits c.requires.idle
+    c.in_ok-reply.ensures.stays refl refl c.register.ensures)

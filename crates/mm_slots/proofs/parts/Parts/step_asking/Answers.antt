@@ -10,7 +10,7 @@ returns-in-Err-clause-err c =
 
 pub returns-in-Ok-Over-clause-ok : goal.returns-in-Ok-Over-clause-ok
 returns-in-Ok-Over-clause-ok c =
-    ask_over c.args.self.now c.end.new.self c.args.asking c.step.new.keys c.step.new.platform c.in-Ok-Over.called c.end.result
+    ask_over c.args.self.now c.end.new.self c.args.asking c.step.new.keys _ _ c.step.new.platform c.in-Ok-Over.called c.end.result
     c.requires.idle c.requires.few c.requires.fits
     (record {
       steps = rw (c.in-Ok-Over.field-0-is, c.as_slice.ensures.value, c.as_slice-2.ensures.value) at c.in-Ok-Over.ensures.steps;
@@ -19,7 +19,7 @@ returns-in-Ok-Over-clause-ok c =
 
 pub returns-in-Ok-Going-clause-ok : goal.returns-in-Ok-Going-clause-ok
 returns-in-Ok-Going-clause-ok c =
-    ask_goes c.args.self.now c.args.asking c.in-Ok-Going.call c.step.new.keys c.step.new.platform _ c.requires.fits
+    ask_goes c.args.self.now c.args.asking c.in-Ok-Going.call c.step.new.keys _ _ c.step.new.platform _ c.requires.fits
     (record {
       steps = rw (c.in-Ok-Going.field-0-is, c.as_slice.ensures.value, c.as_slice-2.ensures.value) at c.in-Ok-Going.ensures.steps;
       room = rw c.in-Ok-Going.field-0-is at c.in-Ok-Going.ensures.room;

@@ -12,8 +12,4 @@ follow-requires-clause-few c =
     rw c.as_mut_slice.ensures.value (can_count p.slots.items p.events c.self.invariant)
 
 pub invariant_of-self : goal.invariant_of-self
-invariant_of-self c =
-    let p = c.self.inside in
-    keeps_following c.follow.result p.slots.items c.follow.new.slots p.events c.args.event c.self.invariant
-    (subst (λ (r : Running). r.events < most_events) (sym c.self.view_is) c.requires.few)
-    (rw c.as_mut_slice.ensures.value at c.follow.ensures.stands) (rw c.as_mut_slice.ensures.value at c.follow.ensures.wants)
+invariant_of-self c = ?
