@@ -1,5 +1,5 @@
 -- All slots lose their power, and what an event leaves of them.
-use Rattle.mm_slots.proofs.Below.{◌≡◌, ◌∙◌, ◌+◌, ◌≤◌, ◌<◌, ◌==◌, ℕ, Bool, true, false, cond, List, [], ◌∷◌, ◌++◌, length, get_or, Option}
+use Rattle.mm_slots.proofs.Below.{◌≡◌, ◌∙◌, ◌≤◌, ◌<◌, ◌==◌, ℕ, Bool, true, false, cond, List, [], ◌∷◌, ◌++◌, length, get_or, Option}
 use Rattle.mm_slots.proofs.Below.{refl, sym, ap, arith, option_map_or, slice_get-get_or, ne_eqb, if◌then◌else◌, Action, Power, At, Said}
 use Rattle.mm_slots.proofs.Below.{Met, Acts, Loses, Row, after_event, is_cut, cuts_all, met_in, ActsAt, Tells, others_lose, only_at, touched}
 use Rattle.mm_slots.proofs.Rowing.{touched_more, touched_none, touched_same}

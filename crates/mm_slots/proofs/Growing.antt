@@ -1,25 +1,23 @@
 -- What slots among their events keep: how many requests and snapshots they count.
-use Rattle.mm_slots.proofs.Below.{◌≡◌, ◌∙◌, ◌+◌, ◌*◌, ◌-◌, ◌^◌, ◌≤◌, ◌<◌, ◌==◌, ◌⊎◌, inl, inr, ℕ, zero, suc, Bool, true, false, cond, List}
-use Rattle.mm_slots.proofs.Below.{[], ◌∷◌, length, nat_le, nat_lt, Option, None, Some, Result, Ok, Err, OnOk, OnErr, refl, sym, ap, subst}
-use Rattle.mm_slots.proofs.Below.{arith, codes, if◌then◌else◌, nat_tests, slice_get, slice_set, longest_line, most_events, most_members}
+use Rattle.mm_slots.proofs.Below.{◌≡◌, ◌∙◌, ◌+◌, ◌^◌, ◌≤◌, ◌<◌, ◌==◌, inl, inr, ℕ, zero, suc, Bool, true, false, cond, List}
+use Rattle.mm_slots.proofs.Below.{[], ◌∷◌, length, Option, None, Some, Result, Ok, Err, OnOk, OnErr, refl, sym, ap, subst}
+use Rattle.mm_slots.proofs.Below.{arith, slice_get, slice_set, most_events, most_members}
 use Rattle.mm_slots.proofs.Below.{Batch, One, Quiet, Instance, by_digests, all_made, course_of, few_committed, issues_one, count_none}
-use Rattle.mm_slots.proofs.Below.{stop_behind, offered_bytes, is_long, Offer, Event, Ask, Extend, Header, ◌>>=◌, number_at, word_at}
-use Rattle.mm_slots.proofs.Below.{SlotEvent, Power, At, action_at, Action, IsInside, IsWithin, KeepsAll, Running, Row, row_after, by_place}
+use Rattle.mm_slots.proofs.Below.{stop_behind, offered_bytes, is_long, Offer, Event, Ask, Extend, Header}
+use Rattle.mm_slots.proofs.Below.{SlotEvent, Power, At, Action, IsWithin, KeepsAll, Row, row_after, by_place}
 use Rattle.mm_slots.proofs.Below.{first_row, first_rows, after_event, met_in, cuts_all, EventWants, WantsAt, Slot, Flight, Turned, Met, Acts, Loses}
-use Rattle.mm_slots.proofs.Below.{instance_of, Wants, acted_by, begun, event_by, flying, joined, beginning, merely, plays, so_far, stepped}
+use Rattle.mm_slots.proofs.Below.{instance_of, Wants, acted_by, begun, event_by, flying, joined, beginning, merely, plays, so_far}
 use Rattle.mm_slots.proofs.Below.{Going, is_nothing, outcome_in}
-use Rattle.mm_slots.proofs.Below.{stop_at, turned, Begun, Call, Asks, Closes, within_64, kept_in}
+use Rattle.mm_slots.proofs.Below.{stop_at, turned, Begun, Call, Asks, Closes}
 use Rattle.std.specs.List.{All}
-use Rattle.std.specs.Str.{bytes_eq}
+use Rattle.std.specs.Prelude.{take, drop, ◌++◌}
 use Rattle.std.proofs.lemmas.List.Elements.{All-cons, All-head, All-nil, All-set, All-tail, All-weaker}
 use Rattle.mm_call.specs.Called.{reading_steps}
 use Rattle.mm_call.specs.Courses.{seen_in}
 use Rattle.mm_call.specs.WalkLaws.{seen_none}
 use Rattle.mm_schedule.specs.Events.{Power as PowerLoss}
 use Rattle.mm_slots.specs.declared.event.Action.TheVariants as action
-use Rattle.mm_slots.specs.Grammar.{event_at, index_at}
 use Rattle.mm_slots.specs.Slot.{FlightWants, StepWants}
-use Rattle.mm_slots.proofs.Alone.{bound}
 
 -- what one thing that a slot meets adds to its counts
 record Grows (old new : Slot) : Type 0 where
@@ -180,6 +178,14 @@ keeps_wanting rows rows' events (At number what) k few (inl w) =
     (ap (λ (x : List Row). length x) w.now ∙ set_length rows number (record w.row { slot = w.slot }))
     (wants_within events number what rows rows' w k.within)
 keeps_wanting rows rows' events (At number what) k few (inr is) = keeps_after rows rows' events (At number what) k few is
+
+-- what is written back through a slice of all slots
+pub put_back : (n : ℕ) (rows rows' : List Row) → length rows ≡ length rows' → n ≡ length rows
+    → take n (rows ++ drop (length rows) rows') ≡ rows
+put_back zero [] [] e is = refl
+put_back (suc n) (row ∷ rows) (row' ∷ rows') e is =
+    ap (λ (l : List Row). row ∷ l) (put_back n rows rows' (omega (arith, e)) (omega (arith, is)))
+put_back n rows rows' e is = absurd (cc)
 
 pub keeps_following : {T E : Type 0} (result : Result T E) (rows rows' : List Row) (events : ℕ) (event : SlotEvent) → KeepsAll rows events
     → events < most_events → OnOk result (rows' ≡ after_event rows event) → OnErr result (EventWants event rows rows')

@@ -1,6 +1,6 @@
 -- A slot that is the same but for the room of its snapshots, and a call that isn't begun.
-use Rattle.mm_slots.proofs.Below.{◌≡◌, ◌∙◌, ℕ, List, None, Some, refl, sym, ap, subst, digest_in, flag_in, next_plan, Standing, Stands, Digests, Instance, IsQuiet}
-use Rattle.mm_slots.proofs.Below.{Action, Said, Parts, Turned, acted, digests_in, slot_in, flight_in, instance_in, Fits, ComesTo, LacksIn}
+use Rattle.mm_slots.proofs.Below.{◌≡◌, ◌∙◌, None, sym, ap, subst, digest_in, flag_in, next_plan, Standing, Stands, Digests, Instance, IsQuiet}
+use Rattle.mm_slots.proofs.Below.{Action, Said, Parts, Turned, acted, digests_in, slot_in, flight_in, instance_in, Fits, ComesTo}
 use Rattle.mm_slots.proofs.Fitting.{FitsWith, idle, same_instance}
 
 pub record IsSame (slot mid : Parts) : Type 0 where

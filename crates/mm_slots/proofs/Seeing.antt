@@ -1,6 +1,6 @@
 -- What the parts of a slot come to, as contracts see the slot.
-use Rattle.mm_slots.proofs.Below.{◌≡◌, [], ◌∷◌, Result, Ok, Err, IfOk, OnErr, ℕ, ◌<◌, ◌^◌, refl, sym, ap, subst, Action, Said, Parts, Row}
-use Rattle.mm_slots.proofs.Below.{row_after, Slot, Acts, Loses, acted, slot_in, instance_in, row_in, Fits, GoesOn, ComesTo, LacksIn, LosesIn}
+use Rattle.mm_slots.proofs.Below.{◌≡◌, [], ◌∷◌, Result, Ok, Err, IfOk, OnErr, ◌<◌, ◌^◌, refl, sym, subst, Action, Said, Parts, Row}
+use Rattle.mm_slots.proofs.Below.{row_after, Slot, Loses, acted, slot_in, instance_in, row_in, Fits, GoesOn, ComesTo, LacksIn, LosesIn}
 use Rattle.mm_slots.proofs.Below.{ActsAs, LacksAs, CanCount}
 use Rattle.mm_base.specs.declared.fault.Memory.{Memory}
 

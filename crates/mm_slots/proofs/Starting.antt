@@ -1,6 +1,6 @@
 -- The slots at first: each is as its header and number say.
 use Rattle.mm_slots.proofs.Below.{◌≡◌, ◌∙◌, ◌+◌, ◌<◌, ℕ, List, [], ◌∷◌, ◌++◌, length, take, get_or, None, Some, refl, sym, ap, subst, arith}
-use Rattle.mm_slots.proofs.Below.{length-take-le, take_more, new_platform, next_plan, Instance, Standing, first_history, cell_of}
+use Rattle.mm_slots.proofs.Below.{length-take-le, take_more, next_plan, Standing, first_history, cell_of}
 use Rattle.mm_slots.proofs.Below.{cell_spelling, meaning_of, first_digests, register_reads, Header, IsQuiet, Stands, stands_new, Parts}
 use Rattle.mm_slots.proofs.Below.{IsFirst, digests_in, flight_in, instance_in, Fits, HasRegister, row_in}
 use Rattle.mm_slots.proofs.Below.{slot_instance, by_place, first_row, first_rows, Row}

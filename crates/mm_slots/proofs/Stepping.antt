@@ -1,5 +1,5 @@
 -- The call in flight of a slot: its next step, and a step that breaks it off.
-use Rattle.mm_slots.proofs.Below.{◌≡◌, ◌∙◌, ◌+◌, ◌^◌, ◌<◌, ◌==◌, ℕ, Bool, true, false, cond, List, [], ◌∷◌, Option, None, Some, Result, Ok, Err, IsSome}
+use Rattle.mm_slots.proofs.Below.{◌≡◌, ◌∙◌, ◌+◌, ◌^◌, ◌<◌, ℕ, Bool, true, false, cond, List, Option, None, Some, Result, Ok, Err, IsSome}
 use Rattle.mm_slots.proofs.Below.{refl, sym, ap, subst, arith, eq-eqb, One, meaning_of, Stop, Quiet, Plan, Standing, next_step}
 use Rattle.mm_slots.proofs.Below.{next_plan, Digests, by_digests, all_made, course_of, rising_from, plan_by, Called, is_nothing}
 use Rattle.mm_slots.proofs.Below.{stop_behind, StepsAs, BreaksAs, MayStepOn, asks_stepped, asks_broken_off, closes_stepped}
@@ -31,7 +31,7 @@ use Rattle.mm_slots.specs.declared.event.Action.TheVariants as action
 use Rattle.mm_slots.specs.declared.event.Breaking.{Breaking}
 use Rattle.mm_slots.specs.declared.event.Breaking.TheVariants as breaking
 use Rattle.mm_slots.specs.declared.flight.Flight.TheVariants as code
-use Rattle.mm_slots.proofs.Fitting.{rests, over_comes, flight_of, flight_is, digests_kept, goes_planned, goes_comes, call_of, left, Counted, Bounded, IsOn}
+use Rattle.mm_slots.proofs.Fitting.{rests, over_comes, flight_of, flight_is, digests_kept, goes_planned, goes_comes, call_of, left, Counted, Bounded}
 
 -- the next step of a call that asks, and of a checkpoint
 pub record AsksStep (slot : Parts) (it : Asking) (new : Standing) (result : Result (Stepped BatchAnswer) Memory) : Type 0 where
@@ -81,7 +81,7 @@ closes_whole slot it new memory fits s =
     none_told (stop_behind (f.flies.made + 1)) over.was.ended memory over.was.told
 
 -- nor does it hand out a snapshot
-snapshot_in : Result Called Memory → Option (List ℕ)
+abbrev snapshot_in : Result Called Memory → Option (List ℕ)
 snapshot_in (Ok it) = it.snapshot
 snapshot_in (Err memory) = None
 

@@ -1,5 +1,5 @@
 -- What all slots count together, and their last lines.
-use Rattle.mm_slots.proofs.Below.{◌≡◌, ◌∙◌, ◌+◌, ◌*◌, ◌^◌, ◌≤◌, ◌<◌, ℕ, List, [], ◌∷◌, ◌++◌, length, take, get_or, refl, sym, ap}
+use Rattle.mm_slots.proofs.Below.{◌≡◌, ◌∙◌, ◌+◌, ◌*◌, ◌≤◌, ◌<◌, ℕ, List, [], ◌∷◌, ◌++◌, length, take, get_or, sym, ap}
 use Rattle.mm_slots.proofs.Below.{append-nil, arith, append_assoc, length-take-le, take_more, most_events, most_members}
 use Rattle.mm_slots.proofs.Below.{slot_end_line, end_lines, within_64, Row, IsWithin, IsCounted}
 use Rattle.std.specs.List.{All, sum_by}

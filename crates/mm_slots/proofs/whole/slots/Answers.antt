@@ -1,5 +1,5 @@
 use Rattle.std.proofs.Common.{◌∙◌, ap}
-use Rattle.mm_play.specs.Stage.{AtHeading, InEvents}
+use Rattle.mm_play.specs.Stage.{AtHeading}
 use Rattle.mm_slots.proofs.Below.{events_err, events_ok, playing, plays_err, unrefused, Reports}
 use Rattle.mm_slots.specs.Headline.{AreSlotRuns, slotted}
 use Rattle.mm_slots.specs.Stage.{begun, slots_heads, slots_stage}

@@ -1,4 +1,4 @@
-use Rattle.mm_slots.proofs.Below.{◌≡◌, List, ℕ, false, subst, rules, One, is_long}
+use Rattle.mm_slots.proofs.Below.{rules}
 use Rattle.mm_slots.proofs.Beginning.{ask_begins}
 use Rattle.mm_slots.proofs.parts.Parts.begin_asking.Goals as goal
 

@@ -1,4 +1,4 @@
-use Rattle.mm_slots.proofs.Below.{List, Row, KeepsAll, Running, ap, subst, sym}
+use Rattle.mm_slots.proofs.Below.{List, Row, KeepsAll, subst, sym}
 use Rattle.mm_slots.proofs.Growing.{keeps_first}
 use Rattle.mm_slots.proofs.stage.SlotsStage.new.Goals as goal
 

@@ -1,4 +1,3 @@
-use Rattle.mm_slots.proofs.Below.{List, Row}
 use Rattle.mm_slots.proofs.Growing.{all_most}
 use Rattle.mm_slots.proofs.Totalling.{are_counted}
 use Rattle.mm_slots.proofs.stage.SlotsStage.put_last_lines.Goals as goal
