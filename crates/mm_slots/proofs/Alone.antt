@@ -1,7 +1,7 @@
 -- Each slot is where its own fold leaves it; and a run of slots takes events line by line.
 use Rattle.mm_slots.proofs.Below.{◌≡◌, ◌∙◌, ◌+◌, ◌==◌, ℕ, zero, suc, Bool, true, false, cond, List, [], ◌∷◌, ◌++◌, map, Option, Some, refl}
 use Rattle.mm_slots.proofs.Below.{sym, ap, arith, append-nil, slice_get, option_map, option_map_or, eqb-true, append_assoc, Instance}
-use Rattle.mm_slots.proofs.Below.{Action, SlotEvent, Power, At, Said, Slot, Turned, Met, Acts, Loses, turned, acted, folded}
+use Rattle.mm_slots.proofs.Below.{Action, SlotEvent, Power, At, Said, Tenant, Turned, Met, Acts, Loses, turned, acted, folded}
 use Rattle.mm_slots.proofs.Below.{Row, instance_of, row_after, by_place, after_event, cuts_all, met_in, met_by, Answer, PowerLost, Says}
 use Rattle.mm_slots.proofs.Below.{said_at, answers_to, answers, said_for, SlotsAreAlone, length, None, ◌>>=◌, flat_map-append}
 use Rattle.mm_slots.proofs.Below.{answer_text, answers_text, event_at, Running, playing, after_events}
@@ -39,7 +39,7 @@ followed_assoc a b c = λ j. record {
 }
 
 -- a fold goes on from where it stands
-pub folded_more : (i : Instance) (slot : Slot) (xs ys : List Met)
+pub folded_more : (i : Instance) (slot : Tenant) (xs ys : List Met)
     → folded i slot (xs ++ ys) ≡ followed_by (folded i slot xs) (folded i (folded i slot xs).slot ys)
 folded_more i slot [] ys = refl
 folded_more i slot (x ∷ xs) ys =

@@ -63,9 +63,9 @@ pub use Rattle.mm_slots.specs.Plays.{Reports}
 pub use Rattle.mm_slots.specs.Rows.{ActsAs, ActsAt, CanCount, IsCounted, IsInside, IsWithin, KeepsAll, LacksAs, one_loses}
 pub use Rattle.mm_slots.specs.Rows.{only_at, others_lose, Tells, touched}
 pub use Rattle.mm_world.specs.Seat.{extended_by, IsFirst, StaysOn}
-pub use Rattle.mm_slots.specs.Slot.{acted, acted_by, Acts, Asks, beginning, begun, Call, Closes, event_by, first_slot, Flight, flying, folded}
-pub use Rattle.mm_slots.specs.Slot.{joined, Loses, merely, Met, outcome_in, plays, Slot, slot_instance, so_far, stepped}
-pub use Rattle.mm_slots.specs.Slot.{stop_at, Turned, turned, unpowered, Wants}
+pub use Rattle.mm_slots.specs.Tenant.{acted, acted_by, Acts, Asks, beginning, begun, Call, Closes, event_by, first_tenant, Flight, flying, folded}
+pub use Rattle.mm_slots.specs.Tenant.{joined, Loses, merely, Met, outcome_in, plays, Tenant, tenant_instance, so_far, stepped}
+pub use Rattle.mm_slots.specs.Tenant.{stop_at, Turned, turned, unpowered, Wants}
 pub use Rattle.mm_slots.specs.Slots.{all_cycled, selected_of, Slots}
 pub use Rattle.mm_slots.specs.Stage.{kept_in, playing, Running}
 pub use Rattle.mm_slots.specs.Table.{after_event, after_events, Answer, answers, answers_to, by_place, cuts_all, first_row, first_rows}

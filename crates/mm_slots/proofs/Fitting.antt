@@ -4,7 +4,7 @@ use Rattle.std.specs.List.{sum_by}
 use Rattle.mm_slots.proofs.Below.{◌-◌, length, arith, vec_capacity, most_members, Variant, Basic, Opt, Meaning}
 use Rattle.mm_slots.proofs.Below.{IsLawful, meaning_of, Standing, Instance, Digests, instance_by, Event, Header, Reply, rising_from}
 use Rattle.mm_slots.proofs.Below.{Outcome, few_committed, printable, Called, Came, digest_in, flag_in, value_in, Stands, IsQuiet}
-use Rattle.mm_slots.proofs.Below.{digests_are, counting, CodeFlight, Said, Replied, Parts, IsSayable, Slot, slot_instance, outcome_in}
+use Rattle.mm_slots.proofs.Below.{digests_are, counting, CodeFlight, Said, Replied, Parts, IsSayable, Tenant, tenant_instance, outcome_in}
 use Rattle.mm_slots.proofs.Below.{plays, digests_in, slot_in, flight_in, instance_in, FitsFlight, Fits, ComesTo, flown, HasRegister}
 use Rattle.mm_slots.proofs.Below.{within_64, EndsIn, next_plan, Bool, true, cond, option_map_or, Meddle, Quiet, Plan}
 use Rattle.mm_slots.proofs.Below.{quiet_plan, made, plan_by, is_nothing, Going, Flight, Turned, merely, flying, so_far}
@@ -52,7 +52,7 @@ idle slot none f = subst (FitsWith slot) none f
 pub same_instance : (slot slot' : Parts) → slot'.seat.header ≡ slot.seat.header → slot'.number ≡ slot.number
     → instance_in slot' ≡ instance_in slot
 same_instance slot slot' h n =
-    ap (λ (x : Header). slot_instance x slot'.number) h ∙ ap (λ (x : ℕ). slot_instance slot.seat.header x) n
+    ap (λ (x : Header). tenant_instance x slot'.number) h ∙ ap (λ (x : ℕ). tenant_instance slot.seat.header x) n
 
 -- a slot with no call in flight that kept all it had goes on, and stands where its platform does
 pub rests : (slot slot' : Parts) (d : Digests) → slot'.seat.header ≡ slot.seat.header → slot'.number ≡ slot.number
@@ -69,7 +69,7 @@ pub meaning_by : (variant : Variant) (meaning : Meaning) (key barrier : List ℕ
 meaning_by Basic meaning key barrier = refl
 meaning_by Opt meaning key barrier = refl
 
-pub printable_in : (slot : Parts) (s : Slot) (event : Event) → IsPrintable (outcome_in (instance_in slot) s event).reply
+pub printable_in : (slot : Parts) (s : Tenant) (event : Event) → IsPrintable (outcome_in (instance_in slot) s event).reply
 printable_in slot s event =
     let key = rising_from slot.number in
     let barrier = rising_from (128 + slot.number) in

@@ -5,7 +5,7 @@ use Rattle.mm_slots.proofs.Below.{arith, slice_get, slice_set, most_events, most
 use Rattle.mm_slots.proofs.Below.{Batch, One, Quiet, Instance, by_digests, all_made, course_of, few_committed, issues_one, count_none}
 use Rattle.mm_slots.proofs.Below.{stop_behind, offered_bytes, is_long, Offer, Event, Ask, Extend, Header}
 use Rattle.mm_slots.proofs.Below.{SlotEvent, Power, At, Action, IsWithin, KeepsAll, Row, row_after, by_place}
-use Rattle.mm_slots.proofs.Below.{first_row, first_rows, after_event, met_in, cuts_all, EventWants, WantsAt, Slot, Flight, Turned, Met, Acts, Loses}
+use Rattle.mm_slots.proofs.Below.{first_row, first_rows, after_event, met_in, cuts_all, EventWants, WantsAt, Tenant, Flight, Turned, Met, Acts, Loses}
 use Rattle.mm_slots.proofs.Below.{instance_of, Wants, acted_by, begun, event_by, flying, joined, beginning, merely, plays, so_far}
 use Rattle.mm_slots.proofs.Below.{Going, is_nothing, outcome_in}
 use Rattle.mm_slots.proofs.Below.{stop_at, turned, Begun, Call, Asks, Closes}
@@ -17,28 +17,28 @@ use Rattle.mm_call.specs.Courses.{seen_in}
 use Rattle.mm_call.specs.WalkLaws.{seen_none}
 use Rattle.mm_schedule.specs.Events.{Power as PowerLoss}
 use Rattle.mm_slots.specs.declared.event.Action.TheVariants as action
-use Rattle.mm_slots.specs.Slot.{FlightWants, StepWants}
+use Rattle.mm_slots.specs.Tenant.{FlightWants, StepWants}
 
 -- what one thing that a slot meets adds to its counts
-record Grows (old new : Slot) : Type 0 where
+record Grows (old new : Tenant) : Type 0 where
   few : new.digests.count ≤ old.digests.count + most_members
   short : length new.issued ≤ length old.issued + 1
 
-plays_grows : (i : Instance) (slot : Slot) (event : Event) → Grows slot (plays i slot event).slot
+plays_grows : (i : Instance) (slot : Tenant) (event : Event) → Grows slot (plays i slot event).slot
 plays_grows i slot event = record {
   few = few_committed i slot.digests slot.issued event;
   short = issues_one i slot.digests slot.issued event;
 }
 
-flying_grows : (slot : Slot) (flight : Option Flight) → Grows slot (record slot { flight = flight })
+flying_grows : (slot : Tenant) (flight : Option Flight) → Grows slot (record slot { flight = flight })
 flying_grows slot flight = record { few = omega arith; short = omega arith }
 
-either_grows : (slot : Slot) (b : Bool) (one other : Turned) → Grows slot one.slot → Grows slot other.slot
+either_grows : (slot : Tenant) (b : Bool) (one other : Turned) → Grows slot one.slot → Grows slot other.slot
     → Grows slot (cond b one other).slot
 either_grows slot true one other g h = g
 either_grows slot false one other g h = h
 
-begun_grows : (i : Instance) (slot : Slot) (offer : Offer) (batch : Batch) (found : Option (List ℕ))
+begun_grows : (i : Instance) (slot : Tenant) (offer : Offer) (batch : Batch) (found : Option (List ℕ))
     → Grows slot (begun i slot offer batch found).slot
 begun_grows i slot offer batch None = plays_grows i slot (Ask [] Quiet offer batch)
 begun_grows i slot offer batch (Some bytes) =
@@ -46,7 +46,7 @@ begun_grows i slot offer batch (Some bytes) =
     (merely (flying slot (beginning (Asks offer batch))) Begun)
     (plays_grows i slot (Ask [] Quiet offer batch)) (flying_grows slot (Some (beginning (Asks offer batch))))
 
-acted_grows : (i : Instance) (slot : Slot) (flight : Option Flight) (what : Action) → Grows slot (acted_by i slot flight what).slot
+acted_grows : (i : Instance) (slot : Tenant) (flight : Option Flight) (what : Action) → Grows slot (acted_by i slot flight what).slot
 acted_grows i slot None (action.Begin offer request) = begun_grows i slot offer (One request) (offered_bytes slot.issued offer)
 acted_grows i slot None action.Close = flying_grows slot (Some (beginning Closes))
 acted_grows i slot None action.Step = flying_grows slot slot.flight
@@ -62,13 +62,13 @@ acted_grows i slot (Some flight) (action.Break how) =
     plays_grows i slot (event_by flight.call flight.meddles (stop_at how flight.next))
 acted_grows i slot (Some flight) (action.Extend value) = flying_grows slot (Some (joined flight value.bytes))
 
-turned_grows : (i : Instance) (slot : Slot) (met : Met) → Grows slot (turned i slot met).slot
+turned_grows : (i : Instance) (slot : Tenant) (met : Met) → Grows slot (turned i slot met).slot
 turned_grows i slot (Acts what) = acted_grows i slot slot.flight what
 turned_grows i slot Loses = plays_grows i slot PowerLoss
 
 -- where memory was wanting
 
-step_wants : (i : Instance) (flight : Flight) (call : Call) (old new : Slot) → StepWants i flight call old new → Grows old new
+step_wants : (i : Instance) (flight : Flight) (call : Call) (old new : Tenant) → StepWants i flight call old new → Grows old new
 step_wants i flight (Asks offer batch) old new w =
     let moves = seen_in (course_of (stop_behind flight.next) flight.meddles).fates (reading_steps i.variant) 1 in
     let read : (all_made (by_digests i) old.digests moves).count ≡ old.digests.count =
@@ -77,11 +77,11 @@ step_wants i flight (Asks offer batch) old new w =
     subst (Grows old) (sym w) (record { few = omega (arith, read); short = omega arith })
 step_wants i flight Closes old new w = absurd w
 
-flight_wants : (i : Instance) (flight : Option Flight) (old new : Slot) → FlightWants i flight old new → Grows old new
+flight_wants : (i : Instance) (flight : Option Flight) (old new : Tenant) → FlightWants i flight old new → Grows old new
 flight_wants i None old new w = absurd w
 flight_wants i (Some flight) old new w = step_wants i flight flight.call old new w
 
-wants_grows : (i : Instance) (what : Action) (old new : Slot) → Wants i what old new → Grows old new
+wants_grows : (i : Instance) (what : Action) (old new : Tenant) → Wants i what old new → Grows old new
 wants_grows i (action.Begin offer request) old new w = subst (Grows old) (sym w) (flying_grows old old.flight)
 wants_grows i (action.Extend value) old new w = subst (Grows old) (sym w) (flying_grows old old.flight)
 wants_grows i action.Step old new w = flight_wants i old.flight old new w
@@ -90,7 +90,7 @@ wants_grows i (action.Break how) old new w = absurd w
 
 -- the counts of all slots, behind one more event
 
-grows_within : (events : ℕ) (row : Row) (slot : Slot) → IsWithin events row → Grows row.slot slot
+grows_within : (events : ℕ) (row : Row) (slot : Tenant) → IsWithin events row → Grows row.slot slot
     → IsWithin (events + 1) (record row { slot = slot })
 grows_within events row slot w g = record { few = omega (arith, w.few, g.few); short = omega (arith, w.short, g.short) }
 

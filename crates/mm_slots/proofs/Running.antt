@@ -2,8 +2,8 @@
 use Rattle.mm_slots.proofs.Below.{◌≡◌, ◌∙◌, ℕ, Bool, true, false, List, [], ◌∷◌, ◌++◌, Option, None, Some, refl, sym, ap, subst}
 use Rattle.mm_slots.proofs.Below.{Variant, Basic, Opt, Batch, One, Meaning, Instance, first_history, requests_of, is_long, Digests}
 use Rattle.mm_slots.proofs.Below.{by_digests, instance_by, Event, Offer, Runs, Followed, followed, expected, replies_by_digests}
-use Rattle.mm_slots.proofs.Below.{offered_bytes, is_nothing, Action, Slot, Flight, Turned, Met, Acts, Loses, turned, acted_by, begun}
-use Rattle.mm_slots.proofs.Below.{stepped, outcome_in, so_far, folded, first_slot, SlotRuns, SlotsRun, ◌+◌, ap₂, if◌then◌else◌}
+use Rattle.mm_slots.proofs.Below.{offered_bytes, is_nothing, Action, Tenant, Flight, Turned, Met, Acts, Loses, turned, acted_by, begun}
+use Rattle.mm_slots.proofs.Below.{stepped, outcome_in, so_far, folded, first_tenant, SlotRuns, SlotsRun, ◌+◌, ap₂, if◌then◌else◌}
 use Rattle.mm_slots.proofs.Alone.{followed_by}
 use Rattle.mm_slots.proofs.Below.{flat_map, flat_map-append, Ask, Reply, Begun, Going, Asks, beginning, flying, merely, plays}
 use Rattle.mm_slots.specs.declared.event.Action.TheVariants as action
@@ -12,11 +12,11 @@ use Rattle.mm_run.specs.Premises.{IsClearRun, IsGenuineRun}
 use Rattle.mm_run.specs.Laws.{AgreesThroughout, BasicIsExpected, OptIsExpected, ExpectedRuns, SchedulesGoOn, continued}
 use Rattle.mm_slots.specs.Laws.{SlotsTellReplies, said_to_call, to_call}
 
-abbrev told_from : Instance → Slot → List Event → Followed Digests
+abbrev told_from : Instance → Tenant → List Event → Followed Digests
 told_from i slot events = followed i (by_digests i) slot.digests slot.issued events
 
 -- The events that were completed lead by digests to where the slot stands, with these replies.
-record Completes (i : Instance) (slot : Slot) (it : Turned) : Type 0 where
+record Completes (i : Instance) (slot : Tenant) (it : Turned) : Type 0 where
   state : (told_from i slot it.events).state ≡ it.slot.digests
   issued : (told_from i slot it.events).issued ≡ it.slot.issued
   replies : (told_from i slot it.events).replies ≡ it.replies
@@ -25,7 +25,7 @@ by_test : (P : Turned → Type 0) (test : Bool) (one other : Turned) → P one �
 by_test P true one other first second = first
 by_test P false one other first second = second
 
-begun_by : (P : Turned → Type 0) (i : Instance) (slot : Slot) (offer : Offer) (batch : Batch) (bytes : Option (List ℕ))
+begun_by : (P : Turned → Type 0) (i : Instance) (slot : Tenant) (offer : Offer) (batch : Batch) (bytes : Option (List ℕ))
     → P (plays i slot (Ask [] stop.Quiet offer batch)) → P (merely (flying slot (beginning (Asks offer batch))) Begun)
     → P (begun i slot offer batch bytes)
 begun_by P i slot offer batch None refuses begins = refuses
@@ -33,14 +33,14 @@ begun_by P i slot offer batch (Some bytes) refuses begins =
     by_test P (is_long batch) (plays i slot (Ask [] stop.Quiet offer batch)) (merely (flying slot (beginning (Asks offer batch))) Begun)
     refuses begins
 
-stepped_by : (P : Turned → Type 0) (i : Instance) (slot : Slot) (flight : Flight)
+stepped_by : (P : Turned → Type 0) (i : Instance) (slot : Tenant) (flight : Flight)
     → P (merely (flying slot (record flight { next = flight.next + 1 })) (Going (flight.next + 1))) → P (plays i slot (so_far flight))
     → P (stepped i slot flight)
 stepped_by P i slot flight =
     by_test P (is_nothing (outcome_in i slot (so_far flight)).reply)
     (merely (flying slot (record flight { next = flight.next + 1 })) (Going (flight.next + 1))) (plays i slot (so_far flight))
 
-action_completes : (i : Instance) (slot : Slot) (flight : Option Flight) (what : Action) → Completes i slot (acted_by i slot flight what)
+action_completes : (i : Instance) (slot : Tenant) (flight : Option Flight) (what : Action) → Completes i slot (acted_by i slot flight what)
 action_completes i slot None (action.Begin offer request) =
     begun_by (Completes i slot) i slot offer (One request) (offered_bytes slot.issued offer)
     (record { state = refl; issued = refl; replies = refl }) (record { state = refl; issued = refl; replies = refl })
@@ -48,11 +48,11 @@ action_completes i slot (Some flight) action.Step = stepped_by (Completes i slot
     (record { state = refl; issued = refl; replies = refl }) (record { state = refl; issued = refl; replies = refl })
 action_completes i slot _ _ = record { state = refl; issued = refl; replies = refl }
 
-met_completes : (i : Instance) (slot : Slot) (met : Met) → Completes i slot (turned i slot met)
+met_completes : (i : Instance) (slot : Tenant) (met : Met) → Completes i slot (turned i slot met)
 met_completes i slot (Acts what) = action_completes i slot slot.flight what
 met_completes i slot Loses = record { state = refl; issued = refl; replies = refl }
 
-completes_on : SchedulesGoOn → (i : Instance) (slot : Slot) (first rest : Turned) → Completes i slot first → Completes i first.slot rest
+completes_on : SchedulesGoOn → (i : Instance) (slot : Tenant) (first rest : Turned) → Completes i slot first → Completes i first.slot rest
     → Completes i slot (followed_by first rest)
 completes_on law i slot first rest c r =
     let f = told_from i slot first.events in
@@ -70,7 +70,7 @@ completes_on law i slot first rest c r =
           ∙ ap (λ rs. first.replies ++ rs) r.replies;
     }
 
-completes : SchedulesGoOn → (i : Instance) (slot : Slot) (mets : List Met) → Completes i slot (folded i slot mets)
+completes : SchedulesGoOn → (i : Instance) (slot : Tenant) (mets : List Met) → Completes i slot (folded i slot mets)
 completes law i slot [] = record { state = refl; issued = refl; replies = refl }
 completes law i slot (met ∷ more) =
     let t = turned i slot met in
@@ -83,7 +83,7 @@ agrees : BasicIsExpected → OptIsExpected → (variant : Variant) (meaning : Me
 agrees basic opt Basic meaning key barrier events clear genuine = basic meaning key events clear genuine
 agrees basic opt Opt meaning key barrier events clear genuine = opt meaning key barrier events clear genuine
 
-slot_runs : (runs : ExpectedRuns) (i : Instance) (it : Turned) → Completes i (first_slot i) it
+slot_runs : (runs : ExpectedRuns) (i : Instance) (it : Turned) → Completes i (first_tenant i) it
     → AgreesThroughout i (expected i it.events) (replies_by_digests i it.events) → SlotRuns i it
 slot_runs runs i it c a =
     let requests = requests_of (expected i it.events).state.batches in
@@ -99,19 +99,19 @@ slot_runs runs i it c a =
 pub slots_run : BasicIsExpected → OptIsExpected → ExpectedRuns → SchedulesGoOn → SlotsRun
 slots_run basic opt runs law variant meaning key barrier mets = λ clear genuine.
     let i = instance_by variant meaning key barrier in
-    let it = folded i (first_slot i) mets in
-    slot_runs runs i it (completes law i (first_slot i) mets) (agrees basic opt variant meaning key barrier it.events clear genuine)
+    let it = folded i (first_tenant i) mets in
+    slot_runs runs i it (completes law i (first_tenant i) mets) (agrees basic opt variant meaning key barrier it.events clear genuine)
 
 abbrev TellsReplies : Turned → Type 0
 TellsReplies it = flat_map said_to_call it.said ≡ flat_map to_call it.replies
 
-acted_tells : (i : Instance) (slot : Slot) (flight : Option Flight) (what : Action) → TellsReplies (acted_by i slot flight what)
+acted_tells : (i : Instance) (slot : Tenant) (flight : Option Flight) (what : Action) → TellsReplies (acted_by i slot flight what)
 acted_tells i slot None (action.Begin offer request) =
     begun_by TellsReplies i slot offer (One request) (offered_bytes slot.issued offer) refl refl
 acted_tells i slot (Some flight) action.Step = stepped_by TellsReplies i slot flight refl refl
 acted_tells i slot _ _ = refl
 
-turned_tells : (i : Instance) (slot : Slot) (met : Met) → TellsReplies (turned i slot met)
+turned_tells : (i : Instance) (slot : Tenant) (met : Met) → TellsReplies (turned i slot met)
 turned_tells i slot (Acts what) = acted_tells i slot slot.flight what
 turned_tells i slot Loses = refl
 

@@ -1,11 +1,11 @@
 -- What the parts of a slot come to, as contracts see the slot.
 use Rattle.mm_slots.proofs.Below.{◌≡◌, [], ◌∷◌, Result, Ok, Err, IfOk, OnErr, ◌<◌, ◌^◌, refl, sym, subst, Action, Said, Parts, Row}
-use Rattle.mm_slots.proofs.Below.{row_after, Slot, Loses, acted, slot_in, instance_in, row_in, Fits, GoesOn, ComesTo, LacksIn, LosesIn}
+use Rattle.mm_slots.proofs.Below.{row_after, Tenant, Loses, acted, slot_in, instance_in, row_in, Fits, GoesOn, ComesTo, LacksIn, LosesIn}
 use Rattle.mm_slots.proofs.Below.{ActsAs, LacksAs, CanCount}
 use Rattle.mm_base.specs.declared.fault.Memory.{Memory}
 
 -- the row of a slot that went on
-row_on : (old new : Parts) (s : Slot) → GoesOn old new → slot_in new ≡ s → row_in new ≡ record (row_in old) { slot = s }
+row_on : (old new : Parts) (s : Tenant) → GoesOn old new → slot_in new ≡ s → row_in new ≡ record (row_in old) { slot = s }
 row_on old new s g stands = λ j. record { header = g.header j; number = g.number j; slot = stands j }
 
 module _ (old new : Parts) (row : Row) (is : row_in old ≡ row) (what : Action) where

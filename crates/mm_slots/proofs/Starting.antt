@@ -3,7 +3,7 @@ use Rattle.mm_slots.proofs.Below.{◌≡◌, ◌∙◌, ◌+◌, ◌<◌, ℕ, L
 use Rattle.mm_slots.proofs.Below.{length-take-le, take_more, next_plan, Standing, first_history, cell_of}
 use Rattle.mm_slots.proofs.Below.{cell_spelling, meaning_of, first_digests, register_reads, Header, IsQuiet, Stands, stands_new, Parts}
 use Rattle.mm_slots.proofs.Below.{IsFirst, digests_in, flight_in, instance_in, Fits, HasRegister, row_in}
-use Rattle.mm_slots.proofs.Below.{slot_instance, by_place, first_row, first_rows, Row}
+use Rattle.mm_slots.proofs.Below.{tenant_instance, by_place, first_row, first_rows, Row}
 use Rattle.std.proofs.lemmas.List.FromFn.{length-range_with_len}
 use Rattle.mm_digest.specs.Messages.{zero_bytes}
 use Rattle.mm_run.specs.Held.{rising_from}
@@ -16,25 +16,25 @@ length-rising n = length-range_with_len n 32
 -- a slot over a platform that was provisioned with its key and barrier
 module _ (header : Header) (slot : Parts) (f : IsFirst header (rising_from slot.number) (rising_from (128 + slot.number)) slot.seat)
     (register : slot.register.bytes ≡ zero_bytes) (none : slot.flight ≡ None) where
-  stands_there : Stands (instance_in slot) slot.seat.platform (first_digests (slot_instance header slot.number))
+  stands_there : Stands (instance_in slot) slot.seat.platform (first_digests (tenant_instance header slot.number))
   stands_there =
-      let i = slot_instance header slot.number in
+      let i = tenant_instance header slot.number in
       let cell = cell_spelling (cell_of i first_history) in
       let new = stands_new header.variant (meaning_of header.«module») (rising_from slot.number) (rising_from (128 + slot.number)) cell
       (length-rising slot.number) (length-rising (128 + slot.number)) refl in
       let stands = subst (λ (x : Standing). Stands i x (first_digests i)) (sym f.platform) new in
-      subst (λ (h : Header). Stands (slot_instance h slot.number) slot.seat.platform (first_digests i)) (sym f.headed) stands
+      subst (λ (h : Header). Stands (tenant_instance h slot.number) slot.seat.platform (first_digests i)) (sym f.headed) stands
 
   has_register : HasRegister slot
   has_register = ap register_reads f.platform ∙ ap Some (sym register)
 
   pub fits_there : Fits slot
-  fits_there = settled slot (first_digests (slot_instance header slot.number)) none stands_there
+  fits_there = settled slot (first_digests (tenant_instance header slot.number)) none stands_there
       (subst IsQuiet (sym f.platform) (record { is_on = refl; plan = refl })) has_register
 
   pub row_there : row_in slot ≡ first_row slot.number header
   row_there =
-      let d = first_digests (slot_instance header slot.number) in
+      let d = first_digests (tenant_instance header slot.number) in
       let digests : digests_in slot ≡ d = mine_are slot d stands_there has_register ∙ (λ j. record d { count = f.committed j }) in
       λ j. record {
         header = f.headed j;

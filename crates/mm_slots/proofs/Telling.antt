@@ -15,7 +15,7 @@ use Rattle.mm_schedule.specs.Events.{Event}
 use Rattle.std.proofs.Common.{append_assoc, inl, inr}
 use Rattle.mm_slots.specs.Headline.{AreSlotRuns, IsRunOfSlot, IsSlotRun, slotted}
 use Rattle.mm_slots.specs.Laws.{PremisesGiveSlotRuns, SlotsGoOn}
-use Rattle.mm_slots.specs.Slot.{slot_after, slot_instance}
+use Rattle.mm_slots.specs.Tenant.{tenant_after, tenant_instance}
 use Rattle.mm_slots.specs.Table.{after_event, answers_to}
 use Rattle.std.proofs.lemmas.List.{append-nil}
 use Rattle.mm_slots.proofs.Below.{Answer, ◌+◌}
@@ -39,13 +39,13 @@ RunsAreDecided = (variant : Variant) (meaning : Meaning) (key barrier : List ℕ
 
 -- the calls of a slot that are over are one run, where the premises hold
 slot_run : SlotsRun → (headers : List Header) (events : List SlotEvent) (number : ℕ) (header : Header)
-    → (let it = slot_after header number (met_by number (first_rows headers) events) in
-    IsClearRun (slot_instance header number) it.events → IsGenuineRun (slot_instance header number) it.events
+    → (let it = tenant_after header number (met_by number (first_rows headers) events) in
+    IsClearRun (tenant_instance header number) it.events → IsGenuineRun (tenant_instance header number) it.events
     → IsRunOfSlot number header it)
 slot_run law headers events number header clear genuine =
     let key = rising_from number in
     let barrier = rising_from (128 + number) in
-    let it = slot_after header number (met_by number (first_rows headers) events) in
+    let it = tenant_after header number (met_by number (first_rows headers) events) in
     promised_run header.variant header.«module» key barrier it.events
     (record { replies = it.replies; committed = it.slot.digests.count; issued = it.slot.issued })
     (law header.variant (meaning_of header.«module») key barrier (met_by number (first_rows headers) events) clear genuine)
@@ -53,11 +53,11 @@ slot_run law headers events number header clear genuine =
 -- each slot's answers are its own, and its calls that are over are one run or give evidence
 slot_told : SlotsRun → RunsAreDecided → (headers : List Header) (events : List SlotEvent) (number : ℕ) (header : Header)
     → slice_get headers number ≡ Some header
-    → IsSlotRun number header (answers (first_rows headers) events) (slot_after header number (met_by number (first_rows headers) events))
+    → IsSlotRun number header (answers (first_rows headers) events) (tenant_after header number (met_by number (first_rows headers) events))
 slot_told law decided headers events number header is = record {
   own = (alone (first_rows headers) events number (first_row number header) (first_at_place headers number header is)).said;
   unless_evidence =
-      let it = slot_after header number (met_by number (first_rows headers) events) in
+      let it = tenant_after header number (met_by number (first_rows headers) events) in
       let d = decided header.variant (meaning_of header.«module») (rising_from number) (rising_from (128 + number)) it.events in
       elim d.decided [ inl p ↦ inl (slot_run law headers events number header p.0 p.1) | inr e ↦ inr e ];
 }
@@ -72,7 +72,7 @@ are_slot_runs law decided headers events front later split =
 
 pub premises_give : RunsAreDecided → PremisesGiveSlotRuns
 premises_give decided headers events shown runs front later is number header at clear genuine =
-    let it = slot_after header number (met_by number (first_rows headers) front) in
+    let it = tenant_after header number (met_by number (first_rows headers) front) in
     let d = decided header.variant (meaning_of header.«module») (rising_from number) (rising_from (128 + number)) it.events in
     elim (((runs front later is).1 number header at).unless_evidence) [
       | inl run ↦ run

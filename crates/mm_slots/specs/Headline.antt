@@ -8,7 +8,7 @@ use Rattle.mm_replay.specs.Headline.{IsPromisedRun}
 use Rattle.mm_slots.specs.declared.event.SlotEvent.{SlotEvent}
 use Rattle.mm_slots.specs.Answers.{answers_text, end_lines}
 use Rattle.mm_slots.specs.Grammar.{event_at}
-use Rattle.mm_slots.specs.Slot.{Turned, slot_instance, slot_after}
+use Rattle.mm_slots.specs.Tenant.{Turned, tenant_instance, tenant_after}
 use Rattle.mm_slots.specs.Stage.{Opening, AtFirst, slots_head}
 use Rattle.mm_slots.specs.Table.{Answer, Row, first_rows, after_events, answers, met_by, said_for}
 
@@ -28,7 +28,7 @@ slotted = record {
 -- the calls of a slot that are over are one run of its module
 abbrev pub IsRunOfSlot : ℕ → Header → Turned → Type 0
 IsRunOfSlot number header it =
-    IsPromisedRun (slot_instance header number) header.«module» it.events (record {
+    IsPromisedRun (tenant_instance header number) header.«module» it.events (record {
       replies = it.replies;
       committed = it.slot.digests.count;
       issued = it.slot.issued;
@@ -42,7 +42,7 @@ pub record IsSlotRun (number : ℕ) (header : Header) (told : List Answer) (it :
   where
     pub own : said_for number told ≡ it.said
     pub unless_evidence : IsRunOfSlot number header it
-        ⊎ HasEvidence (slot_instance header number) it.events
+        ⊎ HasEvidence (tenant_instance header number) it.events
 
 -- The headline, of each first part of the events, and of each slot. A slot's fold is over what it
 -- meets itself, and knows no other slot.
@@ -52,4 +52,4 @@ AreSlotRuns headers events shown = (front later : List SlotEvent) → events ≡
     → (shown front ≡ (answers (first_rows headers) front, after_events (first_rows headers) front))
     × ((number : ℕ) (header : Header) → slice_get headers number ≡ Some header
     → IsSlotRun number header (shown front).0
-    (slot_after header number (met_by number (first_rows headers) front)))
+    (tenant_after header number (met_by number (first_rows headers) front)))

@@ -25,7 +25,7 @@ use Rattle.mm_slots.specs.declared.said.Said.TheVariants.{Replied}
 use Rattle.mm_slots.specs.Answers.{IsSayable}
 use Rattle.mm_world.specs.Seat.{EndsCall}
 use Rattle.mm_slots.specs.declared.event.Action.{Action}
-use Rattle.mm_slots.specs.Slot.{Slot, Flight, Call, Asks, Closes, Turned, Wants, slot_instance, unpowered}
+use Rattle.mm_slots.specs.Tenant.{Tenant, Flight, Call, Asks, Closes, Turned, Wants, tenant_instance, unpowered}
 use Rattle.mm_slots.specs.Table.{Row}
 
 -- what a call in flight asks
@@ -49,7 +49,7 @@ digests_in parts = record {
   count = parts.seat.committed;
 }
 
-abbrev pub slot_in : Parts → Slot
+abbrev pub slot_in : Parts → Tenant
 slot_in parts = record {
   digests = digests_in parts;
   issued = parts.seat.issued.items;
@@ -57,7 +57,7 @@ slot_in parts = record {
 }
 
 abbrev pub instance_in : Parts → Instance
-instance_in parts = slot_instance parts.seat.header parts.number
+instance_in parts = tenant_instance parts.seat.header parts.number
 
 -- the slot with its header and number
 abbrev pub row_in : Parts → Row
@@ -92,7 +92,7 @@ pub record FitsCall (header : Header) (number : ℕ) (d : Digests) (issued : Lis
     (capacity : ℕ) (standing : Standing)
     (flight : CodeFlight) : Type 0 where
   pub from : Standing
-  pub flies : Flies header (slot_instance header number) d from flight standing
+  pub flies : Flies header (tenant_instance header number) d from flight standing
       (next_plan standing).meddles ((next_plan standing).at + 1)
   pub may : MayGoOn issued capacity flight
 
@@ -100,7 +100,7 @@ pub record FitsCall (header : Header) (number : ℕ) (d : Digests) (issued : Lis
 abbrev pub FitsFlight : Header → ℕ → Digests → List (List ℕ) → ℕ → Standing → Option CodeFlight
     → Type 0
 FitsFlight header number d issued capacity standing None =
-    Stands (slot_instance header number) standing d × IsQuiet standing
+    Stands (tenant_instance header number) standing d × IsQuiet standing
 FitsFlight header number d issued capacity standing (Some flight) =
     FitsCall header number d issued capacity standing flight
 

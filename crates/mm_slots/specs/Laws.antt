@@ -13,7 +13,7 @@ use Rattle.mm_run.specs.Premises.{IsClearRun, IsGenuineRun}
 use Rattle.mm_slots.specs.declared.event.SlotEvent.{SlotEvent}
 use Rattle.mm_slots.specs.declared.said.Said.{Said}
 use Rattle.mm_slots.specs.declared.said.Said.TheVariants.{Replied}
-use Rattle.mm_slots.specs.Slot.{Slot, Turned, Met, folded, first_slot, slot_after, slot_instance}
+use Rattle.mm_slots.specs.Tenant.{Tenant, Turned, Met, folded, first_tenant, tenant_after, tenant_instance}
 use Rattle.mm_slots.specs.Table.{Answer, Row, instance_of, row_after, after_events, answers, first_rows, met_by, said_for}
 use Rattle.mm_slots.specs.Headline.{AreSlotRuns, IsRunOfSlot}
 
@@ -43,7 +43,7 @@ SlotRuns i it = IsOneRun i it.events it.replies it.slot.digests.count it.slot.is
 abbrev pub SlotsRun : Type 0
 SlotsRun = (variant : Variant) (meaning : Meaning) (key barrier : List ℕ) (mets : List Met) →
     let i = instance_by variant meaning key barrier in
-    let it = folded i (first_slot i) mets in
+    let it = folded i (first_tenant i) mets in
     IsClearRun i it.events → IsGenuineRun i it.events → SlotRuns i it
 
 -- So the headline says of each slot, and of each first part of the events: a premise that breaks
@@ -54,9 +54,9 @@ PremisesGiveSlotRuns =
     (shown : List SlotEvent → List Answer × List Row) → AreSlotRuns headers events shown
     → (front later : List SlotEvent) → events ≡ front ++ later
     → (number : ℕ) (header : Header) → slice_get headers number ≡ Some header →
-    let it = slot_after header number (met_by number (first_rows headers) front) in
-    IsClearRun (slot_instance header number) it.events
-    → IsGenuineRun (slot_instance header number) it.events → IsRunOfSlot number header it
+    let it = tenant_after header number (met_by number (first_rows headers) front) in
+    IsClearRun (tenant_instance header number) it.events
+    → IsGenuineRun (tenant_instance header number) it.events → IsRunOfSlot number header it
 
 -- All that is shown is that of each first part of the events, and then of the rest.
 abbrev pub SlotsGoOn : Type 0
@@ -79,6 +79,6 @@ said_to_call _ = []
 
 -- The replies to calls that are said for a slot are those that its fold gives, in their order.
 abbrev pub SlotsTellReplies : Type 0
-SlotsTellReplies = (i : Instance) (slot : Slot) (mets : List Met)
+SlotsTellReplies = (i : Instance) (slot : Tenant) (mets : List Met)
     → flat_map said_to_call (folded i slot mets).said ≡ flat_map to_call
     (folded i slot mets).replies

@@ -1,6 +1,6 @@
 pub mod Slots
 pub mod Lending
-pub mod Slot
+pub mod Tenant
 pub mod Table
 pub mod Laws
 pub mod Grammar

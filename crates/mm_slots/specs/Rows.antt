@@ -7,7 +7,7 @@ use Rattle.mm_slots.specs.declared.event.SlotEvent.{SlotEvent}
 use Rattle.mm_slots.specs.declared.event.SlotEvent.TheVariants.{Power, At}
 use Rattle.mm_slots.specs.declared.said.Said.{Said}
 use Rattle.mm_slots.specs.Answers.{IsSayable}
-use Rattle.mm_slots.specs.Slot.{Met, Acts, Loses, Wants, acted}
+use Rattle.mm_slots.specs.Tenant.{Met, Acts, Loses, Wants, acted}
 use Rattle.mm_slots.specs.Table.{Row, after_event, by_place, instance_of, row_after, said_at}
 
 -- Something happened in a slot, and this was said.

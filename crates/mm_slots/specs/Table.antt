@@ -10,17 +10,17 @@ use Rattle.mm_slots.specs.declared.event.Breaking.TheVariants as breaking
 use Rattle.mm_slots.specs.declared.event.SlotEvent.{SlotEvent}
 use Rattle.mm_slots.specs.declared.event.SlotEvent.TheVariants.{Power, At}
 use Rattle.mm_slots.specs.declared.said.Said.{Said}
-use Rattle.mm_slots.specs.Slot.{Slot, Flight, Wants, Met, Acts, Loses, acted, folded, slot_instance, first_slot}
+use Rattle.mm_slots.specs.Tenant.{Tenant, Flight, Wants, Met, Acts, Loses, acted, folded, tenant_instance, first_tenant}
 
 -- a slot, its number, and the header of the module in it
 pub record Row : Type 0 where
   pub header : Header
   pub number : ℕ
-  pub slot : Slot
+  pub slot : Tenant
 
 -- the instance in a slot
 abbrev pub instance_of : Row → Instance
-instance_of row = slot_instance row.header row.number
+instance_of row = tenant_instance row.header row.number
 
 -- a cut of a call in flight takes the power of all slots
 abbrev pub is_cut : Option Flight → Action → Bool
@@ -57,7 +57,7 @@ after_events rows (event ∷ events) = after_events (after_event rows event) eve
 -- Memory was wanting for what happened in the slot with this number. All others are as they were.
 pub record WantsAt (number : ℕ) (what : Action) (old new : List Row) : Type 0 where
   pub row : Row
-  pub slot : Slot
+  pub slot : Tenant
   pub was : slice_get old number ≡ Some row
   pub wants : Wants (instance_of row) what row.slot slot
   pub now : new ≡ slice_set old number (record row { slot = slot })
@@ -104,7 +104,7 @@ said_for number (Says other said ∷ answers) =
 -- the slots at first, by their header lines
 abbrev pub first_row : ℕ → Header → Row
 first_row number header =
-    record { header = header; number = number; slot = first_slot (slot_instance header number) }
+    record { header = header; number = number; slot = first_tenant (tenant_instance header number) }
 
 abbrev pub first_rows : List Header → List Row
 first_rows headers = by_place first_row 0 headers

@@ -37,7 +37,7 @@ impl Parts {
     ghost use Rattle.mm_run.specs.Offered.{offered_bytes};
     ghost use Rattle.mm_slots.specs.Held.{instance_in, slot_in, flown, Fits, ComesTo, LacksIn};
     ghost use Rattle.mm_slots.specs.declared.event.Action.{Action};
-    ghost use Rattle.mm_slots.specs.Slot.{acted};
+    ghost use Rattle.mm_slots.specs.Tenant.{acted};
 
     /// Begins a call that asks a request, where none is in flight.
     pub fn begin(&mut self, alloc: Global, offer: Offer, request: Bytes) -> Result<Said, Memory>

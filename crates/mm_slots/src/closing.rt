@@ -12,7 +12,7 @@ impl Parts {
     ghost use Rattle.std.specs.Prelude.{◌≡◌, ◌<◌, ◌^◌, None};
     ghost use Rattle.mm_slots.specs.Held.{instance_in, slot_in, flown, Fits, ComesTo};
     ghost use Rattle.mm_slots.specs.declared.event.Action.{Action};
-    ghost use Rattle.mm_slots.specs.Slot.{acted};
+    ghost use Rattle.mm_slots.specs.Tenant.{acted};
 
     /// Begins a checkpoint, where no call is in flight.
     pub fn begin_closing(&mut self) -> Said

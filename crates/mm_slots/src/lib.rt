@@ -19,8 +19,8 @@ mod read;
 mod report;
 mod rows;
 mod said;
-mod slot;
 mod stage;
+mod tenant;
 mod totals;
 mod whole;
 
@@ -34,6 +34,6 @@ pub use put::{put_answer, put_power, put_slot_end};
 pub use read::{read_first, read_slot_event};
 pub use report::SlotReport;
 pub use said::Said;
-pub use slot::Slot;
 pub use stage::SlotsStage;
+pub use tenant::Tenant;
 pub use whole::slots;

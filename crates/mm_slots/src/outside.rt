@@ -10,7 +10,7 @@ impl Parts {
     ghost use Rattle.std.specs.Prelude.{◌≡◌, None, IfOk, OnErr, IsSome};
     ghost use Rattle.mm_slots.specs.Held.{instance_in, slot_in, Fits, ComesTo, LacksIn, LosesIn};
     ghost use Rattle.mm_slots.specs.declared.event.Action.{Action};
-    ghost use Rattle.mm_slots.specs.Slot.{acted};
+    ghost use Rattle.mm_slots.specs.Tenant.{acted};
 
     /// Others extend the register: now, or just before the next step of the call in flight.
     pub fn extend(&mut self, value: &Digest) -> Result<Said, Memory>

@@ -1,7 +1,7 @@
 //! The parts of a slot: what they are, and what becomes of them.
 
 ghost use Rattle.std.specs.Prelude.{◌≡◌};
-ghost use Rattle.mm_slots.specs.Slot.{stop_at};
+ghost use Rattle.mm_slots.specs.Tenant.{stop_at};
 
 use crate::event::{Action, Breaking};
 use crate::flight::Flight;
@@ -36,7 +36,7 @@ pub fn stop_at(how: Breaking, step: u8) -> Stop
 impl Parts {
     ghost use Rattle.std.specs.Prelude.{◌≡◌, ◌<◌, ◌^◌, IfOk, OnErr, IsSome, vec_len, vec_capacity};
     ghost use Rattle.mm_slots.specs.Held.{instance_in, slot_in, Fits, ComesTo, LacksIn, EndsIn};
-    ghost use Rattle.mm_slots.specs.Slot.{acted};
+    ghost use Rattle.mm_slots.specs.Tenant.{acted};
 
     /// Lets something happen in the slot. After want of memory nothing has changed, but that a call in flight is over whose
     /// step it was, with nothing done but its reading steps.

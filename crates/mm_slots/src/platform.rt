@@ -32,7 +32,7 @@ impl SlotPlatform {
     ghost use Rattle.mm_slots.specs.Slots.{selected_of, standing_in, brought, failing, all_cycled};
     ghost use Rattle.mm_slots.specs.Lending.{LendsSlot};
 
-    /// A platform with these cells of 104 bytes each, one a slot: on, with empty registers and no faults. Slot 0 is
+    /// A platform with these cells of 104 bytes each, one a slot: on, with empty registers and no faults. Tenant 0 is
     /// selected.
     pub fn new(alloc: Global, cells: &[[u8; CELL_LENGTH]]) -> Result<SlotPlatform, Memory>
         requires some { 1 ≤ length cells.now }

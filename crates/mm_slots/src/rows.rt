@@ -5,18 +5,23 @@ ghost use Rattle.std.specs.List.{All};
 ghost use Rattle.mm_slots.specs.declared.event.SlotEvent.TheVariants.{Power, At};
 ghost use Rattle.mm_slots.specs.Answers.{answers_text};
 ghost use Rattle.mm_slots.specs.Rows.{ActsAt, CanCount, IsInside, Tells, only_at, one_loses, others_lose, touched};
-ghost use Rattle.mm_slots.specs.Slot.{Loses};
+ghost use Rattle.mm_slots.specs.Tenant.{Loses};
 ghost use Rattle.mm_slots.specs.Table.{EventWants, WantsAt, after_event, answers_to};
 
 use crate::event::{Action, SlotEvent};
 use crate::put::{put_answer, put_power};
 use crate::said::Said;
-use crate::slot::Slot;
+use crate::tenant::Tenant;
 use mm_base::{Bytes, Memory};
 use std::alloc::Global;
 
 // Lets something happen in the slot with this number. The others are as they were.
-fn act_at(alloc: Global, slots: &mut [Slot], number: usize, action: Action) -> Result<Said, Memory>
+fn act_at(
+    alloc: Global,
+    slots: &mut [Tenant],
+    number: usize,
+    action: Action,
+) -> Result<Said, Memory>
     requires inside { number < length slots.old }
     requires few { All CanCount slots.old }
     ensures ok { IfOk result (ActsAt number action slots.old slots.new) }
@@ -27,7 +32,7 @@ fn act_at(alloc: Global, slots: &mut [Slot], number: usize, action: Action) -> R
 }
 
 // The slot with this number loses its power. Its call in flight is over, and has changed nothing.
-fn lose_at(slots: &mut [Slot], number: usize)
+fn lose_at(slots: &mut [Tenant], number: usize)
     requires { number < length slots.old }
     ensures { slots.new ≡ touched (only_at number Loses) slots.old }
 {
@@ -36,7 +41,7 @@ fn lose_at(slots: &mut [Slot], number: usize)
 }
 
 // The slot with this number loses its power, if it isn't that one.
-fn lose_unless(slots: &mut [Slot], number: usize, but: usize)
+fn lose_unless(slots: &mut [Tenant], number: usize, but: usize)
     requires { number < length slots.old }
     ensures { slots.new ≡ touched (one_loses number but) slots.old }
 {
@@ -46,7 +51,7 @@ fn lose_unless(slots: &mut [Slot], number: usize, but: usize)
 }
 
 // All slots lose their power but the one with this number, if there is one.
-fn lose_all(slots: &mut [Slot], but: usize)
+fn lose_all(slots: &mut [Tenant], but: usize)
     ensures { slots.new ≡ touched (others_lose but) slots.old }
 {
     for number in 0..slots.len() {
@@ -55,7 +60,7 @@ fn lose_all(slots: &mut [Slot], but: usize)
 }
 
 // Where a call was cut, all slots lose their power but the one with this number.
-fn lose_if(slots: &mut [Slot], but: usize, is_cut: bool)
+fn lose_if(slots: &mut [Tenant], but: usize, is_cut: bool)
     ensures { slots.new ≡ touched (λ k. if is_cut then others_lose but k else []) slots.old }
 {
     if is_cut {
@@ -64,7 +69,7 @@ fn lose_if(slots: &mut [Slot], but: usize, is_cut: bool)
 }
 
 /// All slots lose their power. Their calls in flight are over, and have changed nothing.
-pub fn lose_power(slots: &mut [Slot])
+pub fn lose_power(slots: &mut [Tenant])
     ensures { slots.new ≡ after_event slots.old Power }
 {
     let none = slots.len();
@@ -73,7 +78,12 @@ pub fn lose_power(slots: &mut [Slot])
 
 /// Lets something happen in the slot with this number; where that cuts a call, all other slots lose their power. After
 /// want of memory the others are as they were.
-pub fn act(alloc: Global, slots: &mut [Slot], number: usize, action: Action) -> Result<Said, Memory>
+pub fn act(
+    alloc: Global,
+    slots: &mut [Tenant],
+    number: usize,
+    action: Action,
+) -> Result<Said, Memory>
     requires inside { number < length slots.old }
     requires few { All CanCount slots.old }
     ensures ok { IfOk result (Tells number action slots.old slots.new) }
@@ -91,7 +101,7 @@ pub fn act(alloc: Global, slots: &mut [Slot], number: usize, action: Action) -> 
 
 /// Follows an event, and answers it as text. Memory may be wanting for the event or, once that has happened, for the
 /// answer.
-pub fn follow(alloc: Global, slots: &mut [Slot], event: SlotEvent) -> Result<Bytes, Memory>
+pub fn follow(alloc: Global, slots: &mut [Tenant], event: SlotEvent) -> Result<Bytes, Memory>
     requires inside { IsInside (length slots.old) event }
     requires few { All CanCount slots.old }
     ensures stands { OnOk result (slots.new ≡ after_event slots.old event) }
@@ -104,7 +114,7 @@ pub fn follow(alloc: Global, slots: &mut [Slot], event: SlotEvent) -> Result<Byt
     }
 }
 
-fn follow_power(alloc: Global, slots: &mut [Slot]) -> Result<Bytes, Memory>
+fn follow_power(alloc: Global, slots: &mut [Tenant]) -> Result<Bytes, Memory>
     ensures stands { slots.new ≡ after_event slots.old Power }
     ensures answers { IfOk result (λ text. text ≡ answers_text (answers_to slots.old Power)) }
 {
@@ -118,7 +128,7 @@ fn follow_power(alloc: Global, slots: &mut [Slot]) -> Result<Bytes, Memory>
 
 fn follow_action(
     alloc: Global,
-    slots: &mut [Slot],
+    slots: &mut [Tenant],
     slot: u8,
     action: Action,
 ) -> Result<Bytes, Memory>

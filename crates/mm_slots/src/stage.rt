@@ -8,7 +8,7 @@ use crate::first::first_slots;
 use crate::read::read_slot_event;
 use crate::report::SlotReport;
 use crate::rows::follow;
-use crate::slot::Slot;
+use crate::tenant::Tenant;
 use crate::totals::{bytes_in, put_ends, requests_in, snapshots_in};
 use mm_base::{Bytes, Memory};
 use mm_play::{Refused, ReplyFault, Stage};
@@ -19,7 +19,7 @@ use std::marker::Model;
 /// Slots among their events. Contracts see what stands in each slot, by digests.
 #[derive(Drop)]
 pub struct SlotsStage {
-    slots: Vec<Slot>,
+    slots: Vec<Tenant>,
     /// The events followed.
     events: u32,
 }

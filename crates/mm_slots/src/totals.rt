@@ -9,11 +9,11 @@ ghost use Rattle.mm_world.specs.Lengths.{within_64};
 ghost use Rattle.mm_slots.specs.Stage.{kept_in};
 
 use crate::put::put_slot_end;
-use crate::slot::Slot;
+use crate::tenant::Tenant;
 use mm_base::{Bytes, Memory};
 
 /// The bytes of the snapshots issued in these slots, or the most that 64 bits tell.
-pub fn bytes_in(slots: &[Slot]) -> u64
+pub fn bytes_in(slots: &[Tenant]) -> u64
     ensures { result ≡ within_64 (kept_in slots.now) }
 {
     let mut total = 0u64;
@@ -24,7 +24,7 @@ pub fn bytes_in(slots: &[Slot]) -> u64
 }
 
 /// The requests committed in these slots, or the most that 64 bits tell.
-pub fn requests_in(slots: &[Slot]) -> u64
+pub fn requests_in(slots: &[Tenant]) -> u64
     ensures { result ≡ within_64 (committed_in slots.now) }
 {
     let mut total = 0u64;
@@ -35,7 +35,7 @@ pub fn requests_in(slots: &[Slot]) -> u64
 }
 
 /// The snapshots issued in these slots, or the most that 64 bits tell.
-pub fn snapshots_in(slots: &[Slot]) -> u64
+pub fn snapshots_in(slots: &[Tenant]) -> u64
     ensures { result ≡ within_64 (issued_in slots.now) }
 {
     let mut total = 0u64;
@@ -46,7 +46,7 @@ pub fn snapshots_in(slots: &[Slot]) -> u64
 }
 
 /// Puts the last lines at the end, one for each slot.
-pub fn put_ends(slots: &[Slot], into: &mut Bytes) -> Result<(), Memory>
+pub fn put_ends(slots: &[Tenant], into: &mut Bytes) -> Result<(), Memory>
     requires few { length slots.now ≤ 16 }
     requires counted { All IsCounted slots.now }
     ensures { OnOk result (into.new ≡ into.old ++ end_lines 0 slots.now) }
@@ -58,7 +58,7 @@ pub fn put_ends(slots: &[Slot], into: &mut Bytes) -> Result<(), Memory>
 }
 
 // Puts the last line of the slot with this number at the end.
-fn put_end_of(number: u8, slot: &Slot, into: &mut Bytes) -> Result<(), Memory>
+fn put_end_of(number: u8, slot: &Tenant, into: &mut Bytes) -> Result<(), Memory>
     requires { length slot.now.slot.issued < 2 ^ 32 }
     ensures { OnOk result (into.new ≡ into.old
         ++ slot_end_line number slot.now.slot.digests.count (length slot.now.slot.issued)) }

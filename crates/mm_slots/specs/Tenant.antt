@@ -47,7 +47,7 @@ pub record Flight : Type 0 where
 
 -- where a slot stands by digests, its issued snapshots, and its call in flight; while one is, the
 -- digests and the snapshots are those at which it was begun
-pub record Slot : Type 0 where
+pub record Tenant : Type 0 where
   pub digests : Digests
   pub issued : List (List ℕ)
   pub flight : Option Flight
@@ -55,19 +55,19 @@ pub record Slot : Type 0 where
 -- What something in a slot comes to: the slot afterwards, and what is said; and the events of a
 -- schedule that it completes, with a reply for each. A call is such an event once it is over.
 pub record Turned : Type 0 where
-  pub slot : Slot
+  pub slot : Tenant
   pub said : List Said
   pub events : List Event
   pub replies : List Reply
 
-abbrev pub merely : Slot → Said → Turned
+abbrev pub merely : Tenant → Said → Turned
 merely slot said = record { slot = slot; said = said ∷ []; events = []; replies = [] }
 
-abbrev pub outcome_in : Instance → Slot → Event → Outcome Digests
+abbrev pub outcome_in : Instance → Tenant → Event → Outcome Digests
 outcome_in i slot event = event_outcome i (by_digests i) slot.digests slot.issued event
 
 -- an event of a schedule, in one go
-abbrev pub plays : Instance → Slot → Event → Turned
+abbrev pub plays : Instance → Tenant → Event → Turned
 plays i slot event = record {
   slot =
       record {
@@ -84,11 +84,11 @@ plays i slot event = record {
 abbrev pub beginning : Call → Flight
 beginning call = record { call = call; meddles = []; next = 1 }
 
-abbrev pub flying : Slot → Flight → Slot
+abbrev pub flying : Tenant → Flight → Tenant
 flying slot flight = record slot { flight = Some flight }
 
 -- a request is asked of these bytes, if any are offered; a call that can't begin is refused
-abbrev pub begun : Instance → Slot → Offer → Batch → Option (List ℕ) → Turned
+abbrev pub begun : Instance → Tenant → Offer → Batch → Option (List ℕ) → Turned
 begun i slot offer batch None = plays i slot (Ask [] stop.Quiet offer batch)
 begun i slot offer batch (Some bytes) =
     if is_long batch then plays i slot (Ask [] stop.Quiet offer batch)
@@ -100,7 +100,7 @@ abbrev pub so_far : Flight → Event
 so_far flight = event_by flight.call flight.meddles (stop_behind flight.next)
 
 -- the call makes its next step, and goes on, or is over
-abbrev pub stepped : Instance → Slot → Flight → Turned
+abbrev pub stepped : Instance → Tenant → Flight → Turned
 stepped i slot flight =
     if is_nothing (outcome_in i slot (so_far flight)).reply
     then merely (flying slot (record flight { next = flight.next + 1 })) (Going (flight.next + 1))
@@ -118,7 +118,7 @@ joined flight value = record flight {
 }
 
 -- what happens in a slot, by the call in flight
-abbrev pub acted_by : Instance → Slot → Option Flight → Action → Turned
+abbrev pub acted_by : Instance → Tenant → Option Flight → Action → Turned
 acted_by i slot None (action.Begin offer request) =
     begun i slot offer (One request) (offered_bytes slot.issued offer)
 acted_by i slot None action.Close = merely (flying slot (beginning Closes)) Begun
@@ -133,11 +133,11 @@ acted_by i slot (Some flight) (action.Break how) =
 acted_by i slot (Some flight) (action.Extend value) =
     merely (flying slot (joined flight value.bytes)) (Replied reply.Extended)
 
-abbrev pub acted : Instance → Slot → Action → Turned
+abbrev pub acted : Instance → Tenant → Action → Turned
 acted i slot what = acted_by i slot slot.flight what
 
 -- a call in flight that asks has made its reading steps, and is over
-abbrev pub having_read : Instance → Slot → Flight → Slot
+abbrev pub having_read : Instance → Tenant → Flight → Tenant
 having_read i slot flight = record slot {
   digests =
       seen_at i (by_digests i) slot.digests (course_of (stop_behind flight.next) flight.meddles);
@@ -146,24 +146,24 @@ having_read i slot flight = record slot {
 
 -- Memory was wanting for a step: the call in flight asks, and is over, with nothing done but its
 -- reading steps.
-abbrev pub StepWants : Instance → Flight → Call → Slot → Slot → Type 0
+abbrev pub StepWants : Instance → Flight → Call → Tenant → Tenant → Type 0
 StepWants i flight (Asks offer batch) old new = new ≡ having_read i old flight
 StepWants i flight Closes old new = ⊥
 
-abbrev pub FlightWants : Instance → Option Flight → Slot → Slot → Type 0
+abbrev pub FlightWants : Instance → Option Flight → Tenant → Tenant → Type 0
 FlightWants i None old new = ⊥
 FlightWants i (Some flight) old new = StepWants i flight flight.call old new
 
 -- Memory was wanting for what happened in a slot: nothing has changed, but where that was a step. A
 -- checkpoint, and what breaks a call off, want none.
-abbrev pub Wants : Instance → Action → Slot → Slot → Type 0
+abbrev pub Wants : Instance → Action → Tenant → Tenant → Type 0
 Wants i (action.Begin offer request) old new = new ≡ old
 Wants i (action.Extend value) old new = new ≡ old
 Wants i action.Step old new = FlightWants i old.flight old new
 Wants i what old new = ⊥
 
 -- Power is lost and comes back. A call in flight is over, and has changed nothing.
-abbrev pub unpowered : Instance → Slot → Turned
+abbrev pub unpowered : Instance → Tenant → Turned
 unpowered i slot = record (plays i slot Power) { said = [] }
 
 -- what a slot meets: something happens in it, or power is lost
@@ -171,12 +171,12 @@ pub data Met : Type 0 where
   Acts : Action → Met
   Loses : Met
 
-abbrev pub turned : Instance → Slot → Met → Turned
+abbrev pub turned : Instance → Tenant → Met → Turned
 turned i slot (Acts what) = acted i slot what
 turned i slot Loses = unpowered i slot
 
 -- what a slot comes to that meets these one after another
-abbrev pub folded : Instance → Slot → List Met → Turned
+abbrev pub folded : Instance → Tenant → List Met → Turned
 folded i slot [] = record { slot = slot; said = []; events = []; replies = [] }
 folded i slot (met ∷ more) =
     let first = turned i slot met in
@@ -189,16 +189,16 @@ folded i slot (met ∷ more) =
 
 -- the instance in the slot with this number: its key begins with this byte, and its barrier 128
 -- bytes higher
-abbrev pub slot_instance : Header → ℕ → Instance
-slot_instance header number =
+abbrev pub tenant_instance : Header → ℕ → Instance
+tenant_instance header number =
     instance_by header.variant (meaning_of header.«module») (rising_from number)
     (rising_from (128 + number))
 
-abbrev pub first_slot : Instance → Slot
-first_slot i = record { digests = first_digests i; issued = first_issued i; flight = None }
+abbrev pub first_tenant : Instance → Tenant
+first_tenant i = record { digests = first_digests i; issued = first_issued i; flight = None }
 
 -- What the slot with this header and number comes to that meets these from the start. It knows no
 -- other slot.
-abbrev pub slot_after : Header → ℕ → List Met → Turned
-slot_after header number mets =
-    folded (slot_instance header number) (first_slot (slot_instance header number)) mets
+abbrev pub tenant_after : Header → ℕ → List Met → Turned
+tenant_after header number mets =
+    folded (tenant_instance header number) (first_tenant (tenant_instance header number)) mets

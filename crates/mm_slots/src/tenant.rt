@@ -13,11 +13,11 @@ use std::marker::Model;
 
 /// A module in one slot of a platform: its number, the seat in it, and the call in flight. Contracts see it by digests.
 #[derive(Drop)]
-pub struct Slot {
+pub struct Tenant {
     parts: Parts,
 }
 
-impl Model for Slot {
+impl Model for Tenant {
     ghost use Rattle.mm_slots.specs.Table.{Row};
 
     ghost Value = { Row };
@@ -29,16 +29,16 @@ impl Model for Slot {
     ghost invariant = { λ it. Fits it.parts };
 }
 
-impl Slot {
+impl Tenant {
     ghost use Rattle.std.specs.Prelude.{◌≡◌, ◌<◌, ◌^◌, [], ◌∷◌, IfOk, OnErr, length};
     ghost use Rattle.std.specs.List.{sum_by};
     ghost use Rattle.mm_slots.specs.Rows.{ActsAs, LacksAs};
     ghost use Rattle.mm_world.specs.Lengths.{within_64};
-    ghost use Rattle.mm_slots.specs.Slot.{Loses};
+    ghost use Rattle.mm_slots.specs.Tenant.{Loses};
     ghost use Rattle.mm_slots.specs.Table.{first_row, is_cut, row_after};
 
     /// The slot with this number at first, for the header's module. Its key is that of no other slot.
-    pub fn first(alloc: Global, number: u8, header: &Header) -> Result<Slot, Memory>
+    pub fn first(alloc: Global, number: u8, header: &Header) -> Result<Tenant, Memory>
         requires { number < 16 }
         ensures { IfOk result (λ slot. slot ≡ first_row number header.now) }
     {
@@ -46,7 +46,7 @@ impl Slot {
         let barrier = rising(128 + number);
         match Seat::first(alloc, *header, &key, &barrier) {
             Err(memory) => Err(memory),
-            Ok(seat) => Ok(Slot {
+            Ok(seat) => Ok(Tenant {
                 parts: Parts {
                     number,
                     seat,

@@ -1,7 +1,7 @@
 use Rattle.mm_slots.proofs.Below.{List, ℕ, refl, subst, None, Parts, IsFirst}
 use Rattle.mm_run.specs.Held.{rising_from}
 use Rattle.mm_slots.proofs.Starting.{fits_there, row_there}
-use Rattle.mm_slots.proofs.slot.Slot.first.Goals as goal
+use Rattle.mm_slots.proofs.tenant.Tenant.first.Goals as goal
 
 pub invariant_of-result : goal.invariant_of-result
 invariant_of-result c =

@@ -1,5 +1,5 @@
 use Rattle.mm_slots.proofs.Seeing.{acts_on, few_on, fits_on, lacks_on}
-use Rattle.mm_slots.proofs.slot.Slot.act.Goals as goal
+use Rattle.mm_slots.proofs.tenant.Tenant.act.Goals as goal
 
 pub act-requires-clause-few : goal.act-requires-clause-few
 act-requires-clause-few c = few_on c.self.inside.parts c.self.inside.parts c.args.self.now c.self.view_is c.args.action c.requires
