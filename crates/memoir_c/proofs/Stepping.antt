@@ -1,10 +1,10 @@
 -- The steps that C made, taken over one after another.
 use Rattle.std.proofs.Common.{◌≡◌, ℕ, zero, suc, ◌<◌, List, [], ◌∷◌, length, take, slice_index_or, slice_set, sym, subst, arith, inl, inr}
-use Rattle.mm_told.specs.declared.step.Made.{Made}
+use Rattle.mm_told.specs.declared.step.MadeStep.{MadeStep}
 use Rattle.memoir_c.specs.declared.made.Step.{Step}
 use Rattle.memoir_c.specs.Steps.{IsStep, AreSteps, IsNoStep, HasNoStep}
 
-more : (steps : List Step) (made : List Made) (i : ℕ) (d : Step) (it : Made) → i < length steps → i < length made
+more : (steps : List Step) (made : List MadeStep) (i : ℕ) (d : Step) (it : MadeStep) → i < length steps → i < length made
     → AreSteps (take i steps) (take i made) → IsStep (slice_index_or steps i d) it
     → AreSteps (take (suc i) steps) (take (suc i) (slice_set made i it))
 more [] made i d it h k a s = absurd (omega (arith, h))
@@ -14,7 +14,7 @@ more (step ∷ steps) (one ∷ made) (suc i) d it h k a s =
     (a.0, more steps made i d it (omega (arith, h)) (omega (arith, k)) a.1 s)
 
 -- one more step
-pub step_more : (steps : List Step) (made : List Made) (i n : ℕ) (d : Step) (it : Made) → i < length steps → i < length made
+pub step_more : (steps : List Step) (made : List MadeStep) (i n : ℕ) (d : Step) (it : MadeStep) → i < length steps → i < length made
     → AreSteps (take i steps) (take i made) → IsStep (slice_index_or steps i d) it → n ≡ suc i
     → AreSteps (take n steps) (take n (slice_set made i it))
 step_more steps made i n d it h k a s e =

@@ -2,40 +2,40 @@
 use Rattle.std.specs.Prelude.{◌≡◌, ◌≢◌, ℕ, ◌<◌, List, length, None, Some, Result, Ok, Err, ◌⊎◌}
 use Rattle.mm_digest.specs.Messages.{variant_byte}
 use Rattle.mm_digest.specs.declared.variant.Variant.{Variant}
-use Rattle.mm_modules.specs.Modules.{meaning_of, module_with}
+use Rattle.mm_modules.specs.Modules.{meaning_of, module_of_id}
 use Rattle.mm_modules.specs.declared.any.AnyModule.{AnyModule}
 use Rattle.mm_model.specs.declared.answer.Answer.{Answer}
 use Rattle.mm_model.specs.declared.refusal.Refusal.{Refusal}
 use Rattle.mm_opt.specs.declared.segment.CheckpointRefusal.{CheckpointRefusal}
 use Rattle.mm_opt.specs.declared.segment.Checkpointed.{Checkpointed}
-use Rattle.mm_told.specs.declared.outcome.Outcome.{Outcome}
-use Rattle.mm_told.specs.declared.step.Made.{Made}
-use Rattle.mm_told.specs.Asking.{AsksBy}
-use Rattle.mm_told.specs.Closing.{ClosesBy}
+use Rattle.mm_told.specs.declared.outcome.StepsOutcome.{StepsOutcome}
+use Rattle.mm_told.specs.declared.step.MadeStep.{MadeStep}
+use Rattle.mm_told.specs.ToldAskPromise.{ToldAskPromise}
+use Rattle.mm_told.specs.ToldCheckpointPromise.{ToldCheckpointPromise}
 use Rattle.mm_told.specs.HostLaws.{worn_host}
 use Rattle.memoir_c.specs.declared.asking.Instance.{Instance}
 use Rattle.memoir_c.specs.declared.asking.Reply.{Reply}
 use Rattle.memoir_c.specs.declared.made.Step.{Step}
-use Rattle.memoir_c.specs.declared.said.Said.{Said}
-use Rattle.memoir_c.specs.declared.said.Said.TheVariants as said
+use Rattle.memoir_c.specs.declared.said.ReturnStatus.{ReturnStatus}
+use Rattle.memoir_c.specs.declared.said.ReturnStatus.TheVariants as said
 use Rattle.memoir_c.specs.Numbers.{number_of}
 use Rattle.memoir_c.specs.Steps.{AreSteps, HasNoStep}
-use Rattle.memoir_c.specs.Telling.{Tells, TellsClosing}
+use Rattle.memoir_c.specs.CallReplies.{TellsCallOutcome, TellsClosing}
 
 -- no variant has this number, or no module this id
-abbrev pub IsNoInstance : Instance → Said → Type 0
+abbrev pub IsNoInstance : Instance → ReturnStatus → Type 0
 IsNoInstance instance why =
     ((why ≡ said.NoVariant) × ((it : Variant) → variant_byte it ≢ instance.variant))
-    ⊎ ((why ≡ said.NoModule) × (module_with instance.module ≡ None))
+    ⊎ ((why ≡ said.NoModule) × (module_of_id instance.module ≡ None))
 
 -- the variant of this number, and the module of this id
-abbrev pub AreParts : Instance → Result (Variant × AnyModule) Said → Type 0
+abbrev pub AreParts : Instance → Result (Variant × AnyModule) ReturnStatus → Type 0
 AreParts instance (Ok found) =
-    (variant_byte found.0 ≡ instance.variant) × (module_with instance.module ≡ Some found.1)
+    (variant_byte found.0 ≡ instance.variant) × (module_of_id instance.module ≡ Some found.1)
 AreParts instance (Err why) = IsNoInstance instance why
 
 -- there are more steps than a call makes, or one is no step
-abbrev pub AreNoSteps : List Step → Said → Type 0
+abbrev pub AreNoSteps : List Step → ReturnStatus → Type 0
 AreNoSteps steps why =
     ((why ≡ said.TooMany) × (5 < length steps)) ⊎ ((why ≡ said.NoStep) × HasNoStep steps)
 
@@ -43,45 +43,45 @@ AreNoSteps steps why =
 -- answered: it differs only where a step isn't the one that was told behind those before it. The
 -- platform is one that tells nothing, on which any steps may have been made.
 pub record IsCall (instance : Instance) (steps : List Step) (offer request : List ℕ)
-    (outcome : Outcome (Result Answer Refusal)) : Type 0 where
+    (outcome : StepsOutcome (Result Answer Refusal)) : Type 0 where
   pub parts : Variant × AnyModule
-  pub made : List Made
+  pub made : List MadeStep
   pub are_parts : AreParts instance (Ok parts)
   pub are_steps : AreSteps steps made
-  pub asks : AsksBy parts.0 (meaning_of parts.1) (worn_host made) made offer request outcome
+  pub asks : ToldAskPromise parts.0 (meaning_of parts.1) (worn_host made) made offer request outcome
 
 -- what a call comes to; or what is passed is no call
-abbrev pub ComesTo : Instance → List Step → List ℕ → List ℕ
-    → Result (Outcome (Result Answer Refusal)) Said → Type 0
-ComesTo instance steps offer request (Ok outcome) = IsCall instance steps offer request outcome
-ComesTo instance steps offer request (Err why) =
+abbrev pub CallGives : Instance → List Step → List ℕ → List ℕ
+    → Result (StepsOutcome (Result Answer Refusal)) ReturnStatus → Type 0
+CallGives instance steps offer request (Ok outcome) = IsCall instance steps offer request outcome
+CallGives instance steps offer request (Err why) =
     IsNoInstance instance why ⊎ AreNoSteps steps why
 
 -- What a call tells is what it comes to.
 pub record IsTold (instance : Instance) (steps : List Step) (offer request : List ℕ)
     (old new : Reply) (before after : List ℕ) (number : ℕ) : Type 0 where
-  pub asked : Result (Outcome (Result Answer Refusal)) Said
-  pub comes : ComesTo instance steps offer request asked
-  pub says : Said
+  pub asked : Result (StepsOutcome (Result Answer Refusal)) ReturnStatus
+  pub comes : CallGives instance steps offer request asked
+  pub says : ReturnStatus
   pub number_is : number ≡ number_of says
   pub tells :
-      Tells asked (record { old = old; new = new; before = before; after = after; says = says })
+      TellsCallOutcome asked (record { old = old; new = new; before = before; after = after; says = says })
 
 -- The same of a checkpoint.
-pub record IsClosing (steps : List Step) (outcome : Outcome (Result Checkpointed CheckpointRefusal))
+pub record IsClosing (steps : List Step) (outcome : StepsOutcome (Result Checkpointed CheckpointRefusal))
     : Type 0 where
-  pub made : List Made
+  pub made : List MadeStep
   pub are_steps : AreSteps steps made
-  pub closes : ClosesBy (worn_host made) made outcome
+  pub closes : ToldCheckpointPromise (worn_host made) made outcome
 
-abbrev pub ClosesTo : List Step → Result (Outcome (Result Checkpointed CheckpointRefusal)) Said
+abbrev pub ClosesTo : List Step → Result (StepsOutcome (Result Checkpointed CheckpointRefusal)) ReturnStatus
     → Type 0
 ClosesTo steps (Ok outcome) = IsClosing steps outcome
 ClosesTo steps (Err why) = AreNoSteps steps why
 
 pub record IsClosingTold (steps : List Step) (old new : Step) (number : ℕ) : Type 0 where
-  pub closed : Result (Outcome (Result Checkpointed CheckpointRefusal)) Said
+  pub closed : Result (StepsOutcome (Result Checkpointed CheckpointRefusal)) ReturnStatus
   pub comes : ClosesTo steps closed
-  pub says : Said
+  pub says : ReturnStatus
   pub number_is : number ≡ number_of says
   pub tells : TellsClosing closed old new says

@@ -1,8 +1,8 @@
-pub mod Keeping
+pub mod KeptTexts
 pub mod Numbers
 pub mod Steps
-pub mod Telling
+pub mod CallReplies
 pub mod Calls
-pub mod Answering
+pub mod PlainAnswers
 pub mod Records
-pub mod First
+pub mod FirstInstance

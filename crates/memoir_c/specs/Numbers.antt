@@ -4,10 +4,10 @@ use Rattle.mm_model.specs.Codes.{code_of}
 use Rattle.mm_model.specs.declared.refusal.Refusal.TheVariants as refusal
 use Rattle.mm_opt.specs.declared.segment.CheckpointRefusal.{CheckpointRefusal}
 use Rattle.mm_opt.specs.declared.segment.CheckpointRefusal.TheVariants as closing
-use Rattle.memoir_c.specs.declared.said.Said.{Said}
-use Rattle.memoir_c.specs.declared.said.Said.TheVariants as said
+use Rattle.memoir_c.specs.declared.said.ReturnStatus.{ReturnStatus}
+use Rattle.memoir_c.specs.declared.said.ReturnStatus.TheVariants as said
 
-abbrev pub number_of : Said → ℕ
+abbrev pub number_of : ReturnStatus → ℕ
 number_of said.Done = 0
 number_of (said.Refused why) = code_of why
 number_of said.Next = 16
@@ -22,9 +22,9 @@ number_of said.NoKey = 37
 number_of said.NoPosition = 38
 
 -- a refused checkpoint, as a call that is refused for the same
-abbrev pub closing_said : CheckpointRefusal → Said
-closing_said (closing.Device fault) = said.Refused (refusal.Device fault)
-closing_said closing.Blank = said.Refused refusal.Blank
-closing_said closing.Cell = said.Refused refusal.Cell
-closing_said closing.Kind = said.Refused refusal.Kind
-closing_said closing.Lost = said.Refused refusal.Lost
+abbrev pub closing_status : CheckpointRefusal → ReturnStatus
+closing_status (closing.Device fault) = said.Refused (refusal.Device fault)
+closing_status closing.Blank = said.Refused refusal.Blank
+closing_status closing.Cell = said.Refused refusal.Cell
+closing_status closing.Kind = said.Refused refusal.Kind
+closing_status closing.Lost = said.Refused refusal.Lost

@@ -3,62 +3,62 @@ use Rattle.std.specs.Prelude.{◌≡◌, ℕ, ◌<◌, ◌≤◌, ◌++◌, List
 use Rattle.mm_base.specs.Limits.{last_position}
 use Rattle.mm_module.specs.Meaning.{IsLine}
 use Rattle.mm_model.specs.declared.refusal.Refusal.TheVariants as refusal
-use Rattle.mm_store.specs.Pending.{Pending, ReadsPending, pending_spelling}
-use Rattle.memoir_c.specs.declared.said.Said.{Said}
-use Rattle.memoir_c.specs.declared.said.Said.TheVariants as said
+use Rattle.mm_store.specs.PendingRecord.{PendingRecord, ReadsPending, pending_spelling}
+use Rattle.memoir_c.specs.declared.said.ReturnStatus.{ReturnStatus}
+use Rattle.memoir_c.specs.declared.said.ReturnStatus.TheVariants as said
 use Rattle.memoir_c.specs.Numbers.{number_of}
 
 -- A room and a number, before and behind a call.
-pub record Held : Type 0 where
+pub record RoomState : Type 0 where
   pub before : List ℕ
   pub after : List ℕ
   pub old : ℕ
   pub new : ℕ
 
 -- nothing is written
-abbrev pub IsUnchanged : Held → Type 0
+abbrev pub IsUnchanged : RoomState → Type 0
 IsUnchanged it = (it.after ≡ it.before) × (it.new ≡ it.old)
 
 -- these bytes are written to the front of the room, and their length; or there is too little room
-abbrev pub Puts : List ℕ → Held → Said → Type 0
-Puts bytes it says =
+abbrev pub PutsInFront : List ℕ → RoomState → ReturnStatus → Type 0
+PutsInFront bytes it says =
     ((says ≡ said.Done) × (it.after ≡ bytes ++ drop (length bytes) it.before)
     × (it.new ≡ length bytes))
     ⊎ ((says ≡ said.NoRoom) × IsUnchanged it × (length it.before < length bytes))
 
 -- a request has no record: no request has this position, or it is none; or memory is wanting
-abbrev pub HasNoRecord : (position : ℕ) (request : List ℕ) → Said → Type 0
+abbrev pub HasNoRecord : (position : ℕ) (request : List ℕ) → ReturnStatus → Type 0
 HasNoRecord position request says =
     ((says ≡ said.NoPosition) × ((position ≡ 0) ⊎ (last_position < position)))
     ⊎ (((says ≡ said.Refused refusal.Long) × (IsLine request → ⊥))
     ⊎ (says ≡ said.Refused refusal.Memory))
 
 -- The record of a request is written, or it has none.
-pub record Records (position : ℕ) (request : List ℕ) (it : Held) (number : ℕ) : Type 0 where
-  pub says : Said
+pub record RecordsRequest (position : ℕ) (request : List ℕ) (it : RoomState) (number : ℕ) : Type 0 where
+  pub says : ReturnStatus
   pub number_is : number ≡ number_of says
-  pub puts : Puts (pending_spelling (record { position = position; request = request })) it says
+  pub puts : PutsInFront (pending_spelling (record { position = position; request = request })) it says
       ⊎ (HasNoRecord position request says × IsUnchanged it)
 
 -- a slot's bytes are this record, and its request is written; where it is, its position too
-pub record ReadsRecord (slot : ℕ) (bytes : List ℕ) (it : Held) (position : ℕ) (says : Said)
+pub record ReadsRecord (slot : ℕ) (bytes : List ℕ) (it : RoomState) (position : ℕ) (says : ReturnStatus)
     : Type 0 where
-  pub read : Pending
+  pub read : PendingRecord
   pub reads : ReadsPending slot bytes (Some read)
-  pub puts : Puts read.request it says
+  pub puts : PutsInFront read.request it says
   pub numbers : says ≡ said.Done → position ≡ read.position
 
 -- a slot's bytes are no valid record
-pub record ReadsNone (slot : ℕ) (bytes : List ℕ) (it : Held) (says : Said) : Type 0 where
+pub record ReadsNone (slot : ℕ) (bytes : List ℕ) (it : RoomState) (says : ReturnStatus) : Type 0 where
   pub reads : ReadsPending slot bytes None
   pub told : says ≡ said.Refused refusal.Form
   pub kept : IsUnchanged it
 
-abbrev pub Reads : (slot : ℕ) (bytes : List ℕ) → Held → (position : ℕ) → Said → Type 0
-Reads slot bytes it position says =
+abbrev pub ReadsRecordOrNone : (slot : ℕ) (bytes : List ℕ) → RoomState → (position : ℕ) → ReturnStatus → Type 0
+ReadsRecordOrNone slot bytes it position says =
     ReadsRecord slot bytes it position says ⊎ ReadsNone slot bytes it says
 
-pub record ReadsBack (slot : ℕ) (bytes : List ℕ) (it : Held) (position number : ℕ) : Type 0 where
-  pub says : Said
+pub record ReadsBack (slot : ℕ) (bytes : List ℕ) (it : RoomState) (position number : ℕ) : Type 0 where
+  pub says : ReturnStatus
   pub number_is : number ≡ number_of says
-  pub reads : Reads slot bytes it position says
+  pub reads : ReadsRecordOrNone slot bytes it position says

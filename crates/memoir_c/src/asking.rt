@@ -1,21 +1,21 @@
 //! A call that asks for a request.
 
 ghost use Rattle.std.specs.Prelude.{◌≡◌, ◌≢◌, ◌<◌, ◌≤◌, ◌++◌, true, false, length, drop};
-ghost use Rattle.mm_told.specs.Asking.{AsksBy};
+ghost use Rattle.mm_told.specs.ToldAskPromise.{ToldAskPromise};
 ghost use Rattle.mm_told.specs.HostLaws.{worn_host};
-ghost use Rattle.memoir_c.specs.Calls.{AreParts, ComesTo, IsTold};
-ghost use Rattle.memoir_c.specs.Keeping.{IsKept};
-ghost use Rattle.memoir_c.specs.Telling.{Tells, TellsAnswer};
+ghost use Rattle.memoir_c.specs.Calls.{AreParts, CallGives, IsTold};
+ghost use Rattle.memoir_c.specs.KeptTexts.{IsKept};
+ghost use Rattle.memoir_c.specs.CallReplies.{TellsCallOutcome, TellsAnswer};
 
 use crate::keeping::{Kept, keep, key_kept};
 use crate::made::{MOST_STEPS, Step, next, put_made};
-use crate::said::Said;
+use crate::said::ReturnStatus;
 use mm_call::KeptKey;
 use mm_digest::Variant;
 use mm_model::{Answer, Refusal};
 use mm_module::Module;
 use mm_modules::{AnyModule, by_id};
-use mm_told::{Made, Outcome, ask};
+use mm_told::{MadeStep, StepsOutcome, ask};
 use std::alloc::Global;
 
 /// The variant's number and the module's id.
@@ -97,14 +97,14 @@ pub extern "C" fn memoir_ask_keeping(
 }
 
 /// The variant of this number, and the module of this id.
-pub fn parts(instance: &Instance) -> Result<(Variant, AnyModule), Said>
+pub fn parts(instance: &Instance) -> Result<(Variant, AnyModule), ReturnStatus>
     ensures { AreParts instance.now result }
 {
     let Some(variant) = Variant::of_byte(instance.variant) else {
-        return Err(Said::NoVariant);
+        return Err(ReturnStatus::NoVariant);
     };
     let Some(module) = by_id(instance.module) else {
-        return Err(Said::NoModule);
+        return Err(ReturnStatus::NoModule);
     };
     Ok((variant, module))
 }
@@ -117,14 +117,14 @@ fn asked(
     offer: &[u8],
     request: &[u8],
     keys: &mut KeptKey,
-) -> Result<Outcome<Result<Answer, Refusal>>, Said>
-    ensures { ComesTo instance.now steps.now offer.now request.now result }
+) -> Result<StepsOutcome<Result<Answer, Refusal>>, ReturnStatus>
+    ensures { CallGives instance.now steps.now offer.now request.now result }
 {
     let (variant, module) = parts(instance)?;
     if steps.len() > MOST_STEPS {
-        return Err(Said::TooMany);
+        return Err(ReturnStatus::TooMany);
     }
-    let mut made = [Made::ResetRegister(Ok(())); MOST_STEPS];
+    let mut made = [MadeStep::ResetRegister(Ok(())); MOST_STEPS];
     put_made(steps, &mut made)?;
     let made = &made[..steps.len()];
     Ok(come_to(alloc, variant, &module, made, offer, request, keys))
@@ -135,23 +135,23 @@ fn come_to<M: Module>(
     alloc: Global,
     variant: Variant,
     module: &M,
-    made: &[Made],
+    made: &[MadeStep],
     offer: &[u8],
     request: &[u8],
     keys: &mut KeptKey,
-) -> Outcome<Result<Answer, Refusal>>
-    ensures { AsksBy variant (M.meaning «module».now) (worn_host made.now) made.now offer.now request.now result }
+) -> StepsOutcome<Result<Answer, Refusal>>
+    ensures { ToldAskPromise variant (M.meaning «module».now) (worn_host made.now) made.now offer.now request.now result }
 {
     ask(alloc, variant, module, made, offer, request, keys)
 }
 
 // Writes what the call came to.
 fn tell(
-    asked: Result<Outcome<Result<Answer, Refusal>>, Said>,
+    asked: Result<StepsOutcome<Result<Answer, Refusal>>, ReturnStatus>,
     reply: &mut Reply,
     room: &mut [u8],
-) -> Said
-    ensures tells { Tells asked (record {
+) -> ReturnStatus
+    ensures tells { TellsCallOutcome asked (record {
       old = reply.old;
       new = reply.new;
       before = room.old;
@@ -163,19 +163,19 @@ fn tell(
 {
     match asked {
         Err(said) => said,
-        Ok(Outcome::Ended(Ok(answer))) => put_answer(&answer, reply, room),
-        Ok(Outcome::Ended(Err(refusal))) => Said::Refused(refusal),
-        Ok(Outcome::Memory) => Said::Refused(Refusal::Memory),
-        Ok(Outcome::Differs) => Said::Differs,
-        Ok(Outcome::Next(step)) => {
+        Ok(StepsOutcome::Ended(Ok(answer))) => put_answer(&answer, reply, room),
+        Ok(StepsOutcome::Ended(Err(refusal))) => ReturnStatus::Refused(refusal),
+        Ok(StepsOutcome::Memory) => ReturnStatus::Refused(Refusal::Memory),
+        Ok(StepsOutcome::Differs) => ReturnStatus::Differs,
+        Ok(StepsOutcome::Next(step)) => {
             reply.next = next(step);
-            Said::Next
+            ReturnStatus::Next
         }
     }
 }
 
 // Writes an answer: its output, and its snapshot behind that.
-fn put_answer(answer: &Answer, reply: &mut Reply, room: &mut [u8]) -> Said
+fn put_answer(answer: &Answer, reply: &mut Reply, room: &mut [u8]) -> ReturnStatus
     ensures tells { TellsAnswer answer.now (record {
       old = reply.old;
       new = reply.new;
@@ -189,13 +189,13 @@ fn put_answer(answer: &Answer, reply: &mut Reply, room: &mut [u8]) -> Said
     let output = answer.output.as_slice();
     let snapshot = answer.snapshot.as_slice();
     if !put_both(output, snapshot, room) {
-        return Said::NoRoom;
+        return ReturnStatus::NoRoom;
     }
     reply.position = answer.position;
     reply.output_length = output.len();
     reply.snapshot_length = snapshot.len();
     reply.again = u8::from(answer.again);
-    Said::Done
+    ReturnStatus::Done
 }
 
 // Writes these bytes, and those behind them, where there is room for both.

@@ -2,12 +2,12 @@
 
 ghost use Rattle.std.specs.Prelude.{◌≡◌, ◌≢◌};
 ghost use Rattle.memoir_c.specs.Calls.{ClosesTo, IsClosingTold};
-ghost use Rattle.memoir_c.specs.Telling.{TellsClosing};
+ghost use Rattle.memoir_c.specs.CallReplies.{TellsClosing};
 
 use crate::made::{MOST_STEPS, Step, next, put_made};
-use crate::said::Said;
+use crate::said::ReturnStatus;
 use mm_opt::{CheckpointRefusal, Checkpointed};
-use mm_told::{Made, Outcome, checkpoint};
+use mm_told::{MadeStep, StepsOutcome, checkpoint};
 
 /// What a checkpoint comes to with these steps made. Only Next writes the step that is to be made.
 #[unsafe(no_mangle)]
@@ -19,13 +19,13 @@ pub extern "C" fn memoir_checkpoint(steps: &[Step], step: &mut Step) -> u32
 }
 
 // What the checkpoint comes to.
-fn closed(steps: &[Step]) -> Result<Outcome<Result<Checkpointed, CheckpointRefusal>>, Said>
+fn closed(steps: &[Step]) -> Result<StepsOutcome<Result<Checkpointed, CheckpointRefusal>>, ReturnStatus>
     ensures { ClosesTo steps.now result }
 {
     if steps.len() > MOST_STEPS {
-        return Err(Said::TooMany);
+        return Err(ReturnStatus::TooMany);
     }
-    let mut made = [Made::ResetRegister(Ok(())); MOST_STEPS];
+    let mut made = [MadeStep::ResetRegister(Ok(())); MOST_STEPS];
     put_made(steps, &mut made)?;
     let made = &made[..steps.len()];
     Ok(checkpoint(made))
@@ -33,21 +33,21 @@ fn closed(steps: &[Step]) -> Result<Outcome<Result<Checkpointed, CheckpointRefus
 
 // Writes what the checkpoint came to.
 fn tell(
-    closed: Result<Outcome<Result<Checkpointed, CheckpointRefusal>>, Said>,
+    closed: Result<StepsOutcome<Result<Checkpointed, CheckpointRefusal>>, ReturnStatus>,
     into: &mut Step,
-) -> Said
+) -> ReturnStatus
     ensures { TellsClosing closed into.old into.new result }
 {
     match closed {
         Err(said) => said,
-        Ok(Outcome::Ended(Ok(Checkpointed::Done))) => Said::Done,
-        Ok(Outcome::Ended(Ok(Checkpointed::NoSegment))) => Said::NoSegment,
-        Ok(Outcome::Ended(Err(refusal))) => Said::of_checkpoint(refusal),
-        Ok(Outcome::Memory) => Said::Differs,
-        Ok(Outcome::Differs) => Said::Differs,
-        Ok(Outcome::Next(step)) => {
+        Ok(StepsOutcome::Ended(Ok(Checkpointed::Done))) => ReturnStatus::Done,
+        Ok(StepsOutcome::Ended(Ok(Checkpointed::NoSegment))) => ReturnStatus::NoSegment,
+        Ok(StepsOutcome::Ended(Err(refusal))) => ReturnStatus::of_checkpoint(refusal),
+        Ok(StepsOutcome::Memory) => ReturnStatus::Differs,
+        Ok(StepsOutcome::Differs) => ReturnStatus::Differs,
+        Ok(StepsOutcome::Next(step)) => {
             *into = next(step);
-            Said::Next
+            ReturnStatus::Next
         }
     }
 }

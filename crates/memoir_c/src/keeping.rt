@@ -2,11 +2,11 @@
 
 ghost use Rattle.std.specs.Prelude.{◌≡◌, ◌≤◌, ◌<◌, ◌-◌, ◌^◌, List, ℕ, IfSome, length};
 ghost use Rattle.mm_digest.specs.Hmac.{hmac_of};
-ghost use Rattle.memoir_c.specs.Keeping.{IsText, IsKept};
+ghost use Rattle.memoir_c.specs.KeptTexts.{IsText, IsKept};
 
 use mm_call::KeptKey;
 use mm_digest::Digest;
-use mm_seal::{SealingKey, Tagged};
+use mm_seal::{SealingKey, TaggedText};
 use std::alloc::Global;
 
 /// A text at the front of a memory: its length, and its tag. None where the memory has fewer bytes.
@@ -66,7 +66,7 @@ pub fn key_kept(alloc: Global, kept: &Kept, memory: &[u8]) -> KeptKey
 }
 
 // The text at the front of this memory.
-fn tagged_in(alloc: Global, text: &Text, memory: &[u8]) -> Option<Tagged>
+fn tagged_in(alloc: Global, text: &Text, memory: &[u8]) -> Option<TaggedText>
     ensures { (key : List ℕ) → IsText key text.now memory.now
         → IfSome result (λ it. it.tag.bytes ≡ hmac_of key it.text.items) }
 {
@@ -77,7 +77,7 @@ fn tagged_in(alloc: Global, text: &Text, memory: &[u8]) -> Option<Tagged>
     if copy.extend_from_slice(&memory[..text.length]).is_err() {
         return None;
     }
-    Some(Tagged {
+    Some(TaggedText {
         text: copy,
         tag: Digest { bytes: text.tag },
     })
@@ -108,7 +108,7 @@ fn put_key(key: &SealingKey, memory: &mut [u8]) -> Kept
 }
 
 // Writes a text to the front of a memory.
-fn put_text(tagged: Option<&Tagged>, memory: &mut [u8]) -> Text
+fn put_text(tagged: Option<&TaggedText>, memory: &mut [u8]) -> Text
     ensures length { length memory.new ≡ length memory.old }
     ensures text { (key : List ℕ) → IfSome tagged.entry (λ it. it.now.tag.bytes ≡ hmac_of key it.now.text.items)
         → IsText key result memory.new }
@@ -120,7 +120,7 @@ fn put_text(tagged: Option<&Tagged>, memory: &mut [u8]) -> Text
 }
 
 // Writes this text, for which there is room.
-fn put(tagged: &Tagged, memory: &mut [u8]) -> Text
+fn put(tagged: &TaggedText, memory: &mut [u8]) -> Text
     requires { length tagged.now.text.items ≤ length memory.old }
     ensures length { length memory.new ≡ length memory.old }
     ensures text { (key : List ℕ) → tagged.now.tag.bytes ≡ hmac_of key tagged.now.text.items

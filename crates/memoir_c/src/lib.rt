@@ -15,4 +15,4 @@ mod said;
 pub use asking::{Instance, Reply};
 pub use keeping::{Kept, Text};
 pub use made::Step;
-pub use provisioning::{Keys, Provisioned};
+pub use provisioning::{Keys, ProvisionReply};

@@ -2,13 +2,13 @@
 
 ghost use Rattle.std.specs.Prelude.{◌≡◌, ◌<◌, ◌≤◌, ◌++◌, IfOk, IfErr, OnOk, length, take, replicate};
 ghost use Rattle.std.specs.Result.{result_err};
-ghost use Rattle.memoir_c.specs.Steps.{answer_by, IsStep, AreSteps, IsNoStep, HasNoStep, next_of};
+ghost use Rattle.memoir_c.specs.Steps.{answer_by, IsStep, AreSteps, IsNoStep, HasNoStep, next_step_of};
 
-use crate::said::Said;
+use crate::said::ReturnStatus;
 use mm_base::CELL_LENGTH;
 use mm_digest::Digest;
 use mm_platform::StepFault;
-use mm_told::Made;
+use mm_told::MadeStep;
 
 /// The most steps that a call makes.
 pub const MOST_STEPS: usize = 5;
@@ -24,7 +24,7 @@ pub struct Step {
 }
 
 /// The steps that were made, in a room for the most that a call makes.
-pub fn put_made(steps: &[Step], into: &mut [Made; MOST_STEPS]) -> Result<(), Said>
+pub fn put_made(steps: &[Step], into: &mut [MadeStep; MOST_STEPS]) -> Result<(), ReturnStatus>
     requires { length steps.now ≤ 5 }
     ensures ok { OnOk result (AreSteps steps.now (take (length steps.now) into.new)) }
     ensures err { IfErr result (λ why. (why ≡ Said.NoStep) × HasNoStep steps.now) }
@@ -39,23 +39,23 @@ pub fn put_made(steps: &[Step], into: &mut [Made; MOST_STEPS]) -> Result<(), Sai
 }
 
 // The step that was made.
-fn made(step: &Step) -> Result<Made, Said>
+fn made(step: &Step) -> Result<MadeStep, ReturnStatus>
     ensures ok { IfOk result (λ it. IsStep step.now it) }
     ensures err { IfErr result (λ why. (why ≡ Said.NoStep) × IsNoStep step.now) }
 {
     let answer = answer(step.answer)?;
     match step.kind {
-        1 => Ok(Made::ReadCell(given(answer, step.bytes))),
-        2 => Ok(Made::WriteCell(step.bytes, answer)),
-        3 => Ok(Made::ReadRegister(given(answer, value(step)))),
-        4 => Ok(Made::ResetRegister(answer)),
-        5 => Ok(Made::ExtendRegister(value(step), answer)),
-        _ => Err(Said::NoStep),
+        1 => Ok(MadeStep::ReadCell(given(answer, step.bytes))),
+        2 => Ok(MadeStep::WriteCell(step.bytes, answer)),
+        3 => Ok(MadeStep::ReadRegister(given(answer, value(step)))),
+        4 => Ok(MadeStep::ResetRegister(answer)),
+        5 => Ok(MadeStep::ExtendRegister(value(step), answer)),
+        _ => Err(ReturnStatus::NoStep),
     }
 }
 
 // What a device answered: 0 Ok, 1 Failed, 2 Off.
-fn answer(answer: u8) -> Result<Result<(), StepFault>, Said>
+fn answer(answer: u8) -> Result<Result<(), StepFault>, ReturnStatus>
     ensures ok { IfOk result (λ it. answer ≡ answer_by (result_err it)) }
     ensures err { IfErr result (λ why. (why ≡ Said.NoStep) × (2 < answer)) }
 {
@@ -63,7 +63,7 @@ fn answer(answer: u8) -> Result<Result<(), StepFault>, Said>
         0 => Ok(Ok(())),
         1 => Ok(Err(StepFault::Failed)),
         2 => Ok(Err(StepFault::Off)),
-        _ => Err(Said::NoStep),
+        _ => Err(ReturnStatus::NoStep),
     }
 }
 
@@ -88,19 +88,19 @@ fn value(step: &Step) -> Digest
 }
 
 /// The step that is to be made next. The bytes behind a register's are zero.
-pub fn next(step: mm_told::Step) -> Step
-    ensures { result ≡ next_of step }
+pub fn next(step: mm_told::HostStep) -> Step
+    ensures { result ≡ next_step_of step }
 {
     match step {
-        mm_told::Step::ReadCell => bare(1),
-        mm_told::Step::WriteCell(bytes) => Step {
+        mm_told::HostStep::ReadCell => bare(1),
+        mm_told::HostStep::WriteCell(bytes) => Step {
             kind: 2,
             answer: 0,
             bytes,
         },
-        mm_told::Step::ReadRegister => bare(3),
-        mm_told::Step::ResetRegister => bare(4),
-        mm_told::Step::ExtendRegister(value) => extending(&value),
+        mm_told::HostStep::ReadRegister => bare(3),
+        mm_told::HostStep::ResetRegister => bare(4),
+        mm_told::HostStep::ExtendRegister(value) => extending(&value),
     }
 }
 

@@ -2,7 +2,7 @@
 
 ghost use Rattle.std.specs.Prelude.{◌≡◌, ◌+◌};
 ghost use Rattle.mm_base.specs.Limits.{limit_of};
-ghost use Rattle.memoir_c.specs.Answering.{id_named, room_with};
+ghost use Rattle.memoir_c.specs.PlainAnswers.{id_of_name, room_with};
 
 use mm_module::Module;
 use mm_modules::{by_id, by_name};
@@ -10,7 +10,7 @@ use mm_modules::{by_id, by_name};
 /// The id of the module with this name, 0 where no module has it.
 #[unsafe(no_mangle)]
 pub extern "C" fn memoir_module_id(name: &[u8]) -> u8
-    ensures { result ≡ id_named name.now }
+    ensures { result ≡ id_of_name name.now }
 {
     match by_name(name) {
         None => 0,

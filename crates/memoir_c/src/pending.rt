@@ -2,12 +2,12 @@
 
 ghost use Rattle.std.specs.Prelude.{◌≡◌, ◌≢◌, IfErr, IfOk};
 ghost use Rattle.std.specs.Option.{option_map};
-ghost use Rattle.mm_store.specs.Pending.{ReadsPending, pending_spelling};
+ghost use Rattle.mm_store.specs.PendingRecord.{ReadsPending, pending_spelling};
 ghost use Rattle.mm_store.specs.Records.{pending_of};
 ghost use Rattle.memoir_c.specs.Numbers.{number_of};
-ghost use Rattle.memoir_c.specs.Records.{HasNoRecord, Puts, Reads, ReadsBack, Records};
+ghost use Rattle.memoir_c.specs.Records.{HasNoRecord, PutsInFront, ReadsRecordOrNone, ReadsBack, RecordsRequest};
 
-use crate::said::Said;
+use crate::said::ReturnStatus;
 use mm_base::{Bytes, LAST_POSITION};
 use mm_model::Refusal;
 use mm_module::is_line;
@@ -23,7 +23,7 @@ pub extern "C" fn memoir_pending(
     length: &mut usize,
     room: &mut [u8],
 ) -> u32
-    ensures records { Records position request.now (record {
+    ensures records { RecordsRequest position request.now (record {
       before = room.old;
       after = room.new;
       old = length.old;
@@ -41,8 +41,8 @@ fn put_record(
     request: &[u8],
     length: &mut usize,
     room: &mut [u8],
-) -> Said
-    ensures records { Records position request.now (record {
+) -> ReturnStatus
+    ensures records { RecordsRequest position request.now (record {
       before = room.old;
       after = room.new;
       old = length.old;
@@ -58,26 +58,26 @@ fn put_record(
 }
 
 // The record's bytes.
-fn record(alloc: Global, position: u64, request: &[u8]) -> Result<Bytes, Said>
+fn record(alloc: Global, position: u64, request: &[u8]) -> Result<Bytes, ReturnStatus>
     ensures ok { IfOk result (λ bytes.
         bytes ≡ pending_spelling (record { position = position; request = request.now })) }
     ensures err { IfErr result (λ says. HasNoRecord position request.now says) }
 {
     if position == 0 || position > LAST_POSITION {
-        return Err(Said::NoPosition);
+        return Err(ReturnStatus::NoPosition);
     }
     if !is_line(request) {
-        return Err(Said::Refused(Refusal::Long));
+        return Err(ReturnStatus::Refused(Refusal::Long));
     }
     match pending_bytes(alloc, position, request) {
-        Err(_) => Err(Said::Refused(Refusal::Memory)),
+        Err(_) => Err(ReturnStatus::Refused(Refusal::Memory)),
         Ok(bytes) => Ok(bytes),
     }
 }
 
 // Writes these bytes and their length, where there is room.
-fn put(bytes: &[u8], length: &mut usize, room: &mut [u8]) -> Said
-    ensures puts { Puts bytes.now (record {
+fn put(bytes: &[u8], length: &mut usize, room: &mut [u8]) -> ReturnStatus
+    ensures puts { PutsInFront bytes.now (record {
       before = room.old;
       after = room.new;
       old = length.old;
@@ -87,11 +87,11 @@ fn put(bytes: &[u8], length: &mut usize, room: &mut [u8]) -> Said
     ensures unsaid { result ≢ Said.Done → length.new ≡ length.old }
 {
     if bytes.len() > room.len() {
-        return Said::NoRoom;
+        return ReturnStatus::NoRoom;
     }
     room[..bytes.len()].copy_from_slice(bytes);
     *length = bytes.len();
-    Said::Done
+    ReturnStatus::Done
 }
 
 /// Reads the record that a slot's bytes are: its position, its request and that's length. Form where they are no valid
@@ -123,8 +123,8 @@ fn put_request(
     position: &mut u64,
     length: &mut usize,
     room: &mut [u8],
-) -> Said
-    ensures reads { Reads slot bytes.now (record {
+) -> ReturnStatus
+    ensures reads { ReadsRecordOrNone slot bytes.now (record {
       before = room.old;
       after = room.new;
       old = length.old;
@@ -135,10 +135,10 @@ fn put_request(
     ensures unnumbered { result ≢ Said.Done → position.new ≡ position.old }
 {
     let Some(pending) = read_pending(slot, bytes) else {
-        return Said::Refused(Refusal::Form);
+        return ReturnStatus::Refused(Refusal::Form);
     };
     let said = put(pending.request, length, room);
-    if let Said::Done = said {
+    if let ReturnStatus::Done = said {
         *position = pending.position;
     }
     said

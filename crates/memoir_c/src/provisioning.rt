@@ -5,10 +5,10 @@ ghost use Rattle.mm_modules.specs.Modules.{meaning_of};
 ghost use Rattle.mm_model.specs.Instance as model;
 ghost use Rattle.mm_call.specs.Standing.{instance_by};
 ghost use Rattle.memoir_c.specs.Numbers.{number_of};
-ghost use Rattle.memoir_c.specs.First.{IsMeant, IsUnmade, Provisions, PutsFirst, first_cell, first_snapshot};
+ghost use Rattle.memoir_c.specs.FirstInstance.{IsMeant, IsUnmade, ProvisionsInstance, PutsFirst, first_cell, first_snapshot};
 
 use crate::asking::{Instance, parts};
-use crate::said::Said;
+use crate::said::ReturnStatus;
 use mm_base::{CELL_LENGTH, Memory};
 use mm_call::Provisioned as Made;
 use mm_digest::Variant;
@@ -27,7 +27,7 @@ pub struct Keys {
 /// The first cell, and the length of the first snapshot.
 #[repr(C)]
 #[derive(Clone, Copy, Drop)]
-pub struct Provisioned {
+pub struct ProvisionReply {
     pub snapshot_length: usize,
     pub cell: [u8; CELL_LENGTH],
 }
@@ -38,10 +38,10 @@ pub extern "C" fn memoir_provision(
     alloc: Global,
     instance: &Instance,
     keys: &Keys,
-    first: &mut Provisioned,
+    first: &mut ProvisionReply,
     room: &mut [u8],
 ) -> u32
-    ensures provisions { Provisions instance.now keys.now (record {
+    ensures provisions { ProvisionsInstance instance.now keys.now (record {
       old = first.old;
       new = first.new;
       before = room.old;
@@ -56,14 +56,14 @@ pub extern "C" fn memoir_provision(
     }
 }
 
-fn made(alloc: Global, instance: &Instance, keys: &Keys) -> Result<Made, Said>
+fn made(alloc: Global, instance: &Instance, keys: &Keys) -> Result<Made, ReturnStatus>
     ensures ok { IfOk result (λ made. (i : model.Instance) × IsMeant instance.now keys.now i
         × (made.cell ≡ first_cell i) × (made.snapshot ≡ first_snapshot i)) }
     ensures err { IfErr result (λ says. IsUnmade instance.now says) }
 {
     let (variant, module) = parts(instance)?;
     match first(alloc, variant, &module, keys) {
-        Err(_) => Err(Said::Refused(Refusal::Memory)),
+        Err(_) => Err(ReturnStatus::Refused(Refusal::Memory)),
         Ok(made) => Ok(made),
     }
 }
@@ -80,7 +80,7 @@ fn first(alloc: Global, variant: Variant, module: &AnyModule, keys: &Keys) -> Re
     }
 }
 
-fn put(made: &Made, first: &mut Provisioned, room: &mut [u8]) -> Said
+fn put(made: &Made, first: &mut ProvisionReply, room: &mut [u8]) -> ReturnStatus
     ensures puts { PutsFirst made.now.cell made.now.snapshot (record {
       old = first.old;
       new = first.new;
@@ -92,10 +92,10 @@ fn put(made: &Made, first: &mut Provisioned, room: &mut [u8]) -> Said
 {
     let snapshot = made.snapshot.as_slice();
     if snapshot.len() > room.len() {
-        return Said::NoRoom;
+        return ReturnStatus::NoRoom;
     }
     room[..snapshot.len()].copy_from_slice(snapshot);
     first.snapshot_length = snapshot.len();
     first.cell = made.cell;
-    Said::Done
+    ReturnStatus::Done
 }

@@ -1,10 +1,10 @@
 //! Receipts.
 
 ghost use Rattle.std.specs.Prelude.{◌≡◌};
-ghost use Rattle.memoir_c.specs.Answering.{receipt_said, verify_said};
+ghost use Rattle.memoir_c.specs.PlainAnswers.{receipt_status, verification_status};
 ghost use Rattle.memoir_c.specs.Numbers.{number_of};
 
-use crate::said::Said;
+use crate::said::ReturnStatus;
 use mm_base::LONGEST_REQUEST;
 use mm_model::Refusal;
 use mm_receipted::{NotReceipt, verify};
@@ -18,29 +18,29 @@ pub extern "C" fn memoir_receipt_verify(
     request: &[u8],
     output: &[u8],
 ) -> u32
-    ensures { result ≡ number_of (verify_said key.now position request.now output.now) }
+    ensures { result ≡ number_of (verification_status key.now position request.now output.now) }
 {
     verdict(key, position, request, output).code()
 }
 
-fn verdict(key: &[u8], position: u64, request: &[u8], output: &[u8]) -> Said
-    ensures { result ≡ verify_said key.now position request.now output.now }
+fn verdict(key: &[u8], position: u64, request: &[u8], output: &[u8]) -> ReturnStatus
+    ensures { result ≡ verification_status key.now position request.now output.now }
 {
     let Ok(key) = <&[u8; 32]>::try_from(key) else {
-        return Said::NoKey;
+        return ReturnStatus::NoKey;
     };
     if request.len() > LONGEST_REQUEST {
-        return Said::Refused(Refusal::Long);
+        return ReturnStatus::Refused(Refusal::Long);
     }
     said_of(verify(key, position, request, output))
 }
 
-fn said_of(verified: Result<(), NotReceipt>) -> Said
-    ensures { result ≡ receipt_said verified }
+fn said_of(verified: Result<(), NotReceipt>) -> ReturnStatus
+    ensures { result ≡ receipt_status verified }
 {
     match verified {
-        Ok(()) => Said::Done,
-        Err(NotReceipt::Form) => Said::Refused(Refusal::Form),
-        Err(NotReceipt::Tag) => Said::Refused(Refusal::Tag),
+        Ok(()) => ReturnStatus::Done,
+        Err(NotReceipt::Form) => ReturnStatus::Refused(Refusal::Form),
+        Err(NotReceipt::Tag) => ReturnStatus::Refused(Refusal::Tag),
     }
 }

@@ -5,7 +5,7 @@ use mm_opt::CheckpointRefusal;
 
 /// What a call says.
 #[derive(Clone, Copy, Debug)]
-pub enum Said {
+pub enum ReturnStatus {
     /// It is done, and everything is written.
     Done,
     /// The core refused.
@@ -32,9 +32,9 @@ pub enum Said {
     NoPosition,
 }
 
-impl Said {
+impl ReturnStatus {
     ghost use Rattle.std.specs.Prelude.{◌≡◌, ◌↔◌};
-    ghost use Rattle.memoir_c.specs.Numbers.{number_of, closing_said};
+    ghost use Rattle.memoir_c.specs.Numbers.{number_of, closing_status};
 
     /// Its number, 0 for Done alone, and 16 for Next alone.
     pub fn code(self) -> u32
@@ -43,31 +43,31 @@ impl Said {
         ensures next { (result ≡ 16) ↔ (self ≡ Said.Next) }
     {
         match self {
-            Said::Done => 0,
-            Said::Refused(refusal) => u32::from(refusal.code()),
-            Said::Next => 16,
-            Said::Differs => 17,
-            Said::NoSegment => 18,
-            Said::NoVariant => 32,
-            Said::NoModule => 33,
-            Said::TooMany => 34,
-            Said::NoStep => 35,
-            Said::NoRoom => 36,
-            Said::NoKey => 37,
-            Said::NoPosition => 38,
+            ReturnStatus::Done => 0,
+            ReturnStatus::Refused(refusal) => u32::from(refusal.code()),
+            ReturnStatus::Next => 16,
+            ReturnStatus::Differs => 17,
+            ReturnStatus::NoSegment => 18,
+            ReturnStatus::NoVariant => 32,
+            ReturnStatus::NoModule => 33,
+            ReturnStatus::TooMany => 34,
+            ReturnStatus::NoStep => 35,
+            ReturnStatus::NoRoom => 36,
+            ReturnStatus::NoKey => 37,
+            ReturnStatus::NoPosition => 38,
         }
     }
 
     /// Of a refused checkpoint, as of a call that is refused for the same.
-    pub fn of_checkpoint(refusal: CheckpointRefusal) -> Said
-        ensures { result ≡ closing_said refusal }
+    pub fn of_checkpoint(refusal: CheckpointRefusal) -> ReturnStatus
+        ensures { result ≡ closing_status refusal }
     {
         match refusal {
-            CheckpointRefusal::Device(fault) => Said::Refused(Refusal::Device(fault)),
-            CheckpointRefusal::Blank => Said::Refused(Refusal::Blank),
-            CheckpointRefusal::Cell => Said::Refused(Refusal::Cell),
-            CheckpointRefusal::Kind => Said::Refused(Refusal::Kind),
-            CheckpointRefusal::Lost => Said::Refused(Refusal::Lost),
+            CheckpointRefusal::Device(fault) => ReturnStatus::Refused(Refusal::Device(fault)),
+            CheckpointRefusal::Blank => ReturnStatus::Refused(Refusal::Blank),
+            CheckpointRefusal::Cell => ReturnStatus::Refused(Refusal::Cell),
+            CheckpointRefusal::Kind => ReturnStatus::Refused(Refusal::Kind),
+            CheckpointRefusal::Lost => ReturnStatus::Refused(Refusal::Lost),
         }
     }
 }

@@ -4,50 +4,50 @@ pub use Rattle.std.proofs.Common.{◌++◌, ◌+◌, ◌<◌, ◌==◌, ◌∙�
 pub use Rattle.std.proofs.Common.{false, inl, inr, is_some, length, length-append, List, map, nat_lt, None, Ok, OnOk, Option, refl, Result}
 pub use Rattle.std.proofs.Common.{Some, subst, suc, sym, take, true, ℕ}
 pub use Rattle.std.proofs.KnownBytes.{Appends-trans, Consumes-nil}
-pub use Rattle.mm_base.specs.Faults.{counted, CountsFaults, Rose}
-pub use Rattle.mm_base.specs.Input.{lines_of, onto_first, onto_tail, tail_of}
-pub use Rattle.mm_base.specs.Streams.{Sends}
+pub use Rattle.mm_base.specs.Faults.{next_count, CountsFaults, CountRose}
+pub use Rattle.mm_base.specs.Input.{lines_of, lines_with_front, tail_with_front, tail_of}
+pub use Rattle.mm_base.specs.Streams.{SinkSends}
 pub use Rattle.mm_base.specs.declared.replay_fault.ReplayFault.{ReplayFault}
 pub use Rattle.mm_digest.specs.declared.variant.Variant.{Variant}
 pub use Rattle.mm_seal.specs.declared.cell.Cell.{Cell as Held}
 pub use Rattle.mm_seal.specs.declared.cell.CellFault.{CellFault}
 pub use Rattle.mm_platform.specs.Standing.{Standing}
 pub use Rattle.mm_platform.specs.declared.fault.StepFault.{StepFault}
-pub use Rattle.mm_modules.specs.Modules.{any_is_found, meaning_of, module_with}
+pub use Rattle.mm_modules.specs.Modules.{any_is_found, meaning_of, module_of_id}
 pub use Rattle.mm_modules.specs.declared.any.AnyModule.{AnyModule}
 pub use Rattle.mm_model.specs.Instance.{Instance}
 pub use Rattle.mm_model.specs.declared.refusal.Refusal.{Refusal}
-pub use Rattle.mm_opt.specs.Checkpoints.{ClosesSegment, closing_by, closing_fault_in, closing_handed_on, EndsClosing, EndsLooking}
-pub use Rattle.mm_opt.specs.Checkpoints.{FindsClosing, FindsSegment, Looks, segment_by, segment_in, Weighs}
+pub use Rattle.mm_opt.specs.Checkpoints.{ClosesSegment, closing_by, closing_fault_in, result_of_closing_write, EndsClosing, EndsLooking}
+pub use Rattle.mm_opt.specs.Checkpoints.{FindsClosing, FindsSegment, LooksAtSegment, segment_by, segment_in, WeighsRegister}
 pub use Rattle.mm_opt.specs.declared.segment.CheckpointRefusal.{CheckpointRefusal}
 pub use Rattle.mm_opt.specs.declared.segment.Checkpointed.{Checkpointed}
 pub use Rattle.mm_schedule.specs.Headers.{header_at}
 pub use Rattle.mm_schedule.specs.declared.header.Header.{Header}
-pub use Rattle.mm_play.specs.Plays.{ForWhole, is_read_fault, is_write_fault, IsBlamed, IsUnrefused, Settles}
-pub use Rattle.mm_play.specs.Takes.{IsFrontOf}
-pub use Rattle.mm_store.specs.Kept.{StoreStanding}
-pub use Rattle.mm_words.specs.declared.command.Command.{Command}
-pub use Rattle.mm_words.specs.declared.command.Command.TheVariants.{Bulk, Check, Checkpoint, Gen, Help, Init, Power, Receipts, Replay, Run}
-pub use Rattle.mm_words.specs.declared.command.Command.TheVariants.{Slots, Transfer}
+pub use Rattle.mm_play.specs.PlaysInput.{HoldsOfWhole, is_read_fault, is_write_fault, IsBlamed, IsUnrefused, AnswerFits}
+pub use Rattle.mm_play.specs.Fronts.{IsFrontOf}
+pub use Rattle.mm_store.specs.StoreStanding.{StoreStanding}
+pub use Rattle.mm_words.specs.declared.command.CommandLine.{CommandLine}
+pub use Rattle.mm_words.specs.declared.command.CommandLine.TheVariants.{Bulk, Check, Checkpoint, Gen, Help, Init, Power, Receipts, Replay, Run}
+pub use Rattle.mm_words.specs.declared.command.CommandLine.TheVariants.{Slots, Transfer}
 pub use Rattle.mm_words.proofs.Above.{one_command}
 pub use Rattle.mm_gen.specs.declared.fault.BulkFault.{BulkFault}
 pub use Rattle.mm_gen.specs.declared.summary.Summary.{Summary}
-pub use Rattle.mm_recovery.specs.Begins.{BlamesDevice, TellsUse}
-pub use Rattle.mm_recovery.specs.Init.{AfterLooking, AfterPuts, AfterTaking, Devices, devices, instance_from, SetsUp, TakesBytes, written_as}
+pub use Rattle.mm_recovery.specs.FirstStart.{BlamesDevice, TellsUse}
+pub use Rattle.mm_recovery.specs.Init.{GoesAfterLooking, GoesAfterAllPuts, GoesAfterTaking, Devices, devices, instance_from, SetsUp, TakesBytes, result_of_write}
 pub use Rattle.mm_recovery.specs.declared.init_fault.InitFault.{InitFault}
 pub use Rattle.mm_host.specs.declared.fault.SessionFault.{SessionFault}
 pub use Rattle.mm_host.proofs.Above.{continues_from, runs_once_from}
 pub use Rattle.mm_app.specs.Blame.{BlamesOutput, BlamesSource, source_faults, tells_platform_fault, tells_read_fault, tells_store_fault}
-pub use Rattle.mm_app.specs.Bulk.{bulk_told}
-pub use Rattle.mm_app.specs.Checkpoint.{checkpoint_told}
-pub use Rattle.mm_app.specs.Commands.{Does, DoesOrLacks, ReadsInput, UsesPlatform, UsesStore}
+pub use Rattle.mm_app.specs.Bulk.{bulk_lines}
+pub use Rattle.mm_app.specs.Checkpoint.{checkpoint_line}
+pub use Rattle.mm_app.specs.Commands.{CommandDoes, DoesOrLacks, ReadsInput, UsesPlatform, UsesStore}
 pub use Rattle.mm_app.specs.Completeness.{CanBeDone, CanClose, CanRun, IsDoneOrFailed, ShowsPower}
 pub use Rattle.mm_app.specs.Outside.{IsStill, Outside, outside}
-pub use Rattle.mm_app.specs.Power.{power_told}
-pub use Rattle.mm_app.specs.Running.{ContinuesIfFound, FindsInstance, header_found, instance_found, LooksAtInstance, RunsOnceIfFound, SeesInstance}
-pub use Rattle.mm_app.specs.Running.{ServesAndStops, ServesIfFound, session_status}
-pub use Rattle.mm_app.specs.Starting.{init_told}
+pub use Rattle.mm_app.specs.Power.{power_line}
+pub use Rattle.mm_app.specs.Run.{ContinuesIfFound, FindsInstance, found_header, found_instance, LooksAtInstance, RunsOnceIfFound, SeesInstance}
+pub use Rattle.mm_app.specs.Run.{ServesAndStops, ServesIfFound, session_status}
+pub use Rattle.mm_app.specs.Init.{init_line}
 pub use Rattle.mm_app.specs.Status.{EndsUnrefused, status_of, stop_line}
-pub use Rattle.mm_app.specs.Telling.{EndsAtOnce, GivesText, status_by, StopsAs, Tells, TellsStop}
+pub use Rattle.mm_app.specs.CommandOutput.{EndsAtOnce, GivesText, status_by, StopsAs, TellsLines, TellsStop}
 pub use Rattle.mm_app.specs.declared.status.Status.{Status}
 pub use Rattle.mm_app.specs.declared.status.Status.TheVariants.{BadLine, Done, LineLong, Memory, PlatformFault, TooMuch, Usage, WriteFault}

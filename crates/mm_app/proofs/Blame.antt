@@ -1,20 +1,20 @@
 -- Whom the status of each command blames.
 use Rattle.mm_app.proofs.Below.{◌≡◌, ◌∙◌, ℕ, Bool, true, false, List, Option, None, Some, Result, Ok, Err, refl, sym, ap, subst, inl, inr}
-use Rattle.mm_app.proofs.Below.{arith, is_some, Rose, ReplayFault, BulkFault, Summary, BlamesDevice, Devices, InitFault, SessionFault}
+use Rattle.mm_app.proofs.Below.{arith, is_some, CountRose, ReplayFault, BulkFault, Summary, BlamesDevice, Devices, InitFault, SessionFault}
 use Rattle.mm_app.proofs.Below.{Checkpointed, CheckpointRefusal, closing_fault_in, StepFault}
-use Rattle.mm_app.proofs.Below.{Standing, Header, Held, CellFault, Command, Init, Run, Checkpoint, Power, Replay, Check, Gen, Bulk, Slots}
+use Rattle.mm_app.proofs.Below.{Standing, Header, Held, CellFault, CommandLine, Init, Run, Checkpoint, Power, Replay, Check, Gen, Bulk, Slots}
 use Rattle.mm_app.proofs.Below.{Receipts, Transfer, Help, BlamesSource, source_faults, tells_platform_fault, tells_read_fault}
-use Rattle.mm_app.proofs.Below.{tells_store_fault, bulk_told, checkpoint_told, Does, DoesOrLacks, ReadsInput, UsesPlatform, UsesStore}
-use Rattle.mm_app.proofs.Below.{StoreStanding, Outside, IsStill, power_told, ServesIfFound, FindsInstance, instance_found}
-use Rattle.mm_app.proofs.Below.{session_status, init_told, status_of, GivesText, StopsAs, Tells, status_by, Status}
+use Rattle.mm_app.proofs.Below.{tells_store_fault, bulk_lines, checkpoint_line, CommandDoes, DoesOrLacks, ReadsInput, UsesPlatform, UsesStore}
+use Rattle.mm_app.proofs.Below.{StoreStanding, Outside, IsStill, power_line, ServesIfFound, FindsInstance, found_instance}
+use Rattle.mm_app.proofs.Below.{session_status, init_line, status_of, GivesText, StopsAs, TellsLines, status_by, Status}
 use Rattle.mm_app.proofs.Below.{Done, Memory, WriteFault, PlatformFault}
 use Rattle.mm_base.specs.declared.fault.WriteFault as write
-use Rattle.mm_call.specs.Leaving.{Blames}
+use Rattle.mm_call.specs.Untouched.{CountsHandedFault}
 use Rattle.mm_host.specs.SessionBlame as session_blame
 use Rattle.mm_recovery.specs.declared.init_fault.InitFault.TheVariants as init
 use Rattle.mm_platform.specs.declared.fault.StepFault.TheVariants.{Failed, Off}
-use Rattle.mm_platform.specs.Steps.{EndsBy, EndsCycle}
-use Rattle.mm_play.specs.Plays as plays
+use Rattle.mm_platform.specs.Steps.{DeviceStepEnds, CycleEnds}
+use Rattle.mm_play.specs.PlaysInput as plays
 
 -- of the platform, the store and the source, a status blames these
 pub record BlamesAs (status : Status) (platform store source : Bool) : Type 0 where
@@ -39,7 +39,7 @@ module _ (status : Status) (p s q : Bool) where
   wrote_as r e b = grind arith
 
   told_as : (told : Result (List ℕ) Status) (received received' : Option (List ℕ)) (writes writes' : ℕ)
-      → Tells told received received' writes writes' status → BlamesAs (end_of told) p s q → BlamesAs status p s q
+      → TellsLines told received received' writes writes' status → BlamesAs (end_of told) p s q → BlamesAs status p s q
   told_as (Ok text) received received' writes writes' t b = wrote_as t.result t.ends b
   told_as (Err end) received received' writes writes' t b = blames_as end t.ends b
 
@@ -54,22 +54,22 @@ blamed_as one other before now e b = subst (λ (x : Bool). plays.IsBlamed x befo
 played_as : {T : Type 0} (answer : Result T ReplayFault) → BlamesAs (status_of answer) false false (plays.is_read_fault answer)
 played_as answer = grind arith
 
-bulk_none : (count : ℕ) (answer : Result Summary BulkFault) → BlamesNone (end_of (bulk_told count answer))
+bulk_none : (count : ℕ) (answer : Result Summary BulkFault) → BlamesNone (end_of (bulk_lines count answer))
 bulk_none count answer = grind arith
 
-power_as : (fault : Option StepFault) → BlamesAs (end_of (power_told fault)) (is_some fault) false false
+power_as : (fault : Option StepFault) → BlamesAs (end_of (power_line fault)) (is_some fault) false false
 power_as fault = grind arith
 
-power_blames : (fault : Option StepFault) (before after : Standing) (emptied : Bool) → EndsCycle fault before after emptied
+power_blames : (fault : Option StepFault) (before after : Standing) (emptied : Bool) → CycleEnds fault before after emptied
     → plays.IsBlamed (is_some fault) before.faults after.faults
 power_blames None before after emptied e = e.2
 power_blames (Some fault) before after emptied e = e
 
 checkpoint_as : (answer : Result Checkpointed CheckpointRefusal)
-    → BlamesAs (end_of (checkpoint_told answer)) (is_some (closing_fault_in answer)) false false
+    → BlamesAs (end_of (checkpoint_line answer)) (is_some (closing_fault_in answer)) false false
 checkpoint_as answer = grind arith
 
-blames_some : (fault : Option StepFault) (before after : ℕ) → Blames fault before after → plays.IsBlamed (is_some fault) before after
+blames_some : (fault : Option StepFault) (before after : ℕ) → CountsHandedFault fault before after → plays.IsBlamed (is_some fault) before after
 blames_some None before after b = b
 blames_some (Some fault) before after b = b
 
@@ -82,7 +82,7 @@ pub record StartBlames (before after : Devices) (end : Status) : Type 0 where
   pub other : end ≡ WriteFault → ⊥
 
 pub start_blames : (answer : Result (Unit {0}) InitFault) (before after : Devices) → BlamesDevice before after answer
-    → StartBlames before after (end_of (init_told answer))
+    → StartBlames before after (end_of (init_line answer))
 start_blames (Err init.Memory) _ _ b = record { platform = b.platform; store = b.store; source = b.source; other = λ h. cc }
 start_blames _ _ _ b = record { platform = b.platform; store = b.store; source = b.source; other = λ h. cc }
 
@@ -98,7 +98,7 @@ pub record UnheldAs (end : Status) : Type 0 where
   pub blames : BlamesNone end
   pub other : end ≡ WriteFault → ⊥
 
-pub unheld_as : (read : Result Held CellFault) (end : Status) → Err end ≡ instance_found read → UnheldAs end
+pub unheld_as : (read : Result Held CellFault) (end : Status) → Err end ≡ found_instance read → UnheldAs end
 unheld_as read end e = grind arith
 
 -- what no session is served over, by the first step's fault
@@ -106,19 +106,19 @@ pub platform_end : (end : Status) → (let r : Result Header Status = Err end in
 platform_end end e = cc
 
 -- a device that failed is blamed
-failed_rose : (fault : StepFault) (before after : Standing) (made : Bool) → EndsBy (Some fault) before after made
-    → Rose before.faults after.faults
+failed_rose : (fault : StepFault) (before after : Standing) (made : Bool) → DeviceStepEnds (Some fault) before after made
+    → CountRose before.faults after.faults
 failed_rose Failed before after made e = e.faults
 failed_rose Off before after made e = e.faults
 
 -- the commands
 
-pub record Frames (command : Command) (old new : Outside) : Type 0 where
+pub record Frames (command : CommandLine) (old new : Outside) : Type 0 where
   pub standing : (UsesPlatform command → ⊥) → new.standing ≡ old.standing
   pub kept : (UsesStore command → ⊥) → new.kept ≡ old.kept
   pub reads : (ReadsInput command → ⊥) → new.reads ≡ old.reads
 
-pub record Blamed (command : Command) (old new : Outside) (status : Status) : Type 0 where
+pub record Blamed (command : CommandLine) (old new : Outside) (status : Status) : Type 0 where
   pub platform : plays.IsBlamed (tells_platform_fault status) old.standing.faults new.standing.faults
   pub store : plays.IsBlamed (tells_store_fault status) old.kept.faults new.kept.faults
   pub source : BlamesSource command old new status
@@ -126,7 +126,7 @@ pub record Blamed (command : Command) (old new : Outside) (status : Status) : Ty
 same_kept : (old new : Outside) → new.kept ≡ old.kept → new.kept.faults ≡ old.kept.faults
 same_kept old new e = ap (λ (k : StoreStanding). k.faults) e
 
-module _ (command : Command) (old new : Outside) (status : Status) where
+module _ (command : CommandLine) (old new : Outside) (status : Status) where
   -- by what the status blames, and whose counts rose
   blamed_so : (p s q : Bool) → BlamesAs status p s q → plays.IsBlamed p old.standing.faults new.standing.faults
       → plays.IsBlamed s old.kept.faults new.kept.faults → plays.IsBlamed q (source_faults command old) (source_faults command new)
@@ -139,7 +139,7 @@ module _ (command : Command) (old new : Outside) (status : Status) where
 
   same_source : IsStill old new → source_faults command new ≡ source_faults command old
   same_source s = by command where
-    by : (it : Command) → source_faults it new ≡ source_faults it old
+    by : (it : CommandLine) → source_faults it new ≡ source_faults it old
     by (Init header) = s.takes
     by _ = s.reads
 
@@ -167,7 +167,7 @@ module _ (command : Command) (old new : Outside) (status : Status) where
 
   -- a session, or none where no instance was found
   run_blamed : (found : Result Header Status) (fault : Option StepFault) (middle : Standing) (made : Bool)
-      → EndsBy fault old.standing middle made → FindsInstance fault old.standing found
+      → DeviceStepEnds fault old.standing middle made → FindsInstance fault old.standing found
       → ServesIfFound found middle new.standing old.kept new.kept old.left new.left old.received new.received old.reads new.reads
       old.writes new.writes status → source_faults command old ≡ old.reads → source_faults command new ≡ new.reads
       → Blamed command old new status
@@ -185,15 +185,15 @@ module _ (command : Command) (old new : Outside) (status : Status) where
       blamed_so true false false
       (blames_as status _ _ _ PlatformFault (a.stops.ends ∙ platform_end end f)
       (record { platform_is = refl; store_is = refl; source_is = refl }))
-      (subst (λ (s : Standing). Rose old.standing.faults s.faults) (sym a.standing) (failed_rose fault old.standing middle made e))
+      (subst (λ (s : Standing). CountRose old.standing.faults s.faults) (sym a.standing) (failed_rose fault old.standing middle made e))
       (same_kept old new a.kept) (rw (read, read') a.unfailed)
 
-pub done_blamed : (command : Command) (old new : Outside) (status : Status) → Frames command old new → Does command old new status
+pub done_blamed : (command : CommandLine) (old new : Outside) (status : Status) → Frames command old new → CommandDoes command old new status
     → Blamed command old new status
 done_blamed (Init header) old new status f d =
     let b = start_blames d.answer _ _ d.faults in
     blamed_so (Init header) old new status _ _ _
-    (told_as status _ _ _ (init_told d.answer) _ _ _ _ d.tells (record { platform_is = refl; store_is = refl; source_is = refl }))
+    (told_as status _ _ _ (init_line d.answer) _ _ _ _ d.tells (record { platform_is = refl; store_is = refl; source_is = refl }))
     b.platform b.store b.source
 done_blamed Run old new status f d =
     run_blamed Run old new status d.found d.looks.fault d.middle d.looks.goes.is_made d.looks.goes.ends d.looks.finds d.goes refl refl
@@ -201,7 +201,7 @@ done_blamed (Gen it) old new status f d = given_blamed (Gen it) old new status _
 done_blamed Help old new status f d = given_blamed Help old new status _ d
 done_blamed (Bulk it) old new status f d =
     still_blamed (Bulk it) old new status d.0
-    (told_as status _ _ _ (bulk_told it.count d.1.answer) _ _ _ _ d.1.tells (bulk_none it.count d.1.answer))
+    (told_as status _ _ _ (bulk_lines it.count d.1.answer) _ _ _ _ d.1.tells (bulk_none it.count d.1.answer))
 done_blamed (Receipts key) old new status f d =
     lines_blamed (Receipts key) old new status d.played.answer f (λ h. h) (λ h. h) d.played.ends d.played.read
 done_blamed Replay old new status f d = lines_blamed Replay old new status d.played.answer f (λ h. h) (λ h. h) d.played.ends d.played.read
@@ -210,13 +210,13 @@ done_blamed Slots old new status f d = lines_blamed Slots old new status d.playe
 done_blamed Transfer old new status f d =
     lines_blamed Transfer old new status d.played.answer f (λ h. h) (λ h. h) d.played.ends d.played.read
 done_blamed Power old new status f d =
-    blamed_so Power old new status _ _ _ (told_as status _ _ _ (power_told d.fault) _ _ _ _ d.tells (power_as d.fault))
+    blamed_so Power old new status _ _ _ (told_as status _ _ _ (power_line d.fault) _ _ _ _ d.tells (power_as d.fault))
     (power_blames d.fault _ _ d.cycles.is_emptied d.cycles.ends) (same_kept old new (f.kept (λ h. h))) (f.reads (λ h. h))
 done_blamed Checkpoint old new status f d =
-    blamed_so Checkpoint old new status _ _ _ (told_as status _ _ _ (checkpoint_told d.answer) _ _ _ _ d.tells (checkpoint_as d.answer))
+    blamed_so Checkpoint old new status _ _ _ (told_as status _ _ _ (checkpoint_line d.answer) _ _ _ _ d.tells (checkpoint_as d.answer))
     (blames_some (closing_fault_in d.answer) _ _ d.faults) (same_kept old new (f.kept (λ h. h))) (f.reads (λ h. h))
 
-pub blamed : (command : Command) (old new : Outside) (status : Status) → Frames command old new → DoesOrLacks command old new status
+pub blamed : (command : CommandLine) (old new : Outside) (status : Status) → Frames command old new → DoesOrLacks command old new status
     → Blamed command old new status
 blamed command old new status f (inl d) = done_blamed command old new status f d
 blamed command old new status f (inr e) = stopped_blamed command old new status Memory memory_none e.still e.stops

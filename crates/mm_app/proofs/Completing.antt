@@ -1,14 +1,14 @@
 -- A command of the host isn't refused where it may be done.
 use Rattle.mm_app.proofs.Below.{◌≡◌, ◌∙◌, ◌+◌, ◌≤◌, ◌<◌, ℕ, Bool, true, false, List, length, Option, None, Some, Result}
 use Rattle.mm_app.proofs.Below.{Ok, Err, refl, sym, ap, subst, inl, inr, arith, length-append, Consumes, IsAtEnd, Variant, TellsUse}
-use Rattle.mm_app.proofs.Below.{AfterLooking, AfterPuts, AfterTaking, Devices, SetsUp, TakesBytes, devices, instance_from}
-use Rattle.mm_app.proofs.Below.{written_as, SessionFault, InitFault, Instance, Refusal, meaning_of, module_with, any_is_found, AnyModule}
-use Rattle.mm_app.proofs.Below.{ClosesSegment, EndsClosing, EndsLooking, FindsClosing, FindsSegment, Looks, Weighs, closing_by}
-use Rattle.mm_app.proofs.Below.{closing_handed_on, segment_by, segment_in, Checkpointed, CheckpointRefusal, StepFault, Standing}
-use Rattle.mm_app.proofs.Below.{Header, StoreStanding, Command, Init, Run, Checkpoint, Power, Gen}
-use Rattle.mm_app.proofs.Below.{Help, checkpoint_told, Does, DoesOrLacks, IsDoneOrFailed}
-use Rattle.mm_app.proofs.Below.{CanClose, CanBeDone, ContinuesIfFound, Held, ShowsPower, Outside, power_told, FindsInstance}
-use Rattle.mm_app.proofs.Below.{SeesInstance, ServesAndStops, ServesIfFound, header_found, instance_found, session_status, init_told, Tells}
+use Rattle.mm_app.proofs.Below.{GoesAfterLooking, GoesAfterAllPuts, GoesAfterTaking, Devices, SetsUp, TakesBytes, devices, instance_from}
+use Rattle.mm_app.proofs.Below.{result_of_write, SessionFault, InitFault, Instance, Refusal, meaning_of, module_of_id, any_is_found, AnyModule}
+use Rattle.mm_app.proofs.Below.{ClosesSegment, EndsClosing, EndsLooking, FindsClosing, FindsSegment, LooksAtSegment, WeighsRegister, closing_by}
+use Rattle.mm_app.proofs.Below.{result_of_closing_write, segment_by, segment_in, Checkpointed, CheckpointRefusal, StepFault, Standing}
+use Rattle.mm_app.proofs.Below.{Header, StoreStanding, CommandLine, Init, Run, Checkpoint, Power, Gen}
+use Rattle.mm_app.proofs.Below.{Help, checkpoint_line, CommandDoes, DoesOrLacks, IsDoneOrFailed}
+use Rattle.mm_app.proofs.Below.{CanClose, CanBeDone, ContinuesIfFound, Held, ShowsPower, Outside, power_line, FindsInstance}
+use Rattle.mm_app.proofs.Below.{SeesInstance, ServesAndStops, ServesIfFound, found_header, found_instance, session_status, init_line, TellsLines}
 use Rattle.mm_app.proofs.Below.{status_by, Status}
 use Rattle.std.specs.Str.{bytes_eq}
 use Rattle.std.proofs.lemmas.Slice.Eq.{bytes_eq-Decides}
@@ -22,13 +22,13 @@ use Rattle.std.specs.Prelude.{◌≢◌}
 use Rattle.mm_base.specs.Input.{lines_of}
 use Rattle.mm_host.proofs.Above.{among_input, unless_full}
 use Rattle.mm_host.specs.AnySlots.{requests_with}
-use Rattle.mm_host.specs.Continuing.{RefusesAs}
-use Rattle.mm_recovery.specs.InitFaults.{store_failed_as}
+use Rattle.mm_host.specs.Continuation.{RefusesAs}
+use Rattle.mm_recovery.specs.InitFaults.{init_fault_as}
 use Rattle.mm_host.specs.SessionLines.{IsNoLines}
 use Rattle.mm_host.specs.declared.fault.SessionFault.TheVariants as session
 use Rattle.mm_recovery.specs.declared.init_fault.InitFault.TheVariants as init
 use Rattle.mm_model.specs.History.{first_history, History}
-use Rattle.mm_model.specs.InstanceWords.{basic, opt}
+use Rattle.mm_model.specs.InstanceWords.{basic_instance, opt_instance}
 use Rattle.mm_model.specs.Life.{life_of, Lost as LostLife, Spoiled}
 use Rattle.mm_model.specs.Standing.{cell_of}
 use Rattle.mm_model.specs.declared.refusal.Refusal.TheVariants as refused
@@ -41,11 +41,11 @@ use Rattle.mm_seal.specs.Cell.{IsCell, blank_cell, cell_spelling}
 use Rattle.mm_seal.specs.declared.cell.Cell.{Cell}
 use Rattle.mm_seal.specs.CellLaws.{reads_cell-same}
 use Rattle.mm_store.specs.declared.fault.StoreFault.{StoreFault}
-use Rattle.mm_app.proofs.Below.{Bulk, bulk_told, BulkFault, Summary}
+use Rattle.mm_app.proofs.Below.{Bulk, bulk_lines, BulkFault, Summary}
 use Rattle.mm_app.specs.Completeness.{CanRun, CanServe, in_basic, in_opt, IsReplayable}
-use Rattle.mm_gen.specs.Replayed.{IsReplayed, replay_of}
+use Rattle.mm_gen.specs.Replay.{IsReplayed, replay_of}
 use Rattle.mm_gen.specs.declared.fault.BulkFault.TheVariants as bulk
-use Rattle.mm_words.specs.declared.command.Generated.{Generated}
+use Rattle.mm_words.specs.declared.command.GeneratedSchedule.{GeneratedSchedule}
 use Rattle.mm_app.proofs.Blame.{end_of}
 
 -- what was told
@@ -54,20 +54,20 @@ written_ends : (r : Result (Unit {0}) write.WriteFault) (status : Status) → st
 written_ends r status e = grind arith
 
 told_ends : (told : Result (List ℕ) Status) (received received' : Option (List ℕ)) (writes writes' : ℕ) (status : Status)
-    → Tells told received received' writes writes' status → IsDoneOrFailed (end_of told) → IsDoneOrFailed status
+    → TellsLines told received received' writes writes' status → IsDoneOrFailed (end_of told) → IsDoneOrFailed status
 told_ends (Ok text) received received' writes writes' status t h = written_ends t.result status t.ends
 told_ends (Err end) received received' writes writes' status t h = subst IsDoneOrFailed (sym t.ends) h
 
 -- `power`
 
-power_ends : (fault : Option StepFault) → IsDoneOrFailed (end_of (power_told fault))
+power_ends : (fault : Option StepFault) → IsDoneOrFailed (end_of (power_line fault))
 power_ends fault = grind arith
 
 -- `bulk`
 
-bulk_ends : (it : Generated) (answer : Result Summary BulkFault) → IsReplayable it
+bulk_ends : (it : GeneratedSchedule) (answer : Result Summary BulkFault) → IsReplayable it
     → IsReplayed (replay_of it.number it.count it.header) answer
-    → IsDoneOrFailed (end_of (bulk_told it.count answer))
+    → IsDoneOrFailed (end_of (bulk_lines it.count answer))
 bulk_ends it (Err bulk.TooMuch) can r = let clash : Ok can.0 ≡ Err replay.TooMuch = sym can.1 ∙ r in absurd (cc)
 bulk_ends it _ can r = tt
 
@@ -84,16 +84,16 @@ long_enough secrets taken (Some rest) many c ended few =
 abbrev pub Shorts : Result (Unit {0}) InitFault → ℕ → Type 0
 Shorts result got = result ≡ Err (init.Short got)
 
-written_whole : (written : Result (Unit {0}) StepFault) (result : Result (Unit {0}) InitFault) (got : ℕ) → result ≡ written_as written
+written_whole : (written : Result (Unit {0}) StepFault) (result : Result (Unit {0}) InitFault) (got : ℕ) → result ≡ result_of_write written
     → Shorts result got → ⊥
 written_whole written result got e s = grind arith
 
-unstored_whole : (why : StoreFault) (result : Result (Unit {0}) InitFault) (got : ℕ) → result ≡ Err (store_failed_as why)
+unstored_whole : (why : StoreFault) (result : Result (Unit {0}) InitFault) (got : ℕ) → result ≡ Err (init_fault_as why)
     → Shorts result got → ⊥
 unstored_whole why result got e s = grind arith
 
 put_whole : (cell : List ℕ) (before after : Standing) (stored : Result (Unit {0}) StoreFault) (result : Result (Unit {0}) InitFault)
-    (got : ℕ) → AfterPuts cell before after stored result → Shorts result got → ⊥
+    (got : ℕ) → GoesAfterAllPuts cell before after stored result → Shorts result got → ⊥
 put_whole cell before after (Ok done) result got a s = written_whole a.written result got a.gives s
 put_whole cell before after (Err why) result got a s = unstored_whole why result got a.1 s
 
@@ -105,7 +105,7 @@ set_whole i before after old new result got up s = elim up [
 ]
 
 taken_whole : (variant : Variant) (meaning : Meaning) (middle after : Devices) (taken : Result (List ℕ) Failed) (result : Result (Unit {0})
-    InitFault) (got : ℕ) → ((bytes : List ℕ) → taken ≡ Ok bytes → length bytes < 64 → ⊥) → AfterTaking variant meaning middle after taken
+    InitFault) (got : ℕ) → ((bytes : List ℕ) → taken ≡ Ok bytes → length bytes < 64 → ⊥) → GoesAfterTaking variant meaning middle after taken
     result → Shorts result got → ⊥
 taken_whole variant meaning middle after (Err why) result got enough a s = let e = a.1 in cc
 taken_whole variant meaning middle after (Ok bytes) result got enough a s = elim a [
@@ -115,7 +115,7 @@ taken_whole variant meaning middle after (Ok bytes) result got enough a s = elim
 
 never_short : (variant : Variant) (meaning : Meaning) (middle after : Devices) (is_blank : Result Bool StepFault)
     (result : Result (Unit {0}) InitFault) (secrets : List ℕ) (got : ℕ) → middle.left ≡ Some secrets → 64 ≤ length secrets
-    → AfterLooking variant meaning middle after is_blank result → Shorts result got → ⊥
+    → GoesAfterLooking variant meaning middle after is_blank result → Shorts result got → ⊥
 never_short variant meaning middle after (Err fault) result secrets got left many a s = let e = a.1 in cc
 never_short variant meaning middle after (Ok false) result secrets got left many a s = let e = a.1 in cc
 never_short variant meaning middle after (Ok true) result secrets got left many a s =
@@ -128,7 +128,7 @@ never_short variant meaning middle after (Ok true) result secrets got left many 
           long_enough secrets bytes a.left many (subst (λ (l : Option (List ℕ)). Consumes l a.left bytes) left u.consumed) u.ended few
 
 start_ends : (answer : Result (Unit {0}) InitFault) → ((got : ℕ) → Shorts answer got → ⊥) → (answer ≡ Err init.Already → ⊥)
-    → IsDoneOrFailed (end_of (init_told answer))
+    → IsDoneOrFailed (end_of (init_line answer))
 start_ends (Err init.Already) short used = absurd (used refl)
 start_ends (Err (init.Short got)) short used = absurd (short got refl)
 start_ends _ short used = tt
@@ -141,7 +141,7 @@ unused before cell answer uses told blank is =
 -- `checkpoint`
 
 abbrev Ends : Result Checkpointed CheckpointRefusal → Type 0
-Ends answer = IsDoneOrFailed (end_of (checkpoint_told answer))
+Ends answer = IsDoneOrFailed (end_of (checkpoint_line answer))
 
 -- what a read finds in the cell
 segment_is : (held : Cell) (standing : Standing) (found : Result Segment CheckpointRefusal) → IsCell held
@@ -170,12 +170,12 @@ unlost cell standing why shows f =
     shows.powered (sym (f.told shows.items shows.shown) ∙ (bytes_eq-Decides f.register zero_bytes).0 zero)
 
 handed_ends : (written : Result Checkpointed StepFault) (answer : Result Checkpointed CheckpointRefusal)
-    → answer ≡ closing_handed_on written → Ends answer
+    → answer ≡ result_of_closing_write written → Ends answer
 handed_ends (Ok said.Done) answer e = subst Ends (sym e) tt
 handed_ends _ answer e = subst Ends (sym e) tt
 
 weighed_ends : (cell : Cell) (old middle new : Standing) (found : Result (List ℕ) CheckpointRefusal) (answer : Result Checkpointed
-    CheckpointRefusal) → ShowsPower new → Weighs cell old middle found → EndsClosing found middle new answer → Ends answer
+    CheckpointRefusal) → ShowsPower new → WeighsRegister cell old middle found → EndsClosing found middle new answer → Ends answer
 weighed_ends cell old middle new (Err (refusal.Device fault)) answer shows w e = subst Ends (sym e.1) tt
 weighed_ends cell old middle new (Err why) answer shows w e =
     absurd (unlost cell middle why (subst ShowsPower e.0 shows) (w.finds refl))
@@ -183,7 +183,7 @@ weighed_ends cell old middle new (Ok next) answer shows w e = handed_ends e.writ
 
 looked_ends : (held : Cell) (old middle new : Standing) (found : Result Segment CheckpointRefusal) (answer : Result Checkpointed
     CheckpointRefusal) → ((seen : FindsSegment old found) → found ≡ segment_by Opt held.flag held) → (held.flag ≡ true → ShowsPower new)
-    → Looks old middle found → EndsLooking found middle new answer → Ends answer
+    → LooksAtSegment old middle found → EndsLooking found middle new answer → Ends answer
 looked_ends held old middle new (Err (refusal.Device fault)) answer is shows l e = subst Ends (sym e.1) tt
 looked_ends held old middle new (Err why) answer is shows l e = absurd (not_refused held.flag held why (is (l.finds refl)))
 looked_ends held old middle new (Ok (Open cell)) answer is shows l e =
@@ -198,8 +198,8 @@ closing_ends old new answer can c =
 
 -- `run`
 
-header_is : (v : Variant) (it : AnyModule) → header_found v (module_with (meaning_of it).id) ≡ Ok (record { variant = v; «module» = it })
-header_is v it = ap (header_found v) (any_is_found it).by_id
+header_is : (v : Variant) (it : AnyModule) → found_header v (module_of_id (meaning_of it).id) ≡ Ok (record { variant = v; «module» = it })
+header_is v it = ap (found_header v) (any_is_found it).by_id
 
 refused_ends : (why : Refusal) (variant : Variant) (after : History) → life_of variant after ≢ LostLife → life_of variant after ≢ Spoiled
     → (why ≡ refused.Full → ⊥) → RefusesAs {T = Unit {0}} (Err (session.Host (host.Refused why))) variant after
@@ -235,10 +235,10 @@ module _ (old new : Outside) (status : Status) (middle : Standing) where
       → found ≡ Ok (record { variant = v; «module» = it })
   found_is v it held found bytes variant id formed here told sees =
       let read : sees.read ≡ Ok held = reads_cell-same bytes sees.read (Ok held) sees.reads (formed, told (cell_spelling held) here) in
-      sees.found_is ∙ ap instance_found read
-      ∙ (λ j. header_found (variant j) (module_with (id j))) ∙ header_is v it
+      sees.found_is ∙ ap found_instance read
+      ∙ (λ j. found_header (variant j) (module_of_id (id j))) ∙ header_is v it
 
-  basic_ends : (it : AnyModule) (key : List ℕ) (can : CanServe (basic (meaning_of it) key) old new)
+  basic_ends : (it : AnyModule) (key : List ℕ) (can : CanServe (basic_instance (meaning_of it) key) old new)
       → Serves (Ok (record { variant = Basic; «module» = it })) → IsDoneOrFailed status
   basic_ends it key can s =
       let served = s.0.served in
@@ -251,7 +251,7 @@ module _ (old new : Outside) (status : Status) (middle : Standing) where
       (session_ends served.answer Basic c.runs.after (λ e. cc) (λ e. cc) (served.lines can.input can.left can.lines)
       (unless_full served.sessions can.slots waiting can.may.told can.may.fits.is_waiting can.y requests among can.room c) c.refuses)
 
-  opt_ends : (it : AnyModule) (key barrier : List ℕ) (can : CanServe (opt (meaning_of it) key barrier) old new)
+  opt_ends : (it : AnyModule) (key barrier : List ℕ) (can : CanServe (opt_instance (meaning_of it) key barrier) old new)
       → Serves (Ok (record { variant = Opt; «module» = it })) → IsDoneOrFailed status
   opt_ends it key barrier can s =
       let served = s.0.served in
@@ -272,38 +272,38 @@ module _ (old new : Outside) (status : Status) (middle : Standing) where
       let none = subst (λ (r : Result Header Status). Serves r) f s in subst IsDoneOrFailed (sym none.0.stops.ends) tt
   run_ends None found (in_basic it key can) f s =
       let at = can.may.stands in
-      basic_ends it key can (subst (λ (r : Result Header Status). Serves r) (found_is Basic it (cell_of (basic (meaning_of it) key) can.y)
+      basic_ends it key can (subst (λ (r : Result Header Status). Serves r) (found_is Basic it (cell_of (basic_instance (meaning_of it) key) can.y)
       found f.0 refl refl at.spells at.cell f.1 f.2) s)
   run_ends None found (in_opt it key barrier can) f s =
       let at = can.may.stands in
       opt_ends it key barrier can (subst (λ (r : Result Header Status). Serves r) (found_is Opt it
-      (cell_of (opt (meaning_of it) key barrier) can.y) found f.0 refl refl at.spells at.cell f.1 f.2) s)
+      (cell_of (opt_instance (meaning_of it) key barrier) can.y) found f.0 refl refl at.spells at.cell f.1 f.2) s)
 
 -- the commands
 
-does_end : (command : Command) (old new : Outside) (status : Status) → CanBeDone command old new → Does command old new status
+does_end : (command : CommandLine) (old new : Outside) (status : Status) → CanBeDone command old new → CommandDoes command old new status
     → IsDoneOrFailed status
 does_end (Init header) old new status can d =
     let before : Devices = devices old.standing old.kept old.entropy old.takes in
     let after : Devices = devices new.standing new.kept new.entropy new.takes in
-    told_ends (init_told d.answer) old.received new.received old.writes new.writes status d.tells
+    told_ends (init_line d.answer) old.received new.received old.writes new.writes status d.tells
     (start_ends d.answer (λ got s. never_short header.variant (meaning_of header.module) (record before { platform = d.steps.platform })
     after d.steps.is_blank d.answer can.secrets got can.left can.many d.steps.goes s) (unused before blank_cell d.answer d.uses can.cell
     refl))
 does_end Run old new status can d = run_ends old new status d.middle d.looks.fault d.found can d.looks.finds (d.goes, d.continues)
 does_end Checkpoint old new status can d =
-    told_ends (checkpoint_told d.answer) old.received new.received old.writes new.writes status d.tells
+    told_ends (checkpoint_line d.answer) old.received new.received old.writes new.writes status d.tells
     (closing_ends old new d.answer can d.closes)
 does_end (Bulk it) old new status can d =
-    told_ends (bulk_told it.count d.1.answer) old.received new.received old.writes new.writes status d.1.tells
+    told_ends (bulk_lines it.count d.1.answer) old.received new.received old.writes new.writes status d.1.tells
     (bulk_ends it d.1.answer can d.1.replayed)
 does_end Power old new status can d =
-    told_ends (power_told d.fault) old.received new.received old.writes new.writes status d.tells (power_ends d.fault)
+    told_ends (power_line d.fault) old.received new.received old.writes new.writes status d.tells (power_ends d.fault)
 does_end (Gen it) old new status can d = written_ends d.given.result status d.given.ends
 does_end Help old new status can d = written_ends d.given.result status d.given.ends
 does_end _ old new status can d = absurd can
 
-pub may_be_done : (command : Command) (old new : Outside) (status : Status) → CanBeDone command old new → DoesOrLacks command old new status
+pub may_be_done : (command : CommandLine) (old new : Outside) (status : Status) → CanBeDone command old new → DoesOrLacks command old new status
     → IsDoneOrFailed status
 may_be_done command old new status can d = elim d [
   | inl does ↦ does_end command old new status can does

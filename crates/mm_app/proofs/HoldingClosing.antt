@@ -1,8 +1,8 @@
 -- What `checkpoint` tells of what the cell and the register held.
 use Rattle.mm_app.proofs.Below.{◌≡◌, ◌∙◌, ℕ, Bool, true, false, List, Option, None, Some, Result, Ok, Err, refl, sym, ap, subst, inl, inr, ◌⊎◌}
 use Rattle.mm_app.proofs.Below.{arith, Held, CellFault, Checkpoint, Checkpointed, CheckpointRefusal, ClosesSegment, closing_by}
-use Rattle.mm_app.proofs.Below.{closing_handed_on, EndsClosing, EndsLooking, FindsClosing, FindsSegment, Looks, segment_by, segment_in, Weighs}
-use Rattle.mm_app.proofs.Below.{checkpoint_told, Does, Outside, Standing, Status, StepFault, Tells, Variant}
+use Rattle.mm_app.proofs.Below.{result_of_closing_write, EndsClosing, EndsLooking, FindsClosing, FindsSegment, LooksAtSegment, segment_by, segment_in, WeighsRegister}
+use Rattle.mm_app.proofs.Below.{checkpoint_line, CommandDoes, Outside, Standing, Status, StepFault, TellsLines, Variant}
 use Rattle.std.specs.Prelude.{◌≢◌, ◌++◌, map}
 use Rattle.std.proofs.Common.{get_or}
 use Rattle.std.specs.Option.{option_map}
@@ -10,18 +10,18 @@ use Rattle.std.specs.Str.{bytes_eq}
 use Rattle.std.proofs.lemmas.Slice.Eq.{bytes_eq-Decides}
 use Rattle.mm_digest.specs.Messages.{zero_bytes}
 use Rattle.mm_digest.specs.declared.variant.Variant.TheVariants.{Basic, Opt}
-use Rattle.mm_opt.specs.Checkpoints.{closed_cell, Closes, LeavesStill}
+use Rattle.mm_opt.specs.Checkpoints.{closed_cell, WritesClosing, LeavesStill}
 use Rattle.mm_opt.specs.declared.segment.Checkpointed.TheVariants as said
 use Rattle.mm_opt.specs.declared.segment.CheckpointRefusal.TheVariants as refusal
 use Rattle.mm_opt.specs.declared.segment.Segment.{Segment}
 use Rattle.mm_opt.specs.declared.segment.Segment.TheVariants.{Open, Shut}
-use Rattle.mm_call.specs.Leaving.{IsUntouched}
+use Rattle.mm_call.specs.Untouched.{IsUntouched}
 use Rattle.mm_platform.specs.Standing.{foreign_item, Item, item_values, register_after}
-use Rattle.mm_platform.specs.Steps.{beside, cell_after, WriteCell}
+use Rattle.mm_platform.specs.Steps.{items_beside, cell_after, WriteCell}
 use Rattle.mm_seal.specs.Cell.{blank_cell, cell_spelling, flag_byte, ReadsCell, SpellsCell}
 use Rattle.mm_seal.specs.CellLaws.{reads_cell-same}
 use Rattle.mm_seal.specs.declared.cell.CellFault.TheVariants as unheld
-use Rattle.mm_app.specs.Holding.{CantRead, EndsByFault, FindsBasic, HasLostPower, IsExactlyWhere}
+use Rattle.mm_app.specs.StatusFacts.{CantRead, EndsByFault, FindsBasic, HasLostPower, IsExactlyWhere}
 use Rattle.mm_app.specs.declared.status.Status.TheVariants.{Already, Blank, Cell, Kind, Lost, PlatformFault, Refused, Short}
 use Rattle.mm_app.proofs.Completing.{is_zero}
 use Rattle.mm_app.proofs.Holding.{by_fault_where, exactly_here, held_told, Holding, none_offered, nowhere, tells_held}
@@ -58,7 +58,7 @@ closed_by false cell register next e = cc
 
 module _ (cell : List ℕ) (new : Standing) (answer : Result Checkpointed CheckpointRefusal) where
   written_closed : (held : Held) (register next : List ℕ) (old : Standing) (written : Result Checkpointed StepFault)
-      → old.cell ≡ Some cell → next ≡ closed_cell held register → Closes next old new written → answer ≡ closing_handed_on written
+      → old.cell ≡ Some cell → next ≡ closed_cell held register → WritesClosing next old new written → answer ≡ result_of_closing_write written
       → Closed cell new answer (Ok (Open held))
   written_closed held register next old (Ok it) same is c e =
       done held register refl (e ∙ ap (λ (x : Checkpointed). Ok x) c.gives) (c.goes.cell
@@ -67,7 +67,7 @@ module _ (cell : List ℕ) (new : Standing) (answer : Result Checkpointed Checkp
   written_closed held register next old (Err fault) same is c e = failed fault e
 
   weighed_closed : (held : Held) (old middle : Standing) (found : Result (List ℕ) CheckpointRefusal) → old.cell ≡ Some cell
-      → Weighs held old middle found → EndsClosing found middle new answer → Closed cell new answer (Ok (Open held))
+      → WeighsRegister held old middle found → EndsClosing found middle new answer → Closed cell new answer (Ok (Open held))
   weighed_closed held old middle (Err (refusal.Device fault)) same w e = failed fault e.1
   weighed_closed held old middle (Err why) same w e =
       let f : FindsClosing held middle (Err why) = w.finds refl in
@@ -80,7 +80,7 @@ module _ (cell : List ℕ) (new : Standing) (answer : Result Checkpointed Checkp
       written_closed held f.register next middle e.written (w.goes.cell ∙ same)
       (closed_by (bytes_eq f.register zero_bytes) held f.register next f.found_is) e.closes e.gives
 
-  looked_closed : (old middle : Standing) (found : Result Segment CheckpointRefusal) → old.cell ≡ Some cell → Looks old middle found
+  looked_closed : (old middle : Standing) (found : Result Segment CheckpointRefusal) → old.cell ≡ Some cell → LooksAtSegment old middle found
       → EndsLooking found middle new answer → Closed cell new answer found
   looked_closed old middle (Err (refusal.Device fault)) same l e = failed fault e.1
   looked_closed old middle (Err why) same l e =
@@ -96,7 +96,7 @@ record Read (cell : List ℕ) (found : Result Segment CheckpointRefusal) : Type 
   found_is : found ≡ segment_in read
 
 looked_read : (cell : List ℕ) (old middle : Standing) (found : Result Segment CheckpointRefusal) → old.cell ≡ Some cell
-    → Looks old middle found → ((fault : StepFault) → found ≡ Err (refusal.Device fault) → ⊥) → Read cell found
+    → LooksAtSegment old middle found → ((fault : StepFault) → found ≡ Err (refusal.Device fault) → ⊥) → Read cell found
 looked_read cell old middle (Err (refusal.Device fault)) same l not = absurd (not fault refl)
 looked_read cell old middle _ same l not =
     let f = l.finds refl in
@@ -123,22 +123,22 @@ is_closing Lost = true
 is_closing Kind = true
 is_closing _ = false
 
-closing_told_as : (answer : Result Checkpointed CheckpointRefusal) (end : Status) → checkpoint_told answer ≡ Err end → is_closing end ≡ true
+closing_told_as : (answer : Result Checkpointed CheckpointRefusal) (end : Status) → checkpoint_line answer ≡ Err end → is_closing end ≡ true
 closing_told_as answer end e = grind (arith, e)
 
 module _ (old new : Outside) (status : Status) (answer : Result Checkpointed CheckpointRefusal)
-    (t : Tells (checkpoint_told answer) old.received new.received old.writes new.writes status) where
-  only : (end : Status) → status ≡ end → tells_held end ≡ true → checkpoint_told answer ≡ Err end
-  only end is held = held_told (checkpoint_told answer) old.received new.received old.writes new.writes status end t is held
+    (t : TellsLines (checkpoint_line answer) old.received new.received old.writes new.writes status) where
+  only : (end : Status) → status ≡ end → tells_held end ≡ true → checkpoint_line answer ≡ Err end
+  only end is held = held_told (checkpoint_line answer) old.received new.received old.writes new.writes status end t is held
 
-  so : (end : Status) → checkpoint_told answer ≡ Err end → status ≡ end
-  so end e = (subst (λ (r : Result (List ℕ) Status). Tells r old.received new.received old.writes new.writes status) e t).ends
+  so : (end : Status) → checkpoint_line answer ≡ Err end → status ≡ end
+  so end e = (subst (λ (r : Result (List ℕ) Status). TellsLines r old.received new.received old.writes new.writes status) e t).ends
 
   unlike : (end : Status) → tells_held end ≡ true → is_closing end ≡ false → status ≡ end → ⊥
   unlike end held not is = let clash : true ≡ false = sym (closing_told_as answer end (only end is held)) ∙ not in absurd (cc)
 
   -- whatever stands where it ended with another status
-  apart : {Holds : Type 0} (end other : Status) → tells_held end ≡ true → checkpoint_told answer ≡ Err other
+  apart : {Holds : Type 0} (end other : Status) → tells_held end ≡ true → checkpoint_line answer ≡ Err other
       → (other ≡ end → ⊥) → (Holds → ⊥) → IsExactlyWhere Holds end status
   apart end other held e not none = nowhere (λ is. not (sym (so other e) ∙ is)) none
 
@@ -147,7 +147,7 @@ module _ (old new : Outside) (status : Status) (answer : Result Checkpointed Che
   apart_ok end held it e none = nowhere (λ is. told_ok it answer end e (only end is held)) none
     where
       told_ok : (it : Checkpointed) (answer : Result Checkpointed CheckpointRefusal) (end : Status) → answer ≡ Ok it
-          → checkpoint_told answer ≡ Err end → ⊥
+          → checkpoint_line answer ≡ Err end → ⊥
       told_ok it answer end e told = grind (arith, e, told)
 
   module _ (cell : List ℕ) (same : old.standing.cell ≡ Some cell) where
@@ -164,7 +164,7 @@ module _ (old new : Outside) (status : Status) (answer : Result Checkpointed Che
 
     failed_at : (fault : StepFault) → answer ≡ Err (refusal.Device fault) → At
     failed_at fault e =
-        let f : EndsByFault status = subst EndsByFault (sym (so PlatformFault (ap checkpoint_told e))) tt in
+        let f : EndsByFault status = subst EndsByFault (sym (so PlatformFault (ap checkpoint_line e))) tt in
         record {
           blank = by_fault_where f (λ h. h);
           unread = by_fault_where f (λ h. h);
@@ -186,9 +186,9 @@ module _ (old new : Outside) (status : Status) (answer : Result Checkpointed Che
     -- how it ended, by what the cell reads as
     data Ended (read : Result Held CellFault) : Type 0 where
       at_fault : (fault : StepFault) → answer ≡ Err (refusal.Device fault) → Ended read
-      at_blank : read ≡ Err unheld.Blank → checkpoint_told answer ≡ Err Blank → new.standing.cell ≡ Some cell → Ended read
-      at_none : read ≡ Err unheld.Cell → checkpoint_told answer ≡ Err Cell → new.standing.cell ≡ Some cell → Ended read
-      at_basic : (held : Held) → read ≡ Ok held → held.variant ≡ Basic → checkpoint_told answer ≡ Err Kind
+      at_blank : read ≡ Err unheld.Blank → checkpoint_line answer ≡ Err Blank → new.standing.cell ≡ Some cell → Ended read
+      at_none : read ≡ Err unheld.Cell → checkpoint_line answer ≡ Err Cell → new.standing.cell ≡ Some cell → Ended read
+      at_basic : (held : Held) → read ≡ Ok held → held.variant ≡ Basic → checkpoint_line answer ≡ Err Kind
           → new.standing.cell ≡ Some cell → Ended read
       at_shut : (held : Held) → read ≡ Ok held → held.variant ≡ Opt → held.flag ≡ false → answer ≡ Ok said.NoSegment
           → new.standing.cell ≡ Some cell → Ended read
@@ -229,11 +229,11 @@ module _ (old new : Outside) (status : Status) (answer : Result Checkpointed Che
 
     ended : (read : Result Held CellFault) → Closed cell new.standing answer (segment_in read) → Ended read
     ended (Err unheld.Blank) c =
-        refused_ended (Err unheld.Blank) refusal.Blank _ refl (λ e here. at_blank refl (ap checkpoint_told e) here) c
-    ended (Err unheld.Cell) c = refused_ended (Err unheld.Cell) refusal.Cell _ refl (λ e here. at_none refl (ap checkpoint_told e) here) c
+        refused_ended (Err unheld.Blank) refusal.Blank _ refl (λ e here. at_blank refl (ap checkpoint_line e) here) c
+    ended (Err unheld.Cell) c = refused_ended (Err unheld.Cell) refusal.Cell _ refl (λ e here. at_none refl (ap checkpoint_line e) here) c
     ended (Ok held) c =
         elim (by_segment held.variant held.flag held (segment_in (Ok held)) refl) [
-          | inl b ↦ refused_ended (Ok held) refusal.Kind _ b.1 (λ e here. at_basic held refl b.0 (ap checkpoint_told e) here) c
+          | inl b ↦ refused_ended (Ok held) refusal.Kind _ b.1 (λ e here. at_basic held refl b.0 (ap checkpoint_line e) here) c
           | inr (inl s) ↦ shut_ended held _ s.0 s.1 s.2 c
           | inr (inr o) ↦ open_ended held _ o.0 o.1 o.2 c
         ]
@@ -282,7 +282,7 @@ module _ (old new : Outside) (status : Status) (answer : Result Checkpointed Che
           let clash : true ≡ false = sym h.1.is_open ∙ ap (λ (x : Held). x.flag) same ∙ flag in absurd (cc));
     }
     at_end read r (at_lost held is v flag e here zero) =
-        let told : checkpoint_told answer ≡ Err Lost = ap checkpoint_told e in
+        let told : checkpoint_line answer ≡ Err Lost = ap checkpoint_line e in
         record {
           blank = apart Blank Lost refl told (λ k. absurd (cc)) (λ h. reads_apart read (Err unheld.Blank) r (λ k. absurd (cc)) h.1);
           unread = apart Cell Lost refl told (λ k. absurd (cc)) (λ h. reads_apart read (Err unheld.Cell) r (λ k. absurd (cc)) h);
@@ -315,8 +315,8 @@ module _ (old new : Outside) (status : Status) (answer : Result Checkpointed Che
 
 -- what was read of the cell before, unless the device failed
 read_of : (old : Outside) (new : Outside) (status : Status) (answer : Result Checkpointed CheckpointRefusal)
-    (t : Tells (checkpoint_told answer) old.received new.received old.writes new.writes status) (cell : List ℕ)
-    (same : old.standing.cell ≡ Some cell) (middle : Standing) (found : Result Segment CheckpointRefusal) → Looks old.standing middle found
+    (t : TellsLines (checkpoint_line answer) old.received new.received old.writes new.writes status) (cell : List ℕ)
+    (same : old.standing.cell ≡ Some cell) (middle : Standing) (found : Result Segment CheckpointRefusal) → LooksAtSegment old.standing middle found
     → Closed cell new.standing answer found → At old new status answer t cell same
 read_of old new status answer t cell same middle (Err (refusal.Device fault)) l (failed broken e) =
     failed_at old new status answer t cell same broken e
@@ -332,7 +332,7 @@ read_of old new status answer t cell same middle found l c =
     (ended old new status answer t cell same r.read
     (subst (λ (f : Result Segment CheckpointRefusal). Closed cell new.standing answer f) r.found_is c))
 
-pub checkpoint_holding : (old new : Outside) (status : Status) → Does Checkpoint old new status → Holding Checkpoint old new status
+pub checkpoint_holding : (old new : Outside) (status : Status) → CommandDoes Checkpoint old new status → Holding Checkpoint old new status
 checkpoint_holding old new status d =
     let at : (cell : List ℕ) (same : old.standing.cell ≡ Some cell) → At old new status d.answer d.tells cell same = λ cell same.
     read_of old new status d.answer d.tells cell same d.closes.middle d.closes.found d.closes.looks
@@ -346,7 +346,7 @@ checkpoint_holding old new status d =
       lost = λ cell items told shown. (at cell told).lost (λ e.
           let u : IsUntouched old.standing new.standing =
           (subst (λ (a : Result Checkpointed CheckpointRefusal). LeavesStill a old.standing new.standing) e d.untouched) refl in
-          (items ++ map foreign_item u.others, u.items ∙ ap (λ (x : Option (List Item)). beside u.others x) shown));
+          (items ++ map foreign_item u.others, u.items ∙ ap (λ (x : Option (List Item)). items_beside u.others x) shown));
       refused = λ cell items why told shown.
           none_offered Checkpoint old new status cell why (unlike old new status d.answer d.tells (Refused why) refl refl) (λ e. cc);
     }

@@ -1,41 +1,41 @@
 -- What `run` tells of what the cell, the register and the slots held.
 use Rattle.mm_app.proofs.Below.{◌≡◌, ◌∙◌, ℕ, Bool, true, false, List, Option, None, Some, Result, Ok, Err, refl, sym, ap, subst, inl, inr, ◌⊎◌}
-use Rattle.mm_app.proofs.Below.{arith, Held, CellFault, Run, Does, Outside, Standing, Status, StepFault, Variant, FindsInstance, header_found}
-use Rattle.mm_app.proofs.Below.{instance_found, Header, Instance, Refusal, ServesAndStops, ServesIfFound, session_status, SessionFault}
-use Rattle.mm_app.proofs.Below.{AnyModule, meaning_of, module_with, ReplayFault}
+use Rattle.mm_app.proofs.Below.{arith, Held, CellFault, Run, CommandDoes, Outside, Standing, Status, StepFault, Variant, FindsInstance, found_header}
+use Rattle.mm_app.proofs.Below.{found_instance, Header, Instance, Refusal, ServesAndStops, ServesIfFound, session_status, SessionFault}
+use Rattle.mm_app.proofs.Below.{AnyModule, meaning_of, module_of_id, ReplayFault}
 use Rattle.std.specs.Prelude.{◌≢◌, ◌&&◌, IsSome}
 use Rattle.std.specs.Option.{option_map}
 use Rattle.std.specs.Str.{bytes_eq}
 use Rattle.std.proofs.lemmas.Slice.Eq.{bytes_eq-Decides}
-use Rattle.mm_call.specs.Found.{found_at}
-use Rattle.mm_call.specs.LeavingLaws.{read_untouched}
-use Rattle.mm_call.specs.Levels.{by_digests}
+use Rattle.mm_call.specs.CallFinding.{finding_at}
+use Rattle.mm_call.specs.UntouchedLaws.{read_untouched}
+use Rattle.mm_call.specs.Levels.{digest_level}
 use Rattle.mm_call.specs.Refusals.{fault_of}
-use Rattle.mm_call.specs.Standing.{cell_at, RegisterAt, StandsAt}
+use Rattle.mm_call.specs.Standing.{cell_at, RegisterStandsAt, StandsAt}
 use Rattle.mm_digest.specs.Messages.{zero_bytes}
 use Rattle.mm_digest.specs.declared.variant.Variant.TheVariants.{Basic, Opt}
 use Rattle.mm_host.proofs.Above.{chain_ends, chain_of, lost_shown, next_in_hand, refused_as_offer, shown_lost, some_chain}
-use Rattle.mm_host.specs.AnySlots.{offered_after}
-use Rattle.mm_host.specs.Continuing.{IsInHand, told_in}
-use Rattle.mm_host.specs.Refusing.{EndsAt, IsOfOffer}
-use Rattle.mm_host.specs.Sessions.{Sessions}
+use Rattle.mm_host.specs.AnySlots.{offer_after}
+use Rattle.mm_host.specs.Continuation.{IsInHand, served_calls_in}
+use Rattle.mm_host.specs.Refusals.{EndsAt, IsOfOffer}
+use Rattle.mm_host.specs.Sessions.{IsSession}
 use Rattle.mm_host.specs.declared.fault.SessionFault.TheVariants as session
 use Rattle.mm_model.specs.Moves.{Digests}
 use Rattle.mm_model.specs.declared.refusal.Refusal.TheVariants as refusal
-use Rattle.mm_model.specs.Standing.{register_reads}
+use Rattle.mm_model.specs.Standing.{register_reading}
 use Rattle.mm_module.specs.Batch.{One}
 use Rattle.mm_platform.specs.Standing.{Item, item_values, register_after}
-use Rattle.mm_platform.specs.Steps.{Goes, ReadCell}
-use Rattle.mm_recovery.specs.Fitting.{first_offer}
-use Rattle.mm_recovery.specs.Waiting.{IsWaiting}
+use Rattle.mm_platform.specs.Steps.{StepGoes, ReadCell}
+use Rattle.mm_recovery.specs.SlotFit.{first_offer}
+use Rattle.mm_recovery.specs.WaitingRequest.{IsWaiting}
 use Rattle.mm_recovery.specs.declared.fault.HostFault.TheVariants as host
 use Rattle.mm_seal.specs.Cell.{blank_cell, cell_spelling, FitsVariant, ReadsCell, SpellsCell}
 use Rattle.mm_seal.specs.CellLaws.{reads_cell-same}
 use Rattle.mm_seal.specs.declared.cell.CellFault.TheVariants as unheld
-use Rattle.mm_store.specs.Pending.{Pending}
-use Rattle.mm_store.specs.Slots.{Slots, slot_read}
-use Rattle.mm_app.specs.Holding.{CantRead, EndsByFault, HasLostPower, instance_of, IsExactlyWhere, MayBeLost, RefusesNext}
-use Rattle.mm_app.specs.Running.{refused_at}
+use Rattle.mm_store.specs.PendingRecord.{PendingRecord}
+use Rattle.mm_store.specs.Slots.{Slots, slot_front}
+use Rattle.mm_app.specs.StatusFacts.{CantRead, EndsByFault, HasLostPower, instance_of, IsExactlyWhere, MayBeLost, RefusesNext}
+use Rattle.mm_app.specs.Run.{refusal_status}
 use Rattle.mm_app.specs.Status.{status_at}
 use Rattle.mm_app.specs.declared.status.Status.TheVariants.{Already, Blank, Cell, Kind, Lost, Refused, Short}
 use Rattle.mm_app.proofs.HoldingRefusal.{refused_always, StandsFirst, stands_first}
@@ -54,7 +54,7 @@ lines_unheld : (fault : ReplayFault) → tells_held (status_at fault) ≡ false
 lines_unheld fault = grind arith
 
 held_refusal : (answer : Result (Unit {0}) SessionFault) (end : Status) → session_status answer ≡ end → tells_held end ≡ true
-    → (why : Refusal) × (answer ≡ Err (session.Host (host.Refused why))) × (refused_at why ≡ end)
+    → (why : Refusal) × (answer ≡ Err (session.Host (host.Refused why))) × (refusal_status why ≡ end)
 held_refusal (Ok done) end e held = let clash : true ≡ false = sym held ∙ ap tells_held (sym e) in absurd (cc)
 held_refusal (Err (session.Host host.Memory)) end e held = let clash : true ≡ false = sym held ∙ ap tells_held (sym e) in absurd (cc)
 held_refusal (Err (session.Host host.Store)) end e held = let clash : true ≡ false = sym held ∙ ap tells_held (sym e) in absurd (cc)
@@ -62,7 +62,7 @@ held_refusal (Err (session.Host (host.Refused why))) end e held = (why, refl, e)
 held_refusal (Err (session.Lines fault)) end e held =
     let clash : true ≡ false = sym held ∙ ap tells_held (sym e) ∙ lines_unheld fault in absurd (cc)
 
-by_offer : {A : Type 0} (why : Refusal) → tells_held (refused_at why) ≡ true → IsSome (fault_of why) ⊎ A → A
+by_offer : {A : Type 0} (why : Refusal) → tells_held (refusal_status why) ≡ true → IsSome (fault_of why) ⊎ A → A
 by_offer why held (inr a) = a
 by_offer (refusal.Device fault) held (inl some) = absurd (cc)
 by_offer _ held (inl some) = absurd (cc)
@@ -73,13 +73,13 @@ is_offer Lost = true
 is_offer (Refused why) = true
 is_offer _ = false
 
-offer_status : (why : Refusal) → IsOfOffer why → is_offer (refused_at why) ≡ true
+offer_status : (why : Refusal) → IsOfOffer why → is_offer (refusal_status why) ≡ true
 offer_status why o = grind (arith, o)
 
-lost_why : (why : Refusal) → refused_at why ≡ Lost → why ≡ refusal.Lost
+lost_why : (why : Refusal) → refusal_status why ≡ Lost → why ≡ refusal.Lost
 lost_why why e = grind (arith, e)
 
-refused_why : (is why : Refusal) → refused_at is ≡ Refused why → is ≡ why
+refused_why : (is why : Refusal) → refusal_status is ≡ Refused why → is ≡ why
 refused_why is why e = grind (arith, e)
 
 may_lose : (status : Status) → MayBeLost Run status → (status ≡ Lost) ⊎ ((why : Refusal) × (status ≡ Refused why))
@@ -108,7 +108,7 @@ basic_shut Opt flag barrier fits e = refl
 
 -- A session over the instance of a cell.
 module _ (old new : Outside) (status : Status) (middle : Standing) (cell : List ℕ) (held : Held) (it : AnyModule)
-    (spells : SpellsCell cell held) (found : module_with held.module ≡ Some it) (goes : Goes ReadCell old.standing middle None)
+    (spells : SpellsCell cell held) (found : module_of_id held.module ≡ Some it) (goes : StepGoes ReadCell old.standing middle None)
     (told : old.standing.cell ≡ Some cell) (items : List Item) (shown : old.standing.items ≡ Some items)
     (s : ServesAndStops (record { variant = held.variant; «module» = it }) middle new.standing old.kept new.kept old.left new.left
     old.received new.received old.reads new.reads old.writes new.writes status) where
@@ -118,7 +118,7 @@ module _ (old new : Outside) (status : Status) (middle : Standing) (cell : List 
   first : StandsFirst i middle
   first = stands_first old.standing middle cell held it spells found (read_untouched old.standing middle goes) told items shown
 
-  abbrev ran : Sessions held.variant (meaning_of it) middle new.standing old.kept new.kept old.left new.left old.received s.between
+  abbrev ran : IsSession held.variant (meaning_of it) middle new.standing old.kept new.kept old.left new.left old.received s.between
       s.served.answer
   ran = s.served.sessions
 
@@ -128,10 +128,10 @@ module _ (old new : Outside) (status : Status) (middle : Standing) (cell : List 
     stands : StandsAt i new.standing digests
     why : Refusal
     answered : s.served.answer ≡ Err (session.Host (host.Refused why))
-    told_as : refused_at why ≡ end
+    told_as : refusal_status why ≡ end
     request : List ℕ
     in_hand : hand request
-    judged : found_at i (by_digests i) digests (One request) offer ≡ Err why
+    judged : finding_at i (digest_level i) digests (One request) offer ≡ Err why
 
   refused_as : (offer : List ℕ) (hand : List ℕ → Type 0) → EndsAt i new.standing offer hand s.served.answer → (end : Status)
       → status ≡ end → tells_held end ≡ true → RefusedAs end offer hand
@@ -150,12 +150,12 @@ module _ (old new : Outside) (status : Status) (middle : Standing) (cell : List 
       }
 
   somehow : (end : Status) → status ≡ end → tells_held end ≡ true
-      → RefusedAs end (offered_after (some_chain ran).offer (told_in (some_chain ran).waiting ran.goes))
+      → RefusedAs end (offer_after (some_chain ran).offer (served_calls_in (some_chain ran).waiting ran.goes))
       (IsInHand (some_chain ran).waiting ran.goes)
   somehow =
       let c = some_chain ran in
       refused_as _ _ (chain_ends held.variant (meaning_of it) held.key held.barrier c.offer middle new.standing
-      (told_in c.waiting ran.goes) (IsInHand c.waiting ran.goes) s.served.answer c.chain first.digests first.stands)
+      (served_calls_in c.waiting ran.goes) (IsInHand c.waiting ran.goes) s.served.answer c.chain first.digests first.stands)
 
   never : (end : Status) → tells_held end ≡ true → is_offer end ≡ false → status ≡ end → ⊥
   never end told_held not is =
@@ -172,7 +172,7 @@ module _ (old new : Outside) (status : Status) (middle : Standing) (cell : List 
       (lost_shown i r.digests (One r.request) _ (r.judged ∙ ap (λ (x : Refusal). Err x) w)) in
       let opt : i.variant ≡ Opt = basic_shut i.variant r.digests.flag i.barrier r.stands.spells.variant loss.0 in
       let known = reads_items new.standing.items r.digests.register
-      (subst (λ (v : Variant). RegisterAt v (register_reads new.standing) r.digests.register) opt r.stands.reads) in
+      (subst (λ (v : Variant). RegisterStandsAt v (register_reading new.standing) r.digests.register) opt r.stands.reads) in
       record {
         held = cell_at i r.digests;
         cell = cell_spelling (cell_at i r.digests);
@@ -195,19 +195,19 @@ module _ (old new : Outside) (status : Status) (middle : Standing) (cell : List 
       let same : h.held ≡ cell_at i r.digests = cc in
       let flag : r.digests.flag ≡ true = ap (λ (x : Held). x.flag) (sym same) ∙ h.is_open in
       let opt : i.variant ≡ Opt = ap (λ (x : Held). x.variant) (sym same) ∙ h.variant in
-      let reads : register_reads new.standing ≡ Some r.digests.register =
-      subst (λ (v : Variant). RegisterAt v (register_reads new.standing) r.digests.register) opt r.stands.reads in
+      let reads : register_reading new.standing ≡ Some r.digests.register =
+      subst (λ (v : Variant). RegisterStandsAt v (register_reading new.standing) r.digests.register) opt r.stands.reads in
       let registers : Some (register_after (item_values h.items)) ≡ Some r.digests.register =
       sym (ap (option_map (λ xs. register_after (item_values xs))) h.shown) ∙ reads in
       let register : register_after (item_values h.items) ≡ r.digests.register = cc in
       let zero : bytes_eq r.digests.register zero_bytes ≡ true =
       (bytes_eq-Decides r.digests.register zero_bytes).1 (sym register ∙ h.zero) in
       let found_lost = shown_lost i r.digests (One r.request)
-      (offered_after (some_chain ran).offer (told_in (some_chain ran).waiting ran.goes))
+      (offer_after (some_chain ran).offer (served_calls_in (some_chain ran).waiting ran.goes))
       (ap (λ (f : Bool). f && bytes_eq r.digests.register zero_bytes) flag ∙ zero) in
       let errors : Err r.why ≡ Err refusal.Lost = sym r.judged ∙ found_lost in
       let why_is : r.why ≡ refusal.Lost = cc in
-      let clash : Lost ≡ Refused why = ap refused_at (sym why_is) ∙ r.told_as in absurd (cc)
+      let clash : Lost ≡ Refused why = ap refusal_status (sym why_is) ∙ r.told_as in absurd (cc)
 
   -- it is of an offer
   offered : (why : Refusal) → status ≡ Refused why → IsOfOffer why
@@ -220,11 +220,11 @@ module _ (old new : Outside) (status : Status) (middle : Standing) (cell : List 
   powered why is e =
       let r = somehow (Refused why) is refl in
       let lost : r.why ≡ refusal.Lost = refused_why r.why why r.told_as ∙ e in
-      let clash : Lost ≡ Refused why = ap refused_at (sym lost) ∙ r.told_as in absurd (cc)
+      let clash : Lost ≡ Refused why = ap refusal_status (sym lost) ∙ r.told_as in absurd (cc)
 
   -- what was refused
-  module _ (slots : Slots) (waiting : Option Pending) (input : List ℕ) (slots_told : old.kept.slots ≡ Some slots)
-      (w : IsWaiting (slot_read slots 2) (slot_read slots 3) waiting) (left : old.left ≡ Some input) where
+  module _ (slots : Slots) (waiting : Option PendingRecord) (input : List ℕ) (slots_told : old.kept.slots ≡ Some slots)
+      (w : IsWaiting (slot_front slots 2) (slot_front slots 3) waiting) (left : old.left ≡ Some input) where
     abbrev RefusesHere : Refusal → Type 0
     RefusesHere why =
         RefusesNext cell old.standing new.standing old.kept new.kept old.left new.left old.received slots waiting input status why
@@ -232,9 +232,9 @@ module _ (old new : Outside) (status : Status) (middle : Standing) (cell : List 
     refused_run : (why : Refusal) → status ≡ Refused why → RefusesHere why
     refused_run why is =
         let c = chain_of ran slots waiting slots_told w in
-        let r = refused_as (offered_after (first_offer slots waiting) (told_in waiting ran.goes)) (IsInHand waiting ran.goes)
+        let r = refused_as (offer_after (first_offer slots waiting) (served_calls_in waiting ran.goes)) (IsInHand waiting ran.goes)
         (chain_ends held.variant (meaning_of it) held.key held.barrier (first_offer slots waiting) middle new.standing
-        (told_in waiting ran.goes) (IsInHand waiting ran.goes) s.served.answer c first.digests first.stands) (Refused why) is refl in
+        (served_calls_in waiting ran.goes) (IsInHand waiting ran.goes) s.served.answer c first.digests first.stands) (Refused why) is refl in
         record {
           served = record {
             held = held;
@@ -248,7 +248,7 @@ module _ (old new : Outside) (status : Status) (middle : Standing) (cell : List 
             went = ran;
             ended = s.served.ends;
           };
-          told = told_in waiting ran.goes;
+          told = served_calls_in waiting ran.goes;
           is_told = refl;
           at = c.at;
           calls = c.calls;
@@ -263,8 +263,8 @@ module _ (old new : Outside) (status : Status) (middle : Standing) (cell : List 
 -- the request that was refused
 abbrev IsRefusedRun : (old new : Outside) → Status → List ℕ → Refusal → Type 0
 IsRefusedRun old new status cell why =
-    (slots : Slots) (waiting : Option Pending) (input : List ℕ) → old.kept.slots ≡ Some slots →
-    IsWaiting (slot_read slots 2) (slot_read slots 3) waiting → old.left ≡ Some input →
+    (slots : Slots) (waiting : Option PendingRecord) (input : List ℕ) → old.kept.slots ≡ Some slots →
+    IsWaiting (slot_front slots 2) (slot_front slots 3) waiting → old.left ≡ Some input →
     RefusesNext cell old.standing new.standing old.kept new.kept old.left new.left old.received slots waiting input status why
 
 -- What is told of a cell that is told.
@@ -302,13 +302,13 @@ module _ (old new : Outside) (status : Status) (middle : Standing) (cell : List 
   only_held : (held other : Held) → SpellsCell cell held → SpellsCell cell other → held ≡ other
   only_held held other a b = let e = reads_cell-same cell (Ok held) (Ok other) a b in cc
 
-  module _ (goes : Goes ReadCell old.standing middle None) (told : old.standing.cell ≡ Some cell) (items : List Item)
+  module _ (goes : StepGoes ReadCell old.standing middle None) (told : old.standing.cell ≡ Some cell) (items : List Item)
       (shown : old.standing.items ≡ Some items) where
-    held_run : (held : Held) (found : Option AnyModule) → SpellsCell cell held → module_with held.module ≡ found
-        → Goes_on (header_found held.variant found) → AtRun old new status cell
+    held_run : (held : Held) (found : Option AnyModule) → SpellsCell cell held → module_of_id held.module ≡ found
+        → Goes_on (found_header held.variant found) → AtRun old new status cell
     held_run held None spells e g = none_run (
       held_unlike held spells,
-      λ other k. ap (λ (h : Held). module_with h.module) (only_held other held k spells) ∙ e,
+      λ other k. ap (λ (h : Held). module_of_id h.module) (only_held other held k spells) ∙ e,
     ) g.stops.ends
     held_run held (Some it) spells e s =
         let never_told = never old new status middle cell held it spells e goes told items shown s in
@@ -333,12 +333,12 @@ module _ (old new : Outside) (status : Status) (middle : Standing) (cell : List 
           );
         }
 
-    read_run : (read : Result Held CellFault) → ReadsCell cell read → Goes_on (instance_found read) → AtRun old new status cell
+    read_run : (read : Result Held CellFault) → ReadsCell cell read → Goes_on (found_instance read) → AtRun old new status cell
     read_run (Err unheld.Blank) r g = blank_run r g.stops.ends
     read_run (Err unheld.Cell) r g = none_run (r.0, λ held k. absurd (r.1 held k.0 k.1)) g.stops.ends
-    read_run (Ok held) r g = held_run held (module_with held.module) r refl g
+    read_run (Ok held) r g = held_run held (module_of_id held.module) r refl g
 
-found_is_run : (read : Result Held CellFault) (end : Status) → (let r : Result Header Status = Err end in r ≡ instance_found read)
+found_is_run : (read : Result Held CellFault) (end : Status) → (let r : Result Header Status = Err end in r ≡ found_instance read)
     → is_run end ≡ true
 found_is_run read end e = grind (arith, e)
 
@@ -346,13 +346,13 @@ module _ (old new : Outside) (status : Status) (middle : Standing) where
   unlike_run : is_run status ≡ true → (end : Status) → is_run end ≡ false → status ≡ end → ⊥
   unlike_run run end not is = let clash : true ≡ false = sym run ∙ ap is_run is ∙ not in absurd (cc)
 
-  ends_run : (read : Result Held CellFault) (found : Result Header Status) → found ≡ instance_found read
+  ends_run : (read : Result Held CellFault) (found : Result Header Status) → found ≡ found_instance read
       → ServesIfFound found middle new.standing old.kept new.kept old.left new.left old.received new.received old.reads new.reads
       old.writes new.writes status → is_run status ≡ true
   ends_run read (Err end) e g = ap is_run g.stops.ends ∙ found_is_run read end e
   ends_run read (Ok header) e g = ap is_run g.served.ends ∙ session_is_run g.served.answer
 
-  run_by : (fault : Option StepFault) (found : Result Header Status) → Goes ReadCell old.standing middle fault
+  run_by : (fault : Option StepFault) (found : Result Header Status) → StepGoes ReadCell old.standing middle fault
       → FindsInstance fault old.standing found
       → ServesIfFound found middle new.standing old.kept new.kept old.left new.left old.received new.received old.reads new.reads
       old.writes new.writes status → Holding Run old new status
@@ -384,5 +384,5 @@ module _ (old new : Outside) (status : Status) (middle : Standing) where
         );
       }
 
-pub run_holding : (old new : Outside) (status : Status) → Does Run old new status → Holding Run old new status
+pub run_holding : (old new : Outside) (status : Status) → CommandDoes Run old new status → Holding Run old new status
 run_holding old new status d = run_by old new status d.middle d.looks.fault d.found d.looks.goes d.looks.finds d.goes

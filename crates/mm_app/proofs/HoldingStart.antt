@@ -1,15 +1,15 @@
 -- What `init` tells of what the cell and the source of entropy held.
 use Rattle.mm_app.proofs.Below.{◌≡◌, ◌∙◌, ◌+◌, ◌≤◌, ◌<◌, ℕ, Bool, true, false, List, length, Option, None, Some, Result, Ok, Err, refl, sym, ap}
-use Rattle.mm_app.proofs.Below.{subst, inl, inr, ◌⊎◌, arith, length-append, append-nil, Consumes, IsAtEnd, Variant, TellsUse, AfterLooking}
-use Rattle.mm_app.proofs.Below.{AfterTaking, Devices, devices, TakesBytes, instance_from, InitFault, Header, Init, Does, Outside, init_told}
-use Rattle.mm_app.proofs.Below.{[], Status, StepFault, Tells, meaning_of}
+use Rattle.mm_app.proofs.Below.{subst, inl, inr, ◌⊎◌, arith, length-append, append-nil, Consumes, IsAtEnd, Variant, TellsUse, GoesAfterLooking}
+use Rattle.mm_app.proofs.Below.{GoesAfterTaking, Devices, devices, TakesBytes, instance_from, InitFault, Header, Init, CommandDoes, Outside, init_line}
+use Rattle.mm_app.proofs.Below.{[], Status, StepFault, TellsLines, meaning_of}
 use Rattle.std.specs.Prelude.{◌≢◌}
 use Rattle.mm_base.specs.declared.fault.Failed.{Failed}
 use Rattle.mm_module.specs.Meaning.{Meaning}
-use Rattle.mm_recovery.specs.Begins.{TellsOf}
+use Rattle.mm_recovery.specs.FirstStart.{TellsByCell}
 use Rattle.mm_recovery.specs.declared.init_fault.InitFault.TheVariants as init
 use Rattle.mm_seal.specs.Cell.{blank_cell}
-use Rattle.mm_app.specs.Holding.{EndsByFault, IsExactlyWhere, RunsShort, StartsOne}
+use Rattle.mm_app.specs.StatusFacts.{EndsByFault, IsExactlyWhere, RunsShort, StartsOne}
 use Rattle.mm_app.specs.declared.status.Status.TheVariants.{Already, Blank, Cell, Kind, Lost, Refused, Short, Memory, PlatformFault, ReadFault, StoreFault}
 use Rattle.mm_app.proofs.Completing.{Shorts, set_whole}
 use Rattle.mm_app.proofs.Holding.{by_fault_where, exactly_here, held_told, Holding, none_offered, nowhere, tells_held}
@@ -24,22 +24,22 @@ is_start (Short got) = true
 is_start StoreFault = true
 is_start _ = false
 
-start_told : (answer : Result (Unit {0}) InitFault) (end : Status) → init_told answer ≡ Err end → is_start end ≡ true
+start_told : (answer : Result (Unit {0}) InitFault) (end : Status) → init_line answer ≡ Err end → is_start end ≡ true
 start_told answer end e = grind (arith, e)
 
 -- whether a cell is told to be in use
-used_only : (answer : Result (Unit {0}) InitFault) → init_told answer ≡ Err Already → answer ≡ Err init.Already
+used_only : (answer : Result (Unit {0}) InitFault) → init_line answer ≡ Err Already → answer ≡ Err init.Already
 used_only answer e = grind (arith, e)
 
-short_only : (answer : Result (Unit {0}) InitFault) (got : ℕ) → init_told answer ≡ Err (Short got) → answer ≡ Err (init.Short got)
+short_only : (answer : Result (Unit {0}) InitFault) (got : ℕ) → init_line answer ≡ Err (Short got) → answer ≡ Err (init.Short got)
 short_only answer got e = grind (arith, e)
 
 module _ (cell : List ℕ) (status : Status) where
   abbrev Told : Result (Unit {0}) InitFault → Type 0
-  Told answer = (end : Status) → init_told answer ≡ Err end → status ≡ end
+  Told answer = (end : Status) → init_line answer ≡ Err end → status ≡ end
 
-  used_where : (answer : Result (Unit {0}) InitFault) → Told answer → (status ≡ Already → init_told answer ≡ Err Already)
-      → TellsOf cell answer → IsExactlyWhere (Unit {0} × (cell ≢ blank_cell)) Already status
+  used_where : (answer : Result (Unit {0}) InitFault) → Told answer → (status ≡ Already → init_line answer ≡ Err Already)
+      → TellsByCell cell answer → IsExactlyWhere (Unit {0} × (cell ≢ blank_cell)) Already status
   used_where (Err init.Already) so only t = exactly_here (so Already refl) (tt, t)
   used_where (Err (init.Platform fault)) so only t = by_fault_where (subst EndsByFault (sym (so PlatformFault refl)) tt) (λ h. h)
   used_where _ so only t = nowhere (λ is. let e = only is in absurd (cc)) (λ h. h.1 t)
@@ -62,18 +62,18 @@ module _ (cell : List ℕ) (status : Status) where
 
   taken_where : (variant : Variant) (meaning : Meaning) (middle after : Devices) (left : Option (List ℕ)) (faults : ℕ)
       (taken : Result (List ℕ) Failed) (answer : Result (Unit {0}) InitFault) (secrets : List ℕ) (got : ℕ) → Told answer
-      → (status ≡ Short got → init_told answer ≡ Err (Short got)) → TellsOf cell answer → middle.left ≡ Some secrets
+      → (status ≡ Short got → init_line answer ≡ Err (Short got)) → TellsByCell cell answer → middle.left ≡ Some secrets
       → TakesBytes middle.left left middle.source_faults faults taken
-      → AfterTaking variant meaning (record middle { left = left; source_faults = faults }) after taken answer → Shown secrets got
+      → GoesAfterTaking variant meaning (record middle { left = left; source_faults = faults }) after taken answer → Shown secrets got
   taken_where variant meaning middle after left faults (Err why) answer secrets got so only t is_left takes a =
-      by_fault_where (subst EndsByFault (sym (so ReadFault (ap init_told a.1))) tt) (λ h. h)
+      by_fault_where (subst EndsByFault (sym (so ReadFault (ap init_line a.1))) tt) (λ h. h)
   taken_where variant meaning middle after left faults (Ok bytes) answer secrets got so only t is_left takes a =
       let c : Consumes (Some secrets) left bytes = subst (λ (l : Option (List ℕ)). Consumes l left bytes) is_left takes.consumed in
       elim a [
         | inl few ↦
             let all : length secrets ≡ length bytes = consumed_all secrets bytes left c (takes.ended few.0) in
-            let ends : status ≡ Short (length bytes) = so (Short (length bytes)) (ap init_told few.2) in
-            let blank : cell ≡ blank_cell = subst (TellsOf cell) few.2 t in
+            let ends : status ≡ Short (length bytes) = so (Short (length bytes)) (ap init_line few.2) in
+            let blank : cell ≡ blank_cell = subst (TellsByCell cell) few.2 t in
             record {
               only = λ is.
                   let same : Short (length bytes) ≡ Short got = sym ends ∙ is in
@@ -90,26 +90,26 @@ module _ (cell : List ℕ) (status : Status) where
 
   short_where : (variant : Variant) (meaning : Meaning) (middle after : Devices) (is_blank : Result Bool StepFault)
       (answer : Result (Unit {0}) InitFault) (secrets : List ℕ) (got : ℕ) → Told answer
-      → (status ≡ Short got → init_told answer ≡ Err (Short got)) → TellsOf cell answer → middle.left ≡ Some secrets
-      → AfterLooking variant meaning middle after is_blank answer → Shown secrets got
+      → (status ≡ Short got → init_line answer ≡ Err (Short got)) → TellsByCell cell answer → middle.left ≡ Some secrets
+      → GoesAfterLooking variant meaning middle after is_blank answer → Shown secrets got
   short_where variant meaning middle after (Err fault) answer secrets got so only t is_left a =
-      by_fault_where (subst EndsByFault (sym (so PlatformFault (ap init_told a.1))) tt) (λ h. h)
+      by_fault_where (subst EndsByFault (sym (so PlatformFault (ap init_line a.1))) tt) (λ h. h)
   short_where variant meaning middle after (Ok false) answer secrets got so only t is_left a =
-      let used : cell ≢ blank_cell = subst (TellsOf cell) a.1 t in
-      let ends : status ≡ Already = so Already (ap init_told a.1) in
+      let used : cell ≢ blank_cell = subst (TellsByCell cell) a.1 t in
+      let ends : status ≡ Already = so Already (ap init_line a.1) in
       nowhere (λ is. let clash : Already ≡ Short got = sym ends ∙ is in absurd (cc)) (λ h. used h.0.1)
   short_where variant meaning middle after (Ok true) answer secrets got so only t is_left a =
       taken_where variant meaning middle after a.left a.source_faults a.taken answer secrets got so only t is_left a.takes a.goes
 
-pub start_holding : (header : Header) (old new : Outside) (status : Status) → Does (Init header) old new status
+pub start_holding : (header : Header) (old new : Outside) (status : Status) → CommandDoes (Init header) old new status
     → Holding (Init header) old new status
 start_holding header old new status d =
     let before : Devices = devices old.standing old.kept old.entropy old.takes in
     let after : Devices = devices new.standing new.kept new.entropy new.takes in
     let only = λ (end : Status) (is : status ≡ end) (held : tells_held end ≡ true).
-    held_told (init_told d.answer) old.received new.received old.writes new.writes status end d.tells is held in
+    held_told (init_line d.answer) old.received new.received old.writes new.writes status end d.tells is held in
     let so : Told [] status d.answer = λ end e.
-    (subst (λ (r : Result (List ℕ) Status). Tells r old.received new.received old.writes new.writes status) e d.tells).ends in
+    (subst (λ (r : Result (List ℕ) Status). TellsLines r old.received new.received old.writes new.writes status) e d.tells).ends in
     let unlike : (end : Status) → tells_held end ≡ true → is_start end ≡ false → status ≡ end → ⊥ = λ (end : Status) held not is.
     let clash : true ≡ false = sym (start_told d.answer end (only end is held)) ∙ not in absurd (cc) in
     record {

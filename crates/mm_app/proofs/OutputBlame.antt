@@ -1,17 +1,17 @@
 -- What the status of each command tells of the output.
-use Rattle.mm_app.proofs.Below.{◌≡◌, ◌∙◌, ℕ, List, Option, None, Some, Result, Ok, Err, refl, sym, ap, subst, inl, inr, ◌⊎◌, counted, arith}
-use Rattle.mm_app.proofs.Below.{CountsFaults, Rose, ReplayFault, BulkFault, Summary, SessionFault, Checkpointed, CheckpointRefusal}
-use Rattle.mm_app.proofs.Below.{StepFault, Standing, Header, Command, Init, Run, Checkpoint, Power, Gen, Bulk}
-use Rattle.mm_app.proofs.Below.{Help, BlamesOutput, bulk_told, checkpoint_told, Does, DoesOrLacks, StoreStanding}
-use Rattle.mm_app.proofs.Below.{Outside, power_told, ServesIfFound, FindsInstance, session_status, init_told, status_of, EndsAtOnce}
-use Rattle.mm_app.proofs.Below.{GivesText, TellsStop, StopsAs, Tells, status_by, Status, Memory, WriteFault}
+use Rattle.mm_app.proofs.Below.{◌≡◌, ◌∙◌, ℕ, List, Option, None, Some, Result, Ok, Err, refl, sym, ap, subst, inl, inr, ◌⊎◌, next_count, arith}
+use Rattle.mm_app.proofs.Below.{CountsFaults, CountRose, ReplayFault, BulkFault, Summary, SessionFault, Checkpointed, CheckpointRefusal}
+use Rattle.mm_app.proofs.Below.{StepFault, Standing, Header, CommandLine, Init, Run, Checkpoint, Power, Gen, Bulk}
+use Rattle.mm_app.proofs.Below.{Help, BlamesOutput, bulk_lines, checkpoint_line, CommandDoes, DoesOrLacks, StoreStanding}
+use Rattle.mm_app.proofs.Below.{Outside, power_line, ServesIfFound, FindsInstance, session_status, init_line, status_of, EndsAtOnce}
+use Rattle.mm_app.proofs.Below.{GivesText, TellsStop, StopsAs, TellsLines, status_by, Status, Memory, WriteFault}
 use Rattle.mm_base.specs.declared.fault.WriteFault as write
 use Rattle.mm_base.specs.declared.replay_fault.ReplayFault.TheVariants as fault
 use Rattle.mm_recovery.specs.declared.fault.HostFault.{HostFault}
 use Rattle.mm_host.specs.SessionBlame as session_blame
 use Rattle.mm_host.specs.declared.fault.SessionFault.TheVariants as session
-use Rattle.mm_play.specs.Plays as plays
-use Rattle.mm_app.specs.Running.{session_at}
+use Rattle.mm_play.specs.PlaysInput as plays
+use Rattle.mm_app.specs.Run.{session_fault_status}
 use Rattle.mm_app.specs.declared.status.Status.TheVariants.{Done}
 use Rattle.mm_app.proofs.Blame.{end_of, start_blames, unheld_as, platform_end}
 
@@ -19,9 +19,9 @@ use Rattle.mm_app.proofs.Blame.{end_of, start_blames, unheld_as, platform_end}
 
 -- the output's count, where one writing came last
 told_once : {T : Type 0} (r : Result T write.WriteFault) (writes count writes' : ℕ) → count ≡ writes → CountsFaults count writes' r
-    → (writes' ≡ writes) ⊎ Rose writes writes'
+    → (writes' ≡ writes) ⊎ CountRose writes writes'
 told_once (Ok done) writes count writes' same c = inl (c.kept ∙ same)
-told_once (Err fault) writes count writes' same c = inr (c.failed ∙ ap counted same)
+told_once (Err fault) writes count writes' same c = inr (c.failed ∙ ap next_count same)
 
 output_by : (r : Result (Unit {0}) write.WriteFault) (status : Status) (writes writes' : ℕ) → CountsFaults writes writes' r
     → status ≡ status_by r → BlamesOutput status writes writes'
@@ -45,7 +45,7 @@ output_played (Ok it) status middle received' writes count writes' b e s = recor
   once = told_once s.result writes count writes' b s.counts;
 }
 output_played (Err fault.WriteFault) status middle received' writes count writes' b e s = record {
-  failed = λ h. subst (λ (n : ℕ). Rose writes n) (sym (s.failed h)) b;
+  failed = λ h. subst (λ (n : ℕ). CountRose writes n) (sym (s.failed h)) b;
   done = λ h. absurd (cc);
   once = inr (s.failed e ∙ b);
 }
@@ -53,13 +53,13 @@ output_played _ status middle received' writes count writes' b e s =
     record { failed = λ h. absurd (cc); done = λ h. absurd (cc); once = told_once s.result writes count writes' b s.counts }
 
 output_told : (told : Result (List ℕ) Status) (received received' : Option (List ℕ)) (writes writes' : ℕ) (status : Status)
-    → (end_of told ≡ WriteFault → ⊥) → Tells told received received' writes writes' status → BlamesOutput status writes writes'
+    → (end_of told ≡ WriteFault → ⊥) → TellsLines told received received' writes writes' status → BlamesOutput status writes writes'
 output_told (Ok text) received received' writes writes' status other t = output_by t.result status writes writes' t.counts t.ends
 output_told (Err end) received received' writes writes' status other t = output_stopped end status received received' writes writes' other t
 
 record HostAs (why : HostFault) : Type 0 where
-  other : session_at (session.Host why) ≡ WriteFault → ⊥
-  undone : session_at (session.Host why) ≡ Done → ⊥
+  other : session_fault_status (session.Host why) ≡ WriteFault → ⊥
+  undone : session_fault_status (session.Host why) ≡ Done → ⊥
 
 host_as : (why : HostFault) → HostAs why
 host_as why = grind arith
@@ -91,13 +91,13 @@ output_run fault (Ok header) before middle after old new left left' received rec
 output_run fault (Err end) before middle after old new left left' received received' reads reads' writes writes' status f a =
     output_stopped end status received received' writes writes' (unserved fault before end f) a.stops
 
-bulk_no_write : (count : ℕ) (answer : Result Summary BulkFault) → end_of (bulk_told count answer) ≡ WriteFault → ⊥
+bulk_no_write : (count : ℕ) (answer : Result Summary BulkFault) → end_of (bulk_lines count answer) ≡ WriteFault → ⊥
 bulk_no_write count answer h = grind arith
 
-power_no_write : (fault : Option StepFault) → end_of (power_told fault) ≡ WriteFault → ⊥
+power_no_write : (fault : Option StepFault) → end_of (power_line fault) ≡ WriteFault → ⊥
 power_no_write fault h = grind arith
 
-checkpoint_no_write : (answer : Result Checkpointed CheckpointRefusal) → end_of (checkpoint_told answer) ≡ WriteFault → ⊥
+checkpoint_no_write : (answer : Result Checkpointed CheckpointRefusal) → end_of (checkpoint_line answer) ≡ WriteFault → ⊥
 checkpoint_no_write answer h = grind arith
 
 -- the output, for each command
@@ -113,22 +113,22 @@ output_given : (old new : Outside) (text : List ℕ) (status : Status) → Gives
     → BlamesOutput status old.writes new.writes
 output_given old new text status g = output_by g.given.result status _ _ g.given.counts g.given.ends
 
-output_done : (command : Command) (old new : Outside) (status : Status) → Does command old new status
+output_done : (command : CommandLine) (old new : Outside) (status : Status) → CommandDoes command old new status
     → BlamesOutput status old.writes new.writes
 output_done (Init header) old new status d =
-    output_told (init_told d.answer) _ _ _ _ status (start_blames d.answer _ _ d.faults).other d.tells
+    output_told (init_line d.answer) _ _ _ _ status (start_blames d.answer _ _ d.faults).other d.tells
 output_done Run old new status d =
     output_run d.looks.fault d.found old.standing d.middle new.standing old.kept new.kept old.left new.left
     old.received new.received old.reads new.reads old.writes new.writes status d.looks.finds d.goes
 output_done (Gen it) old new status d = output_given old new _ status d
 output_done Help old new status d = output_given old new _ status d
 output_done (Bulk it) old new status d =
-    output_told (bulk_told it.count d.1.answer) _ _ _ _ status (bulk_no_write it.count d.1.answer) d.1.tells
-output_done Power old new status d = output_told (power_told d.fault) _ _ _ _ status (power_no_write d.fault) d.tells
-output_done Checkpoint old new status d = output_told (checkpoint_told d.answer) _ _ _ _ status (checkpoint_no_write d.answer) d.tells
+    output_told (bulk_lines it.count d.1.answer) _ _ _ _ status (bulk_no_write it.count d.1.answer) d.1.tells
+output_done Power old new status d = output_told (power_line d.fault) _ _ _ _ status (power_no_write d.fault) d.tells
+output_done Checkpoint old new status d = output_told (checkpoint_line d.answer) _ _ _ _ status (checkpoint_no_write d.answer) d.tells
 output_done _ old new status d = output_played d.played.answer status d.middle new.received _ _ _ d.played.wrote d.played.ends d.stops
 
-pub output_blamed : (command : Command) (old new : Outside) (status : Status) → DoesOrLacks command old new status
+pub output_blamed : (command : CommandLine) (old new : Outside) (status : Status) → DoesOrLacks command old new status
     → BlamesOutput status old.writes new.writes
 output_blamed command old new status (inl d) = output_done command old new status d
 output_blamed command old new status (inr e) = output_ended old new Memory status no_memory e

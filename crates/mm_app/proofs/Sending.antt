@@ -1,12 +1,12 @@
 -- Writes that go out one after another.
 use Rattle.mm_app.proofs.Below.{◌≡◌, ◌∙◌, ℕ, List, [], ◌++◌, Option, Result, Ok, Err, sym, ap, append_assoc, append-nil, subst, OnOk}
-use Rattle.mm_app.proofs.Below.{Appends, Appends-trans, Sends}
+use Rattle.mm_app.proofs.Below.{Appends, Appends-trans, SinkSends}
 use Rattle.mm_base.specs.declared.fault.WriteFault.{WriteFault}
 
 -- what comes after a write that failed doesn't go out
-pub Sends-stopped : (a b : Option (List ℕ)) (first more : List ℕ) (result : Result (Unit {0}) WriteFault) (fault : WriteFault)
-    → Sends a b first result → Sends a b (first ++ more) (Err fault)
-Sends-stopped a b first more result fault s = record {
+pub SinkSends-stopped : (a b : Option (List ℕ)) (first more : List ℕ) (result : Result (Unit {0}) WriteFault) (fault : WriteFault)
+    → SinkSends a b first result → SinkSends a b (first ++ more) (Err fault)
+SinkSends-stopped a b first more result fault s = record {
   sent = s.sent;
   unsent = s.unsent ++ more;
   appended = s.appended;
@@ -15,9 +15,9 @@ Sends-stopped a b first more result fault s = record {
 }
 
 -- a write goes out whole, and then another
-pub Sends-append : (a b c : Option (List ℕ)) (first more : List ℕ) (before result : Result (Unit {0}) WriteFault) (done : Unit {0})
-    → Sends a b first before → before ≡ Ok done → Sends b c more result → Sends a c (first ++ more) result
-Sends-append a b c first more before result done s was t =
+pub SinkSends-append : (a b c : Option (List ℕ)) (first more : List ℕ) (before result : Result (Unit {0}) WriteFault) (done : Unit {0})
+    → SinkSends a b first before → before ≡ Ok done → SinkSends b c more result → SinkSends a c (first ++ more) result
+SinkSends-append a b c first more before result done s was t =
     let all : s.unsent ≡ [] = subst (λ r. OnOk r (s.unsent ≡ [])) was s.whole in
     record {
       sent = first ++ t.sent;

@@ -1,7 +1,7 @@
 -- A play of the lines, with its stop line, by what the play and the line tell.
 use Rattle.mm_app.proofs.Below.{◌≡◌, ℕ, List, Option, Result, ReplayFault, IsBlamed, is_read_fault, is_write_fault, status_of, TellsStop}
 use Rattle.mm_app.proofs.Below.{Status}
-use Rattle.mm_app.specs.Answering.{PlaysAndStops}
+use Rattle.mm_app.specs.LinePlays.{PlaysAndStops}
 
 pub plays_and_stops : {R : Type 0} (Plays : (left left' received received' : Option (List ℕ)) → Result R ReplayFault
     → Type 0) (left left' received middle received' : Option (List ℕ)) (reads reads' writes count writes' : ℕ)

@@ -1,9 +1,9 @@
 -- Whom a status blames, by the counts of faults.
 use Rattle.std.specs.Prelude.{◌≡◌, ◌⊎◌, ℕ, Bool, true, false}
-use Rattle.mm_base.specs.Faults.{Rose}
-use Rattle.mm_play.specs.Plays.{IsBlamed}
-use Rattle.mm_words.specs.declared.command.Command.{Command}
-use Rattle.mm_words.specs.declared.command.Command.TheVariants.{Init}
+use Rattle.mm_base.specs.Faults.{CountRose}
+use Rattle.mm_play.specs.PlaysInput.{IsBlamed}
+use Rattle.mm_words.specs.declared.command.CommandLine.{CommandLine}
+use Rattle.mm_words.specs.declared.command.CommandLine.TheVariants.{Init}
 use Rattle.mm_app.specs.Outside.{Outside}
 use Rattle.mm_app.specs.declared.status.Status.{Status}
 use Rattle.mm_app.specs.declared.status.Status.TheVariants.{Done, ReadFault, WriteFault, PlatformFault, StoreFault}
@@ -22,12 +22,12 @@ tells_read_fault _ = false
 
 -- the count of faults of the source that a command takes from: of the entropy for `init`, and of
 -- the input for any other
-abbrev pub source_faults : Command → Outside → ℕ
+abbrev pub source_faults : CommandLine → Outside → ℕ
 source_faults (Init header) it = it.takes
 source_faults _ it = it.reads
 
 -- it rose exactly where ReadFault is told
-abbrev pub BlamesSource : Command → (old new : Outside) → Status → Type 0
+abbrev pub BlamesSource : CommandLine → (old new : Outside) → Status → Type 0
 BlamesSource command old new status =
     IsBlamed (tells_read_fault status) (source_faults command old) (source_faults command new)
 
@@ -35,6 +35,6 @@ BlamesSource command old new status =
 -- another status it may have risen, where the output failed within the stop line. It never rises
 -- more than once: no call follows one that failed.
 pub record BlamesOutput (status : Status) (writes writes' : ℕ) : Type 0 where
-  pub failed : status ≡ WriteFault → Rose writes writes'
+  pub failed : status ≡ WriteFault → CountRose writes writes'
   pub done : status ≡ Done → writes' ≡ writes
-  pub once : (writes' ≡ writes) ⊎ Rose writes writes'
+  pub once : (writes' ≡ writes) ⊎ CountRose writes writes'

@@ -2,28 +2,28 @@
 use Rattle.std.specs.Prelude.{◌≡◌, ◌≢◌, ◌+◌, ◌≤◌, ◌++◌, ℕ, true, List, [], length, Option, Some, Result, Ok}
 use Rattle.mm_base.specs.Input.{lines_of}
 use Rattle.mm_base.specs.Limits.{last_position}
-use Rattle.mm_check.specs.Checking as checked
+use Rattle.mm_check.specs.CheckStage as checked
 use Rattle.mm_digest.specs.Messages.{zero_bytes}
 use Rattle.mm_call.specs.Premises.{AreShown}
-use Rattle.mm_call.specs.Tied.{standing_items}
+use Rattle.mm_call.specs.ShownItems.{standing_items}
 use Rattle.mm_digest.specs.declared.variant.Variant.{Variant}
 use Rattle.mm_digest.specs.declared.variant.Variant.TheVariants.{Basic, Opt}
 use Rattle.mm_host.specs.AnySlots.{AreAskedInTurn, AsksNothingNew, requests_with}
-use Rattle.mm_host.specs.Honest.{MayGoOn}
-use Rattle.mm_gen.specs.Replayed.{replay_of}
+use Rattle.mm_host.specs.HonestStore.{MayGoOn}
+use Rattle.mm_gen.specs.Replay.{replay_of}
 use Rattle.mm_host.specs.SessionLines.{AreWithin}
 use Rattle.mm_module.specs.Batch.{Batch}
 use Rattle.mm_model.specs.History.{History, total_of}
 use Rattle.mm_model.specs.Instance.{Instance}
-use Rattle.mm_model.specs.InstanceWords.{basic, opt}
+use Rattle.mm_model.specs.InstanceWords.{basic_instance, opt_instance}
 use Rattle.mm_model.specs.Life.{Lost as LostLife, life_of}
 use Rattle.mm_modules.specs.Modules.{meaning_of}
 use Rattle.mm_modules.specs.declared.any.AnyModule.{AnyModule}
 use Rattle.mm_platform.specs.Standing.{Item, Standing, item_values, register_after}
-use Rattle.mm_play.specs.Play.{run_of}
-use Rattle.mm_play.specs.declared.player.Refused.{Refused}
-use Rattle.mm_recovery.specs.Fitting.{first_offer}
-use Rattle.mm_receipt.specs.Checking.{first_checking, receipts_answer, receipts_closing}
+use Rattle.mm_play.specs.Play.{outcome_of_input}
+use Rattle.mm_play.specs.declared.player.LineRefusal.{LineRefusal}
+use Rattle.mm_recovery.specs.SlotFit.{first_offer}
+use Rattle.mm_receipt.specs.ReceiptCheck.{first_check, receipts_answer, receipts_closing}
 use Rattle.mm_replay.specs.Schedule as replayed
 use Rattle.mm_schedule.specs.Headers.{header_at}
 use Rattle.mm_seal.specs.Cell.{IsCell, blank_cell, cell_spelling}
@@ -31,9 +31,9 @@ use Rattle.mm_seal.specs.declared.cell.Cell.{Cell}
 use Rattle.mm_slots.specs.Stage as slotted
 use Rattle.mm_store.specs.Slots as kept
 use Rattle.mm_transfer.specs.Stage as moved
-use Rattle.mm_words.specs.declared.command.Command.{Command}
-use Rattle.mm_words.specs.declared.command.Generated.{Generated}
-use Rattle.mm_words.specs.declared.command.Command.TheVariants.{Init, Run, Checkpoint, Power, Gen, Bulk, Help, Replay, Check, Slots, Receipts, Transfer}
+use Rattle.mm_words.specs.declared.command.CommandLine.{CommandLine}
+use Rattle.mm_words.specs.declared.command.GeneratedSchedule.{GeneratedSchedule}
+use Rattle.mm_words.specs.declared.command.CommandLine.TheVariants.{Init, Run, Checkpoint, Power, Gen, Bulk, Help, Replay, Check, Slots, Receipts, Transfer}
 use Rattle.mm_app.specs.Outside.{Outside}
 use Rattle.mm_app.specs.declared.status.Status.{Status}
 use Rattle.mm_app.specs.declared.status.Status.TheVariants.{Done, ReadFault, WriteFault, Memory, PlatformFault, StoreFault}
@@ -114,18 +114,18 @@ pub record CanServe (i : Instance) (old new : Outside) : Type 0 where
 
 -- It is an instance of a module, of Basic or of Opt.
 pub data CanRun (old new : Outside) : Type 0 where
-  in_basic : (it : AnyModule) (key : List ℕ) → CanServe (basic (meaning_of it) key) old new
+  in_basic : (it : AnyModule) (key : List ℕ) → CanServe (basic_instance (meaning_of it) key) old new
       → CanRun old new
   in_opt : (it : AnyModule) (key barrier : List ℕ)
-      → CanServe (opt (meaning_of it) key barrier) old new → CanRun old new
+      → CanServe (opt_instance (meaning_of it) key barrier) old new → CanRun old new
 
 -- For a run in bulk: the replay of the text that its number makes comes to its end.
-abbrev pub IsReplayable : Generated → Type 0
+abbrev pub IsReplayable : GeneratedSchedule → Type 0
 IsReplayable it =
     (next : replayed.ReplayStage) × ((replay_of it.number it.count it.header).outcome ≡ Ok next)
 
 -- What is asked, by the command. Of those that play lines see below.
-abbrev pub CanBeDone : Command → (old new : Outside) → Type 0
+abbrev pub CanBeDone : CommandLine → (old new : Outside) → Type 0
 CanBeDone (Init header) old new = CanStart old
 CanBeDone Run old new = CanRun old new
 CanBeDone Checkpoint old new = CanClose old new
@@ -136,21 +136,21 @@ CanBeDone Help old new = Unit {0}
 CanBeDone _ old new = ⊥
 
 -- a player answers this input to its end
-abbrev pub AnswersToEnd : {P : Type 0} → (P → List ℕ → Result (List ℕ × P) Refused)
+abbrev pub AnswersToEnd : {P : Type 0} → (P → List ℕ → Result (List ℕ × P) LineRefusal)
     → (P → Option (List ℕ)) → P → Option (List ℕ) → Type 0
 AnswersToEnd {P} answer closing first left = (bytes : List ℕ) × (next : P) × (left ≡ Some bytes)
-    × ((run_of answer closing first bytes).outcome ≡ Ok next)
+    × ((outcome_of_input answer closing first bytes).outcome ≡ Ok next)
 
 -- The input of a command that plays lines is within the grammar and the limits.
-abbrev pub CanBeAnswered : Command → (left : Option (List ℕ)) → Type 0
+abbrev pub CanBeAnswered : CommandLine → (left : Option (List ℕ)) → Type 0
 CanBeAnswered Replay left =
-    AnswersToEnd replayed.schedule_answer replayed.schedule_closing replayed.at_header left
+    AnswersToEnd replayed.schedule_answer replayed.schedule_closing replayed.header_stage left
 CanBeAnswered Check left =
     AnswersToEnd (checked.check_answer header_at) checked.check_closing checked.AtHeader left
 CanBeAnswered Slots left =
-    AnswersToEnd slotted.slots_answer slotted.slots_closing slotted.at_first left
+    AnswersToEnd slotted.slots_answer slotted.slots_closing slotted.first_slots_stage left
 CanBeAnswered (Receipts key) left =
-    AnswersToEnd receipts_answer receipts_closing (first_checking key) left
+    AnswersToEnd receipts_answer receipts_closing (first_check key) left
 CanBeAnswered Transfer left =
-    AnswersToEnd moved.transfer_answer moved.transfer_closing moved.at_first left
+    AnswersToEnd moved.transfer_answer moved.transfer_closing moved.first_transfer_stage left
 CanBeAnswered _ left = ⊥

@@ -2,7 +2,7 @@
 use Rattle.std.specs.Prelude.{◌≡◌, ℕ, List, Option, Result}
 use Rattle.mm_base.specs.declared.replay_fault.ReplayFault.{ReplayFault}
 use Rattle.mm_play.specs.Headline.{EventPlayer, TellsEvents}
-use Rattle.mm_replay.specs.Headline.{AreOneRun, replayed}
+use Rattle.mm_replay.specs.Headline.{AreOneRun, replay_player}
 use Rattle.mm_app.specs.Status.{status_of, stop_line}
 use Rattle.mm_app.specs.declared.status.Status.{Status}
 
@@ -19,4 +19,4 @@ TellsByStatus p Holds left left' received received' status =
 -- requests.
 abbrev pub ReplaysOneRun : (left left' received received' : Option (List ℕ)) → Status → Type 0
 ReplaysOneRun left left' received received' status =
-    TellsByStatus replayed AreOneRun left left' received received' status
+    TellsByStatus replay_player AreOneRun left left' received received' status

@@ -2,7 +2,7 @@
 -- and the output.
 use Rattle.std.specs.Prelude.{◌≡◌, ℕ, List, Option}
 use Rattle.mm_platform.specs.Standing.{Standing}
-use Rattle.mm_store.specs.Kept.{StoreStanding}
+use Rattle.mm_store.specs.StoreStanding.{StoreStanding}
 
 -- what stands on the platform, what the store keeps, what is left of the input and of the entropy,
 -- what the output received; and the counts of faults of the last three (the first two have theirs)

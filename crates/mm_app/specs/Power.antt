@@ -2,20 +2,20 @@
 use Rattle.std.specs.Prelude.{ℕ, List, codes, Option, None, Some, Result, Ok, Err}
 use Rattle.mm_platform.specs.declared.fault.StepFault.{StepFault}
 use Rattle.mm_platform.specs.Standing.{Standing}
-use Rattle.mm_platform.specs.Steps.{Cycles}
+use Rattle.mm_platform.specs.Steps.{PowerCycles}
 use Rattle.mm_app.specs.Status.{line_of}
-use Rattle.mm_app.specs.Telling.{Tells}
+use Rattle.mm_app.specs.CommandOutput.{TellsLines}
 use Rattle.mm_app.specs.declared.status.Status.{Status}
 use Rattle.mm_app.specs.declared.status.Status.TheVariants.{PlatformFault}
 
 -- what is told of it, by the platform's fault or none
-abbrev pub power_told : Option StepFault → Result (List ℕ) Status
-power_told None = Ok (line_of (codes "power"))
-power_told (Some fault) = Err PlatformFault
+abbrev pub power_line : Option StepFault → Result (List ℕ) Status
+power_line None = Ok (line_of (codes "power"))
+power_line (Some fault) = Err PlatformFault
 
 -- The platform lost its power and has it back, or failed at that; and it was told.
 pub record LosesPower (before after : Standing) (received received' : Option (List ℕ))
     (writes writes' : ℕ) (status : Status) : Type 0 where
   pub fault : Option StepFault
-  pub cycles : Cycles before after fault
-  pub tells : Tells (power_told fault) received received' writes writes' status
+  pub cycles : PowerCycles before after fault
+  pub tells : TellsLines (power_line fault) received received' writes writes' status

@@ -1,6 +1,6 @@
 -- What is said of the command `slots`.
 use Rattle.std.specs.Prelude.{ℕ, List, Option}
-use Rattle.mm_slots.specs.Headline.{AreSlotRuns, slotted}
+use Rattle.mm_slots.specs.Headline.{AreSlotRuns, slots_player}
 use Rattle.mm_app.specs.Headline.{TellsByStatus}
 use Rattle.mm_app.specs.declared.status.Status.{Status}
 
@@ -8,4 +8,4 @@ use Rattle.mm_app.specs.declared.status.Status.{Status}
 -- requests.
 abbrev pub InterleavesRuns : (left left' received received' : Option (List ℕ)) → Status → Type 0
 InterleavesRuns left left' received received' status =
-    TellsByStatus slotted AreSlotRuns left left' received received' status
+    TellsByStatus slots_player AreSlotRuns left left' received received' status

@@ -1,6 +1,6 @@
 -- What is said of the command `transfer`.
 use Rattle.std.specs.Prelude.{ℕ, List, Option}
-use Rattle.mm_transfer.specs.Headline.{AreOneTransfer, moved}
+use Rattle.mm_transfer.specs.Headline.{AreOneTransfer, transfer_player}
 use Rattle.mm_app.specs.Headline.{TellsByStatus}
 use Rattle.mm_app.specs.declared.status.Status.{Status}
 
@@ -8,4 +8,4 @@ use Rattle.mm_app.specs.declared.status.Status.{Status}
 -- requests, and at most one side was live at each moment.
 abbrev pub MovesOneRun : (left left' received received' : Option (List ℕ)) → Status → Type 0
 MovesOneRun left left' received received' status =
-    TellsByStatus moved AreOneTransfer left left' received received' status
+    TellsByStatus transfer_player AreOneTransfer left left' received received' status

@@ -8,11 +8,11 @@ use crate::status::Status;
 use crate::telling::{stopped, written};
 use mm_base::Sink;
 use mm_gen::{BulkFault, Summary, bulk, summary_text};
-use mm_words::Generated;
+use mm_words::GeneratedSchedule;
 use std::alloc::Global;
 
 /// Runs the schedule of a number, and tells what came of it.
-pub fn run_in_bulk<K: Sink>(alloc: Global, it: &Generated, out: &mut K) -> Status
+pub fn run_in_bulk<K: Sink>(alloc: Global, it: &GeneratedSchedule, out: &mut K) -> Status
     requires { it.now.count ≤ most_events }
     ensures { RunsInBulk it.now (K.received out.old) (K.received out.new) (K.faults out.old)
         (K.faults out.new) result }

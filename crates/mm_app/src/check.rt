@@ -1,8 +1,8 @@
 //! The command `check`: a recorded run is checked.
 
 ghost use Rattle.mm_check.specs.Checks.{ChecksRun};
-ghost use Rattle.mm_words.specs.declared.command.Command.TheVariants.{Check};
-ghost use Rattle.mm_app.specs.Answering.{PlaysAndStops};
+ghost use Rattle.mm_words.specs.declared.command.CommandLine.TheVariants.{Check};
+ghost use Rattle.mm_app.specs.LinePlays.{PlaysAndStops};
 ghost use Rattle.mm_app.specs.Completeness.{CanBeAnswered};
 ghost use Rattle.mm_app.specs.Status.{EndsUnrefused};
 

@@ -1,7 +1,7 @@
 //! The command `checkpoint`: the open segment is closed.
 
-ghost use Rattle.mm_app.specs.Checkpoint.{Checkpoints, checkpoint_told};
-ghost use Rattle.mm_app.specs.Telling.{Tells};
+ghost use Rattle.mm_app.specs.Checkpoint.{CheckpointsInstance, checkpoint_line};
+ghost use Rattle.mm_app.specs.CommandOutput.{TellsLines};
 
 use crate::status::Status;
 use crate::telling::{stopped, written};
@@ -11,7 +11,7 @@ use mm_platform::Platform;
 
 /// Closes the platform's open segment, where there is one.
 pub fn close_segment<P: Platform, K: Sink>(platform: &mut P, out: &mut K) -> Status
-    ensures { Checkpoints (P.standing platform.old) (P.standing platform.new)
+    ensures { CheckpointsInstance (P.standing platform.old) (P.standing platform.new)
         (K.received out.old) (K.received out.new) (K.faults out.old) (K.faults out.new) result }
 {
     let answer = checkpoint(platform);
@@ -20,7 +20,7 @@ pub fn close_segment<P: Platform, K: Sink>(platform: &mut P, out: &mut K) -> Sta
 
 // Tells what a checkpoint came to.
 fn tell_checkpoint<K: Sink>(answer: Result<Checkpointed, CheckpointRefusal>, out: &mut K) -> Status
-    ensures { Tells (checkpoint_told answer)
+    ensures { TellsLines (checkpoint_line answer)
         (K.received out.old) (K.received out.new) (K.faults out.old) (K.faults out.new) result }
 {
     match answer {

@@ -1,19 +1,19 @@
 //! What the words of the command line do.
 
 ghost use Rattle.std.specs.Prelude.{◌≡◌, map};
-ghost use Rattle.mm_play.specs.Plays.{IsBlamed};
+ghost use Rattle.mm_play.specs.PlaysInput.{IsBlamed};
 ghost use Rattle.mm_words.specs.Commands.{IsInBounds, SpellsCommand};
-ghost use Rattle.mm_words.specs.declared.command.Command.{Command as Told};
-ghost use Rattle.mm_words.specs.declared.command.Command.TheVariants.{Replay, Slots, Transfer};
+ghost use Rattle.mm_words.specs.declared.command.CommandLine.{CommandLine as Told};
+ghost use Rattle.mm_words.specs.declared.command.CommandLine.TheVariants.{Replay, Slots, Transfer};
 ghost use Rattle.mm_app.specs.Blame.{BlamesOutput, BlamesSource, tells_platform_fault, tells_store_fault};
 ghost use Rattle.mm_app.specs.Commands.{DoesOrLacks, ReadsInput, SpellNo, SpellNone, TakesEntropy, UsesPlatform, UsesStore};
 ghost use Rattle.mm_app.specs.Completeness.{CanBeAnswered, CanBeDone, IsDoneOrFailed};
 ghost use Rattle.mm_app.specs.Headline.{ReplaysOneRun};
-ghost use Rattle.mm_app.specs.Holding.{TellsAlready, TellsBlank, TellsCell, TellsKind, TellsLost, TellsMuch, TellsRefusal, TellsShort};
+ghost use Rattle.mm_app.specs.StatusFacts.{TellsAlready, TellsBlank, TellsCell, TellsKind, TellsLost, TellsMuch, TellsRefusal, TellsShort};
 ghost use Rattle.mm_app.specs.Outside.{outside};
 ghost use Rattle.mm_app.specs.Slots.{InterleavesRuns};
 ghost use Rattle.mm_app.specs.Status.{EndsUnrefused};
-ghost use Rattle.mm_app.specs.Telling.{IsRefused};
+ghost use Rattle.mm_app.specs.CommandOutput.{IsRefused};
 ghost use Rattle.mm_app.specs.Transfer.{MovesOneRun};
 ghost use Rattle.mm_app.specs.declared.status.Status.TheVariants.{Usage};
 
@@ -34,13 +34,13 @@ use crate::transfer::play_transfer;
 use mm_base::{Sink, Source};
 use mm_platform::Platform;
 use mm_store::Store;
-use mm_words::{Command, read_words};
+use mm_words::{CommandLine, read_words};
 use std::alloc::Global;
 
 // Does what a command says.
 fn done<P: Platform, T: Store, S: Source, E: Source, K: Sink>(
     alloc: Global,
-    command: &Command,
+    command: &CommandLine,
     platform: &mut P,
     store: &mut T,
     input: &mut S,
@@ -63,18 +63,18 @@ fn done<P: Platform, T: Store, S: Source, E: Source, K: Sink>(
     ensures entropy { (TakesEntropy command.now → ⊥) → entropy.new ≡ entropy.old }
 {
     match command {
-        Command::Replay => replay_and_stop(alloc, input, out),
-        Command::Gen(it) => write_schedule(alloc, it, out),
-        Command::Bulk(it) => run_in_bulk(alloc, it, out),
-        Command::Slots => play_slots(alloc, input, out),
-        Command::Receipts { key } => check_receipts(alloc, key, input, out),
-        Command::Transfer => play_transfer(alloc, input, out),
-        Command::Checkpoint => close_segment(platform, out),
-        Command::Power => lose_power(platform, out),
-        Command::Help => write_help(alloc, out),
-        Command::Init(header) => start_instance(alloc, header, platform, store, entropy, out),
-        Command::Run => run_instance(alloc, platform, store, input, out),
-        Command::Check => check_run(alloc, input, out),
+        CommandLine::Replay => replay_and_stop(alloc, input, out),
+        CommandLine::Gen(it) => write_schedule(alloc, it, out),
+        CommandLine::Bulk(it) => run_in_bulk(alloc, it, out),
+        CommandLine::Slots => play_slots(alloc, input, out),
+        CommandLine::Receipts { key } => check_receipts(alloc, key, input, out),
+        CommandLine::Transfer => play_transfer(alloc, input, out),
+        CommandLine::Checkpoint => close_segment(platform, out),
+        CommandLine::Power => lose_power(platform, out),
+        CommandLine::Help => write_help(alloc, out),
+        CommandLine::Init(header) => start_instance(alloc, header, platform, store, entropy, out),
+        CommandLine::Run => run_instance(alloc, platform, store, input, out),
+        CommandLine::Check => check_run(alloc, input, out),
     }
 }
 

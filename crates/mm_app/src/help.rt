@@ -2,7 +2,7 @@
 
 ghost use Rattle.std.specs.Prelude.{◌⊎◌};
 ghost use Rattle.mm_words.specs.Commands.{help_text};
-ghost use Rattle.mm_app.specs.Telling.{StopsAs, WritesText};
+ghost use Rattle.mm_app.specs.CommandOutput.{StopsAs, WritesText};
 
 use crate::status::Status;
 use crate::telling::{stopped, written};

@@ -1,8 +1,8 @@
 //! The command `receipts`: an input's receipts are checked under a key.
 
 ghost use Rattle.mm_receipt.specs.Reports.{ChecksHonestly};
-ghost use Rattle.mm_words.specs.declared.command.Command.TheVariants.{Receipts};
-ghost use Rattle.mm_app.specs.Answering.{PlaysAndStops};
+ghost use Rattle.mm_words.specs.declared.command.CommandLine.TheVariants.{Receipts};
+ghost use Rattle.mm_app.specs.LinePlays.{PlaysAndStops};
 ghost use Rattle.mm_app.specs.Completeness.{CanBeAnswered};
 ghost use Rattle.mm_app.specs.Status.{EndsUnrefused};
 

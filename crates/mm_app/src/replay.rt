@@ -1,8 +1,8 @@
 //! The command `replay`: an input's schedule is replayed.
 
-ghost use Rattle.mm_replay.specs.Replays.{Replays};
-ghost use Rattle.mm_words.specs.declared.command.Command.TheVariants.{Replay};
-ghost use Rattle.mm_app.specs.Answering.{PlaysAndStops};
+ghost use Rattle.mm_replay.specs.WholeReplay.{ReplaysSchedule};
+ghost use Rattle.mm_words.specs.declared.command.CommandLine.TheVariants.{Replay};
+ghost use Rattle.mm_app.specs.LinePlays.{PlaysAndStops};
 ghost use Rattle.mm_app.specs.Completeness.{CanBeAnswered};
 ghost use Rattle.mm_app.specs.Status.{EndsUnrefused};
 
@@ -14,7 +14,7 @@ use std::alloc::Global;
 
 /// Replays the input, and writes the stop line.
 pub fn replay_and_stop<S: Source, K: Sink>(alloc: Global, input: &mut S, out: &mut K) -> Status
-    ensures replays { PlaysAndStops Replays (S.left input.old) (S.left input.new)
+    ensures replays { PlaysAndStops ReplaysSchedule (S.left input.old) (S.left input.new)
         (K.received out.old) (K.received out.new) (S.faults input.old) (S.faults input.new)
         (K.faults out.old) (K.faults out.new) result }
     ensures complete { CanBeAnswered Replay (S.left input.old) → EndsUnrefused result }

@@ -1,6 +1,6 @@
 //! The command `run`: the lines of the input are served by the instance that the platform's cell holds.
 
-ghost use Rattle.mm_app.specs.Running.{LooksAtInstance, RunsInstance, SeesInstance, ServedInstance, ServesAndStops};
+ghost use Rattle.mm_app.specs.Run.{LooksAtInstance, RunsInstance, SeesInstance, ServesInstance, ServesAndStops};
 
 use crate::status::Status;
 use crate::telling::stopped;
@@ -87,7 +87,7 @@ fn serve<P: Platform, T: Store, S: Source, K: Sink>(
     input: &mut S,
     out: &mut K,
 ) -> Status
-    ensures { ServedInstance header.now (P.standing platform.old) (P.standing platform.new)
+    ensures { ServesInstance header.now (P.standing platform.old) (P.standing platform.new)
         (T.kept store.old) (T.kept store.new) (S.left input.old) (S.left input.new)
         (K.received out.old) (K.received out.new) (S.faults input.old) (S.faults input.new)
         (K.faults out.old) (K.faults out.new) result }

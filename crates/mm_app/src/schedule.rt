@@ -3,17 +3,17 @@
 ghost use Rattle.std.specs.Prelude.{◌≡◌, ◌≤◌, ◌⊎◌};
 ghost use Rattle.mm_base.specs.Limits.{most_events};
 ghost use Rattle.mm_gen.specs.Schedules.{schedule_text};
-ghost use Rattle.mm_app.specs.Telling.{StopsAs, WritesText};
+ghost use Rattle.mm_app.specs.CommandOutput.{StopsAs, WritesText};
 
 use crate::status::Status;
 use crate::telling::{stopped, written};
 use mm_base::Sink;
 use mm_gen::gen_;
-use mm_words::Generated;
+use mm_words::GeneratedSchedule;
 use std::alloc::Global;
 
 /// Writes the schedule of a number.
-pub fn write_schedule<K: Sink>(alloc: Global, it: &Generated, out: &mut K) -> Status
+pub fn write_schedule<K: Sink>(alloc: Global, it: &GeneratedSchedule, out: &mut K) -> Status
     requires { it.now.count ≤ most_events }
     ensures { WritesText (schedule_text it.now.number it.now.count it.now.header)
         (K.received out.old) (K.received out.new) (K.faults out.old) (K.faults out.new) result

@@ -1,8 +1,8 @@
 //! The command `slots`: an input's lines of several modules on one platform are played.
 
-ghost use Rattle.mm_slots.specs.Plays.{PlaysSlots};
-ghost use Rattle.mm_words.specs.declared.command.Command.TheVariants.{Slots};
-ghost use Rattle.mm_app.specs.Answering.{PlaysAndStops};
+ghost use Rattle.mm_slots.specs.WholeSlots.{PlaysSlots};
+ghost use Rattle.mm_words.specs.declared.command.CommandLine.TheVariants.{Slots};
+ghost use Rattle.mm_app.specs.LinePlays.{PlaysAndStops};
 ghost use Rattle.mm_app.specs.Completeness.{CanBeAnswered};
 ghost use Rattle.mm_app.specs.Status.{EndsUnrefused};
 

@@ -1,8 +1,8 @@
 //! The command `init`: an instance of a variant and a module is started on a blank platform.
 
 ghost use Rattle.mm_recovery.specs.Init.{devices};
-ghost use Rattle.mm_app.specs.Starting.{StartsInstance, init_told};
-ghost use Rattle.mm_app.specs.Telling.{Tells};
+ghost use Rattle.mm_app.specs.Init.{StartsInstance, init_line};
+ghost use Rattle.mm_app.specs.CommandOutput.{TellsLines};
 
 use crate::status::Status;
 use crate::telling::{stopped, written};
@@ -42,7 +42,7 @@ pub fn start_instance<P: Platform, T: Store, E: Source, K: Sink>(
 
 // Tells what a first start came to.
 fn tell_start<K: Sink>(answer: Result<(), InitFault>, out: &mut K) -> Status
-    ensures { Tells (init_told answer)
+    ensures { TellsLines (init_line answer)
         (K.received out.old) (K.received out.new) (K.faults out.old) (K.faults out.new) result }
 {
     match answer {

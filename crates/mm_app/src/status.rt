@@ -46,7 +46,7 @@ pub enum Status {
 
 impl Status {
     ghost use Rattle.std.specs.Prelude.{◌≡◌};
-    ghost use Rattle.mm_app.specs.Running.{refused_at, session_at, session_status};
+    ghost use Rattle.mm_app.specs.Run.{refusal_status, session_fault_status, session_status};
     ghost use Rattle.mm_app.specs.Status.{exit_code, status_at, words_status};
 
     /// The program's exit status.
@@ -110,7 +110,7 @@ impl Status {
 
     // How the program ends where a session stopped so.
     fn at_session(fault: SessionFault) -> Status
-        ensures { result ≡ session_at fault }
+        ensures { result ≡ session_fault_status fault }
     {
         match fault {
             SessionFault::Host(HostFault::Memory) => Status::Memory,
@@ -122,7 +122,7 @@ impl Status {
 
     // How the program ends where a call was refused so.
     fn at_refusal(why: Refusal) -> Status
-        ensures { result ≡ refused_at why }
+        ensures { result ≡ refusal_status why }
     {
         match why {
             Refusal::Memory => Status::Memory,

@@ -3,7 +3,7 @@
 ghost use Rattle.std.specs.Prelude.{◌≡◌, ◌++◌, ◌∷◌, []};
 ghost use Rattle.std.specs.Fmt.{decimal};
 ghost use Rattle.mm_base.specs.Faults.{CountsFaults};
-ghost use Rattle.mm_base.specs.Streams.{Sends};
+ghost use Rattle.mm_base.specs.Streams.{SinkSends};
 ghost use Rattle.mm_app.specs.Status.{stop_line};
 ghost use Rattle.mm_app.specs.declared.status.Status.TheVariants as ended;
 
@@ -13,7 +13,7 @@ use mm_base::{Sink, WriteFault, write_all};
 
 /// Writes the stop line of a status, where it has one.
 pub fn write_stop<K: Sink>(status: Status, out: &mut K) -> Result<(), WriteFault>
-    ensures sent { Sends (K.received out.old) (K.received out.new) (stop_line status) result }
+    ensures sent { SinkSends (K.received out.old) (K.received out.new) (stop_line status) result }
     ensures counted { CountsFaults (K.faults out.old) (K.faults out.new) result }
 
     // Nothing is written where there is no stop line.
@@ -42,7 +42,7 @@ pub fn write_stop<K: Sink>(status: Status, out: &mut K) -> Result<(), WriteFault
 
 // Writes the words and the number as a line.
 fn write_numbered<K: Sink>(words: &[u8], number: u32, out: &mut K) -> Result<(), WriteFault>
-    ensures sent { Sends (K.received out.old) (K.received out.new)
+    ensures sent { SinkSends (K.received out.old) (K.received out.new)
         (words.now ++ (decimal number ++ 10 ∷ [])) result }
     ensures counted { CountsFaults (K.faults out.old) (K.faults out.new) result }
 {

@@ -1,9 +1,9 @@
 //! What a command writes last: its text, or a stop line.
 
 ghost use Rattle.std.specs.Prelude.{◌≡◌};
-ghost use Rattle.mm_play.specs.Plays.{IsUnrefused};
+ghost use Rattle.mm_play.specs.PlaysInput.{IsUnrefused};
 ghost use Rattle.mm_app.specs.Status.{EndsUnrefused, status_of};
-ghost use Rattle.mm_app.specs.Telling.{StopsAs, TellsStop, WritesText};
+ghost use Rattle.mm_app.specs.CommandOutput.{StopsAs, TellsStop, WritesText};
 
 use crate::status::Status;
 use crate::stop::write_stop;

@@ -1,8 +1,8 @@
 //! The command `transfer`: an input's schedule of two platforms, between which a module moves, is played.
 
-ghost use Rattle.mm_transfer.specs.Plays.{PlaysTransfer};
-ghost use Rattle.mm_words.specs.declared.command.Command.TheVariants.{Transfer};
-ghost use Rattle.mm_app.specs.Answering.{PlaysAndStops};
+ghost use Rattle.mm_transfer.specs.TransferPlay.{PlaysTransfer};
+ghost use Rattle.mm_words.specs.declared.command.CommandLine.TheVariants.{Transfer};
+ghost use Rattle.mm_app.specs.LinePlays.{PlaysAndStops};
 ghost use Rattle.mm_app.specs.Completeness.{CanBeAnswered};
 ghost use Rattle.mm_app.specs.Status.{EndsUnrefused};
 

@@ -7,24 +7,24 @@ use Rattle.mm_module.specs.Meaning.{IsLawful, Meaning}
 use Rattle.mm_module.specs.Batch.{Batch}
 use Rattle.mm_model.specs.declared.answer.BatchAnswer.{BatchAnswer}
 use Rattle.mm_model.specs.declared.refusal.Refusal.{Refusal}
-use Rattle.mm_machine.specs.Finishing.{Finishes}
-use Rattle.mm_machine.specs.Stepping.{Steps, number_of}
-use Rattle.mm_machine.specs.declared.call.Ended.{Ended as End}
-use Rattle.mm_machine.specs.declared.call.Stage.{Stage}
-use Rattle.mm_machine.specs.declared.call.Stage.TheVariants.{Begun}
-use Rattle.mm_machine.specs.declared.call.Step.TheVariants.{Going}
-use Rattle.mm_call.specs.declared.ended.Ended.{Ended}
+use Rattle.mm_machine.specs.OpEnds.{OpEnds}
+use Rattle.mm_machine.specs.OpSteps.{OpSteps, number_of}
+use Rattle.mm_machine.specs.declared.call.OpResult.{OpResult as End}
+use Rattle.mm_machine.specs.declared.call.OpStage.{OpStage}
+use Rattle.mm_machine.specs.declared.call.OpStage.TheVariants.{Begun}
+use Rattle.mm_machine.specs.declared.call.StepResult.TheVariants.{Going}
+use Rattle.mm_call.specs.declared.ended.AskResult.{AskResult}
 use Rattle.mm_model.specs.Long.{is_long}
-use Rattle.mm_call.specs.AskedIn.{AskedIn}
-use Rattle.mm_call.specs.Ended.{CallsTo, result_of}
-use Rattle.mm_call.specs.Machine.{end_told}
+use Rattle.mm_call.specs.AskPromise.{AskPromise}
+use Rattle.mm_call.specs.EndedCall.{EndsAsCall, result_of}
+use Rattle.mm_call.specs.Machine.{end_of_machine}
 use Rattle.mm_call.proofs.Above.{finish_blamed, IsQuiet}
 use Rattle.mm_basic.proofs.Above as in_basic
 use Rattle.mm_opt.proofs.Above as in_opt
-use Rattle.mm_ask.specs.Operating.{asked_by, writes_at, IsStageOf}
-use Rattle.mm_ask.specs.Asks.{AsksWhole, ask_call}
+use Rattle.mm_ask.specs.Operating.{ask_operation, write_step_of, IsStageOf}
+use Rattle.mm_ask.specs.WholeAsk.{IsWholeAsk, ask_call}
 
-pub few_by : (variant : Variant) → writes_at variant ≤ 5
+pub few_by : (variant : Variant) → write_step_of variant ≤ 5
 few_by Basic = omega arith
 few_by Opt = omega arith
 
@@ -34,56 +34,56 @@ pub begun_stage : (variant : Variant) → IsStageOf variant Begun
 begun_stage Basic = tt
 begun_stage Opt = tt
 
-pub begun_step : (variant : Variant) → number_of {A = BatchAnswer} (writes_at variant) Begun ≡ 1
+pub begun_step : (variant : Variant) → number_of {A = BatchAnswer} (write_step_of variant) Begun ≡ 1
 begun_step variant = refl
 
-going_extends : (on : Stage BatchAnswer) → in_basic.StepExtendsNothing (Going on) → IsStageOf Basic on
+going_extends : (on : OpStage BatchAnswer) → in_basic.StepExtendsNothing (Going on) → IsStageOf Basic on
 going_extends on none = none
 
 module _ (meaning : Meaning) (offer : List ℕ) (b : Batch) where
-  pub quiet_by : (variant : Variant) → IsQuiet (asked_by variant meaning offer b)
+  pub quiet_by : (variant : Variant) → IsQuiet (ask_operation variant meaning offer b)
   quiet_by Basic = in_basic.quiet meaning offer b
   quiet_by Opt = in_opt.quiet meaning offer b
 
   -- a step that goes on leads to where a call of the variant can stand, and the next one is that of the next number
-  pub steps_stay : (variant : Variant) (stage on : Stage BatchAnswer) (old new : Standing)
-      → Steps (asked_by variant meaning offer b) stage old new (Going on) → IsStageOf variant stage → IsStageOf variant on
+  pub steps_stay : (variant : Variant) (stage on : OpStage BatchAnswer) (old new : Standing)
+      → OpSteps (ask_operation variant meaning offer b) stage old new (Going on) → IsStageOf variant stage → IsStageOf variant on
   steps_stay Basic stage on old new s is = going_extends on (in_basic.steps_extend meaning offer b stage old new (Going on) s is)
   steps_stay Opt stage on old new s is = tt
 
-  pub counts_by : (variant : Variant) (stage on : Stage BatchAnswer) (old new : Standing)
-      → Steps (asked_by variant meaning offer b) stage old new (Going on) → IsStageOf variant stage
-      → number_of (writes_at variant) on ≡ number_of (writes_at variant) stage + 1
+  pub counts_by : (variant : Variant) (stage on : OpStage BatchAnswer) (old new : Standing)
+      → OpSteps (ask_operation variant meaning offer b) stage old new (Going on) → IsStageOf variant stage
+      → number_of (write_step_of variant) on ≡ number_of (write_step_of variant) stage + 1
   counts_by Basic stage on old new s is = in_basic.numbers meaning offer b stage on old new s is
   counts_by Opt stage on old new s is = in_opt.numbers meaning offer b stage on old new s
 
   module _ (old new : Standing) where
     -- a whole call is the call that the definitions give
-    pub calls_by : (variant : Variant) (end : End BatchAnswer Refusal) → Finishes (asked_by variant meaning offer b) Begun old new end
-        → CallsTo variant meaning old new offer b (end_told end)
+    pub calls_by : (variant : Variant) (end : End BatchAnswer Refusal) → OpEnds (ask_operation variant meaning offer b) Begun old new end
+        → EndsAsCall variant meaning old new offer b (end_of_machine end)
     calls_by Basic end f =
-        in_basic.finished_to meaning offer b Begun old new (end_told end) (record { end = end; finishes = f; gives = refl }) refl
+        in_basic.finished_to meaning offer b Begun old new (end_of_machine end) (record { end = end; finishes = f; gives = refl }) refl
     calls_by Opt end f =
-        in_opt.finished_to meaning old new offer b (end_told end) (record { end = end; finishes = f; gives = refl })
+        in_opt.finished_to meaning old new offer b (end_of_machine end) (record { end = end; finishes = f; gives = refl })
 
     -- and promises what one does
     pub asked_whole : (variant : Variant) (end : End BatchAnswer Refusal) → IsLawful meaning → is_long b ≡ false
-        → Finishes (asked_by variant meaning offer b) Begun old new end
-        → AskedIn (ask_call variant) meaning old new offer b (result_of (end_told end))
+        → OpEnds (ask_operation variant meaning offer b) Begun old new end
+        → AskPromise (ask_call variant) meaning old new offer b (result_of (end_of_machine end))
     asked_whole Basic end lawful short f =
-        in_basic.asked_by meaning lawful old new offer b (end_told end) (result_of (end_told end)) short
-        (in_basic.finished_asks meaning offer b old new (end_told end) (record { end = end; finishes = f; gives = refl })) refl
+        in_basic.asked_by meaning lawful old new offer b (end_of_machine end) (result_of (end_of_machine end)) short
+        (in_basic.finished_asks meaning offer b old new (end_of_machine end) (record { end = end; finishes = f; gives = refl })) refl
     asked_whole Opt end lawful short f =
-        in_opt.asked_by meaning lawful old new offer b (end_told end) (result_of (end_told end)) short
-        (in_opt.finished_asks meaning old new offer b (end_told end) (record { end = end; finishes = f; gives = refl })) refl
+        in_opt.asked_by meaning lawful old new offer b (end_of_machine end) (result_of (end_of_machine end)) short
+        (in_opt.finished_asks meaning old new offer b (end_of_machine end) (record { end = end; finishes = f; gives = refl })) refl
 
-    pub asks_whole : (variant : Variant) (stage : Stage BatchAnswer) (end : End BatchAnswer Refusal) (ended : Ended) → stage ≡ Begun
-        → Finishes (asked_by variant meaning offer b) stage old new end → ended ≡ end_told end
-        → AsksWhole variant meaning old new offer b ended
+    pub asks_whole : (variant : Variant) (stage : OpStage BatchAnswer) (end : End BatchAnswer Refusal) (ended : AskResult) → stage ≡ Begun
+        → OpEnds (ask_operation variant meaning offer b) stage old new end → ended ≡ end_of_machine end
+        → IsWholeAsk variant meaning old new offer b ended
     asks_whole variant stage end ended first finishes gives =
-        let f : Finishes (asked_by variant meaning offer b) Begun old new end =
-        subst (λ (s : Stage BatchAnswer). Finishes (asked_by variant meaning offer b) s old new end) first finishes in record {
+        let f : OpEnds (ask_operation variant meaning offer b) Begun old new end =
+        subst (λ (s : OpStage BatchAnswer). OpEnds (ask_operation variant meaning offer b) s old new end) first finishes in record {
           finishes = record { end = end; finishes = f; gives = gives };
           calls = rw gives (calls_by variant end f);
-          faults = rw gives (finish_blamed (asked_by variant meaning offer b) (quiet_by variant) Begun old new end f);
+          faults = rw gives (finish_blamed (ask_operation variant meaning offer b) (quiet_by variant) Begun old new end f);
         }

@@ -6,9 +6,9 @@ ghost use Rattle.mm_model.specs.Long.{is_long};
 
 use mm_base::CELL_LENGTH;
 use mm_basic::BasicAsk;
-use mm_call::{Ended, KeptKey};
+use mm_call::{AskResult, KeptKey};
 use mm_digest::{Digest, Variant};
-use mm_machine::{Call, Found, Operation, Sight, finish};
+use mm_machine::{OpCall, OpFinding, Operation, Sight, finish};
 use mm_model::{BatchAnswer, Refusal};
 use mm_module::{Batch, Module};
 use mm_opt::OptAsk;
@@ -30,16 +30,16 @@ pub struct Ask<'a, M> {
 impl<M: Module> Operation for Ask<'_, M> {
     ghost use Rattle.std.specs.Prelude.{ℕ};
     ghost use Rattle.mm_module.specs.Batches.{batch_of};
-    ghost use Rattle.mm_ask.specs.Operating.{asked_by, writes_at};
+    ghost use Rattle.mm_ask.specs.Operating.{ask_operation, write_step_of};
 
     type Answer = BatchAnswer;
 
     type Refusal = Refusal;
 
     ghost asked = { λ ask.
-        asked_by ask.variant (M.meaning ask.«module».now) ask.offer.now (batch_of ask.batch) };
+        ask_operation ask.variant (M.meaning ask.«module».now) ask.offer.now (batch_of ask.batch) };
 
-    ghost writes = { λ ask. writes_at ask.variant };
+    ghost writes = { λ ask. write_step_of ask.variant };
 
     #[inline(always)]
     fn see(
@@ -59,7 +59,7 @@ impl<M: Module> Operation for Ask<'_, M> {
         cell: &Cell,
         register: &Digest,
         keys: &mut KeptKey,
-    ) -> Result<Found<BatchAnswer>, Refusal> {
+    ) -> Result<OpFinding<BatchAnswer>, Refusal> {
         match self.variant {
             Variant::Basic => self.in_basic().find(cell, register, keys),
             Variant::Opt => self.in_opt().find(cell, register, keys),
@@ -86,7 +86,7 @@ impl<M: Module> Operation for Ask<'_, M> {
 impl<M: Module> Ask<'_, M> {
     ghost use Rattle.std.specs.Prelude.{◌≡◌};
     ghost use Rattle.mm_module.specs.Batches.{batch_of};
-    ghost use Rattle.mm_ask.specs.Asks.{AsksWhole};
+    ghost use Rattle.mm_ask.specs.WholeAsk.{IsWholeAsk};
 
     // The same of Basic.
     #[inline(always)]
@@ -120,11 +120,11 @@ impl<M: Module> Ask<'_, M> {
 
     /// Makes the whole call. After the reading steps it has no allocator.
     #[inline(always)]
-    pub fn call<P: Platform>(&self, platform: &mut P, keys: &mut KeptKey) -> Ended
-        ensures { AsksWhole self.now.variant (M.meaning self.now.«module».now)
+    pub fn call<P: Platform>(&self, platform: &mut P, keys: &mut KeptKey) -> AskResult
+        ensures { IsWholeAsk self.now.variant (M.meaning self.now.«module».now)
             (P.standing platform.old) (P.standing platform.new) self.now.offer.now
             (batch_of self.now.batch) result }
     {
-        Ended::of(finish(self, Call::begin(), platform, keys))
+        AskResult::of(finish(self, OpCall::begin(), platform, keys))
     }
 }

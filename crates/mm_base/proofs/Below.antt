@@ -6,5 +6,5 @@ pub use Rattle.std.proofs.Common.{length-drop, List, min, refl, rules, sym, take
 pub use Rattle.std.proofs.lemmas.List.{append-nil, drop-drop, drop-take, length-take, length-take-le, take-append-drop, take-take}
 pub use Rattle.mm_base.specs.DecimalLaws.{none_without_form, parsed_number, read_by_spelling, text_of_decimal}
 pub use Rattle.mm_base.specs.FieldLaws.{eight_bytes-front, four_bytes-front, joined}
-pub use Rattle.mm_base.specs.Lines.{Breaks, Refills, TakesHeld}
-pub use Rattle.mm_base.specs.Streams.{GoesOut, IsCutShort, Sends, Supply}
+pub use Rattle.mm_base.specs.Lines.{HasBreakAt, SourceRefills, TakesHeldBytes}
+pub use Rattle.mm_base.specs.Streams.{FrontGoesOut, IsCutShort, SinkSends, Supply}

@@ -1,7 +1,7 @@
 -- Where lines end in a list of bytes, and the part of a buffer that is held.
 use Rattle.mm_base.proofs.Below.{◌≡◌, ◌≢◌, ◌+◌, ◌-◌, ◌<◌, ◌≤◌, ℕ, List, [], ◌∷◌, ◌++◌, length, take, drop, refl, sym, ap, ◌∙◌, arith}
 use Rattle.mm_base.proofs.Below.{append_assoc, length-append, length-drop, append-nil, drop-drop, drop-take, take-take, length-take, Option}
-use Rattle.mm_base.proofs.Below.{Result, Ok, Err, slice_range, Consumes, IsAtEnd, Keeps, Breaks, Refills, TakesHeld}
+use Rattle.mm_base.proofs.Below.{Result, Ok, Err, slice_range, Consumes, IsAtEnd, Keeps, HasBreakAt, SourceRefills, TakesHeldBytes}
 use Rattle.std.proofs.Math.Seq.{take-add, take-append-add, drop-append-add}
 use Rattle.std.proofs.lemmas.List.Elements.{All-append}
 use Rattle.mm_base.specs.declared.fault.Failed.{Failed}
@@ -32,7 +32,7 @@ unbroken-joined xs s m e low high front back =
     rw (range-joined xs s m e low high) (All-append (λ (b : ℕ). b ≢ 10) (slice_range xs s m) (slice_range xs m e) front back)
 
 pub unbroken-before : (xs : List ℕ) (s m e at : ℕ) → s ≤ m → m ≤ e
-    → IsUnbroken (slice_range xs s m) → Breaks (slice_range xs m e) at → IsUnbroken (slice_range xs s (m + at))
+    → IsUnbroken (slice_range xs s m) → HasBreakAt (slice_range xs m e) at → IsUnbroken (slice_range xs s (m + at))
 unbroken-before xs s m e at low high front breaks =
     let short : at ≤ e - m = omega (arith, breaks.within, length-take (e - m) (drop m xs)) in
     let counts : m + at - m ≡ at = omega arith in
@@ -41,8 +41,8 @@ unbroken-before xs s m e at low high front breaks =
     unbroken-joined xs s m (m + at) low (omega arith) front (rw same breaks.line)
 
 -- a break behind unbroken bytes
-pub Breaks-behind : (front back : List ℕ) (at : ℕ) → IsUnbroken front → Breaks back at → Breaks (front ++ back) (length front + at)
-Breaks-behind front back at unbroken breaks =
+pub HasBreakAt-behind : (front back : List ℕ) (at : ℕ) → IsUnbroken front → HasBreakAt back at → HasBreakAt (front ++ back) (length front + at)
+HasBreakAt-behind front back at unbroken breaks =
     let counts : length front + at + 1 ≡ length front + (at + 1) = omega arith in
     let behind : drop (length front + at + 1) (front ++ back) ≡ drop (at + 1) back =
     ap (λ (n : ℕ). drop n (front ++ back)) counts ∙ drop-append-add front back (at + 1) in record {
@@ -52,29 +52,29 @@ Breaks-behind front back at unbroken breaks =
           (ap (λ (rest : List ℕ). front ++ rest) breaks.parts ∙ sym (append_assoc front (take at back) (10 ∷ drop (at + 1) back)));
     }
 
-pub Breaks-range : (xs : List ℕ) (s m e at : ℕ) → s ≤ m → m ≤ e → e ≤ length xs
-    → IsUnbroken (slice_range xs s m) → Breaks (slice_range xs m e) at → Breaks (slice_range xs s e) (m + at - s)
-Breaks-range xs s m e at low high within front breaks =
+pub HasBreakAt-range : (xs : List ℕ) (s m e at : ℕ) → s ≤ m → m ≤ e → e ≤ length xs
+    → IsUnbroken (slice_range xs s m) → HasBreakAt (slice_range xs m e) at → HasBreakAt (slice_range xs s e) (m + at - s)
+HasBreakAt-range xs s m e at low high within front breaks =
     let size : length (slice_range xs s m) ≡ m - s = omega (arith, length-take (m - s) (drop s xs), length-drop s xs) in
     let place : length (slice_range xs s m) + at ≡ m + at - s = omega arith in
-    let behind : Breaks (slice_range xs s m ++ slice_range xs m e) (length (slice_range xs s m) + at) =
-    Breaks-behind (slice_range xs s m) (slice_range xs m e) at front breaks in
+    let behind : HasBreakAt (slice_range xs s m ++ slice_range xs m e) (length (slice_range xs s m) + at) =
+    HasBreakAt-behind (slice_range xs s m) (slice_range xs m e) at front breaks in
     rw (range-joined xs s m e low high, ← place) behind
 
-pub Refills-none : (left left' : Option (List ℕ)) (held held' : List ℕ) (fault : Failed)
-    → Keeps left left' → held' ≡ held → Refills left left' held held' (Err fault)
-Refills-none left left' held held' fault kept same = record {
+pub SourceRefills-none : (left left' : Option (List ℕ)) (held held' : List ℕ) (fault : Failed)
+    → Keeps left left' → held' ≡ held → SourceRefills left left' held held' (Err fault)
+SourceRefills-none left left' held held' fault kept same = record {
   taken = [];
   consumed = Consumes-kept left left left' [] (Consumes-none left) kept;
   joined = same ∙ sym (append-nil held);
   gives = refl;
 }
 
-pub Refills-some : (left left' : Option (List ℕ)) (xs ys held : List ℕ) (s e count : ℕ) → s ≤ e → e + count ≤ length ys → e < length ys
+pub SourceRefills-some : (left left' : Option (List ℕ)) (xs ys held : List ℕ) (s e count : ℕ) → s ≤ e → e + count ≤ length ys → e < length ys
     → take e ys ≡ take e xs → held ≡ slice_range xs s e
     → Consumes left left' (take count (drop e ys)) → (count ≡ 0 → 0 < length (drop e ys) → IsAtEnd left')
-    → Refills left left' held (slice_range ys s (e + count)) (Ok count)
-Refills-some left left' xs ys held s e count low within room same is consumed ends = record {
+    → SourceRefills left left' held (slice_range ys s (e + count)) (Ok count)
+SourceRefills-some left left' xs ys held s e count low within room same is consumed ends = record {
   taken = take count (drop e ys);
   consumed = consumed;
   joined =

@@ -1,7 +1,7 @@
 -- Known bytes that grow or are consumed by two pieces, one after the other.
 use Rattle.mm_base.proofs.Below.{ℕ, ◌≡◌, ◌+◌, ◌<◌, List, [], ◌++◌, take, drop, length, refl, sym, ap, ◌∙◌, arith, length-append}
-use Rattle.mm_base.proofs.Below.{append_assoc, append-nil, take-append-drop, Option, None, Some, Err, Appends, Consumes, Keeps, GoesOut}
-use Rattle.mm_base.proofs.Below.{Sends, IsCutShort}
+use Rattle.mm_base.proofs.Below.{append_assoc, append-nil, take-append-drop, Option, None, Some, Err, Appends, Consumes, Keeps, FrontGoesOut}
+use Rattle.mm_base.proofs.Below.{SinkSends, IsCutShort}
 use Rattle.mm_base.specs.declared.fault.WriteFault.{WriteFault}
 
 pub Appends-both : (old mid new : Option (List ℕ)) (xs ys : List ℕ)
@@ -28,9 +28,9 @@ Consumes-kept (Some a) None new xs one two = absurd one
 Consumes-kept (Some a) (Some b) None xs one two = absurd two
 Consumes-kept (Some a) (Some b) (Some c) xs one two = one ∙ ap (λ (r : List ℕ). xs ++ r) (sym two)
 
-pub GoesOut-more : (old mid new : Option (List ℕ)) (bytes rest : List ℕ) (count : ℕ)
-    → GoesOut old mid bytes rest → Appends mid new (take count rest) → GoesOut old new bytes (drop count rest)
-GoesOut-more old mid new bytes rest count so more = record {
+pub FrontGoesOut-more : (old mid new : Option (List ℕ)) (bytes rest : List ℕ) (count : ℕ)
+    → FrontGoesOut old mid bytes rest → Appends mid new (take count rest) → FrontGoesOut old new bytes (drop count rest)
+FrontGoesOut-more old mid new bytes rest count so more = record {
   sent = so.sent ++ take count rest;
   parts =
       so.parts ∙ ap (λ (r : List ℕ). so.sent ++ r) (sym (take-append-drop count rest))
@@ -43,12 +43,12 @@ same_length a c before bytes e now =
     let f : c ≡ a ++ bytes = cc in ap length f ∙ length-append a bytes
 
 -- with a rest to go, not all went out
-pub GoesOut-short : (old mid new : Option (List ℕ)) (bytes rest : List ℕ) → GoesOut old mid bytes rest → Keeps mid new
+pub FrontGoesOut-short : (old mid new : Option (List ℕ)) (bytes rest : List ℕ) → FrontGoesOut old mid bytes rest → Keeps mid new
     → 0 < length rest → IsCutShort old new bytes
-GoesOut-short None mid new bytes rest so kept some before e now = cc
-GoesOut-short (Some a) None new bytes rest so kept some before e now = absurd so.appended
-GoesOut-short (Some a) (Some b) None bytes rest so kept some before e now = absurd kept
-GoesOut-short (Some a) (Some b) (Some c) bytes rest so kept some before e now =
+FrontGoesOut-short None mid new bytes rest so kept some before e now = cc
+FrontGoesOut-short (Some a) None new bytes rest so kept some before e now = absurd so.appended
+FrontGoesOut-short (Some a) (Some b) None bytes rest so kept some before e now = absurd kept
+FrontGoesOut-short (Some a) (Some b) (Some c) bytes rest so kept some before e now =
     let l : length c ≡ length a + length so.sent = ap length (kept ∙ so.appended) ∙ length-append a so.sent in
     let m : length bytes ≡ length so.sent + length rest = ap length so.parts ∙ length-append so.sent rest in
     let n : length c ≡ length a + length bytes = same_length a c before bytes e now in

@@ -2,15 +2,15 @@
 use Rattle.std.specs.Prelude.{◌≡◌, ℕ, ◌+◌, ◌-◌, ◌^◌, ◌≤◌, min, Result, OnOk, OnErr}
 
 -- the count after one more
-abbrev pub counted : ℕ → ℕ
-counted count = min (count + 1) (2 ^ 64 - 1)
+abbrev pub next_count : ℕ → ℕ
+next_count count = min (count + 1) (2 ^ 64 - 1)
 
 -- one call failed: the count rose by exactly one, or stays at its greatest value
-abbrev pub Rose : ℕ → ℕ → Type 0
-Rose before now = now ≡ counted before
+abbrev pub CountRose : ℕ → ℕ → Type 0
+CountRose before now = now ≡ next_count before
 
 -- the count never falls, is as before after Ok, and rose by exactly one where the call failed
 pub record CountsFaults {T E : Type 0} (before now : ℕ) (result : Result T E) : Type 0 where
   pub later : before ≤ now
   pub kept : OnOk result (now ≡ before)
-  pub failed : OnErr result (Rose before now)
+  pub failed : OnErr result (CountRose before now)

@@ -1,11 +1,11 @@
 pub mod Decimals
 pub mod Faults
 pub mod Fields
-pub mod Held
+pub mod HeldBytes
 pub mod Input
 pub mod Limits
 pub mod Lines
-pub mod Next
+pub mod ReadsNextLine
 pub mod Streams
 pub mod FieldLaws
 pub mod InputLaws

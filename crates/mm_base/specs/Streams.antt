@@ -3,7 +3,7 @@ use Rattle.std.specs.Prelude.{◌≡◌, ◌≢◌, ℕ, ◌-◌, List, [], ◌+
 use Rattle.std.specs.Io.KnownBytes.{Appends}
 use Rattle.mm_base.specs.declared.fault.Failed.{Failed}
 use Rattle.mm_base.specs.declared.fault.WriteFault.{WriteFault}
-use Rattle.mm_base.specs.Faults.{counted}
+use Rattle.mm_base.specs.Faults.{next_count}
 
 -- a source over memory: the bytes left, the most that one call gives, the numbers of the calls that
 -- fail, and the calls and faults so far
@@ -20,9 +20,9 @@ supply_of content failing piece =
     record { left = content; piece = piece; failing = failing; calls = 0; faults = 0 }
 
 -- the source after a call with this result
-abbrev pub after_take : Supply → Result ℕ Failed → Supply
-after_take s (Ok count) = record s { left = drop count s.left; calls = counted s.calls }
-after_take s (Err _) = record s { calls = counted s.calls; faults = counted s.faults }
+abbrev pub supply_after_take : Supply → Result ℕ Failed → Supply
+supply_after_take s (Ok count) = record s { left = drop count s.left; calls = next_count s.calls }
+supply_after_take s (Err _) = record s { calls = next_count s.calls; faults = next_count s.faults }
 
 -- a sink over memory: the bytes received, the room that is left, the numbers of the calls that
 -- fail, and the calls and faults so far
@@ -39,18 +39,18 @@ intake_of room failing =
     record { received = []; room = room; failing = failing; calls = 0; faults = 0 }
 
 -- the sink after a call with this piece and this result
-abbrev pub after_give : Intake → List ℕ → Result ℕ Failed → Intake
-after_give s piece (Ok count) =
+abbrev pub intake_after_give : Intake → List ℕ → Result ℕ Failed → Intake
+intake_after_give s piece (Ok count) =
     record s {
       received = s.received ++ take count piece;
       room = s.room - count;
-      calls = counted
+      calls = next_count
           s.calls;
     }
-after_give s piece (Err _) = record s { calls = counted s.calls; faults = counted s.faults }
+intake_after_give s piece (Err _) = record s { calls = next_count s.calls; faults = next_count s.faults }
 
 -- what went out of these bytes: all of them after Ok, and else a prefix
-pub record Sends (received now : Option (List ℕ)) (bytes : List ℕ)
+pub record SinkSends (received now : Option (List ℕ)) (bytes : List ℕ)
     (result : Result Unit WriteFault) : Type 0 where
   pub sent : List ℕ
   pub unsent : List ℕ
@@ -64,7 +64,7 @@ IsCutShort received now bytes =
     (before : List ℕ) → received ≡ Some before → now ≢ Some (before ++ bytes)
 
 -- what went out so far of these bytes, with this rest to go
-pub record GoesOut (received now : Option (List ℕ)) (bytes rest : List ℕ) : Type 0 where
+pub record FrontGoesOut (received now : Option (List ℕ)) (bytes rest : List ℕ) : Type 0 where
   pub sent : List ℕ
   pub parts : bytes ≡ sent ++ rest
   pub appended : Appends received now sent

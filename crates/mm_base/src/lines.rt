@@ -8,7 +8,7 @@ ghost use Rattle.std.specs.Borrow.{sem};
 ghost use Rattle.std.specs.Io.BufRead.{Rests};
 ghost use Rattle.mm_base.specs.Input.{IsUnbroken};
 ghost use Rattle.mm_base.specs.Limits.{longest_line};
-ghost use Rattle.mm_base.specs.Lines.{Breaks, CountsReads, SeesLine, Refills, Sees, seen_at_end};
+ghost use Rattle.mm_base.specs.Lines.{HasBreakAt, CountsReads, SeesLine, SourceRefills, ReaderSees, seen_line_at_end};
 
 use crate::fault::{Failed, Memory};
 use crate::source::{Source, copy_front};
@@ -44,7 +44,7 @@ pub enum LineFault {
 }
 
 /// What stands at the front of the bytes held.
-enum Seen {
+enum SeenLine {
     Line { size: usize },
     Tail,
     End,
@@ -54,20 +54,20 @@ enum Seen {
 /// yet given out. It may take more of the source than the line that it gives.
 #[derive(Drop)]
 pub struct LineReader {
-    held: Held,
+    held: HeldBytes,
 }
 
 impl Model for LineReader {
     ghost use Rattle.std.specs.Prelude.{List, ℕ};
-    ghost use Rattle.mm_base.specs.Held.{bytes_held};
+    ghost use Rattle.mm_base.specs.HeldBytes.{held_bytes};
 
     ghost Value = { List ℕ };
 
-    ghost view = { λ reader. bytes_held reader.held };
+    ghost view = { λ reader. held_bytes reader.held };
 }
 
 impl LineReader {
-    ghost use Rattle.mm_base.specs.Next.{NextLine};
+    ghost use Rattle.mm_base.specs.ReadsNextLine.{ReadsNextLine};
     ghost use Rattle.mm_base.specs.Lines.{HoldsLine};
     ghost use Rattle.mm_base.specs.contracts.lines.LineReader.{the_row};
 
@@ -75,7 +75,7 @@ impl LineReader {
     pub fn new(alloc: Global) -> Result<LineReader, Memory>
         ensures { IfOk result (λ reader. reader ≡ []) }
     {
-        let held = Held::new(alloc)?;
+        let held = HeldBytes::new(alloc)?;
         Ok(LineReader { held })
     }
 
@@ -92,17 +92,17 @@ impl LineReader {
         requires { limit ≤ longest_line }
         ensures* after { sem 𝓛
             (Rests the_row self.entry
-            (NextLine limit (S.left source.old) (S.left source.new) self.old result)) }
+            (ReadsNextLine limit (S.left source.old) (S.left source.new) self.old result)) }
         ensures counted { CountsReads (S.faults source.old) (S.faults source.new) result }
     {
         match self.held.see(source, limit)? {
-            Seen::Line { size } => {
+            SeenLine::Line { size } => {
                 self.held.skip(size);
                 let end = self.held.start - 1;
                 Ok(Read::Line(&self.held.buffer[end - size..end]))
             }
-            Seen::Tail => Ok(Read::Tail),
-            Seen::End => Ok(Read::End),
+            SeenLine::Tail => Ok(Read::Tail),
+            SeenLine::End => Ok(Read::End),
         }
     }
 }
@@ -110,7 +110,7 @@ impl LineReader {
 /// The bytes taken from a source and not yet given out: those of `buffer` from `start` to `end`. No line
 /// feed stands before `scanned`, so that no byte is scanned twice.
 #[derive(Drop)]
-struct Held {
+struct HeldBytes {
     buffer: Vec<u8>,
     start: usize,
     scanned: usize,
@@ -122,14 +122,14 @@ struct Held {
     ghost unbroken: { IsUnbroken (slice_range buffer.items start scanned) },
 }
 
-impl Held {
-    ghost use Rattle.mm_base.specs.Held.{bytes_held};
+impl HeldBytes {
+    ghost use Rattle.mm_base.specs.HeldBytes.{held_bytes};
 
-    fn new(alloc: Global) -> Result<Held, Memory>
-        ensures { IfOk result (λ held. bytes_held held ≡ []) }
+    fn new(alloc: Global) -> Result<HeldBytes, Memory>
+        ensures { IfOk result (λ held. held_bytes held ≡ []) }
     {
         let buffer = vec![in alloc; 0; ROOM]?;
-        Ok(Held {
+        Ok(HeldBytes {
             buffer,
             start: 0,
             scanned: 0,
@@ -139,9 +139,9 @@ impl Held {
 
     /// Where the first line ends, counted from the first byte held.
     fn find_break(&mut self) -> Option<usize>
-        ensures same { bytes_held self.new ≡ bytes_held self.old }
-        ensures found { MatchOption result (IsUnbroken (bytes_held self.old))
-            (Breaks (bytes_held self.old)) }
+        ensures same { held_bytes self.new ≡ held_bytes self.old }
+        ensures found { MatchOption result (IsUnbroken (held_bytes self.old))
+            (HasBreakAt (held_bytes self.old)) }
     {
         let unseen = &self.buffer[self.scanned..self.end];
         let Some(at) = line_feed(unseen) else {
@@ -154,8 +154,8 @@ impl Held {
 
     /// Looks for a line of at most `limit` bytes, and answers its length.
     fn look(&mut self, limit: usize) -> Result<Option<usize>, LineFault>
-        ensures same { bytes_held self.new ≡ bytes_held self.old }
-        ensures looks { SeesLine limit (bytes_held self.old) result }
+        ensures same { held_bytes self.new ≡ held_bytes self.old }
+        ensures looks { SeesLine limit (held_bytes self.old) result }
     {
         match self.find_break() {
             Some(size) if size <= limit => Ok(Some(size)),
@@ -165,15 +165,15 @@ impl Held {
     }
 
     /// Takes bytes until a line, the end of the input or a fault is seen.
-    fn see<S: Source>(&mut self, source: &mut S, limit: usize) -> Result<Seen, LineFault>
+    fn see<S: Source>(&mut self, source: &mut S, limit: usize) -> Result<SeenLine, LineFault>
         requires { limit ≤ longest_line }
-        ensures seen { Sees limit (S.left source.old) (S.left source.new) (bytes_held self.old)
-            (bytes_held self.new) result }
+        ensures seen { ReaderSees limit (S.left source.old) (S.left source.new) (held_bytes self.old)
+            (held_bytes self.new) result }
         ensures counted { CountsReads (S.faults source.old) (S.faults source.new) result }
     {
         'refills: loop {
             if let Some(size) = self.look(limit)? {
-                return Ok(Seen::Line { size });
+                return Ok(SeenLine::Line { size });
             }
             match self.refill(source) {
                 Err(Failed) => return Err(LineFault::ReadFault),
@@ -184,23 +184,23 @@ impl Held {
     }
 
     /// What the end of the input leaves.
-    fn ending(&self) -> Seen
-        ensures { result ≡ seen_at_end (bytes_held self.now) }
+    fn ending(&self) -> SeenLine
+        ensures { result ≡ seen_line_at_end (held_bytes self.now) }
     {
         if self.start == self.end {
-            Seen::End
+            SeenLine::End
         } else {
-            Seen::Tail
+            SeenLine::Tail
         }
     }
 
     /// Lets go of the first line, which stands before `start` then.
     fn skip(&mut self, size: usize)
-        requires { Breaks (bytes_held self.old) size }
-        ensures rest { bytes_held self.new ≡ drop (size + 1) (bytes_held self.old) }
+        requires { HasBreakAt (held_bytes self.old) size }
+        ensures rest { held_bytes self.new ≡ drop (size + 1) (held_bytes self.old) }
         ensures room { size < self.new.start }
         ensures line { slice_range self.new.buffer.items (self.new.start - 1 - size)
-            (self.new.start - 1) ≡ take size (bytes_held self.old) }
+            (self.new.start - 1) ≡ take size (held_bytes self.old) }
     {
         self.start += size + 1;
         self.scanned = self.start;
@@ -208,9 +208,9 @@ impl Held {
 
     /// Takes more bytes from the source, and answers how many.
     fn refill<S: Source>(&mut self, source: &mut S) -> Result<usize, Failed>
-        requires { length (bytes_held self.old) ≤ longest_line }
-        ensures refilled { Refills (S.left source.old) (S.left source.new) (bytes_held self.old)
-            (bytes_held self.new) result }
+        requires { length (held_bytes self.old) ≤ longest_line }
+        ensures refilled { SourceRefills (S.left source.old) (S.left source.new) (held_bytes self.old)
+            (held_bytes self.new) result }
         ensures counted { CountsFaults (S.faults source.old) (S.faults source.new) result }
     {
         self.make_room();
@@ -223,8 +223,8 @@ impl Held {
 
     /// Moves the bytes to the front of the buffer where they stand at its end.
     fn make_room(&mut self)
-        requires { length (bytes_held self.old) ≤ longest_line }
-        ensures same { bytes_held self.new ≡ bytes_held self.old }
+        requires { length (held_bytes self.old) ≤ longest_line }
+        ensures same { held_bytes self.new ≡ held_bytes self.old }
         ensures room { self.new.end < ROOM }
     {
         if self.end < ROOM {
@@ -240,7 +240,7 @@ impl Held {
 
 /// Where the first line feed stands.
 fn line_feed(bytes: &[u8]) -> Option<usize>
-    ensures { MatchOption result (IsUnbroken bytes.now) (Breaks bytes.now) }
+    ensures { MatchOption result (IsUnbroken bytes.now) (HasBreakAt bytes.now) }
 {
     memchr(b'\n', bytes)
 }

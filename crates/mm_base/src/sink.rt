@@ -2,8 +2,8 @@
 
 ghost use Rattle.std.specs.Prelude.{◌≡◌, ◌+◌, ◌-◌, ◌↔◌, ◌<◌, ◌≤◌, ◌⊎◌, List, ℕ, [], Option, Some, length, min, vec_capacity, Contains, IfOk, IsErr, OnErr};
 ghost use Rattle.std.specs.Io.KnownBytes.{WriteAppends};
-ghost use Rattle.mm_base.specs.Faults.{counted, CountsFaults};
-ghost use Rattle.mm_base.specs.Streams.{Intake, intake_of, after_give, Sends, IsCutShort};
+ghost use Rattle.mm_base.specs.Faults.{next_count, CountsFaults};
+ghost use Rattle.mm_base.specs.Streams.{Intake, intake_of, intake_after_give, SinkSends, IsCutShort};
 
 use crate::fault::{Failed, Memory, WriteFault};
 use std::alloc::Global;
@@ -87,10 +87,10 @@ impl Sink for MemSink {
         ensures given { WriteAppends (Some self.old.received) (Some self.new.received) result
             piece.now }
         ensures counted { CountsFaults self.old.faults self.new.faults result }
-        ensures failing { IsErr result ↔ (Contains self.old.failing (counted self.old.calls)
+        ensures failing { IsErr result ↔ (Contains self.old.failing (next_count self.old.calls)
             ⊎ ((self.old.room ≡ 0) × (0 < length piece.now))) }
         ensures taken { IfOk result (λ count. count ≡ min (length piece.now) self.old.room) }
-        ensures after { self.new ≡ after_give self.old piece.now result }
+        ensures after { self.new ≡ intake_after_give self.old piece.now result }
     {
         self.calls = self.calls.saturating_add(1);
         let is_full = self.room == 0 && !piece.is_empty();
@@ -108,7 +108,7 @@ impl Sink for MemSink {
 
 /// Gives all these bytes to the sink. After `WriteFault` a prefix of them went out, and not all.
 pub fn write_all<K: Sink>(sink: &mut K, bytes: &[u8]) -> Result<(), WriteFault>
-    ensures sent { Sends (K.received sink.old) (K.received sink.new) bytes.now result }
+    ensures sent { SinkSends (K.received sink.old) (K.received sink.new) bytes.now result }
     ensures cut { OnErr result (IsCutShort (K.received sink.old) (K.received sink.new) bytes.now) }
     ensures counted { CountsFaults (K.faults sink.old) (K.faults sink.new) result }
 {

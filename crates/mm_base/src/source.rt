@@ -2,8 +2,8 @@
 
 ghost use Rattle.std.specs.Prelude.{◌≡◌, ◌+◌, ◌↔◌, ◌<◌, ◌≤◌, List, ℕ, Option, Some, drop, take, length, min, Contains, IfOk, IsErr, OnOk};
 ghost use Rattle.std.specs.Io.KnownBytes.{ReadConsumes};
-ghost use Rattle.mm_base.specs.Faults.{counted, CountsFaults};
-ghost use Rattle.mm_base.specs.Streams.{Supply, supply_of, after_take};
+ghost use Rattle.mm_base.specs.Faults.{next_count, CountsFaults};
+ghost use Rattle.mm_base.specs.Streams.{Supply, supply_of, supply_after_take};
 
 use crate::fault::{Failed, Memory};
 use std::alloc::Global;
@@ -90,10 +90,10 @@ impl Source for MemSource {
         ensures within { IfOk result (λ count. count ≤ length buf.new) }
         ensures taken { ReadConsumes (Some self.old.left) (Some self.new.left) result buf.new }
         ensures counted { CountsFaults self.old.faults self.new.faults result }
-        ensures failing { IsErr result ↔ Contains self.old.failing (counted self.old.calls) }
+        ensures failing { IsErr result ↔ Contains self.old.failing (next_count self.old.calls) }
         ensures given { IfOk result
             (λ count. count ≡ min (min (length self.old.left) self.old.piece) (length buf.old)) }
-        ensures after { self.new ≡ after_take self.old result }
+        ensures after { self.new ≡ supply_after_take self.old result }
     {
         self.calls = self.calls.saturating_add(1);
         if self.failing.contains(&self.calls) {

@@ -2,4 +2,4 @@
 pub use Rattle.mm_basic.proofs.Going.{asked_by, finished_asks, finished_to}
 pub use Rattle.mm_basic.proofs.Asking.{one_output}
 pub use Rattle.mm_basic.proofs.Telling.{numbers, quiet, reads_told, steps_extend}
-pub use Rattle.mm_basic.specs.Moved.{StepExtendsNothing}
+pub use Rattle.mm_basic.specs.TurnPromise.{StepExtendsNothing}

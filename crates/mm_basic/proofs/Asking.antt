@@ -1,28 +1,28 @@
 -- What a whole call counts, and the sizes of its answer.
 use Rattle.mm_basic.proofs.Below.{◌≡◌, ℕ, Bool, true, false, List, [], length, None, Result, Ok, Err, IfOk, refl, sym, ap, ◌∙◌}
-use Rattle.mm_basic.proofs.Below.{subst, inl, inr, Standing, ReadCell, Goes, Meaning, IsLawful, Batch, One, IsFit}
-use Rattle.mm_basic.proofs.Below.{is_long, BatchAnswer, Refusal, acts_left, extends_in, Deed, Writing, Found, Repeat, Change, Ended, goes_on, breaks_off, EndsTo}
-use Rattle.mm_basic.proofs.Below.{AsksTo, Calls, result_of, fault_in, steps_give, each_call, ends_result}
+use Rattle.mm_basic.proofs.Below.{subst, inl, inr, Standing, ReadCell, StepGoes, Meaning, IsLawful, Batch, One, IsFit}
+use Rattle.mm_basic.proofs.Below.{is_long, BatchAnswer, Refusal, remaining_acts, is_extension_left, Deed, Writing, OpFinding, Repeat, Change, AskResult, goes_on, breaks_off, EndsByFinding}
+use Rattle.mm_basic.proofs.Below.{IsCallToEnd, IsWholeCall, result_of, fault_in, steps_give, each_call, ends_result}
 use Rattle.mm_basic.proofs.Below.{given_all, basic_call}
 use Rattle.mm_basic.proofs.Below.{Basic}
 use Rattle.mm_call.specs.Counts.{StepsAnswered, StepsAre, StepsBy, StepsRefused, WritesAtMostOnce}
-use Rattle.mm_call.specs.Calls.{StepsTo}
-use Rattle.mm_base.specs.Faults.{counted}
+use Rattle.mm_call.specs.CallKind.{AreStepsToEnd}
+use Rattle.mm_base.specs.Faults.{next_count}
 use Rattle.mm_model.specs.declared.refusal.Refusal.TheVariants.{Device, Long}
 use Rattle.mm_call.proofs.Above.{answered_result}
 use Rattle.mm_basic.proofs.Findings.{IsShaped, finding_shaped}
 use Rattle.mm_basic.proofs.Telling.{reads_told}
 
-module _ (meaning : Meaning) (old middle new : Standing) (ended : Ended) where
+module _ (meaning : Meaning) (old middle new : Standing) (ended : AskResult) where
   -- what is counted of a call that commits its batch
-  writes_stepped : (change : Deed) (answer : BatchAnswer) → answer.again ≡ false → extends_in change ≡ false
-      → Goes ReadCell old middle None → StepsTo (acts_left change) answer middle new ended → StepsBy Basic (result_of ended) old new
+  writes_stepped : (change : Deed) (answer : BatchAnswer) → answer.again ≡ false → is_extension_left change ≡ false
+      → StepGoes ReadCell old middle None → AreStepsToEnd (remaining_acts change) answer middle new ended → StepsBy Basic (result_of ended) old new
   writes_stepped (Writing bytes) answer new_one none g (goes_on next h e) =
       answered_result (λ (s : Standing) (r : Result BatchAnswer Refusal). StepsBy Basic r old s) answer next new ended e
-      (subst (λ (t : Bool). StepsAnswered Basic t old next) (sym new_one) (h.steps ∙ ap counted g.steps, h.writes ∙ ap counted g.writes))
+      (subst (λ (t : Bool). StepsAnswered Basic t old next) (sym new_one) (h.steps ∙ ap next_count g.steps, h.writes ∙ ap next_count g.writes))
   writes_stepped (Writing bytes) answer new_one none g (breaks_off fault h e) =
-      subst (λ (v : Ended). StepsBy Basic (result_of v) old new) (sym e)
-      (inr (h.steps ∙ ap counted g.steps, h.writes ∙ ap counted g.writes))
+      subst (λ (v : AskResult). StepsBy Basic (result_of v) old new) (sym e)
+      (inr (h.steps ∙ ap next_count g.steps, h.writes ∙ ap next_count g.writes))
   writes_stepped _ answer new_one none g e = absurd (cc)
 
   once_refused : (b : Batch) (why : Refusal) → IsShaped meaning b (Err why) → StepsAre 1 0 old middle
@@ -32,8 +32,8 @@ module _ (meaning : Meaning) (old middle new : Standing) (ended : Ended) where
   once_refused b _ shape r = r
 
   -- what is counted of a call, by what it found
-  ends_stepped : (b : Batch) (found : Result (Found BatchAnswer) Refusal) → IsShaped meaning b found → Goes ReadCell old middle (fault_in found)
-      → EndsTo basic_call found middle new ended → StepsBy Basic (result_of ended) old new
+  ends_stepped : (b : Batch) (found : Result (OpFinding BatchAnswer) Refusal) → IsShaped meaning b found → StepGoes ReadCell old middle (fault_in found)
+      → EndsByFinding basic_call found middle new ended → StepsBy Basic (result_of ended) old new
   ends_stepped b (Err why) shape g e =
       ends_result basic_call (λ (s : Standing) (r : Result BatchAnswer Refusal). StepsBy Basic r old s) why middle new ended e
       (once_refused b why shape (g.steps, g.writes))
@@ -44,16 +44,16 @@ module _ (meaning : Meaning) (old middle new : Standing) (ended : Ended) where
 
 -- a call that was asked
 module _ (meaning : Meaning) (old new : Standing) (offer : List ℕ) (b : Batch) where
-  ask_shaped : (ended : Ended) → (a : AsksTo basic_call meaning old new offer b ended) → IsShaped meaning b a.found
+  ask_shaped : (ended : AskResult) → (a : IsCallToEnd basic_call meaning old new offer b ended) → IsShaped meaning b a.found
   ask_shaped ended a =
       finding_shaped meaning old a.middle offer b a.found (reads_told meaning offer b old a.middle a.found a.reads)
 
-  ask_stepped : (ended : Ended) → AsksTo basic_call meaning old new offer b ended → StepsBy Basic (result_of ended) old new
+  ask_stepped : (ended : AskResult) → IsCallToEnd basic_call meaning old new offer b ended → StepsBy Basic (result_of ended) old new
   ask_stepped ended a =
       ends_stepped meaning old a.middle new ended b a.found (ask_shaped ended a)
       (reads_told meaning offer b old a.middle a.found a.reads).goes a.ends
 
-  pub steps : (result : Result BatchAnswer Refusal) → Calls basic_call meaning old new offer b result → is_long b ≡ false
+  pub steps : (result : Result BatchAnswer Refusal) → IsWholeCall basic_call meaning old new offer b result → is_long b ≡ false
       → StepsBy Basic result old new
   steps result c short = let k = c.asks short in rw k.gives (ask_stepped k.ended k.asks)
 
@@ -73,29 +73,29 @@ module _ (meaning : Meaning) (old new : Standing) (offer : List ℕ) (b : Batch)
   once (Ok answer) s = once_answered answer.again s
   once (Err why) s = once_broken why s
 
-  pub writes : (result : Result BatchAnswer Refusal) → Calls basic_call meaning old new offer b result → WritesAtMostOnce old new
+  pub writes : (result : Result BatchAnswer Refusal) → IsWholeCall basic_call meaning old new offer b result → WritesAtMostOnce old new
   writes result c =
       each_call basic_call meaning old new offer b (λ (s : Standing) (r : Result BatchAnswer Refusal). WritesAtMostOnce old s) result
-      (inl refl) (λ (ended : Ended) (a : AsksTo basic_call meaning old new offer b ended). once (result_of ended) (ask_stepped ended a)) c
+      (inl refl) (λ (ended : AskResult) (a : IsCallToEnd basic_call meaning old new offer b ended). once (result_of ended) (ask_stepped ended a)) c
 
 -- an answer is fit
 abbrev pub IsFitIn : Batch → Result BatchAnswer Refusal → Type 0
 IsFitIn b result = IfOk result (λ answer. IsFit b answer)
 
-ends_fit : (meaning : Meaning) → IsLawful meaning → (b : Batch) (found : Result (Found BatchAnswer) Refusal) (old new : Standing) (ended : Ended)
-    → IsShaped meaning b found → EndsTo basic_call found old new ended → IsFitIn b (result_of ended)
+ends_fit : (meaning : Meaning) → IsLawful meaning → (b : Batch) (found : Result (OpFinding BatchAnswer) Refusal) (old new : Standing) (ended : AskResult)
+    → IsShaped meaning b found → EndsByFinding basic_call found old new ended → IsFitIn b (result_of ended)
 ends_fit meaning lawful b (Err why) old new ended shape e =
     ends_result basic_call (λ (s : Standing) (r : Result BatchAnswer Refusal). IsFitIn b r) why old new ended e tt
 ends_fit meaning lawful b (Ok (Repeat answer)) old new ended shape e =
     given_all (IsFit b) ended answer (steps_give [] answer old new ended e) (shape.1 lawful)
 ends_fit meaning lawful b (Ok (Change ready)) old new ended shape e =
-    given_all (IsFit b) ended ready.answer (steps_give (acts_left ready.change) ready.answer old new ended e) (shape.1 lawful)
+    given_all (IsFit b) ended ready.answer (steps_give (remaining_acts ready.change) ready.answer old new ended e) (shape.1 lawful)
 
 pub fits : (meaning : Meaning) → IsLawful meaning → (old new : Standing) (offer : List ℕ) (b : Batch) (result : Result BatchAnswer Refusal)
-    → Calls basic_call meaning old new offer b result → IsFitIn b result
+    → IsWholeCall basic_call meaning old new offer b result → IsFitIn b result
 fits meaning lawful old new offer b result c =
     each_call basic_call meaning old new offer b (λ (s : Standing) (r : Result BatchAnswer Refusal). IsFitIn b r) result tt
-    (λ (ended : Ended) (a : AsksTo basic_call meaning old new offer b ended).
+    (λ (ended : AskResult) (a : IsCallToEnd basic_call meaning old new offer b ended).
     ends_fit meaning lawful b a.found a.middle new ended (ask_shaped meaning old new offer b ended a) a.ends)
     c
 

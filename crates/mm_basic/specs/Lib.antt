@@ -1,9 +1,9 @@
 pub mod Below
-pub mod Seen
+pub mod BasicSight
 pub mod Order
 pub mod Answers
 pub mod Steps
-pub mod Operating
-pub mod Asks
-pub mod Asked
-pub mod Moved
+pub mod Operation
+pub mod BasicCall
+pub mod AskPromise
+pub mod TurnPromise

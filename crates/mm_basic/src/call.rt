@@ -3,13 +3,13 @@
 ghost use Rattle.std.specs.Prelude.{◌≡◌, true, false, IfOk, IfErr};
 ghost use Rattle.mm_module.specs.Batches.{batch_of};
 ghost use Rattle.mm_model.specs.Long.{is_long};
-ghost use Rattle.mm_machine.specs.declared.call.Stage.TheVariants.{Begun};
-ghost use Rattle.mm_call.specs.Turns.{turn_of};
-ghost use Rattle.mm_basic.specs.Moved.{StepExtendsNothing};
+ghost use Rattle.mm_machine.specs.declared.call.OpStage.TheVariants.{Begun};
+ghost use Rattle.mm_call.specs.CallTurn.{turn_of};
+ghost use Rattle.mm_basic.specs.TurnPromise.{StepExtendsNothing};
 
 use crate::operation::BasicAsk;
-use mm_call::{Ended, KeptKey};
-use mm_machine::{Step, advance};
+use mm_call::{AskResult, KeptKey};
+use mm_machine::{StepResult, advance};
 use mm_model::{BatchAnswer, Refusal};
 use mm_module::{Batch, Module};
 use mm_platform::Platform;
@@ -19,15 +19,15 @@ use std::marker::Model;
 /// A call between two of its device steps. Contracts see where it stands.
 #[derive(Drop)]
 pub struct Call {
-    call: mm_machine::Call<BatchAnswer>,
+    call: mm_machine::OpCall<BatchAnswer>,
 }
 
 impl Model for Call {
-    ghost use Rattle.mm_machine.specs.declared.call.Stage.{Stage};
+    ghost use Rattle.mm_machine.specs.declared.call.OpStage.{OpStage};
     ghost use Rattle.mm_model.specs.declared.answer.BatchAnswer.{BatchAnswer};
-    ghost use Rattle.mm_basic.specs.Operating.{ExtendsNothing};
+    ghost use Rattle.mm_basic.specs.Operation.{ExtendsNothing};
 
-    ghost Value = { Stage BatchAnswer };
+    ghost Value = { OpStage BatchAnswer };
 
     ghost view = { λ it. it.call };
 
@@ -48,7 +48,7 @@ pub fn begin(batch: Batch<'_>) -> Result<Call, Refusal>
         return Err(Refusal::Long);
     }
     Ok(Call {
-        call: mm_machine::Call::begin(),
+        call: mm_machine::OpCall::begin(),
     })
 }
 
@@ -56,8 +56,8 @@ impl Call {
     ghost use Rattle.std.specs.Prelude.{◌≡◌, false};
     ghost use Rattle.mm_module.specs.Batches.{batch_of};
     ghost use Rattle.mm_model.specs.Long.{is_long};
-    ghost use Rattle.mm_machine.specs.Stepping.{number_of};
-    ghost use Rattle.mm_basic.specs.Moved.{AdvancedInBasic};
+    ghost use Rattle.mm_machine.specs.OpSteps.{number_of};
+    ghost use Rattle.mm_basic.specs.TurnPromise.{BasicTurnPromise};
 
     /// The number of the next device step, from 1.
     pub fn next_step(&self) -> u8
@@ -78,7 +78,7 @@ impl Call {
         batch: Batch<'_>,
     ) -> Turn
         requires { is_long (batch_of batch) ≡ false }
-        ensures { AdvancedInBasic (M.meaning «module».now) self (P.standing platform.old)
+        ensures { BasicTurnPromise (M.meaning «module».now) self (P.standing platform.old)
             (P.standing platform.new) offer.now (batch_of batch.entry) result }
     {
         let ask = BasicAsk {
@@ -94,12 +94,12 @@ impl Call {
 
 // What a step comes to.
 #[inline(always)]
-fn turn_of(step: Step<BatchAnswer, Refusal>) -> Turn
+fn turn_of(step: StepResult<BatchAnswer, Refusal>) -> Turn
     requires { StepExtendsNothing step }
     ensures { result ≡ turn_of step }
 {
     match step {
-        Step::Going(call) => Turn::Going(Call { call }),
-        Step::Over(end) => Turn::over(Ended::of(end).result()),
+        StepResult::Going(call) => Turn::Going(Call { call }),
+        StepResult::Over(end) => Turn::over(AskResult::of(end).result()),
     }
 }

@@ -4,23 +4,23 @@ ghost use Rattle.std.specs.Prelude.{◌≡◌, ◌≤◌, ◌↔◌, false, None
 ghost use Rattle.std.specs.Str.{bytes_eq};
 ghost use Rattle.mm_base.specs.Limits.{last_position};
 ghost use Rattle.mm_digest.specs.declared.variant.Variant.TheVariants.{Basic};
-ghost use Rattle.mm_module.specs.Batch.{normal};
+ghost use Rattle.mm_module.specs.Batch.{normal_batch};
 ghost use Rattle.mm_module.specs.Batches.{batch_of};
 ghost use Rattle.mm_seal.specs.Cell.{FitsVariant};
 ghost use Rattle.mm_seal.specs.Snapshot.{variant_of};
 ghost use Rattle.mm_model.specs.Chains.{link};
-ghost use Rattle.mm_model.specs.Judge.{verdict_by};
-ghost use Rattle.mm_basic.specs.Seen.{IsCellOf, Both};
+ghost use Rattle.mm_model.specs.Verdicts.{verdict_by};
+ghost use Rattle.mm_basic.specs.BasicSight.{IsCellOf, Both};
 ghost use Rattle.mm_basic.specs.Order.{summary_in};
-ghost use Rattle.mm_basic.specs.Answers.{found_in};
+ghost use Rattle.mm_basic.specs.Answers.{finding_in};
 ghost use Rattle.mm_basic.specs.Steps.{FindsIn};
-ghost use Rattle.mm_call.specs.Refusals.{OrMemory, fault_in};
+ghost use Rattle.mm_call.specs.Refusals.{IsOrMemory, fault_in};
 
 use crate::operation::BasicAsk;
 use mm_base::CELL_LENGTH;
 use mm_call::{KeptKey, answer, examine};
 use mm_digest::{Digest, Variant, successor, successor_batch};
-use mm_machine::{Change, Found, Ready};
+use mm_machine::{Change, OpFinding, ReadyChange};
 use mm_model::{BatchAnswer, Refusal, Verdict, has_tab};
 use mm_module::{Batch, Module};
 use mm_seal::{Cell, CellFault, Offered, PartsFault, Place, cell_bytes, parts, read_cell};
@@ -31,7 +31,7 @@ pub fn find<M: Module>(
     ask: &BasicAsk<'_, M>,
     bytes: &[u8; CELL_LENGTH],
     keys: &mut KeptKey,
-) -> Result<Found<BatchAnswer>, Refusal>
+) -> Result<OpFinding<BatchAnswer>, Refusal>
     ensures finds { FindsIn (M.meaning ask.now.«module».now) bytes.now ask.now.offer.now
         (batch_of ask.now.batch) result }
     ensures no_fault { fault_in result ≡ None }
@@ -65,12 +65,12 @@ fn weigh<M: Module>(
     cell: &Cell,
     offered: &Offered<'_>,
     keys: &mut KeptKey,
-) -> Result<Found<BatchAnswer>, Refusal>
+) -> Result<OpFinding<BatchAnswer>, Refusal>
     requires cell { FitsVariant cell.now.variant cell.now.flag cell.now.barrier }
     requires variant { variant_of offered.now.content.place ≡ Basic }
     requires position { offered.now.content.position ≤ last_position }
-    ensures { OrMemory
-        (found_in (M.meaning ask.now.«module».now) (Both cell.now offered.now)
+    ensures { IsOrMemory
+        (finding_in (M.meaning ask.now.«module».now) (Both cell.now offered.now)
         (batch_of ask.now.batch)) result }
 {
     let body = offered.body();
@@ -92,14 +92,14 @@ fn weigh<M: Module>(
         Ok(answer) => answer,
     };
     if again {
-        return Ok(Found::Repeat(answer));
+        return Ok(OpFinding::Repeat(answer));
     }
     let next = cell_bytes(&Cell {
         summary: next,
         ..*cell
     });
     let change = Change::Writing(next);
-    Ok(Found::Change(Ready { change, answer }))
+    Ok(OpFinding::Change(ReadyChange { change, answer }))
 }
 
 // The summary of a place of Basic.
@@ -116,7 +116,7 @@ fn summary_in(place: &Place) -> Digest
 // The summary after the batch.
 #[tactic(auto, using(crate::proofs::Below::links))]
 fn link(summary: &Digest, batch: Batch<'_>) -> Digest
-    ensures { result.bytes ≡ link summary.now.bytes (normal (batch_of batch.entry)) }
+    ensures { result.bytes ≡ link summary.now.bytes (normal_batch (batch_of batch.entry)) }
 {
     match batch {
         Batch::Many(text) if has_tab(text) => successor_batch(summary, text),

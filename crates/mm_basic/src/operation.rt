@@ -8,7 +8,7 @@ use crate::find::find;
 use mm_base::CELL_LENGTH;
 use mm_call::KeptKey;
 use mm_digest::Digest;
-use mm_machine::{Found, Operation, Sight};
+use mm_machine::{OpFinding, Operation, Sight};
 use mm_model::{BatchAnswer, Refusal};
 use mm_module::{Batch, Module};
 use mm_seal::Cell;
@@ -27,13 +27,13 @@ pub struct BasicAsk<'a, M> {
 impl<M: Module> Operation for BasicAsk<'_, M> {
     ghost use Rattle.std.specs.Prelude.{ℕ};
     ghost use Rattle.mm_module.specs.Batches.{batch_of};
-    ghost use Rattle.mm_basic.specs.Operating.{basic_asked};
+    ghost use Rattle.mm_basic.specs.Operation.{basic_operation};
 
     type Answer = BatchAnswer;
 
     type Refusal = Refusal;
 
-    ghost asked = { λ op. basic_asked (M.meaning op.«module».now) op.offer.now (batch_of op.batch) };
+    ghost asked = { λ op. basic_operation (M.meaning op.«module».now) op.offer.now (batch_of op.batch) };
 
     ghost writes = { λ op. 2 };
 
@@ -56,7 +56,7 @@ impl<M: Module> Operation for BasicAsk<'_, M> {
         _cell: &Cell,
         _register: &Digest,
         _keys: &mut KeptKey,
-    ) -> Result<Found<BatchAnswer>, Refusal> {
+    ) -> Result<OpFinding<BatchAnswer>, Refusal> {
         Err(Refusal::Cell)
     }
 

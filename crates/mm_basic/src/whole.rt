@@ -6,16 +6,16 @@ ghost use Rattle.mm_module.specs.Batch.{One};
 ghost use Rattle.mm_module.specs.Batches.{batch_of};
 ghost use Rattle.mm_model.specs.Long.{is_long};
 ghost use Rattle.mm_call.specs.Refusals.{fault_in};
-ghost use Rattle.mm_call.specs.Calls.{Commits, IsCallSoFar};
-ghost use Rattle.mm_call.specs.Leaving.{Blames, whole_in};
+ghost use Rattle.mm_call.specs.CallKind.{CommitsFinding, IsCallSoFar};
+ghost use Rattle.mm_call.specs.Untouched.{CountsHandedFault, batch_result_of};
 ghost use Rattle.mm_call.specs.Machine.{CallReads, acts_for, answer_in};
-ghost use Rattle.mm_basic.specs.Asked.{AskedInBasic};
-ghost use Rattle.mm_basic.specs.Asks.{basic_call};
-ghost use Rattle.mm_basic.specs.Operating.{basic_asked};
+ghost use Rattle.mm_basic.specs.AskPromise.{BasicAskPromise};
+ghost use Rattle.mm_basic.specs.BasicCall.{basic_call};
+ghost use Rattle.mm_basic.specs.Operation.{basic_operation};
 
 use crate::operation::BasicAsk;
 use mm_call::{Committed, KeptKey, commit, finish_call, read_call};
-use mm_machine::Found;
+use mm_machine::OpFinding;
 use mm_model::{Answer, BatchAnswer, Refusal};
 use mm_module::{Batch, Module};
 use mm_platform::{Platform, StepFault};
@@ -25,20 +25,20 @@ use std::marker::Model;
 /// A call whose reading step was made: its batch has run in memory. Contracts see what was found.
 #[derive(Drop)]
 pub struct Prepared {
-    found: Found<BatchAnswer>,
+    found: OpFinding<BatchAnswer>,
 }
 
 impl Model for Prepared {
     ghost use Rattle.std.specs.Prelude.{◌≡◌, false};
-    ghost use Rattle.mm_machine.specs.Reading.{extends};
-    ghost use Rattle.mm_machine.specs.declared.operation.Found.{Found};
+    ghost use Rattle.mm_machine.specs.OpReads.{has_extension};
+    ghost use Rattle.mm_machine.specs.declared.operation.OpFinding.{OpFinding};
     ghost use Rattle.mm_model.specs.declared.answer.BatchAnswer.{BatchAnswer};
 
-    ghost Value = { Found BatchAnswer };
+    ghost Value = { OpFinding BatchAnswer };
 
     ghost view = { λ prepared. prepared.found };
 
-    ghost invariant = { λ prepared. extends prepared.found ≡ false };
+    ghost invariant = { λ prepared. has_extension prepared.found ≡ false };
 }
 
 /// Makes the reading step of a call that asks for one request, and runs the request in memory.
@@ -52,12 +52,12 @@ pub fn prepare<M: Module, P: Platform>(
     ensures long { is_long (One request.now) ≡ true →
         (result ≡ Err Refusal.Long) × (P.standing platform.new ≡ P.standing platform.old) }
     ensures reads { is_long (One request.now) ≡ false →
-        CallReads (basic_asked (M.meaning «module».now) offer.now (One request.now))
+        CallReads (basic_operation (M.meaning «module».now) offer.now (One request.now))
         (P.standing platform.old) (P.standing platform.new) result }
     ensures goes { is_long (One request.now) ≡ false →
         IsCallSoFar basic_call (M.meaning «module».now) (P.standing platform.old) (P.standing platform.new)
         offer.now (One request.now) result }
-    ensures faults { Blames (fault_in result)
+    ensures faults { CountsHandedFault (fault_in result)
         (P.standing platform.old).faults (P.standing platform.new).faults }
 {
     let batch = Batch::One(request);
@@ -80,9 +80,9 @@ pub fn prepare<M: Module, P: Platform>(
 impl Prepared {
     /// Makes the writing step, which commits the request; a repeat has none. Takes no memory.
     pub fn commit<P: Platform>(self, platform: &mut P) -> Result<Committed, StepFault>
-        ensures commits { Commits (acts_for self) (answer_in self)
+        ensures commits { CommitsFinding (acts_for self) (answer_in self)
             (P.standing platform.old) (P.standing platform.new) result }
-        ensures faults { Blames (result_err result)
+        ensures faults { CountsHandedFault (result_err result)
             (P.standing platform.old).faults (P.standing platform.new).faults }
     {
         commit(self.found, platform)
@@ -99,7 +99,7 @@ fn ask_batch_keeping<M: Module, P: Platform>(
     batch: Batch<'_>,
     keys: &mut KeptKey,
 ) -> Result<BatchAnswer, Refusal>
-    ensures { AskedInBasic (M.meaning «module».now) (P.standing platform.old)
+    ensures { BasicAskPromise (M.meaning «module».now) (P.standing platform.old)
         (P.standing platform.new) offer.now (batch_of batch.entry) result }
 {
     if mm_model::is_long(&batch) {
@@ -124,7 +124,7 @@ pub fn ask_batch<M: Module, P: Platform>(
     offer: &[u8],
     batch: Batch<'_>,
 ) -> Result<BatchAnswer, Refusal>
-    ensures { AskedInBasic (M.meaning «module».now) (P.standing platform.old)
+    ensures { BasicAskPromise (M.meaning «module».now) (P.standing platform.old)
         (P.standing platform.new) offer.now (batch_of batch.entry) result }
 {
     ask_batch_keeping(alloc, module, platform, offer, batch, &mut KeptKey::new())
@@ -138,8 +138,8 @@ pub fn ask<M: Module, P: Platform>(
     offer: &[u8],
     request: &[u8],
 ) -> Result<Answer, Refusal>
-    ensures { AskedInBasic (M.meaning «module».now) (P.standing platform.old)
-        (P.standing platform.new) offer.now (One request.now) (whole_in result) }
+    ensures { BasicAskPromise (M.meaning «module».now) (P.standing platform.old)
+        (P.standing platform.new) offer.now (One request.now) (batch_result_of result) }
 {
     ask_keeping(alloc, module, platform, offer, request, &mut KeptKey::new())
 }
@@ -153,8 +153,8 @@ pub fn ask_keeping<M: Module, P: Platform>(
     request: &[u8],
     keys: &mut KeptKey,
 ) -> Result<Answer, Refusal>
-    ensures { AskedInBasic (M.meaning «module».now) (P.standing platform.old)
-        (P.standing platform.new) offer.now (One request.now) (whole_in result) }
+    ensures { BasicAskPromise (M.meaning «module».now) (P.standing platform.old)
+        (P.standing platform.new) offer.now (One request.now) (batch_result_of result) }
 {
     match ask_batch_keeping(alloc, module, platform, offer, Batch::One(request), keys) {
         Err(refusal) => Err(refusal),

@@ -1,12 +1,12 @@
 -- Basic: a call is by digests what it is by lists, on every course.
 use Rattle.mm_call.proofs.Below.{ℕ, ◌≡◌, Bool, true, false, List, [], ◌∷◌, ◌++◌, map, Result, Ok, refl, sym, ap, ◌∙◌, subst, if◌then◌else◌}
-use Rattle.mm_call.proofs.Below.{AllByRecursion, Contains, Basic, Meaning, Batch, Content, InBasic, summary_of, Instance, basic, Entry}
-use Rattle.mm_call.proofs.Below.{History, Move, Foreign, joined, ask_steps, IsClear, Within, values_in, Digests, Names, digest_of, Refusal}
-use Rattle.mm_call.proofs.Below.{each_append, IsGenuine, by_lists, by_digests, all_made, Agrees, Found, found_at, right_content}
-use Rattle.mm_call.proofs.Below.{found_unless_wanting, is_fresh, Fate, Course, Walked, walk, called, called_with, IsPlain, IsWithin}
+use Rattle.mm_call.proofs.Below.{AllByRecursion, Contains, Basic, Meaning, Batch, Content, InBasic, summary_of, Instance, basic_instance, RegisterEntry}
+use Rattle.mm_call.proofs.Below.{History, Move, Foreign, items_of_all, ask_steps, IsClear, AreMessagesIn, values_in, Digests, NamesPosition, digest_of, Refusal}
+use Rattle.mm_call.proofs.Below.{each_append, IsGenuine, list_level, digest_level, state_after_moves, DigestsAgree, CallFinding, finding_at, right_content}
+use Rattle.mm_call.proofs.Below.{finding_unless_wanting, is_fresh, StepFate, Course, StepsWalk, walk, call_outcome, call_outcome_with, IsPlain, IsWithin}
 use Rattle.mm_call.proofs.Below.{right_messages, IsSameCall, BasicCallsAgree, IsBasicMove, agrees-made, plain-made, same_batches}
 use Rattle.mm_call.proofs.Below.{more_batches, Commits, nothing, batch, call_commits, foreign_first, GoesAlong, walk_along, batches-made}
-use Rattle.mm_call.proofs.Below.{basic_names, moved, link_message}
+use Rattle.mm_call.proofs.Below.{basic_names, history_after, link_message}
 use Rattle.mm_call.proofs.Finding.{Asking, basic_found_same, placed, Placed}
 use Rattle.mm_call.proofs.Calling.{summary_then, listed_push, listed_same, called_message, ending_same, fresh_found, ended_batches}
 use Rattle.mm_call.proofs.OptHolding.{foreign_digests}
@@ -21,25 +21,25 @@ basic-foreign (v ∷ values) = (tt, basic-foreign values)
 basic_along : GoesAlong AreBasic
 basic_along = record { more = each_append IsBasicMove; others = basic-foreign }
 
-pub walk_basic : (fates : ℕ → Fate) (flag fresh : Bool) (b : Batch) → AreBasic (walk fates 1 (ask_steps Basic flag fresh b)).moves
+pub walk_basic : (fates : ℕ → StepFate) (flag fresh : Bool) (b : Batch) → AreBasic (walk fates 1 (ask_steps Basic flag fresh b)).moves
 walk_basic fates flag false b = walk_along AreBasic basic_along fates 1 (ask_steps Basic flag false b) tt
 walk_basic fates flag true b = walk_along AreBasic basic_along fates 1 (ask_steps Basic flag true b) ((tt, tt), tt)
 
 -- a plain history has no values that count
-pub plain_outside : (others : List (List ℕ)) (closed : List (List Entry)) (is_open : Bool) (items : List Entry) → closed ≡ []
-    → is_open ≡ false → AllByRecursion (Contains others) (values_in (joined closed ++ (if is_open then items else [])))
+pub plain_outside : (others : List (List ℕ)) (closed : List (List RegisterEntry)) (is_open : Bool) (items : List RegisterEntry) → closed ≡ []
+    → is_open ≡ false → AllByRecursion (Contains others) (values_in (items_of_all closed ++ (if is_open then items else [])))
 plain_outside others closed is_open items none shut =
     rw (none, shut) tt
 
 -- what is found, where memory isn't wanting
-pub unlacked : (found : Result Found Refusal) (lacks : Bool) (f : Found) → found_unless_wanting found lacks ≡ Ok f → found ≡ Ok f
+pub unlacked : (found : Result CallFinding Refusal) (lacks : Bool) (f : CallFinding) → finding_unless_wanting found lacks ≡ Ok f → found ≡ Ok f
 unlacked (Ok found) false f e = e
 unlacked _ lacks f e = cc
 
 -- a history that stays plain, with the same batches
 pub within_same : (meaning : Meaning) (key : List ℕ) (all others : List (List ℕ)) (asked : List Batch) (y end : History)
-    → IsWithin all others asked (basic meaning key) y → IsPlain end → end.batches ≡ y.batches
-    → IsWithin all others asked (basic meaning key) end
+    → IsWithin all others asked (basic_instance meaning key) y → IsPlain end → end.batches ≡ y.batches
+    → IsWithin all others asked (basic_instance meaning key) end
 within_same meaning key all others asked y end within plain same = record {
   sound = plain;
   outside = plain_outside others end.closed end.is_open end.items plain.closed plain.shut;
@@ -54,41 +54,41 @@ pub record IsBasicAsked (all others : List (List ℕ)) (asked : List Batch) (i :
   pub within : IsWithin all others asked i y
   pub is_asked : Contains asked b
   pub genuine : IsGenuine i y offer
-  pub offered : Within (right_messages i b (right_content i offer)) all
+  pub offered : AreMessagesIn (right_messages i b (right_content i offer)) all
 
 module _ (meaning : Meaning) (key : List ℕ) where
   abbrev I : Instance
-  I = basic meaning key
+  I = basic_instance meaning key
 
   -- what a snapshot names is named after moves too
-  pub names_made : (moves : List Move) (y : History) (content : Content) → Names (basic meaning key) y content
-      → Names (basic meaning key) (all_made (by_lists (basic meaning key)) y moves) content
+  pub names_made : (moves : List Move) (y : History) (content : Content) → NamesPosition (basic_instance meaning key) y content
+      → NamesPosition (basic_instance meaning key) (state_after_moves (list_level (basic_instance meaning key)) y moves) content
   names_made [] y content n = n
-  names_made (m ∷ moves) y content n = names_made moves (moved (basic meaning key) y m) content (basic_names meaning key y m content n)
+  names_made (m ∷ moves) y content n = names_made moves (history_after (basic_instance meaning key) y m) content (basic_names meaning key y m content n)
 
   -- a call: what it sees and finds
   module _ (all others : List (List ℕ)) (asked : List Batch) (y : History) (d : Digests) (c : Course) (offer : List ℕ) (b : Batch)
-      (agrees : Agrees I y d) (a : IsBasicAsked all others asked I y offer b) where
+      (agrees : DigestsAgree I y d) (a : IsBasicAsked all others asked I y offer b) where
     abbrev moves : List Move
     moves = map Foreign (c.fates 1).brings ++ []
 
     abbrev sees : History
-    sees = all_made (by_lists I) y moves
+    sees = state_after_moves (list_level I) y moves
 
     abbrev seen : Digests
-    seen = all_made (by_digests I) d moves
+    seen = state_after_moves (digest_level I) d moves
 
-    abbrev at : Result Found Refusal
-    at = found_at I (by_lists I) sees b offer
+    abbrev at : Result CallFinding Refusal
+    at = finding_at I (list_level I) sees b offer
 
-    abbrev found : Result Found Refusal
-    found = found_unless_wanting at c.lacks
+    abbrev found : Result CallFinding Refusal
+    found = finding_unless_wanting at c.lacks
 
-    abbrev walked : Walked
+    abbrev walked : StepsWalk
     walked = walk c.fates 1 (ask_steps Basic false (is_fresh found) b)
 
     abbrev end : History
-    end = all_made (by_lists I) y walked.moves
+    end = state_after_moves (list_level I) y walked.moves
 
     same : sees.batches ≡ y.batches
     same = same_batches I moves y (foreign_first (c.fates 1).brings [])
@@ -100,16 +100,16 @@ module _ (meaning : Meaning) (key : List ℕ) where
       genuine = λ content right. names_made moves y content (a.genuine content right);
     }
 
-    placed_at : (f : Found) → found ≡ Ok f → Placed all I sees b f
+    placed_at : (f : CallFinding) → found ≡ Ok f → Placed all I sees b f
     placed_at f is = placed all I sees offer b asking f (unlacked at c.lacks f is)
 
     commits : Commits b (is_fresh found) walked
     commits = call_commits Basic c.fates false (is_fresh found) b
 
-    agree : found_unless_wanting (found_at I (by_digests I) seen b offer) c.lacks ≡ found
+    agree : finding_unless_wanting (finding_at I (digest_level I) seen b offer) c.lacks ≡ found
     agree =
         let quiet : AreBasic moves = each_append IsBasicMove (map Foreign (c.fates 1).brings) [] (basic-foreign (c.fates 1).brings) tt in
-        ap (λ x. found_unless_wanting x c.lacks) (basic_found_same meaning key all sees seen offer b
+        ap (λ x. finding_unless_wanting x c.lacks) (basic_found_same meaning key all sees seen offer b
         (agrees-made meaning key moves y d quiet agrees) (plain-made meaning key moves y quiet a.within.sound)
         (listed_same meaning key all y sees a.within.listed same) asking)
 
@@ -129,14 +129,14 @@ module _ (meaning : Meaning) (key : List ℕ) where
           batches = rw more (each_append (Contains asked) y.batches (b ∷ []) a.within.batches (a.is_asked, tt));
         }
 
-    pub basic_same : IsSameCall all others asked I (called I (by_lists I) y c offer b) (called I (by_digests I) d c offer b)
+    pub basic_same : IsSameCall all others asked I (call_outcome I (list_level I) y c offer b) (call_outcome I (digest_level I) d c offer b)
     basic_same =
         let are : AreBasic walked.moves = walk_basic c.fates false (is_fresh found) b in
-        let P : Result Found Refusal → Type 0 = λ x. IsSameCall all others asked I
-        (called_with I (by_lists I) y sees c b found) (called_with I (by_digests I) d seen c b x) in
-        let C : Result Found Refusal → Type 0 = λ x. Commits b (is_fresh x) walked in
+        let P : Result CallFinding Refusal → Type 0 = λ x. IsSameCall all others asked I
+        (call_outcome_with I (list_level I) y sees c b found) (call_outcome_with I (digest_level I) d seen c b x) in
+        let C : Result CallFinding Refusal → Type 0 = λ x. Commits b (is_fresh x) walked in
         subst P (sym agree) (record {
-          ending = ending_same all I sees y seen b walked sees (all_made (by_digests I) d walked.moves) walked.broken found refl (record {
+          ending = ending_same all I sees y seen b walked sees (state_after_moves (digest_level I) d walked.moves) walked.broken found refl (record {
             same = same;
             found_at = placed_at;
             place = λ f is whole.

@@ -1,12 +1,12 @@
 -- What a call answers and how it ends, by lists and by digests; and, in Basic, the messages of a history that goes on by the batch.
 use Rattle.mm_call.proofs.Below.{ℕ, ◌≡◌, ◌+◌, ◌-◌, Bool, true, false, List, [], ◌∷◌, ◌++◌, drop, refl, sym, ap, ◌∙◌, subst, arith}
-use Rattle.mm_call.proofs.Below.{if◌then◌else◌, Contains, flat_map-append, append-nil, Basic, start_of, Meaning, state_after, outputs_from}
+use Rattle.mm_call.proofs.Below.{if◌then◌else◌, Contains, flat_map-append, append-nil, Basic, start_digest_of, Meaning, state_after, outputs_from}
 use Rattle.mm_call.proofs.Below.{state_from, Batch, members_of, size_of, state_after-append, outputs_from-append, length-outputs_from}
-use Rattle.mm_call.proofs.Below.{Content, sealed_of, Place, InBasic, InOpt, link, link_message, trail, Instance, basic, History}
-use Rattle.mm_call.proofs.Below.{requests_of, total_of, Within, history_messages, offer_messages, IsPlaceOf, issued_place, trail_push}
+use Rattle.mm_call.proofs.Below.{Content, sealed_snapshot_of, Place, InBasic, InOpt, link, link_message, trail, Instance, basic_instance, History}
+use Rattle.mm_call.proofs.Below.{requests_of, total_of, AreMessagesIn, history_messages, offer_messages, IsPlaceOf, issued_place, trail_push}
 use Rattle.mm_call.proofs.Below.{summary-push, total-push, answer_at, answer_on, Option, None, Some, Result, Ok, Err, StepFault, Digests}
-use Rattle.mm_call.proofs.Below.{Refusal, by_lists, by_digests, all_made, place_then, Found, is_fresh, Walked, commits, Answers, Breaks}
-use Rattle.mm_call.proofs.Below.{ended_by, kept_at, committed_in, batches-made, more_batches, Commits, nothing, batch, commits-none}
+use Rattle.mm_call.proofs.Below.{Refusal, list_level, digest_level, state_after_moves, place_after_batch, CallFinding, is_fresh, StepsWalk, has_commit, Answers, Breaks}
+use Rattle.mm_call.proofs.Below.{call_ending_by, position_if_committed, committed_batches, batches-made, more_batches, Commits, nothing, batch, commits-none}
 use Rattle.mm_model.specs.Chains.{summary_of}
 use Rattle.std.proofs.lemmas.List.{drop_at}
 use Rattle.mm_call.proofs.Finding.{Placed}
@@ -47,7 +47,7 @@ answer_same i y named b again offered place e position state is =
       again = again;
       position = total j;
       outputs = said j;
-      snapshot = sealed_of i.key (record { id = i.meaning.id; place = is j; position = total j; state = after j });
+      snapshot = sealed_snapshot_of i.key (record { id = i.meaning.id; place = is j; position = total j; state = after j });
     }
 
 -- the summary after the batch
@@ -60,22 +60,22 @@ summary_then id batches named b false digest e fresh repeat =
 
 -- the messages of a history that goes on by the batch
 pub listed_push : (meaning : Meaning) (key : List ℕ) (all : List (List ℕ)) (y y' : History) (b : Batch)
-    → Within (history_messages (basic meaning key) y) all → Contains all (link_message (summary_of meaning.id y.batches) b)
-    → y'.batches ≡ y.batches ++ b ∷ [] → Within (history_messages (basic meaning key) y') all
+    → AreMessagesIn (history_messages (basic_instance meaning key) y) all → Contains all (link_message (summary_of meaning.id y.batches) b)
+    → y'.batches ≡ y.batches ++ b ∷ [] → AreMessagesIn (history_messages (basic_instance meaning key) y') all
 unfolding summary_of
 listed_push meaning key all y y' b listed called e =
-    let P : List Batch → Type 0 = λ v. Within (trail link_message (start_of Basic meaning.id) v) all in
-    (listed.0, subst P (sym e) (trail_push link_message (start_of Basic meaning.id) y.batches b all listed.1 called))
+    let P : List Batch → Type 0 = λ v. AreMessagesIn (trail link_message (start_digest_of Basic meaning.id) v) all in
+    (listed.0, subst P (sym e) (trail_push link_message (start_digest_of Basic meaning.id) y.batches b all listed.1 called))
 
 pub listed_same : (meaning : Meaning) (key : List ℕ) (all : List (List ℕ)) (y y' : History)
-    → Within (history_messages (basic meaning key) y) all → y'.batches ≡ y.batches → Within (history_messages (basic meaning key) y') all
+    → AreMessagesIn (history_messages (basic_instance meaning key) y) all → y'.batches ≡ y.batches → AreMessagesIn (history_messages (basic_instance meaning key) y') all
 listed_same meaning key all y y' listed e =
-    let P : List Batch → Type 0 = λ v. Within (trail link_message (start_of Basic meaning.id) v) all in
+    let P : List Batch → Type 0 = λ v. AreMessagesIn (trail link_message (start_digest_of Basic meaning.id) v) all in
     (listed.0, subst P (sym e) listed.1)
 
 -- the message of a batch that is asked at the end of the history
 pub called_message : (meaning : Meaning) (key : List ℕ) (all : List (List ℕ)) (y : History) (b : Batch) (place : Place)
-    (named : List Batch) → Within (offer_messages (basic meaning key) place b) all → IsPlaceOf Basic (basic meaning key) y named place
+    (named : List Batch) → AreMessagesIn (offer_messages (basic_instance meaning key) place b) all → IsPlaceOf Basic (basic_instance meaning key) y named place
     → named ≡ y.batches → Contains all (link_message (summary_of meaning.id y.batches) b)
 called_message meaning key all y b (InBasic s) named called is e =
     let P : List ℕ → Type 0 = λ v. Contains all (link_message v b) in
@@ -90,46 +90,46 @@ pub fresh_of : (again : Bool) → (if again then false else true) ≡ true → a
 fresh_of true e = cc
 fresh_of false e = refl
 
-pub fresh_found : (found : Result Found Refusal) → is_fresh found ≡ true → (f : Found) × (found ≡ Ok f) × (f.again ≡ false)
+pub fresh_found : (found : Result CallFinding Refusal) → is_fresh found ≡ true → (f : CallFinding) × (found ≡ Ok f) × (f.again ≡ false)
 fresh_found (Ok f) e = (f, refl, fresh_of f.again e)
 fresh_found (Err why) e = cc
 
-pub kept_same : (committed : Bool) (p q : ℕ) → (committed ≡ true → p ≡ q) → kept_at committed p ≡ kept_at committed q
+pub kept_same : (committed : Bool) (p q : ℕ) → (committed ≡ true → p ≡ q) → position_if_committed committed p ≡ position_if_committed committed q
 kept_same true p q e = ap (λ x. Some x) (e refl)
 kept_same false p q e = refl
 
 -- the batches at the end of a call that isn't broken off
-pub ended_batches : (batches named : List Batch) (b : Batch) (again : Bool) (walked : Walked) → (again ≡ false → named ≡ batches)
+pub ended_batches : (batches named : List Batch) (b : Batch) (again : Bool) (walked : StepsWalk) → (again ≡ false → named ≡ batches)
     → (again ≡ true → named ++ b ∷ [] ≡ batches) → Commits b (if again then false else true) walked → walked.broken ≡ None
-    → batches ++ committed_in walked.moves ≡ named ++ b ∷ []
+    → batches ++ committed_batches walked.moves ≡ named ++ b ∷ []
 ended_batches batches named b again walked fresh repeat (nothing none unless) whole =
     ap (λ v. batches ++ v) none ∙ append-nil batches ∙ sym (repeat (again_of again (unless whole)))
 ended_batches batches named b again walked fresh repeat (batch one is) whole =
     ap (λ v. batches ++ v) one ∙ ap (λ v. v ++ b ∷ []) (sym (fresh (fresh_of again is)))
 
-module _ (all : List (List ℕ)) (i : Instance) (z y : History) (seen : Digests) (b : Batch) (walked : Walked) where
+module _ (all : List (List ℕ)) (i : Instance) (z y : History) (seen : Digests) (b : Batch) (walked : StepsWalk) where
   abbrev end : History
-  end = all_made (by_lists i) y walked.moves
+  end = state_after_moves (list_level i) y walked.moves
 
   -- what is known at the end of a call: what it found at a history with the same batches, and that the place of its answer is that of
   -- the history
-  pub record Ends (found : Result Found Refusal) : Type 0 where
+  pub record Ends (found : Result CallFinding Refusal) : Type 0 where
     pub same : z.batches ≡ y.batches
-    pub found_at : (f : Found) → found ≡ Ok f → Placed all i z b f
-    pub place : (f : Found) → found ≡ Ok f → walked.broken ≡ None
-        → place_then i.variant seen.flag f.again i seen b ≡ issued_place i.variant end.is_open i end
+    pub found_at : (f : CallFinding) → found ≡ Ok f → Placed all i z b f
+    pub place : (f : CallFinding) → found ≡ Ok f → walked.broken ≡ None
+        → place_after_batch i.variant seen.flag f.again i seen b ≡ issued_place i.variant end.is_open i end
 
-  answers_same : (f : Found) → Ends (Ok f) → Commits b (if f.again then false else true) walked → walked.broken ≡ None
-      → (s : Digests) (t : History) → (by_digests i).answer f.again seen s f.offered b ≡ (by_lists i).answer f.again t end f.offered b
+  answers_same : (f : CallFinding) → Ends (Ok f) → Commits b (if f.again then false else true) walked → walked.broken ≡ None
+      → (s : Digests) (t : History) → (digest_level i).answer f.again seen s f.offered b ≡ (list_level i).answer f.again t end f.offered b
   answers_same f ends c whole s t =
       let p = ends.found_at f refl in
       let batches = batches-made i walked.moves y ∙ ended_batches y.batches p.named b f.again walked (λ x. p.fresh x ∙ ends.same)
       (λ x. p.repeat x ∙ ends.same) c whole in
-      answer_same i end p.named b f.again f.offered (place_then i.variant seen.flag f.again i seen b) batches p.position p.state
+      answer_same i end p.named b f.again f.offered (place_after_batch i.variant seen.flag f.again i seen b) batches p.position p.state
       (ends.place f refl whole)
 
   -- the position of a batch that was committed
-  position_same : (f : Found) → Ends (Ok f) → f.again ≡ false → committed_in walked.moves ≡ b ∷ []
+  position_same : (f : CallFinding) → Ends (Ok f) → f.again ≡ false → committed_batches walked.moves ≡ b ∷ []
       → f.offered.position + size_of b ≡ total_of end.batches
   position_same f ends fresh one =
       let p = ends.found_at f refl in
@@ -137,12 +137,12 @@ module _ (all : List (List ℕ)) (i : Instance) (z y : History) (seen : Digests)
       let named = p.position ∙ ap total_of (p.fresh fresh ∙ ends.same) in
       omega arith
 
-  pub ending_same : (t : History) (s : Digests) (broken : Option StepFault) (found : Result Found Refusal) → walked.broken ≡ broken
+  pub ending_same : (t : History) (s : Digests) (broken : Option StepFault) (found : Result CallFinding Refusal) → walked.broken ≡ broken
       → Ends found → Commits b (is_fresh found) walked
-      → ended_by (by_digests i) seen s b found walked.moves broken ≡ ended_by (by_lists i) t end b found walked.moves broken
+      → call_ending_by (digest_level i) seen s b found walked.moves broken ≡ call_ending_by (list_level i) t end b found walked.moves broken
   ending_same t s (Some fault) (Err why) e ends c = refl
   ending_same t s None (Err why) e ends c = refl
   ending_same t s (Some fault) (Ok f) e ends (nothing none unless) = rw (commits-none walked.moves none) refl
   ending_same t s (Some fault) (Ok f) e ends (batch one fresh) =
-      ap (λ k. Breaks fault k) (kept_same (commits walked.moves) _ _ (λ x. position_same f ends (fresh_of f.again fresh) one))
+      ap (λ k. Breaks fault k) (kept_same (has_commit walked.moves) _ _ (λ x. position_same f ends (fresh_of f.again fresh) one))
   ending_same t s None (Ok f) e ends c = ap (λ a. Answers a) (answers_same f ends c e s t)

@@ -1,12 +1,12 @@
 -- The device steps that commit what a call found, one after another: their fates, and what is known of all of them.
 use Rattle.mm_call.proofs.Below.{◌≡◌, ℕ, Bool, true, false, List, [], ◌∷◌, ◌++◌, map, Option, None, Some, Err, refl, sym, ap, ◌∙◌, IsSome}
-use Rattle.mm_call.proofs.Below.{option_map, counted, StepFault, Plan, Standing, plan_after, Act, Goes, is_on_at, will_be_on, Move, Foreign}
-use Rattle.mm_call.proofs.Below.{Refusal, Device, fault_of, commits, result_of, ended_with, refused_as, StaysOn, IsAt, ◌+◌, suc, length}
-use Rattle.mm_call.proofs.Below.{Result, Ok, subst, arith, ◌==◌, if◌then◌else◌, Instance, Commit, Digests, Step, Reads, Changes, Writes}
-use Rattle.mm_call.proofs.Below.{BatchAnswer, Ended, Answered, Refused, Broken, CallOf, commits_before, goes_on, breaks_off, StepsTo}
-use Rattle.mm_call.proofs.Below.{EndsTo, kept_at, End, Done, Fails, Fate, Walked, walk, after_step, step_moves, planned, kept_by, is_broken}
-use Rattle.mm_call.proofs.Below.{Blames, blamed, blamed_later, all_made, by_digests, fault_in, met, AreMet, met_at, then_at, room_at}
-use Rattle.mm_call.proofs.Below.{stepped, trail_on, trail_fails, MakesStep, Stepped, Rest, Trail}
+use Rattle.mm_call.proofs.Below.{option_map, next_count, StepFault, Plan, Standing, plan_after, Act, StepGoes, is_on_at, is_on_by_plan, Move, Foreign}
+use Rattle.mm_call.proofs.Below.{Refusal, Device, fault_of, has_commit, result_of, end_by_fault, end_of_refusal, StaysOn, IsAt, ◌+◌, suc, length}
+use Rattle.mm_call.proofs.Below.{Result, Ok, subst, arith, ◌==◌, if◌then◌else◌, Instance, Commit, Digests, DeviceStep, Reads, Changes, Writes}
+use Rattle.mm_call.proofs.Below.{BatchAnswer, AskResult, Answered, Refused, Broken, CallKind, committed_position, goes_on, breaks_off, AreStepsToEnd}
+use Rattle.mm_call.proofs.Below.{EndsByFinding, position_if_committed, End, Done, Fails, StepFate, StepsWalk, walk, walk_from_step, step_moves, fate_by_plan, kept_position, is_broken}
+use Rattle.mm_call.proofs.Below.{CountsHandedFault, blamed, blamed_later, state_after_moves, digest_level, fault_in, fates_before_plan, AreMet, met_at, then_at, room_at}
+use Rattle.mm_call.proofs.Below.{stepped, trail_on, trail_fails, MakesStep, StepIsMade, RestFollows, IsTrail}
 use Rattle.mm_platform.specs.declared.plan.Stop.{Stop}
 use Rattle.mm_platform.specs.declared.plan.Stop.TheVariants.{Cut}
 use Rattle.std.specs.Prelude.{◌≤◌}
@@ -15,16 +15,16 @@ use Rattle.std.proofs.lemmas.Bool.Decides.{nat_tests}
 use Rattle.mm_call.specs.CoursesWords.{end_of}
 
 -- a refusal gives itself
-pub refused_result : (why : Refusal) → result_of (refused_as why) ≡ Err why
+pub refused_result : (why : Refusal) → result_of (end_of_refusal why) ≡ Err why
 refused_result (Device fault) = refl
 refused_result _ = refl
 
 -- values of others commit nothing
-foreign_commits : (values : List (List ℕ)) → commits (map Foreign values) ≡ false
+foreign_commits : (values : List (List ℕ)) → has_commit (map Foreign values) ≡ false
 foreign_commits [] = refl
 foreign_commits (v ∷ values) = foreign_commits values
 
-commits_then : (values : List (List ℕ)) (moves : List Move) → commits (map Foreign values ++ moves) ≡ commits moves
+commits_then : (values : List (List ℕ)) (moves : List Move) → has_commit (map Foreign values ++ moves) ≡ has_commit moves
 commits_then [] moves = refl
 commits_then (v ∷ values) moves = commits_then values moves
 
@@ -40,45 +40,45 @@ stays_broken _ n new e = e
 
 -- after a step that fails, with room made behind it: power is on as the plan says, and the plan goes on to be told
 stays_failed : (act : Act) (old after new : Standing) (fault : StepFault) (plan : Plan) (at : ℕ) → IsAt old plan at
-    → Goes act old after (Some fault) → new ≡ record after { spare = new.spare } → StaysOn plan.stop true new × IsSome new.plan
+    → StepGoes act old after (Some fault) → new ≡ record after { spare = new.spare } → StaysOn plan.stop true new × IsSome new.plan
 stays_failed act old after new fault plan at p g room =
     let told = g.told (record plan { at = at }) p.planned in (
-      stays_broken plan.stop (counted at) new
-          (ap (λ (s : Standing). s.is_on) room ∙ told.power ∙ ap (λ (on : Bool). will_be_on on (record plan { at = at })) p.is_on),
+      stays_broken plan.stop (next_count at) new
+          (ap (λ (s : Standing). s.is_on) room ∙ told.power ∙ ap (λ (on : Bool). is_on_by_plan on (record plan { at = at })) p.is_on),
       rw (ap (λ (s : Standing). s.plan) room ∙ g.plan ∙ ap (λ (q : Option Plan). option_map plan_after q) p.planned) refl,
     )
 
 -- The fates of steps
 
 -- the fate that a device step met
-abbrev pub fate_of : (act : Act) (old new : Standing) (fault : Option StepFault) → Goes act old new fault → Fate
+abbrev pub fate_of : (act : Act) (old new : Standing) (fault : Option StepFault) → StepGoes act old new fault → StepFate
 fate_of act old new fault g = record { brings = g.others; ends = end_of fault g.is_made }
 
-abbrev pub steps_fates : (acts : List Act) (answer : BatchAnswer) (old new : Standing) (ended : Ended) → StepsTo acts answer old new ended
-    → List Fate
+abbrev pub steps_fates : (acts : List Act) (answer : BatchAnswer) (old new : Standing) (ended : AskResult) → AreStepsToEnd acts answer old new ended
+    → List StepFate
 steps_fates [] answer old new ended s = []
 steps_fates (act ∷ acts) answer old new ended (goes_on middle g s) =
     fate_of act old middle None g ∷ steps_fates acts answer middle new ended s
 steps_fates (act ∷ acts) answer old new ended (breaks_off fault g e) = fate_of act old new (Some fault) g ∷ []
 
-abbrev pub ends_fates : {F : Type 0} → (c : CallOf F) (found : Result F Refusal) (old new : Standing) (ended : Ended)
-    → EndsTo c found old new ended → List Fate
+abbrev pub ends_fates : {F : Type 0} → (c : CallKind F) (found : Result F Refusal) (old new : Standing) (ended : AskResult)
+    → EndsByFinding c found old new ended → List StepFate
 ends_fates c (Err why) old new ended e = []
 ends_fates c (Ok found) old new ended e = steps_fates (c.acts found) (c.answer found) old new ended e
 
 -- What is known of steps whatever the digests
 
 -- These are the fates of steps that were made once so many steps of the plan were over: they met the plan, and power is on as it says.
-pub record Tale (fates : List Fate) (at : ℕ) (old new : Standing) (ended : Ended) : Type 0 where
+pub record Tale (fates : List StepFate) (at : ℕ) (old new : Standing) (ended : AskResult) : Type 0 where
   pub met_all : (plan : Plan) → IsAt old plan at → AreMet fates (at + 1) plan
   pub stays : (plan : Plan) → IsAt old plan at → StaysOn plan.stop (is_broken ended) new × IsSome new.plan
 
 -- the counts stay below their greatest value
-counted_small : (n : ℕ) → n ≤ 100 → counted n ≡ n + 1
+counted_small : (n : ℕ) → n ≤ 100 → next_count n ≡ n + 1
 counted_small n few = min-eq_left (omega (arith, few))
 
 -- no step is left, and the call isn't broken off
-tale_over : (at : ℕ) (old : Standing) (ended : Ended) → is_broken ended ≡ false → Tale [] at old old ended
+tale_over : (at : ℕ) (old : Standing) (ended : AskResult) → is_broken ended ≡ false → Tale [] at old old ended
 tale_over at old ended whole = record {
   met_all = λ (plan : Plan) (p : IsAt old plan at). tt;
   stays = λ (plan : Plan) (p : IsAt old plan at). (
@@ -88,8 +88,8 @@ tale_over at old ended whole = record {
 }
 
 -- a step that is done, and room made after it
-pub tale_on : (act : Act) (old after middle new : Standing) (fates : List Fate) (at : ℕ) (ended : Ended) → at ≤ 100
-    → (g : Goes act old after None) → middle ≡ record after { spare = middle.spare } → Tale fates (at + 1) middle new ended
+pub tale_on : (act : Act) (old after middle new : Standing) (fates : List StepFate) (at : ℕ) (ended : AskResult) → at ≤ 100
+    → (g : StepGoes act old after None) → middle ≡ record after { spare = middle.spare } → Tale fates (at + 1) middle new ended
     → Tale (fate_of act old after None g ∷ fates) at old new ended
 tale_on act old after middle new fates at ended few g room t =
     let next = λ (plan : Plan) (p : IsAt old plan at).
@@ -97,7 +97,7 @@ tale_on act old after middle new fates at ended few g room t =
     (subst (λ (n : ℕ). IsAt after plan n) (counted_small at few) (then_at act old after plan at p g)) in
     record {
       met_all = λ (plan : Plan) (p : IsAt old plan at). (
-        met_at act old after None plan at p g ∙ ap (planned plan) (counted_small at few),
+        met_at act old after None plan at p g ∙ ap (fate_by_plan plan) (counted_small at few),
         t.met_all plan (next plan p),
       );
       stays = λ (plan : Plan) (p : IsAt old plan at). t.stays plan (next plan p);
@@ -105,37 +105,37 @@ tale_on act old after middle new fates at ended few g room t =
 
 -- a step that fails
 pub tale_fails : (act : Act) (old after new : Standing) (fault : StepFault) (position : Option ℕ) (at : ℕ) → at ≤ 100
-    → (g : Goes act old after (Some fault)) → new ≡ record after { spare = new.spare }
+    → (g : StepGoes act old after (Some fault)) → new ≡ record after { spare = new.spare }
     → Tale (fate_of act old after (Some fault) g ∷ []) at old new (Broken fault position)
 tale_fails act old after new fault position at few g room = record {
   met_all = λ (plan : Plan) (p : IsAt old plan at).
-      (met_at act old after (Some fault) plan at p g ∙ ap (planned plan) (counted_small at few), tt);
+      (met_at act old after (Some fault) plan at p g ∙ ap (fate_by_plan plan) (counted_small at few), tt);
   stays = λ (plan : Plan) (p : IsAt old plan at). stays_failed act old after new fault plan at p g room;
 }
 
-pub steps_tale : (acts : List Act) (answer : BatchAnswer) (old new : Standing) (ended : Ended) (at : ℕ) → at + length acts ≤ 100
-    → (s : StepsTo acts answer old new ended) → Tale (steps_fates acts answer old new ended s) at old new ended
+pub steps_tale : (acts : List Act) (answer : BatchAnswer) (old new : Standing) (ended : AskResult) (at : ℕ) → at + length acts ≤ 100
+    → (s : AreStepsToEnd acts answer old new ended) → Tale (steps_fates acts answer old new ended s) at old new ended
 steps_tale [] answer old new ended at few s =
     rw (s.0, s.1) (tale_over at old (Answered answer) refl)
 steps_tale (act ∷ acts) answer old new ended at few (goes_on middle g s) =
     tale_on act old middle middle new (steps_fates acts answer middle new ended s) at ended (omega (arith, few)) g refl
     (steps_tale acts answer middle new ended (at + 1) (omega (arith, few)) s)
 steps_tale (act ∷ acts) answer old new ended at few (breaks_off fault g e) =
-    rw e (tale_fails act old new new fault (commits_before acts answer) at (omega (arith, few)) g refl)
+    rw e (tale_fails act old new new fault (committed_position acts answer) at (omega (arith, few)) g refl)
 
 -- the last reading step, and the steps that commit what was found
 module _ (act : Act) (old after middle new : Standing) (at : ℕ) (few : at ≤ 50) (room : middle ≡ record after { spare = middle.spare })
   where
-    refused_tale : (fault : Option StepFault) (why : Refusal) (ended : Ended) → fault_of why ≡ fault → (g : Goes act old after fault)
-        → (new ≡ middle) × (ended ≡ ended_with fault why) → Tale (fate_of act old after fault g ∷ []) at old new ended
+    refused_tale : (fault : Option StepFault) (why : Refusal) (ended : AskResult) → fault_of why ≡ fault → (g : StepGoes act old after fault)
+        → (new ≡ middle) × (ended ≡ end_by_fault fault why) → Tale (fate_of act old after fault g ∷ []) at old new ended
     refused_tale None why ended quiet g e =
         tale_on act old after middle new [] at ended (omega (arith, few)) g room
         (rw (e.0, e.1) (tale_over (at + 1) middle (Refused why) refl))
     refused_tale (Some fault) why ended loud g e =
         rw (e.0, e.1) (tale_fails act old after middle fault None at (omega (arith, few)) g room)
 
-    pub reading_tale : {F : Type 0} → (c : CallOf F) (found : Result F Refusal) (ended : Ended) → (g : Goes act old after (fault_in found))
-        → ((it : F) → length (c.acts it) ≤ 49) → (e : EndsTo c found middle new ended)
+    pub reading_tale : {F : Type 0} → (c : CallKind F) (found : Result F Refusal) (ended : AskResult) → (g : StepGoes act old after (fault_in found))
+        → ((it : F) → length (c.acts it) ≤ 49) → (e : EndsByFinding c found middle new ended)
         → Tale (fate_of act old after (fault_in found) g ∷ ends_fates c found middle new ended e) at old new ended
     reading_tale c (Err why) ended g short e = refused_tale (fault_of why) why ended refl g e
     reading_tale c (Ok found) ended g short e =
@@ -144,10 +144,10 @@ module _ (act : Act) (old after middle new : Standing) (at : ℕ) (few : at ≤ 
 
 -- Who is to blame
 
-abbrev pub BlamesFor : Standing → Standing → Ended → Type 0
-BlamesFor old new ended = Blames (fault_in (result_of ended)) old.faults new.faults
+abbrev pub BlamesFor : Standing → Standing → AskResult → Type 0
+BlamesFor old new ended = CountsHandedFault (fault_in (result_of ended)) old.faults new.faults
 
-pub steps_blamed : (acts : List Act) (answer : BatchAnswer) (old new : Standing) (ended : Ended) → StepsTo acts answer old new ended
+pub steps_blamed : (acts : List Act) (answer : BatchAnswer) (old new : Standing) (ended : AskResult) → AreStepsToEnd acts answer old new ended
     → BlamesFor old new ended
 steps_blamed [] answer old new ended s = rw s.1 (ap (λ (x : Standing). x.faults) s.0)
 steps_blamed (act ∷ acts) answer old new ended (goes_on middle g s) =
@@ -157,8 +157,8 @@ steps_blamed (act ∷ acts) answer old new ended (breaks_off fault g e) =
     rw e (blamed (Some fault) old new g.is_made g.ends)
 
 -- what is left of a call behind the steps that read
-pub ends_blamed : {F : Type 0} → (c : CallOf F) (found : Result F Refusal) (old middle new : Standing) (ended : Ended)
-    → Blames (fault_in found) old.faults middle.faults → EndsTo c found middle new ended → BlamesFor old new ended
+pub ends_blamed : {F : Type 0} → (c : CallKind F) (found : Result F Refusal) (old middle new : Standing) (ended : AskResult)
+    → CountsHandedFault (fault_in found) old.faults middle.faults → EndsByFinding c found middle new ended → BlamesFor old new ended
 ends_blamed c (Err why) old middle new ended blames e = rw (e.0, e.1, refused_result why) blames
 ends_blamed c (Ok found) old middle new ended blames e =
     blamed_later (fault_in (result_of ended)) old.faults middle.faults new.faults blames
@@ -167,70 +167,70 @@ ends_blamed c (Ok found) old middle new ended blames e =
 -- What is known of steps by digests
 
 -- the answer that was ready is given, unless a step failed
-abbrev pub Given : BatchAnswer → Ended → Type 0
+abbrev pub Given : BatchAnswer → AskResult → Type 0
 Given answer (Answered it) = it ≡ answer
 Given answer (Refused why) = ⊥
 Given answer (Broken fault position) = Unit {0}
 
-pub steps_give : (acts : List Act) (answer : BatchAnswer) (old new : Standing) (ended : Ended) → StepsTo acts answer old new ended
+pub steps_give : (acts : List Act) (answer : BatchAnswer) (old new : Standing) (ended : AskResult) → AreStepsToEnd acts answer old new ended
     → Given answer ended
 steps_give [] answer old new ended s = rw s.1 refl
 steps_give (act ∷ acts) answer old new ended (goes_on middle g s) = steps_give acts answer middle new ended s
 steps_give (act ∷ acts) answer old new ended (breaks_off fault g e) = rw e tt
 
 -- the step of a walk commits a batch
-abbrev pub is_committing : Step → Bool
+abbrev pub is_committing : DeviceStep → Bool
 is_committing Reads = false
-is_committing (Changes m) = commits (m ∷ [])
-is_committing (Writes m) = commits (m ∷ [])
+is_committing (Changes m) = has_commit (m ∷ [])
+is_committing (Writes m) = has_commit (m ∷ [])
 
-commits_either : (xs ys : List Move) → commits (xs ++ ys) ≡ (if commits xs then true else commits ys)
+commits_either : (xs ys : List Move) → has_commit (xs ++ ys) ≡ (if has_commit xs then true else has_commit ys)
 commits_either [] ys = refl
 commits_either (Commit b ∷ xs) ys = refl
 commits_either (_ ∷ xs) ys = commits_either xs ys
 
-commits_last : (m : Move) (values : List (List ℕ)) → commits (m ∷ map Foreign values) ≡ commits (m ∷ [])
+commits_last : (m : Move) (values : List (List ℕ)) → has_commit (m ∷ map Foreign values) ≡ has_commit (m ∷ [])
 commits_last (Commit b) values = refl
 commits_last _ values = foreign_commits values
 
 -- by whether its effect is made
-step_commits : (step : Step) (is_made : Bool) (values : List (List ℕ))
-    → commits (step_moves step is_made values) ≡ (if is_made then is_committing step else false)
+step_commits : (step : DeviceStep) (is_made : Bool) (values : List (List ℕ))
+    → has_commit (step_moves step is_made values) ≡ (if is_made then is_committing step else false)
 step_commits (Changes m) true values = commits_then values (m ∷ [])
 step_commits (Changes m) false values = commits_then values []
 step_commits (Writes m) true values = commits_last m values
 step_commits Reads true values = foreign_commits values
 step_commits _ false values = foreign_commits values
 
-rest_mapped : {A B : Type 0} → (C : Type 0) (answer : Option StepFault) → (A → B) → Rest answer A C → Rest answer B C
+rest_mapped : {A B : Type 0} → (C : Type 0) (answer : Option StepFault) → (A → B) → RestFollows answer A C → RestFollows answer B C
 rest_mapped C None f r = f r
 rest_mapped C (Some fault) f r = r
 
 -- fates that are alike from the step of this number on
-module _ (fates other : ℕ → Fate) where
+module _ (fates other : ℕ → StepFate) where
   abbrev Alike : ℕ → Type 0
   Alike n = (m : ℕ) → n ≤ m → fates m ≡ other m
 
   later_alike : (n : ℕ) → Alike n → Alike (n + 1)
   later_alike n h = λ (m : ℕ) (l : n + 1 ≤ m). h m (omega (arith, l))
 
-  walk_alike : (n : ℕ) (steps : List Step) → Alike n → walk fates n steps ≡ walk other n steps
+  walk_alike : (n : ℕ) (steps : List DeviceStep) → Alike n → walk fates n steps ≡ walk other n steps
   walk_alike n [] h = refl
   walk_alike n (step ∷ steps) h =
-      ap (λ (f : Fate). after_step step f.brings f.ends (walk fates (n + 1) steps)) (h n (omega arith))
-      ∙ ap (λ (w : Walked). after_step step (other n).brings (other n).ends w) (walk_alike (n + 1) steps (later_alike n h))
+      ap (λ (f : StepFate). walk_from_step step f.brings f.ends (walk fates (n + 1) steps)) (h n (omega arith))
+      ∙ ap (λ (w : StepsWalk). walk_from_step step (other n).brings (other n).ends w) (walk_alike (n + 1) steps (later_alike n h))
 
-  trail_alike : (i : Instance) (d : Digests) (n : ℕ) (steps : List Step) (old new : Standing) (fault : Option StepFault) → Alike n
-      → Trail i d fates n steps old new fault → Trail i d other n steps old new fault
+  trail_alike : (i : Instance) (d : Digests) (n : ℕ) (steps : List DeviceStep) (old new : Standing) (fault : Option StepFault) → Alike n
+      → IsTrail i d fates n steps old new fault → IsTrail i d other n steps old new fault
   trail_alike i d n [] old new fault h t = t
   trail_alike i d n (step ∷ steps) old new fault h t =
       let e : fates n ≡ other n = h n (omega arith) in (
         t.0,
         t.1,
-        subst (λ (f : Fate). Stepped i d f step old t.0 t.1) e t.2,
+        subst (λ (f : StepFate). StepIsMade i d f step old t.0 t.1) e t.2,
         rest_mapped ((new ≡ t.0) × (fault ≡ t.1)) t.1 (λ r. subst
-            (λ (f : Fate). Trail i (all_made (by_digests i) d (step_moves step true f.brings)) other (n + 1) steps t.0 new fault) e
-            (trail_alike i (all_made (by_digests i) d (step_moves step true (fates n).brings)) (n + 1) steps t.0 new fault
+            (λ (f : StepFate). IsTrail i (state_after_moves (digest_level i) d (step_moves step true f.brings)) other (n + 1) steps t.0 new fault) e
+            (trail_alike i (state_after_moves (digest_level i) d (step_moves step true (fates n).brings)) (n + 1) steps t.0 new fault
             (later_alike n h) r)) t.3,
       )
 
@@ -241,98 +241,98 @@ other_number : (m n : ℕ) → n + 1 ≤ m → (m == n) ≡ false
 other_number m n l = grind (arith, nat_tests)
 
 -- the first of the fates that were met, and the others
-met_first : (f : Fate) (rest : List Fate) (n : ℕ) (plan : Plan) → met (f ∷ rest) n plan n ≡ f
-met_first f rest n plan = ap (λ (t : Bool). if t then f else met rest (n + 1) plan n) (same_number n)
+met_first : (f : StepFate) (rest : List StepFate) (n : ℕ) (plan : Plan) → fates_before_plan (f ∷ rest) n plan n ≡ f
+met_first f rest n plan = ap (λ (t : Bool). if t then f else fates_before_plan rest (n + 1) plan n) (same_number n)
 
-met_later : (f : Fate) (rest : List Fate) (n : ℕ) (plan : Plan) → Alike (met rest (n + 1) plan) (met (f ∷ rest) n plan) (n + 1)
+met_later : (f : StepFate) (rest : List StepFate) (n : ℕ) (plan : Plan) → Alike (fates_before_plan rest (n + 1) plan) (fates_before_plan (f ∷ rest) n plan) (n + 1)
 met_later f rest n plan = λ (m : ℕ) (l : n + 1 ≤ m).
-    sym (ap (λ (t : Bool). if t then f else met rest (n + 1) plan m) (other_number m n l))
+    sym (ap (λ (t : Bool). if t then f else fates_before_plan rest (n + 1) plan m) (other_number m n l))
 
 -- The walk broke off by this fault, and the position that its last step would commit is kept where that had its effect.
-pub record BreaksOff (fates : ℕ → Fate) (n : ℕ) (walked : Walked) (fault : StepFault) (position : ℕ) (commits_to : Option ℕ) : Type 0
+pub record BreaksOff (fates : ℕ → StepFate) (n : ℕ) (walked : StepsWalk) (fault : StepFault) (position : ℕ) (commits_to : Option ℕ) : Type 0
   where
     pub broken : walked.broken ≡ Some fault
     pub before : ℕ
     pub steps : walked.steps ≡ suc before
-    pub kept : kept_at (commits walked.moves) position ≡ kept_by (fates (n + before)).ends commits_to
+    pub kept : position_if_committed (has_commit walked.moves) position ≡ kept_position (fates (n + before)).ends commits_to
 
 -- what is kept of a walk, by how its call ended
-abbrev pub Keeps : (ℕ → Fate) → ℕ → Walked → ℕ → Ended → Type 0
+abbrev pub Keeps : (ℕ → StepFate) → ℕ → StepsWalk → ℕ → AskResult → Type 0
 Keeps fates n walked position (Answered answer) = Unit {0}
 Keeps fates n walked position (Refused why) = fault_of why ≡ None
 Keeps fates n walked position (Broken fault commits_to) = BreaksOff fates n walked fault position commits_to
 
 -- Device steps made these steps of a walk, from the one of this number on.
-pub record Walks (i : Instance) (d : Digests) (fates : ℕ → Fate) (n : ℕ) (steps : List Step) (old new : Standing) (ended : Ended)
+pub record Walks (i : Instance) (d : Digests) (fates : ℕ → StepFate) (n : ℕ) (steps : List DeviceStep) (old new : Standing) (ended : AskResult)
     (position : ℕ) : Type 0 where
-  pub trail : Trail i d fates n steps old new (fault_in (result_of ended))
+  pub trail : IsTrail i d fates n steps old new (fault_in (result_of ended))
   pub keeps : Keeps fates n (walk fates n steps) position ended
 
 -- a step that is done before the others
-keeps_on : (ended : Ended) (fates other : ℕ → Fate) (n : ℕ) (step : Step) (steps : List Step) (position : ℕ) → Alike other fates (n + 1)
+keeps_on : (ended : AskResult) (fates other : ℕ → StepFate) (n : ℕ) (step : DeviceStep) (steps : List DeviceStep) (position : ℕ) → Alike other fates (n + 1)
     → (fates n).ends ≡ Done → (is_broken ended ≡ true → is_committing step ≡ false)
     → Keeps other (n + 1) (walk other (n + 1) steps) position ended → Keeps fates n (walk fates n (step ∷ steps)) position ended
 keeps_on (Answered answer) fates other n step steps position alike done plain k = tt
 keeps_on (Refused why) fates other n step steps position alike done plain k = k
 keeps_on (Broken fault commits_to) fates other n step steps position alike done plain k =
-    let w : Walked = walk other (n + 1) steps in
+    let w : StepsWalk = walk other (n + 1) steps in
     let v : List (List ℕ) = (fates n).brings in
-    rw done (subst (λ (x : Walked). BreaksOff fates n (after_step step v Done x) fault position commits_to)
+    rw done (subst (λ (x : StepsWalk). BreaksOff fates n (walk_from_step step v Done x) fault position commits_to)
     (walk_alike other fates (n + 1) steps alike) (record {
       broken = k.broken;
       before = suc k.before;
       steps = ap (λ (m : ℕ). suc m) k.steps;
       kept = rw (commits_either (step_moves step true v) w.moves, step_commits step true v, plain refl) (k.kept
-          ∙ ap (λ (f : Fate). kept_by f.ends commits_to) (alike (n + 1 + k.before) (omega arith)
+          ∙ ap (λ (f : StepFate). kept_position f.ends commits_to) (alike (n + 1 + k.before) (omega arith)
           ∙ ap fates (let e : n + 1 + k.before ≡ n + suc k.before = omega arith in e)));
     }))
 
-pub walks_on : (i : Instance) (d : Digests) (f : Fate) (rest : List Fate) (plan : Plan) (n : ℕ) (step : Step) (steps : List Step)
-    (old middle new : Standing) (ended : Ended) (position : ℕ) → Stepped i d f step old middle None
+pub walks_on : (i : Instance) (d : Digests) (f : StepFate) (rest : List StepFate) (plan : Plan) (n : ℕ) (step : DeviceStep) (steps : List DeviceStep)
+    (old middle new : Standing) (ended : AskResult) (position : ℕ) → StepIsMade i d f step old middle None
     → (is_broken ended ≡ true → is_committing step ≡ false)
-    → Walks i (all_made (by_digests i) d (step_moves step true f.brings)) (met rest (n + 1) plan) (n + 1) steps middle new ended position
-    → Walks i d (met (f ∷ rest) n plan) n (step ∷ steps) old new ended position
+    → Walks i (state_after_moves (digest_level i) d (step_moves step true f.brings)) (fates_before_plan rest (n + 1) plan) (n + 1) steps middle new ended position
+    → Walks i d (fates_before_plan (f ∷ rest) n plan) n (step ∷ steps) old new ended position
 walks_on i d f rest plan n step steps old middle new ended position s plain w =
-    let fates : ℕ → Fate = met (f ∷ rest) n plan in
+    let fates : ℕ → StepFate = fates_before_plan (f ∷ rest) n plan in
     let fault : Option StepFault = fault_in (result_of ended) in
     let first : f ≡ fates n = sym (met_first f rest n plan) in
     record {
       trail = trail_on i d fates n step steps old middle new fault
-          (subst (λ (x : Fate). Stepped i d x step old middle None) first s)
-          (subst (λ (x : Fate). Trail i (all_made (by_digests i) d (step_moves step true x.brings)) fates (n + 1) steps middle new fault)
+          (subst (λ (x : StepFate). StepIsMade i d x step old middle None) first s)
+          (subst (λ (x : StepFate). IsTrail i (state_after_moves (digest_level i) d (step_moves step true x.brings)) fates (n + 1) steps middle new fault)
           first
-          (trail_alike (met rest (n + 1) plan) fates i (all_made (by_digests i) d (step_moves step true f.brings)) (n + 1) steps middle new
+          (trail_alike (fates_before_plan rest (n + 1) plan) fates i (state_after_moves (digest_level i) d (step_moves step true f.brings)) (n + 1) steps middle new
           fault (met_later f rest n plan) w.trail));
-      keeps = keeps_on ended fates (met rest (n + 1) plan) n step steps position (met_later f rest n plan)
-          (ap (λ (x : Fate). x.ends) (sym first) ∙ s.ends) plain w.keeps;
+      keeps = keeps_on ended fates (fates_before_plan rest (n + 1) plan) n step steps position (met_later f rest n plan)
+          (ap (λ (x : StepFate). x.ends) (sym first) ∙ s.ends) plain w.keeps;
     }
 
 -- a step that fails
 kept_if : (committing is_made : Bool) (fault : StepFault) (position : ℕ)
-    → kept_at (if is_made then committing else false) position ≡ kept_by (Fails fault is_made) (if committing then Some position else None)
+    → position_if_committed (if is_made then committing else false) position ≡ kept_position (Fails fault is_made) (if committing then Some position else None)
 kept_if committing true fault position = refl
 kept_if committing false fault position = refl
 
-pub walks_fail : (i : Instance) (d : Digests) (f : Fate) (plan : Plan) (n : ℕ) (step : Step) (steps : List Step) (old new : Standing)
-    (fault : StepFault) (position : ℕ) → Stepped i d f step old new (Some fault)
-    → Walks i d (met (f ∷ []) n plan) n (step ∷ steps) old new (Broken fault (if is_committing step then Some position else None)) position
+pub walks_fail : (i : Instance) (d : Digests) (f : StepFate) (plan : Plan) (n : ℕ) (step : DeviceStep) (steps : List DeviceStep) (old new : Standing)
+    (fault : StepFault) (position : ℕ) → StepIsMade i d f step old new (Some fault)
+    → Walks i d (fates_before_plan (f ∷ []) n plan) n (step ∷ steps) old new (Broken fault (if is_committing step then Some position else None)) position
 walks_fail i d f plan n step steps old new fault position s =
-    let fates : ℕ → Fate = met (f ∷ []) n plan in
+    let fates : ℕ → StepFate = fates_before_plan (f ∷ []) n plan in
     let first : f ≡ fates n = sym (met_first f [] n plan) in
-    let ends : (fates n).ends ≡ Fails fault s.goes.is_made = ap (λ (x : Fate). x.ends) (sym first) ∙ s.ends in
+    let ends : (fates n).ends ≡ Fails fault s.goes.is_made = ap (λ (x : StepFate). x.ends) (sym first) ∙ s.ends in
     let commits_to : Option ℕ = if is_committing step then Some position else None in
     record {
-      trail = trail_fails i d fates n step steps old new fault (subst (λ (x : Fate). Stepped i d x step old new (Some fault)) first s);
+      trail = trail_fails i d fates n step steps old new fault (subst (λ (x : StepFate). StepIsMade i d x step old new (Some fault)) first s);
       keeps = subst
-          (λ (e : End). BreaksOff fates n (after_step step (fates n).brings e (walk fates (n + 1) steps)) fault position commits_to)
+          (λ (e : End). BreaksOff fates n (walk_from_step step (fates n).brings e (walk fates (n + 1) steps)) fault position commits_to)
           (sym ends) (record {
             broken = refl;
             before = 0;
             steps = refl;
-            kept = ap (λ (t : Bool). kept_at t position) (step_commits step s.goes.is_made (fates n).brings)
+            kept = ap (λ (t : Bool). position_if_committed t position) (step_commits step s.goes.is_made (fates n).brings)
                 ∙ kept_if (is_committing step) s.goes.is_made fault position
-                ∙ ap (λ (e : End). kept_by e commits_to) (sym ends)
-                ∙ ap (λ (m : ℕ). kept_by (fates m).ends commits_to) (let e : n ≡ n + 0 = omega arith in e);
+                ∙ ap (λ (e : End). kept_position e commits_to) (sym ends)
+                ∙ ap (λ (m : ℕ). kept_position (fates m).ends commits_to) (let e : n ≡ n + 0 = omega arith in e);
           });
     }
 
@@ -341,26 +341,26 @@ abbrev pub is_none : List Act → Bool
 is_none [] = true
 is_none (act ∷ acts) = false
 
-abbrev pub MakesAll : Instance → Digests → List Act → List Step → Type 0
+abbrev pub MakesAll : Instance → Digests → List Act → List DeviceStep → Type 0
 MakesAll i d [] [] = Unit {0}
 MakesAll i d (act ∷ acts) (step ∷ steps) =
     MakesStep i d act step × (is_committing step ≡ is_none acts)
-    × ((values : List (List ℕ)) → MakesAll i (all_made (by_digests i) d (step_moves step true values)) acts steps)
+    × ((values : List (List ℕ)) → MakesAll i (state_after_moves (digest_level i) d (step_moves step true values)) acts steps)
 MakesAll i d _ _ = ⊥
 
 committed_before : (acts : List Act) (answer : BatchAnswer) (t : Bool) → t ≡ is_none acts
-    → (if t then Some answer.position else None) ≡ commits_before acts answer
+    → (if t then Some answer.position else None) ≡ committed_position acts answer
 committed_before [] answer t e = rw e refl
 committed_before (act ∷ acts) answer t e = rw e refl
 
-plain_before : (acts : List Act) (answer : BatchAnswer) (old new : Standing) (ended : Ended) (t : Bool) → t ≡ is_none acts
-    → StepsTo acts answer old new ended → is_broken ended ≡ true → t ≡ false
+plain_before : (acts : List Act) (answer : BatchAnswer) (old new : Standing) (ended : AskResult) (t : Bool) → t ≡ is_none acts
+    → AreStepsToEnd acts answer old new ended → is_broken ended ≡ true → t ≡ false
 plain_before [] answer old new ended t e s broken = let clash : false ≡ true = ap is_broken (sym s.1) ∙ broken in absurd (cc)
 plain_before (act ∷ acts) answer old new ended t e s broken = e
 
-pub steps_walk : (acts : List Act) (answer : BatchAnswer) (old new : Standing) (ended : Ended) (i : Instance) (d : Digests)
-    (steps : List Step) (plan : Plan) (n : ℕ) → MakesAll i d acts steps → (s : StepsTo acts answer old new ended)
-    → Walks i d (met (steps_fates acts answer old new ended s) n plan) n steps old new ended answer.position
+pub steps_walk : (acts : List Act) (answer : BatchAnswer) (old new : Standing) (ended : AskResult) (i : Instance) (d : Digests)
+    (steps : List DeviceStep) (plan : Plan) (n : ℕ) → MakesAll i d acts steps → (s : AreStepsToEnd acts answer old new ended)
+    → Walks i d (fates_before_plan (steps_fates acts answer old new ended s) n plan) n steps old new ended answer.position
 steps_walk [] answer old new ended i d [] plan n m s =
     rw (s.0, s.1) (record { trail = (refl, refl); keeps = tt })
 steps_walk [] answer old new ended i d (step ∷ steps) plan n m s = absurd m
@@ -369,10 +369,10 @@ steps_walk (act ∷ acts) answer old new ended i d (step ∷ steps) plan n m (go
     walks_on i d (fate_of act old middle None g) (steps_fates acts answer middle new ended s) plan n step steps old middle new ended
     answer.position (stepped i d act step old middle None g m.0)
     (plain_before acts answer middle new ended (is_committing step) m.1 s)
-    (steps_walk acts answer middle new ended i (all_made (by_digests i) d (step_moves step true g.others)) steps plan (n + 1)
+    (steps_walk acts answer middle new ended i (state_after_moves (digest_level i) d (step_moves step true g.others)) steps plan (n + 1)
     (m.2 g.others) s)
 steps_walk (act ∷ acts) answer old new ended i d (step ∷ steps) plan n m (breaks_off fault g e) =
-    let f : Fate = fate_of act old new (Some fault) g in
-    subst (λ (v : Ended). Walks i d (met (f ∷ []) n plan) n (step ∷ steps) old new v answer.position)
+    let f : StepFate = fate_of act old new (Some fault) g in
+    subst (λ (v : AskResult). Walks i d (fates_before_plan (f ∷ []) n plan) n (step ∷ steps) old new v answer.position)
     (ap (λ (p : Option ℕ). Broken fault p) (committed_before acts answer (is_committing step) m.1) ∙ sym e)
     (walks_fail i d f plan n step steps old new fault answer.position (stepped i d act step old new (Some fault) g m.0))

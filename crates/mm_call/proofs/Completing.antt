@@ -1,16 +1,16 @@
 -- A call that ended so over a platform is the call on a course, by digests and by lists.
 use Rattle.mm_call.proofs.Below.{◌≡◌, ℕ, ◌+◌, suc, Bool, true, false, List, [], ◌∷◌, map, Option, None, Some, Result, Ok, Err, IfOk, refl}
-use Rattle.mm_call.proofs.Below.{sym, ap, ◌∙◌, subst, arith, Variant, StepFault, Plan, Standing, Act, Goes, Meaning, Batch, normal, Content}
-use Rattle.mm_call.proofs.Below.{Instance, Move, Foreign, Digests, Step, Reads, ask_steps, BatchAnswer, Refusal, Long, Memory, Ended}
-use Rattle.mm_call.proofs.Below.{Answered, Refused, Broken, Breaks, called, ended_by, given_for, position_of, kept_at, CallOf, StepsTo}
-use Rattle.mm_call.proofs.Below.{EndsTo, AsksTo, Calls, IsCallSoFar, GoesBy, CallsOn, Course, Fate, Walked, walk, commits, result_of}
-use Rattle.mm_call.proofs.Below.{ended_with, refused_as, kept_by, KeepsAs, CallsTo, Found, is_fresh, CallsAgree, IsUntouched}
-use Rattle.mm_call.proofs.Below.{LeavesUntouched, Blames, fault_handed, all_made, by_digests, fault_of, fault_in, instance_by, StandsAt}
-use Rattle.mm_call.proofs.Below.{met, told_by, begins_at, MakesStep}
+use Rattle.mm_call.proofs.Below.{sym, ap, ◌∙◌, subst, arith, Variant, StepFault, Plan, Standing, Act, StepGoes, Meaning, Batch, normal_batch, Content}
+use Rattle.mm_call.proofs.Below.{Instance, Move, Foreign, Digests, DeviceStep, Reads, ask_steps, BatchAnswer, Refusal, Long, Memory, AskResult}
+use Rattle.mm_call.proofs.Below.{Answered, Refused, Broken, Breaks, call_outcome, call_ending_by, result_of_ending, position_of, position_if_committed, CallKind, AreStepsToEnd}
+use Rattle.mm_call.proofs.Below.{EndsByFinding, IsCallToEnd, IsWholeCall, IsCallSoFar, CallGoesBy, IsCallOnCourse, Course, StepFate, StepsWalk, walk, has_commit, result_of}
+use Rattle.mm_call.proofs.Below.{end_by_fault, end_of_refusal, kept_position, KeepsPosition, EndsAsCall, CallFinding, is_fresh, CallsAgree, IsUntouched}
+use Rattle.mm_call.proofs.Below.{LeavesUntouched, CountsHandedFault, fault_handed, state_after_moves, digest_level, fault_of, fault_in, instance_by, StandsAt}
+use Rattle.mm_call.proofs.Below.{fates_before_plan, told_by, begins_at, MakesStep}
 use Rattle.std.specs.Result.{result_err}
-use Rattle.mm_platform.specs.Told.{next_plan}
+use Rattle.mm_platform.specs.PlannedSteps.{next_plan}
 use Rattle.mm_model.specs.Long.{is_long}
-use Rattle.mm_call.specs.Calls.{Commits}
+use Rattle.mm_call.specs.CallKind.{CommitsFinding}
 use Rattle.mm_call.proofs.Committing.{fate_of, steps_fates, ends_fates, Tale, steps_blamed, Given, steps_give, Walks, walks_on, walks_fail}
 use Rattle.mm_call.proofs.Committing.{MakesAll, steps_walk, refused_result}
 use Rattle.mm_call.proofs.Going.{continues_by, sees, finds, went}
@@ -18,33 +18,33 @@ use Rattle.mm_call.proofs.Going.{continues_by, sees, finds, went}
 -- What a call comes to by digests
 
 -- an accepted offer, and the answer to it
-pub record Accepts (i : Instance) (seen : Digests) (b : Batch) (x : Result Found Refusal) (again : Bool) (answer : BatchAnswer) : Type 0
+pub record Accepts (i : Instance) (seen : Digests) (b : Batch) (x : Result CallFinding Refusal) (again : Bool) (answer : BatchAnswer) : Type 0
   where
     pub offered : Content
     pub found_is : x ≡ Ok (record { offered = offered; again = again })
-    pub answer_is : answer ≡ (by_digests i).answer again seen seen offered b
+    pub answer_is : answer ≡ (digest_level i).answer again seen seen offered b
 
 -- What a call came to from these digests, from the step of this number on, by what it finds: its walk, and what it gives.
-pub record Told (i : Instance) (d seen : Digests) (fates : ℕ → Fate) (n : ℕ) (steps : List Step) (b : Batch) (x : Result Found Refusal)
-    (old new : Standing) (ended : Ended) : Type 0 where
+pub record Told (i : Instance) (d seen : Digests) (fates : ℕ → StepFate) (n : ℕ) (steps : List DeviceStep) (b : Batch) (x : Result CallFinding Refusal)
+    (old new : Standing) (ended : AskResult) : Type 0 where
   pub position : ℕ
-  pub position_is : (s : Digests) → position_of (by_digests i) seen s b x ≡ position
+  pub position_is : (s : Digests) → position_of (digest_level i) seen s b x ≡ position
   pub walks : Walks i d fates n steps old new ended position
   pub gives : (s : Digests) (moves : List Move)
-      → result_of ended ≡ given_for (ended_by (by_digests i) seen s b x moves (fault_in (result_of ended)))
+      → result_of ended ≡ result_of_ending (call_ending_by (digest_level i) seen s b x moves (fault_in (result_of ended)))
 
-same_position : (i : Instance) (d seen s : Digests) (b : Batch) (x : Result Found Refusal)
-    → position_of (by_digests i) seen s b x ≡ position_of (by_digests i) seen d b x
+same_position : (i : Instance) (d seen s : Digests) (b : Batch) (x : Result CallFinding Refusal)
+    → position_of (digest_level i) seen s b x ≡ position_of (digest_level i) seen d b x
 same_position i d seen s b (Ok it) = refl
 same_position i d seen s b (Err why) = refl
 
 -- a reading step that is done, and one that fails
-module _ (i : Instance) (d seen : Digests) (plan : Plan) (n : ℕ) (steps : List Step) (b : Batch) (x : Result Found Refusal)
+module _ (i : Instance) (d seen : Digests) (plan : Plan) (n : ℕ) (steps : List DeviceStep) (b : Batch) (x : Result CallFinding Refusal)
     (act : Act) (makes : MakesStep i d act Reads) (old after middle new : Standing) (room : middle ≡ record after { spare = middle.spare })
   where
-    pub told_on : (rest : List Fate) (ended : Ended) → (g : Goes act old after None)
-        → Told i (all_made (by_digests i) d (map Foreign g.others)) seen (met rest (n + 1) plan) (n + 1) steps b x middle new ended
-        → Told i d seen (met (fate_of act old after None g ∷ rest) n plan) n (Reads ∷ steps) b x old new ended
+    pub told_on : (rest : List StepFate) (ended : AskResult) → (g : StepGoes act old after None)
+        → Told i (state_after_moves (digest_level i) d (map Foreign g.others)) seen (fates_before_plan rest (n + 1) plan) (n + 1) steps b x middle new ended
+        → Told i d seen (fates_before_plan (fate_of act old after None g ∷ rest) n plan) n (Reads ∷ steps) b x old new ended
     told_on rest ended g t = record {
       position = t.position;
       position_is = t.position_is;
@@ -53,19 +53,19 @@ module _ (i : Instance) (d seen : Digests) (plan : Plan) (n : ℕ) (steps : List
       gives = t.gives;
     }
 
-    pub told_fails : (fault : StepFault) → (g : Goes act old after (Some fault)) → new ≡ middle
-        → Told i d seen (met (fate_of act old after (Some fault) g ∷ []) n plan) n (Reads ∷ steps) b x old new (Broken fault None)
+    pub told_fails : (fault : StepFault) → (g : StepGoes act old after (Some fault)) → new ≡ middle
+        → Told i d seen (fates_before_plan (fate_of act old after (Some fault) g ∷ []) n plan) n (Reads ∷ steps) b x old new (Broken fault None)
     told_fails fault g e = rw e (record {
-      position = position_of (by_digests i) seen d b x;
+      position = position_of (digest_level i) seen d b x;
       position_is = λ (s : Digests). same_position i d seen s b x;
       walks = walks_fail i d (fate_of act old after (Some fault) g) plan n Reads steps old middle fault
-          (position_of (by_digests i) seen d b x)
+          (position_of (digest_level i) seen d b x)
           (record { act = act; after = after; goes = g; makes = makes; brings = refl; ends = refl; room = room });
       gives = λ (s : Digests) (moves : List Move). refl;
     })
 
 -- a refusal that hands no fault on
-told_refused : (i : Instance) (d seen : Digests) (fates : ℕ → Fate) (n : ℕ) (b : Batch) (why : Refusal) (old : Standing)
+told_refused : (i : Instance) (d seen : Digests) (fates : ℕ → StepFate) (n : ℕ) (b : Batch) (why : Refusal) (old : Standing)
     → fault_of why ≡ None → Told i d seen fates n [] b (Err why) old old (Refused why)
 told_refused i d seen fates n b why old quiet = record {
   position = 0;
@@ -76,59 +76,59 @@ told_refused i d seen fates n b why old quiet = record {
 }
 
 -- the steps that commit what was found
-gives_as : (ended : Ended) (i : Instance) (seen s : Digests) (b : Batch) (it : Found) (moves : List Move) (answer : BatchAnswer)
-    → Given answer ended → answer ≡ (by_digests i).answer it.again seen s it.offered b
-    → result_of ended ≡ given_for (ended_by (by_digests i) seen s b (Ok it) moves (fault_in (result_of ended)))
+gives_as : (ended : AskResult) (i : Instance) (seen s : Digests) (b : Batch) (it : CallFinding) (moves : List Move) (answer : BatchAnswer)
+    → Given answer ended → answer ≡ (digest_level i).answer it.again seen s it.offered b
+    → result_of ended ≡ result_of_ending (call_ending_by (digest_level i) seen s b (Ok it) moves (fault_in (result_of ended)))
 gives_as (Answered given) i seen s b it moves answer g e = ap (λ (v : BatchAnswer). Ok v) (g ∙ e)
 gives_as (Refused why) i seen s b it moves answer g e = absurd g
 gives_as (Broken fault position) i seen s b it moves answer g e = refl
 
-told_found : (acts : List Act) (answer : BatchAnswer) (old new : Standing) (ended : Ended) (i : Instance) (d seen : Digests)
-    (steps : List Step) (b : Batch) (x : Result Found Refusal) (again : Bool) (plan : Plan) (n : ℕ) → Accepts i seen b x again answer
-    → MakesAll i d acts steps → (s : StepsTo acts answer old new ended)
-    → Told i d seen (met (steps_fates acts answer old new ended s) n plan) n steps b x old new ended
+told_found : (acts : List Act) (answer : BatchAnswer) (old new : Standing) (ended : AskResult) (i : Instance) (d seen : Digests)
+    (steps : List DeviceStep) (b : Batch) (x : Result CallFinding Refusal) (again : Bool) (plan : Plan) (n : ℕ) → Accepts i seen b x again answer
+    → MakesAll i d acts steps → (s : AreStepsToEnd acts answer old new ended)
+    → Told i d seen (fates_before_plan (steps_fates acts answer old new ended s) n plan) n steps b x old new ended
 told_found acts answer old new ended i d seen steps b x again plan n a makes s =
-    let it : Found = record { offered = a.offered; again = again } in
+    let it : CallFinding = record { offered = a.offered; again = again } in
     record {
       position = answer.position;
-      position_is = λ (t : Digests). ap (λ (y : Result Found Refusal). position_of (by_digests i) seen t b y) a.found_is
+      position_is = λ (t : Digests). ap (λ (y : Result CallFinding Refusal). position_of (digest_level i) seen t b y) a.found_is
           ∙ ap (λ (v : BatchAnswer). v.position) (sym a.answer_is);
       walks = steps_walk acts answer old new ended i d steps plan n makes s;
       gives = λ (t : Digests) (moves : List Move).
           gives_as ended i seen t b it moves answer (steps_give acts answer old new ended s) a.answer_is
-          ∙ ap (λ (y : Result Found Refusal). given_for (ended_by (by_digests i) seen t b y moves (fault_in (result_of ended))))
+          ∙ ap (λ (y : Result CallFinding Refusal). result_of_ending (call_ending_by (digest_level i) seen t b y moves (fault_in (result_of ended))))
           (sym a.found_is);
     }
 
 -- What was found is what the call finds by digests, and its device steps make these steps of the walk.
-abbrev pub AsFound : {F : Type 0} → CallOf F → Instance → Digests → Batch → Result Found Refusal → Result F Refusal → List Step → Type 0
+abbrev pub AsFound : {F : Type 0} → CallKind F → Instance → Digests → Batch → Result CallFinding Refusal → Result F Refusal → List DeviceStep → Type 0
 AsFound c i seen b x (Err why) steps = (x ≡ Err why) × (steps ≡ [])
 AsFound c i seen b x (Ok found) steps =
     (again : Bool) × Accepts i seen b x again (c.answer found) × MakesAll i seen (c.acts found) steps
 
 -- the last reading step, and the steps that commit what was found
-module _ (i : Instance) (d : Digests) (plan : Plan) (n : ℕ) (steps : List Step) (b : Batch) (x : Result Found Refusal)
+module _ (i : Instance) (d : Digests) (plan : Plan) (n : ℕ) (steps : List DeviceStep) (b : Batch) (x : Result CallFinding Refusal)
     (act : Act) (makes : MakesStep i d act Reads) (old after middle new : Standing) (room : middle ≡ record after { spare = middle.spare })
   where
     abbrev seen_by : List (List ℕ) → Digests
-    seen_by values = all_made (by_digests i) d (map Foreign values)
+    seen_by values = state_after_moves (digest_level i) d (map Foreign values)
 
-    pub refused_reading : (seen : Digests) (fault : Option StepFault) (why : Refusal) (ended : Ended) → fault_of why ≡ fault
-        → (g : Goes act old after fault) → (new ≡ middle) × (ended ≡ ended_with fault why)
+    pub refused_reading : (seen : Digests) (fault : Option StepFault) (why : Refusal) (ended : AskResult) → fault_of why ≡ fault
+        → (g : StepGoes act old after fault) → (new ≡ middle) × (ended ≡ end_by_fault fault why)
         → (fault ≡ None → (x ≡ Err why) × (steps ≡ []))
-        → Told i d seen (met (fate_of act old after fault g ∷ []) n plan) n (Reads ∷ steps) b x old new ended
+        → Told i d seen (fates_before_plan (fate_of act old after fault g ∷ []) n plan) n (Reads ∷ steps) b x old new ended
     refused_reading seen (Some fault) why ended loud g e so =
         rw e.1 (told_fails i d seen plan n steps b x act makes old after middle new room fault g e.0)
     refused_reading seen None why ended quiet g e so =
         rw ((so refl).0, (so refl).1, e.0, e.1)
         (told_on i d seen plan n [] b (Err why) act makes old after middle middle room [] (Refused why) g
-        (told_refused i (seen_by g.others) seen (met [] (n + 1) plan) (n + 1) b why middle quiet))
+        (told_refused i (seen_by g.others) seen (fates_before_plan [] (n + 1) plan) (n + 1) b why middle quiet))
 
-    pub told_reading : {F : Type 0} → (c : CallOf F) (found : Result F Refusal) (ended : Ended) → (g : Goes act old after (fault_in found))
-        → (e : EndsTo c found middle new ended)
-        → (fault_in found ≡ None → AsFound c i (all_made (by_digests i) d (map Foreign g.others)) b x found steps)
-        → Told i d (all_made (by_digests i) d (map Foreign g.others))
-        (met (fate_of act old after (fault_in found) g ∷ ends_fates c found middle new ended e) n plan) n (Reads ∷ steps) b x old new ended
+    pub told_reading : {F : Type 0} → (c : CallKind F) (found : Result F Refusal) (ended : AskResult) → (g : StepGoes act old after (fault_in found))
+        → (e : EndsByFinding c found middle new ended)
+        → (fault_in found ≡ None → AsFound c i (state_after_moves (digest_level i) d (map Foreign g.others)) b x found steps)
+        → Told i d (state_after_moves (digest_level i) d (map Foreign g.others))
+        (fates_before_plan (fate_of act old after (fault_in found) g ∷ ends_fates c found middle new ended e) n plan) n (Reads ∷ steps) b x old new ended
     told_reading c (Err why) ended g e so = refused_reading (seen_by g.others) (fault_of why) why ended refl g e so
     told_reading c (Ok found) ended g e so =
         let a = so refl in
@@ -148,63 +148,63 @@ abbrev pub lacks_in : {F : Type 0} → Result F Refusal → Bool
 lacks_in (Ok found) = false
 lacks_in (Err why) = is_memory why
 
-abbrev pub course_by : List Fate → Standing → Bool → Course
-course_by fates old lacks = record { fates = met fates 1 (next_plan old); lacks = lacks }
+abbrev pub course_by : List StepFate → Standing → Bool → Course
+course_by fates old lacks = record { fates = fates_before_plan fates 1 (next_plan old); lacks = lacks }
 
 -- what a call came to from these digests, on this course
-abbrev pub GoesTo : Instance → Digests → Course → List ℕ → Batch → Standing → Standing → Ended → Type 0
+abbrev pub GoesTo : Instance → Digests → Course → List ℕ → Batch → Standing → Standing → AskResult → Type 0
 GoesTo i d c offer b old new ended =
     Told i d (sees i d c) c.fates 1 (ask_steps i.variant d.flag (is_fresh (finds i d c offer b)) b) b (finds i d c offer b) old new ended
 
-goes_by : (i : Instance) (d : Digests) (c : Course) (offer : List ℕ) (b : Batch) (old new : Standing) (ended : Ended) → StandsAt i old d
-    → GoesTo i d c offer b old new ended → GoesBy i d (called i (by_digests i) d c offer b) old new (result_of ended)
+goes_by : (i : Instance) (d : Digests) (c : Course) (offer : List ℕ) (b : Batch) (old new : Standing) (ended : AskResult) → StandsAt i old d
+    → GoesTo i d c offer b old new ended → CallGoesBy i d (call_outcome i (digest_level i) d c offer b) old new (result_of ended)
 goes_by i d c offer b old new ended s t =
     went i d c offer b old new (result_of ended) (finds i d c offer b) (fault_in (result_of ended)) refl s t.walks.trail
-    (λ (moves : List Move). t.gives (all_made (by_digests i) d moves) moves)
+    (λ (moves : List Move). t.gives (state_after_moves (digest_level i) d moves) moves)
 
-keeps_by : (ended : Ended) (i : Instance) (d : Digests) (c : Course) (offer : List ℕ) (b : Batch) (old new : Standing)
-    → GoesTo i d c offer b old new ended → KeepsAs c.fates (called i (by_digests i) d c offer b) ended
+keeps_by : (ended : AskResult) (i : Instance) (d : Digests) (c : Course) (offer : List ℕ) (b : Batch) (old new : Standing)
+    → GoesTo i d c offer b old new ended → KeepsPosition c.fates (call_outcome i (digest_level i) d c offer b) ended
 keeps_by (Answered answer) i d c offer b old new t = tt
 keeps_by (Refused why) i d c offer b old new t = t.walks.keeps
 keeps_by (Broken fault commits_to) i d c offer b old new t =
-    let x : Result Found Refusal = finds i d c offer b in
-    let w : Walked = walk c.fates 1 (ask_steps i.variant d.flag (is_fresh x) b) in
-    let s : Digests = all_made (by_digests i) d w.moves in
+    let x : Result CallFinding Refusal = finds i d c offer b in
+    let w : StepsWalk = walk c.fates 1 (ask_steps i.variant d.flag (is_fresh x) b) in
+    let s : Digests = state_after_moves (digest_level i) d w.moves in
     let k = t.walks.keeps in
     let count : 1 + k.before ≡ suc k.before = omega arith in
-    ap (λ (f : Option StepFault). ended_by (by_digests i) (sees i d c) s b x w.moves f) k.broken
-    ∙ ap (λ (p : ℕ). Breaks fault (kept_at (commits w.moves) p)) (t.position_is s)
+    ap (λ (f : Option StepFault). call_ending_by (digest_level i) (sees i d c) s b x w.moves f) k.broken
+    ∙ ap (λ (p : ℕ). Breaks fault (position_if_committed (has_commit w.moves) p)) (t.position_is s)
     ∙ ap (λ (p : Option ℕ). Breaks fault p) k.kept
-    ∙ ap (λ (m : ℕ). Breaks fault (kept_by (c.fates m).ends commits_to)) (count ∙ sym k.steps)
+    ∙ ap (λ (m : ℕ). Breaks fault (kept_position (c.fates m).ends commits_to)) (count ∙ sym k.steps)
 
-pub calls_to : (variant : Variant) (meaning : Meaning) (old new : Standing) (offer : List ℕ) (b : Batch) (ended : Ended)
-    (fates : List Fate) (lacks : Bool) → ((key barrier : List ℕ) → CallsAgree (instance_by variant meaning key barrier))
+pub calls_to : (variant : Variant) (meaning : Meaning) (old new : Standing) (offer : List ℕ) (b : Batch) (ended : AskResult)
+    (fates : List StepFate) (lacks : Bool) → ((key barrier : List ℕ) → CallsAgree (instance_by variant meaning key barrier))
     → Tale fates 0 old new ended
     → ((key barrier : List ℕ) (d : Digests) → StandsAt (instance_by variant meaning key barrier) old d
-    → GoesTo (instance_by variant meaning key barrier) d (course_by fates old lacks) offer (normal b) old new ended)
-    → CallsTo variant meaning old new offer b ended
+    → GoesTo (instance_by variant meaning key barrier) d (course_by fates old lacks) offer (normal_batch b) old new ended)
+    → EndsAsCall variant meaning old new offer b ended
 calls_to variant meaning old new offer b ended fates lacks agree tale to =
     let c : Course = course_by fates old lacks in
     let goes = λ (key barrier : List ℕ) (d : Digests) (s : StandsAt (instance_by variant meaning key barrier) old d).
-    goes_by (instance_by variant meaning key barrier) d c offer (normal b) old new ended s (to key barrier d s) in
+    goes_by (instance_by variant meaning key barrier) d c offer (normal_batch b) old new ended s (to key barrier d s) in
     record {
       calls = record {
         course = c;
         tells = told_by old fates (λ plan is_on known at. tale.met_all plan (begins_at old plan is_on known at));
         goes = goes;
         continues = λ key barrier y all others asked. continues_by (instance_by variant meaning key barrier) (agree key barrier) old new c
-            offer (normal b) (result_of ended) (goes key barrier) all others asked y;
+            offer (normal_batch b) (result_of ended) (goes key barrier) all others asked y;
       };
-      keeps = λ key barrier d s. keeps_by ended (instance_by variant meaning key barrier) d c offer (normal b) old new (to key barrier d s);
+      keeps = λ key barrier d s. keeps_by ended (instance_by variant meaning key barrier) d c offer (normal_batch b) old new (to key barrier d s);
       plans = λ plan is_on known at. tale.stays plan (begins_at old plan is_on known at);
     }
 
 -- What holds of each call
 
-module _ {F : Type 0} (c : CallOf F) (meaning : Meaning) (old new : Standing) (offer : List ℕ) (b : Batch) where
+module _ {F : Type 0} (c : CallKind F) (meaning : Meaning) (old new : Standing) (offer : List ℕ) (b : Batch) where
   -- a call that isn't too long
-  pub calls_from : (ended : Ended) (result : Result BatchAnswer Refusal) → is_long b ≡ false → AsksTo c meaning old new offer b ended
-      → result ≡ result_of ended → Calls c meaning old new offer b result
+  pub calls_from : (ended : AskResult) (result : Result BatchAnswer Refusal) → is_long b ≡ false → IsCallToEnd c meaning old new offer b ended
+      → result ≡ result_of ended → IsWholeCall c meaning old new offer b result
   calls_from ended result short a e = record {
     long = λ (long : is_long b ≡ true). absurd (cc);
     asks = λ (_ : is_long b ≡ false). record { ended = ended; asks = a; gives = e };
@@ -212,7 +212,7 @@ module _ {F : Type 0} (c : CallOf F) (meaning : Meaning) (old new : Standing) (o
 
   -- what holds of a call that is too long, and of one that isn't
   pub each_call : (P : Standing → Result BatchAnswer Refusal → Type 0) (result : Result BatchAnswer Refusal) → P old (Err Long)
-      → ((ended : Ended) → AsksTo c meaning old new offer b ended → P new (result_of ended)) → Calls c meaning old new offer b result
+      → ((ended : AskResult) → IsCallToEnd c meaning old new offer b ended → P new (result_of ended)) → IsWholeCall c meaning old new offer b result
       → P new result
   each_call P result long asked calls = by_length (is_long b) refl
     where
@@ -226,44 +226,44 @@ module _ {F : Type 0} (c : CallOf F) (meaning : Meaning) (old new : Standing) (o
 
   -- the reading steps of a call, with the steps that commit what they found, are the whole call
   pub so_far : (found : Result F Refusal)
-      → ((after : Standing) (ended : Ended) → AsksTo c meaning old after offer b ended
-      → CallsOn c.variant meaning old after offer b (result_of ended))
+      → ((after : Standing) (ended : AskResult) → IsCallToEnd c meaning old after offer b ended
+      → IsCallOnCourse c.variant meaning old after offer b (result_of ended))
       → c.reads meaning old new offer b found → IsCallSoFar c meaning old new offer b found
   so_far (Err why) on r =
-      subst (λ (x : Result BatchAnswer Refusal). CallsOn c.variant meaning old new offer b x) (refused_result why)
-      (on new (refused_as why) (record { middle = new; found = Err why; reads = r; ends = (refl, refl) }))
+      subst (λ (x : Result BatchAnswer Refusal). IsCallOnCourse c.variant meaning old new offer b x) (refused_result why)
+      (on new (end_of_refusal why) (record { middle = new; found = Err why; reads = r; ends = (refl, refl) }))
   so_far (Ok found) on r = λ (after : Standing) (written : Result BatchAnswer StepFault)
-      (k : Commits (c.acts found) (c.answer found) new after written).
-      subst (λ (x : Result BatchAnswer Refusal). CallsOn c.variant meaning old after offer b x) k.gives
+      (k : CommitsFinding (c.acts found) (c.answer found) new after written).
+      subst (λ (x : Result BatchAnswer Refusal). IsCallOnCourse c.variant meaning old after offer b x) k.gives
       (on after k.ended (record { middle = new; found = Ok found; reads = r; ends = k.ends }))
 
 -- a refusal, or what was given
-given_untouched : (ended : Ended) (answer : BatchAnswer) (old new : Standing) → Given answer ended
+given_untouched : (ended : AskResult) (answer : BatchAnswer) (old new : Standing) → Given answer ended
     → LeavesUntouched (result_of ended) old new
 given_untouched (Answered it) answer old new g = tt
 given_untouched (Refused why) answer old new g = absurd g
 given_untouched (Broken fault position) answer old new g = λ (h : Some fault ≡ None). absurd (cc)
 
-pub given_all : (P : BatchAnswer → Type 0) (ended : Ended) (answer : BatchAnswer) → Given answer ended → P answer
+pub given_all : (P : BatchAnswer → Type 0) (ended : AskResult) (answer : BatchAnswer) → Given answer ended → P answer
     → IfOk (result_of ended) P
 given_all P (Answered it) answer g p = subst P (sym g) p
 given_all P (Refused why) answer g p = absurd g
 given_all P (Broken fault position) answer g p = tt
 
 -- what holds of a call whose last step was done holds of it as it ended
-pub answered_result : (P : Standing → Result BatchAnswer Refusal → Type 0) (answer : BatchAnswer) (old new : Standing) (ended : Ended)
-    → StepsTo [] answer old new ended → P old (Ok answer) → P new (result_of ended)
+pub answered_result : (P : Standing → Result BatchAnswer Refusal → Type 0) (answer : BatchAnswer) (old new : Standing) (ended : AskResult)
+    → AreStepsToEnd [] answer old new ended → P old (Ok answer) → P new (result_of ended)
 answered_result P answer old new ended s p =
     rw s.0 (rw s.1 p)
 
-module _ {F : Type 0} (c : CallOf F) where
-  pub ends_result : (P : Standing → Result BatchAnswer Refusal → Type 0) (why : Refusal) (old new : Standing) (ended : Ended)
-      → EndsTo c (Err why) old new ended → P old (Err why) → P new (result_of ended)
+module _ {F : Type 0} (c : CallKind F) where
+  pub ends_result : (P : Standing → Result BatchAnswer Refusal → Type 0) (why : Refusal) (old new : Standing) (ended : AskResult)
+      → EndsByFinding c (Err why) old new ended → P old (Err why) → P new (result_of ended)
   ends_result P why old new ended e p =
       rw e.0 (rw (ap result_of e.1 ∙ refused_result why) p)
 
   -- what a call leaves, where its reading steps leave all untouched
-  pub ends_untouched : (found : Result F Refusal) (old middle new : Standing) (ended : Ended) → EndsTo c found middle new ended
+  pub ends_untouched : (found : Result F Refusal) (old middle new : Standing) (ended : AskResult) → EndsByFinding c found middle new ended
       → ((why : Refusal) → found ≡ Err why → fault_of why ≡ None → IsUntouched old middle) → LeavesUntouched (result_of ended) old new
   ends_untouched (Err why) old middle new ended e h =
       ends_result (λ (s : Standing) (r : Result BatchAnswer Refusal). LeavesUntouched r old s) why middle new ended e (h why refl)
@@ -272,7 +272,7 @@ module _ {F : Type 0} (c : CallOf F) where
 
 -- who is to blame, where only the steps that commit were made
 pub commits_blamed : (acts : List Act) (answer : BatchAnswer) (old new : Standing) (written : Result BatchAnswer StepFault)
-    → Commits acts answer old new written → Blames (result_err written) old.faults new.faults
+    → CommitsFinding acts answer old new written → CountsHandedFault (result_err written) old.faults new.faults
 commits_blamed acts answer old new written k =
-    subst (λ (f : Option StepFault). Blames f old.faults new.faults) (ap fault_in k.gives ∙ fault_handed written)
+    subst (λ (f : Option StepFault). CountsHandedFault f old.faults new.faults) (ap fault_in k.gives ∙ fault_handed written)
     (steps_blamed acts answer old new k.ended k.ends)

@@ -2,19 +2,19 @@
 -- history.
 use Rattle.mm_call.proofs.Below.{ℕ, ◌≡◌, ◌+◌, Bool, true, false, ◌&&◌, List, [], ◌∷◌, ◌++◌, Option, Result, Ok, Err, refl, sym, ap, ◌∙◌}
 use Rattle.mm_call.proofs.Below.{subst, arith, if◌then◌else◌, nat_eq, nat_le, bytes_eq, last_position, zero_bytes, Meaning, state_after}
-use Rattle.mm_call.proofs.Below.{Batch, size_of, parts_of, Content, Snapshot, tag_of, Instance, basic, History, Entry, requests_of}
-use Rattle.mm_call.proofs.Below.{total_of, joined, Life, Live, life_of, is_lost, is_last, judged, judge, IsPlaceOf, Names, Within, IsClear}
+use Rattle.mm_call.proofs.Below.{Batch, size_of, parts_of, Content, Snapshot, tag_of, Instance, basic_instance, History, RegisterEntry, requests_of}
+use Rattle.mm_call.proofs.Below.{total_of, items_of_all, Life, Live, life_of, is_lost, is_last, verdict_by_tests, verdict_on, IsPlaceOf, NamesPosition, AreMessagesIn, IsClear}
 use Rattle.mm_call.proofs.Below.{AreNoGuards, history_messages, offer_messages, values_in, Digests, IsGenuine, IsRight, Refusal, at_the_end}
-use Rattle.mm_call.proofs.Below.{before_the_last, right_content, Found, found_by_verdict, found_at, found_with, by_lists, by_digests}
-use Rattle.mm_call.proofs.Below.{Agrees, IsPlain, right_messages, Contains, AllByRecursion, Opt, opt, life_by, is_empty, are_own, has_value}
-use Rattle.mm_call.proofs.Below.{counting, opt_is_judged, lost_is_zero, Place, IsClearFor, live_parts, LiveParts}
+use Rattle.mm_call.proofs.Below.{before_the_last, right_content, CallFinding, finding_by_verdict, finding_at, finding_with, list_level, digest_level}
+use Rattle.mm_call.proofs.Below.{DigestsAgree, IsPlain, right_messages, Contains, AllByRecursion, Opt, opt_instance, life_by, is_empty, are_own, has_value}
+use Rattle.mm_call.proofs.Below.{counted_entries, opt_is_judged, lost_is_zero, Place, IsClearFor, live_parts, LiveParts}
 use Rattle.mm_seal.specs.declared.snapshot.PartsFault.{PartsFault}
 use Rattle.mm_seal.specs.declared.snapshot.PartsFault.TheVariants.{Form, Kind}
 use Rattle.mm_model.specs.declared.verdict.Verdict.{Verdict}
 use Rattle.mm_model.specs.declared.verdict.Verdict.TheVariants.{Fresh}
 use Rattle.mm_model.specs.BasicLaws.{basic_is_judged}
-use Rattle.mm_call.specs.Order.{admitted, examined}
-use Rattle.mm_call.specs.OrderWords.{weighed}
+use Rattle.mm_call.specs.Order.{check_of_verdict, check_of_offer}
+use Rattle.mm_call.specs.OrderWords.{check_by_tests}
 use Rattle.mm_call.specs.WeighingLaws.{weighed_alike}
 use Rattle.mm_call.specs.OfferLaws.{is_right, right_is}
 use Rattle.std.proofs.lemmas.List.Elements.{All-contains, All-from_recursion}
@@ -24,42 +24,42 @@ use Rattle.mm_model.specs.declared.refusal.Refusal.TheVariants as refusal
 -- what is asked of an offer at a state, and what is known of it
 pub record Asking (all : List (List ℕ)) (i : Instance) (y : History) (bytes : List ℕ) (b : Batch) : Type 0 where
   pub clear : IsClear all
-  pub listed : Within (right_messages i b (right_content i bytes)) all
+  pub listed : AreMessagesIn (right_messages i b (right_content i bytes)) all
   pub genuine : IsGenuine i y bytes
 
 -- What an accepted offer tells.
 
-pub admitted_tells : (here repeat fits again : Bool) → admitted (judged Live here repeat) fits ≡ Ok again
+pub admitted_tells : (here repeat fits again : Bool) → check_of_verdict (verdict_by_tests Live here repeat) fits ≡ Ok again
     → (again ≡ false → here ≡ true) × (again ≡ true → repeat ≡ true)
 admitted_tells true repeat true again e = (λ _. refl, λ a. cc)
 admitted_tells false true true again e = (λ a. cc, λ _. refl)
 admitted_tells _ _ fits again e = cc
 
-admitted_lives : (life : Life) (here repeat fits again : Bool) → admitted (judged life here repeat) fits ≡ Ok again → life ≡ Live
+admitted_lives : (life : Life) (here repeat fits again : Bool) → check_of_verdict (verdict_by_tests life here repeat) fits ≡ Ok again → life ≡ Live
 admitted_lives Live here repeat fits again e = refl
 admitted_lives _ here repeat fits again e = cc
 
-pub weighed_tells : (spelled tagged : Bool) (v : Verdict) (fits again : Bool) → weighed spelled tagged v fits ≡ Ok again
-    → (spelled ≡ true) × (tagged ≡ true) × (admitted v fits ≡ Ok again)
+pub weighed_tells : (spelled tagged : Bool) (v : Verdict) (fits again : Bool) → check_by_tests spelled tagged v fits ≡ Ok again
+    → (spelled ≡ true) × (tagged ≡ true) × (check_of_verdict v fits ≡ Ok again)
 weighed_tells true true v fits again e = (refl, refl, e)
 weighed_tells _ _ v fits again e = cc
 
-pub found_with_tells : (offered : Content) (examination : Result Bool Refusal) (found : Found) → found_with offered examination ≡ Ok found
+pub found_with_tells : (offered : Content) (examination : Result Bool Refusal) (found : CallFinding) → finding_with offered examination ≡ Ok found
     → (found.offered ≡ offered) × (examination ≡ Ok found.again)
 found_with_tells offered (Ok again) found e =
     let same : record { offered = offered; again = again } ≡ found = cc in
-    (ap (λ (f : Found). f.offered) (sym same), ap (λ (f : Found). Ok f.again) same)
+    (ap (λ (f : CallFinding). f.offered) (sym same), ap (λ (f : CallFinding). Ok f.again) same)
 found_with_tells offered (Err why) found e = cc
 
 -- where power was lost nothing is found
-pub unless_lost : (lost : Bool) (found : Result Found Refusal) (f : Found) → (if lost then Err refusal.Lost else found) ≡ Ok f
+pub unless_lost : (lost : Bool) (found : Result CallFinding Refusal) (f : CallFinding) → (if lost then Err refusal.Lost else found) ≡ Ok f
     → found ≡ Ok f
 unless_lost true found f e = cc
 unless_lost false found f e = e
 
 module _ (i : Instance) (y : History) (bytes : List ℕ) (b : Batch) where
   -- the history is live, the offer right, and its position the last one, or the one before the batch that is asked again
-  pub record Accepted (found : Found) : Type 0 where
+  pub record Accepted (found : CallFinding) : Type 0 where
     pub live : life_of i.variant y ≡ Live
     pub read : (snapshot : Snapshot) × (parts_of i.variant i.meaning.id bytes ≡ Ok snapshot) × (found.offered ≡ snapshot.content)
     pub spelled : i.meaning.is_spelled read.0.content.state ≡ true
@@ -68,19 +68,19 @@ module _ (i : Instance) (y : History) (bytes : List ℕ) (b : Batch) where
     pub repeats : found.again ≡ true
         → nat_eq (found.offered.position + size_of b) (total_of y.batches) && is_last y.batches b ≡ true
 
-  accepted_from : (parts : Result Snapshot PartsFault) → parts_of i.variant i.meaning.id bytes ≡ parts → (found : Found)
-      → found_by_verdict i (by_lists i) y b parts ≡ Ok found → Accepted found
+  accepted_from : (parts : Result Snapshot PartsFault) → parts_of i.variant i.meaning.id bytes ≡ parts → (found : CallFinding)
+      → finding_by_verdict i (list_level i) y b parts ≡ Ok found → Accepted found
   accepted_from (Err Form) e found is = cc
   accepted_from (Err Kind) e found is = cc
   accepted_from (Ok snapshot) e found is =
       let content = snapshot.content in
-      let t = found_with_tells content (examined i.meaning i.key snapshot b (judge i.variant y content.position b)) found is in
+      let t = found_with_tells content (check_of_offer i.meaning i.key snapshot b (verdict_on i.variant y content.position b)) found is in
       let w = weighed_tells (i.meaning.is_spelled content.state) (bytes_eq snapshot.tag (tag_of i.key content)) _ _ found.again t.1 in
       let here = nat_eq content.position (total_of y.batches) in
       let repeat = nat_eq (content.position + size_of b) (total_of y.batches) && is_last y.batches b in
       let fits = nat_le (content.position + size_of b) last_position in
       let live = admitted_lives (life_of i.variant y) here repeat fits found.again w.2 in
-      let a = admitted_tells here repeat fits found.again (ap (λ l. admitted (judged l here repeat) fits) (sym live) ∙ w.2) in
+      let a = admitted_tells here repeat fits found.again (ap (λ l. check_of_verdict (verdict_by_tests l here repeat) fits) (sym live) ∙ w.2) in
       record {
         live = live;
         read = (snapshot, e, t.0);
@@ -90,43 +90,43 @@ module _ (i : Instance) (y : History) (bytes : List ℕ) (b : Batch) where
         repeats = λ x. ap (λ (c : Content). nat_eq (c.position + size_of b) (total_of y.batches) && is_last y.batches b) t.0 ∙ a.1 x;
       }
 
-  pub accepted : (found : Found) → found_at i (by_lists i) y b bytes ≡ Ok found → Accepted found
+  pub accepted : (found : CallFinding) → finding_at i (list_level i) y b bytes ≡ Ok found → Accepted found
   accepted found is =
       accepted_from (parts_of i.variant i.meaning.id bytes) refl found (unless_lost (is_lost (life_of i.variant y)) _ found is)
 
   -- it was rightly offered
-  pub right_at : (found : Found) → found_at i (by_lists i) y b bytes ≡ Ok found → IsRight i bytes found.offered
+  pub right_at : (found : CallFinding) → finding_at i (list_level i) y b bytes ≡ Ok found → IsRight i bytes found.offered
   right_at found is =
       let a = accepted found is in
       rw a.read.2 (is_right i bytes a.read.0 a.read.1 a.spelled a.tagged)
 
 -- What is found is at the end of the history, or before its last batch, which is then the one that is asked.
-pub record Placed (all : List (List ℕ)) (i : Instance) (y : History) (b : Batch) (found : Found) : Type 0 where
+pub record Placed (all : List (List ℕ)) (i : Instance) (y : History) (b : Batch) (found : CallFinding) : Type 0 where
   pub named : List Batch
   pub position : found.offered.position ≡ total_of named
   pub state : found.offered.state ≡ state_after i.meaning (requests_of named)
   pub place : IsPlaceOf i.variant i y named found.offered.place
-  pub listed : Within (offer_messages i found.offered.place b) all
+  pub listed : AreMessagesIn (offer_messages i found.offered.place b) all
   pub live : life_of i.variant y ≡ Live
-  pub names : Names i y found.offered
-  pub is_fresh : found.again ≡ false → judge i.variant y found.offered.position b ≡ Fresh
+  pub names : NamesPosition i y found.offered
+  pub is_fresh : found.again ≡ false → verdict_on i.variant y found.offered.position b ≡ Fresh
   pub fresh : found.again ≡ false → named ≡ y.batches
   pub repeat : found.again ≡ true → named ++ b ∷ [] ≡ y.batches
 
 module _ (all : List (List ℕ)) (i : Instance) (y : History) (bytes : List ℕ) (b : Batch) where
   right_named : (snapshot : Snapshot) → Asking all i y bytes b → parts_of i.variant i.meaning.id bytes ≡ Ok snapshot
       → i.meaning.is_spelled snapshot.content.state ≡ true → bytes_eq snapshot.tag (tag_of i.key snapshot.content) ≡ true
-      → Names i y snapshot.content × Within (offer_messages i snapshot.content.place b) all
+      → NamesPosition i y snapshot.content × AreMessagesIn (offer_messages i snapshot.content.place b) all
   right_named snapshot asking e state tagged =
       let right = right_is i (parts_of i.variant i.meaning.id bytes) snapshot e state tagged in
-      let P : Option Content → Type 0 = λ c. Within (right_messages i b c) all in
+      let P : Option Content → Type 0 = λ c. AreMessagesIn (right_messages i b c) all in
       (asking.genuine snapshot.content (is_right i bytes snapshot e state tagged), subst P right asking.listed)
 
-  pub placed : Asking all i y bytes b → (found : Found) → found_at i (by_lists i) y b bytes ≡ Ok found → Placed all i y b found
+  pub placed : Asking all i y bytes b → (found : CallFinding) → finding_at i (list_level i) y b bytes ≡ Ok found → Placed all i y b found
   placed asking found is =
       let a = accepted i y bytes b found is in
       let right = right_named a.read.0 asking a.read.1 a.spelled a.tagged in
-      let names : Names i y found.offered = rw a.read.2 right.0 in
+      let names : NamesPosition i y found.offered = rw a.read.2 right.0 in
       record {
         named = names.named;
         position = names.position;
@@ -136,8 +136,8 @@ module _ (all : List (List ℕ)) (i : Instance) (y : History) (bytes : List ℕ)
         live = a.live;
         names = names;
         is_fresh = λ x. let repeat = nat_eq (found.offered.position + size_of b) (total_of y.batches) && is_last y.batches b in
-            ap (λ l. judged l (nat_eq found.offered.position (total_of y.batches)) repeat) a.live
-            ∙ ap (λ h. judged Live h repeat) (a.here x);
+            ap (λ l. verdict_by_tests l (nat_eq found.offered.position (total_of y.batches)) repeat) a.live
+            ∙ ap (λ h. verdict_by_tests Live h repeat) (a.here x);
         fresh = λ x. (at_the_end y.batches names.named names.rest names.first).0
             (ap (λ p. nat_eq p (total_of y.batches)) (sym names.position) ∙ a.here x);
         repeat = λ x. (before_the_last y.batches names.named names.rest b names.first).0
@@ -146,38 +146,38 @@ module _ (all : List (List ℕ)) (i : Instance) (y : History) (bytes : List ℕ)
 
   -- the verdict by digests on a right offer is the verdict on the history
   abbrev pub VerdictsAgree : Digests → Type 0
-  VerdictsAgree d = (offered : Content) → Within (offer_messages i offered.place b) all → Names i y offered
-      → (by_digests i).verdict d offered b ≡ (by_lists i).verdict y offered b
+  VerdictsAgree d = (offered : Content) → AreMessagesIn (offer_messages i offered.place b) all → NamesPosition i y offered
+      → (digest_level i).verdict d offered b ≡ (list_level i).verdict y offered b
 
   found_from_same : (d : Digests) (parts : Result Snapshot PartsFault) → parts_of i.variant i.meaning.id bytes ≡ parts
-      → Asking all i y bytes b → VerdictsAgree d → found_by_verdict i (by_digests i) d b parts ≡ found_by_verdict i (by_lists i) y b parts
+      → Asking all i y bytes b → VerdictsAgree d → finding_by_verdict i (digest_level i) d b parts ≡ finding_by_verdict i (list_level i) y b parts
   found_from_same d (Err Form) e asking same = refl
   found_from_same d (Err Kind) e asking same = refl
   found_from_same d (Ok snapshot) e asking same =
-      ap (found_with snapshot.content)
+      ap (finding_with snapshot.content)
       (weighed_alike (i.meaning.is_spelled snapshot.content.state) (bytes_eq snapshot.tag (tag_of i.key snapshot.content)) _ _ _
       (λ state tagged. let named = right_named snapshot asking e state tagged in same snapshot.content named.1 named.0))
 
-  pub found_by : (d : Digests) → Asking all i y bytes b → VerdictsAgree d → (by_digests i).is_lost d ≡ is_lost (life_of i.variant y)
-      → found_at i (by_digests i) d b bytes ≡ found_at i (by_lists i) y b bytes
+  pub found_by : (d : Digests) → Asking all i y bytes b → VerdictsAgree d → (digest_level i).is_lost d ≡ is_lost (life_of i.variant y)
+      → finding_at i (digest_level i) d b bytes ≡ finding_at i (list_level i) y b bytes
   found_by d asking same lost =
-      ap (λ f. if f then Err refusal.Lost else found_by_verdict i (by_digests i) d b (parts_of i.variant i.meaning.id bytes)) lost
+      ap (λ f. if f then Err refusal.Lost else finding_by_verdict i (digest_level i) d b (parts_of i.variant i.meaning.id bytes)) lost
       ∙ ap (λ x. if is_lost (life_of i.variant y) then Err refusal.Lost else x)
       (found_from_same d (parts_of i.variant i.meaning.id bytes) refl asking same)
 
 -- Basic
 
-no_counting : (barrier : List ℕ) (closed : List (List Entry)) (is_open : Bool) (items : List Entry) (batches : List Batch) → closed ≡ []
-    → is_open ≡ false → AreNoGuards barrier (values_in (joined closed ++ (if is_open then items else []))) batches
+no_counting : (barrier : List ℕ) (closed : List (List RegisterEntry)) (is_open : Bool) (items : List RegisterEntry) (batches : List Batch) → closed ≡ []
+    → is_open ≡ false → AreNoGuards barrier (values_in (items_of_all closed ++ (if is_open then items else []))) batches
 no_counting barrier closed is_open items batches none shut =
     rw (none, shut) (λ d b c e _. absurd (omega (arith, c.1)))
 
 pub basic_found_same : (meaning : Meaning) (key : List ℕ) (all : List (List ℕ)) (y : History) (d : Digests) (bytes : List ℕ) (b : Batch)
-    → Agrees (basic meaning key) y d → IsPlain y → Within (history_messages (basic meaning key) y) all → Asking all (basic meaning key) y bytes b
-    → found_at (basic meaning key) (by_digests (basic meaning key)) d b bytes
-    ≡ found_at (basic meaning key) (by_lists (basic meaning key)) y b bytes
+    → DigestsAgree (basic_instance meaning key) y d → IsPlain y → AreMessagesIn (history_messages (basic_instance meaning key) y) all → Asking all (basic_instance meaning key) y bytes b
+    → finding_at (basic_instance meaning key) (digest_level (basic_instance meaning key)) d b bytes
+    ≡ finding_at (basic_instance meaning key) (list_level (basic_instance meaning key)) y b bytes
 basic_found_same meaning key all y d bytes b agrees plain listed asking =
-    found_by all (basic meaning key) y bytes b d asking
+    found_by all (basic_instance meaning key) y bytes b d asking
     (λ offered called names. rw (agrees.flag, agrees.digest) (basic_is_judged meaning key d.register y offered b all
     (record {
       clear = asking.clear;
@@ -205,46 +205,46 @@ pub record IsApart (all others : List (List ℕ)) (asked : List Batch) (barrier 
 
 -- what a live history is
 abbrev pub IsLive : History → Type 0
-IsLive y = LiveParts y.is_open (is_empty y.items) (are_own y.items y.current) (has_value (joined y.closed))
+IsLive y = LiveParts y.is_open (is_empty y.items) (are_own y.items y.current) (has_value (items_of_all y.closed))
 
 pub lives : (y : History) → life_of Opt y ≡ Live → IsLive y
-lives y e = live_parts y.is_open (is_empty y.items) (are_own y.items y.current) (has_value (joined y.closed)) e
+lives y e = live_parts y.is_open (is_empty y.items) (are_own y.items y.current) (has_value (items_of_all y.closed)) e
 
 module _ (meaning : Meaning) (key barrier : List ℕ) where
   abbrev I : Instance
-  I = opt meaning key barrier
+  I = opt_instance meaning key barrier
 
   -- what is found is found in a live history
-  pub live_found : (y : History) (b : Batch) (bytes : List ℕ) (found : Found) → found_at I (by_lists I) y b bytes ≡ Ok found → IsLive y
+  pub live_found : (y : History) (b : Batch) (bytes : List ℕ) (found : CallFinding) → finding_at I (list_level I) y b bytes ≡ Ok found → IsLive y
   live_found y b bytes found is = lives y (accepted I y bytes b found is).live
 
   -- what is asked of the digests for a history and a call from it
   pub clear_for : (all others : List (List ℕ)) (asked : List Batch) (y : History) (d : Digests) (place : Place) (b : Batch)
-      → IsApart all others asked barrier → Holds all others asked I y d → Contains asked b → Within (offer_messages I place b) all
+      → IsApart all others asked barrier → Holds all others asked I y d → Contains asked b → AreMessagesIn (offer_messages I place b) all
       → IsClearFor all I y place b
   clear_for all others asked y d place b c h is_asked called = record {
     clear = c.clear;
     history = h.listed;
     call = called;
-    foreign = no_guards barrier others (values_in (counting y)) asked (b ∷ y.batches) c.apart h.outside (is_asked, h.batches);
+    foreign = no_guards barrier others (values_in (counted_entries y)) asked (b ∷ y.batches) c.apart h.outside (is_asked, h.batches);
   }
 
   verdict_same : (all others : List (List ℕ)) (asked : List Batch) (y : History) (d : Digests) (offered : Content) (b : Batch)
-      → IsApart all others asked barrier → Holds all others asked I y d → Contains asked b → Within (offer_messages I offered.place b) all
-      → Names I y offered → (by_digests I).verdict d offered b ≡ (by_lists I).verdict y offered b
+      → IsApart all others asked barrier → Holds all others asked I y d → Contains asked b → AreMessagesIn (offer_messages I offered.place b) all
+      → NamesPosition I y offered → (digest_level I).verdict d offered b ≡ (list_level I).verdict y offered b
   verdict_same all others asked y d offered b c h is_asked called names =
       rw (h.agrees.flag, h.agrees.digest, h.agrees.register)
       (opt_is_judged meaning key barrier y offered b all h.sound (clear_for all others asked y d offered.place b c h is_asked called) names)
 
   -- power was lost inside an open segment: the register reads zero
   pub lost_same : (all others : List (List ℕ)) (asked : List Batch) (y : History) (d : Digests) → IsClear all
-      → Holds all others asked I y d → (by_digests I).is_lost d ≡ (by_lists I).is_lost y
+      → Holds all others asked I y d → (digest_level I).is_lost d ≡ (list_level I).is_lost y
   lost_same all others asked y d c h =
       rw (h.agrees.flag, h.agrees.register) (lost_is_zero meaning key barrier y all c h.listed)
 
   pub found_same : (all others : List (List ℕ)) (asked : List Batch) (y : History) (d : Digests) (bytes : List ℕ) (b : Batch)
       → IsApart all others asked barrier → Contains asked b → Holds all others asked I y d → Asking all I y bytes b
-      → found_at I (by_digests I) d b bytes ≡ found_at I (by_lists I) y b bytes
+      → finding_at I (digest_level I) d b bytes ≡ finding_at I (list_level I) y b bytes
   found_same all others asked y d bytes b c is_asked h asking =
       found_by all I y bytes b d asking (λ offered called names. verdict_same all others asked y d offered b c h is_asked called names)
       (lost_same all others asked y d c.clear h)
@@ -255,4 +255,4 @@ held_by _ _ own marred e f = cc
 
 -- a segment that isn't lost has items
 pub not_lost : (y : History) → is_lost (life_of Opt y) ≡ false → y.is_open ≡ true → is_empty y.items ≡ false
-not_lost y e is_open = held_by y.is_open (is_empty y.items) (are_own y.items y.current) (has_value (joined y.closed)) e is_open
+not_lost y e is_open = held_by y.is_open (is_empty y.items) (are_own y.items y.current) (has_value (items_of_all y.closed)) e is_open

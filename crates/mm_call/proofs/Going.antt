@@ -1,32 +1,32 @@
 -- What a call comes to by digests, from the trail of its steps; and so by lists, under the law.
 use Rattle.mm_call.proofs.Below.{◌≡◌, ℕ, List, Result, Option, sym, ap, ◌∙◌, StepFault, Standing, Batch, Instance, Move, Digests, ask_steps}
-use Rattle.mm_call.proofs.Below.{BatchAnswer, Refusal, all_made, by_digests, Found, found_at, found_unless_wanting, is_fresh, Course}
-use Rattle.mm_call.proofs.Below.{Walked, walk, ended_by, called, seen_at, given_for, StandsAt, GoesBy, Trail, leads, refl, subst, Variant}
-use Rattle.mm_call.proofs.Below.{Basic, Opt, History, register_value_of, digests_of, RegisterStands, StandsFor, register_reads, by_lists}
-use Rattle.mm_call.proofs.Below.{Called, RegisterAt, IsAsked, CallContinues, CallsAgree}
+use Rattle.mm_call.proofs.Below.{BatchAnswer, Refusal, state_after_moves, digest_level, CallFinding, finding_at, finding_unless_wanting, is_fresh, Course}
+use Rattle.mm_call.proofs.Below.{StepsWalk, walk, call_ending_by, call_outcome, state_seen, result_of_ending, StandsAt, CallGoesBy, IsTrail, leads, refl, subst, Variant}
+use Rattle.mm_call.proofs.Below.{Basic, Opt, History, register_value_of, digests_of, RegisterStands, StandsFor, register_reading, list_level}
+use Rattle.mm_call.proofs.Below.{CallOutcome, RegisterStandsAt, IsAsked, CallContinues, CallsAgree}
 use Rattle.mm_call.proofs.OptHolding.{agrees_is, is_agrees}
 
 -- what the call sees at its last reading step
 abbrev pub sees : Instance → Digests → Course → Digests
-sees i d c = seen_at i (by_digests i) d c
+sees i d c = state_seen i (digest_level i) d c
 
 -- what it finds there
-abbrev pub finds : Instance → Digests → Course → List ℕ → Batch → Result Found Refusal
-finds i d c offer b = found_unless_wanting (found_at i (by_digests i) (sees i d c) b offer) c.lacks
+abbrev pub finds : Instance → Digests → Course → List ℕ → Batch → Result CallFinding Refusal
+finds i d c offer b = finding_unless_wanting (finding_at i (digest_level i) (sees i d c) b offer) c.lacks
 
 -- A call goes by digests, where it finds this and its steps are a trail that ends with this fault.
 pub went : (i : Instance) (d : Digests) (c : Course) (offer : List ℕ) (b : Batch) (old new : Standing)
-    (result : Result BatchAnswer Refusal) (found : Result Found Refusal) (fault : Option StepFault) → finds i d c offer b ≡ found
-    → StandsAt i old d → Trail i d c.fates 1 (ask_steps i.variant d.flag (is_fresh found) b) old new fault
+    (result : Result BatchAnswer Refusal) (found : Result CallFinding Refusal) (fault : Option StepFault) → finds i d c offer b ≡ found
+    → StandsAt i old d → IsTrail i d c.fates 1 (ask_steps i.variant d.flag (is_fresh found) b) old new fault
     →
-    ((moves : List Move) → result ≡ given_for (ended_by (by_digests i) (sees i d c) (all_made (by_digests i) d moves) b found moves fault))
-    → GoesBy i d (called i (by_digests i) d c offer b) old new result
+    ((moves : List Move) → result ≡ result_of_ending (call_ending_by (digest_level i) (sees i d c) (state_after_moves (digest_level i) d moves) b found moves fault))
+    → CallGoesBy i d (call_outcome i (digest_level i) d c offer b) old new result
 went i d c offer b old new result found fault e s t gives =
-    let w : Walked = walk c.fates 1 (ask_steps i.variant d.flag (is_fresh found) b) in
+    let w : StepsWalk = walk c.fates 1 (ask_steps i.variant d.flag (is_fresh found) b) in
     let l = leads i d c.fates 1 (ask_steps i.variant d.flag (is_fresh found) b) old new fault s t in
     rw e (record {
-      gives = gives w.moves ∙ ap (λ (f : Option StepFault). given_for
-          (ended_by (by_digests i) (sees i d c) (all_made (by_digests i) d w.moves) b found w.moves f)) (sym l.broken);
+      gives = gives w.moves ∙ ap (λ (f : Option StepFault). result_of_ending
+          (call_ending_by (digest_level i) (sees i d c) (state_after_moves (digest_level i) d w.moves) b found w.moves f)) (sym l.broken);
       stands = l.stands;
       items = l.items;
       steps = l.steps;
@@ -34,12 +34,12 @@ went i d c offer b old new result found fault e s t gives =
     })
 
 register_at : (variant : Variant) (i : Instance) (standing : Standing) (y : History) → RegisterStands variant i standing y
-    → RegisterAt variant (register_reads standing) (register_value_of i y)
+    → RegisterStandsAt variant (register_reading standing) (register_value_of i y)
 register_at Basic i standing y r = tt
 register_at Opt i standing y r = r
 
 register_stands : (variant : Variant) (i : Instance) (standing : Standing) (y : History)
-    → RegisterAt variant (register_reads standing) (register_value_of i y) → RegisterStands variant i standing y
+    → RegisterStandsAt variant (register_reading standing) (register_value_of i y) → RegisterStands variant i standing y
 register_stands Basic i standing y r = tt
 register_stands Opt i standing y r = r
 
@@ -52,17 +52,17 @@ stands_for i standing y s = record { spells = s.spells; cell = s.cell; register 
 
 pub continues_by : (i : Instance) → CallsAgree i → (old new : Standing) (course : Course) (offer : List ℕ) (b : Batch)
     (result : Result BatchAnswer Refusal)
-    → ((d : Digests) → StandsAt i old d → GoesBy i d (called i (by_digests i) d course offer b) old new result)
+    → ((d : Digests) → StandsAt i old d → CallGoesBy i d (call_outcome i (digest_level i) d course offer b) old new result)
     → (all others : List (List ℕ)) (asked : List Batch) (y : History) → StandsFor i old y
-    → IsAsked all others asked i y (called i (by_digests i) (digests_of i y) course offer b).moves offer b
-    → CallContinues all others asked i (called i (by_lists i) y course offer b) new result
+    → IsAsked all others asked i y (call_outcome i (digest_level i) (digests_of i y) course offer b).moves offer b
+    → CallContinues all others asked i (call_outcome i (list_level i) y course offer b) new result
 continues_by i law old new course offer b result goes all others asked y s a =
     let d : Digests = digests_of i y in
     let same = law all others asked y d course offer b (is_agrees i y d refl) a in
     let g = goes d (stands_at i old y s) in
-    let o : Called History = called i (by_lists i) y course offer b in record {
-      gives = g.gives ∙ ap given_for same.ending;
+    let o : CallOutcome History = call_outcome i (list_level i) y course offer b in record {
+      gives = g.gives ∙ ap result_of_ending same.ending;
       stands = stands_for i new o.state
-          (subst (StandsAt i new) (agrees_is i o.state (called i (by_digests i) d course offer b).state same.agrees) g.stands);
+          (subst (StandsAt i new) (agrees_is i o.state (call_outcome i (digest_level i) d course offer b).state same.agrees) g.stands);
       within = same.within;
     }

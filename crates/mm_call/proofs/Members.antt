@@ -1,7 +1,7 @@
 -- A batch that runs member by member.
 use Rattle.mm_call.proofs.Below.{◌≡◌, ℕ, ◌+◌, ◌<◌, List, [], ◌∷◌, ◌++◌, length, drop, Some, IsTrue, sym, ap, ◌∙◌, suc, add-one, drop-cons}
 use Rattle.mm_call.proofs.Below.{append_assoc, ◌≤◌, slice_get, Meaning, IsLawful, outputs_from, state_from, limit_of, state_from-is_spelled}
-use Rattle.mm_call.proofs.Below.{RanSome}
+use Rattle.mm_call.proofs.Below.{IsPartialRun}
 use Rattle.std.proofs.lemmas.Option.{slice_get_within, get_or_from_slice_get}
 
 pub drop_at : (xs : List (List ℕ)) (i : ℕ) (m : List ℕ) → slice_get xs i ≡ Some m → drop i xs ≡ m ∷ drop (i + 1) xs
@@ -11,9 +11,9 @@ drop_at xs i m e =
 
 -- one member more, by what its step gave
 pub ran_on : (meaning : Meaning) → IsLawful meaning → (start : List ℕ) (members : List (List ℕ)) (i : ℕ) (state read next said : List ℕ)
-    (outputs longer : List (List ℕ)) (m : List ℕ) → RanSome meaning start members i state outputs → slice_get members i ≡ Some m
+    (outputs longer : List (List ℕ)) (m : List ℕ) → IsPartialRun meaning start members i state outputs → slice_get members i ≡ Some m
     → read ≡ state → next ≡ meaning.next read m → said ≡ meaning.says read m → longer ≡ outputs ++ said ∷ []
-    → RanSome meaning start members (i + 1) next longer
+    → IsPartialRun meaning start members (i + 1) next longer
 ran_on meaning lawful start members i state read next said outputs longer m ran at read_is next_is said_is longer_is =
     let d : drop i members ≡ m ∷ drop (i + 1) members = drop_at members i m at in
     rw (longer_is, said_is, next_is, read_is) (record {

@@ -1,7 +1,7 @@
 -- What a call answers: by what was offered, and by what stands at the end.
 use Rattle.std.specs.Prelude.{ℕ, ◌-◌, Bool, List, drop, ◌+◌}
-use Rattle.mm_call.specs.Below.{Content, sealed_of, Place, Batch, members_of, size_of, Meaning, outputs_from, state_from, History}
-use Rattle.mm_call.specs.Below.{requests_of, total_of, Instance, issued, BatchAnswer}
+use Rattle.mm_call.specs.Below.{Content, sealed_snapshot_of, Place, Batch, members_of, size_of, Meaning, outputs_from, state_from, History}
+use Rattle.mm_call.specs.Below.{requests_of, total_of, Instance, content_of_issue, BatchAnswer}
 
 -- what the new snapshot says, at this place: the batch was run from the offered state
 abbrev pub content_at : Meaning → Content → Place → Batch → Content
@@ -18,7 +18,7 @@ answer_at meaning key offered place b again = record {
   again = again;
   position = offered.position + size_of b;
   outputs = outputs_from meaning offered.state (members_of b);
-  snapshot = sealed_of key (content_at meaning offered place b);
+  snapshot = sealed_snapshot_of key (content_at meaning offered place b);
 }
 
 -- the answer to a batch with which a history ends, by whether it is a repeat: what the module says
@@ -30,5 +30,5 @@ answer_on i y b again = record {
   outputs =
       drop (total_of y.batches - size_of b)
       (outputs_from i.meaning i.meaning.first (requests_of y.batches));
-  snapshot = sealed_of i.key (issued i y);
+  snapshot = sealed_snapshot_of i.key (content_of_issue i y);
 }

@@ -1,15 +1,15 @@
 -- How many device steps a whole call makes, and how many of them write the cell.
 use Rattle.std.specs.Prelude.{◌≡◌, ℕ, Bool, true, false, Option, None, Some, Result, Ok, Err, ◌⊎◌}
-use Rattle.mm_call.specs.Below.{counted, Variant, Basic, Opt, Cell, IsCell, cell_spelling, Standing, StepFault, BatchAnswer, Refusal}
+use Rattle.mm_call.specs.Below.{next_count, Variant, Basic, Opt, Cell, IsCell, cell_spelling, Standing, StepFault, BatchAnswer, Refusal}
 use Rattle.mm_call.specs.Below.{Device, Long}
 use Rattle.mm_model.specs.declared.refusal.Refusal.TheVariants as refusal
 use Rattle.mm_call.specs.Refusals.{fault_of}
-use Rattle.mm_call.specs.Standing.{counted_by}
+use Rattle.mm_call.specs.Standing.{count_after_more}
 
 -- so many steps were made, and so many of them that write the cell
 abbrev pub StepsAre : ℕ → ℕ → Standing → Standing → Type 0
 StepsAre steps writes old new =
-    (new.steps ≡ counted_by steps old.steps) × (new.writes ≡ counted_by writes old.writes)
+    (new.steps ≡ count_after_more steps old.steps) × (new.writes ≡ count_after_more writes old.writes)
 
 -- how many steps a call of Opt made; the fifth is the one that writes the cell
 pub data StepsMade (old new : Standing) : Type 0 where
@@ -48,7 +48,7 @@ StepsBy variant (Err why) old new = StepsRefused variant why old new
 
 -- the cell was to be written once, or never
 abbrev pub WritesAtMostOnce : Standing → Standing → Type 0
-WritesAtMostOnce old new = (new.writes ≡ old.writes) ⊎ (new.writes ≡ counted old.writes)
+WritesAtMostOnce old new = (new.writes ≡ old.writes) ⊎ (new.writes ≡ next_count old.writes)
 
 -- the steps of an answer of Opt, by whether a segment was open, and by whether it is a repeat's
 abbrev pub StepsFrom : Bool → Bool → Standing → Standing → Type 0

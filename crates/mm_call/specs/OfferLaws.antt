@@ -6,17 +6,17 @@ use Rattle.std.proofs.lemmas.Slice.Eq.{bytes_eq-Decides}
 use Rattle.std.specs.Str.{bytes_eq}
 use Rattle.mm_call.specs.Below.{last_position, length-zero_bytes, Opt, parts_of, spells_read, sealed_once, Content, Snapshot, IsContent}
 use Rattle.mm_call.specs.Below.{IsPlace, snapshot_front, tag_of, PartsFault, Batch, Meaning, IsLawful, state_after, state_after-is_spelled}
-use Rattle.mm_call.specs.Below.{length-anchor_of, length-register_of, length-summary_of, History, requests_of, total_of, Instance, basic}
-use Rattle.mm_call.specs.Below.{opt, Within, issued, issued_place, IsRight, issued_bytes}
-use Rattle.mm_seal.specs.Snapshot.{sealed_of}
-use Rattle.mm_call.specs.Asked.{right_messages}
-use Rattle.mm_call.specs.FoundWords.{content_if_right}
+use Rattle.mm_call.specs.Below.{length-anchor_of, length-register_of, length-summary_of, History, requests_of, total_of, Instance, basic_instance}
+use Rattle.mm_call.specs.Below.{opt_instance, AreMessagesIn, content_of_issue, issued_place, IsRight, issued_bytes}
+use Rattle.mm_seal.specs.Snapshot.{sealed_snapshot_of}
+use Rattle.mm_call.specs.CallPremises.{right_messages}
+use Rattle.mm_call.specs.CallFindingWords.{content_if_right}
 
 -- an offer whose state is the module's and whose tag is right is a right offer
 pub is_right : (i : Instance) (bytes : List ℕ) (snapshot : Snapshot) → parts_of i.variant i.meaning.id bytes ≡ Ok snapshot
     → i.meaning.is_spelled snapshot.content.state ≡ true → bytes_eq snapshot.tag (tag_of i.key snapshot.content) ≡ true
     → IsRight i bytes snapshot.content
-unfolding sealed_of
+unfolding sealed_snapshot_of
 is_right i bytes snapshot e state tagged =
     let s = spells_read i.variant i.meaning.id bytes snapshot e in
     let tag : snapshot.tag ≡ tag_of i.key snapshot.content = (bytes_eq-Decides snapshot.tag (tag_of i.key snapshot.content)).0 tagged in
@@ -49,7 +49,7 @@ right_of i offer (Ok snapshot) e content is =
     subst (λ (x : Content). IsRight i offer x) a.2 (is_right i offer snapshot e a.0 a.1)
 
 pub listed_by : (i : Instance) (y : History) (b : Batch) (all : List (List ℕ)) (seen : Option Content)
-    → ((content : Content) → seen ≡ Some content → Within (right_messages i b (Some content)) all) → Within (right_messages i b seen) all
+    → ((content : Content) → seen ≡ Some content → AreMessagesIn (right_messages i b (Some content)) all) → AreMessagesIn (right_messages i b seen) all
 listed_by i y b all None h = tt
 listed_by i y b all (Some content) h = h content refl
 
@@ -60,7 +60,7 @@ one_content i offer x y a b = sealed_once i.key i.key x y a.formed b.formed (sym
 -- The snapshot of the last position is one, and an offer of its bytes says it.
 
 issued_by : (i : Instance) → IsLawful i.meaning → (y : History) → total_of y.batches ≤ last_position
-    → IsPlace (issued_place i.variant y.is_open i y) → IsContent (issued i y)
+    → IsPlace (issued_place i.variant y.is_open i y) → IsContent (content_of_issue i y)
 issued_by i lawful y fits place = record {
   place = place;
   position = fits;
@@ -68,19 +68,19 @@ issued_by i lawful y fits place = record {
 }
 
 pub basic_content : (meaning : Meaning) → IsLawful meaning → (key : List ℕ) (y : History) → total_of y.batches ≤ last_position
-    → IsContent (issued (basic meaning key) y)
-basic_content meaning lawful key y fits = issued_by (basic meaning key) lawful y fits (length-summary_of meaning.id y.batches)
+    → IsContent (content_of_issue (basic_instance meaning key) y)
+basic_content meaning lawful key y fits = issued_by (basic_instance meaning key) lawful y fits (length-summary_of meaning.id y.batches)
 
 issued_sized : (flag : Bool) (meaning : Meaning) (key barrier : List ℕ) (y : History)
-    → IsPlace (issued_place Opt flag (opt meaning key barrier) y)
+    → IsPlace (issued_place Opt flag (opt_instance meaning key barrier) y)
 issued_sized true meaning key barrier y = (length-anchor_of meaning.id _, length-register_of _)
 issued_sized false meaning key barrier y = (length-anchor_of meaning.id _, length-zero_bytes)
 
 pub opt_content : (meaning : Meaning) → IsLawful meaning → (key barrier : List ℕ) (y : History) → total_of y.batches ≤ last_position
-    → IsContent (issued (opt meaning key barrier) y)
+    → IsContent (content_of_issue (opt_instance meaning key barrier) y)
 opt_content meaning lawful key barrier y fits =
-    issued_by (opt meaning key barrier) lawful y fits (issued_sized y.is_open meaning key barrier y)
+    issued_by (opt_instance meaning key barrier) lawful y fits (issued_sized y.is_open meaning key barrier y)
 
-pub issued_once : (i : Instance) (offer : List ℕ) (y : History) (content : Content) → IsContent (issued i y) → offer ≡ issued_bytes i y
-    → IsRight i offer content → issued i y ≡ content
-issued_once i offer y content is e right = sealed_once i.key i.key (issued i y) content is right.formed (sym e ∙ right.sealed)
+pub issued_once : (i : Instance) (offer : List ℕ) (y : History) (content : Content) → IsContent (content_of_issue i y) → offer ≡ issued_bytes i y
+    → IsRight i offer content → content_of_issue i y ≡ content
+issued_once i offer y content is e right = sealed_once i.key i.key (content_of_issue i y) content is right.formed (sym e ∙ right.sealed)

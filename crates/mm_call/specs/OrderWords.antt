@@ -2,10 +2,10 @@
 use Rattle.std.specs.Prelude.{Bool, Result, Err, if◌then◌else◌}
 use Rattle.mm_call.specs.Below.{Refusal, Verdict}
 use Rattle.mm_model.specs.declared.refusal.Refusal.TheVariants as refusal
-use Rattle.mm_call.specs.Order.{admitted}
+use Rattle.mm_call.specs.Order.{check_of_verdict}
 
-abbrev pub weighed : Bool → Bool → Verdict → Bool → Result Bool Refusal
-weighed is_spelled is_tagged verdict fits =
+abbrev pub check_by_tests : Bool → Bool → Verdict → Bool → Result Bool Refusal
+check_by_tests is_spelled is_tagged verdict fits =
     if is_spelled
-    then (if is_tagged then admitted verdict fits else Err refusal.Tag)
+    then (if is_tagged then check_of_verdict verdict fits else Err refusal.Tag)
     else Err refusal.State

@@ -2,13 +2,13 @@
 -- batch; and of what the register shows.
 use Rattle.std.specs.Prelude.{◌≡◌, ℕ, false, List}
 use Rattle.std.specs.List.{AllByRecursion, Contains}
-use Rattle.mm_call.specs.Below.{extended_message, Item, item_values, Batch, trail, History, register_value_of, Instance, Within, IsClear}
+use Rattle.mm_call.specs.Below.{extended_message, Item, item_values, Batch, trail, History, register_value_of, Instance, AreMessagesIn, IsClear}
 use Rattle.mm_call.specs.Below.{AreNoGuards, IsGenuine}
-use Rattle.mm_call.specs.Asked.{counted_part, right_messages, IsWithin}
-use Rattle.mm_call.specs.Found.{right_content, found_at}
-use Rattle.mm_call.specs.FoundWords.{is_fresh}
-use Rattle.mm_call.specs.Levels.{by_lists}
-use Rattle.mm_call.specs.Tied.{foreign_items}
+use Rattle.mm_call.specs.CallPremises.{counted_part, right_messages, IsWithin}
+use Rattle.mm_call.specs.CallFinding.{right_content, finding_at}
+use Rattle.mm_call.specs.CallFindingWords.{is_fresh}
+use Rattle.mm_call.specs.Levels.{list_level}
+use Rattle.mm_call.specs.ShownItems.{foreign_items}
 
 -- What is asked of a history, an offer and a batch. In Basic nothing is asked of what others do,
 -- nor of steps: it never reads the register.
@@ -19,14 +19,14 @@ pub record AreAsked (all others : List (List ℕ)) (asked : List Batch) (i : Ins
   pub within : IsWithin all others asked i y
   pub is_asked : Contains asked b
   pub genuine : IsGenuine i y offer
-  pub offered : Within (right_messages i b (right_content i offer)) all
+  pub offered : AreMessagesIn (right_messages i b (right_content i offer)) all
 
 -- What is asked of the items that the register shows at exit, behind those that counted at entry:
 -- their messages, one after another, are in the clear list, and the values that aren't the
 -- platform's own are among those of others.
 pub record AreShown (all others : List (List ℕ)) (i : Instance) (y : History)
     (more : List Item) : Type 0 where
-  pub messages : Within
+  pub messages : AreMessagesIn
       (trail extended_message (register_value_of i (counted_part y)) (item_values more)) all
   pub values : AllByRecursion (Contains others) (foreign_items more)
 
@@ -35,4 +35,4 @@ pub record AreShown (all others : List (List ℕ)) (i : Instance) (y : History)
 -- that the register shows.
 pub record IsIdle (i : Instance) (y : History) (offer : List ℕ) (b : Batch) : Type 0 where
   pub shut : y.is_open ≡ false
-  pub not_new : is_fresh (found_at i (by_lists i) y b offer) ≡ false
+  pub not_new : is_fresh (finding_at i (list_level i) y b offer) ≡ false

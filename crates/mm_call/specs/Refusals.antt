@@ -12,11 +12,11 @@ fault_in (Ok answer) = None
 fault_in (Err why) = fault_of why
 
 -- a device's fault is handed on as it is
-abbrev pub handed_on : Result BatchAnswer StepFault → Result BatchAnswer Refusal
-handed_on (Ok answer) = Ok answer
-handed_on (Err fault) = Err (Device fault)
+abbrev pub result_with_fault : Result BatchAnswer StepFault → Result BatchAnswer Refusal
+result_with_fault (Ok answer) = Ok answer
+result_with_fault (Err fault) = Err (Device fault)
 
 -- Want of memory may come in place of what is not refused.
-abbrev pub OrMemory : {A : Type 0} → Result A Refusal → Result A Refusal → Type 0
-OrMemory (Err why) found = found ≡ Err why
-OrMemory (Ok it) found = (found ≡ Ok it) ⊎ (found ≡ Err Memory)
+abbrev pub IsOrMemory : {A : Type 0} → Result A Refusal → Result A Refusal → Type 0
+IsOrMemory (Err why) found = found ≡ Err why
+IsOrMemory (Ok it) found = (found ≡ Ok it) ⊎ (found ≡ Err Memory)

@@ -3,11 +3,11 @@ use Rattle.std.proofs.Common.{sym, ap, ◌∙◌, ◌≡◌, ℕ, Bool, true, Li
 use Rattle.std.proofs.lemmas.List.{append-nil}
 use Rattle.std.specs.List.{AllByRecursion, Contains}
 use Rattle.std.specs.Option.{option_map}
-use Rattle.mm_call.specs.Below.{Item, Batch, History, Move, Instance, Within, Digests}
-use Rattle.mm_call.specs.Asked.{counted_part, counted_moves, moves_messages, foreign_in, IsAsked}
+use Rattle.mm_call.specs.Below.{Item, Batch, History, Move, Instance, AreMessagesIn, Digests}
+use Rattle.mm_call.specs.CallPremises.{counted_part, counted_moves, messages_of_moves, foreign_move_values, IsAsked}
 use Rattle.mm_call.specs.Premises.{AreAsked}
-use Rattle.mm_call.specs.Standing.{shown}
-use Rattle.mm_call.specs.Tied.{standing_items, IsTied, Tied, shows, nothing}
+use Rattle.mm_call.specs.Standing.{items_after_moves}
+use Rattle.mm_call.specs.ShownItems.{standing_items, IsTied, MovesAreTied, shows, nothing}
 
 pub same_rest : (front more other : List Item) → front ++ more ≡ front ++ other → more ≡ other
 same_rest [] more other e = e
@@ -22,8 +22,8 @@ shown_same (Some ys) f xs front more other e g h =
     same_rest front other more (sym g ∙ ap f (sym same) ∙ there)
 
 pub asked_by : (i : Instance) (all others : List (List ℕ)) (asked : List Batch) (y : History) (moves : List Move) (offer : List ℕ)
-    (b : Batch) → AreAsked all others asked i y offer b → Within (moves_messages i (counted_part y) (counted_moves y.is_open moves)) all
-    → AllByRecursion (Contains others) (foreign_in (counted_moves y.is_open moves)) → IsAsked all others asked i y moves offer b
+    (b : Batch) → AreAsked all others asked i y offer b → AreMessagesIn (messages_of_moves i (counted_part y) (counted_moves y.is_open moves)) all
+    → AllByRecursion (Contains others) (foreign_move_values (counted_moves y.is_open moves)) → IsAsked all others asked i y moves offer b
 asked_by i all others asked y moves offer b a messages values = record {
   clear = a.clear;
   apart = a.apart;
@@ -36,18 +36,18 @@ asked_by i all others asked y moves offer b a messages values = record {
 }
 
 -- What counts of a call's moves is these items more.
-pub record Counts (i : Instance) (y : History) (d : Digests) (moves : List Move) : Type 0 where
+pub record MovesCount (i : Instance) (y : History) (d : Digests) (moves : List Move) : Type 0 where
   pub more : List Item
   pub tied : IsTied i y moves more
-  pub are : (items : List Item) → shown i d moves items ≡ standing_items y.is_open items ++ more
+  pub are : (items : List Item) → items_after_moves i d moves items ≡ standing_items y.is_open items ++ more
 
-pub counts_open : (i : Instance) (y : History) (d : Digests) (moves : List Move) → y.is_open ≡ true → Tied i y d moves → Counts i y d moves
+pub counts_open : (i : Instance) (y : History) (d : Digests) (moves : List Move) → y.is_open ≡ true → MovesAreTied i y d moves → MovesCount i y d moves
 counts_open i y d moves e (shows more tied are) = record { more = more; tied = tied; are = are }
 counts_open i y d moves e (nothing is) =
     let empty : moves ≡ [] = ap (λ (f : Bool). counted_moves f moves) (sym e) ∙ is in
     record {
       more = [];
-      tied = record { messages = ap (moves_messages i (counted_part y)) is; values = ap foreign_in is };
-      are = λ items. ap (λ (ms : List Move). shown i d ms items) empty ∙ sym (append-nil items)
+      tied = record { messages = ap (messages_of_moves i (counted_part y)) is; values = ap foreign_move_values is };
+      are = λ items. ap (λ (ms : List Move). items_after_moves i d ms items) empty ∙ sym (append-nil items)
           ∙ ap (λ (f : Bool). standing_items f items ++ []) (sym e);
     }

@@ -4,19 +4,19 @@ use Rattle.std.specs.Prelude.{◌==◌, if◌then◌else◌}
 use Rattle.std.proofs.Common.{◌+◌, refl, sym, ap, ◌∙◌, arith, ◌≡◌, ℕ, Bool, true, false, List, [], ◌∷◌, Option, None, Some}
 use Rattle.std.proofs.lemmas.Bool.Decides.{nat_tests}
 use Rattle.std.specs.Option.{option_map}
-use Rattle.mm_call.specs.Below.{counted, Plan, Standing, plan_after, due, known_plan, Act, Goes, will_answer, will_be_made, will_bring}
-use Rattle.mm_call.specs.Below.{fault_at, is_made_at, next_plan, StepFault, Instance, Digests, Step}
-use Rattle.mm_call.specs.Levels.{all_made, by_digests}
-use Rattle.mm_call.specs.Courses.{Fate, step_moves, planned, AreTold}
+use Rattle.mm_call.specs.Below.{next_count, Plan, Standing, plan_after, due_values, known_plan, Act, StepGoes, fault_by_plan, is_made_by_plan, values_by_plan}
+use Rattle.mm_call.specs.Below.{fault_at, is_made_at, next_plan, StepFault, Instance, Digests, DeviceStep}
+use Rattle.mm_call.specs.Levels.{state_after_moves, digest_level}
+use Rattle.mm_call.specs.Courses.{StepFate, step_moves, fate_by_plan, AreTold}
 use Rattle.mm_call.specs.CoursesWords.{end_of}
-use Rattle.mm_call.specs.Trails.{MakesStep, Stepped, Trail}
+use Rattle.mm_call.specs.Trails.{MakesStep, StepIsMade, IsTrail}
 
 -- Trails
 
 -- a device step as a step of a walk, with no room made behind it
-pub stepped : (i : Instance) (d : Digests) (act : Act) (step : Step) (old new : Standing) (fault : Option StepFault)
-    → (g : Goes act old new fault) → MakesStep i d act step
-    → Stepped i d (record { brings = g.others; ends = end_of fault g.is_made }) step old new fault
+pub stepped : (i : Instance) (d : Digests) (act : Act) (step : DeviceStep) (old new : Standing) (fault : Option StepFault)
+    → (g : StepGoes act old new fault) → MakesStep i d act step
+    → StepIsMade i d (record { brings = g.others; ends = end_of fault g.is_made }) step old new fault
 stepped i d act step old new fault g makes = record {
   act = act;
   after = new;
@@ -27,34 +27,34 @@ stepped i d act step old new fault g makes = record {
   room = refl;
 }
 
-pub trail_on : (i : Instance) (d : Digests) (fates : ℕ → Fate) (n : ℕ) (step : Step) (steps : List Step) (old middle new : Standing)
-    (fault : Option StepFault) → Stepped i d (fates n) step old middle None
-    → Trail i (all_made (by_digests i) d (step_moves step true (fates n).brings)) fates (n + 1) steps middle new fault
-    → Trail i d fates n (step ∷ steps) old new fault
+pub trail_on : (i : Instance) (d : Digests) (fates : ℕ → StepFate) (n : ℕ) (step : DeviceStep) (steps : List DeviceStep) (old middle new : Standing)
+    (fault : Option StepFault) → StepIsMade i d (fates n) step old middle None
+    → IsTrail i (state_after_moves (digest_level i) d (step_moves step true (fates n).brings)) fates (n + 1) steps middle new fault
+    → IsTrail i d fates n (step ∷ steps) old new fault
 trail_on i d fates n step steps old middle new fault s t = (middle, None, s, t)
 
-pub trail_fails : (i : Instance) (d : Digests) (fates : ℕ → Fate) (n : ℕ) (step : Step) (steps : List Step) (old new : Standing)
-    (fault : StepFault) → Stepped i d (fates n) step old new (Some fault) → Trail i d fates n (step ∷ steps) old new (Some fault)
+pub trail_fails : (i : Instance) (d : Digests) (fates : ℕ → StepFate) (n : ℕ) (step : DeviceStep) (steps : List DeviceStep) (old new : Standing)
+    (fault : StepFault) → StepIsMade i d (fates n) step old new (Some fault) → IsTrail i d fates n (step ∷ steps) old new (Some fault)
 trail_fails i d fates n step steps old new fault s = (new, Some fault, s, (refl, refl))
 
-pub trail_last : (i : Instance) (d : Digests) (fates : ℕ → Fate) (n : ℕ) (step : Step) (old new : Standing) (fault : Option StepFault)
-    → Stepped i d (fates n) step old new fault → Trail i d fates n (step ∷ []) old new fault
+pub trail_last : (i : Instance) (d : Digests) (fates : ℕ → StepFate) (n : ℕ) (step : DeviceStep) (old new : Standing) (fault : Option StepFault)
+    → StepIsMade i d (fates n) step old new fault → IsTrail i d fates n (step ∷ []) old new fault
 trail_last i d fates n step old new None s = (new, None, s, (refl, refl))
 trail_last i d fates n step old new (Some fault) s = (new, Some fault, s, (refl, refl))
 
 -- Courses
 
 -- the fates of some steps, from the step of this number on, and then those of a plan
-abbrev pub met : List Fate → ℕ → Plan → ℕ → Fate
-met [] k plan n = planned plan n
-met (fate ∷ fates) k plan n = if n == k then fate else met fates (k + 1) plan n
+abbrev pub fates_before_plan : List StepFate → ℕ → Plan → ℕ → StepFate
+fates_before_plan [] k plan n = planned plan n
+fates_before_plan (fate ∷ fates) k plan n = if n == k then fate else fates_before_plan fates (k + 1) plan n
 
 -- those fates are the plan's too
-abbrev pub AreMet : List Fate → ℕ → Plan → Type 0
+abbrev pub AreMet : List StepFate → ℕ → Plan → Type 0
 AreMet [] k plan = Unit {0}
 AreMet (fate ∷ fates) k plan = (fate ≡ planned plan k) × AreMet fates (k + 1) plan
 
-chosen : (here : Bool) (fate later : Fate) (n k : ℕ) (plan : Plan) → (here ≡ true → n ≡ k) → fate ≡ planned plan k → later ≡ planned plan n
+chosen : (here : Bool) (fate later : StepFate) (n k : ℕ) (plan : Plan) → (here ≡ true → n ≡ k) → fate ≡ planned plan k → later ≡ planned plan n
     → (if here then fate else later) ≡ planned plan n
 chosen true fate later n k plan h e l = e ∙ ap (λ (m : ℕ). planned plan m) (sym (h refl))
 chosen false fate later n k plan h e l = l
@@ -62,17 +62,17 @@ chosen false fate later n k plan h e l = l
 eq_tells : (n k : ℕ) → (n == k) ≡ true → n ≡ k
 eq_tells n k e = grind (arith, nat_tests)
 
-met_told : (fates : List Fate) (k : ℕ) (plan : Plan) (n : ℕ) → AreMet fates k plan → met fates k plan n ≡ planned plan n
+met_told : (fates : List StepFate) (k : ℕ) (plan : Plan) (n : ℕ) → AreMet fates k plan → fates_before_plan fates k plan n ≡ planned plan n
 met_told [] k plan n a = refl
 met_told (fate ∷ fates) k plan n a =
-    chosen (n == k) fate (met fates (k + 1) plan n) n k plan (eq_tells n k) a.0 (met_told fates (k + 1) plan n a.1)
+    chosen (n == k) fate (fates_before_plan fates (k + 1) plan n) n k plan (eq_tells n k) a.0 (met_told fates (k + 1) plan n a.1)
 
 -- the plan that a platform tells is the one that its course takes
-pub told_by : (old : Standing) (fates : List Fate)
+pub told_by : (old : Standing) (fates : List StepFate)
     → ((plan : Plan) → old.is_on ≡ true → old.plan ≡ Some plan → plan.at ≡ 0 → AreMet fates 1 plan)
-    → AreTold old (met fates 1 (next_plan old))
+    → AreTold old (fates_before_plan fates 1 (next_plan old))
 told_by old fates h = λ (plan : Plan) (on : old.is_on ≡ true) (known : old.plan ≡ Some plan) (at : plan.at ≡ 0) (n : ℕ).
-    ap (λ (p : Plan). met fates 1 p n) (known_plan old plan known) ∙ met_told fates 1 plan n (h plan on known at)
+    ap (λ (p : Plan). fates_before_plan fates 1 p n) (known_plan old plan known) ∙ met_told fates 1 plan n (h plan on known at)
 
 -- The platform is on, and so many steps of its plan are over.
 pub record IsAt (standing : Standing) (plan : Plan) (at : ℕ) : Type 0 where
@@ -84,20 +84,20 @@ begins_at old plan on known at = record { is_on = on; planned = known ∙ ap (λ
 
 -- a step goes as the plan says of its number
 pub met_at : (act : Act) (old new : Standing) (fault : Option StepFault) (plan : Plan) (at : ℕ) → IsAt old plan at
-    → (g : Goes act old new fault) → record { brings = g.others; ends = end_of fault g.is_made } ≡ planned plan (counted at)
+    → (g : StepGoes act old new fault) → record { brings = g.others; ends = end_of fault g.is_made } ≡ planned plan (next_count at)
 met_at act old new fault plan at p g =
     let told = g.told (record plan { at = at }) p.planned in
-    let answers : fault ≡ fault_at plan.stop (counted at) = told.answers
-    ∙ ap (λ (on : Bool). will_answer on (record plan { at = at })) p.is_on in
-    let is_made : g.is_made ≡ is_made_at plan.stop (counted at) = told.makes
-    ∙ ap (λ (on : Bool). will_be_made on (record plan { at = at })) p.is_on in
-    let brings : g.others ≡ due (counted at) plan.meddles = told.brings
-    ∙ ap (λ (on : Bool). will_bring on (record plan { at = at })) p.is_on in
+    let answers : fault ≡ fault_at plan.stop (next_count at) = told.answers
+    ∙ ap (λ (on : Bool). fault_by_plan on (record plan { at = at })) p.is_on in
+    let is_made : g.is_made ≡ is_made_at plan.stop (next_count at) = told.makes
+    ∙ ap (λ (on : Bool). is_made_by_plan on (record plan { at = at })) p.is_on in
+    let brings : g.others ≡ due_values (next_count at) plan.meddles = told.brings
+    ∙ ap (λ (on : Bool). values_by_plan on (record plan { at = at })) p.is_on in
     λ j. record { brings = brings j; ends = end_of (answers j) (is_made j) }
 
 -- after a step that was done one more is over
-pub then_at : (act : Act) (old new : Standing) (plan : Plan) (at : ℕ) → IsAt old plan at → Goes act old new None
-    → IsAt new plan (counted at)
+pub then_at : (act : Act) (old new : Standing) (plan : Plan) (at : ℕ) → IsAt old plan at → StepGoes act old new None
+    → IsAt new plan (next_count at)
 then_at act old new plan at p g =
     record { is_on = g.ends.is_on; planned = g.plan ∙ ap (λ (q : Option Plan). option_map plan_after q) p.planned }
 

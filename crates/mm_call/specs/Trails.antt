@@ -1,18 +1,18 @@
 -- How the device steps of a call make the steps of a walk.
 use Rattle.std.specs.Prelude.{◌≡◌, ℕ, true, List, [], ◌∷◌, ◌++◌, Option, None, Some, ◌+◌}
 use Rattle.std.specs.Option.{option_map}
-use Rattle.mm_call.specs.Below.{zero_bytes, extended_of, IsCell, cell_spelling, Item, own_item, Standing, Act, ReadCell, WriteCell}
-use Rattle.mm_call.specs.Below.{ReadRegister, ResetRegister, ExtendRegister, Goes, StepFault, Move, Instance, Digests, made, Step, Reads}
+use Rattle.mm_call.specs.Below.{zero_bytes, extended_digest_of, IsCell, cell_spelling, Item, own_item, Standing, Act, ReadCell, WriteCell}
+use Rattle.mm_call.specs.Below.{ReadRegister, ResetRegister, ExtendRegister, StepGoes, StepFault, Move, Instance, Digests, digests_after, DeviceStep, Reads}
 use Rattle.mm_call.specs.Below.{Changes, Writes}
-use Rattle.mm_call.specs.Levels.{all_made, by_digests}
-use Rattle.mm_call.specs.Courses.{Fate, Walked, walk, step_moves}
+use Rattle.mm_call.specs.Levels.{state_after_moves, digest_level}
+use Rattle.mm_call.specs.Courses.{StepFate, StepsWalk, walk, step_moves}
 use Rattle.mm_call.specs.CoursesWords.{end_of}
-use Rattle.mm_call.specs.Standing.{cell_at, StandsAt, shown_by, shown, counted_by}
+use Rattle.mm_call.specs.Standing.{cell_at, StandsAt, items_after_move, items_after_moves, count_after_more}
 
 -- what a changing step does to a register, and to its items
 abbrev pub register_by : Act → List ℕ → List ℕ
 register_by ResetRegister register = zero_bytes
-register_by (ExtendRegister value) register = extended_of register value
+register_by (ExtendRegister value) register = extended_digest_of register value
 register_by _ register = register
 
 abbrev pub items_by : Act → List Item → List Item
@@ -25,21 +25,21 @@ items_by _ items = items
 -- the step leaves them.
 pub record IsChange (i : Instance) (d : Digests) (act : Act) (m : Move) : Type 0 where
   pub cell : (register : List ℕ)
-      → cell_at i (made i (record d { register = register }) m) ≡ cell_at i d
+      → cell_at i (digests_after i (record d { register = register }) m) ≡ cell_at i d
   pub register : (register : List ℕ)
-      → (made i (record d { register = register }) m).register ≡ register_by act register
-  pub shows : (items : List Item) → shown_by i.variant d.flag i m items ≡ items_by act items
+      → (digests_after i (record d { register = register }) m).register ≡ register_by act register
+  pub shows : (items : List Item) → items_after_move i.variant d.flag i m items ≡ items_by act items
 
 -- A write of these bytes makes this move: they spell the cell of the digests after it, and the
 -- register is as before.
 pub record IsWrite (i : Instance) (d : Digests) (bytes : List ℕ) (m : Move) : Type 0 where
-  pub spells : IsCell (cell_at i (made i d m))
-  pub cell : bytes ≡ cell_spelling (cell_at i (made i d m))
-  pub register : (made i d m).register ≡ d.register
-  pub shows : (items : List Item) → shown_by i.variant d.flag i m items ≡ items
+  pub spells : IsCell (cell_at i (digests_after i d m))
+  pub cell : bytes ≡ cell_spelling (cell_at i (digests_after i d m))
+  pub register : (digests_after i d m).register ≡ d.register
+  pub shows : (items : List Item) → items_after_move i.variant d.flag i m items ≡ items
 
 -- The device step makes this step of a walk, from these digests.
-abbrev pub MakesStep : Instance → Digests → Act → Step → Type 0
+abbrev pub MakesStep : Instance → Digests → Act → DeviceStep → Type 0
 MakesStep i d ReadCell Reads = Unit {0}
 MakesStep i d ReadRegister Reads = Unit {0}
 MakesStep i d ResetRegister (Changes m) = IsChange i d ResetRegister m
@@ -49,45 +49,45 @@ MakesStep i d _ _ = ⊥
 
 -- A device step was made that makes this step of a walk. Its fate is read off it, and room may have
 -- been made after it.
-pub record Stepped (i : Instance) (d : Digests) (fate : Fate) (step : Step) (old new : Standing)
+pub record StepIsMade (i : Instance) (d : Digests) (fate : StepFate) (step : DeviceStep) (old new : Standing)
     (fault : Option StepFault) : Type 0 where
   pub act : Act
   pub after : Standing
-  pub goes : Goes act old after fault
+  pub goes : StepGoes act old after fault
   pub makes : MakesStep i d act step
   pub brings : fate.brings ≡ goes.others
   pub ends : fate.ends ≡ end_of fault goes.is_made
   pub room : new ≡ record after { spare = new.spare }
 
 -- after a step: the rest of a trail, where it didn't fail
-abbrev pub Rest : Option StepFault → Type 0 → Type 0 → Type 0
-Rest None goes_on is_over = goes_on
-Rest (Some fault) goes_on is_over = is_over
+abbrev pub RestFollows : Option StepFault → Type 0 → Type 0 → Type 0
+RestFollows None goes_on is_over = goes_on
+RestFollows (Some fault) goes_on is_over = is_over
 
 -- These steps were made one after another, from the one of this number on, and none after one that
 -- failed.
-abbrev pub Trail : Instance → Digests → (ℕ → Fate) → ℕ → List Step → Standing → Standing
+abbrev pub IsTrail : Instance → Digests → (ℕ → StepFate) → ℕ → List DeviceStep → Standing → Standing
     → Option StepFault → Type 0
-Trail i d fates n [] old new fault = (new ≡ old) × (fault ≡ None)
-Trail i d fates n (step ∷ steps) old new fault =
-    (middle : Standing) × (answer : Option StepFault) × Stepped i d (fates n) step old middle answer
-    × Rest answer (Trail i (all_made (by_digests i) d (step_moves step true (fates n).brings)) fates
+IsTrail i d fates n [] old new fault = (new ≡ old) × (fault ≡ None)
+IsTrail i d fates n (step ∷ steps) old new fault =
+    (middle : Standing) × (answer : Option StepFault) × StepIsMade i d (fates n) step old middle answer
+    × RestFollows answer (IsTrail i (state_after_moves (digest_level i) d (step_moves step true (fates n).brings)) fates
     (n + 1) steps middle new fault)
     ((new ≡ middle) × (fault ≡ answer))
 
 -- The platform went from these digests as the walk says.
-pub record Leads (i : Instance) (d : Digests) (walked : Walked) (old new : Standing)
+pub record WalkLeads (i : Instance) (d : Digests) (walked : StepsWalk) (old new : Standing)
     (fault : Option StepFault) : Type 0 where
-  pub stands : StandsAt i new (all_made (by_digests i) d walked.moves)
+  pub stands : StandsAt i new (state_after_moves (digest_level i) d walked.moves)
   pub broken : walked.broken ≡ fault
-  pub steps : new.steps ≡ counted_by walked.steps old.steps
-  pub writes : new.writes ≡ counted_by walked.writes old.writes
-  pub items : new.items ≡ option_map (shown i d walked.moves) old.items
+  pub steps : new.steps ≡ count_after_more walked.steps old.steps
+  pub writes : new.writes ≡ count_after_more walked.writes old.writes
+  pub items : new.items ≡ option_map (items_after_moves i d walked.moves) old.items
 
 -- A trail of steps leads where its walk leads.
 abbrev pub TrailsLead : Type 0
 TrailsLead =
-    (i : Instance) (d : Digests) (fates : ℕ → Fate) (n : ℕ) (steps : List Step) (old new : Standing)
+    (i : Instance) (d : Digests) (fates : ℕ → StepFate) (n : ℕ) (steps : List DeviceStep) (old new : Standing)
     (fault : Option StepFault)
-    → StandsAt i old d → Trail i d fates n steps old new fault
-    → Leads i d (walk fates n steps) old new fault
+    → StandsAt i old d → IsTrail i d fates n steps old new fault
+    → WalkLeads i d (walk fates n steps) old new fault

@@ -1,7 +1,7 @@
 //! How a call ended.
 
 ghost use Rattle.std.specs.Prelude.{◌≡◌};
-ghost use Rattle.mm_call.specs.Machine.{halt_told};
+ghost use Rattle.mm_call.specs.Machine.{refusal_of_halt};
 
 use mm_machine::Halt;
 use mm_model::{BatchAnswer, Refusal};
@@ -9,7 +9,7 @@ use mm_platform::StepFault;
 
 /// How a call ended over a platform.
 #[derive(Drop)]
-pub enum Ended {
+pub enum AskResult {
     /// The batch is committed, now or before: this is its answer.
     Answered(BatchAnswer),
     /// Refused, for no fault of a device.
@@ -26,7 +26,7 @@ pub enum Ended {
 /// Why a call was refused whose reading came to nothing.
 #[inline(always)]
 pub fn refusal_of(halt: Halt<Refusal>) -> Refusal
-    ensures { result ≡ halt_told halt }
+    ensures { result ≡ refusal_of_halt halt }
 {
     match halt {
         Halt::Fault(fault) => Refusal::Device(fault),
@@ -35,34 +35,34 @@ pub fn refusal_of(halt: Halt<Refusal>) -> Refusal
     }
 }
 
-impl Ended {
+impl AskResult {
     ghost use Rattle.std.specs.Prelude.{◌≡◌};
-    ghost use Rattle.mm_call.specs.Ended.{result_of, refused_as};
-    ghost use Rattle.mm_call.specs.Machine.{end_told};
+    ghost use Rattle.mm_call.specs.EndedCall.{result_of, end_of_refusal};
+    ghost use Rattle.mm_call.specs.Machine.{end_of_machine};
 
     /// How a call ended that the machine made.
     #[inline(always)]
-    pub fn of(end: mm_machine::Ended<BatchAnswer, Refusal>) -> Ended
-        ensures { result ≡ end_told end }
+    pub fn of(end: mm_machine::OpResult<BatchAnswer, Refusal>) -> AskResult
+        ensures { result ≡ end_of_machine end }
     {
         match end {
-            mm_machine::Ended::Answered(answer) => Ended::Answered(answer),
-            mm_machine::Ended::Refused(refusal) => Ended::refused(refusal),
-            mm_machine::Ended::Lacks => Ended::Refused(Refusal::Memory),
-            mm_machine::Ended::Broken { fault, commits } => Ended::Broken { fault, commits },
+            mm_machine::OpResult::Answered(answer) => AskResult::Answered(answer),
+            mm_machine::OpResult::Refused(refusal) => AskResult::refused(refusal),
+            mm_machine::OpResult::Lacks => AskResult::Refused(Refusal::Memory),
+            mm_machine::OpResult::Broken { fault, commits } => AskResult::Broken { fault, commits },
         }
     }
 
     /// A call that was refused, or broken off by a device's fault where nothing could be committed.
-    pub fn refused(refusal: Refusal) -> Ended
-        ensures { result ≡ refused_as refusal }
+    pub fn refused(refusal: Refusal) -> AskResult
+        ensures { result ≡ end_of_refusal refusal }
     {
         match refusal {
-            Refusal::Device(fault) => Ended::Broken {
+            Refusal::Device(fault) => AskResult::Broken {
                 fault,
                 commits: None,
             },
-            _ => Ended::Refused(refusal),
+            _ => AskResult::Refused(refusal),
         }
     }
 
@@ -71,9 +71,9 @@ impl Ended {
         ensures { result ≡ result_of self }
     {
         match self {
-            Ended::Answered(answer) => Ok(answer),
-            Ended::Refused(refusal) => Err(refusal),
-            Ended::Broken { fault, .. } => Err(Refusal::Device(fault)),
+            AskResult::Answered(answer) => Ok(answer),
+            AskResult::Refused(refusal) => Err(refusal),
+            AskResult::Broken { fault, .. } => Err(Refusal::Device(fault)),
         }
     }
 }

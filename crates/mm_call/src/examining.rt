@@ -5,7 +5,7 @@ ghost use Rattle.mm_base.specs.Limits.{last_position};
 ghost use Rattle.mm_module.specs.Batch.{size_of};
 ghost use Rattle.mm_module.specs.Batches.{batch_of};
 ghost use Rattle.mm_model.specs.Long.{is_long};
-ghost use Rattle.mm_call.specs.Order.{admitted, examined};
+ghost use Rattle.mm_call.specs.Order.{check_of_verdict, check_of_offer};
 
 use mm_base::LAST_POSITION;
 use mm_model::{Refusal, Verdict};
@@ -24,7 +24,7 @@ pub fn examine<M: Module>(
 ) -> Result<bool, Refusal>
     requires position { offered.now.content.position ≤ last_position }
     requires short { is_long (batch_of batch) ≡ false }
-    ensures answer { result ≡ examined (M.meaning «module».now) key.now offered.now
+    ensures answer { result ≡ check_of_offer (M.meaning «module».now) key.now offered.now
         (batch_of batch.entry) verdict }
     ensures spelled { OnOk result
         (IsTrue ((M.meaning «module».now).is_spelled offered.now.content.state)) }
@@ -44,7 +44,7 @@ pub fn examine<M: Module>(
 
 // Whether the batch is a repeat, by the verdict and by whether there are positions left for it.
 fn admit(verdict: Verdict, fits: bool) -> Result<bool, Refusal>
-    ensures answer { result ≡ admitted verdict fits }
+    ensures answer { result ≡ check_of_verdict verdict fits }
     ensures fits { OnOk result (IsTrue fits) }
 {
     match verdict {

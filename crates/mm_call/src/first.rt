@@ -2,7 +2,7 @@
 
 ghost use Rattle.std.specs.Prelude.{◌≡◌, IfOk};
 ghost use Rattle.mm_seal.specs.Cell.{FitsVariant, cell_spelling};
-ghost use Rattle.mm_seal.specs.Snapshot.{sealed_of};
+ghost use Rattle.mm_seal.specs.Snapshot.{sealed_snapshot_of};
 
 use mm_base::{Bytes, CELL_LENGTH, Memory};
 use mm_module::Module;
@@ -26,7 +26,7 @@ pub fn provision_with<M: Module>(
 ) -> Result<Provisioned, Memory>
     requires { FitsVariant cell.now.variant cell.now.flag cell.now.barrier }
     ensures cell { IfOk result (λ made. made.cell ≡ cell_spelling cell.now) }
-    ensures snapshot { IfOk result (λ made. made.snapshot ≡ sealed_of cell.now.key (record {
+    ensures snapshot { IfOk result (λ made. made.snapshot ≡ sealed_snapshot_of cell.now.key (record {
       id = (M.meaning «module».now).id;
       place = place;
       position = 0;

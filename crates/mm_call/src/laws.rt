@@ -2,7 +2,7 @@
 
 ghost use Rattle.mm_call.specs.Checkpoints.{BasicCheckpointsAgree, OptCheckpointsAgree};
 ghost use Rattle.mm_call.specs.Laws.{BasicCallsAgree, OptCallsAgree};
-ghost use Rattle.mm_call.specs.Tied.{OptTied};
+ghost use Rattle.mm_call.specs.ShownItems.{OptMovesAreTied};
 ghost use Rattle.mm_call.specs.Trails.{TrailsLead};
 
 /// A call of Basic is by digests what it is by lists, on every course, where no two messages of the history and the
@@ -35,5 +35,5 @@ pub fn trails_lead()
 /// What counts of the moves of a call of Opt is what the register shows of them: the items behind those that counted when
 /// the call began.
 pub fn opt_tied()
-    ensures { OptTied }
+    ensures { OptMovesAreTied }
 {}

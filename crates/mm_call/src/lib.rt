@@ -14,7 +14,7 @@ mod run;
 mod turn;
 mod whole;
 
-pub use ended::{Ended, refusal_of};
+pub use ended::{AskResult, refusal_of};
 pub use examining::examine;
 pub use first::{Provisioned, provision_with};
 pub use laws::{
@@ -22,6 +22,6 @@ pub use laws::{
     trails_lead,
 };
 pub use mm_seal::KeptKey;
-pub use run::{Ran, answer, run_batch};
+pub use run::{BatchRun, answer, run_batch};
 pub use turn::Turn;
 pub use whole::{Committed, commit, finish_call, read_call};

@@ -4,12 +4,12 @@ ghost use Rattle.std.specs.Prelude.{◌≡◌, ◌+◌, ◌<◌, ◌≤◌, fals
 ghost use Rattle.mm_base.specs.Limits.{last_position};
 ghost use Rattle.mm_module.specs.Meaning.{IsLine, outputs_from};
 ghost use Rattle.mm_module.specs.MeaningWords.{state_from};
-ghost use Rattle.mm_module.specs.Batch.{members_of, size_of, normal};
+ghost use Rattle.mm_module.specs.Batch.{members_of, size_of, normal_batch};
 ghost use Rattle.mm_module.specs.Batches.{batch_of};
 ghost use Rattle.mm_seal.specs.Body.{content_of};
 ghost use Rattle.mm_model.specs.Long.{is_long};
 ghost use Rattle.mm_call.specs.Answers.{answer_at};
-ghost use Rattle.mm_call.specs.Ran.{RanSome};
+ghost use Rattle.mm_call.specs.PartialRun.{IsPartialRun};
 
 use mm_base::{Bytes, Memory};
 use mm_model::BatchAnswer;
@@ -34,7 +34,7 @@ pub fn answer<M: Module>(
     ensures { IfOk result (λ answer. answer ≡ answer_at (M.meaning «module».now) key.old
         (content_of offered.now) place (batch_of batch.entry) again) }
 {
-    let Ran { state, outputs } = run_batch(alloc, module, offered.state, batch)?;
+    let BatchRun { state, outputs } = run_batch(alloc, module, offered.state, batch)?;
     let position = offered.position + batch.len() as u64;
     let body = Body {
         module: module.id(),
@@ -53,7 +53,7 @@ pub fn answer<M: Module>(
 
 /// What a batch came to: the state after it, and what the module says to each request.
 #[derive(Drop)]
-pub struct Ran {
+pub struct BatchRun {
     pub state: Bytes,
     pub outputs: Outputs,
 }
@@ -65,7 +65,7 @@ pub fn run_batch<M: Module>(
     module: &M,
     state: &[u8],
     batch: Batch<'_>,
-) -> Result<Ran, Memory>
+) -> Result<BatchRun, Memory>
     requires spelled { IsTrue ((M.meaning «module».now).is_spelled state.now) }
     requires short { is_long (batch_of batch) ≡ false }
     ensures state { IfOk result (λ ran.
@@ -92,18 +92,18 @@ fn run_first<M: Module>(
     module: &M,
     state: &[u8],
     batch: Batch<'_>,
-) -> Result<Ran, Memory>
+) -> Result<BatchRun, Memory>
     requires spelled { IsTrue ((M.meaning «module».now).is_spelled state.now) }
     requires short { is_long (batch_of batch) ≡ false }
     ensures { IfOk result (λ ran.
-        RanSome (M.meaning «module».now) state.now (members_of (batch_of batch.entry)) 1
+        IsPartialRun (M.meaning «module».now) state.now (members_of (batch_of batch.entry)) 1
         ran.state ran.outputs) }
 {
     let request = request_at(batch, 0);
     let Stepped { state, output } = module.step(alloc, state, request)?;
     let mut outputs = Outputs::new(alloc);
     outputs.push(output)?;
-    Ok(Ran { state, outputs })
+    Ok(BatchRun { state, outputs })
 }
 
 // The request at this index.

@@ -2,16 +2,16 @@
 
 ghost use Rattle.std.specs.Prelude.{◌≡◌};
 ghost use Rattle.std.specs.Result.{result_err};
-ghost use Rattle.mm_machine.specs.Finishing.{acts_for, answer_in};
-ghost use Rattle.mm_machine.specs.declared.call.Stage.TheVariants.{Begun};
-ghost use Rattle.mm_call.specs.Calls.{Commits};
-ghost use Rattle.mm_call.specs.Ended.{result_of};
-ghost use Rattle.mm_call.specs.Leaving.{Blames};
-ghost use Rattle.mm_call.specs.Machine.{CallFinishes, CallReads, IsMade, LeavesRoom, MayCommit, end_told};
-ghost use Rattle.mm_call.specs.Refusals.{handed_on};
+ghost use Rattle.mm_machine.specs.OpEnds.{acts_for, answer_in};
+ghost use Rattle.mm_machine.specs.declared.call.OpStage.TheVariants.{Begun};
+ghost use Rattle.mm_call.specs.CallKind.{CommitsFinding};
+ghost use Rattle.mm_call.specs.EndedCall.{result_of};
+ghost use Rattle.mm_call.specs.Untouched.{CountsHandedFault};
+ghost use Rattle.mm_call.specs.Machine.{CallFinishes, CallReads, IsMade, LeavesRoom, MayCommit, end_of_machine};
+ghost use Rattle.mm_call.specs.Refusals.{result_with_fault};
 
-use crate::ended::{Ended, refusal_of};
-use mm_machine::{Call, Found, Operation, finish, finish_change, read};
+use crate::ended::{AskResult, refusal_of};
+use mm_machine::{OpCall, OpFinding, Operation, finish, finish_change, read};
 use mm_model::{BatchAnswer, Refusal};
 use mm_platform::{Platform, StepFault};
 use mm_seal::KeptKey;
@@ -46,7 +46,7 @@ pub fn read_call<O: Operation<Answer = BatchAnswer, Refusal = Refusal>, P: Platf
     op: &O,
     platform: &mut P,
     keys: &mut KeptKey,
-) -> Result<Found<BatchAnswer>, Refusal>
+) -> Result<OpFinding<BatchAnswer>, Refusal>
     ensures reads { CallReads (O.asked op.now) (P.standing platform.old) (P.standing platform.new)
         result }
     ensures room { LeavesRoom result (P.standing platform.new) }
@@ -60,18 +60,18 @@ pub fn read_call<O: Operation<Answer = BatchAnswer, Refusal = Refusal>, P: Platf
 /// Makes the changing steps, which commit what was found; a repeat has none. Takes no memory, but the room that the
 /// reading steps left.
 pub fn commit<P: Platform>(
-    found: Found<BatchAnswer>,
+    found: OpFinding<BatchAnswer>,
     platform: &mut P,
 ) -> Result<Committed, StepFault>
     requires { MayCommit found (P.standing platform.old) }
-    ensures commits { Commits (acts_for found) (answer_in found) (P.standing platform.old)
+    ensures commits { CommitsFinding (acts_for found) (answer_in found) (P.standing platform.old)
         (P.standing platform.new) result }
-    ensures faults { Blames (result_err result)
+    ensures faults { CountsHandedFault (result_err result)
         (P.standing platform.old).faults (P.standing platform.new).faults }
 {
     match found {
-        Found::Repeat(answer) => Ok(Committed { answer }),
-        Found::Change(ready) => {
+        OpFinding::Repeat(answer) => Ok(Committed { answer }),
+        OpFinding::Change(ready) => {
             handed_out(finish_change(ready.answer.position, ready, platform))
         }
     }
@@ -79,14 +79,14 @@ pub fn commit<P: Platform>(
 
 // What the changing steps of a call gave.
 #[inline(always)]
-fn handed_out(ended: mm_machine::Ended<BatchAnswer, Refusal>) -> Result<Committed, StepFault>
+fn handed_out(ended: mm_machine::OpResult<BatchAnswer, Refusal>) -> Result<Committed, StepFault>
     requires { IsMade ended }
-    ensures { result_of (end_told ended) ≡ handed_on result }
+    ensures { result_of (end_of_machine ended) ≡ result_with_fault result }
 {
     match ended {
-        mm_machine::Ended::Answered(answer) => Ok(Committed { answer }),
-        mm_machine::Ended::Broken { fault, .. } => Err(fault),
-        mm_machine::Ended::Refused(_) | mm_machine::Ended::Lacks => unreachable!(),
+        mm_machine::OpResult::Answered(answer) => Ok(Committed { answer }),
+        mm_machine::OpResult::Broken { fault, .. } => Err(fault),
+        mm_machine::OpResult::Refused(_) | mm_machine::OpResult::Lacks => unreachable!(),
     }
 }
 
@@ -96,9 +96,9 @@ pub fn finish_call<O: Operation<Answer = BatchAnswer, Refusal = Refusal>, P: Pla
     op: &O,
     platform: &mut P,
     keys: &mut KeptKey,
-) -> Ended
+) -> AskResult
     ensures { CallFinishes (O.asked op.now) Begun (P.standing platform.old)
         (P.standing platform.new) result }
 {
-    Ended::of(finish(op, Call::begin(), platform, keys))
+    AskResult::of(finish(op, OpCall::begin(), platform, keys))
 }

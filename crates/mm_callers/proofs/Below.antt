@@ -10,68 +10,68 @@ pub use Rattle.mm_digest.specs.Messages.{anchored_message, extended_message}
 pub use Rattle.mm_digest.specs.declared.variant.Variant.{Variant}
 pub use Rattle.mm_digest.specs.declared.variant.Variant.TheVariants.{Basic, Opt}
 pub use Rattle.mm_seal.specs.Parts.{parts_of}
-pub use Rattle.mm_seal.specs.Snapshot.{Content, IsContent, sealed_of}
+pub use Rattle.mm_seal.specs.Snapshot.{Content, IsContent, sealed_snapshot_of}
 pub use Rattle.mm_platform.specs.Standing.{foreign_item, Item, item_values, Standing}
-pub use Rattle.mm_platform.specs.Told.{quiet_plan}
+pub use Rattle.mm_platform.specs.PlannedSteps.{quiet_plan}
 pub use Rattle.mm_platform.specs.declared.fault.StepFault.{StepFault}
-pub use Rattle.mm_machine.specs.declared.operation.Found.{Found as Given}
+pub use Rattle.mm_machine.specs.declared.operation.OpFinding.{OpFinding as Given}
 pub use Rattle.mm_module.specs.Batch.{Batch, One}
 pub use Rattle.mm_module.specs.Meaning.{IsLawful, Meaning}
 pub use Rattle.mm_model.specs.BatchLaws.{at_the_end, before_the_last, total-push}
 pub use Rattle.mm_model.specs.ChainLaws.{after-append}
-pub use Rattle.mm_model.specs.Chains.{after, guard, trail}
+pub use Rattle.mm_model.specs.Chains.{digest_after, guard, trail}
 pub use Rattle.mm_model.specs.Fit.{IsFit}
-pub use Rattle.mm_model.specs.History.{Close, Commit, Entry, Foreign, History, Move, moved, register_value_of, total_of, Value}
+pub use Rattle.mm_model.specs.History.{Close, Commit, RegisterEntry, Foreign, History, Move, history_after, register_value_of, total_of, Value}
 pub use Rattle.mm_model.specs.HistoryWords.{cell_digest_of, values_of as entry_values}
 pub use Rattle.mm_model.specs.Instance.{Instance}
-pub use Rattle.mm_model.specs.InstanceWords.{basic, opt}
+pub use Rattle.mm_model.specs.InstanceWords.{basic_instance, opt_instance}
 pub use Rattle.mm_model.specs.Life.{is_empty, is_lost, life_of, Live}
 pub use Rattle.mm_model.specs.Long.{is_long}
-pub use Rattle.mm_model.specs.Messages.{IsClear, offer_messages, Within}
-pub use Rattle.mm_model.specs.Moves.{Digests, digests_of, IsAllowed, made}
-pub use Rattle.mm_model.specs.Places.{issued, Names}
+pub use Rattle.mm_model.specs.Messages.{IsClear, offer_messages, AreMessagesIn}
+pub use Rattle.mm_model.specs.Moves.{Digests, digests_of, IsAllowed, digests_after}
+pub use Rattle.mm_model.specs.Places.{content_of_issue, NamesPosition}
 pub use Rattle.mm_model.specs.Standing.{IsRight, issued_bytes, StandsFor}
-pub use Rattle.mm_model.specs.Steps.{ask_steps, checkpoint_steps, Reads, Step, Writes}
+pub use Rattle.mm_model.specs.Steps.{ask_steps, checkpoint_steps, Reads, DeviceStep, Writes}
 pub use Rattle.mm_model.specs.declared.answer.Answer.{Answer}
 pub use Rattle.mm_model.specs.declared.answer.BatchAnswer.{BatchAnswer}
 pub use Rattle.mm_model.specs.declared.refusal.Refusal.{Refusal}
 pub use Rattle.mm_model.specs.declared.refusal.Refusal.TheVariants.{Device, Long, Memory}
 pub use Rattle.mm_model.specs.declared.verdict.Verdict.{Verdict}
 pub use Rattle.mm_model.proofs.Above.{basic_issued, opt_issued, opt_names}
-pub use Rattle.mm_call.specs.Asked.{counted_moves, counted_part, foreign_in, IsAsked, IsWithin, moves_messages, right_messages}
-pub use Rattle.mm_call.specs.AskedIn.{AskedIn}
-pub use Rattle.mm_call.specs.Called.{called, Called, ended_by, given_for, reading_steps, seen_at}
-pub use Rattle.mm_call.specs.CalledWords.{called_with}
-pub use Rattle.mm_call.specs.Calls.{CallOf}
-pub use Rattle.mm_call.specs.CallsOn.{CallContinues, CallsOn}
-pub use Rattle.mm_call.specs.Checkpoints.{checkpointed, closing_of, IsClosedWithin}
-pub use Rattle.mm_call.specs.Coming.{Comes, EndsWith, grown, kept}
+pub use Rattle.mm_call.specs.CallPremises.{counted_moves, counted_part, foreign_move_values, IsAsked, IsWithin, messages_of_moves, right_messages}
+pub use Rattle.mm_call.specs.AskPromise.{AskPromise}
+pub use Rattle.mm_call.specs.CallOutcome.{call_outcome, CallOutcome, call_ending_by, result_of_ending, reading_steps, state_seen}
+pub use Rattle.mm_call.specs.CallOutcomeWords.{call_outcome_with}
+pub use Rattle.mm_call.specs.CallKind.{CallKind}
+pub use Rattle.mm_call.specs.CallOnCourse.{CallContinues, IsCallOnCourse}
+pub use Rattle.mm_call.specs.Checkpoints.{checkpoint_outcome, checkpoint_ending, IsClosedWithin}
+pub use Rattle.mm_call.specs.HistoryGrowth.{HistoryGrows, EndsWith, grown, kept}
 pub use Rattle.mm_call.specs.Counts.{StepsBy}
-pub use Rattle.mm_call.specs.Courses.{after_step, closes, Course, Done, End, Fails, Fate, seen_in, walk, Walked}
-pub use Rattle.mm_call.specs.Found.{Found, found_at, right_content}
-pub use Rattle.mm_call.specs.FoundWords.{found_unless_wanting, is_fresh}
-pub use Rattle.mm_call.specs.Leaving.{Blames, IsAccepted, whole, whole_in}
-pub use Rattle.mm_call.specs.Levels.{all_made, by_digests, by_lists}
+pub use Rattle.mm_call.specs.Courses.{walk_from_step, has_close, Course, Done, End, Fails, StepFate, moves_seen, walk, StepsWalk}
+pub use Rattle.mm_call.specs.CallFinding.{CallFinding, finding_at, right_content}
+pub use Rattle.mm_call.specs.CallFindingWords.{finding_unless_wanting, is_fresh}
+pub use Rattle.mm_call.specs.Untouched.{CountsHandedFault, IsAccepted, batch_answer_of, batch_result_of}
+pub use Rattle.mm_call.specs.Levels.{state_after_moves, digest_level, list_level}
 pub use Rattle.mm_call.specs.MoveLaws.{more_batches, same_batches}
 pub use Rattle.mm_call.specs.OfferLaws.{basic_content, issued_once, listed_by, one_content, opt_content, right_of}
 pub use Rattle.mm_call.specs.Premises.{AreAsked, AreShown, IsIdle}
 pub use Rattle.mm_call.specs.Refusals.{fault_in, fault_of}
 pub use Rattle.mm_call.specs.ShowingLaws.{asked_by}
-pub use Rattle.mm_call.specs.Standing.{shown, StandsAt}
-pub use Rattle.mm_call.specs.Tied.{foreign_items, standing_items}
-pub use Rattle.mm_call.specs.WalkLaws.{batch, Commits, finished, foreign_first, foreign_made, nothing}
+pub use Rattle.mm_call.specs.Standing.{items_after_moves, StandsAt}
+pub use Rattle.mm_call.specs.ShownItems.{foreign_items, standing_items}
+pub use Rattle.mm_call.specs.WalkLaws.{batch, Commits, finished_walk, foreign_first, foreign_made, nothing}
 pub use Rattle.mm_call.proofs.Above.{again_of, Alike, alike_call, alike_foreign, alike_still, answered_at, asked_for, asked_idle, bare}
 pub use Rattle.mm_call.proofs.Above.{basic_asked, basic_comes, Brought, call_goes_on, DigestMoves, fresh_of, GoesOn, grown_by, hands}
 pub use Rattle.mm_call.proofs.Above.{idle_again, idle_moves, issued_alike, Left, names_after, names_made, opt_comes, placed, Pushed}
 pub use Rattle.mm_call.proofs.Above.{reads_only, right_at, same_closed, seen_closes, shown_front, stands_at, unless_idle}
 pub use Rattle.mm_call.proofs.OptAlike.{still}
-pub use Rattle.mm_opt.specs.ChecksOn.{ChecksOn, closing_told}
+pub use Rattle.mm_opt.specs.CheckpointOnCourse.{IsCheckpointOnCourse, checkpoint_result}
 pub use Rattle.mm_opt.specs.declared.segment.CheckpointRefusal.{CheckpointRefusal}
 pub use Rattle.mm_opt.specs.declared.segment.Checkpointed.{Checkpointed as Said}
-pub use Rattle.mm_callers.specs.Basic.{AnswersOnce, AreAskedNext, AsksAgain, AsksTwice, finds, in_first, in_second, IsLeft, IsOnce}
+pub use Rattle.mm_callers.specs.Basic.{AnswersOnce, AreAskedNext, AsksAgain, AsksTwice, finding_for, in_first, in_second, AreLeftBatches, IsOnce}
 pub use Rattle.mm_callers.specs.Basic.{SaysFound, SaysUnlessFault}
 pub use Rattle.mm_callers.specs.Closing.{AreShownUnlessIdle, ClosesBetween, EndsBehind, in_closing, MayClose, RepeatsBehind, RepeatsReply}
 pub use Rattle.mm_callers.specs.Closing.{SaysClosing}
-pub use Rattle.mm_callers.specs.Complete.{batches_then, IsAnswer, IsOfferedAt, IsWelcome}
+pub use Rattle.mm_callers.specs.Completeness.{batches_after_call, IsAnswer, IsOfferedAt, IsWelcome}
 pub use Rattle.mm_callers.specs.Counts.{again, alone, at_once, both, CountsAgain, CountsCall, replied, StepsFor}
 pub use Rattle.mm_callers.specs.Opt.{AnswersOrLacks, AsksByQuietPlan, AsksInMemory, AsksOnce, AsksWelcome}

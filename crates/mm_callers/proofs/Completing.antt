@@ -1,17 +1,17 @@
 -- A welcome offer is found, and a call that finds it and isn't broken off answers.
 use Rattle.mm_callers.proofs.Below.{◌≡◌, ℕ, ◌+◌, Bool, true, false, List, [], ◌∷◌, ◌++◌, None, Result, Ok, refl, sym, ap, ◌∙◌, subst}
-use Rattle.mm_callers.proofs.Below.{if◌then◌else◌, nat_eq, Variant, Batch, Content, Instance, History, total_of, Live, life_of, Step}
-use Rattle.mm_callers.proofs.Below.{ask_steps, at_the_end, before_the_last, Refusal, Verdict, by_lists, all_made, Found, found_at}
-use Rattle.mm_callers.proofs.Below.{found_unless_wanting, End, Done, Fails, Fate, Walked, after_step, walk, seen_at, ended_by, called_with}
+use Rattle.mm_callers.proofs.Below.{if◌then◌else◌, nat_eq, Variant, Batch, Content, Instance, History, total_of, Live, life_of, DeviceStep}
+use Rattle.mm_callers.proofs.Below.{ask_steps, at_the_end, before_the_last, Refusal, Verdict, list_level, state_after_moves, CallFinding, finding_at}
+use Rattle.mm_callers.proofs.Below.{finding_unless_wanting, End, Done, Fails, StepFate, StepsWalk, walk_from_step, walk, state_seen, call_ending_by, call_outcome_with}
 use Rattle.mm_callers.proofs.Below.{again_of, fresh_of, same_batches, more_batches, Commits, nothing, batch, IsOfferedAt, IsWelcome}
-use Rattle.mm_callers.proofs.Below.{batches_then, IsAnswer}
+use Rattle.mm_callers.proofs.Below.{batches_after_call, IsAnswer}
 use Rattle.std.proofs.lemmas.Bool.{eq-eqb}
-use Rattle.mm_model.specs.Judge.{judge}
+use Rattle.mm_model.specs.Verdicts.{verdict_on}
 use Rattle.mm_model.specs.declared.verdict.Verdict.TheVariants.{Fresh, Again}
-use Rattle.mm_call.specs.Order.{admitted}
+use Rattle.mm_call.specs.Order.{check_of_verdict}
 use Rattle.mm_call.specs.WalkLaws.{call_commits}
 use Rattle.mm_opt.proofs.Above.{found_right}
-use Rattle.mm_callers.specs.Complete.{CallsAreComplete}
+use Rattle.mm_callers.specs.Completeness.{CallsAreComplete}
 use Rattle.mm_callers.proofs.Leaving.{not_again}
 
 -- the verdict on a welcome offer
@@ -19,7 +19,7 @@ abbrev pub verdict_of : Bool → Verdict
 verdict_of true = Again
 verdict_of false = Fresh
 
-admits : (again : Bool) → admitted (verdict_of again) true ≡ Ok again
+admits : (again : Bool) → check_of_verdict (verdict_of again) true ≡ Ok again
 admits true = refl
 admits false = refl
 
@@ -31,7 +31,7 @@ not_here true batches front b is e =
     absurd (not_again batches front b is (ap total_of (sym ((at_the_end batches front (b ∷ []) (sym is)).0 e))))
 
 pub verdict_is : (variant : Variant) (y : History) (p : ℕ) (b : Batch) (again : Bool) → life_of variant y ≡ Live
-    → IsOfferedAt again y.batches p b → judge variant y p b ≡ verdict_of again
+    → IsOfferedAt again y.batches p b → verdict_on variant y p b ≡ verdict_of again
 verdict_is variant y p b false live offered =
     simp (live, eq-eqb p (total_of y.batches) offered)
 verdict_is variant y p b true live offered =
@@ -44,44 +44,44 @@ verdict_is variant y p b true live offered =
       (before_the_last y.batches front (b ∷ []) b (sym is)).1 is,
     )
 
-abbrev accepted : Content → Bool → Found
+abbrev accepted : Content → Bool → CallFinding
 accepted content again = record { offered = content; again = again }
 
 pub welcome_found : (i : Instance) (y : History) (offer : List ℕ) (b : Batch) (again : Bool) → (w : IsWelcome i y offer b again)
-    → found_at i (by_lists i) y b offer ≡ Ok (accepted w.content again)
+    → finding_at i (list_level i) y b offer ≡ Ok (accepted w.content again)
 welcome_found i y offer b again w =
     found_right i y offer b w.content w.live w.right w.fits
     ∙ simp (verdict_is i.variant y w.content.position b again w.live w.offered, admits again)
 
 -- a walk of which no step fails isn't broken off
-done_then : (step : Step) (values : List (List ℕ)) (ends : End) (rest : Walked) → ends ≡ Done → rest.broken ≡ None
-    → (after_step step values ends rest).broken ≡ None
+done_then : (step : DeviceStep) (values : List (List ℕ)) (ends : End) (rest : StepsWalk) → ends ≡ Done → rest.broken ≡ None
+    → (walk_from_step step values ends rest).broken ≡ None
 done_then step values Done rest e h = h
 done_then step values (Fails fault made) rest e h = absurd (cc)
 
-pub walk_whole : (fates : ℕ → Fate) → ((n : ℕ) → (fates n).ends ≡ Done) → (steps : List Step) (n : ℕ) → (walk fates n steps).broken ≡ None
+pub walk_whole : (fates : ℕ → StepFate) → ((n : ℕ) → (fates n).ends ≡ Done) → (steps : List DeviceStep) (n : ℕ) → (walk fates n steps).broken ≡ None
 walk_whole fates done [] n = refl
 walk_whole fates done (step ∷ steps) n =
     done_then step (fates n).brings (fates n).ends (walk fates (n + 1) steps) (done n) (walk_whole fates done steps (n + 1))
 
-answered_batches : (i : Instance) (y : History) (b : Batch) (again : Bool) (w : Walked) → Commits b (if again then false else true) w
-    → w.broken ≡ None → (all_made (by_lists i) y w.moves).batches ≡ batches_then again y.batches b
+answered_batches : (i : Instance) (y : History) (b : Batch) (again : Bool) (w : StepsWalk) → Commits b (if again then false else true) w
+    → w.broken ≡ None → (state_after_moves (list_level i) y w.moves).batches ≡ batches_after_call again y.batches b
 answered_batches i y b again w (nothing none unless) whole =
-    same_batches i w.moves y none ∙ ap (λ (a : Bool). batches_then a y.batches b) (sym (again_of again (unless whole)))
+    same_batches i w.moves y none ∙ ap (λ (a : Bool). batches_after_call a y.batches b) (sym (again_of again (unless whole)))
 answered_batches i y b again w (batch one fresh) whole =
-    more_batches i w.moves y b one ∙ ap (λ (a : Bool). batches_then a y.batches b) (sym (fresh_of again fresh))
+    more_batches i w.moves y b one ∙ ap (λ (a : Bool). batches_after_call a y.batches b) (sym (fresh_of again fresh))
 
 -- a call that finds a welcome offer
 pub complete : (i : Instance) → CallsAreComplete i
 complete i y c offer b again smooth w =
-    let seen : History = seen_at i (by_lists i) y c in
-    let found : found_unless_wanting (found_at i (by_lists i) seen b offer) c.lacks ≡ Ok (accepted w.content again) =
+    let seen : History = state_seen i (list_level i) y c in
+    let found : finding_unless_wanting (finding_at i (list_level i) seen b offer) c.lacks ≡ Ok (accepted w.content again) =
     simp (welcome_found i seen offer b again w, smooth.lacks) in
     let fresh : Bool = if again then false else true in
-    let walked : Walked = walk c.fates 1 (ask_steps i.variant y.is_open fresh b) in
+    let walked : StepsWalk = walk c.fates 1 (ask_steps i.variant y.is_open fresh b) in
     let whole : walked.broken ≡ None = walk_whole c.fates smooth.done (ask_steps i.variant y.is_open fresh b) 1 in
-    subst (λ (x : Result Found Refusal). IsAnswer i y b again (called_with i (by_lists i) y seen c b x)) (sym found) (record {
+    subst (λ (x : Result CallFinding Refusal). IsAnswer i y b again (call_outcome_with i (list_level i) y seen c b x)) (sym found) (record {
       ending = ap
-          (ended_by (by_lists i) seen (all_made (by_lists i) y walked.moves) b (Ok (accepted w.content again)) walked.moves) whole;
+          (call_ending_by (list_level i) seen (state_after_moves (list_level i) y walked.moves) b (Ok (accepted w.content again)) walked.moves) whole;
       batches = answered_batches i y b again walked (call_commits i.variant c.fates y.is_open fresh b) whole;
     })

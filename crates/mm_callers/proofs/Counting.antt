@@ -1,7 +1,7 @@
 -- What callers count, from the clauses of their calls.
 use Rattle.mm_callers.proofs.Below.{◌≡◌, ℕ, Bool, true, false, List, Some, Result, Ok, Err, refl, ap, subst, Variant, Opt, StepFault}
 use Rattle.mm_callers.proofs.Below.{Standing, quiet_plan, Meaning, Batch, One, is_long, BatchAnswer, Refusal, Long, Device, StepsBy}
-use Rattle.mm_callers.proofs.Below.{AskedIn, CallOf, Given, StepsFor, CountsCall, CountsAgain, again}
+use Rattle.mm_callers.proofs.Below.{AskPromise, CallKind, Given, StepsFor, CountsCall, CountsAgain, again}
 use Rattle.mm_call.specs.Counts.{StepsMade, one_step, two_steps, three_steps, four_steps, five_steps, StepsAnswered, StepsRefused}
 
 steps_for : (t : Bool) (variant : Variant) (old new : Standing) (result : Result BatchAnswer Refusal)
@@ -10,8 +10,8 @@ steps_for true variant old new result long short =
     let l = long refl in (l.1, ap (λ (s : Standing). s.steps) l.0, ap (λ (s : Standing). s.writes) l.0)
 steps_for false variant old new result long short = short refl
 
-pub counts_call : {core : CallOf (Given BatchAnswer)} {meaning : Meaning} {old new : Standing} {offer : List ℕ} {b : Batch}
-    {result : Result BatchAnswer Refusal} → AskedIn core meaning old new offer b result → CountsCall core.variant b old new result
+pub counts_call : {core : CallKind (Given BatchAnswer)} {meaning : Meaning} {old new : Standing} {offer : List ℕ} {b : Batch}
+    {result : Result BatchAnswer Refusal} → AskPromise core meaning old new offer b result → CountsCall core.variant b old new result
 counts_call {core = core} {old = old} {new = new} {b = b} {result = result} call =
     record { steps = steps_for (is_long b) core.variant old new result call.calls.long call.steps; faults = call.faults }
 

@@ -1,24 +1,24 @@
 -- What a call leaves and says, in either variant; and so the same call made again, or another one on its answer.
 use Rattle.mm_callers.proofs.Below.{◌≡◌, ℕ, ◌≤◌, Bool, true, false, List, [], ◌∷◌, ◌++◌, Option, None, Some, Result, Ok, Err, refl, sym, ap}
 use Rattle.mm_callers.proofs.Below.{◌∙◌, subst, ◌⊎◌, inl, inr, arith, if◌then◌else◌, Contains, last_position, Variant, Basic, Opt}
-use Rattle.mm_callers.proofs.Below.{StepFault, Standing, Meaning, Batch, parts_of, Content, IsContent, sealed_of, Instance, History}
-use Rattle.mm_callers.proofs.Below.{Move, EndsWith, total_of, IsFit, is_long, Within, offer_messages, Names, issued, StandsFor, IsRight}
+use Rattle.mm_callers.proofs.Below.{StepFault, Standing, Meaning, Batch, parts_of, Content, IsContent, sealed_snapshot_of, Instance, History}
+use Rattle.mm_callers.proofs.Below.{Move, EndsWith, total_of, IsFit, is_long, AreMessagesIn, offer_messages, NamesPosition, content_of_issue, StandsFor, IsRight}
 use Rattle.mm_callers.proofs.Below.{issued_bytes, Reads, ask_steps, total-push, BatchAnswer, Refusal, Long, right_messages, IsWithin}
-use Rattle.mm_callers.proofs.Below.{called, seen_at, ended_by, given_for, reading_steps, CallContinues, CallsOn, Comes, kept, grown, Course}
-use Rattle.mm_callers.proofs.Below.{Walked, seen_in, walk, Found, found_at, foreign_made, right_content, found_unless_wanting, is_fresh}
-use Rattle.mm_callers.proofs.Below.{AskedIn, CallOf, Given, Blames, by_lists, all_made, one_content, right_of, listed_by, issued_once, AreAsked, fault_of, fault_in}
-use Rattle.mm_callers.proofs.Below.{answered_at, IsOnce, AnswersOnce, IsLeft, SaysFound, SaysUnlessFault, finds, in_second}
-use Rattle.mm_base.specs.Faults.{counted, Rose}
+use Rattle.mm_callers.proofs.Below.{call_outcome, state_seen, call_ending_by, result_of_ending, reading_steps, CallContinues, IsCallOnCourse, HistoryGrows, kept, grown, Course}
+use Rattle.mm_callers.proofs.Below.{StepsWalk, moves_seen, walk, CallFinding, finding_at, foreign_made, right_content, finding_unless_wanting, is_fresh}
+use Rattle.mm_callers.proofs.Below.{AskPromise, CallKind, Given, CountsHandedFault, list_level, state_after_moves, one_content, right_of, listed_by, issued_once, AreAsked, fault_of, fault_in}
+use Rattle.mm_callers.proofs.Below.{answered_at, IsOnce, AnswersOnce, AreLeftBatches, SaysFound, SaysUnlessFault, finding_for, in_second}
+use Rattle.mm_base.specs.Faults.{next_count, CountRose}
 use Rattle.mm_module.specs.BatchLaws.{size_of-pos}
 use Rattle.mm_call.specs.Answers.{answer_on}
 use Rattle.mm_call.proofs.Above.{path_is, sight_is}
-use Rattle.mm_callers.specs.Basic.{EndsOnce, EndsNext, Stays}
+use Rattle.mm_callers.specs.Basic.{EndsOnce, EndsNext, StaysAsAsked}
 
-module _ {core : CallOf (Given BatchAnswer)} {meaning : Meaning} {old new : Standing} {offer : List ℕ} {b : Batch}
-    {result : Result BatchAnswer Refusal} (call : AskedIn core meaning old new offer b result) where
+module _ {core : CallKind (Given BatchAnswer)} {meaning : Meaning} {old new : Standing} {offer : List ℕ} {b : Batch}
+    {result : Result BatchAnswer Refusal} (call : AskPromise core meaning old new offer b result) where
   -- what holds of one that is too long, and of one that isn't
   pub by_length : (P : Standing → Result BatchAnswer Refusal → Type 0) → (is_long b ≡ true → P old (Err Long))
-      → (is_long b ≡ false → CallsOn core.variant meaning old new offer b result → P new result) → P new result
+      → (is_long b ≡ false → IsCallOnCourse core.variant meaning old new offer b result → P new result) → P new result
   by_length P long short = cases (is_long b) refl
     where
       cases : (t : Bool) → is_long b ≡ t → P new result
@@ -32,9 +32,9 @@ module _ {core : CallOf (Given BatchAnswer)} {meaning : Meaning} {old new : Stan
       by_length (λ (s : Standing) (r : Result BatchAnswer Refusal). (r ≡ Err Long → ⊥) → is_long b ≡ false)
       (λ e (h : Err Long ≡ Err Long → ⊥). absurd (h refl)) (λ e c h. e) never
 
-pub answered : {core : CallOf (Given BatchAnswer)} {meaning : Meaning} {old new : Standing} {offer : List ℕ} {b : Batch}
-    {answer : BatchAnswer} → AskedIn core meaning old new offer b (Ok answer)
-    → CallsOn core.variant meaning old new offer b (Ok answer)
+pub answered : {core : CallKind (Given BatchAnswer)} {meaning : Meaning} {old new : Standing} {offer : List ℕ} {b : Batch}
+    {answer : BatchAnswer} → AskPromise core meaning old new offer b (Ok answer)
+    → IsCallOnCourse core.variant meaning old new offer b (Ok answer)
 answered {answer = answer} call = call.goes (not_long call (λ (is : Ok answer ≡ Err Long). cc))
 
 -- no offer names two ends
@@ -70,7 +70,7 @@ not_at_end {i = i} {batches = batches} {offer = offer} {b = b} o content right a
     not_again batches o.ends.front b o.ends.is (sym at ∙ ap (λ (c : Content). c.position) (sym same) ∙ o.position)
 
 module _ {i : Instance} {y after : History} {offer : List ℕ} {b : Batch} where
-  pub once : {result : Result BatchAnswer Refusal} → Comes i y offer b after result → Once i y.batches b after result
+  pub once : {result : Result BatchAnswer Refusal} → HistoryGrows i y offer b after result → Once i y.batches b after result
   once (kept same gives) = record {
     grows = inl same;
     answers = λ answer is.
@@ -83,7 +83,7 @@ module _ {i : Instance} {y after : History} {offer : List ℕ} {b : Batch} where
 
 -- the same call, made once more at the batches to which the first one came
 pub once_twice : {i : Instance} {y middle other after : History} {offer : List ℕ} {b : Batch} {first second : Result BatchAnswer Refusal}
-    → Comes i y offer b middle first → other.batches ≡ middle.batches → Comes i other offer b after second
+    → HistoryGrows i y offer b middle first → other.batches ≡ middle.batches → HistoryGrows i other offer b after second
     → Once i y.batches b after second
 once_twice {i = i} {after = after} {b = b} {second = second} (kept same none) e c =
     subst (λ (bs : List Batch). Once i bs b after second) (e ∙ same) (once c)
@@ -111,17 +111,17 @@ answers_once {after = after} {answer = answer} s o =
 
 pub record IsCalm (i : Instance) (y after : History) : Type 0 where
   pub batches : after.batches ≡ y.batches
-  pub issues : issued i after ≡ issued i y
+  pub issues : content_of_issue i after ≡ content_of_issue i y
 
 pub record Said (i : Instance) (y after : History) (offer : List ℕ) (b : Batch) (why : Refusal) : Type 0 where
   pub calm : fault_of why ≡ None → IsCalm i y after
-  pub says : SaysUnlessFault (fault_of why) (finds i after offer b) why
+  pub says : SaysUnlessFault (fault_of why) (finding_for i after offer b) why
 
 abbrev pub Says : Instance → History → History → List ℕ → Batch → Result BatchAnswer Refusal → Type 0
 Says i y after offer b (Ok answer) = Unit {0}
 Says i y after offer b (Err why) = Said i y after offer b why
 
-says_found : (f : Option StepFault) (x : Result Found Refusal) (lacks : Bool) (why : Refusal) → found_unless_wanting x lacks ≡ Err why
+says_found : (f : Option StepFault) (x : Result CallFinding Refusal) (lacks : Bool) (why : Refusal) → finding_unless_wanting x lacks ≡ Err why
     → SaysUnlessFault f x why
 says_found (Some fault) x lacks why e = tt
 says_found None (Err is) lacks why e = cc
@@ -129,11 +129,11 @@ says_found None (Ok it) false why e = absurd (cc)
 says_found None (Ok it) true why e = cc
 
 -- by how it ended
-pub told : (i : Instance) (y seen after : History) (offer : List ℕ) (b : Batch) (lacks : Bool) (s : History) (found : Result Found Refusal)
+pub told : (i : Instance) (y seen after : History) (offer : List ℕ) (b : Batch) (lacks : Bool) (s : History) (found : Result CallFinding Refusal)
     (moves : List Move) (broken : Option StepFault) → is_long b ≡ false → IsCalm i y seen
-    → found_unless_wanting (found_at i (by_lists i) seen b offer) lacks ≡ found
+    → finding_unless_wanting (finding_at i (list_level i) seen b offer) lacks ≡ found
     → (broken ≡ None → is_fresh found ≡ false → seen ≡ after)
-    → Says i y after offer b (given_for (ended_by (by_lists i) seen s b found moves broken))
+    → Says i y after offer b (result_of_ending (call_ending_by (list_level i) seen s b found moves broken))
 told i y seen after offer b lacks s found moves (Some fault) short calm is there =
     record { calm = λ (none : Some fault ≡ None). absurd (cc); says = tt }
 told i y seen after offer b lacks s (Ok it) moves None short calm is there = tt
@@ -141,17 +141,17 @@ told i y seen after offer b lacks s (Err why) moves None short calm is there =
     let same : seen ≡ after = there refl refl in
     record {
       calm = λ _. subst (IsCalm i y) same calm;
-      says = subst (λ (x : Result Found Refusal). SaysUnlessFault (fault_of why) x why)
-          (ap (λ (z : History). found_at i (by_lists i) z b offer) same
-          ∙ ap (λ (t : Bool). if t then Err Long else found_at i (by_lists i) after b offer) (sym short))
-          (says_found (fault_of why) (found_at i (by_lists i) seen b offer) lacks why is);
+      says = subst (λ (x : Result CallFinding Refusal). SaysUnlessFault (fault_of why) x why)
+          (ap (λ (z : History). finding_at i (list_level i) z b offer) same
+          ∙ ap (λ (t : Bool). if t then Err Long else finding_at i (list_level i) after b offer) (sym short))
+          (says_found (fault_of why) (finding_at i (list_level i) seen b offer) lacks why is);
     }
 
 -- a call that found no new batch, and wasn't broken off, stands where it saw
 pub sees_end : (variant : Variant) (i : Instance) (y : History) (c : Course) (flag fresh : Bool) (b : Batch) → fresh ≡ false
     → (walk c.fates 1 (ask_steps variant flag fresh b)).broken ≡ None
-    → all_made (by_lists i) y (seen_in c.fates (reading_steps variant) 1)
-    ≡ all_made (by_lists i) y (walk c.fates 1 (ask_steps variant flag fresh b)).moves
+    → state_after_moves (list_level i) y (moves_seen c.fates (reading_steps variant) 1)
+    ≡ state_after_moves (list_level i) y (walk c.fates 1 (ask_steps variant flag fresh b)).moves
 sees_end variant i y c flag true b e whole = absurd (cc)
 sees_end Basic i y c flag false b e whole =
     foreign_made i (c.fates 1).brings [] y ∙ sym (path_is i c.fates (Reads ∷ []) 1 y whole)
@@ -163,8 +163,8 @@ module _ (all others : List (List ℕ)) (asked : List Batch) (i : Instance) wher
     pub after : History
     pub stands : StandsFor i new after
     pub within : IsWithin all others asked i after
-    pub comes : Comes i y offer b after result
-    pub names : (content : Content) → Names i y content → Names i after content
+    pub comes : HistoryGrows i y offer b after result
+    pub names : (content : Content) → NamesPosition i y content → NamesPosition i after content
 
   -- and what it says
   pub record Left (y : History) (new : Standing) (offer : List ℕ) (b : Batch) (result : Result BatchAnswer Refusal) : Type 0 where
@@ -173,7 +173,7 @@ module _ (all others : List (List ℕ)) (asked : List Batch) (i : Instance) wher
 
   -- what is asked of a call, where other calls led to another history
   pub asked_on : {y after : History} {offer : List ℕ} {b : Batch} → IsWithin all others asked i after
-      → ((content : Content) → Names i y content → Names i after content) → AreAsked all others asked i y offer b
+      → ((content : Content) → NamesPosition i y content → NamesPosition i after content) → AreAsked all others asked i y offer b
       → AreAsked all others asked i after offer b
   asked_on within names a = record {
     clear = a.clear;
@@ -196,27 +196,27 @@ module _ (all others : List (List ℕ)) (asked : List Batch) (i : Instance) wher
     };
     says = record {
       calm = λ _. record { batches = refl; issues = refl };
-      says = subst (λ (t : Bool). SaysFound (if t then Err Long else found_at i (by_lists i) y b offer) Long) (sym e) refl;
+      says = subst (λ (t : Bool). SaysFound (if t then Err Long else finding_at i (list_level i) y b offer) Long) (sym e) refl;
     };
   }
 
   -- one that goes on a course, from what it sees, where nothing was committed
   abbrev pub left_short : (y : History) (c : Course) (new : Standing) (offer : List ℕ) (b : Batch) (result : Result BatchAnswer Refusal)
-      → is_long b ≡ false → CallContinues all others asked i (called i (by_lists i) y c offer b) new result
-      → Comes i y offer b (called i (by_lists i) y c offer b).state (given_for (called i (by_lists i) y c offer b).ending)
-      → ((content : Content) → Names i y content → Names i (called i (by_lists i) y c offer b).state content)
-      → IsCalm i y (seen_at i (by_lists i) y c) → Left y new offer b result
+      → is_long b ≡ false → CallContinues all others asked i (call_outcome i (list_level i) y c offer b) new result
+      → HistoryGrows i y offer b (call_outcome i (list_level i) y c offer b).state (result_of_ending (call_outcome i (list_level i) y c offer b).ending)
+      → ((content : Content) → NamesPosition i y content → NamesPosition i (call_outcome i (list_level i) y c offer b).state content)
+      → IsCalm i y (state_seen i (list_level i) y c) → Left y new offer b result
   left_short y c new offer b result short k comes names calm =
-      let end : History = (called i (by_lists i) y c offer b).state in
-      let seen : History = seen_at i (by_lists i) y c in
-      let found : Result Found Refusal = found_unless_wanting (found_at i (by_lists i) seen b offer) c.lacks in
-      let w : Walked = walk c.fates 1 (ask_steps i.variant y.is_open (is_fresh found) b) in
+      let end : History = (call_outcome i (list_level i) y c offer b).state in
+      let seen : History = state_seen i (list_level i) y c in
+      let found : Result CallFinding Refusal = finding_unless_wanting (finding_at i (list_level i) seen b offer) c.lacks in
+      let w : StepsWalk = walk c.fates 1 (ask_steps i.variant y.is_open (is_fresh found) b) in
       record {
         leaves = record {
           after = end;
           stands = k.stands;
           within = k.within;
-          comes = subst (Comes i y offer b end) (sym k.gives) comes;
+          comes = subst (HistoryGrows i y offer b end) (sym k.gives) comes;
           names = names;
         };
         says = subst (Says i y end offer b) (sym k.gives) (told i y seen end offer b c.lacks end found w.moves w.broken short calm refl
@@ -225,33 +225,33 @@ module _ (all others : List (List ℕ)) (asked : List Batch) (i : Instance) wher
 
 -- The callers' clauses.
 
-left_rose : (b : Batch) (old new : Standing) {before after : List Batch} → counted old.faults ≤ new.faults → Grows before b after
-    → IsLeft before b after old new
+left_rose : (b : Batch) (old new : Standing) {before after : List Batch} → next_count old.faults ≤ new.faults → Grows before b after
+    → AreLeftBatches before b after old new
 left_rose b old new rose g = elim g [ inl same ↦ inl same | inr more ↦ inr (more, rose) ]
 
-left_by : (f : Option StepFault) (b : Batch) (old new : Standing) {before after : List Batch} → Blames f old.faults new.faults
-    → (f ≡ None → after ≡ before) → Grows before b after → IsLeft before b after old new
+left_by : (f : Option StepFault) (b : Batch) (old new : Standing) {before after : List Batch} → CountsHandedFault f old.faults new.faults
+    → (f ≡ None → after ≡ before) → Grows before b after → AreLeftBatches before b after old new
 left_by None b old new blames calm g = inl (calm refl)
 left_by (Some fault) b old new rose calm g = left_rose b old new (omega (arith, rose)) g
 
 -- a count that rose stays risen
-rose_on : (f : Option StepFault) (before middle now : ℕ) → Rose before middle → Blames f middle now → counted before ≤ now
+rose_on : (f : Option StepFault) (before middle now : ℕ) → CountRose before middle → CountsHandedFault f middle now → next_count before ≤ now
 rose_on None before middle now rose same = omega (arith, rose, same)
 rose_on (Some fault) before middle now rose later = omega (arith, rose, later)
 
 says_next : (f : Option StepFault) (i : Instance) (y after : History) (next : List ℕ) (b : Batch) (why : Refusal) → next ≡ issued_bytes i y
-    → (f ≡ None → issued i after ≡ issued i y) → SaysUnlessFault f (finds i after next b) why
-    → SaysUnlessFault f (finds i after (issued_bytes i after) b) why
+    → (f ≡ None → content_of_issue i after ≡ content_of_issue i y) → SaysUnlessFault f (finding_for i after next b) why
+    → SaysUnlessFault f (finding_for i after (issued_bytes i after) b) why
 says_next (Some fault) i y after next b why e issues s = tt
 says_next None i y after next b why e issues s =
-    subst (λ (offer : List ℕ). SaysFound (finds i after offer b) why) (e ∙ ap (sealed_of i.key) (sym (issues refl))) s
+    subst (λ (offer : List ℕ). SaysFound (finding_for i after offer b) why) (e ∙ ap (sealed_snapshot_of i.key) (sym (issues refl))) s
 
 module _ {all others : List (List ℕ)} {asked : List Batch} {i : Instance} {y : History} {offer : List ℕ} {b : Batch} (old : Standing)
     (a : AreAsked all others asked i y offer b) where
   -- the call may be made at what another one leaves
   abbrev pub stays : {z : History} {new : Standing} {other : List ℕ} {c : Batch} {result : Result BatchAnswer Refusal}
-      → ((content : Content) → Names i y content → Names i z content) → After all others asked i z new other c result
-      → Stays all others asked i new offer b
+      → ((content : Content) → NamesPosition i y content → NamesPosition i z content) → After all others asked i z new other c result
+      → StaysAsAsked all others asked i new offer b
   stays names l = record {
     after = l.after;
     stands = l.stands;
@@ -259,7 +259,7 @@ module _ {all others : List (List ℕ)} {asked : List Batch} {i : Instance} {y :
   }
 
   -- one call
-  pub ends_once : {new : Standing} (result : Result BatchAnswer Refusal) → Blames (fault_in result) old.faults new.faults
+  pub ends_once : {new : Standing} (result : Result BatchAnswer Refusal) → CountsHandedFault (fault_in result) old.faults new.faults
       → Left all others asked i y new offer b result → EndsOnce all others asked i y old new offer b result
   ends_once (Ok answer) blames x = answers_once x.leaves.stands (once x.leaves.comes)
   ends_once {new = new} (Err why) blames x = record {
@@ -270,7 +270,7 @@ module _ {all others : List (List ℕ)} {asked : List Batch} {i : Instance} {y :
 
   -- a call that is made once more
   pub ends_again : {middle new : Standing} {first : Result BatchAnswer Refusal} (result : Result BatchAnswer Refusal)
-      → Rose old.faults middle.faults → Blames (fault_in result) middle.faults new.faults
+      → CountRose old.faults middle.faults → CountsHandedFault (fault_in result) middle.faults new.faults
       → (x : After all others asked i y middle offer b first) → Left all others asked i x.after new offer b result
       → EndsOnce all others asked i y old new offer b result
   ends_again (Ok answer) rose blames x z = answers_once z.leaves.stands (once_twice x.comes refl z.leaves.comes)
@@ -283,9 +283,9 @@ module _ {all others : List (List ℕ)} {asked : List Batch} {i : Instance} {y :
 
   -- The second of two calls, on the snapshot of the first answer, which says where the first came to: an answer is a new batch's.
   pub ends_next : {middle new : Standing} {one : BatchAnswer} {next : List ℕ} {second : Batch} (result : Result BatchAnswer Refusal)
-      → middle.faults ≡ old.faults → Blames (fault_in result) middle.faults new.faults → next ≡ one.snapshot
+      → middle.faults ≡ old.faults → CountsHandedFault (fault_in result) middle.faults new.faults → next ≡ one.snapshot
       → (x : After all others asked i y middle offer b (Ok one))
-      → ((content : Content) → IsRight i next content → issued i x.after ≡ content)
+      → ((content : Content) → IsRight i next content → content_of_issue i x.after ≡ content)
       → Left all others asked i x.after new next second result → EndsNext all others asked i y old new offer b second result
   ends_next {one = one} {second = second} (Ok answer) same blames e x says z = elim z.leaves.comes [
     | kept also gives ↦
@@ -301,21 +301,21 @@ module _ {all others : List (List ℕ)} {asked : List Batch} {i : Instance} {y :
   ends_next {new = new} {one = one} {next = next} {second = second} (Err why) same blames e x says z =
       let l = z.leaves in
       in_second x.after.batches ((once x.comes).answers one refl).0 (stays x.names l)
-      (left_by (fault_of why) second old new (subst (λ (n : ℕ). Blames (fault_of why) n new.faults) same blames)
+      (left_by (fault_of why) second old new (subst (λ (n : ℕ). CountsHandedFault (fault_of why) n new.faults) same blames)
       (λ f. (z.says.calm f).batches) (once l.comes).grows)
       (says_next (fault_of why) i x.after l.after next second why (e ∙ (answered_at i y x.after offer b one x.comes).1)
       (λ f. (z.says.calm f).issues) z.says.says)
 
   -- The first snapshot says where its call came to, and what is asked of the second call holds there.
   pub asked_next : {after : History} {next : List ℕ} {second : Batch} {one : BatchAnswer} → IsWithin all others asked i after
-      → Comes i y offer b after (Ok one) → IsFit b one → next ≡ one.snapshot
-      → (total_of after.batches ≤ last_position → IsContent (issued i after)) → Names i after (issued i after) → Contains asked second
-      → Within (offer_messages i (issued i after).place second) all
-      → ((content : Content) → IsRight i next content → issued i after ≡ content) × AreAsked all others asked i after next second
+      → HistoryGrows i y offer b after (Ok one) → IsFit b one → next ≡ one.snapshot
+      → (total_of after.batches ≤ last_position → IsContent (content_of_issue i after)) → NamesPosition i after (content_of_issue i after) → Contains asked second
+      → AreMessagesIn (offer_messages i (content_of_issue i after).place second) all
+      → ((content : Content) → IsRight i next content → content_of_issue i after ≡ content) × AreAsked all others asked i after next second
   asked_next {after = after} {next = next} {second = second} {one = one} within comes fit e formed names is_asked listed =
       let at = answered_at i y after offer b one comes in
-      let is : IsContent (issued i after) = formed (subst (λ (p : ℕ). p ≤ last_position) at.0 fit.most) in
-      let says : (content : Content) → IsRight i next content → issued i after ≡ content =
+      let is : IsContent (content_of_issue i after) = formed (subst (λ (p : ℕ). p ≤ last_position) at.0 fit.most) in
+      let says : (content : Content) → IsRight i next content → content_of_issue i after ≡ content =
       λ content right. issued_once i next after content is (e ∙ at.1) right in (
         says,
         record {
@@ -323,9 +323,9 @@ module _ {all others : List (List ℕ)} {asked : List Batch} {i : Instance} {y :
           apart = a.apart;
           within = within;
           is_asked = is_asked;
-          genuine = λ content right. subst (λ (x : Content). Names i after x) (says content right) names;
+          genuine = λ content right. subst (λ (x : Content). NamesPosition i after x) (says content right) names;
           offered = listed_by i after second all (right_content i next) (λ content is_said.
-              subst (λ (x : Content). Within (right_messages i second (Some x)) all)
+              subst (λ (x : Content). AreMessagesIn (right_messages i second (Some x)) all)
               (says content (right_of i next (parts_of i.variant i.meaning.id next) refl content is_said)) listed);
         },
       )

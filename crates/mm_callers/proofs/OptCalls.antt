@@ -1,14 +1,14 @@
 -- Opt: what a call hands on to the next, and the callers' clauses, from those of their calls.
 use Rattle.mm_callers.proofs.Below.{◌≡◌, ℕ, Bool, true, false, List, [], ◌++◌, map, Some, Result, Ok, Err, refl, sym, ap, ◌∙◌, subst, inl}
 use Rattle.mm_callers.proofs.Below.{inr, option_map, append-nil, Opt, StepFault, Item, Standing, Meaning, IsLawful, Batch, One, Content}
-use Rattle.mm_callers.proofs.Below.{Instance, opt, History, Move, Commit, Foreign, moved, is_long, Within, offer_messages}
-use Rattle.mm_callers.proofs.Below.{digests_of, issued, StandsFor, BatchAnswer, Refusal, Device, Long, Verdict, opt_issued, same_closed}
-use Rattle.mm_callers.proofs.Below.{IsAsked, called, CallsOn, Blames, IsAccepted, by_lists, all_made, opt_content, AreAsked, AreShown}
-use Rattle.mm_callers.proofs.Below.{IsIdle, fault_of, shown, standing_items, foreign_first, opt_comes, stands_at, asked_for, asked_idle}
+use Rattle.mm_callers.proofs.Below.{Instance, opt_instance, History, Move, Commit, Foreign, history_after, is_long, AreMessagesIn, offer_messages}
+use Rattle.mm_callers.proofs.Below.{digests_of, content_of_issue, StandsFor, BatchAnswer, Refusal, Device, Long, Verdict, opt_issued, same_closed}
+use Rattle.mm_callers.proofs.Below.{IsAsked, call_outcome, IsCallOnCourse, CountsHandedFault, IsAccepted, list_level, state_after_moves, opt_content, AreAsked, AreShown}
+use Rattle.mm_callers.proofs.Below.{IsIdle, fault_of, items_after_moves, standing_items, foreign_first, opt_comes, stands_at, asked_for, asked_idle}
 use Rattle.mm_callers.proofs.Below.{idle_again, idle_moves, unless_idle, Alike, still, grown_by, alike_still, alike_foreign, issued_alike}
 use Rattle.mm_callers.proofs.Below.{names_after, Left as OptLeft, DigestMoves, GoesOn, Pushed, alike_call, call_goes_on, hands, seen_closes}
 use Rattle.mm_callers.proofs.Below.{bare, in_first, AsksOnce, AsksWelcome}
-use Rattle.mm_opt.specs.Asked.{AskedInOpt}
+use Rattle.mm_opt.specs.AskPromise.{OptAskPromise}
 use Rattle.mm_callers.specs.Basic.{AreAskedNext}
 use Rattle.mm_callers.specs.Opt.{AsksTwice}
 use Rattle.mm_callers.proofs.Completing.{verdict_of, verdict_is}
@@ -24,27 +24,27 @@ module _ (meaning : Meaning) (key barrier : List ℕ) (all others : List (List �
   -- what is asked of the items, unless the call is idle
   abbrev Shown : History → List ℕ → List ℕ → List Item → Type 0
   Shown y offer request more =
-      (IsIdle (opt meaning key barrier) y offer (One request) → ⊥) → AreShown all others (opt meaning key barrier) y more
+      (IsIdle (opt_instance meaning key barrier) y offer (One request) → ⊥) → AreShown all others (opt_instance meaning key barrier) y more
 
   abbrev Ends : History → Standing → List Item → List Item → Type 0
   Ends y new items more = new.items ≡ Some (standing_items y.is_open items ++ more)
 
   module _ {old new : Standing} {offer request : List ℕ} {result : Result BatchAnswer Refusal} {y : History}
-      (c : CallsOn Opt meaning old new offer (One request) result) (s : StandsFor (opt meaning key barrier) old y)
-      (a : AreAsked all others asked (opt meaning key barrier) y offer (One request)) where
+      (c : IsCallOnCourse Opt meaning old new offer (One request) result) (s : StandsFor (opt_instance meaning key barrier) old y)
+      (a : AreAsked all others asked (opt_instance meaning key barrier) y offer (One request)) where
     -- what a call leaves and says, of whose moves so much is asked
-    abbrev pub left_asked : is_long (One request) ≡ false → IsAsked all others asked (opt meaning key barrier) y
+    abbrev pub left_asked : is_long (One request) ≡ false → IsAsked all others asked (opt_instance meaning key barrier) y
         (DigestMoves meaning key barrier all others asked old new offer request result c y) offer (One request)
-        → Left all others asked (opt meaning key barrier) y new offer (One request) result
+        → Left all others asked (opt_instance meaning key barrier) y new offer (One request) result
     left_asked short is_asked =
-        let i : Instance = opt meaning key barrier in
+        let i : Instance = opt_instance meaning key barrier in
         let b : Batch = One request in
         let k = c.continues key barrier y all others asked s is_asked in
-        let end : History = (called i (by_lists i) y c.course offer b).state in
+        let end : History = (call_outcome i (list_level i) y c.course offer b).state in
         let v : List (List ℕ) = (c.course.fates 1).brings in
         let w : List (List ℕ) = (c.course.fates 2).brings in
         let seen : List Move = map Foreign v ++ (map Foreign w ++ []) in
-        let same : bare (all_made (by_lists i) y seen) ≡ bare y = alike_still meaning key barrier seen y
+        let same : bare (state_after_moves (list_level i) y seen) ≡ bare y = alike_still meaning key barrier seen y
         (foreign_first v (map Foreign w ++ []) ∙ foreign_first w []) (seen_closes v w) in
         left_short all others asked i y c.course new offer b result short k
         (opt_comes meaning key barrier all others asked y c.course offer b a)
@@ -52,24 +52,24 @@ module _ (meaning : Meaning) (key barrier : List ℕ) (all others : List (List �
         (alike_call meaning key barrier y c.course offer b) n)
         (record {
           batches = ap (λ (x : History). x.batches) same;
-          issues = issued_alike meaning key barrier (all_made (by_lists i) y seen) y same;
+          issues = issued_alike meaning key barrier (state_after_moves (list_level i) y seen) y same;
         })
 
     -- an idle call, which leaves all but the items as it was
-    pub left_idle : is_long (One request) ≡ false → IsIdle (opt meaning key barrier) y offer (One request)
-        → (left : Left all others asked (opt meaning key barrier) y new offer (One request) result) × (bare left.leaves.after ≡ bare y)
+    pub left_idle : is_long (One request) ≡ false → IsIdle (opt_instance meaning key barrier) y offer (One request)
+        → (left : Left all others asked (opt_instance meaning key barrier) y new offer (One request) result) × (bare left.leaves.after ≡ bare y)
     left_idle short idle =
         let only = idle_moves meaning key barrier y c.course offer (One request) idle in (
           left_asked short (asked_idle meaning key barrier all others asked y c.course offer (One request) a idle),
-          ap (λ (ms : List Move). bare (all_made (by_lists (opt meaning key barrier)) y ms)) only.are
+          ap (λ (ms : List Move). bare (state_after_moves (list_level (opt_instance meaning key barrier)) y ms)) only.are
               ∙ alike_foreign meaning key barrier only.values y,
         )
 
   -- what a call leaves, from what mm_call says of it
   abbrev pub after_left : {y : History} {new : Standing} {offer request : List ℕ} {result : Result BatchAnswer Refusal}
-      → AreAsked all others asked (opt meaning key barrier) y offer (One request)
+      → AreAsked all others asked (opt_instance meaning key barrier) y offer (One request)
       → OptLeft meaning key barrier all others asked y new offer request result
-      → After all others asked (opt meaning key barrier) y new offer (One request) result
+      → After all others asked (opt_instance meaning key barrier) y new offer (One request) result
   after_left {y = y} {request = request} a l = record {
     after = l.after;
     stands = l.stands;
@@ -82,24 +82,24 @@ module _ (meaning : Meaning) (key barrier : List ℕ) (all others : List (List �
   -- very end what is asked.
   pub record HandsOn (y : History) (middle new : Standing) (offer request : List ℕ) (result : Result BatchAnswer Refusal)
       (whole : List Item) : Type 0 where
-    pub left : After all others asked (opt meaning key barrier) y middle offer (One request) result
+    pub left : After all others asked (opt_instance meaning key barrier) y middle offer (One request) result
     pub closed : left.after.closed ≡ y.closed
     pub items : List Item
     pub known : middle.items ≡ Some items
     pub more : List Item
     pub ends : Ends left.after new items more
     pub shown_are : Shown left.after offer request more
-    pub pushed : left.after.is_open ≡ true → (IsIdle (opt meaning key barrier) y offer (One request) → ⊥)
+    pub pushed : left.after.is_open ≡ true → (IsIdle (opt_instance meaning key barrier) y offer (One request) → ⊥)
         × Pushed meaning key barrier all others asked y left.after whole more
 
   pub hands_on : {old middle : Standing} (new : Standing) {offer request : List ℕ} {result : Result BatchAnswer Refusal} {y : History}
-      (c : CallsOn Opt meaning old middle offer (One request) result) → is_long (One request) ≡ false
-      → GoesOn meaning key barrier all others asked middle new → (items more : List Item) → StandsFor (opt meaning key barrier) old y
-      → old.items ≡ Some items → Ends y new items more → AreAsked all others asked (opt meaning key barrier) y offer (One request)
+      (c : IsCallOnCourse Opt meaning old middle offer (One request) result) → is_long (One request) ≡ false
+      → GoesOn meaning key barrier all others asked middle new → (items more : List Item) → StandsFor (opt_instance meaning key barrier) old y
+      → old.items ≡ Some items → Ends y new items more → AreAsked all others asked (opt_instance meaning key barrier) y offer (One request)
       → Shown y offer request more → HandsOn y middle new offer request result more
   hands_on {old = old} {middle = middle} new {offer = offer} {request = request} {result = result} {y = y} c short on items more s known
       ends a shown_so =
-      let i : Instance = opt meaning key barrier in
+      let i : Instance = opt_instance meaning key barrier in
       elim (unless_idle {A = (IsIdle i y offer (One request) → ⊥) × AreShown all others i y more} i y offer (One request)
       (λ busy. (busy, shown_so busy))) [
         | inl it ↦
@@ -118,13 +118,13 @@ module _ (meaning : Meaning) (key barrier : List ℕ) (all others : List (List �
             let l = left_idle c s a short idle in
             let again = idle_again meaning key barrier y l.0.leaves.after offer (One request) l.1 idle in
             let moves : List Move = DigestMoves meaning key barrier all others asked old middle offer request result c y in
-            let xs : List Item = shown i (digests_of i y) moves items in
+            let xs : List Item = items_after_moves i (digests_of i y) moves items in
             record {
               left = l.0.leaves;
               closed = ap (λ (x : History). x.closed) l.1;
               items = xs;
               known = (c.goes key barrier (digests_of i y) (stands_at i old y s)).items
-                  ∙ ap (option_map (shown i (digests_of i y) moves)) known;
+                  ∙ ap (option_map (items_after_moves i (digests_of i y) moves)) known;
               more = more;
               ends = ends ∙ ap (λ (flag : Bool). Some (standing_items flag items ++ more)) idle.shut
                   ∙ ap (λ (flag : Bool). Some (standing_items flag xs ++ more)) (sym again.shut);
@@ -134,15 +134,15 @@ module _ (meaning : Meaning) (key barrier : List ℕ) (all others : List (List �
       ]
 
 module _ {meaning : Meaning} {old new : Standing} {offer request : List ℕ} {result : Result BatchAnswer Refusal}
-    (call : AskedInOpt meaning old new offer (One request) result) where
+    (call : OptAskPromise meaning old new offer (One request) result) where
   left : (key barrier : List ℕ) (y : History) (all others : List (List ℕ)) (asked : List Batch) (items more : List Item)
-      → StandsFor (opt meaning key barrier) old y → old.items ≡ Some items
+      → StandsFor (opt_instance meaning key barrier) old y → old.items ≡ Some items
       → new.items ≡ Some (standing_items y.is_open items ++ more)
-      → AreAsked all others asked (opt meaning key barrier) y offer (One request)
-      → ((IsIdle (opt meaning key barrier) y offer (One request) → ⊥) → AreShown all others (opt meaning key barrier) y more)
-      → Left all others asked (opt meaning key barrier) y new offer (One request) result
+      → AreAsked all others asked (opt_instance meaning key barrier) y offer (One request)
+      → ((IsIdle (opt_instance meaning key barrier) y offer (One request) → ⊥) → AreShown all others (opt_instance meaning key barrier) y more)
+      → Left all others asked (opt_instance meaning key barrier) y new offer (One request) result
   left key barrier y all others asked items more s known ends a shown_so =
-      let i : Instance = opt meaning key barrier in
+      let i : Instance = opt_instance meaning key barrier in
       let b : Batch = One request in
       by_length call (λ (n : Standing) (r : Result BatchAnswer Refusal). n.items ≡ Some (standing_items y.is_open items ++ more)
       → Left all others asked i y n offer b r)
@@ -166,18 +166,18 @@ module _ {meaning : Meaning} {old new : Standing} {offer request : List ℕ} {re
 
 -- a call that is made again after a device's fault
 pub asked_after_fault : {meaning : Meaning} {old middle new : Standing} {offer request : List ℕ} {first : Refusal} {fault : StepFault}
-    {result : Result BatchAnswer Refusal} → first ≡ Device fault → AskedInOpt meaning old middle offer (One request) (Err first)
-    → AskedInOpt meaning middle new offer (One request) result → AsksOnce meaning old new offer request result
+    {result : Result BatchAnswer Refusal} → first ≡ Device fault → OptAskPromise meaning old middle offer (One request) (Err first)
+    → OptAskPromise meaning middle new offer (One request) result → AsksOnce meaning old new offer request result
 asked_after_fault {meaning = meaning} {old = old} {middle = middle} {new = new} {first = first} {result = result} is before call key barrier
     y all others asked items more s known ends a shown_so =
     let short = not_long before (λ (e : Err first ≡ Err Long). cc) in
     let h = hands_on meaning key barrier all others asked new (before.goes short) short (goes_on call key barrier all others asked) items
     more s known ends a shown_so in
     let x = h.left in
-    ends_again old a result (subst (λ (w : Refusal). Blames (fault_of w) old.faults middle.faults) is before.faults)
+    ends_again old a result (subst (λ (w : Refusal). CountsHandedFault (fault_of w) old.faults middle.faults) is before.faults)
     call.faults x
     (left call key barrier x.after all others asked h.items h.more x.stands h.known h.ends
-    (asked_on all others asked (opt meaning key barrier) x.within x.names a) h.shown_are)
+    (asked_on all others asked (opt_instance meaning key barrier) x.within x.names a) h.shown_are)
 
 -- a welcome offer is accepted
 
@@ -186,7 +186,7 @@ accepts true = tt
 accepts false = tt
 
 pub asked_welcome : {meaning : Meaning} {old new : Standing} {offer request : List ℕ} {result : Result BatchAnswer Refusal}
-    → AskedInOpt meaning old new offer (One request) result → AsksWelcome meaning old new offer request result
+    → OptAskPromise meaning old new offer (One request) result → AsksWelcome meaning old new offer request result
 asked_welcome {request = request} call key barrier y all others asked items more s known ends a again short alone shown_so w =
     let verdict = verdict_is Opt y w.content.position (One request) again w.live w.offered in
     call.complete short key barrier y all others asked items more w.content s known ends alone a
@@ -195,24 +195,24 @@ asked_welcome {request = request} call key barrier y all others asked items more
 
 -- two calls, the second on the snapshot of the first answer
 pub refused_first : {meaning : Meaning} {old new : Standing} {offer first : List ℕ} {why : Refusal} (second : List ℕ)
-    → AskedInOpt meaning old new offer (One first) (Err why) → AsksTwice meaning old new offer first second (Err why)
+    → OptAskPromise meaning old new offer (One first) (Err why) → AsksTwice meaning old new offer first second (Err why)
 refused_first second call key barrier y all others asked items more s known ends a n shown_so =
     in_first (asked_once call key barrier y all others asked items more s known ends a (λ busy. shown_so))
 
 -- the messages of the second offer
 next_listed : (meaning : Meaning) (key barrier : List ℕ) (all : List (List ℕ)) (asked : List Batch) (y after : History)
-    (first second : Batch) → AreAskedNext all asked (opt meaning key barrier) y first second → Alike meaning key barrier y first after
-    → Within (offer_messages (opt meaning key barrier) (issued (opt meaning key barrier) after).place second) all
+    (first second : Batch) → AreAskedNext all asked (opt_instance meaning key barrier) y first second → Alike meaning key barrier y first after
+    → AreMessagesIn (offer_messages (opt_instance meaning key barrier) (content_of_issue (opt_instance meaning key barrier) after).place second) all
 next_listed meaning key barrier all asked y after first second n (still e) =
-    subst (λ (x : Content). Within (offer_messages (opt meaning key barrier) x.place second) all)
+    subst (λ (x : Content). AreMessagesIn (offer_messages (opt_instance meaning key barrier) x.place second) all)
     (sym (issued_alike meaning key barrier after y e)) n.after_repeat
 next_listed meaning key barrier all asked y after first second n (grown_by e) =
-    subst (λ (x : Content). Within (offer_messages (opt meaning key barrier) x.place second) all)
-    (sym (issued_alike meaning key barrier after (moved (opt meaning key barrier) y (Commit first)) e)) n.after_new
+    subst (λ (x : Content). AreMessagesIn (offer_messages (opt_instance meaning key barrier) x.place second) all)
+    (sym (issued_alike meaning key barrier after (history_after (opt_instance meaning key barrier) y (Commit first)) e)) n.after_new
 
 pub asked_twice : {meaning : Meaning} {old middle new : Standing} {offer next first second : List ℕ} {one : BatchAnswer}
-    {result : Result BatchAnswer Refusal} → IsLawful meaning → AskedInOpt meaning old middle offer (One first) (Ok one)
-    → next ≡ one.snapshot → AskedInOpt meaning middle new next (One second) result → AsksTwice meaning old new offer first second result
+    {result : Result BatchAnswer Refusal} → IsLawful meaning → OptAskPromise meaning old middle offer (One first) (Ok one)
+    → next ≡ one.snapshot → OptAskPromise meaning middle new next (One second) result → AsksTwice meaning old new offer first second result
 asked_twice {meaning = meaning} {old = old} {middle = middle} {new = new} {offer = offer} {first = first} {second = second} {one = one}
     {result = result} lawful before e call key barrier y all others asked items more s known ends a n shown_so =
     let h = hands meaning key barrier all others asked y old middle new offer first (Ok one) items more (answered before)

@@ -1,9 +1,9 @@
 -- What callers get in either variant, by lists alone; and what those of Basic do.
 use Rattle.std.specs.Prelude.{◌≡◌, ◌≤◌, ℕ, Bool, false, List, [], ◌∷◌, ◌++◌, Option, None, Some, Result, Ok, Err, ◌⊎◌, if◌then◌else◌}
 use Rattle.std.specs.List.{Contains}
-use Rattle.mm_callers.specs.Below.{counted, Standing, StepFault, Batch, One, Meaning, History, Commit, moved, Instance, basic, Within}
-use Rattle.mm_callers.specs.Below.{offer_messages, issued, is_long, StandsFor, issued_bytes, BatchAnswer, Refusal, Memory, Long, answer_on}
-use Rattle.mm_callers.specs.Below.{EndsWith, Found, found_at, by_lists, AreAsked, fault_of}
+use Rattle.mm_callers.specs.Below.{next_count, Standing, StepFault, Batch, One, Meaning, History, Commit, history_after, Instance, basic_instance, AreMessagesIn}
+use Rattle.mm_callers.specs.Below.{offer_messages, content_of_issue, is_long, StandsFor, issued_bytes, BatchAnswer, Refusal, Memory, Long, answer_on}
+use Rattle.mm_callers.specs.Below.{EndsWith, CallFinding, finding_at, list_level, AreAsked, fault_of}
 
 -- The batch was committed once: it follows the history's batches, or it was their last one before.
 abbrev pub IsOnce : List Batch → Batch → List Batch → Type 0
@@ -26,22 +26,22 @@ pub record AnswersOnce (i : Instance) (y : History) (new : Standing) (b : Batch)
   pub run : IsOfRun i new batches b answer.again answer
 
 -- what a call finds at a history: its refusal, or an offer that is accepted
-abbrev pub finds : Instance → History → List ℕ → Batch → Result Found Refusal
-finds i y offer b = if is_long b then Err Long else found_at i (by_lists i) y b offer
+abbrev pub finding_for : Instance → History → List ℕ → Batch → Result CallFinding Refusal
+finding_for i y offer b = if is_long b then Err Long else finding_at i (list_level i) y b offer
 
 -- The refusal is the one that is found; want of memory comes only where the offer is accepted.
-abbrev pub SaysFound : Result Found Refusal → Refusal → Type 0
+abbrev pub SaysFound : Result CallFinding Refusal → Refusal → Type 0
 SaysFound (Err is) why = why ≡ is
 SaysFound (Ok found) why = why ≡ Memory
 
 -- So it is unless a device's fault is handed on.
-abbrev pub SaysUnlessFault : Option StepFault → Result Found Refusal → Refusal → Type 0
+abbrev pub SaysUnlessFault : Option StepFault → Result CallFinding Refusal → Refusal → Type 0
 SaysUnlessFault (Some fault) found why = Unit {0}
 SaysUnlessFault None found why = SaysFound found why
 
 -- After an error the platform stands for a history of which the same holds as was asked, so that
 -- the call may be made again.
-pub record Stays (all others : List (List ℕ)) (asked : List Batch) (i : Instance) (new : Standing)
+pub record StaysAsAsked (all others : List (List ℕ)) (asked : List Batch) (i : Instance) (new : Standing)
     (offer : List ℕ)
     (b : Batch) : Type 0 where
   pub after : History
@@ -49,41 +49,41 @@ pub record Stays (all others : List (List ℕ)) (asked : List Batch) (i : Instan
   pub asked_then : AreAsked all others asked i after offer b
 
 -- The batches are as before; or this one was committed too, and at least one fault was counted.
-abbrev pub IsLeft : List Batch → Batch → List Batch → Standing → Standing → Type 0
-IsLeft before b after old new =
-    (after ≡ before) ⊎ ((after ≡ before ++ b ∷ []) × (counted old.faults ≤ new.faults))
+abbrev pub AreLeftBatches : List Batch → Batch → List Batch → Standing → Standing → Type 0
+AreLeftBatches before b after old new =
+    (after ≡ before) ⊎ ((after ≡ before ++ b ∷ []) × (next_count old.faults ≤ new.faults))
 
 -- A call ended with an error, as did what was made of it once more after a fault: what stands, and
 -- what is told.
-pub record Refuses (all others : List (List ℕ)) (asked : List Batch) (i : Instance) (y : History)
+pub record RefusesCall (all others : List (List ℕ)) (asked : List Batch) (i : Instance) (y : History)
     (old new : Standing) (offer : List ℕ)
     (b : Batch) (why : Refusal) : Type 0 where
-  pub stays : Stays all others asked i new offer b
-  pub left : IsLeft y.batches b stays.after.batches old new
-  pub says : SaysUnlessFault (fault_of why) (finds i stays.after offer b) why
+  pub stays : StaysAsAsked all others asked i new offer b
+  pub left : AreLeftBatches y.batches b stays.after.batches old new
+  pub says : SaysUnlessFault (fault_of why) (finding_for i stays.after offer b) why
 
 -- How a call ended, which may have been made once more after a device's fault.
 abbrev pub EndsOnce : List (List ℕ) → List (List ℕ) → List Batch → Instance → History → Standing
     → Standing → List ℕ → Batch → Result BatchAnswer Refusal → Type 0
 EndsOnce all others asked i y old new offer b (Err why) =
-    Refuses all others asked i y old new offer b why
+    RefusesCall all others asked i y old new offer b why
 EndsOnce all others asked i y old new offer b (Ok answer) = AnswersOnce i y new b answer
 
 abbrev pub AsksAgain : Meaning → Standing → Standing → List ℕ → List ℕ
     → Result BatchAnswer Refusal → Type 0
 AsksAgain meaning old new offer request result =
     (key : List ℕ) (y : History) (all others : List (List ℕ)) (asked : List Batch) →
-    StandsFor (basic meaning key) old y
-    → AreAsked all others asked (basic meaning key) y offer (One request) →
-    EndsOnce all others asked (basic meaning key) y old new offer (One request) result
+    StandsFor (basic_instance meaning key) old y
+    → AreAsked all others asked (basic_instance meaning key) y offer (One request) →
+    EndsOnce all others asked (basic_instance meaning key) y old new offer (One request) result
 
 -- What is asked besides for a second batch, on the snapshot of the first answer: the messages at
 -- the place that this snapshot says, where the first batch is a repeat and where it is new.
 pub record AreAskedNext (all : List (List ℕ)) (asked : List Batch) (i : Instance) (y : History)
     (first second : Batch) : Type 0 where
   pub is_asked : Contains asked second
-  pub after_repeat : Within (offer_messages i (issued i y).place second) all
-  pub after_new : Within (offer_messages i (issued i (moved i y (Commit first))).place second) all
+  pub after_repeat : AreMessagesIn (offer_messages i (content_of_issue i y).place second) all
+  pub after_new : AreMessagesIn (offer_messages i (content_of_issue i (history_after i y (Commit first))).place second) all
 
 -- The first request was committed once, and the second follows it in the run that the answer is of.
 pub record AnswersNext (i : Instance) (y : History) (new : Standing) (first second : Batch)
@@ -98,12 +98,12 @@ pub record AnswersNext (i : Instance) (y : History) (new : Standing) (first seco
 pub data RefusesNext (all others : List (List ℕ)) (asked : List Batch) (i : Instance) (y : History)
     (old new : Standing) (offer : List ℕ)
     (first second : Batch) (why : Refusal) : Type 0 where
-  in_first : Refuses all others asked i y old new offer first why
+  in_first : RefusesCall all others asked i y old new offer first why
       → RefusesNext all others asked i y old new offer first second why
   in_second : (batches : List Batch) → IsOnce y.batches first batches
-      → (stays : Stays all others asked i new offer first)
-      → IsLeft batches second stays.after.batches old new
-      → SaysUnlessFault (fault_of why) (finds i stays.after (issued_bytes i stays.after) second) why
+      → (stays : StaysAsAsked all others asked i new offer first)
+      → AreLeftBatches batches second stays.after.batches old new
+      → SaysUnlessFault (fault_of why) (finding_for i stays.after (issued_bytes i stays.after) second) why
       → RefusesNext all others asked i y old new offer first second why
 
 -- How two calls ended, the second on the snapshot of the first answer.
@@ -118,7 +118,7 @@ abbrev pub AsksTwice : Meaning → Standing → Standing → List ℕ → List �
     → Result BatchAnswer Refusal → Type 0
 AsksTwice meaning old new offer first second result =
     (key : List ℕ) (y : History) (all others : List (List ℕ)) (asked : List Batch) →
-    StandsFor (basic meaning key) old y
-    → AreAsked all others asked (basic meaning key) y offer (One first) →
-    AreAskedNext all asked (basic meaning key) y (One first) (One second) →
-    EndsNext all others asked (basic meaning key) y old new offer (One first) (One second) result
+    StandsFor (basic_instance meaning key) old y
+    → AreAsked all others asked (basic_instance meaning key) y offer (One first) →
+    AreAskedNext all asked (basic_instance meaning key) y (One first) (One second) →
+    EndsNext all others asked (basic_instance meaning key) y old new offer (One first) (One second) result

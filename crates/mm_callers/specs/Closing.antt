@@ -2,15 +2,15 @@
 -- more, by lists.
 use Rattle.std.specs.Prelude.{◌≡◌, ℕ, true, List, ◌++◌, Option, None, Some, Result, Ok, Err}
 use Rattle.std.specs.List.{Contains}
-use Rattle.mm_callers.specs.Below.{extended_message, anchored_message, after, Opt, Item, Standing, item_values, StepFault, Batch, One}
+use Rattle.mm_callers.specs.Below.{extended_message, anchored_message, digest_after, Opt, Item, Standing, item_values, StepFault, Batch, One}
 use Rattle.mm_callers.specs.Below.{Meaning, History, register_value_of, cell_digest_of, Instance, life_of, is_lost, Answer, BatchAnswer}
-use Rattle.mm_callers.specs.Below.{Refusal, counted_part, CallsOn, whole, AreShown, IsIdle, fault_of, ChecksOn, CheckpointRefusal, Device}
+use Rattle.mm_callers.specs.Below.{Refusal, counted_part, IsCallOnCourse, batch_answer_of, AreShown, IsIdle, fault_of, IsCheckpointOnCourse, CheckpointRefusal, Device}
 use Rattle.mm_callers.specs.Below.{Blank, Cell, Kind, Lost, Checkpointed}
-use Rattle.mm_callers.specs.Basic.{IsOnce, AnswersOnce, finds, SaysFound, Stays, Refuses}
-use Rattle.mm_callers.specs.Opt.{OnEach}
+use Rattle.mm_callers.specs.Basic.{IsOnce, AnswersOnce, finding_for, SaysFound, StaysAsAsked, RefusesCall}
+use Rattle.mm_callers.specs.Opt.{HoldsOnEach}
 use Rattle.mm_callers.specs.declared.closing.Replies.{Replies}
-use Rattle.mm_callers.specs.declared.closing.Halted.{Halted}
-use Rattle.mm_callers.specs.declared.closing.Halted.TheVariants.{Asking, Closing}
+use Rattle.mm_callers.specs.declared.closing.RepeatRefusal.{RepeatRefusal}
+use Rattle.mm_callers.specs.declared.closing.RepeatRefusal.TheVariants.{Asking, Closing}
 
 -- What is asked besides for a checkpoint: the messages by which it may close the segment before,
 -- between or behind these items, each with the register's value behind the first of them.
@@ -18,7 +18,7 @@ abbrev pub MayClose : List (List ℕ) → Instance → History → List Item →
 MayClose all i y more =
     (first later : List (List ℕ)) → first ++ later ≡ item_values more →
     Contains all (anchored_message (cell_digest_of i Opt y)
-    (after extended_message (register_value_of i (counted_part y)) first))
+    (digest_after extended_message (register_value_of i (counted_part y)) first))
 
 -- What is asked of the items that the register shows. Where the first call is idle nothing is: it
 -- leaves no segment open, so there is none to close, and the second call is idle too.
@@ -48,7 +48,7 @@ SaysClosing Kind y = ⊥
 pub record StaysOnce (all others : List (List ℕ)) (asked : List Batch) (i : Instance) (y : History)
     (new : Standing) (offer : List ℕ)
     (b : Batch) : Type 0 where
-  pub stays : Stays all others asked i new offer b
+  pub stays : StaysAsAsked all others asked i new offer b
   pub once : IsOnce y.batches b stays.after.batches
 
 -- It was made once more behind the checkpoint, and refused as it was found. Where it handed on a
@@ -57,7 +57,7 @@ pub record RefusesBehind (all others : List (List ℕ)) (asked : List Batch) (i 
     (y : History) (new : Standing) (offer : List ℕ)
     (b : Batch) (why : Refusal) : Type 0 where
   pub one : StaysOnce all others asked i y new offer b
-  pub says : SaysFound (finds i one.stays.after offer b) why
+  pub says : SaysFound (finding_for i one.stays.after offer b) why
 
 abbrev pub EndsBehind : Option StepFault → List (List ℕ) → List (List ℕ) → List Batch → Instance
     → History → Standing → List ℕ → Batch
@@ -69,8 +69,8 @@ EndsBehind None all others asked i y new offer b why =
 -- The error is that of the call, of the checkpoint, or of the call once more.
 pub data RefusesRepeat (all others : List (List ℕ)) (asked : List Batch) (i : Instance)
     (y : History) (old new : Standing) (offer : List ℕ)
-    (b : Batch) (why : Halted) : Type 0 where
-  in_first : (is : Refusal) → why ≡ Asking is → Refuses all others asked i y old new offer b is
+    (b : Batch) (why : RepeatRefusal) : Type 0 where
+  in_first : (is : Refusal) → why ≡ Asking is → RefusesCall all others asked i y old new offer b is
       → RefusesRepeat all others asked i y old new offer b why
   in_closing : (is : CheckpointRefusal) → why ≡ Closing is
       → (one : StaysOnce all others asked i y new offer b)
@@ -82,17 +82,17 @@ pub data RefusesRepeat (all others : List (List ℕ)) (asked : List Batch) (i : 
 
 -- A request, a checkpoint and the request once more, where the second reply is told as a repeat.
 -- What is asked of what others do is asked of the register's items at exit.
-abbrev pub RepeatsBehind : Meaning → Standing → Standing → List ℕ → List ℕ → Result Replies Halted
+abbrev pub RepeatsBehind : Meaning → Standing → Standing → List ℕ → List ℕ → Result Replies RepeatRefusal
     → Type 0
 RepeatsBehind meaning old new offer request (Err why) =
-    OnEach meaning old new offer (One request) (λ all others asked i y more.
+    HoldsOnEach meaning old new offer (One request) (λ all others asked i y more.
     AreShownUnlessIdle all others i y offer (One request) more →
     RefusesRepeat all others asked i y old new offer (One request) why)
 RepeatsBehind meaning old new offer request (Ok replies) =
     replies.second.again ≡ true →
-    OnEach meaning old new offer (One request) (λ all others asked i y more.
+    HoldsOnEach meaning old new offer (One request) (λ all others asked i y more.
     AreShownUnlessIdle all others i y offer (One request) more →
-    RepeatsReply i y new (One request) (whole replies.first) (whole replies.second))
+    RepeatsReply i y new (One request) (batch_answer_of replies.first) (batch_answer_of replies.second))
 
 -- It is told as a repeat. A request that is taken as new empties the register, so what was in it
 -- when the segment was closed isn't seen at exit: it is seen on the platform when the checkpoint
@@ -102,15 +102,15 @@ pub record ClosesBetween (meaning : Meaning) (old new : Standing) (offer request
     (first second : Answer) : Type 0 where
   pub answered : Standing
   pub closed : Standing
-  pub asks : CallsOn Opt meaning old answered offer (One request) (Ok (whole first))
+  pub asks : IsCallOnCourse Opt meaning old answered offer (One request) (Ok (batch_answer_of first))
   pub said : Checkpointed
-  pub checks : ChecksOn answered closed (Ok said)
-  pub asks_again : CallsOn Opt meaning closed new offer (One request) (Ok (whole second))
-  pub repeats : OnEach meaning old closed offer (One request) (λ all others asked i y more.
+  pub checks : IsCheckpointOnCourse answered closed (Ok said)
+  pub asks_again : IsCallOnCourse Opt meaning closed new offer (One request) (Ok (batch_answer_of second))
+  pub repeats : HoldsOnEach meaning old closed offer (One request) (λ all others asked i y more.
       AreShownUnlessIdle all others i y offer (One request) more →
-      RepeatsReply i y new (One request) (whole first) (whole second))
+      RepeatsReply i y new (One request) (batch_answer_of first) (batch_answer_of second))
 
-abbrev pub NeverTwice : Meaning → Standing → Standing → List ℕ → List ℕ → Result Replies Halted
+abbrev pub NeverTwice : Meaning → Standing → Standing → List ℕ → List ℕ → Result Replies RepeatRefusal
     → Type 0
 NeverTwice meaning old new offer request (Err why) = Unit {0}
 NeverTwice meaning old new offer request (Ok replies) =

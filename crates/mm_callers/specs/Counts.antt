@@ -1,11 +1,11 @@
 -- What callers count: their calls' steps, and the faults of devices, told and recovered.
 use Rattle.std.specs.Prelude.{◌≡◌, Bool, true, false, None, Result, Ok, Err}
-use Rattle.mm_callers.specs.Below.{Variant, Opt, Standing, StepFault, Batch, is_long, Answer, BatchAnswer, Refusal, Long, Blames}
-use Rattle.mm_callers.specs.Below.{whole, fault_in, StepsBy, ClosingStepsBy, closing_fault_in, CheckpointRefusal, Checkpointed}
+use Rattle.mm_callers.specs.Below.{Variant, Opt, Standing, StepFault, Batch, is_long, Answer, BatchAnswer, Refusal, Long, CountsHandedFault}
+use Rattle.mm_callers.specs.Below.{batch_answer_of, fault_in, StepsBy, ClosingStepsBy, closing_fault_in, CheckpointRefusal, Checkpointed}
 use Rattle.mm_model.specs.declared.refusal.Refusal.TheVariants.{Device}
 use Rattle.mm_callers.specs.declared.closing.Replies.{Replies}
-use Rattle.mm_callers.specs.declared.closing.Halted.{Halted}
-use Rattle.mm_callers.specs.declared.closing.Halted.TheVariants.{Asking, Closing}
+use Rattle.mm_callers.specs.declared.closing.RepeatRefusal.{RepeatRefusal}
+use Rattle.mm_callers.specs.declared.closing.RepeatRefusal.TheVariants.{Asking, Closing}
 
 -- the steps of a call, by what it gives; of a batch that is too long, none
 abbrev pub StepsFor : Bool → Variant → Result BatchAnswer Refusal → Standing → Standing → Type 0
@@ -17,7 +17,7 @@ StepsFor false variant result old new = StepsBy variant result old new
 pub record CountsCall (variant : Variant) (b : Batch) (old new : Standing)
     (result : Result BatchAnswer Refusal) : Type 0 where
   pub steps : StepsFor (is_long b) variant result old new
-  pub faults : Blames (fault_in result) old.faults new.faults
+  pub faults : CountsHandedFault (fault_in result) old.faults new.faults
 
 -- One call, which hands on no fault; or, where it handed one on, another. So a fault is told only
 -- where two were counted.
@@ -42,11 +42,11 @@ pub data CountsNext (variant : Variant) (first second : Batch) (old new : Standi
 pub record CountsClosing (old new : Standing)
     (result : Result Checkpointed CheckpointRefusal) : Type 0 where
   pub steps : ClosingStepsBy result old new
-  pub faults : Blames (closing_fault_in result) old.faults new.faults
+  pub faults : CountsHandedFault (closing_fault_in result) old.faults new.faults
 
 -- A call; where it was answered, a checkpoint; and where that was made, the call once more. An
 -- error is that of the last of these.
-pub data CountsRepeat (b : Batch) (old new : Standing) (result : Result Replies Halted) : Type 0
+pub data CountsRepeat (b : Batch) (old new : Standing) (result : Result Replies RepeatRefusal) : Type 0
   where
     in_first : (why : Refusal) → result ≡ Err (Asking why) → CountsCall Opt b old new (Err why)
         → CountsRepeat b old new result
@@ -61,5 +61,5 @@ pub data CountsRepeat (b : Batch) (old new : Standing) (result : Result Replies 
         → CountsRepeat b old new result
     replied : (first second : Answer) → result ≡ Ok (record { first = first; second = second })
         → (answered closed : Standing) (said : Checkpointed)
-        → CountsCall Opt b old answered (Ok (whole first)) → CountsClosing answered closed (Ok said)
-        → CountsCall Opt b closed new (Ok (whole second)) → CountsRepeat b old new result
+        → CountsCall Opt b old answered (Ok (batch_answer_of first)) → CountsClosing answered closed (Ok said)
+        → CountsCall Opt b closed new (Ok (batch_answer_of second)) → CountsRepeat b old new result

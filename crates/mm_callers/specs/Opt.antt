@@ -3,23 +3,23 @@
 use Rattle.std.specs.Prelude.{◌≡◌, ℕ, Bool, true, false, List, [], ◌++◌, Some, Result, Ok, Err}
 use Rattle.std.specs.List.{Contains}
 use Rattle.mm_callers.specs.Below.{extended_message, Item, Standing, quiet_plan, Batch, One, Meaning, guard, History}
-use Rattle.mm_callers.specs.Below.{register_value_of, Instance, opt, is_long, StandsFor, BatchAnswer}
+use Rattle.mm_callers.specs.Below.{register_value_of, Instance, opt_instance, is_long, StandsFor, BatchAnswer}
 use Rattle.mm_callers.specs.Below.{Refusal, Memory, counted_part, IsAnswered, AreAsked, AreShown, IsIdle, standing_items, foreign_items}
 use Rattle.mm_callers.specs.Basic.{AreAskedNext, EndsOnce, EndsNext, IsOfRun}
-use Rattle.mm_callers.specs.Complete.{IsWelcome, batches_then}
+use Rattle.mm_callers.specs.Completeness.{IsWelcome, batches_after_call}
 
 -- So it is of each history that the platform stands for, of which what a call needs is asked, and
 -- where the register's items are known at entry and at exit: these are behind those that counted.
-abbrev pub OnEach : Meaning → Standing → Standing → List ℕ → Batch
+abbrev pub HoldsOnEach : Meaning → Standing → Standing → List ℕ → Batch
     → (List (List ℕ) → List (List ℕ) → List Batch → Instance → History → List Item → Type 0)
     → Type 0
-OnEach meaning old new offer b holds =
+HoldsOnEach meaning old new offer b holds =
     (key barrier : List ℕ) (y : History) (all others : List (List ℕ)) (asked : List Batch)
     (items more : List Item) →
-    StandsFor (opt meaning key barrier) old y → old.items ≡ Some items
+    StandsFor (opt_instance meaning key barrier) old y → old.items ≡ Some items
     → new.items ≡ Some (standing_items y.is_open items ++ more) →
-    AreAsked all others asked (opt meaning key barrier) y offer b
-    → holds all others asked (opt meaning key barrier) y more
+    AreAsked all others asked (opt_instance meaning key barrier) y offer b
+    → holds all others asked (opt_instance meaning key barrier) y more
 
 -- One call, or one that is made again after a device's fault; inside a segment or across an
 -- opening. Where it is idle, as a repeat with no segment open, nothing is asked of the register's
@@ -27,7 +27,7 @@ OnEach meaning old new offer b holds =
 abbrev pub AsksOnce : Meaning → Standing → Standing → List ℕ → List ℕ → Result BatchAnswer Refusal
     → Type 0
 AsksOnce meaning old new offer request result =
-    OnEach meaning old new offer (One request) (λ all others asked i y more.
+    HoldsOnEach meaning old new offer (One request) (λ all others asked i y more.
     ((IsIdle i y offer (One request) → ⊥) → AreShown all others i y more) →
     EndsOnce all others asked i y old new offer (One request) result)
 
@@ -35,7 +35,7 @@ AsksOnce meaning old new offer request result =
 abbrev pub AsksTwice : Meaning → Standing → Standing → List ℕ → List ℕ → List ℕ
     → Result BatchAnswer Refusal → Type 0
 AsksTwice meaning old new offer first second result =
-    OnEach meaning old new offer (One first) (λ all others asked i y more.
+    HoldsOnEach meaning old new offer (One first) (λ all others asked i y more.
     AreAskedNext all asked i y (One first) (One second) → AreShown all others i y more →
     EndsNext all others asked i y old new offer (One first) (One second) result)
 
@@ -44,7 +44,7 @@ AsksTwice meaning old new offer first second result =
 abbrev pub AnswersOrLacks : Instance → History → Standing → Batch → Bool
     → Result BatchAnswer Refusal → Type 0
 AnswersOrLacks i y new b again (Ok answer) =
-    IsOfRun i new (batches_then again y.batches b) b again answer
+    IsOfRun i new (batches_after_call again y.batches b) b again answer
 AnswersOrLacks i y new b again (Err why) = (why ≡ Memory) × StandsFor i new y
 
 -- A call whose steps nothing disturbs: an offer that is welcome is answered. Nothing is asked of
@@ -54,12 +54,12 @@ abbrev pub AnswersUndisturbed : Meaning → Standing → Standing → List ℕ �
 AnswersUndisturbed meaning old new offer request result =
     (key barrier : List ℕ) (y : History) (all others : List (List ℕ)) (asked : List Batch)
     (again : Bool) →
-    is_long (One request) ≡ false → StandsFor (opt meaning key barrier) old y →
-    AreAsked all others asked (opt meaning key barrier) y offer (One request) →
-    Contains all (extended_message (register_value_of (opt meaning key barrier) (counted_part y))
+    is_long (One request) ≡ false → StandsFor (opt_instance meaning key barrier) old y →
+    AreAsked all others asked (opt_instance meaning key barrier) y offer (One request) →
+    Contains all (extended_message (register_value_of (opt_instance meaning key barrier) (counted_part y))
     (guard barrier (One request))) →
-    IsWelcome (opt meaning key barrier) y offer (One request) again →
-    AnswersOrLacks (opt meaning key barrier) y new (One request) again result
+    IsWelcome (opt_instance meaning key barrier) y offer (One request) again →
+    AnswersOrLacks (opt_instance meaning key barrier) y new (One request) again result
 
 -- So it is over a platform that is on and tells a plan by which nothing fails and nobody else
 -- extends the register.
@@ -81,7 +81,7 @@ AsksInMemory meaning old new offer request result =
 abbrev pub AsksWelcome : Meaning → Standing → Standing → List ℕ → List ℕ
     → Result BatchAnswer Refusal → Type 0
 AsksWelcome meaning old new offer request result =
-    OnEach meaning old new offer (One request) (λ all others asked i y more. (again : Bool) →
+    HoldsOnEach meaning old new offer (One request) (λ all others asked i y more. (again : Bool) →
     is_long (One request) ≡ false → (y.is_open ≡ true → foreign_items more ≡ [])
     → (((y.is_open ≡ false) × (again ≡ true) → ⊥) → AreShown all others i y more)
     → IsWelcome i y offer (One request) again → IsAnswered result old new)

@@ -3,7 +3,7 @@
 ghost use Rattle.std.specs.Prelude.{◌≡◌};
 ghost use Rattle.mm_digest.specs.declared.variant.Variant.TheVariants.{Basic};
 ghost use Rattle.mm_module.specs.Batch.{One};
-ghost use Rattle.mm_call.specs.Leaving.{whole_in};
+ghost use Rattle.mm_call.specs.Untouched.{batch_result_of};
 ghost use Rattle.mm_callers.specs.Basic.{AsksAgain, AsksTwice};
 ghost use Rattle.mm_callers.specs.Counts.{CountsAgain, CountsNext};
 
@@ -23,9 +23,9 @@ pub fn ask_again<M: Module, P: Platform>(
     request: &[u8],
 ) -> Result<Answer, Refusal>
     ensures again { AsksAgain (M.meaning «module».now) (P.standing platform.old)
-        (P.standing platform.new) offer.now request.now (whole_in result) }
+        (P.standing platform.new) offer.now request.now (batch_result_of result) }
     ensures counts { CountsAgain Basic (One request.now) (P.standing platform.old)
-        (P.standing platform.new) (whole_in result) }
+        (P.standing platform.new) (batch_result_of result) }
 {
     match ask(alloc, module, platform, offer, request) {
         Ok(answer) => Ok(answer),
@@ -44,9 +44,9 @@ pub fn ask_twice<M: Module, P: Platform>(
     second: &[u8],
 ) -> Result<Answer, Refusal>
     ensures twice { AsksTwice (M.meaning «module».now) (P.standing platform.old)
-        (P.standing platform.new) offer.now first.now second.now (whole_in result) }
+        (P.standing platform.new) offer.now first.now second.now (batch_result_of result) }
     ensures counts { CountsNext Basic (One first.now) (One second.now) (P.standing platform.old)
-        (P.standing platform.new) (whole_in result) }
+        (P.standing platform.new) (batch_result_of result) }
 {
     match ask(alloc, module, platform, offer, first) {
         Err(refusal) => Err(refusal),

@@ -19,7 +19,7 @@ pub struct Replies {
 
 /// Why there aren't two replies.
 #[derive(Clone, Copy, Debug, PartialEq, Eq)]
-pub enum Halted {
+pub enum RepeatRefusal {
     /// One of the two calls was refused.
     Asking(Refusal),
     /// The checkpoint was refused.
@@ -34,7 +34,7 @@ pub fn ask_close_repeat<M: Module, P: Platform>(
     platform: &mut P,
     offer: &[u8],
     request: &[u8],
-) -> Result<Replies, Halted>
+) -> Result<Replies, RepeatRefusal>
     ensures repeats { RepeatsBehind (M.meaning «module».now) (P.standing platform.old)
         (P.standing platform.new) offer.now request.now result }
     ensures never_twice { NeverTwice (M.meaning «module».now) (P.standing platform.old)
@@ -43,11 +43,11 @@ pub fn ask_close_repeat<M: Module, P: Platform>(
         (P.standing platform.new) result }
 {
     match ask(alloc, module, platform, offer, request) {
-        Err(refusal) => Err(Halted::Asking(refusal)),
+        Err(refusal) => Err(RepeatRefusal::Asking(refusal)),
         Ok(first) => match checkpoint(platform) {
-            Err(refusal) => Err(Halted::Closing(refusal)),
+            Err(refusal) => Err(RepeatRefusal::Closing(refusal)),
             Ok(_) => match ask(alloc, module, platform, offer, request) {
-                Err(refusal) => Err(Halted::Asking(refusal)),
+                Err(refusal) => Err(RepeatRefusal::Asking(refusal)),
                 Ok(second) => Ok(Replies { first, second }),
             },
         },

@@ -2,7 +2,7 @@
 
 ghost use Rattle.mm_digest.specs.declared.variant.Variant.TheVariants.{Opt};
 ghost use Rattle.mm_module.specs.Batch.{One};
-ghost use Rattle.mm_call.specs.Leaving.{whole_in};
+ghost use Rattle.mm_call.specs.Untouched.{batch_result_of};
 ghost use Rattle.mm_callers.specs.Counts.{CountsCall, CountsAgain, CountsNext};
 ghost use Rattle.mm_callers.specs.Opt.{AsksOnce, AsksByQuietPlan, AsksInMemory, AsksTwice, AsksWelcome};
 
@@ -21,13 +21,13 @@ pub fn ask_once<M: Module, P: Platform>(
     request: &[u8],
 ) -> Result<Answer, Refusal>
     ensures once { AsksOnce (M.meaning «module».now) (P.standing platform.old)
-        (P.standing platform.new) offer.now request.now (whole_in result) }
+        (P.standing platform.new) offer.now request.now (batch_result_of result) }
     ensures welcome { AsksWelcome (M.meaning «module».now) (P.standing platform.old)
-        (P.standing platform.new) offer.now request.now (whole_in result) }
+        (P.standing platform.new) offer.now request.now (batch_result_of result) }
     ensures complete { AsksByQuietPlan (M.meaning «module».now) (P.standing platform.old)
-        (P.standing platform.new) offer.now request.now (whole_in result) }
+        (P.standing platform.new) offer.now request.now (batch_result_of result) }
     ensures counts { CountsCall Opt (One request.now) (P.standing platform.old)
-        (P.standing platform.new) (whole_in result) }
+        (P.standing platform.new) (batch_result_of result) }
 {
     ask(alloc, module, platform, offer, request)
 }
@@ -42,8 +42,8 @@ pub fn ask_in_memory<M: Module>(
     request: &[u8],
 ) -> Result<Answer, Refusal>
     ensures complete { AsksInMemory (M.meaning «module».now) platform.old platform.new offer.now
-        request.now (whole_in result) }
-    ensures counts { CountsCall Opt (One request.now) platform.old platform.new (whole_in result) }
+        request.now (batch_result_of result) }
+    ensures counts { CountsCall Opt (One request.now) platform.old platform.new (batch_result_of result) }
 {
     platform.end_plan();
     ask_once(alloc, module, platform, offer, request)
@@ -60,11 +60,11 @@ pub fn ask_after_fault<M: Module, P: Platform>(
     request: &[u8],
 ) -> Result<Answer, Refusal>
     ensures once { AsksOnce (M.meaning «module».now) (P.standing platform.old)
-        (P.standing platform.new) offer.now request.now (whole_in result) }
+        (P.standing platform.new) offer.now request.now (batch_result_of result) }
     ensures complete { AsksByQuietPlan (M.meaning «module».now) (P.standing platform.old)
-        (P.standing platform.new) offer.now request.now (whole_in result) }
+        (P.standing platform.new) offer.now request.now (batch_result_of result) }
     ensures counts { CountsAgain Opt (One request.now) (P.standing platform.old)
-        (P.standing platform.new) (whole_in result) }
+        (P.standing platform.new) (batch_result_of result) }
 {
     match ask(alloc, module, platform, offer, request) {
         Ok(answer) => Ok(answer),
@@ -83,9 +83,9 @@ pub fn ask_twice<M: Module, P: Platform>(
     second: &[u8],
 ) -> Result<Answer, Refusal>
     ensures twice { AsksTwice (M.meaning «module».now) (P.standing platform.old)
-        (P.standing platform.new) offer.now first.now second.now (whole_in result) }
+        (P.standing platform.new) offer.now first.now second.now (batch_result_of result) }
     ensures counts { CountsNext Opt (One first.now) (One second.now) (P.standing platform.old)
-        (P.standing platform.new) (whole_in result) }
+        (P.standing platform.new) (batch_result_of result) }
 {
     match ask(alloc, module, platform, offer, first) {
         Err(refusal) => Err(refusal),

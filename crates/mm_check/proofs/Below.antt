@@ -21,55 +21,55 @@ pub use Rattle.std.proofs.lemmas.Option.{get_or_from_slice_get, slice_get_read, 
 pub use Rattle.std.proofs.lemmas.Slice.Eq.{bytes_eq-Decides}
 pub use Rattle.sha2.specs.Sha256.{sha256}
 pub use Rattle.mm_base.specs.Limits.{longest_line, most_events, most_members}
-pub use Rattle.mm_digest.specs.Messages.{start_message, variant_byte, zero_bytes, anchored_message, anchored_of}
+pub use Rattle.mm_digest.specs.Messages.{start_message, variant_byte, zero_bytes, anchored_message, anchored_digest_of}
 pub use Rattle.mm_digest.specs.declared.variant.Variant.{Variant}
 pub use Rattle.mm_digest.specs.declared.variant.Variant.TheVariants.{Basic, Opt}
 pub use Rattle.mm_platform.specs.declared.plan.Meddle.{Meddle}
-pub use Rattle.mm_module.specs.Batch.{Batch, Many, normal, One, size_of}
+pub use Rattle.mm_module.specs.Batch.{Batch, Many, normal_batch, One, size_of}
 pub use Rattle.mm_module.specs.Meaning.{Meaning, outputs_from}
 pub use Rattle.mm_modules.specs.Modules.{meaning_of}
 pub use Rattle.mm_model.specs.Chains.{guard}
 pub use Rattle.mm_model.specs.ChainsWords.{own_values}
-pub use Rattle.mm_model.specs.History.{Close, first_history, History, Move, moved, total_of, Commit, Foreign, requests_of}
+pub use Rattle.mm_model.specs.History.{Close, first_history, History, Move, history_after, total_of, Commit, Foreign, requests_of}
 pub use Rattle.mm_model.specs.Instance.{Instance}
-pub use Rattle.mm_model.specs.Messages.{AreNoGuards, IsClear, form_messages, moving_messages, offer_messages}
+pub use Rattle.mm_model.specs.Messages.{AreNoGuards, IsClear, form_messages, messages_for_move, offer_messages}
 pub use Rattle.mm_model.specs.MessagesWords.{move_messages}
-pub use Rattle.mm_call.specs.Asked.{moves_messages, right_messages}
-pub use Rattle.mm_call.specs.Levels.{by_digests, by_lists, all_made}
+pub use Rattle.mm_call.specs.CallPremises.{messages_of_moves, right_messages}
+pub use Rattle.mm_call.specs.Levels.{digest_level, list_level, state_after_moves}
 pub use Rattle.mm_call.specs.Standing.{instance_by}
 pub use Rattle.mm_schedule.specs.Events.{Event, event_of, Ask, Checkpoint, meddles_of}
 pub use Rattle.mm_schedule.specs.Replies.{end_line, lines_of_reply, told_lines}
 pub use Rattle.mm_schedule.specs.declared.event.Event.{Event as CodeEvent}
 pub use Rattle.mm_schedule.specs.declared.header.Header.{Header}
 pub use Rattle.mm_schedule.specs.declared.reply.Reply.{Reply}
-pub use Rattle.mm_run.specs.Folds.{event_outcome, expected, first_digests, first_issued, Followed, followed, Outcome, replies_by_digests}
+pub use Rattle.mm_run.specs.Folds.{event_outcome, outcome_by_lists, first_digests, first_issued, RunOutcome, outcome_of_events, Outcome, outcome_by_digests}
 pub use Rattle.mm_run.specs.Folds.{closing_reply, course_of, reply_of, way_of}
-pub use Rattle.mm_run.specs.Held.{world_of, world_barrier, world_key}
-pub use Rattle.mm_run.specs.Premises.{AreGenuine, batches_of, event_messages, foreign_of, IsClearRun, IsGenuineEvent, IsGenuineRun}
+pub use Rattle.mm_run.specs.WorldState.{world_of, world_barrier, world_key}
+pub use Rattle.mm_run.specs.Premises.{AreGenuine, batches_of, event_messages, event_foreign_values, IsClearRun, IsGenuineEvent, IsGenuineRun}
 pub use Rattle.mm_run.specs.Premises.{messages_from, moves_of}
 pub use Rattle.mm_run.specs.Premises.{AreApart, asked_batches, foreign_values, run_messages}
 pub use Rattle.mm_run.proofs.Above.{ask_moves, asking_messages}
 pub use Rattle.mm_run.proofs.Above.{goes_on, in_any_way, short_size}
 pub use Rattle.mm_evidence.proofs.Above.{any_in, any_some, event_apart, event_offer, event_or, genuine_or, names_by}
-pub use Rattle.mm_expect.specs.Numbered.{messages_if, messages_where, numbered_event}
+pub use Rattle.mm_expect.specs.NumberedMessages.{messages_if, messages_where, numbered_event_messages}
 pub use Rattle.mm_play.proofs.Above.{for_whole, not_ok, ok_same, outcome_of, plays_err, plays_ok}
-pub use Rattle.mm_replay.specs.Schedule.{after_event, is_too_much, replay_stage, Running, running_outcome, stage_of}
-pub use Rattle.mm_check.specs.Checking.{after_compared, AtHeader, check_answer, check_closing, CheckStage, Compared, first_compared}
-pub use Rattle.mm_check.specs.Checking.{first_read, headed, InEvents, InReplies, is_line, Read, read_line, with_event}
-pub use Rattle.mm_check.specs.Deciding.{IsFirstForged, premise_by, StandsBehind}
-pub use Rattle.mm_check.specs.Guards.{digest_items, events_of, HasAll, secured_by}
-pub use Rattle.mm_check.specs.Listing.{both_more, first_then, first_where, is_zero, listed, lower, message_digests, shared_in, shared_with}
-pub use Rattle.mm_check.specs.Listing.{zero_in}
-pub use Rattle.mm_check.specs.Lists.{CountsDigests, has_message, Lists, pair_of}
-pub use Rattle.mm_check.specs.Numbering.{Decides, expected_lines, is_secured, IsForgedAt, lines_of_all, numbered, numbered_from, secured_in}
+pub use Rattle.mm_replay.specs.Schedule.{running_replay_after, is_too_much, replay_stage, RunningReplay, running_outcome, replay_state_of}
+pub use Rattle.mm_check.specs.CheckStage.{compared_run_after, AtHeader, check_answer, check_closing, CheckStage, ComparedRun, first_compared_run}
+pub use Rattle.mm_check.specs.CheckStage.{first_recorded_run, answer_to_header, InEvents, InReplies, is_line, RecordedRun, answer_to_line, with_event}
+pub use Rattle.mm_check.specs.PremiseDecision.{IsFirstForged, premise_by, StandsBehind}
+pub use Rattle.mm_check.specs.Guards.{digest_items, events_of, HasAll, secured_event_by}
+pub use Rattle.mm_check.specs.Listing.{pair_plus_one, first_number_of, number_of_first, is_zero, messages_with, lower_pair, message_digests, shared_pair_in, shared_pair_with}
+pub use Rattle.mm_check.specs.Listing.{zero_number_in}
+pub use Rattle.mm_check.specs.Lists.{CountsDigests, has_message, ListsMessages, pair_of}
+pub use Rattle.mm_check.specs.Numbering.{DecidesPremise, expected_lines, is_secured, IsForgedAt, lines_of_all, numbered_messages, numbered_messages_from, secured_event_in}
 pub use Rattle.mm_check.specs.Numbering.{PremiseIsFixed}
-pub use Rattle.mm_check.specs.Verdicts.{agreement_of, AreVerdicts, AreVerdictsOn, Concludes, difference_from, end_difference}
+pub use Rattle.mm_check.specs.Verdicts.{agreement_of, AreVerdicts, AreVerdictsOn, StageConcludes, difference_from, end_difference}
 pub use Rattle.mm_check.specs.Verdicts.{first_difference, is_found, run_lines, RunsBehind}
 pub use Rattle.mm_check.specs.declared.verdicts.Premise.{Premise}
 pub use Rattle.mm_check.specs.declared.verdicts.Verdicts.{Verdicts}
 pub use Rattle.mm_platform.specs.declared.plan.Stop.{Stop}
 pub use Rattle.mm_model.specs.Long.{is_long}
-pub use Rattle.mm_model.specs.Steps.{ask_steps, Changes, checkpoint_steps, Reads, Step, Writes}
-pub use Rattle.mm_call.specs.Courses.{after_step, commits, Course, Done, End, Fails, Fate, step_moves, walk, Walked}
-pub use Rattle.mm_call.specs.Found.{Found, found_at, right_content}
-pub use Rattle.mm_run.specs.Offered.{offered_bytes}
+pub use Rattle.mm_model.specs.Steps.{ask_steps, Changes, checkpoint_steps, Reads, DeviceStep, Writes}
+pub use Rattle.mm_call.specs.Courses.{walk_from_step, has_commit, Course, Done, End, Fails, StepFate, step_moves, walk, StepsWalk}
+pub use Rattle.mm_call.specs.CallFinding.{CallFinding, finding_at, right_content}
+pub use Rattle.mm_run.specs.EventOffers.{offered_bytes}

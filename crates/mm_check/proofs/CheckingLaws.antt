@@ -1,51 +1,51 @@
 -- From a run over lines to what the whole recorded run is told.
 use Rattle.mm_check.proofs.Below.{◌≡◌, ◌∙◌, ℕ, ◌+◌, Bool, true, false, cond, List, [], ◌∷◌, ◌++◌, length, map, nat_lt, Option, None, Some}
 use Rattle.mm_check.proofs.Below.{Result, Ok, Err, refl, sym, ap, subst, append_assoc, append-nil, arith, inl, inr, fold, longest_line}
-use Rattle.mm_check.proofs.Below.{Header, Event, world_of, plays_ok, plays_err, not_ok, ok_same, outcome_of, Read, first_read, with_event}
-use Rattle.mm_check.proofs.Below.{Compared, first_compared, after_compared, CheckStage, AtHeader, InEvents, InReplies, headed, read_line}
-use Rattle.mm_check.proofs.Below.{check_answer, check_closing, for_whole, AreVerdicts, Concludes, run_lines, Verdicts}
+use Rattle.mm_check.proofs.Below.{Header, Event, world_of, plays_ok, plays_err, not_ok, ok_same, outcome_of, RecordedRun, first_recorded_run, with_event}
+use Rattle.mm_check.proofs.Below.{ComparedRun, first_compared_run, compared_run_after, CheckStage, AtHeader, InEvents, InReplies, answer_to_header, answer_to_line}
+use Rattle.mm_check.proofs.Below.{check_answer, check_closing, for_whole, AreVerdicts, StageConcludes, run_lines, Verdicts}
 use Rattle.mm_base.specs.Input.{lines_of, tail_of}
 use Rattle.mm_base.specs.declared.replay_fault.ReplayFault.{ReplayFault}
 use Rattle.mm_base.specs.declared.replay_fault.ReplayFault.TheVariants.{Memory, ReadFault, WriteFault, BadLine, LineLong, TooMuch}
 use Rattle.mm_schedule.specs.Grammar.{event_at}
 use Rattle.mm_schedule.specs.Headers.{header_at}
-use Rattle.mm_play.specs.declared.player.Refused.{Refused}
-use Rattle.mm_play.specs.declared.player.Refused.TheVariants.{Bad}
+use Rattle.mm_play.specs.declared.player.LineRefusal.{LineRefusal}
+use Rattle.mm_play.specs.declared.player.LineRefusal.TheVariants.{Bad}
 use Rattle.mm_play.specs.Counting.{no_answer, same_answer}
-use Rattle.mm_play.specs.Play.{Told, told, stopped, refusal_at, answered, closed, ended, goes_on, run}
+use Rattle.mm_play.specs.Play.{PlayOutcome, play_outcome, stopped_outcome, refusal_at, outcome_of_answer, outcome_at_end, outcome_of_tail, outcome_then, outcome_of_lines}
 use Rattle.std.specs.Io.KnownBytes.{Appends}
-use Rattle.mm_play.specs.Plays.{ForWhole, Settles, Plays, IsBlamed, is_write_fault}
-use Rattle.mm_check.specs.Checking.{compare_line}
-use Rattle.mm_check.specs.Checks.{IsChecked, AreTested, check_lines, check_run, JudgesBy, Judges, ChecksRunBy, ChecksRun}
-use Rattle.mm_check.specs.Counting.{compared, headed_by, reads}
+use Rattle.mm_play.specs.PlaysInput.{HoldsOfWhole, AnswerFits, PlaysInput, IsBlamed, is_write_fault}
+use Rattle.mm_check.specs.CheckStage.{answer_to_recorded_line}
+use Rattle.mm_check.specs.Checks.{IsChecked, AreTested, check_of_lines, check_of_input, JudgeSettles, JudgePromise, ChecksRunBy, ChecksRun}
+use Rattle.mm_check.specs.CheckStageLaws.{compared, headed_by, reads}
 use Rattle.mm_check.proofs.ComparingLaws.{with_end, verdicts_on}
 
 -- a line was answered, and the run goes on behind it
-line_ran : (on : CheckStage → Told CheckStage) (n : ℕ) (long : Bool) (r : Result (List ℕ × CheckStage) Refused) (p : CheckStage)
-    → (let t : Told CheckStage = cond long (stopped (LineLong n)) (answered on n r) in t.outcome ≡ Ok p)
+line_ran : (on : CheckStage → PlayOutcome CheckStage) (n : ℕ) (long : Bool) (r : Result (List ℕ × CheckStage) LineRefusal) (p : CheckStage)
+    → (let t : PlayOutcome CheckStage = cond long (stopped_outcome (LineLong n)) (outcome_of_answer on n r) in t.outcome ≡ Ok p)
     → (answer : List ℕ × CheckStage) × (r ≡ Ok answer) × ((on answer.1).outcome ≡ Ok p)
 line_ran on n true r p h = absurd (not_ok (LineLong n) p h)
 line_ran on n false (Err why) p h = absurd (not_ok (refusal_at n why) p h)
 line_ran on n false (Ok answer) p h = (answer, refl, h)
 
-module _ (on : CheckStage → Told CheckStage) (p : CheckStage) where
+module _ (on : CheckStage → PlayOutcome CheckStage) (p : CheckStage) where
   abbrev Answers : List ℕ × CheckStage → Type 0
   Answers answer = (on answer.1).outcome ≡ Ok p
 
 -- among the recorded lines
-replies_ran : (heading : List ℕ → Option Header) (lines : List (List ℕ)) (n : ℕ) (c : Compared) (p : CheckStage)
-    → (run (check_answer heading) n (InReplies c) lines).outcome ≡ Ok p → p ≡ InReplies (fold after_compared c lines)
+replies_ran : (heading : List ℕ → Option Header) (lines : List (List ℕ)) (n : ℕ) (c : ComparedRun) (p : CheckStage)
+    → (outcome_of_lines (check_answer heading) n (InReplies c) lines).outcome ≡ Ok p → p ≡ InReplies (fold compared_run_after c lines)
 replies_ran heading [] n c p h = sym (ok_same (InReplies c) p h)
 replies_ran heading (line ∷ lines) n c p h =
-    let on : CheckStage → Told CheckStage = λ next. run (check_answer heading) (n + 1) next lines in
-    let a = line_ran on n (nat_lt longest_line (length line)) (compare_line c line) p h in
+    let on : CheckStage → PlayOutcome CheckStage = λ next. outcome_of_lines (check_answer heading) (n + 1) next lines in
+    let a = line_ran on n (nat_lt longest_line (length line)) (answer_to_recorded_line c line) p h in
     let b = compared c line a.0 a.1 in
-    replies_ran heading lines (n + 1) (after_compared c line) p (subst (Answers on p) (sym b.1) a.2)
+    replies_ran heading lines (n + 1) (compared_run_after c line) p (subst (Answers on p) (sym b.1) a.2)
 
 -- among the events
 
 -- The lines from some read ones on are events and perhaps recorded lines; and these are the verdicts at their end.
-record GoesOn (r : Read) (lines : List (List ℕ)) (it : Verdicts) : Type 0 where
+record GoesOn (r : RecordedRun) (lines : List (List ℕ)) (it : Verdicts) : Type 0 where
   others : List (List ℕ)
   section : List (List ℕ)
   events : List Event
@@ -57,7 +57,7 @@ record GoesOn (r : Read) (lines : List (List ℕ)) (it : Verdicts) : Type 0 wher
   tests : AreTested r.header all section tested
   verdicts : AreVerdicts r.header all tested it
 
-ends_here : (r : Read) (section tested : List (List ℕ)) (it : Verdicts) → AreTested r.header r.events section tested
+ends_here : (r : RecordedRun) (section tested : List (List ℕ)) (it : Verdicts) → AreTested r.header r.events section tested
     → AreVerdicts r.header r.events tested it → GoesOn r section it
 ends_here r section tested it tests verdicts = record {
   others = [];
@@ -72,7 +72,7 @@ ends_here r section tested it tests verdicts = record {
   verdicts = verdicts;
 }
 
-event_first : (r : Read) (line : List ℕ) (lines : List (List ℕ)) (event : Event) (it : Verdicts) → event_at line ≡ Some event
+event_first : (r : RecordedRun) (line : List ℕ) (lines : List (List ℕ)) (event : Event) (it : Verdicts) → event_at line ≡ Some event
     → GoesOn (with_event r line event) lines it → GoesOn r (line ∷ lines) it
 event_first r line lines event it is b = record {
   others = line ∷ b.others;
@@ -87,33 +87,33 @@ event_first r line lines event it is b = record {
   verdicts = b.verdicts;
 }
 
-events_ran : (heading : List ℕ → Option Header) (lines : List (List ℕ)) (n : ℕ) (p : CheckStage) (r : Read) (it : Verdicts)
-    → (run (check_answer heading) n (InEvents r) lines).outcome ≡ Ok p → Concludes p it → GoesOn r lines it
+events_ran : (heading : List ℕ → Option Header) (lines : List (List ℕ)) (n : ℕ) (p : CheckStage) (r : RecordedRun) (it : Verdicts)
+    → (outcome_of_lines (check_answer heading) n (InEvents r) lines).outcome ≡ Ok p → StageConcludes p it → GoesOn r lines it
 events_ran heading [] n p r it h c =
     ends_here r [] (run_lines (world_of r.header) r.events) it (inl (refl, refl))
-    (subst (λ (s : CheckStage). Concludes s it) (sym (ok_same (InEvents r) p h)) c)
+    (subst (λ (s : CheckStage). StageConcludes s it) (sym (ok_same (InEvents r) p h)) c)
 events_ran heading (line ∷ lines) n p r it h c =
-    let on : CheckStage → Told CheckStage = λ next. run (check_answer heading) (n + 1) next lines in
-    let a = line_ran on n (nat_lt longest_line (length line)) (read_line r line) p h in
+    let on : CheckStage → PlayOutcome CheckStage = λ next. outcome_of_lines (check_answer heading) (n + 1) next lines in
+    let a = line_ran on n (nat_lt longest_line (length line)) (answer_to_line r line) p h in
     elim (reads r line a.0 a.1) [
       | inl s ↦
-          let ends = replies_ran heading lines (n + 1) (first_compared r) p (subst (Answers on p) (sym s.1) a.2) in
+          let ends = replies_ran heading lines (n + 1) (first_compared_run r) p (subst (Answers on p) (sym s.1) a.2) in
           ends_here r (line ∷ lines) (map with_end lines) it (inr (lines, ap (λ (l : List ℕ). l ∷ lines) s.0, refl))
-          (verdicts_on r.header r.events lines it (subst (λ (s : CheckStage). Concludes s it) ends c))
+          (verdicts_on r.header r.events lines it (subst (λ (s : CheckStage). StageConcludes s it) ends c))
       | inr t ↦ event_first r line lines t.event it t.read
           (events_ran heading lines (n + 1) p (with_event r line t.event) it (subst (Answers on p) (sym t.said) a.2) c)
     ]
 
 -- whole lines that were all answered, and the verdicts at their end
 
-lines_checked : (lines : List (List ℕ)) (p : CheckStage) (it : Verdicts) → (check_lines lines).outcome ≡ Ok p → Concludes p it
+lines_checked : (lines : List (List ℕ)) (p : CheckStage) (it : Verdicts) → (check_of_lines lines).outcome ≡ Ok p → StageConcludes p it
     → IsChecked lines it
-lines_checked [] p it h c = absurd (subst (λ (s : CheckStage). Concludes s it) (sym (ok_same AtHeader p h)) c)
+lines_checked [] p it h c = absurd (subst (λ (s : CheckStage). StageConcludes s it) (sym (ok_same AtHeader p h)) c)
 lines_checked (first ∷ lines) p it h c =
-    let on : CheckStage → Told CheckStage = λ next. run (check_answer header_at) (1 + 1) next lines in
-    let a = line_ran on 1 (nat_lt longest_line (length first)) (headed (header_at first)) p h in
+    let on : CheckStage → PlayOutcome CheckStage = λ next. outcome_of_lines (check_answer header_at) (1 + 1) next lines in
+    let a = line_ran on 1 (nat_lt longest_line (length first)) (answer_to_header (header_at first)) p h in
     let d = headed_by (header_at first) a.0 a.1 in
-    let b = events_ran header_at lines (1 + 1) p (first_read d.0) it (subst (Answers on p) (sym d.2) a.2) c in
+    let b = events_ran header_at lines (1 + 1) p (first_recorded_run d.0) it (subst (Answers on p) (sym d.2) a.2) c in
     record {
       first = first;
       others = b.others;
@@ -130,33 +130,33 @@ lines_checked (first ∷ lines) p it h c =
 
 -- an input that was answered to its end
 
-closed_ran : (n : ℕ) (q p : CheckStage) (last : Option (List ℕ)) → (closed n q last).outcome ≡ Ok p → q ≡ p
+closed_ran : (n : ℕ) (q p : CheckStage) (last : Option (List ℕ)) → (outcome_at_end n q last).outcome ≡ Ok p → q ≡ p
 closed_ran n q p None h = absurd (not_ok (BadLine n) p h)
 closed_ran n q p (Some l) h = ok_same q p h
 
-tail_ran : (n : ℕ) (tail : List ℕ) (q p : CheckStage) → (ended check_closing n tail q).outcome ≡ Ok p → q ≡ p
+tail_ran : (n : ℕ) (tail : List ℕ) (q p : CheckStage) → (outcome_of_tail check_closing n tail q).outcome ≡ Ok p → q ≡ p
 tail_ran n [] q p h = closed_ran n q p (check_closing q) h
 tail_ran n (b ∷ tail) q p h =
-    let a = line_ran (λ next. stopped TooMuch) n (nat_lt longest_line (length (b ∷ tail))) (Err Bad) p h in
+    let a = line_ran (λ next. stopped_outcome TooMuch) n (nat_lt longest_line (length (b ∷ tail))) (Err Bad) p h in
     absurd (no_answer Bad a.0.0 a.0.1 a.1)
 
 whole_ran : (n : ℕ) (tail written : List ℕ) (outcome : Result CheckStage ReplayFault) (p : CheckStage)
-    → (goes_on (ended check_closing n tail) written outcome).outcome ≡ Ok p → outcome ≡ Ok p
+    → (outcome_then (outcome_of_tail check_closing n tail) written outcome).outcome ≡ Ok p → outcome ≡ Ok p
 whole_ran n tail written (Err fault) p h = absurd (not_ok fault p h)
 whole_ran n tail written (Ok q) p h = ap Ok (tail_ran n tail q p h)
 
 -- what the loop over the lines did, as a judgement
 
 stops_so : (left : Option (List ℕ)) (taken sent : List ℕ) (fault : ReplayFault)
-    → ForWhole left taken (λ input. check_run input ≡ told sent (Err fault))
-    → ForWhole left taken (λ input. (check_run input).outcome ≡ Err fault)
+    → HoldsOfWhole left taken (λ input. check_of_input input ≡ play_outcome sent (Err fault))
+    → HoldsOfWhole left taken (λ input. (check_of_input input).outcome ≡ Err fault)
 stops_so left taken sent fault h =
-    for_whole left taken (λ input. check_run input ≡ told sent (Err fault)) (λ input. (check_run input).outcome ≡ Err fault)
+    for_whole left taken (λ input. check_of_input input ≡ play_outcome sent (Err fault)) (λ input. (check_of_input input).outcome ≡ Err fault)
     (λ input e. outcome_of e) h
 
 judges_by : (next : CheckStage) (left : Option (List ℕ)) (taken sent : List ℕ) (fault : ReplayFault) → (fault ≡ WriteFault → ⊥)
-    → (let r : Result (Unit {0}) ReplayFault = Err fault in Settles check_lines check_run next left taken sent r)
-    → JudgesBy left taken (Err fault)
+    → (let r : Result (Unit {0}) ReplayFault = Err fault in AnswerFits check_of_lines check_of_input next left taken sent r)
+    → JudgeSettles left taken (Err fault)
 judges_by next left taken sent Memory wrote s = tt
 judges_by next left taken sent ReadFault wrote s = (s.0, (s.1.0, outcome_of s.1.1))
 judges_by next left taken sent WriteFault wrote s = absurd (wrote refl)
@@ -171,12 +171,12 @@ not_written result fault h is same =
 
 module _ {first next : CheckStage} {left left' received received' : Option (List ℕ)} {result : Result (Unit {0}) ReplayFault}
     (begins : first ≡ AtHeader)
-    (played : Plays (check_answer header_at) check_closing first next left left' received received' result) where
-  pub judged_ok : (it : Verdicts) (done : Unit {0}) → result ≡ Ok done → Concludes next it → Judges left left' (Ok it)
+    (played : PlaysInput (check_answer header_at) check_closing first next left left' received received' result) where
+  pub judged_ok : (it : Verdicts) (done : Unit {0}) → result ≡ Ok done → StageConcludes next it → JudgePromise left left' (Ok it)
   judged_ok it done is c =
       let p = plays_ok begins played done is it in
       let answered = outcome_of p.settled.1 in
-      let ran = check_lines (lines_of p.taken) in
+      let ran = check_of_lines (lines_of p.taken) in
       let lines = whole_ran (1 + length (lines_of p.taken)) (tail_of p.taken) ran.written ran.outcome next answered in
       record {
         taken = p.taken;
@@ -185,7 +185,7 @@ module _ {first next : CheckStage} {left left' received received' : Option (List
             record { ended = p.settled.0; after = next; answered = answered; checked = lines_checked (lines_of p.taken) next it lines c };
       }
 
-  pub judged_err : (fault : ReplayFault) → IsBlamed (is_write_fault result) 0 0 → result ≡ Err fault → Judges left left' (Err fault)
+  pub judged_err : (fault : ReplayFault) → IsBlamed (is_write_fault result) 0 0 → result ≡ Err fault → JudgePromise left left' (Err fault)
   judged_err fault blamed is =
       let p = plays_err {R = Unit {0}} begins played fault is in
       record {
@@ -200,13 +200,13 @@ appends_nothing : (received : Option (List ℕ)) → Appends received received [
 appends_nothing None = tt
 appends_nothing (Some bytes) = sym (append-nil bytes)
 
-checks_by : (left : Option (List ℕ)) (taken : List ℕ) (fault : ReplayFault) → JudgesBy left taken (Err fault)
+checks_by : (left : Option (List ℕ)) (taken : List ℕ) (fault : ReplayFault) → JudgeSettles left taken (Err fault)
     → ChecksRunBy left taken [] (Err fault)
 checks_by left taken Memory s = refl
 checks_by left taken WriteFault s = absurd s
 checks_by left taken fault s = (refl, s)
 
-pub checked_err : (left left' received : Option (List ℕ)) (fault : ReplayFault) → Judges left left' (Err fault)
+pub checked_err : (left left' received : Option (List ℕ)) (fault : ReplayFault) → JudgePromise left left' (Err fault)
     → ChecksRun left left' received received (Err fault)
 checked_err left left' received fault j = record {
   taken = j.taken;

@@ -4,11 +4,11 @@ use Rattle.mm_check.proofs.Below.{◌≡◌, ◌∙◌, ℕ, ◌+◌, Bool, true
 use Rattle.mm_check.proofs.Below.{arith, inl, inr, ◌⊎◌, ◌||◌, append_assoc, append-nil, fold, list_any, list_any-append}
 use Rattle.mm_check.proofs.Below.{Contains, option_map, bytes_eq, Contains-append_left, Contains-append_right, Contains-append_cases}
 use Rattle.mm_check.proofs.Below.{Contains-push, Contains-push_cases, nat_list_eq_equiv, bytes_eq-Decides, sha256, zero_bytes}
-use Rattle.mm_check.proofs.Below.{start_message, guard, own_values, Instance, History, Move, Close, moved, first_history, IsClear}
-use Rattle.mm_check.proofs.Below.{AreNoGuards, move_messages, moves_messages, by_lists, Event, event_outcome, first_issued, event_messages}
-use Rattle.mm_check.proofs.Below.{moves_of, messages_from, foreign_of, foreign_values, asked_batches, run_messages, messages_if}
-use Rattle.mm_check.proofs.Below.{messages_where, numbered_event, first_where, listed, message_digests, shared_with, shared_in, is_zero}
-use Rattle.mm_check.proofs.Below.{zero_in, numbered_from, numbered, is_secured, Variant, Basic, Opt, AreApart, secured_by}
+use Rattle.mm_check.proofs.Below.{start_message, guard, own_values, Instance, History, Move, Close, history_after, first_history, IsClear}
+use Rattle.mm_check.proofs.Below.{AreNoGuards, move_messages, messages_of_moves, list_level, Event, event_outcome, first_issued, event_messages}
+use Rattle.mm_check.proofs.Below.{moves_of, messages_from, event_foreign_values, foreign_values, asked_batches, run_messages, messages_if}
+use Rattle.mm_check.proofs.Below.{messages_where, numbered_event_messages, number_of_first, messages_with, message_digests, shared_pair_with, shared_pair_in, is_zero}
+use Rattle.mm_check.proofs.Below.{zero_number_in, numbered_messages_from, numbered_messages, is_secured, Variant, Basic, Opt, AreApart, secured_event_by}
 use Rattle.std.specs.Option.{is_some}
 use Rattle.std.specs.List.{All, IsDistinct}
 use Rattle.std.proofs.lemmas.Bool.{both_ways, false_from_ne_true}
@@ -43,35 +43,35 @@ some_here true o = refl
 some_here false None = refl
 some_here false (Some n) = refl
 
-where_any : {A : Type 0} (p : A → Bool) (xs : List A) → is_some (first_where p xs) ≡ list_any p xs
+where_any : {A : Type 0} (p : A → Bool) (xs : List A) → is_some (number_of_first p xs) ≡ list_any p xs
 where_any p [] = refl
-where_any p (x ∷ xs) = some_here (p x) (first_where p xs) ∙ ap (λ (b : Bool). p x || b) (where_any p xs)
+where_any p (x ∷ xs) = some_here (p x) (number_of_first p xs) ∙ ap (λ (b : Bool). p x || b) (where_any p xs)
 
 none_from : (o : Option ℕ) → is_some o ≡ false → o ≡ None
 none_from None e = refl
 none_from (Some n) e = absurd (cc)
 
-pub not_any : {A : Type 0} (p : A → Bool) (xs : List A) → first_where p xs ≡ None → list_any p xs ≡ false
+pub not_any : {A : Type 0} (p : A → Bool) (xs : List A) → number_of_first p xs ≡ None → list_any p xs ≡ false
 not_any p xs e = sym (where_any p xs) ∙ ap is_some e
 
-pub no_where : {A : Type 0} (p : A → Bool) (xs : List A) → (list_any p xs ≡ true → ⊥) → first_where p xs ≡ None
-no_where p xs h = none_from (first_where p xs) (where_any p xs ∙ false_from_ne_true (list_any p xs) h)
+pub no_where : {A : Type 0} (p : A → Bool) (xs : List A) → (list_any p xs ≡ true → ⊥) → number_of_first p xs ≡ None
+no_where p xs h = none_from (number_of_first p xs) (where_any p xs ∙ false_from_ne_true (list_any p xs) h)
 
 -- a test that no digest passes
 
 found_none : (p : List ℕ → Bool) (ms : List (List ℕ)) (m : List ℕ) → Contains ms m → p (sha256 m) ≡ true
-    → first_where p (message_digests ms) ≡ None → ⊥
+    → number_of_first p (message_digests ms) ≡ None → ⊥
 found_none p ms m h pass none = both_ways (list_any p (message_digests ms)) (not_any p (message_digests ms) none)
     (any_map p sha256 ms ∙ any_in (λ x. p (sha256 x)) ms m h pass)
 
 none_found : (p : List ℕ → Bool) (ms : List (List ℕ)) → ((m : List ℕ) → Contains ms m → p (sha256 m) ≡ true → ⊥)
-    → first_where p (message_digests ms) ≡ None
+    → number_of_first p (message_digests ms) ≡ None
 none_found p ms h = no_where p (message_digests ms)
     (λ e. let f = any_some (λ x. p (sha256 x)) ms (sym (any_map p sha256 ms) ∙ e) in h f.0 f.1 f.2)
 
 -- no two numbers share a digest
 
-pairs_none : (found : Option ℕ) (later : Option (ℕ × ℕ)) → shared_with found later ≡ None → (found ≡ None) × (later ≡ None)
+pairs_none : (found : Option ℕ) (later : Option (ℕ × ℕ)) → shared_pair_with found later ≡ None → (found ≡ None) × (later ≡ None)
 pairs_none (Some n) later h = absurd (cc)
 pairs_none None None h = (refl, refl)
 pairs_none None (Some pair) h = absurd (cc)
@@ -79,11 +79,11 @@ pairs_none None (Some pair) h = absurd (cc)
 same_digest : (a b : List ℕ) → a ≡ b → bytes_eq a b ≡ true
 same_digest a b e = (bytes_eq-Decides a b).1 e
 
-pairs_apart : (ms : List (List ℕ)) → shared_in (message_digests ms) ≡ None → (m n : List ℕ) → Contains ms m → Contains ms n
+pairs_apart : (ms : List (List ℕ)) → shared_pair_in (message_digests ms) ≡ None → (m n : List ℕ) → Contains ms m → Contains ms n
     → sha256 m ≡ sha256 n → m ≡ n
 pairs_apart [] none m n hm hn e = absurd (none_in m hm)
 pairs_apart (x ∷ ms) none m n hm hn e =
-    let parts = pairs_none (first_where (bytes_eq (sha256 x)) (message_digests ms)) (shared_in (message_digests ms)) none in
+    let parts = pairs_none (number_of_first (bytes_eq (sha256 x)) (message_digests ms)) (shared_pair_in (message_digests ms)) none in
     elim (cons_cases x ms m hm) [
       | inl xm ↦ elim (cons_cases x ms n hn) [
         | inl xn ↦ sym xm ∙ xn
@@ -95,7 +95,7 @@ pairs_apart (x ∷ ms) none m n hm hn e =
       ]
     ]
 
-clear_from : (ms : List (List ℕ)) → shared_in (message_digests ms) ≡ None → zero_in (message_digests ms) ≡ None → IsClear ms
+clear_from : (ms : List (List ℕ)) → shared_pair_in (message_digests ms) ≡ None → zero_number_in (message_digests ms) ≡ None → IsClear ms
 clear_from ms none zero = record {
   apart = λ m n hm hn e. pairs_apart ms none m n hm hn e;
   nonzero = λ m h e. found_none is_zero ms m h ((bytes_eq-Decides (sha256 m) zero_bytes).1 e) zero;
@@ -114,11 +114,11 @@ listed_once : (seen : List (List ℕ)) (x : List ℕ) (has : Bool) → list_any 
 listed_once seen x true e once = once
 listed_once seen x false e once = IsDistinct-push nat_list_eq_equiv seen x once e
 
-pub all_once : (ms seen : List (List ℕ)) → IsDistinct bytes_eq seen → IsDistinct bytes_eq (fold listed seen ms)
+pub all_once : (ms seen : List (List ℕ)) → IsDistinct bytes_eq seen → IsDistinct bytes_eq (fold messages_with seen ms)
 all_once [] seen once = once
-all_once (x ∷ ms) seen once = all_once ms (listed seen x) (listed_once seen x (list_any (bytes_eq x) seen) refl once)
+all_once (x ∷ ms) seen once = all_once ms (messages_with seen x) (listed_once seen x (list_any (bytes_eq x) seen) refl once)
 
-clear_none : (ms : List (List ℕ)) → IsDistinct bytes_eq ms → IsClear ms → shared_in (message_digests ms) ≡ None
+clear_none : (ms : List (List ℕ)) → IsDistinct bytes_eq ms → IsClear ms → shared_pair_in (message_digests ms) ≡ None
 clear_none [] once clear = refl
 clear_none (x ∷ ms) once clear =
     let Other : List ℕ → Type 0 = λ m. bytes_eq x m ≡ false in
@@ -154,10 +154,10 @@ listed_same seen x true e m = listed_too (list_any (bytes_eq m) seen) (bytes_eq 
     (λ t. ap (λ (l : List ℕ). list_any (bytes_eq l) seen) ((bytes_eq-Decides m x).0 t) ∙ e)
     ∙ sym (list_any-append (bytes_eq m) seen (x ∷ []))
 
-all_same : (ms seen : List (List ℕ)) → Same (fold listed seen ms) (seen ++ ms)
+all_same : (ms seen : List (List ℕ)) → Same (fold messages_with seen ms) (seen ++ ms)
 all_same [] seen m = ap (list_any (bytes_eq m)) (sym (append-nil seen))
-all_same (x ∷ ms) seen m = all_same ms (listed seen x) m
-    ∙ same_append (listed seen x) (seen ++ x ∷ []) ms ms (listed_same seen x (list_any (bytes_eq x) seen) refl) (λ n. refl) m
+all_same (x ∷ ms) seen m = all_same ms (messages_with seen x) m
+    ∙ same_append (messages_with seen x) (seen ++ x ∷ []) ms ms (listed_same seen x (list_any (bytes_eq x) seen) refl) (λ n. refl) m
     ∙ ap (list_any (bytes_eq m)) (append_assoc seen (x ∷ []) ms)
 
 -- the messages of moves are those that extend the register and those that close segments
@@ -179,66 +179,66 @@ move_same i y v ext clo later same m = ap (list_any (bytes_eq m)) (append_assoc 
     ∙ same_append (move_messages i y v) (move_messages i y v) (ext ++ clo) later (λ n. refl) same m
 
 moves_same : (i : Instance) (moves : List Move) (y : History)
-    → Same (messages_where false i y moves ++ messages_where true i y moves) (moves_messages i y moves)
+    → Same (messages_where false i y moves ++ messages_where true i y moves) (messages_of_moves i y moves)
 moves_same i [] y m = refl
 moves_same i (v ∷ moves) y m =
-    move_same i y v (messages_where false i (moved i y v) moves) (messages_where true i (moved i y v) moves)
-    (moves_messages i (moved i y v) moves) (moves_same i moves (moved i y v)) m
+    move_same i y v (messages_where false i (history_after i y v) moves) (messages_where true i (history_after i y v) moves)
+    (messages_of_moves i (history_after i y v) moves) (moves_same i moves (history_after i y v)) m
 
 events_same : (i : Instance) (events : List Event) (y : History) (issued : List (List ℕ))
-    → Same (numbered_from i y issued events) (messages_from i y issued events)
+    → Same (numbered_messages_from i y issued events) (messages_from i y issued events)
 events_same i [] y issued m = refl
 events_same i (event ∷ events) y issued m =
-    let o = event_outcome i (by_lists i) y issued event in
+    let o = event_outcome i (list_level i) y issued event in
     let asks = event_messages i issued event in
     let moves = moves_of i y issued event in
-    same_append (numbered_event i y issued event) (asks ++ moves_messages i y moves) (numbered_from i o.state o.issued events)
+    same_append (numbered_event_messages i y issued event) (asks ++ messages_of_moves i y moves) (numbered_messages_from i o.state o.issued events)
     (messages_from i o.state o.issued events)
-    (same_append asks asks (messages_where false i y moves ++ messages_where true i y moves) (moves_messages i y moves) (λ n. refl)
+    (same_append asks asks (messages_where false i y moves ++ messages_where true i y moves) (messages_of_moves i y moves) (λ n. refl)
     (moves_same i moves y)) (events_same i events o.state o.issued) m
 
-pub run_same : (i : Instance) (events : List Event) → Same (numbered i events) (run_messages i events)
+pub run_same : (i : Instance) (events : List Event) → Same (numbered_messages i events) (run_messages i events)
 run_same i events m =
     let start = start_message i.variant i.meaning.id in
-    all_same (numbered_from i first_history (first_issued i) events) (start ∷ []) m
+    all_same (numbered_messages_from i first_history (first_issued i) events) (start ∷ []) m
     ∙ ap (λ (b : Bool). bytes_eq m start || b) (events_same i events first_history (first_issued i) m)
 
 -- the run is clear where the numbers tell nothing else
-pub clear_run : (i : Instance) (events : List Event) → shared_in (message_digests (numbered i events)) ≡ None
-    → zero_in (message_digests (numbered i events)) ≡ None → IsClear (run_messages i events)
+pub clear_run : (i : Instance) (events : List Event) → shared_pair_in (message_digests (numbered_messages i events)) ≡ None
+    → zero_number_in (message_digests (numbered_messages i events)) ≡ None → IsClear (run_messages i events)
 clear_run i events none zero =
-    clear_of_fewer (run_messages i events) (numbered i events)
-    (same_in (run_messages i events) (numbered i events) (λ m. sym (run_same i events m))) (clear_from (numbered i events) none zero)
+    clear_of_fewer (run_messages i events) (numbered_messages i events)
+    (same_in (run_messages i events) (numbered_messages i events) (λ m. sym (run_same i events m))) (clear_from (numbered_messages i events) none zero)
 
 -- and they tell nothing else where it is clear
 module _ (i : Instance) (events : List Event) (clear : IsClear (run_messages i events)) where
-  numbers_clear : IsClear (numbered i events)
-  numbers_clear = clear_of_fewer (numbered i events) (run_messages i events)
-      (same_in (numbered i events) (run_messages i events) (run_same i events)) clear
+  numbers_clear : IsClear (numbered_messages i events)
+  numbers_clear = clear_of_fewer (numbered_messages i events) (run_messages i events)
+      (same_in (numbered_messages i events) (run_messages i events) (run_same i events)) clear
 
-  pub unshared : shared_in (message_digests (numbered i events)) ≡ None
+  pub unshared : shared_pair_in (message_digests (numbered_messages i events)) ≡ None
   unfolding IsDistinct
   unshared =
       let start = start_message i.variant i.meaning.id in
-      clear_none (numbered i events) (all_once (numbered_from i first_history (first_issued i) events) (start ∷ [])
+      clear_none (numbered_messages i events) (all_once (numbered_messages_from i first_history (first_issued i) events) (start ∷ [])
       (tt, tt)) numbers_clear
 
-  pub no_zero : zero_in (message_digests (numbered i events)) ≡ None
+  pub no_zero : zero_number_in (message_digests (numbered_messages i events)) ≡ None
   no_zero =
-      none_found is_zero (numbered i events) (λ m h e. numbers_clear.nonzero m h ((bytes_eq-Decides (sha256 m) zero_bytes).0 e))
+      none_found is_zero (numbered_messages i events) (λ m h e. numbers_clear.nonzero m h ((bytes_eq-Decides (sha256 m) zero_bytes).0 e))
 
 -- the values that others bring, and the guards
 
-foreign_any : (q : List ℕ → Bool) (es : List Event) → list_any q (foreign_values es) ≡ list_any (λ e. list_any q (foreign_of e)) es
+foreign_any : (q : List ℕ → Bool) (es : List Event) → list_any q (foreign_values es) ≡ list_any (λ e. list_any q (event_foreign_values e)) es
 foreign_any q [] = refl
-foreign_any q (e ∷ es) = list_any-append q (foreign_of e) (foreign_values es)
-    ∙ ap (λ (b : Bool). list_any q (foreign_of e) || b) (foreign_any q es)
+foreign_any q (e ∷ es) = list_any-append q (event_foreign_values e) (foreign_values es)
+    ∙ ap (λ (b : Bool). list_any q (event_foreign_values e) || b) (foreign_any q es)
 
 module _ (barrier : List ℕ) (es : List Event) where
   abbrev guards : List (List ℕ)
   guards = own_values barrier (asked_batches es)
 
-  no_guards : first_where (is_secured guards) es ≡ None → AreNoGuards barrier (foreign_values es) (asked_batches es)
+  no_guards : number_of_first (is_secured guards) es ≡ None → AreNoGuards barrier (foreign_values es) (asked_batches es)
   no_guards none d b hd hb same =
       let known = any_map (bytes_eq d) (guard barrier) (asked_batches es)
       ∙ any_in (λ c. bytes_eq d (guard barrier c)) (asked_batches es) b hb (same_digest d (guard barrier b) same) in
@@ -246,7 +246,7 @@ module _ (barrier : List ℕ) (es : List Event) where
       (sym (foreign_any (λ v. list_any (bytes_eq v) guards) es)
       ∙ any_in (λ v. list_any (bytes_eq v) guards) (foreign_values es) d hd known)
 
-  none_secured : AreNoGuards barrier (foreign_values es) (asked_batches es) → first_where (is_secured guards) es ≡ None
+  none_secured : AreNoGuards barrier (foreign_values es) (asked_batches es) → number_of_first (is_secured guards) es ≡ None
   none_secured apart = no_where (is_secured guards) es (λ e.
       let f = any_some (λ v. list_any (bytes_eq v) guards) (foreign_values es) (foreign_any (λ v. list_any (bytes_eq v) guards) es ∙ e) in
       let g = any_some (λ c. bytes_eq f.0 (guard barrier c)) (asked_batches es)
@@ -254,10 +254,10 @@ module _ (barrier : List ℕ) (es : List Event) where
       apart f.0 g.0 f.1 g.1 ((bytes_eq-Decides f.0 (guard barrier g.0)).0 g.2))
 
 -- in either variant
-pub none_apart : (variant : Variant) (i : Instance) (es : List Event) → secured_by variant i.barrier es ≡ None → AreApart variant i es
+pub none_apart : (variant : Variant) (i : Instance) (es : List Event) → secured_event_by variant i.barrier es ≡ None → AreApart variant i es
 none_apart Basic i es none = λ is. cc
 none_apart Opt i es none = λ is. no_guards i.barrier es none
 
-pub apart_none : (variant : Variant) (i : Instance) (es : List Event) → AreApart variant i es → secured_by variant i.barrier es ≡ None
+pub apart_none : (variant : Variant) (i : Instance) (es : List Event) → AreApart variant i es → secured_event_by variant i.barrier es ≡ None
 apart_none Basic i es apart = refl
 apart_none Opt i es apart = none_secured i.barrier es (apart refl)

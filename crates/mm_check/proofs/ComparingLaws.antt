@@ -1,7 +1,7 @@
 -- Lines compared one by one tell the first difference of the whole lists.
 use Rattle.mm_check.proofs.Below.{◌≡◌, ◌∙◌, ℕ, zero, suc, ◌+◌, ◌<◌, ◌≤◌, Bool, true, false, cond, List, [], ◌∷◌, ◌++◌, length, map, drop}
 use Rattle.mm_check.proofs.Below.{Option, None, Some, refl, sym, ap, subst, arith, fold, slice_get, bytes_eq, nat_tests, drop_all, Header}
-use Rattle.mm_check.proofs.Below.{Event, world_of, Decides, expected_lines, Compared, is_line, first_then, after_compared, difference_from}
+use Rattle.mm_check.proofs.Below.{Event, world_of, DecidesPremise, expected_lines, ComparedRun, is_line, first_number_of, compared_run_after, difference_from}
 use Rattle.mm_check.proofs.Below.{first_difference, is_found, end_difference, agreement_of, AreVerdicts, AreVerdictsOn, Verdicts, nat_lt}
 use Rattle.mm_check.proofs.Below.{not}
 use Rattle.std.proofs.lemmas.Bool.{le-ltb, lt-ltb}
@@ -65,50 +65,50 @@ lt_suc : (m n : ℕ) → nat_lt (suc m) (suc n) ≡ nat_lt m n
 lt_suc m n = grind (arith, nat_tests)
 
 end_at : (expected : List (List ℕ)) (count n : ℕ)
-    → first_then None (nat_lt count (length expected)) n ≡ difference_from n [] (drop count expected)
+    → first_number_of None (nat_lt count (length expected)) n ≡ difference_from n [] (drop count expected)
 end_at [] count n =
     rw (le-ltb count 0 (omega arith)) (sym (ap (difference_from n []) (drop_all count [] (omega arith))))
-end_at (e ∷ expected) zero n = ap (λ (b : Bool). first_then None b n) (lt-ltb 0 (length (e ∷ expected)) (omega arith))
-end_at (e ∷ expected) (suc count) n = ap (λ (b : Bool). first_then None b n) (lt_suc count (length expected)) ∙ end_at expected count n
+end_at (e ∷ expected) zero n = ap (λ (b : Bool). first_number_of None b n) (lt-ltb 0 (length (e ∷ expected)) (omega arith))
+end_at (e ∷ expected) (suc count) n = ap (λ (b : Bool). first_number_of None b n) (lt_suc count (length expected)) ∙ end_at expected count n
 
-same_step : (same : Bool) (n : ℕ) (later : Option ℕ) → settled (first_then None (not same) n) later ≡ cond same later (Some n)
+same_step : (same : Bool) (n : ℕ) (later : Option ℕ) → settled (first_number_of None (not same) n) later ≡ cond same later (Some n)
 same_step true n later = refl
 same_step false n later = refl
 
 line_by : (found : Option (List ℕ)) (line : List ℕ) (rest e : List (List ℕ)) (n : ℕ)
-    → settled (first_then None (not (is_line line found)) n) (difference_from (n + 1) rest e)
+    → settled (first_number_of None (not (is_line line found)) n) (difference_from (n + 1) rest e)
     ≡ difference_from n (with_end line ∷ rest) (with_line found e)
 line_by None line rest e n = refl
 line_by (Some x) line rest e n = same_step (bytes_eq (with_end line) x) n (difference_from (n + 1) rest e)
 
-abbrev at : Header → List Event → ℕ → Option ℕ → Compared
+abbrev at : Header → List Event → ℕ → Option ℕ → ComparedRun
 at header events count differs = record { header = header; events = events; count = count; differs = differs }
 
 compare_ends : (header : Header) (events : List Event) (lines : List (List ℕ)) (count : ℕ) (differs : Option ℕ)
-    → end_difference (fold after_compared (at header events count differs) lines)
+    → end_difference (fold compared_run_after (at header events count differs) lines)
     ≡ settled differs (difference_from (count + 1) (map with_end lines) (drop count (expected_lines (world_of header) events)))
 compare_ends header events [] count (Some first) = refl
 compare_ends header events [] count None = end_at (expected_lines (world_of header) events) count (count + 1)
 compare_ends header events (line ∷ lines) count (Some first) = compare_ends header events lines (count + 1) (Some first)
 compare_ends header events (line ∷ lines) count None =
     let expected = expected_lines (world_of header) events in
-    compare_ends header events lines (count + 1) (first_then None (not (is_line line (slice_get expected count))) (count + 1))
+    compare_ends header events lines (count + 1) (first_number_of None (not (is_line line (slice_get expected count))) (count + 1))
     ∙ line_by (slice_get expected count) line (map with_end lines) (drop (count + 1) expected) (count + 1)
     ∙ ap (difference_from (count + 1) (with_end line ∷ map with_end lines)) (sym (drop_at expected count))
 
 -- the header and the events stay
-compared_on : (lines : List (List ℕ)) (c : Compared)
-    → (let d : Compared = fold after_compared c lines in (d.header ≡ c.header) × (d.events ≡ c.events))
+compared_on : (lines : List (List ℕ)) (c : ComparedRun)
+    → (let d : ComparedRun = fold compared_run_after c lines in (d.header ≡ c.header) × (d.events ≡ c.events))
 compared_on [] c = (refl, refl)
-compared_on (line ∷ lines) c = compared_on lines (after_compared c line)
+compared_on (line ∷ lines) c = compared_on lines (compared_run_after c line)
 
 -- the verdicts on recorded lines
 pub verdicts_on : (header : Header) (events : List Event) (recorded : List (List ℕ)) (it : Verdicts)
-    → AreVerdictsOn (fold after_compared (at header events 0 None) recorded) it → AreVerdicts header events (map with_end recorded) it
+    → AreVerdictsOn (fold compared_run_after (at header events 0 None) recorded) it → AreVerdicts header events (map with_end recorded) it
 verdicts_on header events recorded it h =
     let on = compared_on recorded (at header events 0 None) in record {
-      premise = subst (λ (es : List Event). Decides (world_of header) es it.premise) on.1
-          (subst (λ (x : Header). Decides (world_of x) (fold after_compared (at header events 0 None) recorded).events it.premise)
+      premise = subst (λ (es : List Event). DecidesPremise (world_of header) es it.premise) on.1
+          (subst (λ (x : Header). DecidesPremise (world_of x) (fold compared_run_after (at header events 0 None) recorded).events it.premise)
           on.0 h.premise);
       agreement = h.agreement ∙ ap agreement_of (compare_ends header events recorded 0 None);
     }

@@ -3,16 +3,16 @@ use Rattle.mm_check.proofs.Below.{◌≡◌, ◌∙◌, ℕ, ◌+◌, Bool, true
 use Rattle.mm_check.proofs.Below.{sym, ap, subst, arith, inl, inr, append_assoc, list_any, option_map, Contains, Contains-append_left}
 use Rattle.mm_check.proofs.Below.{Contains-append_right, bytes_eq, bytes_eq-Decides, flat_map-append, sha256, zero_bytes, start_message}
 use Rattle.mm_check.proofs.Below.{guard, own_values, Opt, History, Instance, first_history, Event}
-use Rattle.mm_check.proofs.Below.{expected, first_issued, foreign_of, foreign_values, asked_batches, run_messages, first_where}
-use Rattle.mm_check.proofs.Below.{message_digests, both_more, shared_with, shared_in, is_zero, zero_in, numbered, numbered_from, is_secured}
-use Rattle.mm_check.proofs.Below.{secured_in, secured_by, IsForgedAt, IsFirstForged, Decides, premise_by, PremiseIsFixed, Premise, any_some}
+use Rattle.mm_check.proofs.Below.{outcome_by_lists, first_issued, event_foreign_values, foreign_values, asked_batches, run_messages, number_of_first}
+use Rattle.mm_check.proofs.Below.{message_digests, pair_plus_one, shared_pair_with, shared_pair_in, is_zero, zero_number_in, numbered_messages, numbered_messages_from, is_secured}
+use Rattle.mm_check.proofs.Below.{secured_event_in, secured_event_by, IsForgedAt, IsFirstForged, DecidesPremise, premise_by, PremiseIsFixed, Premise, any_some}
 use Rattle.mm_check.proofs.Below.{event_apart, event_offer, event_or, genuine_or}
 use Rattle.std.specs.List.{IsDistinct}
 use Rattle.std.proofs.lemmas.Bool.{both_ways}
 use Rattle.std.proofs.lemmas.List.Elements.{All-contains, All-from_recursion}
 use Rattle.std.proofs.lemmas.Map.Keys.{IsDistinct-head, IsDistinct-tail}
 use Rattle.mm_seal.specs.Snapshot.{Content}
-use Rattle.mm_model.specs.Places.{Names}
+use Rattle.mm_model.specs.Places.{NamesPosition}
 use Rattle.mm_history.specs.Naming.{IsDecided, is_named}
 use Rattle.mm_evidence.specs.Evidence.{clash, collision, forgery, guarded, IsForged, zero_digest}
 use Rattle.mm_schedule.specs.Events.{Ask, Checkpoint, Extend, Power}
@@ -38,13 +38,13 @@ record IsFound {A : Type 0} (p : A → Bool) (xs : List A) (n : ℕ) : Type 0 wh
   pass : p item ≡ true
 
 found_by : {A : Type 0} (p : A → Bool) (x : A) (xs : List A) (n : ℕ) (here : Bool) → p x ≡ here
-    → ((k : ℕ) → first_where p xs ≡ Some k → IsFound p xs k)
-    → (let o : Option ℕ = cond here (Some 1) (option_map (λ k. k + 1) (first_where p xs)) in o ≡ Some n → IsFound p (x ∷ xs) n)
+    → ((k : ℕ) → number_of_first p xs ≡ Some k → IsFound p xs k)
+    → (let o : Option ℕ = cond here (Some 1) (option_map (λ k. k + 1) (number_of_first p xs)) in o ≡ Some n → IsFound p (x ∷ xs) n)
 found_by p x xs n true is later e =
     let one : 1 ≡ n = cc in
     record { before = []; item = x; after = xs; split = refl; place = sym one; pass = is }
 found_by p x xs n false is later e =
-    let m = one_more (first_where p xs) n e in
+    let m = one_more (number_of_first p xs) n e in
     let f = later m.0 m.1 in
     record {
       before = x ∷ f.before;
@@ -55,12 +55,12 @@ found_by p x xs n false is later e =
       pass = f.pass;
     }
 
-found_first : {A : Type 0} (p : A → Bool) (xs : List A) (n : ℕ) → first_where p xs ≡ Some n → IsFound p xs n
+found_first : {A : Type 0} (p : A → Bool) (xs : List A) (n : ℕ) → number_of_first p xs ≡ Some n → IsFound p xs n
 found_first p [] n e = absurd (cc)
 found_first p (x ∷ xs) n e = found_by p x xs n (p x) refl (found_first p xs) e
 
 -- of digests, by their messages
-where_mapped : (p : List ℕ → Bool) (ms : List (List ℕ)) → first_where p (message_digests ms) ≡ first_where (λ m. p (sha256 m)) ms
+where_mapped : (p : List ℕ → Bool) (ms : List (List ℕ)) → number_of_first p (message_digests ms) ≡ number_of_first (λ m. p (sha256 m)) ms
 where_mapped p [] = refl
 where_mapped p (m ∷ ms) = ap (λ (o : Option ℕ). cond (p (sha256 m)) (Some 1) (option_map (λ k. k + 1) o)) (where_mapped p ms)
 
@@ -78,16 +78,16 @@ record IsPair (ms : List (List ℕ)) (first second : ℕ) : Type 0 where
   second_is : second ≡ first + length between + 1
   one_digest : sha256 one ≡ sha256 other
 
-more_of : (o : Option (ℕ × ℕ)) (first second : ℕ) → option_map both_more o ≡ Some (first, second)
+more_of : (o : Option (ℕ × ℕ)) (first second : ℕ) → option_map pair_plus_one o ≡ Some (first, second)
     → (k : ℕ) × (l : ℕ) × (o ≡ Some (k, l)) × (first ≡ k + 1) × (second ≡ l + 1)
 more_of None first second e = absurd (cc)
-more_of (Some pair) first second e = let same : both_more pair ≡ (first, second) = cc in
+more_of (Some pair) first second e = let same : pair_plus_one pair ≡ (first, second) = cc in
     (pair.0, pair.1, refl, ap (λ (q : ℕ × ℕ). q.0) (sym same), ap (λ (q : ℕ × ℕ). q.1) (sym same))
 
 pair_by : (x : List ℕ) (ms : List (List ℕ)) (first second : ℕ) (found : Option ℕ)
-    → first_where (λ m. bytes_eq (sha256 x) (sha256 m)) ms ≡ found
-    → ((k l : ℕ) → shared_in (message_digests ms) ≡ Some (k, l) → IsPair ms k l)
-    → shared_with found (shared_in (message_digests ms)) ≡ Some (first, second) → IsPair (x ∷ ms) first second
+    → number_of_first (λ m. bytes_eq (sha256 x) (sha256 m)) ms ≡ found
+    → ((k l : ℕ) → shared_pair_in (message_digests ms) ≡ Some (k, l) → IsPair ms k l)
+    → shared_pair_with found (shared_pair_in (message_digests ms)) ≡ Some (first, second) → IsPair (x ∷ ms) first second
 pair_by x ms first second (Some n) is later e =
     let f = found_first (λ m. bytes_eq (sha256 x) (sha256 m)) ms n is in
     let same : ◌≡◌ {A = ℕ × ℕ} (1, n + 1) (first, second) = cc in
@@ -105,7 +105,7 @@ pair_by x ms first second (Some n) is later e =
       one_digest = (bytes_eq-Decides (sha256 x) (sha256 f.item)).0 f.pass;
     }
 pair_by x ms first second None is later e =
-    let m = more_of (shared_in (message_digests ms)) first second e in
+    let m = more_of (shared_pair_in (message_digests ms)) first second e in
     let p = later m.0 m.1 m.2 in
     record {
       before = x ∷ p.before;
@@ -119,9 +119,9 @@ pair_by x ms first second None is later e =
       one_digest = p.one_digest;
     }
 
-pair_found : (ms : List (List ℕ)) (first second : ℕ) → shared_in (message_digests ms) ≡ Some (first, second) → IsPair ms first second
+pair_found : (ms : List (List ℕ)) (first second : ℕ) → shared_pair_in (message_digests ms) ≡ Some (first, second) → IsPair ms first second
 pair_found [] first second e = absurd (cc)
-pair_found (x ∷ ms) first second e = pair_by x ms first second (first_where (bytes_eq (sha256 x)) (message_digests ms))
+pair_found (x ∷ ms) first second e = pair_by x ms first second (number_of_first (bytes_eq (sha256 x)) (message_digests ms))
     (sym (where_mapped (bytes_eq (sha256 x)) ms)) (pair_found ms) e
 
 -- what is listed once isn't listed again
@@ -136,14 +136,14 @@ apart_at (x ∷ before) one rest other once there same =
     apart_at before one rest other (IsDistinct-tail bytes_eq x (before ++ one ∷ rest) once) there same
 
 module _ (i : Instance) (events : List Event) where
-  numbered_once : IsDistinct bytes_eq (numbered i events)
+  numbered_once : IsDistinct bytes_eq (numbered_messages i events)
   unfolding IsDistinct
-  numbered_once = all_once (numbered_from i first_history (first_issued i) events) (start_message i.variant i.meaning.id ∷ []) (tt, tt)
+  numbered_once = all_once (numbered_messages_from i first_history (first_issued i) events) (start_message i.variant i.meaning.id ∷ []) (tt, tt)
 
-  shared_at : (first second : ℕ) → shared_in (message_digests (numbered i events)) ≡ Some (first, second)
-      → IsSharedAt (numbered i events) first second
+  shared_at : (first second : ℕ) → shared_pair_in (message_digests (numbered_messages i events)) ≡ Some (first, second)
+      → IsSharedAt (numbered_messages i events) first second
   shared_at first second e =
-      let p = pair_found (numbered i events) first second e in
+      let p = pair_found (numbered_messages i events) first second e in
       record {
         before = p.before;
         one = p.one;
@@ -158,9 +158,9 @@ module _ (i : Instance) (events : List Event) where
         one_digest = p.one_digest;
       }
 
-  zero_at : (message : ℕ) → zero_in (message_digests (numbered i events)) ≡ Some message → IsZeroAt (numbered i events) message
+  zero_at : (message : ℕ) → zero_number_in (message_digests (numbered_messages i events)) ≡ Some message → IsZeroAt (numbered_messages i events) message
   zero_at message e =
-      let f = found_first (λ m. is_zero (sha256 m)) (numbered i events) message (sym (where_mapped is_zero (numbered i events)) ∙ e) in
+      let f = found_first (λ m. is_zero (sha256 m)) (numbered_messages i events) message (sym (where_mapped is_zero (numbered_messages i events)) ∙ e) in
       record {
         before = f.before;
         message = f.item;
@@ -170,11 +170,11 @@ module _ (i : Instance) (events : List Event) where
         is_zero = (bytes_eq-Decides (sha256 f.item) zero_bytes).0 f.pass;
       }
 
-  secured_at : (event : ℕ) → i.variant ≡ Opt → secured_in i events ≡ Some event → IsSecuredAt i events event
+  secured_at : (event : ℕ) → i.variant ≡ Opt → secured_event_in i events ≡ Some event → IsSecuredAt i events event
   secured_at event opt e =
       let guards = own_values i.barrier (asked_batches events) in
       let f = found_first (is_secured guards) events event e in
-      let v = any_some (λ v. list_any (bytes_eq v) guards) (foreign_of f.item) f.pass in
+      let v = any_some (λ v. list_any (bytes_eq v) guards) (event_foreign_values f.item) f.pass in
       let b = any_some (λ c. bytes_eq v.0 (guard i.barrier c)) (asked_batches events)
       (sym (any_map (bytes_eq v.0) (guard i.barrier) (asked_batches events)) ∙ v.2) in
       record {
@@ -193,17 +193,17 @@ module _ (i : Instance) (events : List Event) where
 
   -- evidence by its numbers is evidence
 
-  among : (before : List (List ℕ)) (m : List ℕ) (after : List (List ℕ)) → numbered i events ≡ before ++ m ∷ after
+  among : (before : List (List ℕ)) (m : List ℕ) (after : List (List ℕ)) → numbered_messages i events ≡ before ++ m ∷ after
       → Contains (run_messages i events) m
-  among before m after split = same_in (numbered i events) (run_messages i events) (run_same i events) m
+  among before m after split = same_in (numbered_messages i events) (run_messages i events) (run_same i events) m
       (subst (λ (l : List (List ℕ)). Contains l m) (sym split) (Contains-append_right before (m ∷ after) m (first_in m after)))
 
   brought_in : (before : List Event) (event : Event) (after : List Event) (value : List ℕ) → events ≡ before ++ event ∷ after
-      → Contains (foreign_of event) value → Contains (foreign_values events) value
+      → Contains (event_foreign_values event) value → Contains (foreign_values events) value
   brought_in before event after value split there =
-      subst (λ (l : List (List ℕ)). Contains l value) (sym (ap foreign_values split ∙ flat_map-append foreign_of before (event ∷ after)))
-      (Contains-append_right (foreign_values before) (foreign_of event ++ foreign_values after) value
-      (Contains-append_left (foreign_of event) (foreign_values after) value there))
+      subst (λ (l : List (List ℕ)). Contains l value) (sym (ap foreign_values split ∙ flat_map-append event_foreign_values before (event ∷ after)))
+      (Contains-append_right (foreign_values before) (event_foreign_values event ++ foreign_values after) value
+      (Contains-append_left (event_foreign_values event) (foreign_values after) value there))
 
   pub evidence_held : EvidenceIsHeld i events
   evidence_held Held e = inl refl
@@ -219,7 +219,7 @@ module _ (i : Instance) (events : List Event) where
 
   -- an event that offers what is forged asks
   forged_by_asking : (before : List Event) (event : Event) (after : List Event) (number : ℕ) → events ≡ before ++ event ∷ after
-      → number ≡ length before + 1 → IsForged i (expected i before).state (event_offer (expected i before).issued event)
+      → number ≡ length before + 1 → IsForged i (outcome_by_lists i before).state (event_offer (outcome_by_lists i before).issued event)
       → IsForgeryAt i events number
   forged_by_asking before (Ask meddles stop offer batch) after number split place forged = record {
     before = before;
@@ -238,14 +238,14 @@ module _ (i : Instance) (events : List Event) where
   forged_by_asking before (Extend value) after number split place forged = let none : None ≡ Some forged.bytes = forged.offers in cc
 
 -- of an instance whose names are decided
-module _ (i : Instance) (named : (y : History) (content : Content) → IsDecided (is_named i y content) (Names i y content)) where
+module _ (i : Instance) (named : (y : History) (content : Content) → IsDecided (is_named i y content) (NamesPosition i y content)) where
   forgery_at : (events : List Event) (event : ℕ) → IsForgedAt i events event → IsForgeryAt i events event
   forgery_at events event h =
-      let it = expected i h.before in
+      let it = outcome_by_lists i h.before in
       forged_by_asking i events h.before h.event h.after event h.split h.place
       (elim (event_or i named it.state it.issued h.event) [ inl f ↦ f | inr genuine ↦ absurd (h.forged genuine) ])
 
-  told_evidence : (events : List Event) (premise : Premise) → Decides i events premise → IsEvidence i events premise
+  told_evidence : (events : List Event) (premise : Premise) → DecidesPremise i events premise → IsEvidence i events premise
   told_evidence events Held d = d
   told_evidence events (Shared first second) d = shared_at i events first second d
   told_evidence events (Zero message) d = zero_at i events message d.1
@@ -264,7 +264,7 @@ module _ (i : Instance) (named : (y : History) (content : Content) → IsDecided
         split = f.split;
         place = refl;
         genuine = f.genuine;
-        forged = λ genuine. event_apart i (expected i f.before).state (expected i f.before).issued f.event f.forged genuine;
+        forged = λ genuine. event_apart i (outcome_by_lists i f.before).state (outcome_by_lists i f.before).issued f.event f.forged genuine;
       },
     )
     | inr genuine ↦ (None, genuine)
@@ -272,12 +272,12 @@ module _ (i : Instance) (named : (y : History) (content : Content) → IsDecided
 
   pub told_by_evidence : PremiseIsFixed → (events : List Event) → IsToldByEvidence i events
   told_by_evidence fixed events =
-      let pair = shared_in (message_digests (numbered i events)) in
-      let nought = zero_in (message_digests (numbered i events)) in
-      let secured = secured_by i.variant i.barrier events in
+      let pair = shared_pair_in (message_digests (numbered_messages i events)) in
+      let nought = zero_number_in (message_digests (numbered_messages i events)) in
+      let secured = secured_event_by i.variant i.barrier events in
       let f = first_forged events in
       let told : Premise = premise_by pair nought secured f.0 in
-      let decides : Decides i events told = decided_by i events pair nought secured f.0 refl refl refl f.1 in
+      let decides : DecidesPremise i events told = decided_by i events pair nought secured f.0 refl refl refl f.1 in
       record {
         told = told;
         decides = decides;

@@ -1,18 +1,18 @@
 -- An event has few messages, and is answered by few lines.
 use Rattle.mm_check.proofs.Below.{ℕ, ◌+◌, ◌*◌, ◌≤◌, Bool, true, false, cond, List, [], ◌∷◌, ◌++◌, length, map, Option, None, Some, arith}
 use Rattle.mm_check.proofs.Below.{length-append, ◌==◌, fold, filter, list_any, bytes_eq, length-map, length-take, Variant, Basic, Opt}
-use Rattle.mm_check.proofs.Below.{zero_bytes, anchored_message, anchored_of, start_message, Batch, normal, Meddle, Stop, guard, Instance}
-use Rattle.mm_check.proofs.Below.{History, Move, Commit, Foreign, Close, moved, first_history, is_long, moving_messages, form_messages}
-use Rattle.mm_check.proofs.Below.{offer_messages, Step, Reads, Changes, Writes, ask_steps, checkpoint_steps, right_messages, End, Done}
-use Rattle.mm_check.proofs.Below.{Fails, Fate, Walked, step_moves, after_step, walk, right_content, by_lists, CodeEvent, Event, Ask}
+use Rattle.mm_check.proofs.Below.{zero_bytes, anchored_message, anchored_digest_of, start_message, Batch, normal_batch, Meddle, Stop, guard, Instance}
+use Rattle.mm_check.proofs.Below.{History, Move, Commit, Foreign, Close, history_after, first_history, is_long, messages_for_move, form_messages}
+use Rattle.mm_check.proofs.Below.{offer_messages, DeviceStep, Reads, Changes, Writes, ask_steps, checkpoint_steps, right_messages, End, Done}
+use Rattle.mm_check.proofs.Below.{Fails, StepFate, StepsWalk, step_moves, walk_from_step, walk, right_content, list_level, CodeEvent, Event, Ask}
 use Rattle.mm_check.proofs.Below.{Checkpoint, event_of, meddles_of, offered_bytes, course_of, event_outcome, first_issued, moves_of}
-use Rattle.mm_check.proofs.Below.{event_messages, ask_moves, asking_messages, messages_if, messages_where, numbered_event, listed}
-use Rattle.mm_check.proofs.Below.{numbered_from, numbered, events_of, Many, One, ◌≡◌, ◌-◌, Result, Ok, Err, refl, length-drop, most_members}
-use Rattle.mm_check.proofs.Below.{size_of, outputs_from, requests_of, total_of, Course, commits, Found, found_at, all_made, told_lines}
-use Rattle.mm_check.proofs.Below.{lines_of_reply, end_line, way_of, reply_of, closing_reply, followed, expected, in_any_way, short_size}
+use Rattle.mm_check.proofs.Below.{event_messages, ask_moves, asking_messages, messages_if, messages_where, numbered_event_messages, messages_with}
+use Rattle.mm_check.proofs.Below.{numbered_messages_from, numbered_messages, events_of, Many, One, ◌≡◌, ◌-◌, Result, Ok, Err, refl, length-drop, most_members}
+use Rattle.mm_check.proofs.Below.{size_of, outputs_from, requests_of, total_of, Course, has_commit, CallFinding, finding_at, state_after_moves, told_lines}
+use Rattle.mm_check.proofs.Below.{lines_of_reply, end_line, way_of, reply_of, closing_reply, outcome_of_events, outcome_by_lists, in_any_way, short_size}
 use Rattle.mm_check.proofs.Below.{lines_of_all, expected_lines}
 use Rattle.std.proofs.lemmas.List.Sums.{count_by-le-length, length-filter}
-use Rattle.mm_platform.specs.StandingWords.{due}
+use Rattle.mm_platform.specs.StandingWords.{due_values}
 use Rattle.mm_seal.specs.declared.snapshot.Place.{Place}
 use Rattle.mm_seal.specs.declared.snapshot.Place.TheVariants.{Basic as InBasic, Opt as InOpt}
 use Rattle.mm_seal.specs.Snapshot.{Content}
@@ -22,10 +22,10 @@ use Rattle.mm_module.specs.RunLaws.{length-outputs_from}
 use Rattle.mm_platform.specs.declared.fault.StepFault.{StepFault}
 use Rattle.mm_model.specs.declared.refusal.Refusal.{Refusal}
 use Rattle.mm_call.specs.AnswersWords.{last_outputs}
-use Rattle.mm_call.specs.FoundWords.{found_unless_wanting, is_fresh}
-use Rattle.mm_call.specs.Called.{ended_by, position_of, seen_at, called}
-use Rattle.mm_call.specs.CalledWords.{kept_at}
-use Rattle.mm_call.specs.Checkpoints.{Closing, Stops, checkpointed}
+use Rattle.mm_call.specs.CallFindingWords.{finding_unless_wanting, is_fresh}
+use Rattle.mm_call.specs.CallOutcome.{call_ending_by, position_of, state_seen, call_outcome}
+use Rattle.mm_call.specs.CallOutcomeWords.{position_if_committed}
+use Rattle.mm_call.specs.Checkpoints.{CheckpointEnding, Stops, checkpoint_outcome}
 use Rattle.mm_schedule.specs.declared.reply.Way.{Way}
 use Rattle.mm_run.proofs.Above.{broken_reply}
 
@@ -36,7 +36,7 @@ unless_few false xs n h = h
 
 -- the values before a step
 
-due_few : (n : ℕ) (meddles : List Meddle) → length meddles ≤ 8 → length (due n meddles) ≤ 8
+due_few : (n : ℕ) (meddles : List Meddle) → length meddles ≤ 8 → length (due_values n meddles) ≤ 8
 due_few n meddles few =
     omega (
       arith,
@@ -48,20 +48,20 @@ due_few n meddles few =
 
 -- the moves of a walk
 
-step_few : (step : Step) (made : Bool) (values : List (List ℕ)) → length values ≤ 8 → length (step_moves step made values) ≤ 9
+step_few : (step : DeviceStep) (made : Bool) (values : List (List ℕ)) → length values ≤ 8 → length (step_moves step made values) ≤ 9
 step_few Reads made values h = omega (arith, h, length-map values Foreign)
 step_few (Changes m) true values h = omega (arith, h, length-map values Foreign, length-append (map Foreign values) (m ∷ []))
 step_few (Changes m) false values h = omega (arith, h, length-map values Foreign, length-append (map Foreign values) [])
 step_few (Writes m) true values h = omega (arith, h, length-map values Foreign)
 step_few (Writes m) false values h = omega (arith, h, length-map values Foreign)
 
-ends_few : (step : Step) (values : List (List ℕ)) (ends : End) (rest : Walked) (steps : List Step) → length values ≤ 8
-    → length rest.moves ≤ 9 * length steps → length (after_step step values ends rest).moves ≤ 9 * length (step ∷ steps)
+ends_few : (step : DeviceStep) (values : List (List ℕ)) (ends : End) (rest : StepsWalk) (steps : List DeviceStep) → length values ≤ 8
+    → length rest.moves ≤ 9 * length steps → length (walk_from_step step values ends rest).moves ≤ 9 * length (step ∷ steps)
 ends_few step values Done rest steps h k =
     omega (arith, h, k, step_few step true values h, length-append (step_moves step true values) rest.moves)
 ends_few step values (Fails fault made) rest steps h k = omega (arith, h, k, step_few step made values h)
 
-walk_few : (fates : ℕ → Fate) → ((n : ℕ) → length (fates n).brings ≤ 8) → (steps : List Step) (n : ℕ)
+walk_few : (fates : ℕ → StepFate) → ((n : ℕ) → length (fates n).brings ≤ 8) → (steps : List DeviceStep) (n : ℕ)
     → length (walk fates n steps).moves ≤ 9 * length steps
 walk_few fates h [] n = omega arith
 walk_few fates h (step ∷ steps) n =
@@ -77,7 +77,7 @@ close_few : (variant : Variant) (flag zero : Bool) → length (checkpoint_steps 
 close_few Opt true true = omega arith
 close_few _ _ _ = omega arith
 
-walked_few : (stop : Stop) (meddles : List Meddle) (steps : List Step) → length meddles ≤ 8 → length steps ≤ 5
+walked_few : (stop : Stop) (meddles : List Meddle) (steps : List DeviceStep) → length meddles ≤ 8 → length steps ≤ 5
     → length (walk (course_of stop meddles).fates 1 steps).moves ≤ 45
 walked_few stop meddles steps few h = omega (arith, h, walk_few (course_of stop meddles).fates (λ n. due_few n meddles few) steps 1)
 
@@ -86,7 +86,7 @@ asked_few : (i : Instance) (y : History) (meddles : List Meddle) (stop : Stop) (
 asked_few i y meddles stop None b few = omega arith
 asked_few i y meddles stop (Some bytes) b few =
     unless_few (is_long b) _ 45
-    (walked_few stop meddles (ask_steps i.variant y.is_open _ (normal b)) few (ask_few i.variant y.is_open _ (normal b)))
+    (walked_few stop meddles (ask_steps i.variant y.is_open _ (normal_batch b)) few (ask_few i.variant y.is_open _ (normal_batch b)))
 
 -- an event of the code has at most eight meddles
 counted_few : (meddles : Meddles) → length (meddles_of meddles) ≤ 8
@@ -105,7 +105,7 @@ moves_few i y issued _ = omega arith
 
 -- their messages
 
-move_few : (variant : Variant) (flag : Bool) (i : Instance) (y : History) (m : Move) → length (moving_messages variant flag i y m) ≤ 1
+move_few : (variant : Variant) (flag : Bool) (i : Instance) (y : History) (m : Move) → length (messages_for_move variant flag i y m) ≤ 1
 move_few Opt true i y (Commit b) = omega arith
 move_few Opt false i y (Commit b) = omega arith
 move_few _ _ i y _ = omega arith
@@ -122,12 +122,12 @@ where_few closing i y (m ∷ moves) =
     omega (
       arith,
       if_few closing i y m,
-      where_few closing i (moved i y m) moves,
-      length-append (messages_if closing i y m) (messages_where closing i (moved i y m) moves),
+      where_few closing i (history_after i y m) moves,
+      length-append (messages_if closing i y m) (messages_where closing i (history_after i y m) moves),
     )
 
 second_few : (none : Bool) (a e v : List ℕ)
-    → length (form_messages a e v ++ cond none [] (anchored_message a e ∷ form_messages (anchored_of a e) zero_bytes v)) ≤ 5
+    → length (form_messages a e v ++ cond none [] (anchored_message a e ∷ form_messages (anchored_digest_of a e) zero_bytes v)) ≤ 5
 second_few true a e v = omega arith
 second_few false a e v = omega arith
 
@@ -142,7 +142,7 @@ right_few i b (Some content) = offer_few i content.place b
 asking_few : (i : Instance) (bytes : Option (List ℕ)) (b : Batch) → length (asking_messages i bytes b) ≤ 6
 asking_few i None b = omega arith
 asking_few i (Some bytes) b =
-    unless_few (is_long b) _ 6 (right_few i (normal b) (right_content i bytes))
+    unless_few (is_long b) _ 6 (right_few i (normal_batch b) (right_content i bytes))
 
 asks_few : (i : Instance) (issued : List (List ℕ)) (event : Event) → length (event_messages i issued event) ≤ 6
 asks_few i issued (Ask meddles stop offer b) = asking_few i (offered_bytes issued offer) b
@@ -150,7 +150,7 @@ asks_few i issued (Checkpoint meddles stop) = omega arith
 asks_few i issued _ = omega arith
 
 pub heard_few : (i : Instance) (y : History) (issued : List (List ℕ)) (event : CodeEvent)
-    → length (numbered_event i y issued (event_of event)) ≤ 96
+    → length (numbered_event_messages i y issued (event_of event)) ≤ 96
 heard_few i y issued event =
     let moves = moves_of i y issued (event_of event) in
     let asks = event_messages i issued (event_of event) in
@@ -165,30 +165,30 @@ heard_few i y issued event =
     )
 
 from_few : (i : Instance) (y : History) (issued : List (List ℕ)) (events : List CodeEvent)
-    → length (numbered_from i y issued (events_of events)) ≤ 96 * length events
+    → length (numbered_messages_from i y issued (events_of events)) ≤ 96 * length events
 from_few i y issued [] = omega arith
 from_few i y issued (event ∷ events) =
-    let o = event_outcome i (by_lists i) y issued (event_of event) in
+    let o = event_outcome i (list_level i) y issued (event_of event) in
     omega (
       arith,
       heard_few i y issued event,
       from_few i o.state o.issued events,
-      length-append (numbered_event i y issued (event_of event)) (numbered_from i o.state o.issued (events_of events)),
+      length-append (numbered_event_messages i y issued (event_of event)) (numbered_messages_from i o.state o.issued (events_of events)),
     )
 
 listed_one : (has : Bool) (seen : List (List ℕ)) (x : List ℕ) → length (cond has seen (seen ++ x ∷ [])) ≤ length seen + 1
 listed_one true seen x = omega arith
 listed_one false seen x = omega (arith, length-append seen (x ∷ []))
 
-listed_few : (ms seen : List (List ℕ)) → length (fold listed seen ms) ≤ length seen + length ms
+listed_few : (ms seen : List (List ℕ)) → length (fold messages_with seen ms) ≤ length seen + length ms
 listed_few [] seen = omega arith
-listed_few (x ∷ ms) seen = omega (arith, listed_few ms (listed seen x), listed_one (list_any (bytes_eq x) seen) seen x)
+listed_few (x ∷ ms) seen = omega (arith, listed_few ms (messages_with seen x), listed_one (list_any (bytes_eq x) seen) seen x)
 
-pub numbered_few : (i : Instance) (events : List CodeEvent) → length (numbered i (events_of events)) ≤ 1 + 96 * length events
+pub numbered_few : (i : Instance) (events : List CodeEvent) → length (numbered_messages i (events_of events)) ≤ 1 + 96 * length events
 numbered_few i events =
     omega (
       arith,
-      listed_few (numbered_from i first_history (first_issued i) (events_of events)) (start_message i.variant i.meaning.id ∷ []),
+      listed_few (numbered_messages_from i first_history (first_issued i) (events_of events)) (start_message i.variant i.meaning.id ∷ []),
       from_few i first_history (first_issued i) events,
     )
 
@@ -207,11 +207,11 @@ broken_few : (how : Way) (kept : Option ℕ) → length (lines_of_reply (broken_
 broken_few how None = omega arith
 broken_few how (Some position) = omega arith
 
-ended_few : (i : Instance) (seen y : History) (how : Way) (b : Batch) (found : Result Found Refusal) (moves : List Move)
+ended_few : (i : Instance) (seen y : History) (how : Way) (b : Batch) (found : Result CallFinding Refusal) (moves : List Move)
     (broken : Option StepFault) → size_of b ≤ most_members
-    → length (lines_of_reply (reply_of how (ended_by (by_lists i) seen y b found moves broken))) ≤ most_members
+    → length (lines_of_reply (reply_of how (call_ending_by (list_level i) seen y b found moves broken))) ≤ most_members
 ended_few i seen y how b found moves (Some fault) h =
-    broken_few how (kept_at (commits moves) (position_of (by_lists i) seen y b found))
+    broken_few how (position_if_committed (has_commit moves) (position_of (list_level i) seen y b found))
 ended_few i seen y how b (Err why) moves None h = omega arith
 ended_few i seen y how b (Ok it) moves None h =
     omega (
@@ -222,38 +222,38 @@ ended_few i seen y how b (Ok it) moves None h =
     )
 
 called_few : (i : Instance) (y : History) (how : Way) (c : Course) (bytes : List ℕ) (b : Batch) → size_of b ≤ most_members
-    → length (lines_of_reply (reply_of how (called i (by_lists i) y c bytes b).ending)) ≤ most_members
+    → length (lines_of_reply (reply_of how (call_outcome i (list_level i) y c bytes b).ending)) ≤ most_members
 called_few i y how c bytes b h =
-    let seen : History = seen_at i (by_lists i) y c in
-    let found : Result Found Refusal = found_unless_wanting (found_at i (by_lists i) seen b bytes) c.lacks in
-    let w : Walked = walk c.fates 1 (ask_steps i.variant y.is_open (is_fresh found) b) in
-    ended_few i seen (all_made (by_lists i) y w.moves) how b found w.moves w.broken h
+    let seen : History = state_seen i (list_level i) y c in
+    let found : Result CallFinding Refusal = finding_unless_wanting (finding_at i (list_level i) seen b bytes) c.lacks in
+    let w : StepsWalk = walk c.fates 1 (ask_steps i.variant y.is_open (is_fresh found) b) in
+    ended_few i seen (state_after_moves (list_level i) y w.moves) how b found w.moves w.broken h
 
-closing_few : (how : Way) (closing : Closing) → length (lines_of_reply (closing_reply how closing)) ≤ most_members
+closing_few : (how : Way) (closing : CheckpointEnding) → length (lines_of_reply (closing_reply how closing)) ≤ most_members
 closing_few how (Stops fault true) = omega arith
 closing_few how _ = omega arith
 
 event_lines_few : (i : Instance) (y : History) (issued : List (List ℕ)) (event : Event)
-    → length (lines_of_reply (event_outcome i (by_lists i) y issued event).reply) ≤ most_members
-event_lines_few i y issued event = in_any_way i (by_lists i) y issued (λ o. length (lines_of_reply o.reply) ≤ most_members) (record {
+    → length (lines_of_reply (event_outcome i (list_level i) y issued event).reply) ≤ most_members
+event_lines_few i y issued event = in_any_way i (list_level i) y issued (λ o. length (lines_of_reply o.reply) ≤ most_members) (record {
   refused = λ why. omega arith;
   call = λ stop meddles bytes b short.
-      called_few i y (way_of stop) (course_of stop meddles) bytes (normal b) (short_size b short);
-  check = λ stop meddles. closing_few (way_of stop) (checkpointed i (by_lists i) y (course_of stop meddles)).ending;
+      called_few i y (way_of stop) (course_of stop meddles) bytes (normal_batch b) (short_size b short);
+  check = λ stop meddles. closing_few (way_of stop) (checkpoint_outcome i (list_level i) y (course_of stop meddles)).ending;
   power = omega arith;
   extend = λ value. omega arith;
 }) event
 
 replies_few : (i : Instance) (events : List Event) (y : History) (issued : List (List ℕ))
-    → length (lines_of_all (followed i (by_lists i) y issued events).replies) ≤ most_members * length events
+    → length (lines_of_all (outcome_of_events i (list_level i) y issued events).replies) ≤ most_members * length events
 replies_few i [] y issued = omega arith
 replies_few i (event ∷ events) y issued =
-    let o = event_outcome i (by_lists i) y issued event in
+    let o = event_outcome i (list_level i) y issued event in
     omega (
       arith,
       event_lines_few i y issued event,
       replies_few i events o.state o.issued,
-      length-append (lines_of_reply o.reply) (lines_of_all (followed i (by_lists i) o.state o.issued events).replies),
+      length-append (lines_of_reply o.reply) (lines_of_all (outcome_of_events i (list_level i) o.state o.issued events).replies),
     )
 
 pub expected_few : (i : Instance) (events : List Event) → length (expected_lines i events) ≤ most_members * length events + 1
@@ -261,6 +261,6 @@ expected_few i events =
     omega (
       arith,
       replies_few i events first_history (first_issued i),
-      length-append (lines_of_all (expected i events).replies)
-          (end_line (total_of (expected i events).state.batches) (length (expected i events).issued) ∷ []),
+      length-append (lines_of_all (outcome_by_lists i events).replies)
+          (end_line (total_of (outcome_by_lists i events).state.batches) (length (outcome_by_lists i events).issued) ∷ []),
     )

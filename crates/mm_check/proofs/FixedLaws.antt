@@ -1,8 +1,8 @@
 -- One premise alone is told of a run.
 use Rattle.mm_check.proofs.Below.{◌≡◌, ◌∙◌, ℕ, List, [], ◌∷◌, ◌++◌, length, Option, None, Some, refl, sym, ap, subst, arith, Variant}
-use Rattle.mm_check.proofs.Below.{first_history, by_lists, Event, Followed, followed, event_outcome, first_issued, IsGenuineEvent}
-use Rattle.mm_check.proofs.Below.{AreGenuine, IsGenuineRun, Instance, History, message_digests, shared_in, zero_in, numbered, IsForgedAt}
-use Rattle.mm_check.proofs.Below.{Decides, Premise, secured_by, IsFirstForged, premise_by, IsClearRun}
+use Rattle.mm_check.proofs.Below.{first_history, list_level, Event, RunOutcome, outcome_of_events, event_outcome, first_issued, IsGenuineEvent}
+use Rattle.mm_check.proofs.Below.{AreGenuine, IsGenuineRun, Instance, History, message_digests, shared_pair_in, zero_number_in, numbered_messages, IsForgedAt}
+use Rattle.mm_check.proofs.Below.{DecidesPremise, Premise, secured_event_by, IsFirstForged, premise_by, IsClearRun}
 use Rattle.mm_check.specs.declared.verdicts.Premise.TheVariants.{Held, Shared, Zero, Secured, Forged}
 use Rattle.mm_check.proofs.ClearLaws.{unshared, no_zero, apart_none}
 
@@ -12,13 +12,13 @@ module _ (i : Instance) where
   -- behind these events this one isn't genuine
   abbrev IsForged : History → List (List ℕ) → List Event → Event → Type 0
   IsForged y issued before e =
-      (let f : Followed History = followed i (by_lists i) y issued before in IsGenuineEvent i f.state f.issued e) → ⊥
+      (let f : RunOutcome History = outcome_of_events i (list_level i) y issued before in IsGenuineEvent i f.state f.issued e) → ⊥
 
   not_genuine : (before : List Event) (e : Event) (after : List Event) (y : History) (issued : List (List ℕ))
       → AreGenuine i y issued (before ++ e ∷ after) → IsForged y issued before e → ⊥
   not_genuine [] e after y issued h forged = forged h.0
   not_genuine (x ∷ before) e after y issued h forged =
-      let o = event_outcome i (by_lists i) y issued x in not_genuine before e after o.state o.issued h.1 forged
+      let o = event_outcome i (list_level i) y issued x in not_genuine before e after o.state o.issued h.1 forged
 
   -- two such events behind genuine ones stand at one place
   one_place : (b c : List Event) (e x : Event) (a d : List Event) (y : History) (issued : List (List ℕ)) → b ++ e ∷ a ≡ c ++ x ∷ d
@@ -30,7 +30,7 @@ module _ (i : Instance) where
       let same : z ≡ x = cc in absurd (k (subst (λ (v : Event). IsGenuineEvent i y issued v) same g.0))
   one_place (z ∷ b) (w ∷ c) e x a d y issued split g f h k =
       let same : w ≡ z = cc in
-      let o = event_outcome i (by_lists i) y issued z in
+      let o = event_outcome i (list_level i) y issued z in
       let rest : b ++ e ∷ a ≡ c ++ x ∷ d = cc in
       let genuine = subst (λ (v : Event). AreGenuine i y issued (v ∷ c)) same h in
       let forged = subst (λ (v : Event). IsForged y issued (v ∷ c) x) same k in
@@ -64,13 +64,13 @@ same_premise None None None f g h = ap (premise_by None None None) (h refl refl 
 
 module _ (i : Instance) (es : List Event) where
   abbrev pair : Option (ℕ × ℕ)
-  pair = shared_in (message_digests (numbered i es))
+  pair = shared_pair_in (message_digests (numbered_messages i es))
 
   abbrev nought : Option ℕ
-  nought = zero_in (message_digests (numbered i es))
+  nought = zero_number_in (message_digests (numbered_messages i es))
 
   abbrev secured : Option ℕ
-  secured = secured_by i.variant i.barrier es
+  secured = secured_event_by i.variant i.barrier es
 
   -- what is told follows from these facts
   record Facts (p : Premise) : Type 0 where
@@ -85,7 +85,7 @@ module _ (i : Instance) (es : List Event) where
     first = λ s z g. first;
   }
 
-  facts_of : (p : Premise) → Decides i es p → Facts p
+  facts_of : (p : Premise) → DecidesPremise i es p → Facts p
   facts_of (Shared first second) h = record {
     forged = None;
     is = λ j. premise_by (h j) nought secured None;
@@ -97,7 +97,7 @@ module _ (i : Instance) (es : List Event) where
     first = λ s z g. absurd (some_none nought message h.1 z);
   }
   facts_of (Secured event) h =
-      let sec : secured ≡ Some event = ap (λ (v : Variant). secured_by v i.barrier es) h.1 ∙ h.2 in
+      let sec : secured ≡ Some event = ap (λ (v : Variant). secured_event_by v i.barrier es) h.1 ∙ h.2 in
       record {
         forged = None;
         is = λ j. premise_by (unshared i es h.0 j) (no_zero i es h.0 j) (sec j) None;
@@ -106,7 +106,7 @@ module _ (i : Instance) (es : List Event) where
   facts_of (Forged event) h = clear_facts (Some event) h.0 h.1
   facts_of Held h = clear_facts None h.0 h.1
 
-  pub premise_fixed : (p q : Premise) → Decides i es p → Decides i es q → p ≡ q
+  pub premise_fixed : (p q : Premise) → DecidesPremise i es p → DecidesPremise i es q → p ≡ q
   premise_fixed p q hp hq =
       let a = facts_of p hp in
       let b = facts_of q hq in

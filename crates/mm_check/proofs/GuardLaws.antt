@@ -3,8 +3,8 @@ use Rattle.mm_check.proofs.Below.{◌≡◌, ℕ, zero, suc, ◌+◌, ◌<◌, B
 use Rattle.mm_check.proofs.Below.{Option, None, Some, refl, sym, ap, ◌∙◌, arith, append-nil, ◌||◌, BTreeSet, flat_map-append}
 use Rattle.mm_check.proofs.Below.{contains, slice_cmp, list_any, option_map, nat_cmp, is_eq, bytes_eq, take_more, map-append}
 use Rattle.mm_check.proofs.Below.{nat_list_eq_equiv, list_any-append, is_eq-slice_cmp, Meddle, CodeEvent, Event, event_of, own_values}
-use Rattle.mm_check.proofs.Below.{Batch, batches_of, asked_batches, first_where, events_of, HasAll}
-use Rattle.mm_check.proofs.ListingLaws.{first_where-push}
+use Rattle.mm_check.proofs.Below.{Batch, batches_of, asked_batches, number_of_first, events_of, HasAll}
+use Rattle.mm_check.proofs.ListingLaws.{number_of_first-push}
 use Rattle.mm_model.specs.Chains.{guard}
 pub use Rattle.mm_model.proofs.Above.{guards}
 
@@ -63,16 +63,16 @@ first_none true o h = absurd (cc)
 first_none false o h = (refl, none_before o h)
 
 pub first_at : (p : Event → Bool) (es : List CodeEvent) (i : ℕ) (e : CodeEvent) → i < length es → e ≡ get_or es i e
-    → first_where p (events_of (take i es)) ≡ None → p (event_of e) ≡ true → Some (i + 1) ≡ first_where p (events_of es)
+    → number_of_first p (events_of (take i es)) ≡ None → p (event_of e) ≡ true → Some (i + 1) ≡ number_of_first p (events_of es)
 first_at p [] i e h is none here = absurd (omega arith)
 first_at p (x ∷ es) zero e h is none here = rw (sym (ap (λ (y : CodeEvent). p (event_of y)) is) ∙ here) refl
 first_at p (x ∷ es) (suc i) e h is none here =
-    let parts = first_none (p (event_of x)) (first_where p (events_of (take i es))) none in
+    let parts = first_none (p (event_of x)) (number_of_first p (events_of (take i es))) none in
     rw (parts.0, ← first_at p es i e (omega arith) is parts.1 here) (ap Some (omega arith))
 
-pub none_more : (p : Event → Bool) (before : List Event) (e : Event) → first_where p before ≡ None → p e ≡ false
-    → first_where p (before ++ e ∷ []) ≡ None
-none_more p before e none here = first_where-push p before e ∙ rw (none, here) refl
+pub none_more : (p : Event → Bool) (before : List Event) (e : Event) → number_of_first p before ≡ None → p e ≡ false
+    → number_of_first p (before ++ e ∷ []) ≡ None
+none_more p before e none here = number_of_first-push p before e ∙ rw (none, here) refl
 
 -- a set that has these digests finds them
 pub secured_same : (known : List (List ℕ)) (set : BTreeSet (List ℕ)) (values : List (List ℕ)) → HasAll known set

@@ -1,58 +1,58 @@
 -- The run of the events that are read.
 use Rattle.mm_check.proofs.Below.{◌≡◌, ◌∙◌, ℕ, false, List, [], ◌∷◌, ◌++◌, sym, ap, subst, arith, append-nil, length-append}
-use Rattle.mm_check.proofs.Below.{flat_map-append, map-append, Header, CodeEvent, Event, event_of, lines_of_reply, Reply, by_digests}
-use Rattle.mm_check.proofs.Below.{Outcome, Followed, event_outcome, first_issued, first_digests, replies_by_digests, world_of, goes_on}
-use Rattle.mm_check.proofs.Below.{Running, is_too_much, replay_stage, stage_of, running_outcome, after_event, events_of, lines_of_all, RunsBehind, ◌<◌}
-use Rattle.mm_check.proofs.Below.{length, expected_lines, followed, Instance}
+use Rattle.mm_check.proofs.Below.{flat_map-append, map-append, Header, CodeEvent, Event, event_of, lines_of_reply, Reply, digest_level}
+use Rattle.mm_check.proofs.Below.{Outcome, RunOutcome, event_outcome, first_issued, first_digests, outcome_by_digests, world_of, goes_on}
+use Rattle.mm_check.proofs.Below.{RunningReplay, is_too_much, replay_stage, replay_state_of, running_outcome, running_replay_after, events_of, lines_of_all, RunsBehind, ◌<◌}
+use Rattle.mm_check.proofs.Below.{length, expected_lines, outcome_of_events, Instance}
 use Rattle.mm_model.specs.Moves.{Digests}
 use Rattle.mm_call.specs.Levels.{Level}
-use Rattle.mm_play.specs.Stage.{running}
+use Rattle.mm_play.specs.Stage.{play_state}
 use Rattle.mm_play.specs.StageLaws.{few_left}
 use Rattle.mm_check.proofs.FewLaws.{expected_few}
 
-outcome_same : (header : Header) (r : Running) (f : Followed Digests) (event : Event) → r.header ≡ header → r.digests ≡ f.state
-    → r.issued ≡ f.issued → running_outcome r event ≡ event_outcome (world_of header) (by_digests (world_of header)) f.state f.issued event
+outcome_same : (header : Header) (r : RunningReplay) (f : RunOutcome Digests) (event : Event) → r.header ≡ header → r.digests ≡ f.state
+    → r.issued ≡ f.issued → running_outcome r event ≡ event_outcome (world_of header) (digest_level (world_of header)) f.state f.issued event
 outcome_same header r f event h d s =
-    λ j. event_outcome (world_of (h j)) (by_digests (world_of (h j))) (d j) (s j) event
+    λ j. event_outcome (world_of (h j)) (digest_level (world_of (h j))) (d j) (s j) event
 
 -- the lines of one event more
 pub lines-push : {S : Type 0} (i : Instance) (level : Level S) (s : S) (issued : List (List ℕ)) (es : List Event) (e : Event)
-    → (let f : Followed S = followed i level s issued es in lines_of_all (followed i level s issued (es ++ e ∷ [])).replies
+    → (let f : RunOutcome S = outcome_of_events i level s issued es in lines_of_all (outcome_of_events i level s issued (es ++ e ∷ [])).replies
     ≡ lines_of_all f.replies ++ lines_of_reply (event_outcome i level f.state f.issued e).reply)
 lines-push {S} i level s issued es e =
-    let f = followed i level s issued es in
+    let f = outcome_of_events i level s issued es in
     let said = (event_outcome i level f.state f.issued e).reply in
-    ap (λ (g : Followed S). lines_of_all g.replies) (goes_on i level es (e ∷ []) s issued)
+    ap (λ (g : RunOutcome S). lines_of_all g.replies) (goes_on i level es (e ∷ []) s issued)
     ∙ flat_map-append lines_of_reply f.replies (said ∷ [])
     ∙ ap (λ (l : List (List ℕ)). lines_of_all f.replies ++ l) (append-nil (lines_of_reply said))
 
 -- one event more
-pub is_run_next : (header : Header) {r next : Running} (events : List CodeEvent) {longer : List CodeEvent} {told more : List (List ℕ)}
+pub is_run_next : (header : Header) {r next : RunningReplay} (events : List CodeEvent) {longer : List CodeEvent} {told more : List (List ℕ)}
     (line : List ℕ) (event : CodeEvent) {reply : Reply} → RunsBehind header r (events_of events) told → is_too_much r line ≡ false
-    → reply ≡ (running_outcome r (event_of event)).reply → next ≡ after_event r line (event_of event) → longer ≡ events ++ event ∷ []
+    → reply ≡ (running_outcome r (event_of event)).reply → next ≡ running_replay_after r line (event_of event) → longer ≡ events ++ event ∷ []
     → more ≡ told ++ lines_of_reply reply → RunsBehind header next (events_of longer) more
 is_run_next header {r} events {longer} {told} {more} line event h room said is grown lines =
     let i = world_of header in
-    let f = replies_by_digests i (events_of events) in
+    let f = outcome_by_digests i (events_of events) in
     let e = event_of event in
-    let o = event_outcome i (by_digests i) f.state f.issued e in
+    let o = event_outcome i (digest_level i) f.state f.issued e in
     let same = outcome_same header r f e h.same h.digests h.issued in
-    let on = goes_on i (by_digests i) (events_of events) (e ∷ []) (first_digests i) (first_issued i) in
+    let on = goes_on i (digest_level i) (events_of events) (e ∷ []) (first_digests i) (first_issued i) in
     let all : events_of longer ≡ events_of events ++ e ∷ [] = ap events_of grown ∙ map-append event_of events (event ∷ []) in
-    let behind : RunsBehind header (after_event r line e) (events_of events ++ e ∷ []) more = record {
+    let behind : RunsBehind header (running_replay_after r line e) (events_of events ++ e ∷ []) more = record {
       same = h.same;
-      digests = ap (λ (x : Outcome Digests). x.state) same ∙ sym (ap (λ (g : Followed Digests). g.state) on);
-      issued = ap (λ (x : Outcome Digests). x.issued) same ∙ sym (ap (λ (g : Followed Digests). g.issued) on);
+      digests = ap (λ (x : Outcome Digests). x.state) same ∙ sym (ap (λ (g : RunOutcome Digests). g.state) on);
+      issued = ap (λ (x : Outcome Digests). x.issued) same ∙ sym (ap (λ (g : RunOutcome Digests). g.issued) on);
       lines = lines ∙ (λ j. h.lines j ++ lines_of_reply ((said ∙ ap (λ (x : Outcome Digests). x.reply) same) j))
-          ∙ sym (lines-push i (by_digests i) (first_digests i) (first_issued i) (events_of events) e);
+          ∙ sym (lines-push i (digest_level i) (first_digests i) (first_issued i) (events_of events) e);
       count = omega (arith, h.count, length-append (events_of events) (e ∷ []));
-      few = omega (arith, few_left replay_stage (running (stage_of r) r.read) line room);
+      few = omega (arith, few_left replay_stage (play_state (replay_state_of r) r.read) line room);
     } in
-    subst (λ (x : Running). RunsBehind header x (events_of longer) more) (sym is)
-    (subst (λ (es : List Event). RunsBehind header (after_event r line e) es more) (sym all) behind)
+    subst (λ (x : RunningReplay). RunsBehind header x (events_of longer) more) (sym is)
+    (subst (λ (es : List Event). RunsBehind header (running_replay_after r line e) es more) (sym all) behind)
 
 -- few lines are expected
-pub expected_short : (header : Header) (running : Running) (es seen : List Event) (told lines slice : List (List ℕ))
+pub expected_short : (header : Header) (running : RunningReplay) (es seen : List Event) (told lines slice : List (List ℕ))
     → RunsBehind header running es told → seen ≡ es
     → lines ≡ expected_lines (world_of header) seen → slice ≡ lines → length slice < 4294967295
 expected_short header running es seen told lines slice h same is at =

@@ -2,9 +2,9 @@
 -- of events.
 use Rattle.std.specs.Prelude.{◌≡◌, ◌≢◌, ℕ, ◌+◌, List, ◌∷◌, ◌++◌, length, ◌⊎◌}
 use Rattle.std.specs.List.{Contains}
-use Rattle.mm_check.specs.Below.{sha256, zero_bytes, Opt, Batch, guard, Instance, Meddle, Stop, Offer, Ask, Event, expected, foreign_of}
+use Rattle.mm_check.specs.Below.{sha256, zero_bytes, Opt, Batch, guard, Instance, Meddle, Stop, Offer, Ask, Event, outcome_by_lists, event_foreign_values}
 use Rattle.mm_check.specs.Below.{IsClearRun, IsGenuineRun, asked_batches, offered_bytes, HasEvidence, IsForged}
-use Rattle.mm_check.specs.Numbering.{Decides, numbered}
+use Rattle.mm_check.specs.Numbering.{DecidesPremise, numbered_messages}
 use Rattle.mm_check.specs.declared.verdicts.Premise.{Premise}
 use Rattle.mm_check.specs.declared.verdicts.Premise.TheVariants.{Held, Shared, Zero, Secured, Forged}
 
@@ -40,7 +40,7 @@ pub record IsSecuredAt (i : Instance) (events : List Event) (number : ℕ) : Typ
   pub split : events ≡ before ++ event ∷ after
   pub place : number ≡ length before + 1
   pub in_opt : i.variant ≡ Opt
-  pub brought : Contains (foreign_of event) value
+  pub brought : Contains (event_foreign_values event) value
   pub asked : Contains (asked_batches events) batch
   pub is_guard : value ≡ guard i.barrier batch
 
@@ -54,22 +54,22 @@ pub record IsForgeryAt (i : Instance) (events : List Event) (number : ℕ) : Typ
   pub after : List Event
   pub split : events ≡ before ++ Ask meddles stop offer batch ∷ after
   pub place : number ≡ length before + 1
-  pub forged : IsForged i (expected i before).state
-      (offered_bytes (expected i before).issued offer)
+  pub forged : IsForged i (outcome_by_lists i before).state
+      (offered_bytes (outcome_by_lists i before).issued offer)
 
 -- What is told is evidence, by its numbers; or that the premises hold.
 abbrev pub IsEvidence : Instance → List Event → Premise → Type 0
 IsEvidence i events Held = IsClearRun i events × IsGenuineRun i events
-IsEvidence i events (Shared first second) = IsSharedAt (numbered i events) first second
-IsEvidence i events (Zero message) = IsZeroAt (numbered i events) message
+IsEvidence i events (Shared first second) = IsSharedAt (numbered_messages i events) first second
+IsEvidence i events (Zero message) = IsZeroAt (numbered_messages i events) message
 IsEvidence i events (Secured event) = IsSecuredAt i events event
 IsEvidence i events (Forged event) = IsForgeryAt i events event
 
 -- What a run is told: one premise alone, which is that evidence.
 pub record IsToldByEvidence (i : Instance) (events : List Event) : Type 0 where
   pub told : Premise
-  pub decides : Decides i events told
-  pub alone : (premise : Premise) → Decides i events premise → premise ≡ told
+  pub decides : DecidesPremise i events told
+  pub alone : (premise : Premise) → DecidesPremise i events premise → premise ≡ told
   pub evidence : IsEvidence i events told
 
 -- Evidence by its numbers is evidence, but for the premises that hold.

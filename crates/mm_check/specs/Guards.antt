@@ -5,16 +5,16 @@ use Rattle.std.specs.Cmp.Lexicographic.{slice_cmp}
 use Rattle.std.specs.List.{list_any}
 use Rattle.std.specs.Ordering.{nat_cmp}
 use Rattle.std.specs.Str.{bytes_eq}
-use Rattle.mm_check.specs.Below.{Digest, Variant, Basic, Opt, Batch, normal, own_values, is_long, Event, event_of, CodeEvent, asked_batches}
-use Rattle.mm_check.specs.Listing.{first_where}
+use Rattle.mm_check.specs.Below.{Digest, Variant, Basic, Opt, Batch, normal_batch, own_values, is_long, Event, event_of, CodeEvent, asked_batches}
+use Rattle.mm_check.specs.Listing.{number_of_first}
 use Rattle.mm_check.specs.Numbering.{is_secured}
 
 abbrev pub events_of : List CodeEvent → List Event
 events_of events = map event_of events
 
 -- the batch, if it isn't too long
-abbrev pub unless_long : Batch → List Batch
-unless_long b = if is_long b then [] else normal b ∷ []
+abbrev pub batches_unless_long : Batch → List Batch
+batches_unless_long b = if is_long b then [] else normal_batch b ∷ []
 
 abbrev pub digest_items : Option Digest → List (List ℕ)
 digest_items None = []
@@ -26,7 +26,7 @@ HasAll digests set =
     (d : List ℕ) → contains (slice_cmp nat_cmp) set d ≡ list_any (bytes_eq d) digests
 
 -- the first event at which others bring a guard, by the barrier: in Basic they aren't asked about
-abbrev pub secured_by : Variant → List ℕ → List Event → Option ℕ
-secured_by Basic barrier events = None
-secured_by Opt barrier events =
+abbrev pub secured_event_by : Variant → List ℕ → List Event → Option ℕ
+secured_event_by Basic barrier events = None
+secured_event_by Opt barrier events =
     first_where (is_secured (own_values barrier (asked_batches events))) events

@@ -3,34 +3,34 @@
 use Rattle.std.specs.Prelude.{◌≡◌, ℕ, ◌+◌, Bool, List, [], ◌∷◌, ◌++◌, length, Option, None, Some}
 use Rattle.std.specs.List.{flat_map, fold, list_any}
 use Rattle.std.specs.Str.{bytes_eq}
-use Rattle.mm_check.specs.Below.{start_message, Opt, own_values, History, first_history, total_of, Instance, IsClear, by_lists, Event}
-use Rattle.mm_check.specs.Below.{lines_of_reply, end_line, Reply, Followed, event_outcome, first_issued, expected, foreign_of, IsClearRun}
-use Rattle.mm_check.specs.Below.{IsGenuineEvent, IsGenuineRun, asked_batches, run_messages, numbered_event}
-use Rattle.mm_check.specs.Listing.{first_where, listed, message_digests, shared_in, zero_in}
+use Rattle.mm_check.specs.Below.{start_message, Opt, own_values, History, first_history, total_of, Instance, IsClear, list_level, Event}
+use Rattle.mm_check.specs.Below.{lines_of_reply, end_line, Reply, RunOutcome, event_outcome, first_issued, outcome_by_lists, event_foreign_values, IsClearRun}
+use Rattle.mm_check.specs.Below.{IsGenuineEvent, IsGenuineRun, asked_batches, run_messages, numbered_event_messages}
+use Rattle.mm_check.specs.Listing.{number_of_first, messages_with, message_digests, shared_pair_in, zero_number_in}
 use Rattle.mm_check.specs.declared.verdicts.Premise.{Premise}
 use Rattle.mm_check.specs.declared.verdicts.Premise.TheVariants.{Held, Shared, Zero, Secured, Forged}
 
 -- the messages of events from a history on in the order of their numbers, those that come again too
-abbrev pub numbered_from : Instance → History → List (List ℕ) → List Event → List (List ℕ)
-numbered_from i y issued [] = []
-numbered_from i y issued (event ∷ events) =
-    let o = event_outcome i (by_lists i) y issued event in
-    numbered_event i y issued event ++ numbered_from i o.state o.issued events
+abbrev pub numbered_messages_from : Instance → History → List (List ℕ) → List Event → List (List ℕ)
+numbered_messages_from i y issued [] = []
+numbered_messages_from i y issued (event ∷ events) =
+    let o = event_outcome i (list_level i) y issued event in
+    numbered_event_messages i y issued event ++ numbered_messages_from i o.state o.issued events
 
 -- the messages of a run, each once: a message has the number of its place, from 1
-abbrev pub numbered : Instance → List Event → List (List ℕ)
-numbered i events =
-    fold listed (start_message i.variant i.meaning.id ∷ [])
-    (numbered_from i first_history (first_issued i) events)
+abbrev pub numbered_messages : Instance → List Event → List (List ℕ)
+numbered_messages i events =
+    fold messages_with (start_message i.variant i.meaning.id ∷ [])
+    (numbered_messages_from i first_history (first_issued i) events)
 
 -- others extend the register by a value that is one of these guards
 abbrev pub is_secured : List (List ℕ) → Event → Bool
-is_secured guards event = list_any (λ v. list_any (bytes_eq v) guards) (foreign_of event)
+is_secured guards event = list_any (λ v. list_any (bytes_eq v) guards) (event_foreign_values event)
 
 -- the number, from 1, of the first event at which they do so by the guard of a batch that the run
 -- asks
-abbrev pub secured_in : Instance → List Event → Option ℕ
-secured_in i events = first_where (is_secured (own_values i.barrier (asked_batches events))) events
+abbrev pub secured_event_in : Instance → List Event → Option ℕ
+secured_event_in i events = number_of_first (is_secured (own_values i.barrier (asked_batches events))) events
 
 -- The event of this number is the first whose offer is right and names no position.
 pub record IsForgedAt (i : Instance) (events : List Event) (number : ℕ) : Type 0 where
@@ -40,36 +40,36 @@ pub record IsForgedAt (i : Instance) (events : List Event) (number : ℕ) : Type
   pub split : events ≡ before ++ event ∷ after
   pub place : number ≡ length before + 1
   pub genuine : IsGenuineRun i before
-  pub forged : IsGenuineEvent i (expected i before).state (expected i before).issued event → ⊥
+  pub forged : IsGenuineEvent i (outcome_by_lists i before).state (outcome_by_lists i before).issued event → ⊥
 
 -- What is told of the premises. They hold; or two messages share a digest, the lowest numbers; or
 -- else a digest is zero, the first one; or else others extend the register by the guard of a batch,
 -- at the first such event; or else a right offer names no position, at the first such event.
-abbrev pub Decides : Instance → List Event → Premise → Type 0
-Decides i events Held = IsClearRun i events × IsGenuineRun i events
-Decides i events (Shared first second) =
-    shared_in (message_digests (numbered i events)) ≡ Some (first, second)
-Decides i events (Zero message) = (shared_in (message_digests (numbered i events)) ≡ None)
-    × (zero_in (message_digests (numbered i events)) ≡ Some message)
-Decides i events (Secured event) =
-    IsClear (run_messages i events) × (i.variant ≡ Opt) × (secured_in i events ≡ Some event)
-Decides i events (Forged event) = IsClearRun i events × IsForgedAt i events event
+abbrev pub DecidesPremise : Instance → List Event → Premise → Type 0
+DecidesPremise i events Held = IsClearRun i events × IsGenuineRun i events
+DecidesPremise i events (Shared first second) =
+    shared_in (message_digests (numbered_messages i events)) ≡ Some (first, second)
+DecidesPremise i events (Zero message) = (shared_in (message_digests (numbered_messages i events)) ≡ None)
+    × (zero_number_in (message_digests (numbered_messages i events)) ≡ Some message)
+DecidesPremise i events (Secured event) =
+    IsClear (run_messages i events) × (i.variant ≡ Opt) × (secured_event_in i events ≡ Some event)
+DecidesPremise i events (Forged event) = IsClearRun i events × IsForgedAt i events event
 
 -- the lines of replies, each with its LF
 abbrev pub lines_of_all : List Reply → List (List ℕ)
 lines_of_all replies = flat_map lines_of_reply replies
 
 -- the lines of a run that was followed, with its last line, by how many requests were committed
-abbrev pub lines_with : {S : Type 0} → Followed S → ℕ → List (List ℕ)
+abbrev pub lines_with : {S : Type 0} → RunOutcome S → ℕ → List (List ℕ)
 lines_with f committed = lines_of_all f.replies ++ end_line committed (length f.issued) ∷ []
 
 -- the lines that are expected
 abbrev pub expected_lines : Instance → List Event → List (List ℕ)
 expected_lines i events =
-    lines_with (expected i events) (total_of (expected i events).state.batches)
+    lines_with (outcome_by_lists i events) (total_of (outcome_by_lists i events).state.batches)
 
 -- one premise alone is told of a run
 abbrev pub PremiseIsFixed : Type 0
 PremiseIsFixed =
-    (i : Instance) (events : List Event) (p q : Premise) → Decides i events p → Decides i events q
+    (i : Instance) (events : List Event) (p q : Premise) → DecidesPremise i events p → DecidesPremise i events q
     → p ≡ q

@@ -1,8 +1,8 @@
 -- What one line did to a recorded run that is read.
 use Rattle.std.specs.Prelude.{◌≡◌, ℕ, List, [], Option, None, Some, Result, Ok, Err}
-use Rattle.mm_check.specs.Below.{Event, event_of, CodeEvent, Refused, Bad, Much, ReplyFault}
+use Rattle.mm_check.specs.Below.{Event, event_of, CodeEvent, LineRefusal, Bad, Much, ReplyFault}
 use Rattle.mm_play.specs.declared.player.ReplyFault.TheVariants as fault
-use Rattle.mm_check.specs.Checking.{CheckStage, AtHeader, InEvents, InReplies}
+use Rattle.mm_check.specs.CheckStage.{CheckStage, AtHeader, InEvents, InReplies}
 use Rattle.mm_check.specs.declared.player.Phase.{Phase}
 use Rattle.mm_check.specs.declared.player.Phase.TheVariants.{Events, Replies}
 
@@ -17,7 +17,7 @@ check_stage (Some phase) = phase_of phase
 
 -- What a line came to: what stands behind it, or why it is refused; want of memory says nothing.
 -- Nothing is written.
-abbrev pub LineComesTo : {A : Type 0} → (A → CheckStage) → Result (List ℕ × CheckStage) Refused
+abbrev pub LineComesTo : {A : Type 0} → (A → CheckStage) → Result (List ℕ × CheckStage) LineRefusal
     → Result A ReplyFault → Type 0
 LineComesTo stage answer (Ok next) = answer ≡ Ok ([], stage next)
 LineComesTo stage answer (Err fault.Memory) = Unit {0}

@@ -2,10 +2,10 @@
 use Rattle.std.specs.Prelude.{◌≡◌, ℕ, ◌+◌, ◌≤◌, Bool, false, nat_lt, List, [], ◌∷◌, ◌++◌, length, codes, Option, None, Some, if◌then◌else◌}
 use Rattle.std.specs.Fmt.{decimal}
 use Rattle.std.specs.Str.{bytes_eq}
-use Rattle.mm_check.specs.Below.{most_events, Instance, Event, Header, replies_by_digests, world_of, Running}
-use Rattle.mm_check.specs.Listing.{first_then}
-use Rattle.mm_check.specs.Numbering.{Decides, lines_of_all, lines_with, expected_lines}
-use Rattle.mm_check.specs.Checking.{Compared, CheckStage, AtHeader, InEvents, InReplies}
+use Rattle.mm_check.specs.Below.{most_events, Instance, Event, Header, outcome_by_digests, world_of, RunningReplay}
+use Rattle.mm_check.specs.Listing.{first_number_of}
+use Rattle.mm_check.specs.Numbering.{DecidesPremise, lines_of_all, lines_with, expected_lines}
+use Rattle.mm_check.specs.CheckStage.{ComparedRun, CheckStage, AtHeader, InEvents, InReplies}
 use Rattle.mm_check.specs.declared.verdicts.Premise.{Premise}
 use Rattle.mm_check.specs.declared.verdicts.Premise.TheVariants.{Held, Shared, Zero, Secured, Forged}
 use Rattle.mm_check.specs.declared.verdicts.Agreement.{Agreement}
@@ -36,42 +36,42 @@ agreement_of (Some line) = Differ line
 -- the lines that the run itself gives, with its last line
 abbrev pub run_lines : Instance → List Event → List (List ℕ)
 run_lines i events =
-    lines_with (replies_by_digests i events) (replies_by_digests i events).state.count
+    lines_with (outcome_by_digests i events) (outcome_by_digests i events).state.count
 
 -- Behind these events a run by digests stands so, and its lines are told.
-pub record RunsBehind (header : Header) (running : Running) (events : List Event)
+pub record RunsBehind (header : Header) (running : RunningReplay) (events : List Event)
     (told : List (List ℕ)) : Type 0 where
   pub same : running.header ≡ header
-  pub digests : running.digests ≡ (replies_by_digests (world_of header) events).state
-  pub issued : running.issued ≡ (replies_by_digests (world_of header) events).issued
-  pub lines : told ≡ lines_of_all (replies_by_digests (world_of header) events).replies
+  pub digests : running.digests ≡ (outcome_by_digests (world_of header) events).state
+  pub issued : running.issued ≡ (outcome_by_digests (world_of header) events).issued
+  pub lines : told ≡ lines_of_all (outcome_by_digests (world_of header) events).replies
   pub count : running.events ≡ length events
   pub few : running.events ≤ most_events
 
 -- the first difference at the end of the recorded lines: one may be missing
-abbrev pub end_difference : Compared → Option ℕ
+abbrev pub end_difference : ComparedRun → Option ℕ
 end_difference c =
-    first_then c.differs (nat_lt c.count (length (expected_lines (world_of c.header) c.events)))
+    first_number_of c.differs (nat_lt c.count (length (expected_lines (world_of c.header) c.events)))
     (c.count + 1)
 
 -- the verdicts on a run whose lines are tested
 pub record AreVerdicts (header : Header) (events : List Event) (tested : List (List ℕ))
     (it : Verdicts) : Type 0 where
-  pub premise : Decides (world_of header) events it.premise
+  pub premise : DecidesPremise (world_of header) events it.premise
   pub agreement : it.agreement ≡ agreement_of
       (first_difference tested (expected_lines (world_of header) events))
 
 -- the verdicts once the recorded lines were compared
-pub record AreVerdictsOn (c : Compared) (it : Verdicts) : Type 0 where
-  pub premise : Decides (world_of c.header) c.events it.premise
+pub record AreVerdictsOn (c : ComparedRun) (it : Verdicts) : Type 0 where
+  pub premise : DecidesPremise (world_of c.header) c.events it.premise
   pub agreement : it.agreement ≡ agreement_of (end_difference c)
 
 -- the verdicts at the end of the input
-abbrev pub Concludes : CheckStage → Verdicts → Type 0
-Concludes AtHeader it = ⊥
-Concludes (InEvents r) it =
+abbrev pub StageConcludes : CheckStage → Verdicts → Type 0
+StageConcludes AtHeader it = ⊥
+StageConcludes (InEvents r) it =
     AreVerdicts r.header r.events (run_lines (world_of r.header) r.events) it
-Concludes (InReplies c) it = AreVerdictsOn c it
+StageConcludes (InReplies c) it = AreVerdictsOn c it
 
 -- the lines that are written
 abbrev pub premise_text : Premise → List ℕ
@@ -92,6 +92,6 @@ verdicts_text it = premise_text it.premise ++ 10 ∷ [] ++ agreement_text it.agr
 -- were compared.
 pub record IsComparing (header : Header) (events : List Event) (premise : Premise)
     (expected : List (List ℕ)) (count : ℕ) : Type 0 where
-  pub decided : Decides (world_of header) events premise
+  pub decided : DecidesPremise (world_of header) events premise
   pub lines : expected ≡ expected_lines (world_of header) events
   pub few : count ≤ 1280001

@@ -1,13 +1,13 @@
 //! A recorded run, from its header to its last line.
 
 ghost use Rattle.std.specs.Prelude.{◌≡◌, ℕ, List, Some, Ok};
-ghost use Rattle.mm_play.specs.Play.{run_of};
-ghost use Rattle.mm_play.specs.Plays.{IsBlamed, IsUnrefused, is_read_fault, is_write_fault};
+ghost use Rattle.mm_play.specs.Play.{outcome_of_input};
+ghost use Rattle.mm_play.specs.PlaysInput.{IsBlamed, IsUnrefused, is_read_fault, is_write_fault};
 ghost use Rattle.mm_schedule.specs.Headers.{header_at};
-ghost use Rattle.mm_check.specs.Checking.{CheckStage, AtHeader, check_answer, check_closing};
-ghost use Rattle.mm_check.specs.Checks.{ChecksRun, Judges};
+ghost use Rattle.mm_check.specs.CheckStage.{CheckStage, AtHeader, check_answer, check_closing};
+ghost use Rattle.mm_check.specs.Checks.{ChecksRun, JudgePromise};
 
-use crate::nowhere::Nowhere;
+use crate::nowhere::NullSink;
 use crate::player::CheckPlayer;
 use crate::texts::verdicts_text;
 use crate::verdicts::Verdicts;
@@ -17,16 +17,16 @@ use std::alloc::Global;
 
 /// Reads a recorded run to its end, and tells the verdicts on it.
 fn judge<S: Source>(alloc: Global, input: &mut S) -> Result<Verdicts, ReplayFault>
-    ensures judges { Judges (S.left input.old) (S.left input.new) result }
+    ensures judges { JudgePromise (S.left input.old) (S.left input.new) result }
     ensures read { IsBlamed (is_read_fault result) (S.faults input.old) (S.faults input.new) }
 
     // A recorded run within the grammar and the limits is not refused.
     ensures complete { (bytes : List ℕ) → (next : CheckStage) → S.left input.old ≡ Some bytes
-        → (run_of (check_answer header_at) check_closing AtHeader bytes).outcome ≡ Ok next
+        → (outcome_of_input (check_answer header_at) check_closing AtHeader bytes).outcome ≡ Ok next
         → IsUnrefused result }
 {
     let mut player = CheckPlayer::new();
-    let mut nowhere = Nowhere {};
+    let mut nowhere = NullSink {};
     match play(alloc, &mut player, input, &mut nowhere) {
         Ok(()) => match player.into_verdicts(alloc) {
             Ok(verdicts) => Ok(verdicts),
@@ -58,7 +58,7 @@ pub fn check<S: Source, K: Sink>(
 
     // A recorded run within the grammar and the limits is not refused.
     ensures complete { (bytes : List ℕ) → (next : CheckStage) → S.left input.old ≡ Some bytes
-        → (run_of (check_answer header_at) check_closing AtHeader bytes).outcome ≡ Ok next
+        → (outcome_of_input (check_answer header_at) check_closing AtHeader bytes).outcome ≡ Ok next
         → IsUnrefused result }
 {
     let verdicts = match judge(alloc, input) {

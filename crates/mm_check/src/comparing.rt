@@ -1,15 +1,15 @@
 //! Recorded lines, compared with those that are expected.
 
 ghost use Rattle.std.specs.Prelude.{◌≡◌, option_copied, IfOk};
-ghost use Rattle.mm_check.specs.Checking.{Compared, InReplies, compare_line, first_compared, is_line};
+ghost use Rattle.mm_check.specs.CheckStage.{ComparedRun, InReplies, answer_to_recorded_line, first_compared_run, is_line};
 ghost use Rattle.mm_check.specs.Verdicts.{AreVerdictsOn, agreement_of};
 ghost use Rattle.mm_check.specs.Steps.{LineComesTo};
 
 use crate::difference::first_then;
-use crate::reading::Reading;
+use crate::reading::ScheduleReader;
 use crate::verdicts::{Agreement, Premise, Verdicts};
 use mm_base::{Bytes, Memory};
-use mm_play::{Refused, ReplyFault};
+use mm_play::{LineRefusal, ReplyFault};
 use mm_schedule::{Event, Header};
 use std::alloc::Global;
 use std::marker::Model;
@@ -19,7 +19,7 @@ const MOST_RECORDED: u32 = 1_280_001;
 
 /// What the events come to, and how the recorded lines compare so far.
 #[derive(Drop)]
-pub(crate) struct Comparing {
+pub(crate) struct Comparison {
     header: Header,
     events: Vec<Event>,
     premise: Premise,
@@ -31,12 +31,12 @@ pub(crate) struct Comparing {
     differs: Option<u32>,
 }
 
-impl Model for Comparing {
+impl Model for Comparison {
     ghost use Rattle.mm_check.specs.Guards.{events_of};
-    ghost use Rattle.mm_check.specs.Checking.{Compared};
+    ghost use Rattle.mm_check.specs.CheckStage.{ComparedRun};
     ghost use Rattle.mm_check.specs.Verdicts.{IsComparing};
 
-    ghost Value = { Compared };
+    ghost Value = { ComparedRun };
 
     ghost view = { λ it. record {
       header = it.header;
@@ -72,13 +72,13 @@ fn agreement_of(differs: Option<u32>) -> Agreement
     }
 }
 
-impl Comparing {
+impl Comparison {
     /// At the first recorded line.
-    pub fn new(alloc: Global, reading: Reading) -> Result<Comparing, Memory>
-        ensures { IfOk result (λ it. it ≡ first_compared reading) }
+    pub fn new(alloc: Global, reading: ScheduleReader) -> Result<Comparison, Memory>
+        ensures { IfOk result (λ it. it ≡ first_compared_run reading) }
     {
         let (header, events, decided) = reading.decide(alloc)?;
-        Ok(Comparing {
+        Ok(Comparison {
             header,
             events,
             premise: decided.premise,
@@ -89,11 +89,11 @@ impl Comparing {
     }
 
     /// Behind a recorded line.
-    pub fn compare_line(mut self, alloc: Global, line: &[u8]) -> Result<Comparing, ReplyFault>
-        ensures { LineComesTo InReplies (compare_line self line.now) result }
+    pub fn compare_line(mut self, alloc: Global, line: &[u8]) -> Result<Comparison, ReplyFault>
+        ensures { LineComesTo InReplies (answer_to_recorded_line self line.now) result }
     {
         if self.count >= MOST_RECORDED {
-            return Err(ReplyFault::Refused(Refused::Much));
+            return Err(ReplyFault::Refused(LineRefusal::Much));
         }
         let same = match is_same(alloc, line, self.expected.get(self.count as usize)) {
             Ok(same) => same,

@@ -5,22 +5,22 @@ ghost use Rattle.mm_base.specs.Limits.{most_events};
 ghost use Rattle.mm_check.specs.Guards.{events_of};
 ghost use Rattle.mm_check.specs.Lists.{pair_of};
 ghost use Rattle.mm_schedule.specs.Events.{event_of};
-ghost use Rattle.mm_check.specs.Deciding.{LooksAt, StandsBehind, DecidesRun, premise_by};
+ghost use Rattle.mm_check.specs.PremiseDecision.{LooksAtEvent, StandsBehind, DecidesRun, premise_by};
 
 use crate::guards::first_secured;
 use crate::lines::{put_last, put_reply};
 use crate::messages::Numbers;
 use crate::verdicts::Premise;
 use mm_base::{Bytes, Memory};
-use mm_expect::Expecting;
+use mm_expect::Expectation;
 use mm_module::Module;
 use mm_schedule::{Event, Header};
 use std::alloc::Global;
 
 /// What some first events come to.
 #[derive(Drop)]
-pub(crate) struct Deciding {
-    expecting: Expecting,
+pub(crate) struct Decider {
+    expecting: Expectation,
     numbers: Numbers,
     /// The first event whose offer is right and names no position.
     forged: Option<u32>,
@@ -30,22 +30,22 @@ pub(crate) struct Deciding {
 
 /// What a list of events comes to.
 #[derive(Drop)]
-pub(crate) struct Decided {
+pub(crate) struct Decision {
     pub premise: Premise,
     /// The lines that are expected, each with its LF, the last line included.
     pub lines: Vec<Bytes>,
 }
 
-impl Deciding {
+impl Decider {
     /// At the first event.
-    fn new(alloc: Global, header: &Header) -> Result<Deciding, Memory>
+    fn new(alloc: Global, header: &Header) -> Result<Decider, Memory>
         ensures { IfOk result (λ it. StandsBehind header.now [] it) }
     {
-        let expecting = Expecting::new(alloc, header)?;
+        let expecting = Expectation::new(alloc, header)?;
         let mut numbers = Numbers::new(alloc);
         numbers.list(alloc, &[0, header.variant.byte(), header.module.id()])?;
         let lines = Vec::new(alloc);
-        Ok(Deciding {
+        Ok(Decider {
             expecting,
             numbers,
             forged: None,
@@ -79,7 +79,7 @@ impl Deciding {
     // The first forged event, once that of this number is looked at. Behind the first one none needs to be.
     fn first_forged(&self, event: &Event, number: u32) -> Result<Option<u32>, Memory>
         ensures { IfOk result (λ forged.
-            LooksAt self.now.expecting self.now.forged (event_of event.now) number forged) }
+            LooksAtEvent self.now.expecting self.now.forged (event_of event.now) number forged) }
     {
         match self.forged {
             Some(first) => Ok(Some(first)),
@@ -120,7 +120,7 @@ impl Deciding {
         alloc: Global,
         header: &Header,
         events: &[Event],
-    ) -> Result<Decided, Memory>
+    ) -> Result<Decision, Memory>
         requires few { length events.now ≤ most_events }
         requires stands { StandsBehind header.now (events_of events.now) self }
         ensures { IfOk result (DecidesRun header.now (events_of events.now)) }
@@ -133,17 +133,17 @@ impl Deciding {
             self.expecting.committed(),
             self.expecting.issued(),
         )?;
-        let Deciding { lines, .. } = self;
-        Ok(Decided { premise, lines })
+        let Decider { lines, .. } = self;
+        Ok(Decision { premise, lines })
     }
 }
 
 /// What these events come to: what is told of the premises, and the lines that are expected.
-pub(crate) fn decide(alloc: Global, header: &Header, events: &[Event]) -> Result<Decided, Memory>
+pub(crate) fn decide(alloc: Global, header: &Header, events: &[Event]) -> Result<Decision, Memory>
     requires { length events.now ≤ most_events }
     ensures { IfOk result (DecidesRun header.now (events_of events.now)) }
 {
-    let mut deciding = Deciding::new(alloc, header)?;
+    let mut deciding = Decider::new(alloc, header)?;
     'events: for index in 0..events.len() {
         deciding.follow_event(alloc, header, events, index)?;
     }

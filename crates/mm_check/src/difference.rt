@@ -1,7 +1,7 @@
 //! The first line in which two lists differ.
 
 ghost use Rattle.std.specs.Prelude.{◌≡◌, ◌+◌, ◌-◌, ◌<◌, ◌^◌, length, slice_get};
-ghost use Rattle.mm_check.specs.Listing.{first_then};
+ghost use Rattle.mm_check.specs.Listing.{first_number_of};
 ghost use Rattle.mm_check.specs.Verdicts.{agreement_of, first_difference, is_found};
 
 use crate::verdicts::Agreement;
@@ -9,7 +9,7 @@ use mm_base::Bytes;
 
 /// The first number that is found, once this one is found or not.
 pub(crate) fn first_then(first: Option<u32>, is_found: bool, number: u32) -> Option<u32>
-    ensures { result ≡ first_then first is_found number }
+    ensures { result ≡ first_number_of first is_found number }
 {
     match first {
         Some(first) => Some(first),

@@ -4,7 +4,7 @@ ghost use Rattle.std.specs.Prelude.{◌≡◌, ◌+◌, ◌-◌, ◌<◌, ◌≤
 ghost use Rattle.std.specs.BTreeMap.{get};
 ghost use Rattle.std.specs.Cmp.Lexicographic.{slice_cmp};
 ghost use Rattle.std.specs.Ordering.{nat_cmp, is_eq};
-ghost use Rattle.mm_check.specs.Listing.{is_zero, lower};
+ghost use Rattle.mm_check.specs.Listing.{is_zero, lower_pair};
 ghost use Rattle.mm_check.specs.Lists.{pair_of, CountsDigests};
 
 use crate::difference::first_then;
@@ -15,7 +15,7 @@ use std::collections::BTreeMap;
 
 /// Two numbers of messages.
 #[derive(Clone, Copy, Debug, PartialEq, Eq)]
-pub(crate) struct Pair {
+pub(crate) struct NumberPair {
     pub first: u32,
     pub second: u32,
 }
@@ -23,24 +23,24 @@ pub(crate) struct Pair {
 /// The digests listed so far, by the number of the first message of each; how many messages there are; the first two that
 /// share a digest; and the first whose digest is zero.
 #[derive(Drop)]
-pub(crate) struct Digests {
+pub(crate) struct DigestIndex {
     firsts: BTreeMap<[u8; 32], u32>,
     pub count: u32,
-    pub shared: Option<Pair>,
+    pub shared: Option<NumberPair>,
     pub zero: Option<u32>,
 }
 
 /// The pair after a message of this number, where the first one of its digest has that number.
-fn lower(shared: Option<Pair>, first: u32, second: u32) -> Option<Pair>
-    ensures { pair_of result ≡ lower (pair_of shared) first second }
+fn lower(shared: Option<NumberPair>, first: u32, second: u32) -> Option<NumberPair>
+    ensures { pair_of result ≡ lower_pair (pair_of shared) first second }
 {
     match shared {
         Some(pair) => if first < pair.first {
-            Some(Pair { first, second })
+            Some(NumberPair { first, second })
         } else {
             Some(pair)
         },
-        None => Some(Pair { first, second }),
+        None => Some(NumberPair { first, second }),
     }
 }
 
@@ -62,12 +62,12 @@ fn put(firsts: &mut BTreeMap<[u8; 32], u32>, digest: [u8; 32], number: u32) -> R
     }
 }
 
-impl Digests {
+impl DigestIndex {
     /// None so far. Takes no memory.
-    pub fn new(alloc: Global) -> Digests
+    pub fn new(alloc: Global) -> DigestIndex
         ensures { CountsDigests [] result }
     {
-        Digests {
+        DigestIndex {
             firsts: BTreeMap::new(alloc),
             count: 0,
             shared: None,

@@ -7,17 +7,17 @@ ghost use Rattle.std.specs.List.{list_any};
 ghost use Rattle.std.specs.Ordering.{nat_cmp};
 ghost use Rattle.std.specs.Str.{bytes_eq};
 ghost use Rattle.mm_base.specs.Limits.{most_events};
-ghost use Rattle.mm_module.specs.Batch.{Many, normal};
+ghost use Rattle.mm_module.specs.Batch.{Many, normal_batch};
 ghost use Rattle.mm_module.specs.Batches.{batch_of};
 ghost use Rattle.mm_model.specs.Chains.{guard};
 ghost use Rattle.mm_model.specs.ChainsWords.{own_values};
 ghost use Rattle.mm_model.specs.Long.{is_long};
 ghost use Rattle.mm_schedule.specs.Events.{event_of, meddles_of};
-ghost use Rattle.mm_run.specs.Held.{world_barrier};
-ghost use Rattle.mm_run.specs.Premises.{batches_of, foreign_of, asked_batches};
-ghost use Rattle.mm_check.specs.Listing.{first_where};
+ghost use Rattle.mm_run.specs.WorldState.{world_barrier};
+ghost use Rattle.mm_run.specs.Premises.{batches_of, event_foreign_values, asked_batches};
+ghost use Rattle.mm_check.specs.Listing.{number_of_first};
 ghost use Rattle.mm_check.specs.Numbering.{is_secured};
-ghost use Rattle.mm_check.specs.Guards.{events_of, unless_long, digest_items, HasAll, secured_by};
+ghost use Rattle.mm_check.specs.Guards.{events_of, batches_unless_long, digest_items, HasAll, secured_event_by};
 
 use mm_base::Memory;
 use mm_digest::{Digest, Variant, secured, secured_batch};
@@ -29,7 +29,7 @@ use std::alloc::Global;
 use std::collections::BTreeSet;
 
 /// The barrier of each world: the bytes 20 to 3f.
-#[tactic(auto, unfolding(mm_run::specs::Held::rising_from))]
+#[tactic(auto, unfolding(mm_run::specs::WorldState::rising_from))]
 fn barrier() -> [u8; 32]
     ensures { result ≡ world_barrier }
 {
@@ -42,7 +42,7 @@ fn barrier() -> [u8; 32]
 /// The guard of the requests between the TABs of a text.
 #[tactic(auto, using(crate::proofs::GuardLaws::guards))]
 fn guard_of_text(text: &[u8]) -> Digest
-    ensures { result.bytes ≡ guard world_barrier (normal (Many text.now)) }
+    ensures { result.bytes ≡ guard world_barrier (normal_batch (Many text.now)) }
 {
     if has_tab(text) {
         secured_batch(&barrier(), text)
@@ -54,7 +54,7 @@ fn guard_of_text(text: &[u8]) -> Digest
 /// The guard of a batch.
 #[tactic(auto, using(crate::proofs::GuardLaws::guards))]
 fn guard_of(batch: Batch<'_>) -> Digest
-    ensures { result.bytes ≡ guard world_barrier (normal (batch_of batch.entry)) }
+    ensures { result.bytes ≡ guard world_barrier (normal_batch (batch_of batch.entry)) }
 {
     match batch {
         Batch::One(request) => secured(&barrier(), request),
@@ -64,7 +64,7 @@ fn guard_of(batch: Batch<'_>) -> Digest
 
 /// The guard of a batch that isn't too long.
 fn guard_unless_long(batch: Batch<'_>) -> Option<Digest>
-    ensures { digest_items result ≡ own_values world_barrier (unless_long (batch_of batch.entry)) }
+    ensures { digest_items result ≡ own_values world_barrier (batches_unless_long (batch_of batch.entry)) }
 {
     if is_long(&batch) {
         return None;
@@ -142,7 +142,7 @@ fn some_meddle(guards: &BTreeSet<[u8; 32]>, meddles: &Meddles) -> bool
 #[tactic(auto, using(crate::proofs::GuardLaws::any_value))]
 fn brings_some(guards: &BTreeSet<[u8; 32]>, event: &Event) -> bool
     ensures { result ≡ list_any (contains (slice_cmp nat_cmp) guards.now)
-        (foreign_of (event_of event.now)) }
+        (event_foreign_values (event_of event.now)) }
 {
     match event {
         Event::Ask { meddles, .. } => some_meddle(guards, meddles),
@@ -157,7 +157,7 @@ fn brings_some(guards: &BTreeSet<[u8; 32]>, event: &Event) -> bool
 fn first_among(guards: &BTreeSet<[u8; 32]>, events: &[Event]) -> Option<u32>
     requires { length events.now ≤ most_events }
     ensures { (known : List (List ℕ)) → HasAll known guards.now
-        → result ≡ first_where (is_secured known) (events_of events.now) }
+        → result ≡ number_of_first (is_secured known) (events_of events.now) }
 {
     'events: for index in 0..events.len() {
         if brings_some(guards, &events[index]) {
@@ -176,7 +176,7 @@ pub(crate) fn first_secured(
 ) -> Result<Option<u32>, Memory>
     requires { length events.now ≤ most_events }
     ensures { IfOk result
-        (λ found. found ≡ secured_by variant world_barrier (events_of events.now)) }
+        (λ found. found ≡ secured_event_by variant world_barrier (events_of events.now)) }
 {
     match variant {
         Variant::Basic => Ok(None),

@@ -4,10 +4,10 @@ ghost use Rattle.std.specs.Prelude.{◌≡◌, ◌+◌, ◌-◌, ◌<◌, ◌≤
 ghost use Rattle.std.specs.List.{fold};
 ghost use Rattle.std.specs.Str.{bytes_eq};
 ghost use Rattle.sha2.specs.Sha256.{sha256};
-ghost use Rattle.mm_check.specs.Listing.{listed};
-ghost use Rattle.mm_check.specs.Lists.{has_message, Lists};
+ghost use Rattle.mm_check.specs.Listing.{messages_with};
+ghost use Rattle.mm_check.specs.Lists.{has_message, ListsMessages};
 
-use crate::digests::Digests;
+use crate::digests::DigestIndex;
 use mm_base::{Bytes, Memory};
 use mm_digest::Digest;
 use sha2::{Digest as _, Sha256};
@@ -18,7 +18,7 @@ use std::collections::BTreeSet;
 #[derive(Drop)]
 pub(crate) struct Numbers {
     seen: BTreeSet<Vec<u8>>,
-    pub digests: Digests,
+    pub digests: DigestIndex,
 }
 
 fn digest_of(message: &[u8]) -> Digest
@@ -45,19 +45,19 @@ fn keep(seen: &mut BTreeSet<Vec<u8>>, alloc: Global, message: &[u8]) -> Result<b
 impl Numbers {
     /// None so far. Takes no memory.
     pub fn new(alloc: Global) -> Numbers
-        ensures { Lists [] result }
+        ensures { ListsMessages [] result }
     {
         Numbers {
             seen: BTreeSet::new(alloc),
-            digests: Digests::new(alloc),
+            digests: DigestIndex::new(alloc),
         }
     }
 
     /// Lists a message, if it hasn't come before.
     pub fn list(&mut self, alloc: Global, message: &[u8]) -> Result<(), Memory>
         requires { self.old.digests.count < 2 ^ 32 - 1 }
-        ensures lists { (seen : List (List ℕ)) → Lists seen self.old
-            → OnOk result (Lists (listed seen message.now) self.new) }
+        ensures lists { (seen : List (List ℕ)) → ListsMessages seen self.old
+            → OnOk result (ListsMessages (messages_with seen message.now) self.new) }
         ensures rises { self.new.digests.count ≤ self.old.digests.count + 1 }
     {
         if keep(&mut self.seen, alloc, message)? {
@@ -69,8 +69,8 @@ impl Numbers {
     /// Lists these messages, one after another.
     pub fn list_all(&mut self, alloc: Global, messages: &[Bytes]) -> Result<(), Memory>
         requires { self.old.digests.count + length messages.now < 2 ^ 32 - 1 }
-        ensures { (seen : List (List ℕ)) → Lists seen self.old
-            → OnOk result (Lists (fold listed seen messages.now) self.new) }
+        ensures { (seen : List (List ℕ)) → ListsMessages seen self.old
+            → OnOk result (ListsMessages (fold messages_with seen messages.now) self.new) }
     {
         'messages: for message in messages {
             self.list(alloc, message.as_slice())?;

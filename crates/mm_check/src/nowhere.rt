@@ -6,9 +6,9 @@ use mm_base::{Failed, Sink};
 
 /// A sink that takes every byte and keeps none.
 #[derive(Drop)]
-pub(crate) struct Nowhere {}
+pub(crate) struct NullSink {}
 
-impl Sink for Nowhere {
+impl Sink for NullSink {
     ghost received = { λ _. None };
 
     ghost faults = { λ _. 0 };

@@ -3,16 +3,16 @@
 ghost use Rattle.std.specs.Prelude.{◌≡◌, ◌≢◌, ◌≤◌, length, IfOk};
 ghost use Rattle.mm_base.specs.Limits.{longest_line};
 ghost use Rattle.mm_schedule.specs.Headers.{header_at};
-ghost use Rattle.mm_check.specs.Checking.{CheckStage, AtHeader, check_answer, check_closing, check_left, headed, read_line};
-ghost use Rattle.mm_check.specs.Counting.{check_counts_down, check_is_short};
+ghost use Rattle.mm_check.specs.CheckStage.{CheckStage, AtHeader, check_answer, check_closing, remaining_check_lines, answer_to_header, answer_to_line};
+ghost use Rattle.mm_check.specs.CheckStageLaws.{check_counts_down, check_is_short};
 ghost use Rattle.mm_check.specs.Steps.{phase_of, check_stage, LineComesTo};
-ghost use Rattle.mm_check.specs.Verdicts.{Concludes};
+ghost use Rattle.mm_check.specs.Verdicts.{StageConcludes};
 
-use crate::comparing::Comparing;
-use crate::reading::Reading;
+use crate::comparing::Comparison;
+use crate::reading::ScheduleReader;
 use crate::verdicts::Verdicts;
 use mm_base::{Bytes, Memory};
-use mm_play::{Player, Refused, ReplyFault};
+use mm_play::{Player, LineRefusal, ReplyFault};
 use mm_schedule::read_header;
 use std::alloc::Global;
 use std::marker::Model;
@@ -21,9 +21,9 @@ use std::marker::Model;
 #[derive(Drop)]
 pub(crate) enum Phase {
     /// Among its events.
-    Events(Reading),
+    Events(ScheduleReader),
     /// Among the recorded lines.
-    Replies(Comparing),
+    Replies(Comparison),
 }
 
 /// Reads a recorded run, and writes nothing. There is no phase before the header.
@@ -40,25 +40,25 @@ impl Model for CheckPlayer {
 
 /// Behind the header of this line.
 fn first_phase(alloc: Global, line: &[u8]) -> Result<Phase, ReplyFault>
-    ensures { LineComesTo phase_of (headed (header_at line.now)) result }
+    ensures { LineComesTo phase_of (answer_to_header (header_at line.now)) result }
 {
     let header = match read_header(line) {
         Some(header) => header,
-        None => return Err(ReplyFault::Refused(Refused::Bad)),
+        None => return Err(ReplyFault::Refused(LineRefusal::Bad)),
     };
-    match Reading::new(alloc, &header) {
+    match ScheduleReader::new(alloc, &header) {
         Ok(reading) => Ok(Phase::Events(reading)),
         Err(_) => Err(ReplyFault::Memory),
     }
 }
 
 /// Behind a line among the events.
-fn read_line(alloc: Global, reading: Reading, line: &[u8]) -> Result<Phase, ReplyFault>
+fn read_line(alloc: Global, reading: ScheduleReader, line: &[u8]) -> Result<Phase, ReplyFault>
     requires { length line.now ≤ longest_line }
-    ensures { LineComesTo phase_of (read_line reading line.now) result }
+    ensures { LineComesTo phase_of (answer_to_line reading line.now) result }
 {
     if line == b"replies".as_slice() {
-        return match Comparing::new(alloc, reading) {
+        return match Comparison::new(alloc, reading) {
             Ok(comparing) => Ok(Phase::Replies(comparing)),
             Err(_) => Err(ReplyFault::Memory),
         };
@@ -89,7 +89,7 @@ impl Player for CheckPlayer {
 
     ghost closing = { check_closing };
 
-    ghost lines_left = { check_left };
+    ghost lines_left = { remaining_check_lines };
 
     fn reply(&mut self, alloc: Global, line: &[u8]) -> Result<Bytes, ReplyFault> {
         let phase = next_phase(alloc, self.phase.take(), line)?;
@@ -120,7 +120,7 @@ impl CheckPlayer {
     /// The verdicts at the end of the input.
     pub fn into_verdicts(self, alloc: Global) -> Result<Verdicts, Memory>
         requires { self ≢ AtHeader }
-        ensures { IfOk result (Concludes self) }
+        ensures { IfOk result (StageConcludes self) }
     {
         let CheckPlayer { phase } = self;
         match phase {

@@ -4,49 +4,49 @@ ghost use Rattle.std.specs.Prelude.{◌≡◌, ◌≤◌, ◌++◌, ◌∷◌, [
 ghost use Rattle.mm_base.specs.Limits.{longest_line};
 ghost use Rattle.mm_schedule.specs.Grammar.{event_at};
 ghost use Rattle.mm_schedule.specs.Replies.{IsPrintable, lines_of_reply};
-ghost use Rattle.mm_run.specs.Held.{world_of};
-ghost use Rattle.mm_check.specs.Checking.{Read, InEvents, first_read, read_event};
+ghost use Rattle.mm_run.specs.WorldState.{world_of};
+ghost use Rattle.mm_check.specs.CheckStage.{RecordedRun, InEvents, first_recorded_run, answer_to_event};
 ghost use Rattle.mm_check.specs.Verdicts.{AreVerdicts, run_lines};
 ghost use Rattle.mm_check.specs.Steps.{LineComesTo, IsEventOf};
 ghost use Rattle.mm_check.specs.Guards.{events_of};
-ghost use Rattle.mm_check.specs.Deciding.{DecidesRun};
+ghost use Rattle.mm_check.specs.PremiseDecision.{DecidesRun};
 
-use crate::deciding::{Decided, decide};
+use crate::deciding::{Decision, decide};
 use crate::difference::difference;
 use crate::lines::{put_last, put_reply};
 use crate::verdicts::Verdicts;
 use mm_base::{Bytes, Memory};
-use mm_play::{Refused, ReplyFault};
-use mm_replay::Progress;
+use mm_play::{LineRefusal, ReplyFault};
+use mm_replay::ReplayProgress;
 use mm_schedule::{Event, EventFault, Header, Reply, read_event};
 use std::alloc::Global;
 use std::marker::Model;
 
 /// The header and the events read, the run of them, and the lines that it writes, each with its LF.
 #[derive(Drop)]
-pub(crate) struct Reading {
+pub(crate) struct ScheduleReader {
     header: Header,
-    progress: Progress,
+    progress: ReplayProgress,
     events: Vec<Event>,
     told: Vec<Bytes>,
 }
 
-impl Model for Reading {
-    ghost use Rattle.mm_replay.specs.Progress.{running};
+impl Model for ScheduleReader {
+    ghost use Rattle.mm_replay.specs.Progress.{running_replay};
     ghost use Rattle.mm_check.specs.Guards.{events_of};
-    ghost use Rattle.mm_check.specs.Checking.{Read};
+    ghost use Rattle.mm_check.specs.CheckStage.{RecordedRun};
     ghost use Rattle.mm_check.specs.Verdicts.{RunsBehind};
 
-    ghost Value = { Read };
+    ghost Value = { RecordedRun };
 
     ghost view = { λ it. record {
       header = it.header;
-      running = running it.progress;
+      running = running_replay it.progress;
       events = events_of it.events.items;
       told = it.told.items;
     } };
 
-    ghost invariant = { λ it. RunsBehind it.header (running it.progress) (events_of it.events.items)
+    ghost invariant = { λ it. RunsBehind it.header (running_replay it.progress) (events_of it.events.items)
         it.told.items };
 }
 
@@ -57,7 +57,7 @@ fn event_in(alloc: Global, line: &[u8]) -> Result<Event, ReplyFault>
     match read_event(alloc, line) {
         Ok(event) => Ok(event),
         Err(EventFault::Memory) => Err(ReplyFault::Memory),
-        Err(EventFault::Bad) => Err(ReplyFault::Refused(Refused::Bad)),
+        Err(EventFault::Bad) => Err(ReplyFault::Refused(LineRefusal::Bad)),
     }
 }
 
@@ -78,13 +78,13 @@ fn remember(
     Ok(())
 }
 
-impl Reading {
+impl ScheduleReader {
     /// Behind the header.
-    pub fn new(alloc: Global, header: &Header) -> Result<Reading, Memory>
-        ensures { IfOk result (λ it. it ≡ first_read header.now) }
+    pub fn new(alloc: Global, header: &Header) -> Result<ScheduleReader, Memory>
+        ensures { IfOk result (λ it. it ≡ first_recorded_run header.now) }
     {
-        let progress = Progress::new(alloc, header)?;
-        Ok(Reading {
+        let progress = ReplayProgress::new(alloc, header)?;
+        Ok(ScheduleReader {
             header: *header,
             progress,
             events: Vec::new(alloc),
@@ -93,9 +93,9 @@ impl Reading {
     }
 
     /// Behind the event of a line.
-    pub fn add_event(mut self, alloc: Global, line: &[u8]) -> Result<Reading, ReplyFault>
+    pub fn add_event(mut self, alloc: Global, line: &[u8]) -> Result<ScheduleReader, ReplyFault>
         requires { length line.now ≤ longest_line }
-        ensures { LineComesTo InEvents (read_event self line.now (event_at line.now)) result }
+        ensures { LineComesTo InEvents (answer_to_event self line.now (event_at line.now)) result }
     {
         let event = event_in(alloc, line)?;
         let reply = self.progress.reply_to_event(line, &event)?;
@@ -106,11 +106,11 @@ impl Reading {
     }
 
     /// What the events come to, for recorded lines to be compared.
-    pub fn decide(self, alloc: Global) -> Result<(Header, Vec<Event>, Decided), Memory>
+    pub fn decide(self, alloc: Global) -> Result<(Header, Vec<Event>, Decision), Memory>
         ensures { IfOk result (λ it. (it.0 ≡ self.header) × (events_of it.1.items ≡ self.events)
             × DecidesRun self.header self.events it.2) }
     {
-        let Reading {
+        let ScheduleReader {
             header,
             progress: _progress,
             events,

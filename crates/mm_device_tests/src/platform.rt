@@ -55,7 +55,7 @@ done 3 => failed yes 1 on
 
 /// A line of the table.
 #[derive(Clone, Copy)]
-struct Row<'a> {
+struct StopCase<'a> {
     stop: Stop,
     answer: &'a str,
     is_written: bool,
@@ -63,13 +63,13 @@ struct Row<'a> {
     is_on: bool,
 }
 
-fn row_of(line: &str) -> Option<Row<'_>> {
+fn row_of(line: &str) -> Option<StopCase<'_>> {
     let (planned, told) = line.split_once(" => ")?;
     let (word, step) = planned.split_once(' ')?;
     let (answer, rest) = told.split_once(' ')?;
     let (written, rest) = rest.split_once(' ')?;
     let (own, on) = rest.split_once(' ')?;
-    Some(Row {
+    Some(StopCase {
         stop: stop_of(word, step_of(step)),
         answer,
         is_written: written == "yes",
@@ -115,7 +115,7 @@ fn call(platform: &mut MemPlatform, stop: Stop) -> Result<&'static str, Fail> {
     Ok(name_of(came))
 }
 
-fn is_left(platform: &MemPlatform, row: &Row<'_>) -> bool {
+fn is_left(platform: &MemPlatform, row: &StopCase<'_>) -> bool {
     let faults = if row.answer == "ok" { 0 } else { 1 };
     (platform.cell()[0] == 1) == row.is_written
         && platform.own_items() == row.own
@@ -123,7 +123,7 @@ fn is_left(platform: &MemPlatform, row: &Row<'_>) -> bool {
 }
 
 // Whether a platform is on or off as is told, and is on after a loss of power, which empties the register alone.
-fn goes_on(platform: &mut MemPlatform, row: &Row<'_>) -> bool {
+fn goes_on(platform: &mut MemPlatform, row: &StopCase<'_>) -> bool {
     let is_on = platform.reg_reset().is_ok();
     let is_cycled = platform.cycle().is_ok();
     let register = platform.reg_read();
@@ -133,12 +133,12 @@ fn goes_on(platform: &mut MemPlatform, row: &Row<'_>) -> bool {
         && (platform.cell()[0] == 1) == row.is_written
 }
 
-fn is_so(platform: &mut MemPlatform, row: &Row<'_>) -> Result<bool, Fail> {
+fn is_so(platform: &mut MemPlatform, row: &StopCase<'_>) -> Result<bool, Fail> {
     let answer = call(platform, row.stop)?;
     Ok(answer == row.answer && is_left(platform, row) && goes_on(platform, row))
 }
 
-fn is_so_anew(alloc: Global, row: &Row<'_>) -> Result<bool, Fail> {
+fn is_so_anew(alloc: Global, row: &StopCase<'_>) -> Result<bool, Fail> {
     let mut platform = MemPlatform::new(alloc, &[0; CELL_LENGTH]);
     is_so(&mut platform, row)
 }

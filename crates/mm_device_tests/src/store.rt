@@ -1,7 +1,7 @@
 //! What no clause says of the store in memory.
 
 ghost use Rattle.std.specs.Prelude.{◌≡◌, Some, true, OnOk};
-ghost use Rattle.mm_store.specs.Slots.{Slots, with_slot, slot_read};
+ghost use Rattle.mm_store.specs.Slots.{Slots, slots_with, slot_front};
 
 use mm_store::{LONGEST_SLOT, MemStore, Store, StoreFault};
 use std::alloc::{AllocError, Global};
@@ -34,7 +34,7 @@ fn put(store: &mut MemStore, slot: u8, bytes: &[u8]) -> Result<(), StoreFault> {
 fn copy_slot<T: Store>(store: &mut T, alloc: Global) -> Result<(), StoreFault>
     ensures { OnOk result ((T.kept store.old).is_honest ≡ true → (slots : Slots)
         → (T.kept store.old).slots ≡ Some slots
-        → (T.kept store.new).slots ≡ Some (with_slot slots 1 (slot_read slots 0))) }
+        → (T.kept store.new).slots ≡ Some (slots_with slots 1 (slot_front slots 0))) }
 {
     let bytes = store.read(alloc, 0)?;
     store.write(1, bytes.as_slice())

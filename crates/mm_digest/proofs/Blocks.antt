@@ -1,12 +1,12 @@
 -- The blocks of HMAC, over plain lists.
 use Rattle.std.proofs.Common.{ℕ, ◌≡◌, ◌+◌, ◌<◌, ◌≤◌, List, [], ◌∷◌, ◌++◌, length, map, get_or, set, take, drop, replicate, bit_xor, ap, sym, ◌∙◌, append_assoc}
 use Rattle.std.proofs.lemmas.List.{drop-replicate, take_more, take_more_set, map-append, take_all}
-use Rattle.mm_digest.specs.HmacWords.{zero_padded, masked}
+use Rattle.mm_digest.specs.HmacWords.{padded_block, masked_block}
 
 -- bytes written in front of a block of zero bytes are padded with zero bytes
-pub zero_padded-parts : (bytes front back : List ℕ) → front ≡ bytes →
-    back ≡ drop (length bytes) (replicate 64 0) → front ++ back ≡ zero_padded bytes
-zero_padded-parts bytes front back e f =
+pub padded_block-parts : (bytes front back : List ℕ) → front ≡ bytes →
+    back ≡ drop (length bytes) (replicate 64 0) → front ++ back ≡ padded_block bytes
+padded_block-parts bytes front back e f =
     ap (λ (x : List ℕ). x ++ back) e ∙ ap (λ (x : List ℕ). bytes ++ x) (f ∙ drop-replicate (length bytes) 64 0)
 
 -- one more byte of a block is masked
@@ -21,7 +21,7 @@ masked-step pad block out i h k e =
 
 -- a block of which every byte is masked
 pub masked-whole : (pad i : ℕ) (block out : List ℕ) → length block ≤ i → length out ≤ i →
-    take i out ≡ map (λ b. bit_xor b pad) (take i block) → out ≡ masked pad block
+    take i out ≡ map (λ b. bit_xor b pad) (take i block) → out ≡ masked_block pad block
 masked-whole pad i block out h k e =
     sym (take_all i out k) ∙ e ∙ ap (λ (x : List ℕ). map (λ b. bit_xor b pad) x) (take_all i block h)
 

@@ -7,8 +7,8 @@ use Rattle.std.specs.Prelude.{slice_index}
 use Rattle.sha2.specs.Sha256.{sha256, digest_bytes, final_hash, initial_hash_256}
 use Rattle.sha2.proofs.Facts256.{length-sha256}
 use Rattle.mm_digest.specs.declared.variant.Variant.{Variant}
-use Rattle.mm_digest.specs.Messages.{IsBytes, zero_bytes, start_of, anchored_of, extended_of}
-use Rattle.mm_digest.specs.MessagesWords.{successor_of, secured_of, successor_batch_of, secured_batch_of}
+use Rattle.mm_digest.specs.Messages.{IsBytes, zero_bytes, start_digest_of, anchored_digest_of, extended_digest_of}
+use Rattle.mm_digest.specs.MessagesWords.{successor_digest_of, secured_digest_of, successor_batch_digest_of, secured_batch_digest_of}
 use Rattle.mm_digest.specs.Hmac.{hmac_of}
 
 four_bytes : (a b c d : ℕ) → a < 256 → b < 256 → c < 256 → d < 256 → IsBytes (a ∷ b ∷ c ∷ d ∷ [])
@@ -20,17 +20,17 @@ pub length-zero_bytes : length zero_bytes ≡ 32
 unfolding zero_bytes
 length-zero_bytes = refl
 
-pub length-start_of : (variant : Variant) (id : ℕ) → length (start_of variant id) ≡ 32
-unfolding start_of
-length-start_of variant id = length-sha256 _
+pub length-start_digest_of : (variant : Variant) (id : ℕ) → length (start_digest_of variant id) ≡ 32
+unfolding start_digest_of
+length-start_digest_of variant id = length-sha256 _
 
-pub length-anchored_of : (a register : List ℕ) → length (anchored_of a register) ≡ 32
-unfolding anchored_of
-length-anchored_of a register = length-sha256 _
+pub length-anchored_digest_of : (a register : List ℕ) → length (anchored_digest_of a register) ≡ 32
+unfolding anchored_digest_of
+length-anchored_digest_of a register = length-sha256 _
 
-pub length-extended_of : (old value : List ℕ) → length (extended_of old value) ≡ 32
-unfolding extended_of
-length-extended_of old value = length-sha256 _
+pub length-extended_digest_of : (old value : List ℕ) → length (extended_digest_of old value) ≡ 32
+unfolding extended_digest_of
+length-extended_digest_of old value = length-sha256 _
 
 pub length-hmac_of : (key text : List ℕ) → length (hmac_of key text) ≡ 32
 unfolding hmac_of

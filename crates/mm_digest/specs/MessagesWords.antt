@@ -18,14 +18,14 @@ successor_batch_message s text = 4 ∷ (s ++ text)
 abbrev pub secured_batch_message : List ℕ → List ℕ → List ℕ
 secured_batch_message barrier text = 5 ∷ (barrier ++ text)
 
-unfoldable pub successor_of : List ℕ → List ℕ → List ℕ
-successor_of s request = sha256 (successor_message s request)
+unfoldable pub successor_digest_of : List ℕ → List ℕ → List ℕ
+successor_digest_of s request = sha256 (successor_message s request)
 
-unfoldable pub secured_of : List ℕ → List ℕ → List ℕ
-secured_of barrier request = sha256 (secured_message barrier request)
+unfoldable pub secured_digest_of : List ℕ → List ℕ → List ℕ
+secured_digest_of barrier request = sha256 (secured_message barrier request)
 
-unfoldable pub successor_batch_of : List ℕ → List ℕ → List ℕ
-successor_batch_of s text = sha256 (successor_batch_message s text)
+unfoldable pub successor_batch_digest_of : List ℕ → List ℕ → List ℕ
+successor_batch_digest_of s text = sha256 (successor_batch_message s text)
 
-unfoldable pub secured_batch_of : List ℕ → List ℕ → List ℕ
-secured_batch_of barrier text = sha256 (secured_batch_message barrier text)
+unfoldable pub secured_batch_digest_of : List ℕ → List ℕ → List ℕ
+secured_batch_digest_of barrier text = sha256 (secured_batch_message barrier text)

@@ -2,8 +2,8 @@
 
 ghost use Rattle.std.specs.Prelude.{◌≡◌, [], ◌∷◌, ◌++◌};
 ghost use Rattle.sha2.specs.Sha256.{sha256};
-ghost use Rattle.mm_digest.specs.Messages.{zero_bytes, start_of, anchored_of, extended_of};
-ghost use Rattle.mm_digest.specs.MessagesWords.{successor_of, secured_of, successor_batch_of, secured_batch_of};
+ghost use Rattle.mm_digest.specs.Messages.{zero_bytes, start_digest_of, anchored_digest_of, extended_digest_of};
+ghost use Rattle.mm_digest.specs.MessagesWords.{successor_digest_of, secured_digest_of, successor_batch_digest_of, secured_batch_digest_of};
 
 use crate::variant::Variant;
 use sha2::{Digest as _, Sha256};
@@ -24,9 +24,9 @@ pub fn zero() -> Digest
 
 /// What a platform of this variant and module starts from: SHA-256 of byte 00, the variant's byte
 /// and the module's id (3 bytes in all).
-#[tactic(auto, unfolding(crate::specs::Messages::start_of))]
+#[tactic(auto, unfolding(crate::specs::Messages::start_digest_of))]
 pub fn start(variant: Variant, id: u8) -> Digest
-    ensures { result.bytes ≡ start_of variant id }
+    ensures { result.bytes ≡ start_digest_of variant id }
 {
     Digest {
         bytes: Sha256::digest(&[0, variant.byte(), id]),
@@ -34,53 +34,53 @@ pub fn start(variant: Variant, id: u8) -> Digest
 }
 
 /// The summary after one more request: SHA-256 of byte 01, the summary and the request.
-#[tactic(auto, unfolding(crate::specs::MessagesWords::successor_of))]
+#[tactic(auto, unfolding(crate::specs::MessagesWords::successor_digest_of))]
 pub fn successor(summary: &Digest, request: &[u8]) -> Digest
-    ensures { result.bytes ≡ successor_of summary.now.bytes request.now }
+    ensures { result.bytes ≡ successor_digest_of summary.now.bytes request.now }
 {
     tagged(1, &summary.bytes, request)
 }
 
 /// The register's value for one request: SHA-256 of byte 02, the barrier and the request.
-#[tactic(auto, unfolding(crate::specs::MessagesWords::secured_of))]
+#[tactic(auto, unfolding(crate::specs::MessagesWords::secured_digest_of))]
 pub fn secured(barrier: &[u8; 32], request: &[u8]) -> Digest
-    ensures { result.bytes ≡ secured_of barrier.now request.now }
+    ensures { result.bytes ≡ secured_digest_of barrier.now request.now }
 {
     tagged(2, barrier, request)
 }
 
 /// The anchor after one more segment: SHA-256 of byte 03, the anchor and the register's value
 /// (65 bytes).
-#[tactic(auto, unfolding(crate::specs::Messages::anchored_of))]
+#[tactic(auto, unfolding(crate::specs::Messages::anchored_digest_of))]
 pub fn anchored(anchor: &Digest, register: &Digest) -> Digest
-    ensures { result.bytes ≡ anchored_of anchor.now.bytes register.now.bytes }
+    ensures { result.bytes ≡ anchored_digest_of anchor.now.bytes register.now.bytes }
 {
     tagged(3, &anchor.bytes, &register.bytes)
 }
 
 /// The summary after a batch of several requests: SHA-256 of byte 04, the summary and the batch's
 /// text, which is its requests joined by TAB.
-#[tactic(auto, unfolding(crate::specs::MessagesWords::successor_batch_of))]
+#[tactic(auto, unfolding(crate::specs::MessagesWords::successor_batch_digest_of))]
 pub fn successor_batch(summary: &Digest, text: &[u8]) -> Digest
-    ensures { result.bytes ≡ successor_batch_of summary.now.bytes text.now }
+    ensures { result.bytes ≡ successor_batch_digest_of summary.now.bytes text.now }
 {
     tagged(4, &summary.bytes, text)
 }
 
 /// The register's value for a batch of several requests: SHA-256 of byte 05, the barrier and the
 /// batch's text, which is its requests joined by TAB.
-#[tactic(auto, unfolding(crate::specs::MessagesWords::secured_batch_of))]
+#[tactic(auto, unfolding(crate::specs::MessagesWords::secured_batch_digest_of))]
 pub fn secured_batch(barrier: &[u8; 32], text: &[u8]) -> Digest
-    ensures { result.bytes ≡ secured_batch_of barrier.now text.now }
+    ensures { result.bytes ≡ secured_batch_digest_of barrier.now text.now }
 {
     tagged(5, barrier, text)
 }
 
 /// What a register holds after it took in a value: SHA-256 of its old value and that value
 /// (64 bytes).
-#[tactic(auto, unfolding(crate::specs::Messages::extended_of))]
+#[tactic(auto, unfolding(crate::specs::Messages::extended_digest_of))]
 pub fn extended(old: &Digest, value: &Digest) -> Digest
-    ensures { result.bytes ≡ extended_of old.now.bytes value.now.bytes }
+    ensures { result.bytes ≡ extended_digest_of old.now.bytes value.now.bytes }
 {
     Digest {
         bytes: Sha256::digest(&joined(&old.bytes, &value.bytes)),

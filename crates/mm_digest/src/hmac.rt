@@ -4,7 +4,7 @@ ghost use Rattle.std.specs.Prelude.{◌≡◌, ◌≤◌, ◌++◌, List, ℕ, l
 ghost use Rattle.sha2.specs.Sha256.{sha256};
 ghost use Rattle.sha2.specs.Hashers.{Holds256};
 ghost use Rattle.mm_digest.specs.Hmac.{hmac_of};
-ghost use Rattle.mm_digest.specs.HmacWords.{zero_padded, key_block, masked};
+ghost use Rattle.mm_digest.specs.HmacWords.{padded_block, key_block, masked_block};
 
 use crate::digest::Digest;
 use sha2::{Digest as _, Sha256};
@@ -17,8 +17,8 @@ pub struct HmacKey {
     key: [u8; 32],
     inner: Sha256,
     outer: Sha256,
-    ghost inner_key: { ∥ Holds256 inner (masked 0x36 (key_block key)) ∥₁ },
-    ghost outer_key: { ∥ Holds256 outer (masked 0x5c (key_block key)) ∥₁ },
+    ghost inner_key: { ∥ Holds256 inner (masked_block 0x36 (key_block key)) ∥₁ },
+    ghost outer_key: { ∥ Holds256 outer (masked_block 0x5c (key_block key)) ∥₁ },
 }
 
 impl Model for HmacKey {
@@ -61,7 +61,7 @@ impl HmacKey {
 
     // The tag of a text that has this digest behind the inner key.
     fn closed(&self, inner: &[u8; 32]) -> Digest
-        ensures { result.bytes ≡ sha256 (masked 0x5c (key_block self.now) ++ inner.now) }
+        ensures { result.bytes ≡ sha256 (masked_block 0x5c (key_block self.now) ++ inner.now) }
     {
         Digest {
             bytes: digest_after(&self.outer, inner),
@@ -118,7 +118,7 @@ fn block_of(key: &[u8]) -> [u8; 64]
 // The bytes, filled up with zero bytes.
 fn padded_with_zeros(bytes: &[u8]) -> [u8; 64]
     requires { length bytes.now ≤ 64 }
-    ensures { result ≡ zero_padded bytes.now }
+    ensures { result ≡ padded_block bytes.now }
 {
     let mut block = [0; 64];
     let (front, _) = block.split_at_mut(bytes.len());
@@ -128,7 +128,7 @@ fn padded_with_zeros(bytes: &[u8]) -> [u8; 64]
 
 // The block with each byte xored with the pad.
 fn masked_by(pad: u8, block: &[u8; 64]) -> [u8; 64]
-    ensures { result ≡ masked pad block.now }
+    ensures { result ≡ masked_block pad block.now }
 {
     let mut out = [0; 64];
     'bytes: for (i, byte) in block.iter().enumerate() {

@@ -12,18 +12,18 @@ use Rattle.mm_base.specs.Limits.{last_position}
 use Rattle.mm_module.specs.Bytes.{is_byte, are_bytes}
 use Rattle.mm_module.specs.LineLaws.{is_unbroken, and-true, and-both, IsText, is_unbroken-decimal, length-decimal}
 use Rattle.mm_module.specs.Meaning.{IsLawful}
-use Rattle.mm_module.specs.PartLaws.{take-front, drop-front, are_bytes-take, are_bytes-append, length-eight, are_bytes-eight, of_eight_bytes-eight}
+use Rattle.mm_module.specs.PartLaws.{take-front, drop-front, are_bytes-take, are_bytes-append, length-eight, are_bytes-eight, number_of_eight_bytes-eight}
 use Rattle.mm_module.specs.TableLaws.{Table, IsTable, IsOutcome, table_by, table_is_lawful}
 use Rattle.mm_module.specs.ValueLaws.{IsValue, value_at-value, is_unbroken-encoded}
 use Rattle.mm_module.specs.Words.{words_of}
 use Rattle.mm_dispenser.specs.Draws.{word_of, word_text, words_text}
-use Rattle.mm_dispenser.specs.Table.{request_of, outcome_of, text_of, seeded_of, state_of, spelling_of, stepped, is_state, dispenser}
-use Rattle.mm_dispenser.specs.declared.dispenser.State.{State}
-use Rattle.mm_dispenser.specs.declared.dispenser.State.TheVariants.{Unset, Seeded}
-use Rattle.mm_dispenser.specs.declared.dispenser.Request.{Request}
-use Rattle.mm_dispenser.specs.declared.dispenser.Request.TheVariants.{Seed, Draw}
-use Rattle.mm_dispenser.specs.declared.dispenser.Says.{Says}
-use Rattle.mm_dispenser.specs.declared.dispenser.Says.TheVariants as says
+use Rattle.mm_dispenser.specs.Table.{request_of, outcome_of, text_of, seeded_state_of, state_of, spelling_of, outcome_of_bytes, is_state, dispenser}
+use Rattle.mm_dispenser.specs.declared.dispenser.DispenserState.{DispenserState}
+use Rattle.mm_dispenser.specs.declared.dispenser.DispenserState.TheVariants.{Unset, Seeded}
+use Rattle.mm_dispenser.specs.declared.dispenser.DispenserRequest.{DispenserRequest}
+use Rattle.mm_dispenser.specs.declared.dispenser.DispenserRequest.TheVariants.{Seed, Draw}
+use Rattle.mm_dispenser.specs.declared.dispenser.DispenserOutput.{DispenserOutput}
+use Rattle.mm_dispenser.specs.declared.dispenser.DispenserOutput.TheVariants as says
 
 -- a seed with a place
 pub record IsSeeded (seed : List ℕ) (place : ℕ) : Type 0 where
@@ -31,12 +31,12 @@ pub record IsSeeded (seed : List ℕ) (place : ℕ) : Type 0 where
   pub within : place ≤ last_position
 
 -- a state that can be spelled
-abbrev pub IsDispenserState : State → Type 0
+abbrev pub IsDispenserState : DispenserState → Type 0
 IsDispenserState Unset = Unit {0}
 IsDispenserState (Seeded seed place) = IsSeeded seed place
 
 -- a request that can be read
-abbrev IsDispenserRequest : Option Request → Type 0
+abbrev IsDispenserRequest : Option DispenserRequest → Type 0
 IsDispenserRequest (Some (Seed seed)) = IsValue seed
 IsDispenserRequest (Some (Draw count)) = count ≤ 16
 IsDispenserRequest None = Unit {0}
@@ -46,19 +46,19 @@ unfolding request_of
 request_of-IsDispenserRequest words = grind (arith, nat_tests, value_at-value)
 
 -- what is said, of at most 16 words
-abbrev pub SaysWords : Says → Type 0
+abbrev pub SaysWords : DispenserOutput → Type 0
 SaysWords (says.Words seed place count) = (place < 2 ^ 64) × (count ≤ 16)
 SaysWords _ = Unit {0}
 
 -- a state that can be spelled and what can be said
-pub outcome_of-IsOutcome : (state : State) (request : List ℕ) → IsDispenserState state
+pub outcome_of-IsOutcome : (state : DispenserState) (request : List ℕ) → IsDispenserState state
     → IsOutcome IsDispenserState SaysWords (outcome_of state (request_of (words_of request)))
 outcome_of-IsOutcome state request good =
     let asked = request_of-IsDispenserRequest (words_of request) in grind (arith, nat_tests)
 
 -- a spelling is read back
-seeded_of-joined : (seed : List ℕ) (place : ℕ) → IsSeeded seed place → seeded_of (seed ++ eight_bytes place) ≡ Some (Seeded seed place)
-seeded_of-joined seed place good =
+seeded_state_of-joined : (seed : List ℕ) (place : ℕ) → IsSeeded seed place → seeded_state_of (seed ++ eight_bytes place) ≡ Some (Seeded seed place)
+seeded_state_of-joined seed place good =
     grind (
       arith,
       nat_tests,
@@ -66,28 +66,28 @@ seeded_of-joined seed place good =
       drop-front 32 seed (eight_bytes place) good.formed.long,
       length-append seed (eight_bytes place),
       length-eight place,
-      of_eight_bytes-eight place,
+      number_of_eight_bytes-eight place,
     )
 
-state_of-spelling_of : (state : State) → IsDispenserState state → state_of (spelling_of state) ≡ Some state
+state_of-spelling_of : (state : DispenserState) → IsDispenserState state → state_of (spelling_of state) ≡ Some state
 unfolding state_of
 state_of-spelling_of Unset good = refl
 state_of-spelling_of (Seeded [] place) good = absurd (omega (arith, good.formed.long))
-state_of-spelling_of (Seeded (x ∷ xs) place) good = seeded_of-joined (x ∷ xs) place good
+state_of-spelling_of (Seeded (x ∷ xs) place) good = seeded_state_of-joined (x ∷ xs) place good
 
 -- a spelled state is good, and has at most 41 bytes
-record IsRead (bytes : List ℕ) (state : State) : Type 0 where
+record IsRead (bytes : List ℕ) (state : DispenserState) : Type 0 where
   good : IsDispenserState state
   short : length bytes ≤ 41
   are : are_bytes bytes ≡ true
 
-seeded-read : (bytes : List ℕ) (state : State) → are_bytes bytes ≡ true
-    → seeded_of bytes ≡ Some state → IsDispenserState state × (length bytes ≤ 40)
+seeded-read : (bytes : List ℕ) (state : DispenserState) → are_bytes bytes ≡ true
+    → seeded_state_of bytes ≡ Some state → IsDispenserState state × (length bytes ≤ 40)
 seeded-read bytes state is read =
     let front = are_bytes-take 32 bytes is in grind (arith, nat_tests, length-take-le 32 bytes)
 
-formed-read : (formed : Bool) (read : Option State) (long : ℕ)
-    → ((state : State) → read ≡ Some state → IsDispenserState state × (long ≤ 40)) → is_some (if formed then read else None) ≡ true
+formed-read : (formed : Bool) (read : Option DispenserState) (long : ℕ)
+    → ((state : DispenserState) → read ≡ Some state → IsDispenserState state × (long ≤ 40)) → is_some (if formed then read else None) ≡ true
     → IsDispenserState (unwrap_or (if formed then read else None) Unset) × (long ≤ 40)
 formed-read true (Some state) long each is = each state refl
 formed-read true None long each is = cc
@@ -99,14 +99,14 @@ state-IsRead [] is = cc
 state-IsRead (form ∷ []) is = grind (arith, nat_tests)
 state-IsRead (form ∷ first ∷ rest) is =
     let w = and-true (are_bytes (form ∷ first ∷ rest)) _ is in
-    let r = formed-read (form == 1) (seeded_of (first ∷ rest)) (length (first ∷ rest))
+    let r = formed-read (form == 1) (seeded_state_of (first ∷ rest)) (length (first ∷ rest))
     (λ state read. seeded-read (first ∷ rest) state (and-true (is_byte form) _ w.0).1 read) w.1 in
     record { good = r.0; short = omega (arith, r.1); are = w.0 }
 
-are_bytes-spelling_of : (state : State) → IsDispenserState state → are_bytes (spelling_of state) ≡ true
+are_bytes-spelling_of : (state : DispenserState) → IsDispenserState state → are_bytes (spelling_of state) ≡ true
 are_bytes-spelling_of state good = grind (arith, are_bytes-append, are_bytes-eight)
 
-is_state-spelling_of : (state : State) → IsDispenserState state → is_state (spelling_of state) ≡ true
+is_state-spelling_of : (state : DispenserState) → IsDispenserState state → is_state (spelling_of state) ≡ true
 unfolding is_state
 is_state-spelling_of state good = and-both _ _ (are_bytes-spelling_of state good) (ap is_some (state_of-spelling_of state good))
 
@@ -141,7 +141,7 @@ unbroken-words_text seed place (suc count) =
     (unbroken-words_text seed (place + 1) count)
 
 -- what is said has at most 170 bytes, with no LF
-text_of-IsText : (said : Says) → SaysWords said → IsText 170 (text_of said)
+text_of-IsText : (said : DispenserOutput) → SaysWords said → IsText 170 (text_of said)
 text_of-IsText said is =
     grind (
       arith,
@@ -153,18 +153,18 @@ text_of-IsText said is =
       unbroken-words_text,
     )
 
-abbrev pub dispenser_table : Table State
+abbrev pub dispenser_table : Table DispenserState
 dispenser_table = table_by Unset (λ bytes. unwrap_or (state_of bytes) Unset) spelling_of request_of outcome_of text_of
 
 pub dispenser_is_table : IsTable dispenser_table dispenser IsDispenserState 41 170
-unfolding stepped
+unfolding outcome_of_bytes
 dispenser_is_table = record {
   begins = refl;
   first = tt;
   reads = λ bytes is. (state-IsRead bytes is).good;
   spells = is_state-spelling_of;
   back = λ state good.
-      ap (λ (read : Option State). unwrap_or read Unset) (state_of-spelling_of state good);
+      ap (λ (read : Option DispenserState). unwrap_or read Unset) (state_of-spelling_of state good);
   next = λ bytes request. refl;
   says = λ bytes request. refl;
   stays = λ state request good. (outcome_of-IsOutcome state request good).state;

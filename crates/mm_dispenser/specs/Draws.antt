@@ -20,5 +20,5 @@ words_text seed place (suc count) =
     word_text (word_of seed place) ++ words_text seed (place + 1) count
 
 -- the place, and so many words from there on
-abbrev pub drawn_text : List ℕ → ℕ → ℕ → List ℕ
-drawn_text seed place count = decimal place ++ words_text seed place count
+abbrev pub text_of_draw : List ℕ → ℕ → ℕ → List ℕ
+text_of_draw seed place count = decimal place ++ words_text seed place count

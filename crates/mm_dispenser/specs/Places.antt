@@ -6,33 +6,33 @@ use Rattle.mm_module.specs.Words.{words_of}
 use Rattle.mm_dispenser.specs.Table.{dispenser}
 
 -- so many places from one on
-pub record PlacesFrom : Type 0 where
+pub record PlaceRange : Type 0 where
   pub from : ℕ
   pub size : ℕ
 
 -- a number, and so many words behind it
-abbrev pub places_in : List (List ℕ) → Option PlacesFrom
+abbrev pub places_in : List (List ℕ) → Option PlaceRange
 places_in [] = None
 places_in (word ∷ words) =
     option_map (λ (n : ℕ). record { from = n; size = length words }) (decimal_number word)
 
 -- The places that an output tells: those from the number on that it begins with, as many as there
 -- are words behind. An output that begins with no number tells none.
-abbrev pub places_told : List ℕ → Option PlacesFrom
-places_told output = places_in (words_of output)
+abbrev pub told_places : List ℕ → Option PlaceRange
+told_places output = places_in (words_of output)
 
 -- the places that the output behind so many tells
-abbrev pub places_at : List (List ℕ) → ℕ → Option PlacesFrom
-places_at outputs i = option_and_then places_told (slice_get outputs i)
+abbrev pub places_at : List (List ℕ) → ℕ → Option PlaceRange
+places_at outputs i = option_and_then told_places (slice_get outputs i)
 
 -- Of two outputs that tell places, the later one's begin at or behind the end of the earlier one's.
-abbrev pub RisesByPlaces : List (List ℕ) → Type 0
-RisesByPlaces outputs =
-    (i j : ℕ) (p q : PlacesFrom) → i < j → places_at outputs i ≡ Some p
+abbrev pub PlacesRise : List (List ℕ) → Type 0
+PlacesRise outputs =
+    (i j : ℕ) (p q : PlaceRange) → i < j → places_at outputs i ≡ Some p
     → places_at outputs j ≡ Some q
     → p.from + p.size ≤ q.from
 
 -- so it is in every run
 abbrev pub PlacesAreToldOnce : Type 0
 PlacesAreToldOnce =
-    (requests : List (List ℕ)) → RisesByPlaces (outputs_from dispenser dispenser.first requests)
+    (requests : List (List ℕ)) → PlacesRise (outputs_from dispenser dispenser.first requests)

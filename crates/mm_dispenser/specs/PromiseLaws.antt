@@ -5,19 +5,19 @@ use Rattle.std.proofs.Common.{inl, inr, ◌∙◌, ap, arith}
 use Rattle.mm_module.specs.Meaning.{outputs_from}
 use Rattle.mm_listing.specs.Tellings.{AreSaid, Telling, WasSaid}
 use Rattle.mm_listing.specs.TellingLaws.{at-place, one-telling}
-use Rattle.mm_dispenser.specs.Places.{PlacesFrom, places_told, places_at, RisesByPlaces}
+use Rattle.mm_dispenser.specs.Places.{PlaceRange, told_places, places_at, PlacesRise}
 use Rattle.mm_dispenser.specs.PlaceLaws.{places-once}
 use Rattle.mm_dispenser.specs.Promise.{KeepsPlacesApart, TellsPlacesOnce}
 use Rattle.mm_dispenser.specs.Table.{dispenser}
 
-places-are : (outputs : List (List ℕ)) (telling : Telling) (p : PlacesFrom) → WasSaid outputs telling → places_told telling.output ≡ Some p
+places-are : (outputs : List (List ℕ)) (telling : Telling) (p : PlaceRange) → WasSaid outputs telling → told_places telling.output ≡ Some p
     → places_at outputs telling.before ≡ Some p
-places-are outputs telling p said is = ap (λ (o : Option (List ℕ)). option_and_then places_told o) said ∙ is
+places-are outputs telling p said is = ap (λ (o : Option (List ℕ)). option_and_then told_places o) said ∙ is
 
 by_order : (a b : ℕ) → (a ≡ b) ⊎ ((a < b) ⊎ (b < a))
 by_order a b = grind arith
 
-places-apart : (outputs : List (List ℕ)) → RisesByPlaces outputs → (tellings : List Telling)
+places-apart : (outputs : List (List ℕ)) → PlacesRise outputs → (tellings : List Telling)
     → AllByRecursion (WasSaid outputs) tellings → TellsPlacesOnce tellings
 places-apart outputs rises tellings said i j a b p q at_a at_b pp qq =
     let one = at-place (WasSaid outputs) tellings i a said at_a in

@@ -2,7 +2,7 @@
 
 ghost use Rattle.std.specs.Prelude.{◌≡◌, ◌+◌, ◌≤◌, None, if◌then◌else◌, IfOk, IsTrue, length};
 ghost use Rattle.mm_module.specs.Words.{words_of};
-ghost use Rattle.mm_dispenser.specs.Table.{IsDrawn, drawing_of, request_of, placed, seeded_of, state_of, outcome_of, drawn_at, text_of, spelling_of, dispenser};
+ghost use Rattle.mm_dispenser.specs.Table.{IsDrawn, draw_of, request_of, state_at_place, seeded_state_of, state_of, outcome_of, outcome_of_draw, text_of, spelling_of, dispenser};
 ghost use Rattle.mm_dispenser.specs.DispenserLaws.{dispenser_is_lawful};
 
 use crate::draws::draw;
@@ -22,21 +22,21 @@ pub struct Dispenser;
 
 /// What a dispenser keeps.
 #[derive(Clone, Copy)]
-enum State {
+enum DispenserState {
     Unset,
     Seeded { seed: [u8; 32], place: u64 },
 }
 
 /// A request to a dispenser.
 #[derive(Clone, Copy)]
-enum Request {
+enum DispenserRequest {
     Seed([u8; 32]),
     Draw(u8),
 }
 
 /// What a dispenser says.
 #[derive(Clone, Copy)]
-enum Says {
+enum DispenserOutput {
     Seeded,
     Taken,
     Unset,
@@ -50,11 +50,11 @@ enum Says {
 }
 
 /// The request for this many words, where they are 1 to 16.
-fn drawing(number: u64) -> Option<Request>
-    ensures { result ≡ drawing_of number }
+fn drawing(number: u64) -> Option<DispenserRequest>
+    ensures { result ≡ draw_of number }
 {
     if 1 <= number && number <= 16 {
-        Some(Request::Draw(number as u8))
+        Some(DispenserRequest::Draw(number as u8))
     } else {
         None
     }
@@ -62,32 +62,32 @@ fn drawing(number: u64) -> Option<Request>
 
 /// The request that these bytes are, where they are one.
 #[tactic(auto, unfolding(crate::specs::Table::request_of))]
-fn read_request(bytes: &[u8]) -> Option<Request>
+fn read_request(bytes: &[u8]) -> Option<DispenserRequest>
     ensures { result ≡ request_of (words_of bytes.now) }
 {
     match Words::of(bytes) {
-        Words::Two(word, seed) if word == b"seed".as_slice() => value_in(seed).map(Request::Seed),
+        Words::Two(word, seed) if word == b"seed".as_slice() => value_in(seed).map(DispenserRequest::Seed),
         Words::Two(word, number) if word == b"draw".as_slice() => drawing(read_decimal(number)?),
         _ => None,
     }
 }
 
 /// The state of a seed and a place, where there is such a place.
-fn seeded(bytes: &[u8], place: u64) -> Option<State>
+fn seeded(bytes: &[u8], place: u64) -> Option<DispenserState>
     requires { length bytes.now ≡ 32 }
-    ensures { result ≡ placed bytes.now place }
+    ensures { result ≡ state_at_place bytes.now place }
 {
     if place > LAST_POSITION {
         return None;
     }
     let mut seed = [0; 32];
     seed.copy_from_slice(bytes);
-    Some(State::Seeded { seed, place })
+    Some(DispenserState::Seeded { seed, place })
 }
 
 /// The state of these bytes, where they are a seed and a place.
-fn read_seeded(bytes: &[u8]) -> Option<State>
-    ensures { result ≡ seeded_of bytes.now }
+fn read_seeded(bytes: &[u8]) -> Option<DispenserState>
+    ensures { result ≡ seeded_state_of bytes.now }
 {
     if bytes.len() != 40 {
         return None;
@@ -98,66 +98,66 @@ fn read_seeded(bytes: &[u8]) -> Option<State>
 
 /// The state that these bytes spell, where they spell one.
 #[tactic(auto, unfolding(crate::specs::Table::state_of))]
-fn read_state(bytes: &[u8]) -> Option<State>
+fn read_state(bytes: &[u8]) -> Option<DispenserState>
     ensures { result ≡ state_of bytes.now }
 {
     match bytes {
-        [0] => Some(State::Unset),
+        [0] => Some(DispenserState::Unset),
         [1, _, ..] => read_seeded(&bytes[1..]),
         _ => None,
     }
 }
 
 /// What a draw does to a seeded state.
-fn drawn(seed: [u8; 32], place: u64, count: u8) -> (State, Says)
-    ensures { result ≡ drawn_at seed place count }
+fn drawn(seed: [u8; 32], place: u64, count: u8) -> (DispenserState, DispenserOutput)
+    ensures { result ≡ outcome_of_draw seed place count }
 {
     match place.checked_add(u64::from(count)) {
         Some(next) if next <= LAST_POSITION => {
-            let state = State::Seeded { seed, place: next };
-            (state, Says::Words { seed, place, count })
+            let state = DispenserState::Seeded { seed, place: next };
+            (state, DispenserOutput::Words { seed, place, count })
         }
-        _ => (State::Seeded { seed, place }, Says::Full),
+        _ => (DispenserState::Seeded { seed, place }, DispenserOutput::Full),
     }
 }
 
 /// What a request does, and what is said.
-fn outcome(state: State, request: Option<Request>) -> (State, Says)
+fn outcome(state: DispenserState, request: Option<DispenserRequest>) -> (DispenserState, DispenserOutput)
     ensures { result ≡ outcome_of state request }
 {
     let Some(request) = request else {
-        return (state, Says::Bad);
+        return (state, DispenserOutput::Bad);
     };
     match (state, request) {
-        (State::Unset, Request::Seed(seed)) => (State::Seeded { seed, place: 0 }, Says::Seeded),
-        (State::Unset, Request::Draw(_)) => (state, Says::Unset),
-        (State::Seeded { .. }, Request::Seed(_)) => (state, Says::Taken),
-        (State::Seeded { seed, place }, Request::Draw(count)) => drawn(seed, place, count),
+        (DispenserState::Unset, DispenserRequest::Seed(seed)) => (DispenserState::Seeded { seed, place: 0 }, DispenserOutput::Seeded),
+        (DispenserState::Unset, DispenserRequest::Draw(_)) => (state, DispenserOutput::Unset),
+        (DispenserState::Seeded { .. }, DispenserRequest::Seed(_)) => (state, DispenserOutput::Taken),
+        (DispenserState::Seeded { seed, place }, DispenserRequest::Draw(count)) => drawn(seed, place, count),
     }
 }
 
 /// The text of what is said.
-fn text(alloc: Global, says: Says) -> Result<Bytes, Memory>
+fn text(alloc: Global, says: DispenserOutput) -> Result<Bytes, Memory>
     requires { IsDrawn says }
     ensures { IfOk result (λ text. text ≡ text_of says) }
 {
     match says {
-        Says::Seeded => Bytes::copy_of(alloc, b"seeded"),
-        Says::Taken => Bytes::copy_of(alloc, b"taken"),
-        Says::Unset => Bytes::copy_of(alloc, b"unset"),
-        Says::Full => Bytes::copy_of(alloc, b"full"),
-        Says::Words { seed, place, count } => draw(alloc, &seed, place, count),
-        Says::Bad => Bytes::copy_of(alloc, b"bad"),
+        DispenserOutput::Seeded => Bytes::copy_of(alloc, b"seeded"),
+        DispenserOutput::Taken => Bytes::copy_of(alloc, b"taken"),
+        DispenserOutput::Unset => Bytes::copy_of(alloc, b"unset"),
+        DispenserOutput::Full => Bytes::copy_of(alloc, b"full"),
+        DispenserOutput::Words { seed, place, count } => draw(alloc, &seed, place, count),
+        DispenserOutput::Bad => Bytes::copy_of(alloc, b"bad"),
     }
 }
 
 /// The bytes of a state.
-fn spelled(alloc: Global, state: State) -> Result<Bytes, Memory>
+fn spelled(alloc: Global, state: DispenserState) -> Result<Bytes, Memory>
     ensures { IfOk result (λ bytes. bytes ≡ spelling_of state) }
 {
     match state {
-        State::Unset => Bytes::copy_of(alloc, &[0]),
-        State::Seeded { seed, place } => {
+        DispenserState::Unset => Bytes::copy_of(alloc, &[0]),
+        DispenserState::Seeded { seed, place } => {
             let mut bytes = Bytes::with_capacity(alloc, 41)?;
             bytes.push(1)?;
             bytes.append(&seed)?;
@@ -167,7 +167,7 @@ fn spelled(alloc: Global, state: State) -> Result<Bytes, Memory>
     }
 }
 
-#[tactic(auto, unfolding(crate::specs::Table::stepped))]
+#[tactic(auto, unfolding(crate::specs::Table::outcome_of_bytes))]
 impl Module for Dispenser {
     ghost meaning = { λ _. dispenser };
 
@@ -186,7 +186,7 @@ impl Module for Dispenser {
     }
 
     fn step(&self, alloc: Global, state: &[u8], request: &[u8]) -> Result<Stepped, Memory> {
-        let state = read_state(state).unwrap_or(State::Unset);
+        let state = read_state(state).unwrap_or(DispenserState::Unset);
         let (state, says) = outcome(state, read_request(request));
         Ok(Stepped {
             state: spelled(alloc, state)?,

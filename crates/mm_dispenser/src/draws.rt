@@ -4,7 +4,7 @@ ghost use Rattle.std.specs.Prelude.{◌≡◌, ◌+◌, ◌≤◌, ◌++◌, IfO
 ghost use Rattle.std.specs.Int.{w32, to_be_bytes};
 ghost use Rattle.hex.specs.Hex.{encode_lower};
 ghost use Rattle.mm_base.specs.Limits.{last_position};
-ghost use Rattle.mm_dispenser.specs.Draws.{word_text, drawn_text};
+ghost use Rattle.mm_dispenser.specs.Draws.{word_text, text_of_draw};
 
 use mm_base::{Bytes, Memory, put_decimal};
 use rand_chacha::ChaCha20Rng;
@@ -37,7 +37,7 @@ fn put_word(text: &mut Bytes, word: u32) -> Result<(), Memory>
 #[tactic(auto, unfolding(crate::specs::Draws::word_of))]
 pub fn draw(alloc: Global, seed: &[u8; 32], place: u64, count: u8) -> Result<Bytes, Memory>
     requires { place + count ≤ last_position }
-    ensures { IfOk result (λ text. text ≡ drawn_text seed.now place count) }
+    ensures { IfOk result (λ text. text ≡ text_of_draw seed.now place count) }
 {
     let mut words = ChaCha20Rng::from_seed(*seed);
     words.set_word_pos(u128::from(place));

@@ -2,7 +2,7 @@
 
 ghost use Rattle.std.specs.Prelude.{◌≡◌, IfErr};
 ghost use Rattle.mm_base.specs.Faults.{CountsFaults};
-ghost use Rattle.mm_files.specs.Untold.{none_are, untold};
+ghost use Rattle.mm_files.specs.UntoldDevices.{none_are, untold_standing};
 
 use crate::driver::Driver;
 use mm_base::{Failed, Memory};
@@ -50,7 +50,7 @@ fn told<T>(faults: &mut u64, answer: Result<T, Failed>) -> Result<T, StepFault>
 }
 
 impl<D: Driver> Device for DrivenPlatform<D> {
-    ghost standing = { λ it. untold it.steps it.cycles it.faults };
+    ghost standing = { λ it. untold_standing it.steps it.cycles it.faults };
 }
 
 impl<D: Driver> RawNv for DrivenPlatform<D> {

@@ -25,23 +25,23 @@ pub use Rattle.mm_model.specs.Chains.{guard}
 pub use Rattle.mm_model.specs.History.{first_history, History, total_of}
 pub use Rattle.mm_model.specs.Instance.{Instance}
 pub use Rattle.mm_model.specs.Messages.{AreNoGuards, IsClear}
-pub use Rattle.mm_model.specs.Places.{Names}
+pub use Rattle.mm_model.specs.Places.{NamesPosition}
 pub use Rattle.mm_model.specs.Standing.{IsGenuine, IsRight}
-pub use Rattle.mm_call.specs.Found.{right_content}
-pub use Rattle.mm_call.specs.Levels.{by_lists}
+pub use Rattle.mm_call.specs.CallFinding.{right_content}
+pub use Rattle.mm_call.specs.Levels.{list_level}
 pub use Rattle.mm_call.specs.OfferLaws.{one_content, right_of}
 pub use Rattle.mm_call.specs.Standing.{instance_by}
 pub use Rattle.mm_schedule.specs.Events.{Ask, Checkpoint, Event, Extend, Power}
 pub use Rattle.mm_schedule.specs.declared.event.Offer.{Offer}
 pub use Rattle.mm_schedule.specs.declared.event.Offer.TheVariants.{Flip, Last, Number, Raw}
 pub use Rattle.mm_history.specs.Naming.{BasicNamesAreDecided, is_named, IsDecided, OptNamesAreDecided}
-pub use Rattle.mm_run.specs.Folds.{event_outcome, expected, first_issued, followed, Followed}
+pub use Rattle.mm_run.specs.Folds.{event_outcome, outcome_by_lists, first_issued, outcome_of_events, RunOutcome}
 pub use Rattle.mm_run.specs.Laws.{IsIssued, IssuedNamePositions}
-pub use Rattle.mm_run.specs.Offered.{offered_bytes}
+pub use Rattle.mm_run.specs.EventOffers.{offered_bytes}
 pub use Rattle.mm_run.specs.OneRun.{FrontsAreOneRun}
 pub use Rattle.mm_run.specs.Premises.{AreApartIn, AreGenuine, asked_batches, foreign_values, IsClearRun, IsGenuineEvent}
 pub use Rattle.mm_run.specs.Premises.{IsGenuineOffer, IsGenuineRun, run_messages}
 pub use Rattle.mm_evidence.specs.Evidence.{clash, collision, forgery, guarded, HasClash, HasEvidence, IsForged, zero_digest}
 pub use Rattle.mm_evidence.specs.Laws.{ForgedAreNew, FrontsAreLongest, IsDecidedRun, IsMadeUp, IsOneRunOrEvidence}
-pub use Rattle.mm_evidence.specs.Laws.{IsUnbroken, RunsUntil, StopsAt}
+pub use Rattle.mm_evidence.specs.Laws.{IsFrontWithoutEvidence, RunsUntil, StopsAt}
 pub use Rattle.mm_evidence.specs.Laws.{RepliesAreOneRun}

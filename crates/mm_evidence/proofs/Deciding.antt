@@ -3,10 +3,10 @@ use Rattle.mm_evidence.proofs.Below.{IsClear}
 use Rattle.mm_evidence.proofs.Below.{◌≡◌, ◌≢◌, ◌∙◌, ◌&&◌, ◌⊎◌, ◌++◌, ◌∷◌, ap, Bool, true, false, List, [], ℕ, Option, None, Some, inl, inr}
 use Rattle.mm_evidence.proofs.Below.{refl, sym, subst, not, Decides, Decides-and, Decides-not, Contains, bytes_eq, bytes_eq-Decides}
 use Rattle.mm_evidence.proofs.Below.{sha256, zero_bytes, Variant, Basic, Opt, parts_of, Content, Batch}
-use Rattle.mm_evidence.proofs.Below.{Meaning, guard, first_history, History, Instance, AreNoGuards, Names, IsGenuine, IsRight}
-use Rattle.mm_evidence.proofs.Below.{right_content, by_lists, one_content, right_of, instance_by, Ask, Checkpoint, Event, Extend}
+use Rattle.mm_evidence.proofs.Below.{Meaning, guard, first_history, History, Instance, AreNoGuards, NamesPosition, IsGenuine, IsRight}
+use Rattle.mm_evidence.proofs.Below.{right_content, list_level, one_content, right_of, instance_by, Ask, Checkpoint, Event, Extend}
 use Rattle.mm_evidence.proofs.Below.{Power, is_named, IsDecided, BasicNamesAreDecided, OptNamesAreDecided, event_outcome}
-use Rattle.mm_evidence.proofs.Below.{expected, first_issued, followed, Followed, AreApartIn, AreGenuine, asked_batches, foreign_values, IsClearRun}
+use Rattle.mm_evidence.proofs.Below.{outcome_by_lists, first_issued, outcome_of_events, RunOutcome, AreApartIn, AreGenuine, asked_batches, foreign_values, IsClearRun}
 use Rattle.mm_evidence.proofs.Below.{IsGenuineEvent, IsGenuineOffer, IsGenuineRun, run_messages, clash, collision, forgery, guarded}
 use Rattle.mm_evidence.proofs.Below.{HasClash, HasEvidence, IsForged, offered_bytes, zero_digest, IsDecidedRun}
 use Rattle.mm_run.proofs.Above.{said_of}
@@ -91,18 +91,18 @@ event_offer issued event = None
 
 -- an event that offers what is forged asks
 pub forgery_by : (i : Instance) (events before : List Event) (event : Event) (later : List Event) → events ≡ before ++ event ∷ later
-    → IsForged i (expected i before).state (event_offer (expected i before).issued event) → HasEvidence i events
+    → IsForged i (outcome_by_lists i before).state (event_offer (outcome_by_lists i before).issued event) → HasEvidence i events
 forgery_by i events before (Ask meddles stop offer b) later split forged = forgery before later meddles stop offer b split forged
 forgery_by i events before (Checkpoint meddles stop) later split forged = let clash : None ≡ Some forged.bytes = forged.offers in cc
 forgery_by i events before Power later split forged = let clash : None ≡ Some forged.bytes = forged.offers in cc
 forgery_by i events before (Extend value) later split forged = let clash : None ≡ Some forged.bytes = forged.offers in cc
 
 -- of an instance whose names are decided
-module _ (i : Instance) (named : (y : History) (content : Content) → IsDecided (is_named i y content) (Names i y content)) where
-  by_name : (y : History) (bytes : List ℕ) (content : Content) → IsRight i bytes content → (r : Bool) → IsDecided r (Names i y content)
+module _ (i : Instance) (named : (y : History) (content : Content) → IsDecided (is_named i y content) (NamesPosition i y content)) where
+  by_name : (y : History) (bytes : List ℕ) (content : Content) → IsRight i bytes content → (r : Bool) → IsDecided r (NamesPosition i y content)
       → IsForged i y (Some bytes) ⊎ IsGenuine i y bytes
   by_name y bytes content right true is =
-      inr (λ other r. subst (λ (c : Content). Names i y c) (one_content i bytes content other right r) is)
+      inr (λ other r. subst (λ (c : Content). NamesPosition i y c) (one_content i bytes content other right r) is)
   by_name y bytes content right false is =
       inl (record { bytes = bytes; content = content; offers = refl; right = right; unnamed = is })
 
@@ -131,12 +131,12 @@ module _ (i : Instance) (named : (y : History) (content : Content) → IsDecided
     pub later : List Event
     pub split : events ≡ before ++ event ∷ later
     pub genuine : AreGenuine i y issued before
-    pub forged : (let f : Followed History = followed i (by_lists i) y issued before in IsForged i f.state (event_offer f.issued event))
+    pub forged : (let f : RunOutcome History = outcome_of_events i (list_level i) y issued before in IsForged i f.state (event_offer f.issued event))
 
   pub genuine_or : (events : List Event) (y : History) (issued : List (List ℕ)) → ForgesFrom y issued events ⊎ AreGenuine i y issued events
   genuine_or [] y issued = inr tt
   genuine_or (event ∷ events) y issued =
-      let o = event_outcome i (by_lists i) y issued event in
+      let o = event_outcome i (list_level i) y issued event in
       elim (event_or y issued event) [
         | inl here ↦ inl (record { before = []; event = event; later = events; split = refl; genuine = tt; forged = here })
         | inr fine ↦ elim (genuine_or events o.state o.issued) [
@@ -177,10 +177,10 @@ module _ (i : Instance) where
 
   genuine_apart : (before : List Event) (event : Event) (later : List Event) (y : History) (issued : List (List ℕ))
       → AreGenuine i y issued (before ++ event ∷ later)
-      → (let f : Followed History = followed i (by_lists i) y issued before in IsForged i f.state (event_offer f.issued event)) → ⊥
+      → (let f : RunOutcome History = outcome_of_events i (list_level i) y issued before in IsForged i f.state (event_offer f.issued event)) → ⊥
   genuine_apart [] event later y issued genuine forged = event_apart y issued event forged genuine.0
   genuine_apart (x ∷ before) event later y issued genuine forged =
-      let o = event_outcome i (by_lists i) y issued x in genuine_apart before event later o.state o.issued genuine.1 forged
+      let o = event_outcome i (list_level i) y issued x in genuine_apart before event later o.state o.issued genuine.1 forged
 
   both_apart : (events : List Event) → IsClearRun i events → IsGenuineRun i events → HasEvidence i events → ⊥
   both_apart events clear genuine (clash c) =
@@ -192,7 +192,7 @@ module _ (i : Instance) where
 -- names are decided in either variant
 pub names_by : BasicNamesAreDecided → OptNamesAreDecided → (variant : Variant) (meaning : Meaning) (key barrier : List ℕ)
     → (let i = instance_by variant meaning key barrier in
-    (y : History) (content : Content) → IsDecided (is_named i y content) (Names i y content))
+    (y : History) (content : Content) → IsDecided (is_named i y content) (NamesPosition i y content))
 names_by basic opt Basic meaning key barrier = basic meaning key
 names_by basic opt Opt meaning key barrier = opt meaning key barrier
 

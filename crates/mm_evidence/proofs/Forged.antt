@@ -5,7 +5,7 @@ use Rattle.mm_evidence.proofs.Below.{get_or_from_slice_get, slice_get_within}
 use Rattle.mm_evidence.proofs.Below.{IsLawful}
 use Rattle.mm_evidence.proofs.Below.{History}
 use Rattle.mm_evidence.proofs.Below.{total_of, Instance, Event, Offer}
-use Rattle.mm_evidence.proofs.Below.{Flip, Last, Number, Raw, ◌-◌, expected, IsIssued, IssuedNamePositions, offered_bytes, IsForged}
+use Rattle.mm_evidence.proofs.Below.{Flip, Last, Number, Raw, ◌-◌, outcome_by_lists, IsIssued, IssuedNamePositions, offered_bytes, IsForged}
 use Rattle.mm_evidence.proofs.Below.{ForgedAreNew, IsMadeUp}
 use Rattle.mm_run.proofs.Above.{issued_names}
 
@@ -31,9 +31,9 @@ module _ (i : Instance) (y : History) (lawful : IsLawful i.meaning) (few : total
     made_up (Raw bytes) f = tt
 
 pub forged_new : (i : Instance) → IssuedNamePositions i → (events : List Event) → IsLawful i.meaning
-    → total_of (expected i events).state.batches ≤ last_position → ForgedAreNew i events
+    → total_of (outcome_by_lists i events).state.batches ≤ last_position → ForgedAreNew i events
 forged_new i named events lawful few =
-    let it = expected i events in
+    let it = outcome_by_lists i events in
     record {
       unissued = unissued i it.state lawful few it.issued (named events);
       made_up = made_up i it.state lawful few it.issued (named events);

@@ -1,6 +1,6 @@
 -- The events before the first one that gives evidence: what holds of each first part that meets the premises holds of each of theirs.
 use Rattle.mm_evidence.proofs.Below.{◌≡◌, ◌∙◌, ◌⊎◌, ◌++◌, ◌∷◌, ap, List, [], inl, inr, refl, sym, subst, append_assoc, append-nil, Instance}
-use Rattle.mm_evidence.proofs.Below.{Event, IsClearRun, IsGenuineRun, HasEvidence, IsUnbroken, RunsUntil, StopsAt, FrontsAreLongest}
+use Rattle.mm_evidence.proofs.Below.{Event, IsClearRun, IsGenuineRun, HasEvidence, IsFrontWithoutEvidence, RunsUntil, StopsAt, FrontsAreLongest}
 use Rattle.mm_evidence.proofs.Below.{IsDecidedRun, FrontsAreOneRun, RepliesAreOneRun, IsOneRunOrEvidence}
 use Rattle.mm_evidence.proofs.FrontCases.{fronts_cases}
 
@@ -61,12 +61,12 @@ module _ (i : Instance) (decided : (events : List Event) → IsDecidedRun i even
     }
   ]
 
-  pub unbroken : (events : List Event) → (front : List Event) × IsUnbroken i events front
+  pub unbroken : (events : List Event) → (front : List Event) × IsFrontWithoutEvidence i events front
   unbroken events = let r = unbroken_from events [] in
       (r.front, record { rest = r.later; split = r.split; clean = r.clean; stops = r.stops })
 
   -- so many first ones meet the premises
-  meets : (events front : List Event) → IsUnbroken i events front → (first : List Event) (event : Event) (later : List Event)
+  meets : (events front : List Event) → IsFrontWithoutEvidence i events front → (first : List Event) (event : Event) (later : List Event)
       → front ≡ first ++ event ∷ later → IsClearRun i (first ++ event ∷ []) × IsGenuineRun i (first ++ event ∷ [])
   meets events front u first event later is = elim ((decided (first ++ event ∷ [])).decided) [
     | inl p ↦ p
@@ -100,14 +100,14 @@ module _ (i : Instance) (decided : (events : List Event) → IsDecidedRun i even
         → HasEvidence i (front ++ next ∷ [])
     next_evidence front rest next later stops is = subst (StopsAt i front) is stops
 
-    alone : (events f g : List Event) → IsUnbroken i events f → IsUnbroken i events g → g ≡ f
+    alone : (events f g : List Event) → IsFrontWithoutEvidence i events f → IsFrontWithoutEvidence i events g → g ≡ f
     alone events f g u v = elim (fronts_cases f g u.rest v.rest (sym u.split ∙ v.split)) [
       | inl same ↦ sym same
       | inr (inl l) ↦ absurd (v.clean f l.next l.more l.is (next_evidence f u.rest l.next (l.more ++ v.rest) u.stops l.rest))
       | inr (inr l) ↦ absurd (u.clean g l.next l.more l.is (next_evidence g v.rest l.next (l.more ++ u.rest) v.stops l.rest))
     ]
 
-    longest : (events front : List Event) → IsUnbroken i events front → (first later : List Event) → events ≡ first ++ later
+    longest : (events front : List Event) → IsFrontWithoutEvidence i events front → (first later : List Event) → events ≡ first ++ later
         → IsClearRun i first → IsGenuineRun i first → (more : List Event) × (front ≡ first ++ more)
     longest events front u first later is clear genuine = elim (fronts_cases first front later u.rest (sym is ∙ u.split)) [
       | inl same ↦ ([], sym same ∙ sym (append-nil first))

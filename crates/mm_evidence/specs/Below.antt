@@ -7,14 +7,14 @@ pub use Rattle.mm_module.specs.Batch.{Batch}
 pub use Rattle.mm_model.specs.Chains.{guard}
 pub use Rattle.mm_model.specs.History.{History}
 pub use Rattle.mm_model.specs.Instance.{Instance}
-pub use Rattle.mm_model.specs.Places.{Names}
+pub use Rattle.mm_model.specs.Places.{NamesPosition}
 pub use Rattle.mm_model.specs.Standing.{IsRight}
 pub use Rattle.mm_platform.specs.declared.plan.Meddle.{Meddle}
 pub use Rattle.mm_platform.specs.declared.plan.Stop.{Stop}
 pub use Rattle.mm_schedule.specs.Events.{Ask, Event}
 pub use Rattle.mm_schedule.specs.declared.event.Offer.{Offer}
 pub use Rattle.mm_schedule.specs.declared.event.Offer.TheVariants.{Flip, Raw}
-pub use Rattle.mm_run.specs.Folds.{expected, replies_by_digests}
-pub use Rattle.mm_run.specs.Offered.{offered_bytes}
+pub use Rattle.mm_run.specs.Folds.{outcome_by_lists, outcome_by_digests}
+pub use Rattle.mm_run.specs.EventOffers.{offered_bytes}
 pub use Rattle.mm_run.specs.OneRun.{IsOneRun}
 pub use Rattle.mm_run.specs.Premises.{IsClearRun, IsGenuineRun, asked_batches, foreign_values, run_messages}

@@ -3,7 +3,7 @@
 use Rattle.std.specs.Prelude.{◌≡◌, ◌≢◌, ℕ, List, ◌∷◌, ◌++◌, Option, Some}
 use Rattle.std.specs.List.{Contains}
 use Rattle.mm_evidence.specs.Below.{sha256, zero_bytes, Opt, Content, Batch, guard, History, Instance, Meddle, Stop, Offer}
-use Rattle.mm_evidence.specs.Below.{Names, IsRight, Ask, Event, expected}
+use Rattle.mm_evidence.specs.Below.{NamesPosition, IsRight, Ask, Event, outcome_by_lists}
 use Rattle.mm_evidence.specs.Below.{offered_bytes, run_messages, foreign_values, asked_batches}
 
 -- The evidence in messages, and in values of others and batches: two different messages have one
@@ -24,7 +24,7 @@ pub record IsForged (i : Instance) (y : History) (offered : Option (List ℕ)) :
   pub content : Content
   pub offers : offered ≡ Some bytes
   pub right : IsRight i bytes content
-  pub unnamed : Names i y content → ⊥
+  pub unnamed : NamesPosition i y content → ⊥
 
 -- The evidence that events give: their messages clash, or others bring the guard of a batch that is
 -- asked; or what one event offers is forged, by the history before it.
@@ -33,5 +33,5 @@ pub data HasEvidence (i : Instance) (events : List Event) : Type 0 where
       → HasEvidence i events
   forgery : (before later : List Event) (meddles : List Meddle) (stop : Stop) (offer : Offer)
       (batch : Batch) → events ≡ before ++ Ask meddles stop offer batch ∷ later
-      → IsForged i (expected i before).state (offered_bytes (expected i before).issued offer)
+      → IsForged i (outcome_by_lists i before).state (offered_bytes (outcome_by_lists i before).issued offer)
       → HasEvidence i events

@@ -2,7 +2,7 @@
 use Rattle.std.specs.Prelude.{◌≡◌, ◌⊎◌, ℕ, List, [], ◌∷◌, ◌++◌, Some}
 use Rattle.std.specs.List.{Contains}
 use Rattle.mm_evidence.specs.Below.{Instance, Event, Offer, Flip, Raw}
-use Rattle.mm_evidence.specs.Below.{expected, replies_by_digests, IsOneRun}
+use Rattle.mm_evidence.specs.Below.{outcome_by_lists, outcome_by_digests, IsOneRun}
 use Rattle.mm_evidence.specs.Below.{IsClearRun, IsGenuineRun, offered_bytes}
 use Rattle.mm_evidence.specs.Evidence.{HasEvidence, IsForged}
 
@@ -12,7 +12,7 @@ StopsAt i front [] = Unit {0}
 StopsAt i front (event ∷ later) = HasEvidence i (front ++ event ∷ [])
 
 -- These are the events before the first one that gives evidence.
-pub record IsUnbroken (i : Instance) (events front : List Event) : Type 0 where
+pub record IsFrontWithoutEvidence (i : Instance) (events front : List Event) : Type 0 where
   pub rest : List Event
   pub split : events ≡ front ++ rest
   pub clean : (first : List Event) (event : Event) (later : List Event)
@@ -23,7 +23,7 @@ pub record IsUnbroken (i : Instance) (events front : List Event) : Type 0 where
 pub record RunsUntil (i : Instance) (events : List Event) (Holds : List Event → Type 0) : Type 0
   where
     pub front : List Event
-    pub unbroken : IsUnbroken i events front
+    pub unbroken : IsFrontWithoutEvidence i events front
     pub one_run : (first later : List Event) → front ≡ first ++ later → Holds first
 
 -- A run meets the premises, or gives evidence; and never both.
@@ -34,13 +34,13 @@ pub record IsDecidedRun (i : Instance) (events : List Event) : Type 0 where
 -- The replies to the events, as they are by digests, are one run of the module.
 abbrev pub RepliesAreOneRun : Instance → List Event → Type 0
 RepliesAreOneRun i events =
-    let it = replies_by_digests i events in
+    let it = outcome_by_digests i events in
     IsOneRun i events it.replies it.state.count it.issued
 
 -- The events before the first one that gives evidence are these alone; if there are any, they meet
 -- the premises; and so many first ones as meet them are among these.
 pub record IsLongest (i : Instance) (events front : List Event) : Type 0 where
-  pub alone : (other : List Event) → IsUnbroken i events other → other ≡ front
+  pub alone : (other : List Event) → IsFrontWithoutEvidence i events other → other ≡ front
   pub meets : (first : List Event) (event : Event) (later : List Event)
       → front ≡ first ++ event ∷ later
       → IsClearRun i (first ++ event ∷ []) × IsGenuineRun i (first ++ event ∷ [])
@@ -53,7 +53,7 @@ IsOneRunOrEvidence i events = RunsUntil i events (RepliesAreOneRun i)
 
 abbrev pub FrontsAreLongest : Instance → List Event → Type 0
 FrontsAreLongest i events =
-    (front : List Event) → IsUnbroken i events front → IsLongest i events front
+    (front : List Event) → IsFrontWithoutEvidence i events front → IsLongest i events front
 
 -- the offer has bytes of its own, or changes those of an issued snapshot
 abbrev pub IsMadeUp : Offer → Type 0
@@ -64,8 +64,8 @@ IsMadeUp offer = ⊥
 -- What is forged is none of the snapshots issued, whichever event offers it: its offer is one of
 -- bytes of its own, or of a changed snapshot.
 pub record ForgedAreNew (i : Instance) (events : List Event) : Type 0 where
-  pub unissued : (offered : List ℕ) → IsForged i (expected i events).state (Some offered)
-      → Contains (expected i events).issued offered → ⊥
+  pub unissued : (offered : List ℕ) → IsForged i (outcome_by_lists i events).state (Some offered)
+      → Contains (outcome_by_lists i events).issued offered → ⊥
   pub made_up : (offer : Offer)
-      → IsForged i (expected i events).state (offered_bytes (expected i events).issued offer)
+      → IsForged i (outcome_by_lists i events).state (offered_bytes (outcome_by_lists i events).issued offer)
       → IsMadeUp offer

@@ -7,7 +7,7 @@ ghost use Rattle.mm_module.specs.Meaning.{IsLawful, Meaning};
 ghost use Rattle.mm_model.specs.History.{total_of};
 ghost use Rattle.mm_call.specs.Standing.{instance_by};
 ghost use Rattle.mm_schedule.specs.Events.{Event};
-ghost use Rattle.mm_run.specs.Folds.{expected};
+ghost use Rattle.mm_run.specs.Folds.{outcome_by_lists};
 ghost use Rattle.mm_evidence.specs.Laws.{IsDecidedRun, IsOneRunOrEvidence, FrontsAreLongest, ForgedAreNew};
 
 use mm_history::names_are_decided;
@@ -42,7 +42,7 @@ pub fn one_run_or_evidence()
 pub fn forged_offers_are_new()
     ensures { (variant : Variant) (meaning : Meaning) (key barrier : List ℕ)
         (events : List Event) → IsLawful meaning
-        → total_of (expected (instance_by variant meaning key barrier) events).state.batches
+        → total_of (outcome_by_lists (instance_by variant meaning key barrier) events).state.batches
         ≤ last_position
         → ForgedAreNew (instance_by variant meaning key barrier) events }
 {

@@ -1,8 +1,8 @@
 -- A schedule followed by lists goes on by its events.
 use Rattle.mm_expect.proofs.Below.{◌≡◌, ℕ, List, [], ◌∷◌, ◌++◌, refl, sym, ap, ◌∙◌, option_to_list, Variant, Basic, Opt, AnyModule}
-use Rattle.mm_expect.proofs.Below.{meaning_of, Instance, History, first_history, by_lists, instance_by, Header, Event, Outcome}
-use Rattle.mm_expect.proofs.Below.{event_outcome, Followed, expected, first_issued, world_of, world_key, world_barrier, goes_on, Said}
-use Rattle.mm_expect.proofs.Below.{WentByEvent, Recorded, instance_with, Traced, after_traced, first_traced, IsAfter}
+use Rattle.mm_expect.proofs.Below.{meaning_of, Instance, History, first_history, list_level, instance_by, Header, Event, Outcome}
+use Rattle.mm_expect.proofs.Below.{event_outcome, RunOutcome, outcome_by_lists, first_issued, world_of, world_key, world_barrier, goes_on, EventReply}
+use Rattle.mm_expect.proofs.Below.{ChronicleGoesByEvent, ChronicleView, instance_with, ExpectedState, expected_state_after, first_expected_state, IsAfter}
 
 world_is : (variant : Variant) («module» : AnyModule)
     → instance_with variant «module» ≡ instance_by variant (meaning_of «module») world_key world_barrier
@@ -12,36 +12,36 @@ world_is Opt «module» = refl
 pub instance_is : (header : Header) → instance_with header.variant header.«module» ≡ world_of header
 instance_is header = world_is header.variant header.«module»
 
-abbrev pub header_of : Recorded → Header
+abbrev pub header_of : ChronicleView → Header
 header_of r = record { variant = r.variant; «module» = r.«module» }
 
-abbrev pub traced : Recorded → List (List ℕ) → Traced
+abbrev pub traced : ChronicleView → List (List ℕ) → ExpectedState
 traced r issued = record { header = header_of r; history = r.history; issued = issued }
 
 -- the start
-pub begins : (header : Header) → IsAfter header [] (first_traced header)
+pub begins : (header : Header) → IsAfter header [] (first_expected_state header)
 begins header = record { header_is = refl; history_is = refl; issued_is = refl }
 
-pub goes_after : (header : Header) (events : List Event) (event : Event) (old new : Traced) → IsAfter header events old
-    → new ≡ after_traced old event → IsAfter header (events ++ event ∷ []) new
+pub goes_after : (header : Header) (events : List Event) (event : Event) (old new : ExpectedState) → IsAfter header events old
+    → new ≡ expected_state_after old event → IsAfter header (events ++ event ∷ []) new
 goes_after header events event old new at is =
     let i = world_of header in
-    let run : Followed History = expected i events in
-    let whole = goes_on i (by_lists i) events (event ∷ []) first_history (first_issued i) in
+    let run : RunOutcome History = outcome_by_lists i events in
+    let whole = goes_on i (list_level i) events (event ∷ []) first_history (first_issued i) in
     let stands : old ≡ record { header = header; history = run.state; issued = run.issued } =
     (λ j. record { header = at.header_is j; history = at.history_is j; issued = at.issued_is j }) in
-    let later = is ∙ ap (λ (t : Traced). after_traced t event) stands in
+    let later = is ∙ ap (λ (t : ExpectedState). expected_state_after t event) stands in
     record {
-      header_is = ap (λ (t : Traced). t.header) later;
-      history_is = ap (λ (t : Traced). t.history) later ∙ sym (ap (λ (f : Followed History). f.state) whole);
-      issued_is = ap (λ (t : Traced). t.issued) later ∙ sym (ap (λ (f : Followed History). f.issued) whole);
+      header_is = ap (λ (t : ExpectedState). t.header) later;
+      history_is = ap (λ (t : ExpectedState). t.history) later ∙ sym (ap (λ (f : RunOutcome History). f.state) whole);
+      issued_is = ap (λ (t : ExpectedState). t.issued) later ∙ sym (ap (λ (f : RunOutcome History). f.issued) whole);
     }
 
-pub event_state : {old new : Recorded} {issued later : List (List ℕ)} {event : Event} {front back : List (List ℕ)} {said : Said}
-    → WentByEvent old new issued event front back said → later ≡ issued ++ option_to_list said.snapshot
-    → traced new later ≡ after_traced (traced old issued) event
+pub event_state : {old new : ChronicleView} {issued later : List (List ℕ)} {event : Event} {front back : List (List ℕ)} {said : EventReply}
+    → ChronicleGoesByEvent old new issued event front back said → later ≡ issued ++ option_to_list said.snapshot
+    → traced new later ≡ expected_state_after (traced old issued) event
 event_state {old} {issued = issued} {event = event} comes kept =
-    let same = ap (λ (i : Instance). event_outcome i (by_lists i) old.history issued event) (instance_is (header_of old)) in
+    let same = ap (λ (i : Instance). event_outcome i (list_level i) old.history issued event) (instance_is (header_of old)) in
     λ j. record {
       header = record { variant = comes.variant j; «module» = comes.«module» j };
       history = (comes.state ∙ ap (λ (o : Outcome History). o.state) same) j;

@@ -8,7 +8,7 @@ pub use Rattle.std.proofs.lemmas.Bool.Decides.{Decides-eqb}
 pub use Rattle.std.proofs.lemmas.List.{append-nil, map-append, same_from_push}
 pub use Rattle.std.proofs.lemmas.List.Elements.{filter_more}
 pub use Rattle.mm_base.specs.Limits.{last_position, limit_of, longest_request}
-pub use Rattle.mm_digest.specs.Messages.{start_of, zero_bytes}
+pub use Rattle.mm_digest.specs.Messages.{start_digest_of, zero_bytes}
 pub use Rattle.mm_digest.specs.declared.variant.Variant.{Variant}
 pub use Rattle.mm_digest.specs.declared.variant.Variant.TheVariants.{Basic, Opt}
 pub use Rattle.mm_seal.specs.Body.{content_of}
@@ -16,13 +16,13 @@ pub use Rattle.mm_seal.specs.Parts.{parts_of}
 pub use Rattle.mm_seal.specs.Snapshot.{Content, Snapshot, tag_of}
 pub use Rattle.mm_seal.specs.declared.snapshot.PartsFault.{PartsFault}
 pub use Rattle.mm_seal.specs.declared.snapshot.Place.TheVariants.{Opt as InOpt}
-pub use Rattle.mm_platform.specs.StandingWords.{due}
+pub use Rattle.mm_platform.specs.StandingWords.{due_values}
 pub use Rattle.mm_platform.specs.Steps.{fault_at, is_made_at}
 pub use Rattle.mm_platform.specs.declared.fault.StepFault.{StepFault}
 pub use Rattle.mm_platform.specs.declared.plan.Meddle.{Meddle}
 pub use Rattle.mm_platform.specs.declared.plan.Stop.{Stop}
 pub use Rattle.mm_platform.specs.declared.plan.Stop.TheVariants.{Fail}
-pub use Rattle.mm_module.specs.Batch.{Batch, members_of, normal, size_of}
+pub use Rattle.mm_module.specs.Batch.{Batch, members_of, normal_batch, size_of}
 pub use Rattle.mm_module.specs.Batches.{batch_of}
 pub use Rattle.mm_module.specs.Meaning.{IsLawful, Meaning, outputs_from, state_after}
 pub use Rattle.mm_module.specs.RunLaws.{length-outputs_from, state_after-append, state_from-is_spelled}
@@ -31,58 +31,58 @@ pub use Rattle.mm_modules.specs.ModulesLaws.{any_is_lawful}
 pub use Rattle.mm_modules.specs.declared.any.AnyModule.{AnyModule}
 pub use Rattle.mm_model.specs.BatchLaws.{is_last_of, is_last_tells, total-push}
 pub use Rattle.mm_model.specs.Chains.{guard, register_of}
-pub use Rattle.mm_model.specs.History.{Close, Commit, committed, first_history, Foreign, History, Move, moved, requests_of, total_of, Value}
+pub use Rattle.mm_model.specs.History.{Close, Commit, history_after_commit, first_history, Foreign, History, Move, history_after, requests_of, total_of, Value}
 pub use Rattle.mm_model.specs.HistoryWords.{cell_digest_of, values_of}
 pub use Rattle.mm_model.specs.Instance.{Instance}
-pub use Rattle.mm_model.specs.InstanceWords.{basic, opt}
-pub use Rattle.mm_model.specs.Judge.{is_last, judge, judged}
+pub use Rattle.mm_model.specs.InstanceWords.{basic_instance, opt_instance}
+pub use Rattle.mm_model.specs.Verdicts.{is_last, verdict_on, verdict_by_tests}
 pub use Rattle.mm_model.specs.Life.{has_value, is_empty, is_lost, Life, life_by, life_of, Live}
 pub use Rattle.mm_model.specs.Long.{is_long}
-pub use Rattle.mm_model.specs.Places.{issued_place, Names}
+pub use Rattle.mm_model.specs.Places.{issued_place, NamesPosition}
 pub use Rattle.mm_model.specs.PlacesWords.{digest_of}
 pub use Rattle.mm_model.specs.Standing.{IsGenuine, issued_bytes}
-pub use Rattle.mm_model.specs.Steps.{ask_steps, checkpoint_steps, Reads, Step, Writes}
+pub use Rattle.mm_model.specs.Steps.{ask_steps, checkpoint_steps, Reads, DeviceStep, Writes}
 pub use Rattle.mm_model.specs.declared.refusal.Refusal.{Refusal}
 pub use Rattle.mm_call.specs.AlongLaws.{checkpoint_none, closes-append, closes-foreign, ClosesNone, reading_none, shut_along, walk_along}
 pub use Rattle.mm_call.specs.Answers.{answer_on}
 pub use Rattle.mm_call.specs.AnswersWords.{last_outputs}
-pub use Rattle.mm_call.specs.Called.{Answers, Breaks, Called, called, ended_by, position_of, reading_steps, seen_at}
-pub use Rattle.mm_call.specs.CalledWords.{called_with, kept_at}
-pub use Rattle.mm_call.specs.Courses.{after_step, closes, commits, Course, Done, End, Fails, Fate, planned, seen_in, step_moves, walk}
-pub use Rattle.mm_call.specs.Courses.{Walked}
+pub use Rattle.mm_call.specs.CallOutcome.{Answers, Breaks, CallOutcome, call_outcome, call_ending_by, position_of, reading_steps, state_seen}
+pub use Rattle.mm_call.specs.CallOutcomeWords.{call_outcome_with, position_if_committed}
+pub use Rattle.mm_call.specs.Courses.{walk_from_step, has_close, has_commit, Course, Done, End, Fails, StepFate, fate_by_plan, moves_seen, step_moves, walk}
+pub use Rattle.mm_call.specs.Courses.{StepsWalk}
 pub use Rattle.mm_call.specs.CoursesWords.{end_of, made_move}
-pub use Rattle.mm_call.specs.Found.{Found, found_at, found_by_verdict, right_content}
-pub use Rattle.mm_call.specs.FoundWords.{found_unless_wanting, is_fresh}
-pub use Rattle.mm_call.specs.Levels.{all_made, by_lists}
-pub use Rattle.mm_call.specs.MoveLaws.{anchor-nil, committed_in, more_batches, same_batches, summary-nil}
+pub use Rattle.mm_call.specs.CallFinding.{CallFinding, finding_at, finding_by_verdict, right_content}
+pub use Rattle.mm_call.specs.CallFindingWords.{finding_unless_wanting, is_fresh}
+pub use Rattle.mm_call.specs.Levels.{state_after_moves, list_level}
+pub use Rattle.mm_call.specs.MoveLaws.{anchor-nil, committed_batches, more_batches, same_batches, summary-nil}
 pub use Rattle.mm_call.specs.Standing.{instance_by}
-pub use Rattle.mm_call.specs.WalkLaws.{batch, call_commits, Commits, commits-none, commits_batch, finished, made-append, nothing, seen_none}
+pub use Rattle.mm_call.specs.WalkLaws.{batch, call_commits, Commits, commits-none, commits_batch, finished_walk, made-append, nothing, seen_none}
 pub use Rattle.mm_call.specs.WalkLaws.{writing_commits}
-pub use Rattle.mm_call.specs.declared.ended.Ended.{Ended}
-pub use Rattle.mm_call.specs.declared.ended.Ended.TheVariants.{Answered, Broken, Refused}
+pub use Rattle.mm_call.specs.declared.ended.AskResult.{AskResult}
+pub use Rattle.mm_call.specs.declared.ended.AskResult.TheVariants.{Answered, Broken, Refused}
 pub use Rattle.mm_call.proofs.Above.{admitted_tells, again_of, found_with_tells, fresh_found, requests-push, said_last, unlacked}
 pub use Rattle.mm_call.proofs.Above.{unless_lost, weighed_tells}
 pub use Rattle.mm_schedule.specs.Events.{Event, event_of}
 pub use Rattle.mm_schedule.specs.Replies.{IsPrintable}
 pub use Rattle.mm_schedule.specs.declared.header.Header.{Header}
-pub use Rattle.mm_history.specs.Marks.{closed_marks, emptied, grown, linked_marks, marks_of, opened_marks, with_value}
+pub use Rattle.mm_history.specs.Marks.{closed_marks, emptied_marks, grown_marks, linked_marks, marks_of, opened_marks, with_value}
 pub use Rattle.mm_history.specs.Naming.{IsDecided}
-pub use Rattle.mm_history.specs.declared.marks.Marks.{Marks}
-pub use Rattle.mm_run.specs.Folds.{after_stop, closing_then, course_of, event_outcome, expected, first_issued, Followed, followed}
-pub use Rattle.mm_run.specs.Folds.{moves_then, Outcome, reply_of, snapshots_of, way_of, plan_of}
-pub use Rattle.mm_run.specs.Held.{world_of, world_barrier, world_key}
+pub use Rattle.mm_history.specs.declared.marks.HistoryMarks.{HistoryMarks}
+pub use Rattle.mm_run.specs.Folds.{moves_after_stop, moves_after_checkpoint, course_of, event_outcome, outcome_by_lists, first_issued, RunOutcome, outcome_of_events}
+pub use Rattle.mm_run.specs.Folds.{moves_after_call, Outcome, reply_of, snapshots_of, way_of, plan_of}
+pub use Rattle.mm_run.specs.WorldState.{world_of, world_barrier, world_key}
 pub use Rattle.mm_run.specs.Laws.{IsIssued}
-pub use Rattle.mm_run.specs.Offered.{offered_bytes}
+pub use Rattle.mm_run.specs.EventOffers.{offered_bytes}
 pub use Rattle.mm_run.specs.Premises.{IsGenuineEvent}
 pub use Rattle.mm_run.proofs.Above.{basic_issued_named, closing_all, goes_on, in_any_way, last_steps, opt_issued_named, printed_closing}
 pub use Rattle.mm_run.proofs.Above.{short_outputs, then_all, broken_reply, told_reply}
-pub use Rattle.mm_expect.specs.Calls.{Admits, again_in, CallsBy, changes_on, ChangesBy, changing_from, changing_steps, ending_of, GoesOnNew}
-pub use Rattle.mm_expect.specs.Calls.{new_ending, reached}
-pub use Rattle.mm_expect.specs.Coming.{called_on, moves_if, WentByCall, WentByEvent}
-pub use Rattle.mm_expect.specs.Genuine.{EachOfferIsDecided, IssuedAreGenuine}
-pub use Rattle.mm_expect.specs.Judged.{AreIssued, DecidesBytes, DecidesEvent, DecidesOffer, IsAmong}
-pub use Rattle.mm_expect.specs.Recorded.{barrier_of, instance_with, Recorded, recorded_instance, state_after_batch, outputs_of_batch, Went}
-pub use Rattle.mm_expect.specs.Traced.{after_traced, first_traced, IsAfter, Traced}
-pub use Rattle.mm_expect.specs.Walking.{move_of, step_as, steps_of, Walks}
-pub use Rattle.mm_expect.specs.declared.calls.Closing.TheVariants.{Closes, HasNone, NoSegment, Stops}
-pub use Rattle.mm_expect.specs.declared.replies.Said.{Said}
+pub use Rattle.mm_expect.specs.Calls.{AdmitsBatch, repeat_in, ChronicleCalls, changes_on, ChronicleChanges, first_changing_step, changing_steps, ending_of, NewCallGoesOn}
+pub use Rattle.mm_expect.specs.Calls.{new_ending, count_after_batch}
+pub use Rattle.mm_expect.specs.ChronicleEvents.{call_outcome_on, moves_if, ChronicleGoesByCall, ChronicleGoesByEvent}
+pub use Rattle.mm_expect.specs.GenuineOffers.{EachOfferIsDecided, IssuedAreGenuine}
+pub use Rattle.mm_expect.specs.OfferDecision.{AreIssued, DecidesBytes, DecidesEvent, DecidesOffer, IsAmong}
+pub use Rattle.mm_expect.specs.ChronicleView.{barrier_of, instance_with, ChronicleView, chronicle_instance, state_after_batch, outputs_of_batch, ChronicleGoes}
+pub use Rattle.mm_expect.specs.ExpectedState.{expected_state_after, first_expected_state, IsAfter, ExpectedState}
+pub use Rattle.mm_expect.specs.ChronicleSteps.{move_of, model_step_of, steps_of, ChronicleWalks}
+pub use Rattle.mm_expect.specs.declared.calls.ClosingResult.TheVariants.{Closes, HasNone, NoSegment, Stops}
+pub use Rattle.mm_expect.specs.declared.replies.EventReply.{EventReply}

@@ -1,65 +1,65 @@
 -- Where the snapshot of an answer stands, by the marks; and a call in a schedule, by its parts.
 use Rattle.mm_expect.proofs.Below.{ℕ, ◌≡◌, Bool, true, false, List, [], ◌++◌, refl, sym, ap, ◌∙◌, append_assoc, option_to_list, Variant}
 use Rattle.mm_expect.proofs.Below.{Opt, zero_bytes, Meddle, Stop, Batch, InOpt, Instance, History, cell_digest_of, issued_place, digest_of}
-use Rattle.mm_expect.proofs.Below.{Ended, Answered, Refused, Broken, Called, right_content, by_lists, all_made, way_of, reply_of}
-use Rattle.mm_expect.proofs.Below.{snapshots_of, moves_then, after_stop, Marks, Said, CallsBy, ending_of, WentByCall, called_on, moves_if}
-use Rattle.mm_expect.proofs.Below.{marks_of, Recorded, Went, instance_with, recorded_instance}
+use Rattle.mm_expect.proofs.Below.{AskResult, Answered, Refused, Broken, CallOutcome, right_content, list_level, state_after_moves, way_of, reply_of}
+use Rattle.mm_expect.proofs.Below.{snapshots_of, moves_after_call, moves_after_stop, HistoryMarks, EventReply, ChronicleCalls, ending_of, ChronicleGoesByCall, call_outcome_on, moves_if}
+use Rattle.mm_expect.proofs.Below.{marks_of, ChronicleView, ChronicleGoes, instance_with, chronicle_instance}
 use Rattle.mm_digest.specs.declared.digest.Digest.{Digest}
-use Rattle.mm_call.specs.Asked.{right_messages}
-use Rattle.mm_call.specs.Ended.{is_broken}
+use Rattle.mm_call.specs.CallPremises.{right_messages}
+use Rattle.mm_call.specs.EndedCall.{is_broken}
 
-cell_at_anchor : (i : Instance) (y : History) (m : Marks) → m ≡ marks_of i y → i.variant ≡ Opt → m.cell ≡ digest_of (cell_digest_of i Opt y)
-cell_at_anchor i y m e v = ap (λ (x : Marks). x.cell) e ∙ ap (λ (x : Variant). digest_of (cell_digest_of i x y)) v
+cell_at_anchor : (i : Instance) (y : History) (m : HistoryMarks) → m ≡ marks_of i y → i.variant ≡ Opt → m.cell ≡ digest_of (cell_digest_of i Opt y)
+cell_at_anchor i y m e v = ap (λ (x : HistoryMarks). x.cell) e ∙ ap (λ (x : Variant). digest_of (cell_digest_of i x y)) v
 
 place_is : (i : Instance) (y : History) (flag : Bool) → i.variant ≡ Opt → y.is_open ≡ flag
     → issued_place Opt flag i y ≡ issued_place i.variant y.is_open i y
 place_is i y flag v o = λ j. issued_place (sym v j) (sym o j) i y
 
-pub place_open : (i : Instance) (y : History) (m : Marks) → m ≡ marks_of i y → i.variant ≡ Opt → y.is_open ≡ true
+pub place_open : (i : Instance) (y : History) (m : HistoryMarks) → m ≡ marks_of i y → i.variant ≡ Opt → y.is_open ≡ true
     → InOpt m.cell m.own ≡ issued_place i.variant y.is_open i y
-place_open i y m e v o = (λ j. InOpt (cell_at_anchor i y m e v j) (ap (λ (x : Marks). x.own) e j)) ∙ place_is i y true v o
+place_open i y m e v o = (λ j. InOpt (cell_at_anchor i y m e v j) (ap (λ (x : HistoryMarks). x.own) e j)) ∙ place_is i y true v o
 
-pub place_shut : (i : Instance) (y : History) (m : Marks) (zero : Digest) → m ≡ marks_of i y → zero.bytes ≡ zero_bytes → i.variant ≡ Opt
+pub place_shut : (i : Instance) (y : History) (m : HistoryMarks) (zero : Digest) → m ≡ marks_of i y → zero.bytes ≡ zero_bytes → i.variant ≡ Opt
     → y.is_open ≡ false → InOpt m.cell zero ≡ issued_place i.variant y.is_open i y
 place_shut i y m zero e z v o = (λ j. InOpt (cell_at_anchor i y m e v j) (digest_of (z j))) ∙ place_is i y false v o
 
 -- a chronicle without the messages of its moves
-abbrev pub forgotten : Recorded → Recorded
+abbrev pub forgotten : ChronicleView → ChronicleView
 forgotten r = record r { extending = []; closing = [] }
 
-moves_ended : (stop : Stop) (ended : Ended) → moves_if (is_broken ended) (after_stop stop) ≡ moves_then stop (ending_of ended)
+moves_ended : (stop : Stop) (ended : AskResult) → moves_if (is_broken ended) (moves_after_stop stop) ≡ moves_after_call stop (ending_of ended)
 moves_ended stop (Answered answer) = refl
 moves_ended stop (Refused why) = refl
 moves_ended stop (Broken fault commits) = refl
 
-state_went : (old went handed new : Recorded) (stop : Stop) (o : Called History) (ended : Ended)
-    → o.state ≡ all_made (by_lists (recorded_instance old)) old.history o.moves → CallsBy (forgotten old) went o ended
+state_went : (old went handed new : ChronicleView) (stop : Stop) (o : CallOutcome History) (ended : AskResult)
+    → o.state ≡ state_after_moves (list_level (chronicle_instance old)) old.history o.moves → ChronicleCalls (forgotten old) went o ended
     → handed.history ≡ went.history → handed.variant ≡ went.variant → handed.«module» ≡ went.«module»
-    → Went handed new (moves_if (is_broken ended) (after_stop stop))
-    → new.history ≡ all_made (by_lists (recorded_instance old)) o.state (moves_then stop o.ending)
+    → ChronicleGoes handed new (moves_if (is_broken ended) (moves_after_stop stop))
+    → new.history ≡ state_after_moves (list_level (chronicle_instance old)) o.state (moves_after_call stop o.ending)
 state_went old went handed new stop o ended state_is calls hh hv hm restored =
     let v : handed.variant ≡ old.variant = hv ∙ calls.went.variant in
     let m : handed.«module» ≡ old.«module» = hm ∙ calls.went.«module» in
     let h : handed.history ≡ o.state = hh ∙ calls.went.history ∙ sym state_is in
-    let moves : moves_if (is_broken ended) (after_stop stop) ≡ moves_then stop o.ending =
-    moves_ended stop ended ∙ ap (moves_then stop) calls.ends in
-    restored.history ∙ (λ j. all_made (by_lists (instance_with (v j) (m j))) (h j) (moves j))
+    let moves : moves_if (is_broken ended) (moves_after_stop stop) ≡ moves_after_call stop o.ending =
+    moves_ended stop ended ∙ ap (moves_after_call stop) calls.ends in
+    restored.history ∙ (λ j. state_after_moves (list_level (instance_with (v j) (m j))) (h j) (moves j))
 
-pub went_by_call : {old went handed new : Recorded} {stop : Stop} {meddles : List Meddle} {bytes : List ℕ} {b : Batch} {ended : Ended}
-    {front asked back : List (List ℕ)} {said : Said}
-    → asked ≡ front ++ right_messages (recorded_instance old) b (right_content (recorded_instance old) bytes)
-    → CallsBy (forgotten old) went (called_on old stop meddles bytes b) ended
+pub went_by_call : {old went handed new : ChronicleView} {stop : Stop} {meddles : List Meddle} {bytes : List ℕ} {b : Batch} {ended : AskResult}
+    {front asked back : List (List ℕ)} {said : EventReply}
+    → asked ≡ front ++ right_messages (chronicle_instance old) b (right_content (chronicle_instance old) bytes)
+    → ChronicleCalls (forgotten old) went (call_outcome_on old stop meddles bytes b) ended
     → handed.history ≡ went.history → handed.variant ≡ went.variant → handed.«module» ≡ went.«module»
-    → back ≡ asked ++ (went.extending ++ went.closing) → Went handed new (moves_if (is_broken ended) (after_stop stop))
+    → back ≡ asked ++ (went.extending ++ went.closing) → ChronicleGoes handed new (moves_if (is_broken ended) (moves_after_stop stop))
     → said.reply ≡ reply_of (way_of stop) (ending_of ended) → option_to_list said.snapshot ≡ snapshots_of (ending_of ended)
-    → WentByCall old new stop meddles bytes b front back said
+    → ChronicleGoesByCall old new stop meddles bytes b front back said
 went_by_call {old} {went} {handed} {new} {stop} {meddles} {bytes} {b} {ended} {front} listed calls hh hv hm handed_on restored replied
     sealed =
-    let right : List (List ℕ) = right_messages (recorded_instance old) b (right_content (recorded_instance old) bytes) in
+    let right : List (List ℕ) = right_messages (chronicle_instance old) b (right_content (chronicle_instance old) bytes) in
     record {
       variant = restored.variant ∙ hv ∙ calls.went.variant;
       «module» = restored.«module» ∙ hm ∙ calls.went.«module»;
-      state = state_went old went handed new stop (called_on old stop meddles bytes b) ended refl calls hh hv hm restored;
+      state = state_went old went handed new stop (call_outcome_on old stop meddles bytes b) ended refl calls hh hv hm restored;
       reply = replied ∙ ap (reply_of (way_of stop)) calls.ends;
       snapshots = sealed ∙ ap snapshots_of calls.ends;
       messages = handed_on ∙ (λ j. listed j ++ (calls.went.extending j ++ calls.went.closing j)) ∙ append_assoc front right _;

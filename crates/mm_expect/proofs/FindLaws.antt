@@ -1,13 +1,13 @@
 -- What is found of an offer.
 use Rattle.mm_expect.proofs.Below.{◌≡◌, ℕ, ◌+◌, ◌≤◌, Bool, true, false, ◌&&◌, List, Result, Ok, Err, refl, arith, nat_eq, bytes_eq}
 use Rattle.mm_expect.proofs.Below.{Decides-eqb, last_position, Batch, size_of, PartsFault, Snapshot, tag_of, parts_of, Instance, History}
-use Rattle.mm_expect.proofs.Below.{total_of, Life, Live, life_by, life_of, is_lost, is_last, judged, judge, by_lists, Found}
-use Rattle.mm_expect.proofs.Below.{found_by_verdict, found_at, admitted_tells, weighed_tells, found_with_tells, unless_lost, reached}
-use Rattle.mm_expect.proofs.Below.{Admits}
+use Rattle.mm_expect.proofs.Below.{total_of, Life, Live, life_by, life_of, is_lost, is_last, verdict_by_tests, verdict_on, list_level, CallFinding}
+use Rattle.mm_expect.proofs.Below.{finding_by_verdict, finding_at, admitted_tells, weighed_tells, found_with_tells, unless_lost, count_after_batch}
+use Rattle.mm_expect.proofs.Below.{AdmitsBatch}
 use Rattle.std.proofs.lemmas.Bool.{and_parts, leb-true}
 use Rattle.mm_seal.specs.declared.snapshot.PartsFault.TheVariants.{Form, Kind}
 use Rattle.mm_call.specs.WeighingLaws.{weighed_only}
-use Rattle.mm_call.specs.Order.{admitted, examined}
+use Rattle.mm_call.specs.Order.{check_of_verdict, check_of_offer}
 
 pub lost_when : (is_open is_bare is_own is_marred : Bool) → is_lost (life_by is_open is_bare is_own is_marred) ≡ (is_open && is_bare)
 lost_when true true own marred = refl
@@ -15,26 +15,26 @@ lost_when true false true false = refl
 lost_when false bare own false = refl
 lost_when _ _ _ _ = refl
 
-admitted_live : (life : Life) (here repeat fits again : Bool) → admitted (judged life here repeat) fits ≡ Ok again
+admitted_live : (life : Life) (here repeat fits again : Bool) → check_of_verdict (verdict_by_tests life here repeat) fits ≡ Ok again
     → (again ≡ false → here ≡ true) × (again ≡ true → repeat ≡ true)
 admitted_live Live here repeat fits again e = admitted_tells here repeat fits again e
 admitted_live _ here repeat fits again e = cc
 
 fits_when : (again : Bool) (position total size : ℕ) (last : Bool) → position + size ≤ last_position
     → (again ≡ false → nat_eq position total ≡ true) → (again ≡ true → (nat_eq (position + size) total && last) ≡ true)
-    → reached again total size ≤ last_position
+    → count_after_batch again total size ≤ last_position
 fits_when true position total size last fits here repeat =
     omega (arith, fits, (Decides-eqb (position + size) total).0 (and_parts (nat_eq (position + size) total) last (repeat refl)).0)
 fits_when false position total size last fits here repeat = omega (arith, fits, (Decides-eqb position total).0 (here refl))
 
 -- what is found admits the batch
-from_admits : (i : Instance) (y : History) (b : Batch) (parts : Result Snapshot PartsFault) (f : Found)
-    → found_by_verdict i (by_lists i) y b parts ≡ Ok f → Admits y b f.again
+from_admits : (i : Instance) (y : History) (b : Batch) (parts : Result Snapshot PartsFault) (f : CallFinding)
+    → finding_by_verdict i (list_level i) y b parts ≡ Ok f → AdmitsBatch y b f.again
 from_admits i y b (Ok snapshot) f e =
     let position = snapshot.content.position in
     let spelled = i.meaning.is_spelled snapshot.content.state in
     let tagged = bytes_eq snapshot.tag (tag_of i.key snapshot.content) in
-    let t = found_with_tells snapshot.content (examined i.meaning i.key snapshot b (judge i.variant y position b)) f e in
+    let t = found_with_tells snapshot.content (check_of_offer i.meaning i.key snapshot b (verdict_on i.variant y position b)) f e in
     let w = weighed_tells spelled tagged _ _ f.again t.1 in
     let repeat = nat_eq (position + size_of b) (total_of y.batches) && is_last y.batches b in
     let a = admitted_live (life_of i.variant y) (nat_eq position (total_of y.batches)) repeat _ f.again w.2 in
@@ -46,7 +46,7 @@ from_admits i y b (Ok snapshot) f e =
 from_admits i y b (Err Form) f e = cc
 from_admits i y b (Err Kind) f e = cc
 
-pub admits_found : (i : Instance) (y : History) (b : Batch) (bytes : List ℕ) (f : Found) → found_at i (by_lists i) y b bytes ≡ Ok f
-    → Admits y b f.again
+pub admits_found : (i : Instance) (y : History) (b : Batch) (bytes : List ℕ) (f : CallFinding) → finding_at i (list_level i) y b bytes ≡ Ok f
+    → AdmitsBatch y b f.again
 admits_found i y b bytes f e =
     from_admits i y b (parts_of i.variant i.meaning.id bytes) f (unless_lost (is_lost (life_of i.variant y)) _ f e)

@@ -3,7 +3,7 @@ use Rattle.mm_expect.proofs.Below.{◌≡◌, ℕ, zero, suc, Bool, true, false,
 use Rattle.mm_expect.proofs.Below.{subst, slice_get, AllByRecursion}
 use Rattle.mm_expect.proofs.Below.{parts_of, Content}
 use Rattle.mm_expect.proofs.Below.{Instance, History}
-use Rattle.mm_expect.proofs.Below.{Names, IsGenuine, right_content, IsIssued}
+use Rattle.mm_expect.proofs.Below.{NamesPosition, IsGenuine, right_content, IsIssued}
 use Rattle.mm_expect.proofs.Below.{IsDecided, EachOfferIsDecided, IssuedAreGenuine}
 use Rattle.mm_run.proofs.Above.{issued_names, said_of}
 use Rattle.mm_call.specs.OfferLaws.{one_content, right_of}
@@ -11,8 +11,8 @@ use Rattle.mm_call.specs.OfferLaws.{one_content, right_of}
 -- A right offer says one thing, and what is said of an offer is right.
 
 by_content : (yes : Bool) (i : Instance) (y : History) (bytes : List ℕ) (content : Content) → right_content i bytes ≡ Some content
-    → IsDecided yes (Names i y content) → IsDecided yes (IsGenuine i y bytes)
-by_content true i y bytes content e n = λ other right. subst (λ (x : Content). Names i y x)
+    → IsDecided yes (NamesPosition i y content) → IsDecided yes (IsGenuine i y bytes)
+by_content true i y bytes content e n = λ other right. subst (λ (x : Content). NamesPosition i y x)
     (one_content i bytes content other (right_of i bytes (parts_of i.variant i.meaning.id bytes) refl content e) right) n
 by_content false i y bytes content e none =
     λ genuine. none (genuine content (right_of i bytes (parts_of i.variant i.meaning.id bytes) refl content e))

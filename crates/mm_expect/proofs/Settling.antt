@@ -1,18 +1,18 @@
 -- What the fields of a chronicle keep goes on with its moves.
 use Rattle.mm_expect.proofs.Below.{◌≡◌, ◌≤◌, ℕ, Bool, true, false, List, [], ◌∷◌, ◌++◌, length, sym, ap, ◌∙◌, subst, IsTrue, nat_le}
 use Rattle.mm_expect.proofs.Below.{same_from_push, list_any, ◌||◌, Variant, Basic, Opt, Batch, members_of, size_of, limit_of, zero_bytes}
-use Rattle.mm_expect.proofs.Below.{start_of, state_after, outputs_from, state_after-append, state_from-is_spelled, AnyModule, meaning_of}
+use Rattle.mm_expect.proofs.Below.{start_digest_of, state_after, outputs_from, state_after-append, state_from-is_spelled, AnyModule, meaning_of}
 use Rattle.mm_expect.proofs.Below.{Instance, any_is_lawful, guard, register_of, History, Value, first_history, requests_of, total_of}
-use Rattle.mm_expect.proofs.Below.{committed, cell_digest_of, values_of, is_last, is_long, digest_of, issued_bytes, is_last_tells}
+use Rattle.mm_expect.proofs.Below.{history_after_commit, cell_digest_of, values_of, is_last, is_long, digest_of, issued_bytes, is_last_tells}
 use Rattle.mm_expect.proofs.Below.{answer_on, last_outputs, Answered, anchor-nil, summary-nil, is_empty, has_value, requests-push}
-use Rattle.mm_expect.proofs.Below.{said_last, Marks, marks_of, with_value, emptied, closed_marks, linked_marks, grown, opened_marks}
-use Rattle.mm_expect.proofs.Below.{Recorded, barrier_of, instance_with, recorded_instance}
+use Rattle.mm_expect.proofs.Below.{said_last, HistoryMarks, marks_of, with_value, emptied_marks, closed_marks, linked_marks, grown_marks, opened_marks}
+use Rattle.mm_expect.proofs.Below.{ChronicleView, barrier_of, instance_with, chronicle_instance}
 use Rattle.std.proofs.lemmas.List.Folds.{list_any-append}
 use Rattle.mm_module.specs.MeaningWords.{state_from}
 use Rattle.mm_model.specs.FormLaws.{reads_zero}
 use Rattle.mm_expect.proofs.Below.{append-nil, append_assoc, Meaning}
-use Rattle.mm_model.specs.History.{Entry}
-use Rattle.mm_expect.specs.Settled.{IsKept, IsSettled}
+use Rattle.mm_model.specs.History.{RegisterEntry}
+use Rattle.mm_expect.specs.SettledChronicle.{IsKept, IsSettled}
 use Rattle.mm_history.specs.Waymarks.{AreWaymarks, EndsWithCurrent}
 use Rattle.mm_history.specs.WaymarkLaws.{ways_on, ways_still}
 use Rattle.mm_history.specs.declared.waymarks.Waymarks.{Waymarks}
@@ -32,13 +32,13 @@ Ran «module» y next told b =
     × (told ≡ outputs_from (meaning_of «module») (state_after (meaning_of «module») (requests_of y.batches)) (members_of b))
     × (list_any is_long (b ∷ []) ≡ false)
 
-module _ {variant : Variant} {«module» : AnyModule} {barrier : List ℕ} {y : History} {old : Marks} {state : List ℕ} {said : List (List ℕ)}
+module _ {variant : Variant} {«module» : AnyModule} {barrier : List ℕ} {y : History} {old : HistoryMarks} {state : List ℕ} {said : List (List ℕ)}
     (s : IsSettled variant «module» barrier y old state said) where
   abbrev i : Instance
   i = instance_with variant «module»
 
   -- a move that commits nothing
-  settled_still : {z : History} {new : Marks} → z.batches ≡ y.batches → new ≡ marks_of i z
+  settled_still : {z : History} {new : HistoryMarks} → z.batches ≡ y.batches → new ≡ marks_of i z
       → IsSettled variant «module» barrier z new state said
   settled_still same marks = record {
     barrier_is = s.barrier_is;
@@ -49,25 +49,25 @@ module _ {variant : Variant} {«module» : AnyModule} {barrier : List ℕ} {y : 
     short = ap (list_any is_long) same ∙ s.short;
   }
 
-  pub settled_value : {z : History} {new : Marks} (v : List ℕ) → z ≡ record y { items = y.items ++ Value v ∷ [] } → new ≡ with_value old v
+  pub settled_value : {z : History} {new : HistoryMarks} (v : List ℕ) → z ≡ record y { items = y.items ++ Value v ∷ [] } → new ≡ with_value old v
       → IsSettled variant «module» barrier z new state said
   settled_value v is marks = settled_still (ap (λ (h : History). h.batches) is)
-      (marks ∙ ap (λ (m : Marks). with_value m v) s.marks_is ∙ sym (marks_value i y v) ∙ ap (marks_of i) (sym is))
+      (marks ∙ ap (λ (m : HistoryMarks). with_value m v) s.marks_is ∙ sym (marks_value i y v) ∙ ap (marks_of i) (sym is))
 
-  pub settled_emptied : {z : History} {new : Marks} → z ≡ record y { items = [] } → new ≡ emptied old (is_empty z.current)
+  pub settled_emptied : {z : History} {new : HistoryMarks} → z ≡ record y { items = [] } → new ≡ emptied_marks old (is_empty z.current)
       → IsSettled variant «module» barrier z new state said
   settled_emptied is marks = settled_still (ap (λ (h : History). h.batches) is)
-      (marks ∙ (λ j. emptied (s.marks_is j) (is_empty (is j).current)) ∙ sym (marks_emptied i y) ∙ ap (marks_of i) (sym is))
+      (marks ∙ (λ j. emptied_marks (s.marks_is j) (is_empty (is j).current)) ∙ sym (marks_emptied i y) ∙ ap (marks_of i) (sym is))
 
-  pub settled_shut : {z : History} {new : Marks} → z ≡ record y { closed = y.closed ++ y.items ∷ []; current = []; is_open = false }
+  pub settled_shut : {z : History} {new : HistoryMarks} → z ≡ record y { closed = y.closed ++ y.items ∷ []; current = []; is_open = false }
       → new ≡ closed_marks variant old (has_value y.items) (is_empty y.items) → IsSettled variant «module» barrier z new state said
   settled_shut is marks = settled_still (ap (λ (h : History). h.batches) is)
-      (marks ∙ ap (λ (m : Marks). closed_marks variant m (has_value y.items) (is_empty y.items)) s.marks_is
+      (marks ∙ ap (λ (m : HistoryMarks). closed_marks variant m (has_value y.items) (is_empty y.items)) s.marks_is
       ∙ sym (marks_shut i y) ∙ ap (marks_of i) (sym is))
 
   -- a batch is committed
   module _ (b : Batch) {next : List ℕ} {told : List (List ℕ)} (run : Ran «module» y next told b) where
-    settled_more : {z : History} {new : Marks} → z.batches ≡ y.batches ++ b ∷ [] → new ≡ marks_of i z
+    settled_more : {z : History} {new : HistoryMarks} → z.batches ≡ y.batches ++ b ∷ [] → new ≡ marks_of i z
         → IsSettled variant «module» barrier z new next told
     settled_more grows marks =
         let meaning = meaning_of «module» in
@@ -86,18 +86,18 @@ module _ {variant : Variant} {«module» : AnyModule} {barrier : List ℕ} {y : 
               ∙ ap (λ (f : Bool). f || list_any is_long (b ∷ [])) s.short ∙ run.2;
         }
 
-    pub settled_linked : {z : History} {new : Marks} → variant ≡ Basic → z ≡ committed Basic y.is_open y b → new ≡ linked_marks old b
+    pub settled_linked : {z : History} {new : HistoryMarks} → variant ≡ Basic → z ≡ history_after_commit Basic y.is_open y b → new ≡ linked_marks old b
         → IsSettled variant «module» barrier z new next told
     settled_linked basic is marks = settled_more (ap (λ (h : History). h.batches) is)
-        (marks ∙ ap (λ (m : Marks). linked_marks m b) s.marks_is ∙ sym (marks_linked i y b basic) ∙ ap (marks_of i) (sym is))
+        (marks ∙ ap (λ (m : HistoryMarks). linked_marks m b) s.marks_is ∙ sym (marks_linked i y b basic) ∙ ap (marks_of i) (sym is))
 
-    pub settled_grown : {z : History} {new : Marks} {value : List ℕ} {size : ℕ} → variant ≡ Opt → z ≡ committed Opt true y b
+    pub settled_grown : {z : History} {new : HistoryMarks} {value : List ℕ} {size : ℕ} → variant ≡ Opt → z ≡ history_after_commit Opt true y b
         → size ≡ size_of b
-        → value ≡ guard (barrier_of variant) b → new ≡ grown old size value → IsSettled variant «module» barrier z new next told
+        → value ≡ guard (barrier_of variant) b → new ≡ grown_marks old size value → IsSettled variant «module» barrier z new next told
     settled_grown opt is sized guards marks = settled_more (ap (λ (h : History). h.batches) is)
-        (marks ∙ (λ j. grown (s.marks_is j) (sized j) (guards j)) ∙ sym (marks_grown i y b opt) ∙ ap (marks_of i) (sym is))
+        (marks ∙ (λ j. grown_marks (s.marks_is j) (sized j) (guards j)) ∙ sym (marks_grown i y b opt) ∙ ap (marks_of i) (sym is))
 
-    pub settled_opened : {z : History} {new : Marks} {value register : List ℕ} {size : ℕ} → variant ≡ Opt → z ≡ committed Opt false y b
+    pub settled_opened : {z : History} {new : HistoryMarks} {value register : List ℕ} {size : ℕ} → variant ≡ Opt → z ≡ history_after_commit Opt false y b
         → size ≡ size_of b
         → value ≡ guard barrier b → register ≡ register_of (values_of barrier z.items)
         → new ≡ opened_marks old size value register (nat_le (length y.items) 1) → IsSettled variant «module» barrier z new next told
@@ -107,7 +107,7 @@ module _ {variant : Variant} {«module» : AnyModule} {barrier : List ℕ} {y : 
         ∙ sym (marks_opened i y b opt) ∙ ap (marks_of i) (sym is))
 
 cell_first : («module» : AnyModule) (variant : Variant)
-    → start_of variant (meaning_of «module»).id ≡ cell_digest_of (instance_with variant «module») variant first_history
+    → start_digest_of variant (meaning_of «module»).id ≡ cell_digest_of (instance_with variant «module») variant first_history
 cell_first «module» Basic = summary-nil (meaning_of «module»).id
 cell_first «module» Opt = anchor-nil (meaning_of «module»).id
 
@@ -116,7 +116,7 @@ no_last [] x e = cc
 no_last (y ∷ front) x e = cc
 
 -- at the first history
-abbrev pub first_marks : List ℕ → List ℕ → Marks
+abbrev pub first_marks : List ℕ → List ℕ → HistoryMarks
 first_marks cell register = record {
   total = 0;
   cell = digest_of cell;
@@ -126,15 +126,15 @@ first_marks cell register = record {
   is_marred = false;
 }
 
-pub settled_first : {variant : Variant} {«module» : AnyModule} {barrier : List ℕ} {y : History} {marks : Marks} {state : List ℕ} {said : List (List ℕ)}
+pub settled_first : {variant : Variant} {«module» : AnyModule} {barrier : List ℕ} {y : History} {marks : HistoryMarks} {state : List ℕ} {said : List (List ℕ)}
     {id : ℕ} → barrier ≡ barrier_of variant → y ≡ first_history → id ≡ (meaning_of «module»).id
-    → marks ≡ first_marks (start_of variant id) zero_bytes → state ≡ (meaning_of «module»).first
+    → marks ≡ first_marks (start_digest_of variant id) zero_bytes → state ≡ (meaning_of «module»).first
     → IsSettled variant «module» barrier y marks state said
 settled_first {variant = variant} {«module» = «module»} {y = y} b first ids m s =
     let i = instance_with variant «module» in
     let lawful = any_is_lawful «module» in record {
       barrier_is = b;
-      marks_is = m ∙ (λ j. first_marks ((ap (start_of variant) ids ∙ cell_first «module» variant) j) (sym reads_zero j))
+      marks_is = m ∙ (λ j. first_marks ((ap (start_digest_of variant) ids ∙ cell_first «module» variant) j) (sym reads_zero j))
           ∙ ap (marks_of i) (sym first);
       state_is = s ∙ ap (λ (h : History). state_after (meaning_of «module») (requests_of h.batches)) (sym first);
       said_is = λ front last e. absurd (no_last front last (sym (ap (λ (h : History). h.batches) first) ∙ e));
@@ -149,7 +149,7 @@ fits_limit «module» {state} {given} spelled same ids = subst (λ n. length giv
     (subst (λ (v : List ℕ). length v ≤ limit_of (meaning_of «module»).id) (sym same) ((any_is_lawful «module»).fits state spelled))
 
 -- what the module said to the last batch
-pub outputs_last : {variant : Variant} {«module» : AnyModule} {barrier : List ℕ} {y : History} {marks : Marks} {state : List ℕ} {said : List (List ℕ)}
+pub outputs_last : {variant : Variant} {«module» : AnyModule} {barrier : List ℕ} {y : History} {marks : HistoryMarks} {state : List ℕ} {said : List (List ℕ)}
     (b : Batch) → IsSettled variant «module» barrier y marks state said → is_last y.batches b ≡ true
     → said ≡ last_outputs (meaning_of «module») y (size_of b)
 outputs_last {«module» = «module»} {y = y} b s last =
@@ -157,11 +157,11 @@ outputs_last {«module» = «module»} {y = y} b s last =
     s.said_is h.front b h.is
     ∙ sym (said_last (meaning_of «module») y.batches h.front b h.is)
 
-pub answered_is : (r : Recorded) (again : Bool) (b : Batch) {position : ℕ} {outputs : List (List ℕ)} {snapshot : List ℕ}
+pub answered_is : (r : ChronicleView) (again : Bool) (b : Batch) {position : ℕ} {outputs : List (List ℕ)} {snapshot : List ℕ}
     → position ≡ total_of r.history.batches → outputs ≡ last_outputs (meaning_of r.«module») r.history (size_of b)
-    → snapshot ≡ issued_bytes (recorded_instance r) r.history
+    → snapshot ≡ issued_bytes (chronicle_instance r) r.history
     → Answered (record { again = again; position = position; outputs = outputs; snapshot = snapshot }) ≡ Answered
-    (answer_on (recorded_instance r) r.history b again)
+    (answer_on (chronicle_instance r) r.history b again)
 answered_is r again b p o s =
     λ j. Answered (record { again = again; position = p j; outputs = o j; snapshot = s j })
 
@@ -169,7 +169,7 @@ answered_is r again b p o s =
 
 module _ {variant : Variant} {meaning : Meaning} {barrier : List ℕ} {y : History} {ways : Waymarks}
     (w : AreWaymarks variant meaning barrier y ways) where
-  pub ways_items : {z : History} (items : List Entry) → z ≡ record y { items = items } → AreWaymarks variant meaning barrier z ways
+  pub ways_items : {z : History} (items : List RegisterEntry) → z ≡ record y { items = items } → AreWaymarks variant meaning barrier z ways
   ways_items items is = ways_still (ap (λ (h : History). h.batches) is) (ap (λ (h : History). h.closed) is)
       (ap (λ (h : History). h.current) is) w
 
@@ -182,12 +182,12 @@ module _ {variant : Variant} {meaning : Meaning} {barrier : List ℕ} {y : Histo
         is = all ∙ ap (λ (bs : List Batch). y.batches ++ bs) (sym (ap (λ (h : History). h.current) is));
       }) w
 
-  pub ways_linked : {z : History} (b : Batch) → variant ≡ Basic → z ≡ committed Basic y.is_open y b
+  pub ways_linked : {z : History} (b : Batch) → variant ≡ Basic → z ≡ history_after_commit Basic y.is_open y b
       → AreWaymarks variant meaning barrier z ways
   ways_linked b basic is = ways_on (b ∷ []) [] (ap (λ (h : History). h.batches) is)
       (ap (λ (h : History). h.closed) is ∙ sym (append-nil y.closed)) (λ opt. let clash : Basic ≡ Opt = sym basic ∙ opt in absurd (cc)) w
 
-  pub ways_grown : {z : History} (b : Batch) → z ≡ committed Opt true y b → AreWaymarks variant meaning barrier z ways
+  pub ways_grown : {z : History} (b : Batch) → z ≡ history_after_commit Opt true y b → AreWaymarks variant meaning barrier z ways
   ways_grown b is = ways_on (b ∷ []) [] (ap (λ (h : History). h.batches) is)
       (ap (λ (h : History). h.closed) is ∙ sym (append-nil y.closed)) (λ opt. let done = (w.ends opt).done in record {
         done = done;
@@ -196,7 +196,7 @@ module _ {variant : Variant} {meaning : Meaning} {barrier : List ℕ} {y : Histo
             ∙ ap (λ (bs : List Batch). done ++ bs) (sym (ap (λ (h : History). h.current) is));
       }) w
 
-  pub ways_opened : {z : History} (b : Batch) → z ≡ committed Opt false y b → AreWaymarks variant meaning barrier z ways
+  pub ways_opened : {z : History} (b : Batch) → z ≡ history_after_commit Opt false y b → AreWaymarks variant meaning barrier z ways
   ways_opened b is = ways_on (b ∷ []) [] (ap (λ (h : History). h.batches) is)
       (ap (λ (h : History). h.closed) is ∙ sym (append-nil y.closed)) (λ opt. record {
         done = y.batches;
@@ -205,7 +205,7 @@ module _ {variant : Variant} {meaning : Meaning} {barrier : List ℕ} {y : Histo
       }) w
 
 -- more of it is kept
-module _ {variant : Variant} {«module» : AnyModule} {barrier : List ℕ} {y : History} {marks : Marks} {state : List ℕ} {said : List (List ℕ)} where
+module _ {variant : Variant} {«module» : AnyModule} {barrier : List ℕ} {y : History} {marks : HistoryMarks} {state : List ℕ} {said : List (List ℕ)} where
   pub kept_by : {ways : Waymarks} → IsSettled variant «module» barrier y marks state said
       → AreWaymarks variant (meaning_of «module») (barrier_of variant) y ways
       → IsKept variant «module» barrier y marks state said ways

@@ -14,34 +14,34 @@ pub use Rattle.mm_module.specs.Meaning.{IsLawful, Meaning, state_after}
 pub use Rattle.mm_module.specs.MeaningWords.{state_from}
 pub use Rattle.mm_modules.specs.Modules.{meaning_of}
 pub use Rattle.mm_modules.specs.declared.any.AnyModule.{AnyModule}
-pub use Rattle.mm_model.specs.History.{Close, Commit, History, Move, Placed, Reset, first_history, moved, requests_of, total_of}
+pub use Rattle.mm_model.specs.History.{Close, Commit, History, Move, Placed, Reset, first_history, history_after, requests_of, total_of}
 pub use Rattle.mm_model.specs.Instance.{Instance}
-pub use Rattle.mm_model.specs.InstanceWords.{basic, opt}
-pub use Rattle.mm_model.specs.Judge.{is_last}
+pub use Rattle.mm_model.specs.InstanceWords.{basic_instance, opt_instance}
+pub use Rattle.mm_model.specs.Verdicts.{is_last}
 pub use Rattle.mm_model.specs.Long.{is_long}
 pub use Rattle.mm_model.specs.MessagesWords.{move_messages}
-pub use Rattle.mm_model.specs.Places.{Names}
+pub use Rattle.mm_model.specs.Places.{NamesPosition}
 pub use Rattle.mm_model.specs.Standing.{IsGenuine}
-pub use Rattle.mm_model.specs.Steps.{Changes, Step, Writes}
+pub use Rattle.mm_model.specs.Steps.{Changes, DeviceStep, Writes}
 pub use Rattle.mm_model.specs.declared.refusal.Refusal.{Refusal}
 pub use Rattle.mm_call.specs.Answers.{answer_on}
-pub use Rattle.mm_call.specs.Asked.{right_messages}
-pub use Rattle.mm_call.specs.Called.{Answers, Breaks, Called, Ending, Refuses, called}
-pub use Rattle.mm_call.specs.CalledWords.{kept_at}
-pub use Rattle.mm_call.specs.Courses.{Walked, commits, planned, walk}
-pub use Rattle.mm_call.specs.Found.{Found, right_content}
-pub use Rattle.mm_call.specs.Levels.{all_made, by_lists}
-pub use Rattle.mm_call.specs.declared.ended.Ended.{Ended}
-pub use Rattle.mm_call.specs.declared.ended.Ended.TheVariants.{Answered, Broken, Refused}
+pub use Rattle.mm_call.specs.CallPremises.{right_messages}
+pub use Rattle.mm_call.specs.CallOutcome.{Answers, Breaks, CallOutcome, CallEnding, Refuses, call_outcome}
+pub use Rattle.mm_call.specs.CallOutcomeWords.{position_if_committed}
+pub use Rattle.mm_call.specs.Courses.{StepsWalk, has_commit, fate_by_plan, walk}
+pub use Rattle.mm_call.specs.CallFinding.{CallFinding, right_content}
+pub use Rattle.mm_call.specs.Levels.{state_after_moves, list_level}
+pub use Rattle.mm_call.specs.declared.ended.AskResult.{AskResult}
+pub use Rattle.mm_call.specs.declared.ended.AskResult.TheVariants.{Answered, Broken, Refused}
 pub use Rattle.mm_schedule.specs.Events.{Event}
 pub use Rattle.mm_schedule.specs.declared.event.Offer.{Offer}
 pub use Rattle.mm_schedule.specs.declared.header.Header.{Header}
 pub use Rattle.mm_history.specs.Marks.{marks_of}
 pub use Rattle.mm_history.specs.Naming.{IsDecided}
-pub use Rattle.mm_history.specs.declared.marks.Marks.{Marks}
-pub use Rattle.mm_run.specs.Folds.{Outcome, course_of, event_outcome, expected, first_issued, moves_then, reply_of, snapshots_of, way_of}
+pub use Rattle.mm_history.specs.declared.marks.HistoryMarks.{HistoryMarks}
+pub use Rattle.mm_run.specs.Folds.{Outcome, course_of, event_outcome, outcome_by_lists, first_issued, moves_after_call, reply_of, snapshots_of, way_of}
 pub use Rattle.mm_run.specs.Folds.{plan_of}
-pub use Rattle.mm_run.specs.Held.{world_of, world_barrier, world_key}
+pub use Rattle.mm_run.specs.WorldState.{world_of, world_barrier, world_key}
 pub use Rattle.mm_run.specs.Laws.{IsIssued}
-pub use Rattle.mm_run.specs.Offered.{offered_bytes}
+pub use Rattle.mm_run.specs.EventOffers.{offered_bytes}
 pub use Rattle.mm_run.specs.Premises.{IsGenuineEvent, event_messages, moves_of, IsGenuineOffer}

@@ -5,7 +5,7 @@ ghost use Rattle.mm_base.specs.Limits.{last_position};
 
 use crate::chronicle::Chronicle;
 use mm_base::{Bytes, Memory};
-use mm_call::Ended;
+use mm_call::AskResult;
 use mm_digest::{Variant, zero};
 use mm_model::BatchAnswer;
 use mm_module::{Batch, Module, Outputs};
@@ -30,19 +30,19 @@ impl Chronicle {
     ghost use Rattle.std.specs.Prelude.{◌≡◌, ◌≤◌, true, false, IfOk};
     ghost use Rattle.mm_module.specs.Batches.{batch_of};
     ghost use Rattle.mm_model.specs.History.{total_of};
-    ghost use Rattle.mm_model.specs.Judge.{is_last};
+    ghost use Rattle.mm_model.specs.Verdicts.{is_last};
     ghost use Rattle.mm_model.specs.Long.{is_long};
     ghost use Rattle.mm_model.specs.Places.{issued_place};
     ghost use Rattle.mm_model.specs.Standing.{issued_bytes};
     ghost use Rattle.mm_call.specs.Answers.{answer_on};
-    ghost use Rattle.mm_call.specs.declared.ended.Ended.TheVariants.{Answered};
-    ghost use Rattle.mm_run.specs.Held.{world_key};
-    ghost use Rattle.mm_expect.specs.Recorded.{recorded_instance};
+    ghost use Rattle.mm_call.specs.declared.ended.AskResult.TheVariants.{Answered};
+    ghost use Rattle.mm_run.specs.WorldState.{world_key};
+    ghost use Rattle.mm_expect.specs.ChronicleView.{chronicle_instance};
 
     // Where the snapshot of an answer stands.
     fn place_now(&self) -> Place
         ensures { result ≡ issued_place self.now.variant self.now.history.is_open
-            (recorded_instance self.now) self.now.history }
+            (chronicle_instance self.now) self.now.history }
     {
         match self.variant {
             Variant::Basic => Place::Basic(self.marks.cell),
@@ -63,7 +63,7 @@ impl Chronicle {
         requires key { key.old ≡ world_key }
         requires few { total_of self.now.history.batches ≤ last_position }
         ensures bytes { IfOk result
-            (λ bytes. bytes ≡ issued_bytes (recorded_instance self.now) self.now.history) }
+            (λ bytes. bytes ≡ issued_bytes (chronicle_instance self.now) self.now.history) }
         ensures key { key.new ≡ key.old }
     {
         let body = Body {
@@ -81,19 +81,19 @@ impl Chronicle {
         key: &mut SealingKey,
         batch: Batch<'_>,
         again: bool,
-    ) -> Result<Ended, Memory>
+    ) -> Result<AskResult, Memory>
         requires key { key.old ≡ world_key }
         requires few { total_of self.now.history.batches ≤ last_position }
         requires last { is_last self.now.history.batches (batch_of batch) ≡ true }
         ensures key { key.new ≡ key.old }
         ensures answer { IfOk result
             (λ ended. ended ≡ Answered
-            (answer_on (recorded_instance self.now) self.now.history (batch_of batch.entry)
+            (answer_on (chronicle_instance self.now) self.now.history (batch_of batch.entry)
             again)) }
     {
         let outputs = copy_of(self.alloc, &self.said)?;
         let snapshot = self.snapshot(key)?;
-        Ok(Ended::Answered(BatchAnswer {
+        Ok(AskResult::Answered(BatchAnswer {
             again,
             position: self.marks.total,
             outputs,

@@ -3,13 +3,13 @@
 ghost use Rattle.std.specs.Prelude.{◌≡◌};
 
 use crate::chronicle::Chronicle;
-use crate::course::{Move, Step, is_made_at};
+use crate::course::{ChronicleMove, ChronicleStep, is_made_at};
 use mm_base::Memory;
-use mm_call::Ended;
+use mm_call::AskResult;
 use mm_digest::Variant;
 use mm_module::Batch;
 use mm_platform::StepFault;
-use mm_run::Course;
+use mm_run::CallPlan;
 use mm_seal::SealingKey;
 
 impl Chronicle {
@@ -18,48 +18,48 @@ impl Chronicle {
     ghost use Rattle.mm_model.specs.Steps.{Reads};
     ghost use Rattle.mm_module.specs.Batches.{batch_of};
     ghost use Rattle.mm_model.specs.Long.{is_long};
-    ghost use Rattle.mm_call.specs.Called.{called, reading_steps};
-    ghost use Rattle.mm_call.specs.Courses.{planned, walk};
-    ghost use Rattle.mm_call.specs.Checkpoints.{checkpointed};
-    ghost use Rattle.mm_call.specs.Levels.{by_lists};
+    ghost use Rattle.mm_call.specs.CallOutcome.{call_outcome, reading_steps};
+    ghost use Rattle.mm_call.specs.Courses.{fate_by_plan, walk};
+    ghost use Rattle.mm_call.specs.Checkpoints.{checkpoint_outcome};
+    ghost use Rattle.mm_call.specs.Levels.{list_level};
     ghost use Rattle.mm_run.specs.Folds.{course_of, plan_of};
-    ghost use Rattle.mm_run.specs.Held.{world_key};
-    ghost use Rattle.mm_expect.specs.Recorded.{recorded_instance};
-    ghost use Rattle.mm_expect.specs.Walking.{Walks};
-    ghost use Rattle.mm_expect.specs.Calls.{Admits, CallsBy, GoesOnNew, ChangesBy};
-    ghost use Rattle.mm_expect.specs.Closings.{WentByCheckpoint, ShutBy};
+    ghost use Rattle.mm_run.specs.WorldState.{world_key};
+    ghost use Rattle.mm_expect.specs.ChronicleView.{chronicle_instance};
+    ghost use Rattle.mm_expect.specs.ChronicleSteps.{ChronicleWalks};
+    ghost use Rattle.mm_expect.specs.Calls.{AdmitsBatch, ChronicleCalls, NewCallGoesOn, ChronicleChanges};
+    ghost use Rattle.mm_expect.specs.Closings.{ChronicleGoesByCheckpoint, ChronicleClosesBy};
 
     // The steps of a call up to its last reading step.
-    fn read(&mut self, course: &Course<'_>) -> Result<Option<StepFault>, Memory>
-        ensures { IfOk result (Walks self.old self.new
-            (walk (planned (plan_of course.now.stop course.now.meddles.now)) 1
+    fn read(&mut self, course: &CallPlan<'_>) -> Result<Option<StepFault>, Memory>
+        ensures { IfOk result (ChronicleWalks self.old self.new
+            (walk (fate_by_plan (plan_of course.now.stop course.now.meddles.now)) 1
             (reading_steps self.old.variant))) }
     {
         match self.variant {
-            Variant::Basic => self.walk(course, 1, &[Step::Reads]),
-            Variant::Opt => self.walk(course, 1, &[Step::Reads, Step::Reads]),
+            Variant::Basic => self.walk(course, 1, &[ChronicleStep::Reads]),
+            Variant::Opt => self.walk(course, 1, &[ChronicleStep::Reads, ChronicleStep::Reads]),
         }
     }
 
     // The steps behind the reading ones, of a call whose batch is a new one.
-    fn change(&mut self, course: &Course<'_>, batch: Batch<'_>) -> Result<Option<StepFault>, Memory>
+    fn change(&mut self, course: &CallPlan<'_>, batch: Batch<'_>) -> Result<Option<StepFault>, Memory>
         requires { is_long (batch_of batch) ≡ false }
-        ensures { IfOk result (ChangesBy self.old self.new course.now.stop course.now.meddles.now
+        ensures { IfOk result (ChronicleChanges self.old self.new course.now.stop course.now.meddles.now
             (batch_of batch.entry)) }
     {
         match self.variant {
-            Variant::Basic => self.walk(course, 2, &[Step::Writes(Move::Commit(batch))]),
+            Variant::Basic => self.walk(course, 2, &[ChronicleStep::Writes(ChronicleMove::Commit(batch))]),
             Variant::Opt => {
                 if self.lists.is_open() {
-                    self.walk(course, 3, &[Step::Changes(Move::Commit(batch))])
+                    self.walk(course, 3, &[ChronicleStep::Changes(ChronicleMove::Commit(batch))])
                 } else {
                     self.walk(
                         course,
                         3,
                         &[
-                            Step::Changes(Move::Reset),
-                            Step::Changes(Move::Place(batch)),
-                            Step::Writes(Move::Commit(batch)),
+                            ChronicleStep::Changes(ChronicleMove::Reset),
+                            ChronicleStep::Changes(ChronicleMove::Place(batch)),
+                            ChronicleStep::Writes(ChronicleMove::Commit(batch)),
                         ],
                     )
                 }
@@ -71,27 +71,27 @@ impl Chronicle {
     pub(crate) fn call(
         &mut self,
         key: &mut SealingKey,
-        course: &Course<'_>,
+        course: &CallPlan<'_>,
         bytes: &[u8],
         batch: Batch<'_>,
-    ) -> Result<Ended, Memory>
+    ) -> Result<AskResult, Memory>
         requires key { key.old ≡ world_key }
         requires short { is_long (batch_of batch) ≡ false }
         ensures key { key.new ≡ key.old }
         ensures calls { IfOk result
-            (CallsBy self.old self.new
-            (called (recorded_instance self.old) (by_lists (recorded_instance self.old))
+            (ChronicleCalls self.old self.new
+            (call_outcome (chronicle_instance self.old) (list_level (chronicle_instance self.old))
             self.old.history
             (course_of course.now.stop course.now.meddles.now) bytes.now (batch_of batch.entry))) }
     {
         if let Some(fault) = self.read(course)? {
-            return Ok(Ended::Broken {
+            return Ok(AskResult::Broken {
                 fault,
                 commits: None,
             });
         }
         match self.find(key, bytes, batch) {
-            Err(refusal) => Ok(Ended::Refused(refusal)),
+            Err(refusal) => Ok(AskResult::Refused(refusal)),
             Ok(true) => self.answer(key, batch, true),
             Ok(false) => self.call_new(key, course, batch),
         }
@@ -101,14 +101,14 @@ impl Chronicle {
     fn call_new(
         &mut self,
         key: &mut SealingKey,
-        course: &Course<'_>,
+        course: &CallPlan<'_>,
         batch: Batch<'_>,
-    ) -> Result<Ended, Memory>
+    ) -> Result<AskResult, Memory>
         requires key { key.old ≡ world_key }
         requires short { is_long (batch_of batch) ≡ false }
-        requires admits { Admits self.old.history (batch_of batch) false }
+        requires admits { AdmitsBatch self.old.history (batch_of batch) false }
         ensures key { key.new ≡ key.old }
-        ensures goes { IfOk result (GoesOnNew self.old self.new course.now.stop course.now.meddles.now
+        ensures goes { IfOk result (NewCallGoesOn self.old self.new course.now.stop course.now.meddles.now
             (batch_of batch.entry)) }
     {
         let before = self.total();
@@ -117,41 +117,41 @@ impl Chronicle {
             Some(fault) => {
                 let total = self.total();
                 let commits = if total == before { None } else { Some(total) };
-                Ok(Ended::Broken { fault, commits })
+                Ok(AskResult::Broken { fault, commits })
             }
         }
     }
 
     /// A checkpoint.
-    pub(crate) fn checkpoint(&mut self, course: &Course<'_>) -> Result<Closing, Memory>
+    pub(crate) fn checkpoint(&mut self, course: &CallPlan<'_>) -> Result<ClosingResult, Memory>
         ensures { IfOk result
-            (WentByCheckpoint self.old self.new
-            (checkpointed (recorded_instance self.old) (by_lists (recorded_instance self.old))
+            (ChronicleGoesByCheckpoint self.old self.new
+            (checkpoint_outcome (chronicle_instance self.old) (list_level (chronicle_instance self.old))
             self.old.history
             (course_of course.now.stop course.now.meddles.now))) }
     {
         match self.variant {
-            Variant::Basic => self.check_shut(course, Closing::HasNone),
+            Variant::Basic => self.check_shut(course, ClosingResult::HasNone),
             Variant::Opt => {
                 if self.lists.is_open() {
                     self.check_open(course)
                 } else {
-                    self.check_shut(course, Closing::NoSegment)
+                    self.check_shut(course, ClosingResult::NoSegment)
                 }
             }
         }
     }
 
     // A checkpoint that reads the cell alone, and ends so unless it is broken off.
-    fn check_shut(&mut self, course: &Course<'_>, closing: Closing) -> Result<Closing, Memory>
+    fn check_shut(&mut self, course: &CallPlan<'_>, closing: ClosingResult) -> Result<ClosingResult, Memory>
         ensures { IfOk result
-            (ShutBy self.old self.new
-            (walk (planned (plan_of course.now.stop course.now.meddles.now)) 1 (Reads ∷ []))
+            (ChronicleClosesBy self.old self.new
+            (walk (fate_by_plan (plan_of course.now.stop course.now.meddles.now)) 1 (Reads ∷ []))
             closing) }
     {
-        match self.walk(course, 1, &[Step::Reads])? {
+        match self.walk(course, 1, &[ChronicleStep::Reads])? {
             None => Ok(closing),
-            Some(fault) => Ok(Closing::Stops {
+            Some(fault) => Ok(ClosingResult::Stops {
                 fault,
                 closed: false,
             }),
@@ -159,27 +159,27 @@ impl Chronicle {
     }
 
     // A checkpoint of an open segment.
-    fn check_open(&mut self, course: &Course<'_>) -> Result<Closing, Memory>
+    fn check_open(&mut self, course: &CallPlan<'_>) -> Result<ClosingResult, Memory>
         requires variant { self.old.variant ≡ Opt }
         requires inside { self.old.history.is_open ≡ true }
         ensures { IfOk result
-            (WentByCheckpoint self.old self.new
-            (checkpointed (recorded_instance self.old) (by_lists (recorded_instance self.old))
+            (ChronicleGoesByCheckpoint self.old self.new
+            (checkpoint_outcome (chronicle_instance self.old) (list_level (chronicle_instance self.old))
             self.old.history
             (course_of course.now.stop course.now.meddles.now))) }
     {
-        if let Some(fault) = self.walk(course, 1, &[Step::Reads, Step::Reads])? {
-            return Ok(Closing::Stops {
+        if let Some(fault) = self.walk(course, 1, &[ChronicleStep::Reads, ChronicleStep::Reads])? {
+            return Ok(ClosingResult::Stops {
                 fault,
                 closed: false,
             });
         }
         if self.is_lost() {
-            return Ok(Closing::LostPower);
+            return Ok(ClosingResult::LostPower);
         }
-        match self.walk(course, 3, &[Step::Writes(Move::Close)])? {
-            None => Ok(Closing::Closes),
-            Some(fault) => Ok(Closing::Stops {
+        match self.walk(course, 3, &[ChronicleStep::Writes(ChronicleMove::Close)])? {
+            None => Ok(ClosingResult::Closes),
+            Some(fault) => Ok(ClosingResult::Stops {
                 fault,
                 closed: is_made_at(course.stop, 3),
             }),
@@ -189,7 +189,7 @@ impl Chronicle {
 
 /// How a checkpoint ends.
 #[derive(Clone, Copy)]
-pub(crate) enum Closing {
+pub(crate) enum ClosingResult {
     Closes,
     HasNone,
     NoSegment,
@@ -197,17 +197,17 @@ pub(crate) enum Closing {
     Stops { fault: StepFault, closed: bool },
 }
 
-impl Closing {
+impl ClosingResult {
     ghost use Rattle.std.specs.Prelude.{◌≡◌};
-    ghost use Rattle.mm_expect.specs.Closings.{stops};
+    ghost use Rattle.mm_expect.specs.Closings.{is_broken_off};
 
     /// Whether a device's fault broke the checkpoint off.
     pub(crate) fn stops(&self) -> bool
-        ensures { result ≡ stops self.now }
+        ensures { result ≡ is_broken_off self.now }
     {
         match self {
-            Closing::Stops { .. } => true,
-            Closing::Closes | Closing::HasNone | Closing::NoSegment | Closing::LostPower => false,
+            ClosingResult::Stops { .. } => true,
+            ClosingResult::Closes | ClosingResult::HasNone | ClosingResult::NoSegment | ClosingResult::LostPower => false,
         }
     }
 }

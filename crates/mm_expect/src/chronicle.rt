@@ -3,9 +3,9 @@
 ghost use Rattle.std.specs.Prelude.{◌≡◌};
 
 use mm_base::{Bytes, Memory};
-use mm_call::{Ran, run_batch};
+use mm_call::{BatchRun, run_batch};
 use mm_digest::{Digest, Variant, zero};
-use mm_history::{Lists, Marks, Waymarks, anchored_message, guard, joined};
+use mm_history::{HistoryLists, HistoryMarks, Waymarks, anchored_message, guard, joined};
 use mm_module::{Batch, Module, Outputs};
 use mm_modules::AnyModule;
 use mm_run::world_barrier;
@@ -20,8 +20,8 @@ pub(crate) struct Chronicle {
     pub(crate) variant: Variant,
     pub(crate) module: AnyModule,
     pub(crate) barrier: [u8; 32],
-    pub(crate) lists: Lists,
-    pub(crate) marks: Marks,
+    pub(crate) lists: HistoryLists,
+    pub(crate) marks: HistoryMarks,
     /// The module's state.
     pub(crate) state: Bytes,
     /// What the module said to the last batch.
@@ -32,10 +32,10 @@ pub(crate) struct Chronicle {
 }
 
 impl Model for Chronicle {
-    ghost use Rattle.mm_expect.specs.Recorded.{Recorded};
-    ghost use Rattle.mm_expect.specs.Settled.{IsKept};
+    ghost use Rattle.mm_expect.specs.ChronicleView.{ChronicleView};
+    ghost use Rattle.mm_expect.specs.SettledChronicle.{IsKept};
 
-    ghost Value = { Recorded };
+    ghost Value = { ChronicleView };
 
     ghost view = { λ s. record {
       variant = s.variant;
@@ -56,9 +56,9 @@ impl Chronicle {
     ghost use Rattle.mm_module.specs.Batches.{batch_of};
     ghost use Rattle.mm_model.specs.Chains.{guard};
     ghost use Rattle.mm_model.specs.Long.{is_long};
-    ghost use Rattle.mm_model.specs.History.{Move, Commit, Foreign, Placed, Reset, Close, Power, committed, register_value_of, total_of};
+    ghost use Rattle.mm_model.specs.History.{Move, Commit, Foreign, Placed, Reset, Close, Power, history_after_commit, register_value_of, total_of};
     ghost use Rattle.mm_model.specs.HistoryWords.{cell_digest_of};
-    ghost use Rattle.mm_expect.specs.Recorded.{first_recorded, Went, recorded_instance, extension_messages, closing_listed, state_after_batch, outputs_of_batch};
+    ghost use Rattle.mm_expect.specs.ChronicleView.{first_chronicle, ChronicleGoes, chronicle_instance, extension_messages, segment_closing_messages, state_after_batch, outputs_of_batch};
 
     /// The first history of a variant and a module.
     pub(crate) fn new(
@@ -66,15 +66,15 @@ impl Chronicle {
         variant: Variant,
         module: AnyModule,
     ) -> Result<Chronicle, Memory>
-        ensures { IfOk result (λ it. it ≡ first_recorded variant «module») }
+        ensures { IfOk result (λ it. it ≡ first_chronicle variant «module») }
     {
         let state = module.first_state(alloc)?;
         let barrier = match variant {
             Variant::Basic => zero().bytes,
             Variant::Opt => world_barrier(),
         };
-        let lists = Lists::new(alloc);
-        let marks = Marks::first(variant, module.id());
+        let lists = HistoryLists::new(alloc);
+        let marks = HistoryMarks::first(variant, module.id());
         let waymarks = Waymarks::first(alloc, &lists, &marks, variant, state.as_slice())?;
         Ok(Chronicle {
             alloc,
@@ -112,12 +112,12 @@ impl Chronicle {
         Ok(())
     }
 
-    // Lists the message by which the register takes in a value: none in Basic, which has no register.
+    // HistoryLists the message by which the register takes in a value: none in Basic, which has no register.
     fn tell_extension(&mut self, value: &Digest) -> Result<(), Memory>
         ensures { OnOk result (self.new ≡ record self.old {
           extending = self.old.extending
               ++ extension_messages self.old.variant
-              (register_value_of (recorded_instance self.old) self.old.history) value.now.bytes;
+              (register_value_of (chronicle_instance self.old) self.old.history) value.now.bytes;
         }) }
     {
         if let Variant::Opt = self.variant {
@@ -129,7 +129,7 @@ impl Chronicle {
 
     /// Others put a value into the register.
     pub(crate) fn bring(&mut self, value: &Digest) -> Result<(), Memory>
-        ensures { OnOk result (Went self.old self.new (Foreign value.now.bytes ∷ [])) }
+        ensures { OnOk result (ChronicleGoes self.old self.new (Foreign value.now.bytes ∷ [])) }
     {
         self.tell_extension(value)?;
         self.lists.take_in(value)?;
@@ -139,7 +139,7 @@ impl Chronicle {
 
     /// The core puts the guard of a batch into the register, which isn't committed yet.
     pub(crate) fn place(&mut self, batch: Batch<'_>) -> Result<(), Memory>
-        ensures { OnOk result (Went self.old self.new (Placed (batch_of batch.entry) ∷ [])) }
+        ensures { OnOk result (ChronicleGoes self.old self.new (Placed (batch_of batch.entry) ∷ [])) }
     {
         let value = guard(&self.barrier, batch);
         self.bring(&value)
@@ -147,20 +147,20 @@ impl Chronicle {
 
     /// The register is emptied: by the core, or as power is lost.
     pub(crate) fn empty(&mut self)
-        ensures reset { Went self.old self.new (Reset ∷ []) }
-        ensures power { Went self.old self.new (Power ∷ []) }
+        ensures reset { ChronicleGoes self.old self.new (Reset ∷ []) }
+        ensures power { ChronicleGoes self.old self.new (Power ∷ []) }
     {
         self.lists.empty();
         self.marks = self.marks.emptied(self.lists.is_clear());
     }
 
-    // Lists the message by which a segment is closed: none in Basic, which has no segments.
+    // HistoryLists the message by which a segment is closed: none in Basic, which has no segments.
     fn tell_closing(&mut self) -> Result<(), Memory>
         ensures { OnOk result (self.new ≡ record self.old {
           closing = self.old.closing
-              ++ closing_listed self.old.variant
-              (cell_digest_of (recorded_instance self.old) self.old.variant self.old.history)
-              (register_value_of (recorded_instance self.old) self.old.history);
+              ++ segment_closing_messages self.old.variant
+              (cell_digest_of (chronicle_instance self.old) self.old.variant self.old.history)
+              (register_value_of (chronicle_instance self.old) self.old.history);
         }) }
     {
         if let Variant::Opt = self.variant {
@@ -172,7 +172,7 @@ impl Chronicle {
 
     /// The open segment is closed.
     pub(crate) fn close(&mut self) -> Result<(), Memory>
-        ensures { OnOk result (Went self.old self.new (Close ∷ [])) }
+        ensures { OnOk result (ChronicleGoes self.old self.new (Close ∷ [])) }
     {
         self.tell_closing()?;
         let has_value = self.lists.has_value();
@@ -205,7 +205,7 @@ impl Chronicle {
     /// A batch is committed.
     pub(crate) fn commit(&mut self, batch: Batch<'_>) -> Result<(), Memory>
         requires { is_long (batch_of batch) ≡ false }
-        ensures { OnOk result (Went self.old self.new (Commit (batch_of batch.entry) ∷ [])) }
+        ensures { OnOk result (ChronicleGoes self.old self.new (Commit (batch_of batch.entry) ∷ [])) }
     {
         let ran = run_batch(self.alloc, &self.module, self.state.as_slice(), batch)?;
         let size = batch.len() as u64;
@@ -226,25 +226,25 @@ impl Chronicle {
     }
 
     // Basic: a batch of this size is committed, which ran so.
-    fn link(&mut self, batch: Batch<'_>, size: u64, ran: Ran) -> Result<(), Memory>
+    fn link(&mut self, batch: Batch<'_>, size: u64, ran: BatchRun) -> Result<(), Memory>
         requires variant { self.old.variant ≡ Basic }
         requires short { is_long (batch_of batch) ≡ false }
         requires size { size ≡ size_of (batch_of batch) }
         requires fits { total_of self.old.history.batches + size < 2 ^ 64 }
         requires state { ran.state ≡ state_after_batch self.old (batch_of batch) }
         requires said { ran.outputs ≡ outputs_of_batch self.old (batch_of batch) }
-        ensures { OnOk result (Went self.old self.new (Commit (batch_of batch.entry) ∷ [])) }
+        ensures { OnOk result (ChronicleGoes self.old self.new (Commit (batch_of batch.entry) ∷ [])) }
     {
         self.lists.add(batch)?;
         self.marks = self.marks.linked(batch, size);
-        let Ran { state, outputs } = ran;
+        let BatchRun { state, outputs } = ran;
         self.state = state;
         self.said = outputs;
         Ok(())
     }
 
     // Opt, inside a segment: likewise.
-    fn grow(&mut self, batch: Batch<'_>, size: u64, ran: Ran) -> Result<(), Memory>
+    fn grow(&mut self, batch: Batch<'_>, size: u64, ran: BatchRun) -> Result<(), Memory>
         requires variant { self.old.variant ≡ Opt }
         requires inside { self.old.history.is_open ≡ true }
         requires short { is_long (batch_of batch) ≡ false }
@@ -252,7 +252,7 @@ impl Chronicle {
         requires fits { total_of self.old.history.batches + size < 2 ^ 64 }
         requires state { ran.state ≡ state_after_batch self.old (batch_of batch) }
         requires said { ran.outputs ≡ outputs_of_batch self.old (batch_of batch) }
-        ensures { OnOk result (Went self.old self.new (Commit (batch_of batch.entry) ∷ [])) }
+        ensures { OnOk result (ChronicleGoes self.old self.new (Commit (batch_of batch.entry) ∷ [])) }
     {
         let value = guard(&self.barrier, batch);
         self.tell_extension(&value)?;
@@ -264,7 +264,7 @@ impl Chronicle {
         &mut self,
         batch: Batch<'_>,
         size: u64,
-        ran: Ran,
+        ran: BatchRun,
         value: &Digest,
     ) -> Result<(), Memory>
         requires variant { self.old.variant ≡ Opt }
@@ -274,22 +274,22 @@ impl Chronicle {
         requires state { ran.state ≡ state_after_batch self.old (batch_of batch) }
         requires said { ran.outputs ≡ outputs_of_batch self.old (batch_of batch) }
         requires guards { value.now.bytes
-            ≡ guard (recorded_instance self.old).barrier (batch_of batch) }
+            ≡ guard (chronicle_instance self.old).barrier (batch_of batch) }
         ensures { OnOk result
             (self.new ≡ record self.old {
-              history = committed Opt true self.old.history (batch_of batch.entry);
+              history = history_after_commit Opt true self.old.history (batch_of batch.entry);
             }) }
     {
         self.lists.add_inside(batch)?;
         self.marks = self.marks.grown(size, value);
-        let Ran { state, outputs } = ran;
+        let BatchRun { state, outputs } = ran;
         self.state = state;
         self.said = outputs;
         Ok(())
     }
 
     // Opt, with no segment open: likewise.
-    fn begin_segment(&mut self, batch: Batch<'_>, size: u64, ran: Ran) -> Result<(), Memory>
+    fn begin_segment(&mut self, batch: Batch<'_>, size: u64, ran: BatchRun) -> Result<(), Memory>
         requires variant { self.old.variant ≡ Opt }
         requires outside { self.old.history.is_open ≡ false }
         requires short { is_long (batch_of batch) ≡ false }
@@ -297,14 +297,14 @@ impl Chronicle {
         requires fits { total_of self.old.history.batches + size < 2 ^ 64 }
         requires state { ran.state ≡ state_after_batch self.old (batch_of batch) }
         requires said { ran.outputs ≡ outputs_of_batch self.old (batch_of batch) }
-        ensures { OnOk result (Went self.old self.new (Commit (batch_of batch.entry) ∷ [])) }
+        ensures { OnOk result (ChronicleGoes self.old self.new (Commit (batch_of batch.entry) ∷ [])) }
     {
         let value = guard(&self.barrier, batch);
         let is_alone = self.lists.is_alone();
         self.lists.open(batch)?;
         let register = self.lists.register(&self.barrier);
         self.marks = self.marks.opened(size, &value, register, is_alone);
-        let Ran { state, outputs } = ran;
+        let BatchRun { state, outputs } = ran;
         self.state = state;
         self.said = outputs;
         Ok(())

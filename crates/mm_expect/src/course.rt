@@ -7,11 +7,11 @@ use crate::chronicle::Chronicle;
 use mm_base::Memory;
 use mm_module::Batch;
 use mm_platform::{StepFault, Stop};
-use mm_run::Course;
+use mm_run::CallPlan;
 
 /// What a step of the core does to a history.
 #[derive(Clone, Copy)]
-pub(crate) enum Move<'a> {
+pub(crate) enum ChronicleMove<'a> {
     Commit(Batch<'a>),
     Place(Batch<'a>),
     Reset,
@@ -20,10 +20,10 @@ pub(crate) enum Move<'a> {
 
 /// A device step: it reads, or changes the register, or writes the cell.
 #[derive(Clone, Copy)]
-pub(crate) enum Step<'a> {
+pub(crate) enum ChronicleStep<'a> {
     Reads,
-    Changes(Move<'a>),
-    Writes(Move<'a>),
+    Changes(ChronicleMove<'a>),
+    Writes(ChronicleMove<'a>),
 }
 
 // The fault that the step of this number answers.
@@ -50,41 +50,41 @@ pub(crate) fn is_made_at(stop: Stop, step: u8) -> bool
 impl Chronicle {
     ghost use Rattle.std.specs.Prelude.{◌≡◌, ◌+◌, ◌<◌, [], ◌∷◌, map, false, length, IfOk, OnOk};
     ghost use Rattle.mm_model.specs.History.{Foreign};
-    ghost use Rattle.mm_platform.specs.StandingWords.{due};
-    ghost use Rattle.mm_call.specs.Courses.{planned, walk, step_moves};
+    ghost use Rattle.mm_platform.specs.StandingWords.{due_values};
+    ghost use Rattle.mm_call.specs.Courses.{fate_by_plan, walk, step_moves};
     ghost use Rattle.mm_call.specs.CoursesWords.{made_move};
     ghost use Rattle.mm_run.specs.Folds.{plan_of};
-    ghost use Rattle.mm_expect.specs.Recorded.{Went};
-    ghost use Rattle.mm_expect.specs.Walking.{move_of, step_as, steps_of, IsShortMove, IsShortStep, AreShort, Walks};
+    ghost use Rattle.mm_expect.specs.ChronicleView.{ChronicleGoes};
+    ghost use Rattle.mm_expect.specs.ChronicleSteps.{move_of, model_step_of, steps_of, IsShortMove, IsShortStep, AreShort, ChronicleWalks};
 
     // A move of the core is made.
-    fn make(&mut self, action: &Move<'_>) -> Result<(), Memory>
+    fn make(&mut self, action: &ChronicleMove<'_>) -> Result<(), Memory>
         requires { IsShortMove action.now }
-        ensures { OnOk result (Went self.old self.new (move_of action.now ∷ [])) }
+        ensures { OnOk result (ChronicleGoes self.old self.new (move_of action.now ∷ [])) }
     {
         match *action {
-            Move::Commit(batch) => self.commit(batch),
-            Move::Place(batch) => self.place(batch),
-            Move::Reset => {
+            ChronicleMove::Commit(batch) => self.commit(batch),
+            ChronicleMove::Place(batch) => self.place(batch),
+            ChronicleMove::Reset => {
                 self.empty();
                 Ok(())
             }
-            Move::Close => self.close(),
+            ChronicleMove::Close => self.close(),
         }
     }
 
     // A move is made where its step has its effect.
-    fn make_if(&mut self, is_made: bool, action: &Move<'_>) -> Result<(), Memory>
+    fn make_if(&mut self, is_made: bool, action: &ChronicleMove<'_>) -> Result<(), Memory>
         requires { IsShortMove action.now }
-        ensures { OnOk result (Went self.old self.new (made_move is_made (move_of action.now))) }
+        ensures { OnOk result (ChronicleGoes self.old self.new (made_move is_made (move_of action.now))) }
     {
         if is_made { self.make(action) } else { Ok(()) }
     }
 
     // What others put into the register just before the step of this number.
-    fn bring_due(&mut self, course: &Course<'_>, step: u8) -> Result<(), Memory>
+    fn bring_due(&mut self, course: &CallPlan<'_>, step: u8) -> Result<(), Memory>
         ensures { OnOk result
-            (Went self.old self.new (map Foreign (due step course.now.meddles.now))) }
+            (ChronicleGoes self.old self.new (map Foreign (due_values step course.now.meddles.now))) }
     {
         'meddles: for meddle in course.meddles {
             if meddle.step == step {
@@ -97,23 +97,23 @@ impl Chronicle {
     // One device step, by whether it has its effect.
     fn step(
         &mut self,
-        course: &Course<'_>,
+        course: &CallPlan<'_>,
         number: u8,
-        step: &Step<'_>,
+        step: &ChronicleStep<'_>,
         is_made: bool,
     ) -> Result<(), Memory>
         requires { IsShortStep step.now }
         ensures { OnOk result
-            (Went self.old self.new
-            (step_moves (step_as step.now) is_made (due number course.now.meddles.now))) }
+            (ChronicleGoes self.old self.new
+            (step_moves (model_step_of step.now) is_made (due_values number course.now.meddles.now))) }
     {
         match step {
-            Step::Reads => self.bring_due(course, number),
-            Step::Changes(action) => {
+            ChronicleStep::Reads => self.bring_due(course, number),
+            ChronicleStep::Changes(action) => {
                 self.bring_due(course, number)?;
                 self.make_if(is_made, action)
             }
-            Step::Writes(action) => {
+            ChronicleStep::Writes(action) => {
                 self.make_if(is_made, action)?;
                 self.bring_due(course, number)
             }
@@ -123,15 +123,15 @@ impl Chronicle {
     /// The steps of a call, one after another, from the step of this number on: the fault by which the call is broken off.
     pub(crate) fn walk(
         &mut self,
-        course: &Course<'_>,
+        course: &CallPlan<'_>,
         number: u8,
-        steps: &[Step<'_>],
+        steps: &[ChronicleStep<'_>],
     ) -> Result<Option<StepFault>, Memory>
         requires short { AreShort steps.now }
         requires few { number + length steps.now < 256 }
         ensures { IfOk result
-            (Walks self.old self.new
-            (walk (planned (plan_of course.now.stop course.now.meddles.now)) number
+            (ChronicleWalks self.old self.new
+            (walk (fate_by_plan (plan_of course.now.stop course.now.meddles.now)) number
             (steps_of steps.now))) }
     {
         let Some((step, later)) = steps.split_first() else {

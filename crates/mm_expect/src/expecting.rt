@@ -3,27 +3,27 @@
 ghost use Rattle.std.specs.Prelude.{◌≡◌, ◌++◌, false, IfOk, OnOk, option_to_list};
 ghost use Rattle.mm_module.specs.Batches.{batch_of};
 ghost use Rattle.mm_model.specs.Long.{is_long};
-ghost use Rattle.mm_call.specs.Asked.{right_messages};
-ghost use Rattle.mm_call.specs.Ended.{is_broken};
-ghost use Rattle.mm_call.specs.Found.{right_content};
+ghost use Rattle.mm_call.specs.CallPremises.{right_messages};
+ghost use Rattle.mm_call.specs.EndedCall.{is_broken};
+ghost use Rattle.mm_call.specs.CallFinding.{right_content};
 ghost use Rattle.mm_schedule.specs.Events.{Ask, Checkpoint, Power, Extend, meddles_of, event_of};
-ghost use Rattle.mm_run.specs.Folds.{after_stop};
-ghost use Rattle.mm_run.specs.Held.{world_key};
-ghost use Rattle.mm_expect.specs.Coming.{WentByCall, WentByEvent, moves_if};
-ghost use Rattle.mm_expect.specs.Recorded.{Went, recorded_instance};
+ghost use Rattle.mm_run.specs.Folds.{moves_after_stop};
+ghost use Rattle.mm_run.specs.WorldState.{world_key};
+ghost use Rattle.mm_expect.specs.ChronicleEvents.{ChronicleGoesByCall, ChronicleGoesByEvent, moves_if};
+ghost use Rattle.mm_expect.specs.ChronicleView.{ChronicleGoes, chronicle_instance};
 
-use crate::calls::Closing;
+use crate::calls::ClosingResult;
 use crate::chronicle::Chronicle;
 use crate::offers::{is_genuine, right_body};
-use crate::replies::{Said, closing_said, quiet, said_of};
+use crate::replies::{EventReply, closing_said, quiet, said_of};
 use mm_base::{Bytes, Memory};
-use mm_call::Ended;
+use mm_call::AskResult;
 use mm_digest::Digest;
 use mm_history::list_place;
 use mm_model::{is_long, normal};
 use mm_module::Batch;
 use mm_platform::{Meddle, Stop};
-use mm_run::{Course, offered, way, world_key};
+use mm_run::{CallPlan, offered, way, world_key};
 use mm_schedule::{Cause, Event, Header, Meddles, Offer, Reply};
 use mm_seal::SealingKey;
 use std::alloc::Global;
@@ -31,7 +31,7 @@ use std::marker::Model;
 
 /// What an event comes to by lists.
 #[derive(Drop)]
-pub struct Heard {
+pub struct ExpectedOutcome {
     /// The reply that is expected.
     pub reply: Reply,
     /// The messages of the event, in the order of their numbers; one may have come before.
@@ -40,19 +40,19 @@ pub struct Heard {
 
 /// A schedule followed by lists, which contracts see as the header, the history and the issued snapshots.
 #[derive(Drop)]
-pub struct Expecting {
+pub struct Expectation {
     alloc: Global,
     key: SealingKey,
     chronicle: Chronicle,
     issued: Vec<Bytes>,
 }
 
-impl Model for Expecting {
+impl Model for Expectation {
     ghost use Rattle.std.specs.Prelude.{◌≡◌};
-    ghost use Rattle.mm_run.specs.Held.{world_key};
-    ghost use Rattle.mm_expect.specs.Traced.{Traced};
+    ghost use Rattle.mm_run.specs.WorldState.{world_key};
+    ghost use Rattle.mm_expect.specs.ExpectedState.{ExpectedState};
 
-    ghost Value = { Traced };
+    ghost Value = { ExpectedState };
 
     ghost view = { λ s. record {
       header = record { variant = s.chronicle.variant; «module» = s.chronicle.«module» };
@@ -81,8 +81,8 @@ fn list_asked(
 ) -> Result<(), Memory>
     requires { key.now ≡ world_key }
     ensures { OnOk result (messages.new.items
-        ≡ messages.old.items ++ right_messages (recorded_instance chronicle.now)
-        (batch_of batch.entry) (right_content (recorded_instance chronicle.now) bytes.now)) }
+        ≡ messages.old.items ++ right_messages (chronicle_instance chronicle.now)
+        (batch_of batch.entry) (right_content (chronicle_instance chronicle.now) bytes.now)) }
 {
     match right_body(chronicle, key, bytes) {
         None => Ok(()),
@@ -98,7 +98,7 @@ fn list_asked(
 
 // Power is lost where a call is cut that is broken off, and comes back.
 fn restore(chronicle: &mut Chronicle, stop: Stop, is_broken: bool)
-    ensures { Went chronicle.old chronicle.new (moves_if is_broken (after_stop stop)) }
+    ensures { ChronicleGoes chronicle.old chronicle.new (moves_if is_broken (moves_after_stop stop)) }
 {
     if let Stop::Cut(_) = stop
         && is_broken
@@ -111,15 +111,15 @@ fn restore(chronicle: &mut Chronicle, stop: Stop, is_broken: bool)
 fn call_and_list(
     chronicle: &mut Chronicle,
     key: &mut SealingKey,
-    course: &Course<'_>,
+    course: &CallPlan<'_>,
     bytes: &[u8],
     batch: Batch<'_>,
     messages: &mut Vec<Bytes>,
-) -> Result<Said, Memory>
+) -> Result<EventReply, Memory>
     requires key { key.old ≡ world_key }
     requires short { is_long (batch_of batch) ≡ false }
     ensures key { key.new ≡ key.old }
-    ensures went { IfOk result (WentByCall chronicle.old chronicle.new course.now.stop
+    ensures went { IfOk result (ChronicleGoesByCall chronicle.old chronicle.new course.now.stop
         course.now.meddles.now bytes.now (batch_of batch.entry) messages.old.items
         messages.new.items) }
 {
@@ -133,12 +133,12 @@ fn call_and_list(
 }
 
 // Whether a device's fault broke a call off.
-fn is_broken(ended: &Ended) -> bool
+fn is_broken(ended: &AskResult) -> bool
     ensures { result ≡ is_broken ended.now }
 {
     match ended {
-        Ended::Broken { .. } => true,
-        Ended::Answered(_) | Ended::Refused(_) => false,
+        AskResult::Broken { .. } => true,
+        AskResult::Answered(_) | AskResult::Refused(_) => false,
     }
 }
 
@@ -148,13 +148,13 @@ fn follow_ask(
     key: &mut SealingKey,
     issued: &[Bytes],
     offer: &Offer,
-    course: &Course<'_>,
+    course: &CallPlan<'_>,
     batch: Batch<'_>,
     messages: &mut Vec<Bytes>,
-) -> Result<Said, Memory>
+) -> Result<EventReply, Memory>
     requires key { key.old ≡ world_key }
     ensures key { key.new ≡ key.old }
-    ensures went { IfOk result (WentByEvent chronicle.old chronicle.new issued.now
+    ensures went { IfOk result (ChronicleGoesByEvent chronicle.old chronicle.new issued.now
         (Ask course.now.meddles.now course.now.stop offer.now (batch_of batch.entry))
         messages.old.items messages.new.items) }
 {
@@ -180,10 +180,10 @@ fn follow_ask(
 fn follow_checkpoint(
     chronicle: &mut Chronicle,
     issued: &[Bytes],
-    course: &Course<'_>,
+    course: &CallPlan<'_>,
     messages: &mut Vec<Bytes>,
-) -> Result<Said, Memory>
-    ensures { IfOk result (WentByEvent chronicle.old chronicle.new issued.now
+) -> Result<EventReply, Memory>
+    ensures { IfOk result (ChronicleGoesByEvent chronicle.old chronicle.new issued.now
         (Checkpoint course.now.meddles.now course.now.stop) messages.old.items messages.new.items) }
 {
     chronicle.forget_messages();
@@ -195,8 +195,8 @@ fn follow_checkpoint(
 }
 
 // Power is lost and comes back.
-fn follow_power(chronicle: &mut Chronicle, issued: &[Bytes], messages: &mut Vec<Bytes>) -> Said
-    ensures { WentByEvent chronicle.old chronicle.new issued.now Power messages.old.items
+fn follow_power(chronicle: &mut Chronicle, issued: &[Bytes], messages: &mut Vec<Bytes>) -> EventReply
+    ensures { ChronicleGoesByEvent chronicle.old chronicle.new issued.now Power messages.old.items
         messages.new.items result }
 {
     chronicle.empty();
@@ -209,8 +209,8 @@ fn follow_extend(
     issued: &[Bytes],
     value: &Digest,
     messages: &mut Vec<Bytes>,
-) -> Result<Said, Memory>
-    ensures { IfOk result (WentByEvent chronicle.old chronicle.new issued.now
+) -> Result<EventReply, Memory>
+    ensures { IfOk result (ChronicleGoesByEvent chronicle.old chronicle.new issued.now
         (Extend value.now.bytes) messages.old.items messages.new.items) }
 {
     chronicle.forget_messages();
@@ -226,10 +226,10 @@ fn follow(
     issued: &[Bytes],
     event: &Event,
     messages: &mut Vec<Bytes>,
-) -> Result<Said, Memory>
+) -> Result<EventReply, Memory>
     requires { key.old ≡ world_key }
     ensures key { key.new ≡ key.old }
-    ensures went { IfOk result (WentByEvent chronicle.old chronicle.new issued.now (event_of event.now)
+    ensures went { IfOk result (ChronicleGoesByEvent chronicle.old chronicle.new issued.now (event_of event.now)
         messages.old.items messages.new.items) }
 {
     match event {
@@ -239,7 +239,7 @@ fn follow(
             offer,
             request,
         } => {
-            let course = Course {
+            let course = CallPlan {
                 stop: *stop,
                 meddles: listed(meddles),
             };
@@ -252,7 +252,7 @@ fn follow(
             offer,
             text,
         } => {
-            let course = Course {
+            let course = CallPlan {
                 stop: *stop,
                 meddles: listed(meddles),
             };
@@ -260,7 +260,7 @@ fn follow(
             follow_ask(chronicle, key, issued, offer, &course, batch, messages)
         }
         Event::Checkpoint { meddles, stop } => {
-            let course = Course {
+            let course = CallPlan {
                 stop: *stop,
                 meddles: listed(meddles),
             };
@@ -281,19 +281,19 @@ fn keep(issued: &mut Vec<Bytes>, snapshot: Option<Bytes>) -> Result<(), Memory>
     Ok(())
 }
 
-impl Expecting {
+impl Expectation {
     ghost use Rattle.std.specs.Prelude.{◌≡◌, ◌<◌, ◌≤◌, ◌+◌, ◌^◌, [], length, IfOk, OnOk};
     ghost use Rattle.mm_model.specs.History.{total_of};
     ghost use Rattle.mm_schedule.specs.Events.{event_of};
     ghost use Rattle.mm_schedule.specs.Replies.{IsPrintable};
-    ghost use Rattle.mm_run.specs.Held.{world_of};
-    ghost use Rattle.mm_expect.specs.Traced.{IsAfter, StandsLater, first_traced, after_traced};
-    ghost use Rattle.mm_expect.specs.Hears.{Hears};
-    ghost use Rattle.mm_expect.specs.Judged.{DecidesLater};
+    ghost use Rattle.mm_run.specs.WorldState.{world_of};
+    ghost use Rattle.mm_expect.specs.ExpectedState.{IsAfter, StandsLater, first_expected_state, expected_state_after};
+    ghost use Rattle.mm_expect.specs.HeardEvent.{HearsEvent};
+    ghost use Rattle.mm_expect.specs.OfferDecision.{DecidesLater};
 
     /// A schedule with this header, before its first event.
-    pub fn new(alloc: Global, header: &Header) -> Result<Expecting, Memory>
-        ensures first { IfOk result (λ it. it ≡ first_traced header.now) }
+    pub fn new(alloc: Global, header: &Header) -> Result<Expectation, Memory>
+        ensures first { IfOk result (λ it. it ≡ first_expected_state header.now) }
         ensures after { IfOk result (IsAfter header.now []) }
     {
         let mut key = SealingKey::new(&world_key());
@@ -301,7 +301,7 @@ impl Expecting {
         let snapshot = chronicle.snapshot(&mut key)?;
         let mut issued = Vec::new(alloc);
         issued.push(snapshot)?;
-        Ok(Expecting {
+        Ok(Expectation {
             alloc,
             key,
             chronicle,
@@ -310,9 +310,9 @@ impl Expecting {
     }
 
     /// Follows one event. After want of memory nothing is said of what stands.
-    pub fn event(&mut self, event: &Event) -> Result<Heard, Memory>
-        ensures state { OnOk result (self.new ≡ after_traced self.old (event_of event.now)) }
-        ensures hears { IfOk result (Hears (world_of self.old.header) self.old.history
+    pub fn event(&mut self, event: &Event) -> Result<ExpectedOutcome, Memory>
+        ensures state { OnOk result (self.new ≡ expected_state_after self.old (event_of event.now)) }
+        ensures hears { IfOk result (HearsEvent (world_of self.old.header) self.old.history
             self.old.issued (event_of event.now)) }
         ensures after { OnOk result (StandsLater self.old (event_of event.now) self.new) }
 
@@ -321,7 +321,7 @@ impl Expecting {
         ensures grows { OnOk result (length self.new.issued ≤ length self.old.issued + 1) }
     {
         let mut messages = Vec::new(self.alloc);
-        let Said { reply, snapshot } = follow(
+        let EventReply { reply, snapshot } = follow(
             &mut self.chronicle,
             &mut self.key,
             self.issued.as_slice(),
@@ -329,7 +329,7 @@ impl Expecting {
             &mut messages,
         )?;
         keep(&mut self.issued, snapshot)?;
-        Ok(Heard { reply, messages })
+        Ok(ExpectedOutcome { reply, messages })
     }
 
     /// Whether the offer of an event that is to come names a position of the history, where it is right.

@@ -13,15 +13,15 @@ impl Chronicle {
     ghost use Rattle.std.specs.Prelude.{◌≡◌, false, IfOk};
     ghost use Rattle.mm_digest.specs.declared.variant.Variant.TheVariants.{Basic, Opt};
     ghost use Rattle.mm_module.specs.Batches.{batch_of};
-    ghost use Rattle.mm_model.specs.History.{joined, total_of};
-    ghost use Rattle.mm_model.specs.Judge.{judge};
+    ghost use Rattle.mm_model.specs.History.{items_of_all, total_of};
+    ghost use Rattle.mm_model.specs.Verdicts.{verdict_on};
     ghost use Rattle.mm_model.specs.Life.{has_value, are_own, life_of, is_lost};
     ghost use Rattle.mm_model.specs.Long.{is_long};
-    ghost use Rattle.mm_call.specs.Found.{found_at};
-    ghost use Rattle.mm_call.specs.Levels.{by_lists};
-    ghost use Rattle.mm_run.specs.Held.{world_key};
-    ghost use Rattle.mm_expect.specs.Recorded.{recorded_instance};
-    ghost use Rattle.mm_expect.specs.Calls.{again_in, Admits};
+    ghost use Rattle.mm_call.specs.CallFinding.{finding_at};
+    ghost use Rattle.mm_call.specs.Levels.{list_level};
+    ghost use Rattle.mm_run.specs.WorldState.{world_key};
+    ghost use Rattle.mm_expect.specs.ChronicleView.{chronicle_instance};
+    ghost use Rattle.mm_expect.specs.Calls.{repeat_in, AdmitsBatch};
 
     /// How many requests are committed.
     pub(crate) fn total(&self) -> u64
@@ -39,7 +39,7 @@ impl Chronicle {
 
     // Whether a closed segment holds a value that stands for no batch.
     fn is_marred(&self) -> bool
-        ensures { result ≡ has_value (joined self.now.history.closed) }
+        ensures { result ≡ has_value (items_of_all self.now.history.closed) }
     {
         self.marks.is_marred
     }
@@ -57,7 +57,7 @@ impl Chronicle {
 
     // The verdict on a position and a batch.
     fn judge(&self, position: u64, batch: Batch<'_>) -> Verdict
-        ensures { result ≡ judge self.now.variant self.now.history position (batch_of batch.entry) }
+        ensures { result ≡ verdict_on self.now.variant self.now.history position (batch_of batch.entry) }
     {
         match self.variant {
             Variant::Basic => self.judge_live(position, batch),
@@ -67,7 +67,7 @@ impl Chronicle {
 
     // Opt: the verdict by the life of the history.
     fn judge_opt(&self, position: u64, batch: Batch<'_>) -> Verdict
-        ensures { result ≡ judge Opt self.now.history position (batch_of batch.entry) }
+        ensures { result ≡ verdict_on Opt self.now.history position (batch_of batch.entry) }
     {
         if self.lists.is_open() {
             if self.lists.is_bare() {
@@ -85,7 +85,7 @@ impl Chronicle {
 
     // The verdict where the history goes on.
     fn judge_live(&self, position: u64, batch: Batch<'_>) -> Verdict
-        ensures { result ≡ judge Basic self.now.history position (batch_of batch.entry) }
+        ensures { result ≡ verdict_on Basic self.now.history position (batch_of batch.entry) }
     {
         let total = self.total();
         if position == total {
@@ -113,11 +113,11 @@ impl Chronicle {
     ) -> Result<bool, Refusal>
         requires key { key.now ≡ world_key }
         requires short { is_long (batch_of batch) ≡ false }
-        ensures found { result ≡ again_in
-            (found_at (recorded_instance self.now) (by_lists (recorded_instance self.now))
+        ensures found { result ≡ repeat_in
+            (finding_at (chronicle_instance self.now) (list_level (chronicle_instance self.now))
             self.now.history
             (batch_of batch.entry) bytes.now) }
-        ensures admits { IfOk result (Admits self.now.history (batch_of batch.entry)) }
+        ensures admits { IfOk result (AdmitsBatch self.now.history (batch_of batch.entry)) }
     {
         if self.is_lost() {
             return Err(Refusal::Lost);

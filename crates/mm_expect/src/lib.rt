@@ -11,4 +11,4 @@ mod judging;
 mod offers;
 mod replies;
 
-pub use expecting::{Expecting, Heard};
+pub use expecting::{Expectation, ExpectedOutcome};

@@ -4,13 +4,13 @@ ghost use Rattle.std.specs.Prelude.{◌≡◌, ◌≤◌, true, length, IfOk, op
 ghost use Rattle.mm_seal.specs.Body.{content_of};
 ghost use Rattle.mm_seal.specs.Parts.{parts_of};
 ghost use Rattle.mm_model.specs.Standing.{IsGenuine};
-ghost use Rattle.mm_call.specs.Found.{right_content};
+ghost use Rattle.mm_call.specs.CallFinding.{right_content};
 ghost use Rattle.mm_schedule.specs.Events.{event_of};
-ghost use Rattle.mm_run.specs.Held.{world_key};
+ghost use Rattle.mm_run.specs.WorldState.{world_key};
 ghost use Rattle.mm_history.specs.Naming.{IsDecided};
-ghost use Rattle.mm_expect.specs.Genuine.{EachOfferIsDecided, BasicIssuedAreGenuine, OptIssuedAreGenuine};
-ghost use Rattle.mm_expect.specs.Judged.{position_in, is_found, IsAmong, DecidesBytes, DecidesOffer, DecidesEvent};
-ghost use Rattle.mm_expect.specs.Recorded.{recorded_instance};
+ghost use Rattle.mm_expect.specs.GenuineOffers.{EachOfferIsDecided, BasicIssuedAreGenuine, OptIssuedAreGenuine};
+ghost use Rattle.mm_expect.specs.OfferDecision.{position_in, is_found, IsAmong, DecidesBytes, DecidesOffer, DecidesEvent};
+ghost use Rattle.mm_expect.specs.ChronicleView.{chronicle_instance};
 
 use crate::chronicle::Chronicle;
 use mm_base::{Bytes, Memory};
@@ -36,7 +36,7 @@ pub(crate) fn right_body<'a>(
 ) -> Option<Body<'a>>
     requires { key.now ≡ world_key }
     ensures { option_map content_of result
-        ≡ right_content (recorded_instance chronicle.now) bytes.now }
+        ≡ right_content (chronicle_instance chronicle.now) bytes.now }
 {
     let Ok(offered) = parts(bytes, chronicle.variant, chronicle.module.id()) else {
         return None;
@@ -54,7 +54,7 @@ fn are_genuine(chronicle: &Chronicle, key: &SealingKey, bytes: &[u8]) -> Result<
     requires { key.now ≡ world_key }
     ensures { IfOk result
         (λ yes. IsDecided yes
-        (IsGenuine (recorded_instance chronicle.now) chronicle.now.history bytes.now)) }
+        (IsGenuine (chronicle_instance chronicle.now) chronicle.now.history bytes.now)) }
 {
     match right_body(chronicle, key, bytes) {
         None => Ok(true),
@@ -73,7 +73,7 @@ fn are_genuine(chronicle: &Chronicle, key: &SealingKey, bytes: &[u8]) -> Result<
 // The position that bytes name as a snapshot; 0 where they are none.
 fn position_of(chronicle: &Chronicle, bytes: &[u8]) -> u64
     ensures { result ≡ position_in
-        (parts_of chronicle.now.variant (recorded_instance chronicle.now).meaning.id bytes.now) }
+        (parts_of chronicle.now.variant (chronicle_instance chronicle.now).meaning.id bytes.now) }
 {
     match parts(bytes, chronicle.variant, chronicle.module.id()) {
         Ok(offered) => offered.body().position,
@@ -119,7 +119,7 @@ fn are_issued_or_genuine(
     bytes: &[u8],
 ) -> Result<bool, Memory>
     requires { key.now ≡ world_key }
-    ensures { IfOk result (DecidesBytes (recorded_instance chronicle.now) chronicle.now.history
+    ensures { IfOk result (DecidesBytes (chronicle_instance chronicle.now) chronicle.now.history
         issued.now bytes.now) }
 {
     if is_issued(chronicle, issued, bytes) {
@@ -137,7 +137,7 @@ fn is_genuine_offer(
 ) -> Result<bool, Memory>
     requires { key.now ≡ world_key }
     ensures { IfOk result
-        (DecidesOffer (recorded_instance chronicle.now) chronicle.now.history issued.now
+        (DecidesOffer (chronicle_instance chronicle.now) chronicle.now.history issued.now
         offer.now) }
 {
     match offer {
@@ -159,7 +159,7 @@ pub(crate) fn is_genuine(
 ) -> Result<bool, Memory>
     requires { key.now ≡ world_key }
     ensures { IfOk result
-        (DecidesEvent (recorded_instance chronicle.now) chronicle.now.history issued.now
+        (DecidesEvent (chronicle_instance chronicle.now) chronicle.now.history issued.now
         (event_of event.now)) }
 {
     match event {

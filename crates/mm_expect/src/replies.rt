@@ -1,28 +1,28 @@
 //! The reply that a call gets in a schedule.
 
 ghost use Rattle.std.specs.Prelude.{◌≡◌, ◌∷◌, [], None, option_to_list};
-ghost use Rattle.mm_call.specs.Called.{Answers};
+ghost use Rattle.mm_call.specs.CallOutcome.{Answers};
 ghost use Rattle.mm_schedule.specs.declared.reply.Way.TheVariants.{Fault};
 ghost use Rattle.mm_run.specs.Folds.{reply_of, snapshots_of, closing_reply};
 ghost use Rattle.mm_expect.specs.Calls.{ending_of};
-ghost use Rattle.mm_expect.specs.Closings.{closing_as};
+ghost use Rattle.mm_expect.specs.Closings.{ending_of_closing};
 
-use crate::calls::Closing;
+use crate::calls::ClosingResult;
 use mm_base::Bytes;
-use mm_call::Ended;
+use mm_call::AskResult;
 use mm_model::{BatchAnswer, Refusal};
 use mm_run::cause;
 use mm_schedule::{Cause, Reply, Way};
 
 /// A reply, and the snapshot that is handed out with it.
 #[derive(Drop)]
-pub(crate) struct Said {
+pub(crate) struct EventReply {
     pub(crate) reply: Reply,
     pub(crate) snapshot: Option<Bytes>,
 }
 
 // The reply that tells an answer.
-fn told(answer: BatchAnswer) -> Said
+fn told(answer: BatchAnswer) -> EventReply
     ensures reply { result.reply ≡ reply_of Fault (Answers answer) }
     ensures snapshot { option_to_list result.snapshot ≡ answer.snapshot ∷ [] }
 {
@@ -33,7 +33,7 @@ fn told(answer: BatchAnswer) -> Said
         snapshot,
     } = answer;
     let size = outputs.len() as u64;
-    Said {
+    EventReply {
         reply: Reply::Told {
             again,
             before: position.saturating_sub(size),
@@ -44,41 +44,41 @@ fn told(answer: BatchAnswer) -> Said
 }
 
 /// What is said of a call that ended so, and that was to be broken off in this way.
-pub(crate) fn said_of(way: Way, ended: Ended) -> Said
+pub(crate) fn said_of(way: Way, ended: AskResult) -> EventReply
     ensures reply { result.reply ≡ reply_of way (ending_of ended) }
     ensures snapshot { option_to_list result.snapshot ≡ snapshots_of (ending_of ended) }
 {
     match ended {
-        Ended::Answered(answer) => told(answer),
-        Ended::Refused(refusal) => quiet(Reply::No(cause(refusal))),
-        Ended::Broken {
+        AskResult::Answered(answer) => told(answer),
+        AskResult::Refused(refusal) => quiet(Reply::No(cause(refusal))),
+        AskResult::Broken {
             commits: Some(position),
             ..
         } => quiet(Reply::Kept { way, position }),
-        Ended::Broken { commits: None, .. } => quiet(Reply::Nothing { way }),
+        AskResult::Broken { commits: None, .. } => quiet(Reply::Nothing { way }),
     }
 }
 
 /// A reply alone.
-pub(crate) fn quiet(reply: Reply) -> Said
+pub(crate) fn quiet(reply: Reply) -> EventReply
     ensures { result ≡ record { reply = reply; snapshot = None } }
 {
-    Said {
+    EventReply {
         reply,
         snapshot: None,
     }
 }
 
 /// What is said of a checkpoint that ended so, and that was to be broken off in this way.
-pub(crate) fn closing_said(way: Way, closing: Closing) -> Reply
-    ensures { result ≡ closing_reply way (closing_as closing) }
+pub(crate) fn closing_said(way: Way, closing: ClosingResult) -> Reply
+    ensures { result ≡ closing_reply way (ending_of_closing closing) }
 {
     match closing {
-        Closing::Closes => Reply::Checkpointed,
-        Closing::HasNone => Reply::No(Cause::Kind),
-        Closing::NoSegment => Reply::No(Cause::Segment),
-        Closing::LostPower => Reply::No(Cause::Lost),
-        Closing::Stops { closed: true, .. } => Reply::Closed { way },
-        Closing::Stops { closed: false, .. } => Reply::Nothing { way },
+        ClosingResult::Closes => Reply::Checkpointed,
+        ClosingResult::HasNone => Reply::No(Cause::Kind),
+        ClosingResult::NoSegment => Reply::No(Cause::Segment),
+        ClosingResult::LostPower => Reply::No(Cause::Lost),
+        ClosingResult::Stops { closed: true, .. } => Reply::Closed { way },
+        ClosingResult::Stops { closed: false, .. } => Reply::Nothing { way },
     }
 }

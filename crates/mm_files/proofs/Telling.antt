@@ -2,11 +2,11 @@
 use Rattle.std.proofs.Common.{◌≡◌, ℕ, true, [], refl, arith}
 use Rattle.std.specs.Prelude.{None, Result, Ok, Err, IfErr}
 use Rattle.std.specs.Result.{result_err}
-use Rattle.mm_base.specs.Faults.{counted, CountsFaults}
+use Rattle.mm_base.specs.Faults.{next_count, CountsFaults}
 use Rattle.mm_platform.specs.declared.fault.StepFault.{StepFault}
 use Rattle.mm_platform.specs.declared.fault.StepFault.TheVariants as step
-use Rattle.mm_platform.specs.Steps.{Act, ReadCell, WriteCell, ReadRegister, ResetRegister, ExtendRegister, EndsBy, Goes, beside, cell_after, items_after, writes_after}
-use Rattle.mm_files.specs.Untold.{untold}
+use Rattle.mm_platform.specs.Steps.{Act, ReadCell, WriteCell, ReadRegister, ResetRegister, ExtendRegister, DeviceStepEnds, StepGoes, items_beside, cell_after, items_after, writes_after}
+use Rattle.mm_files.specs.UntoldDevices.{untold_standing}
 
 abbrev IsFailed : {T : Type 0} → Result T StepFault → Type 0
 IsFailed result = IfErr result (λ fault. fault ≡ step.Failed)
@@ -18,7 +18,7 @@ cell_untold ReadRegister = refl
 cell_untold ResetRegister = refl
 cell_untold (ExtendRegister value) = refl
 
-items_untold : (act : Act) → None ≡ items_after act true (beside [] None)
+items_untold : (act : Act) → None ≡ items_after act true (items_beside [] None)
 items_untold ReadCell = refl
 items_untold (WriteCell bytes) = refl
 items_untold ReadRegister = refl
@@ -27,7 +27,7 @@ items_untold (ExtendRegister value) = refl
 
 ends_untold : {T : Type 0} (steps steps' cycles cycles' faults faults' : ℕ) (result : Result T StepFault)
     → CountsFaults faults faults' result → IsFailed result
-    → EndsBy (result_err result) (untold steps cycles faults) (untold steps' cycles' faults') true
+    → DeviceStepEnds (result_err result) (untold_standing steps cycles faults) (untold_standing steps' cycles' faults') true
 ends_untold steps steps' cycles cycles' faults faults' (Ok value) counts failed =
     record { made = refl; was_on = refl; is_on = refl; faults = counts.kept }
 ends_untold steps steps' cycles cycles' faults faults' (Err step.Failed) counts failed =
@@ -36,10 +36,10 @@ ends_untold steps steps' cycles cycles' faults faults' (Err step.Off) counts fai
 
 -- a step of the register
 pub goes_untold : {T : Type 0} (act : Act) (steps steps' cycles cycles' faults faults' : ℕ) (result : Result T StepFault)
-    → steps' ≡ counted steps → cycles' ≡ cycles
+    → steps' ≡ next_count steps → cycles' ≡ cycles
     → 0 ≡ writes_after act 0
     → CountsFaults faults faults' result → IsFailed result
-    → Goes act (untold steps cycles faults) (untold steps' cycles' faults') (result_err result)
+    → StepGoes act (untold_standing steps cycles faults) (untold_standing steps' cycles' faults') (result_err result)
 goes_untold act steps steps' cycles cycles' faults faults' result one same writes counts failed = record {
   is_made = true;
   others = [];

@@ -1,7 +1,7 @@
 //! How an error of the file system is counted, and its reason kept.
 
 ghost use Rattle.std.specs.Prelude.{◌≡◌, Ok, Some, IsErr, MatchResult};
-ghost use Rattle.mm_base.specs.Faults.{counted, CountsFaults};
+ghost use Rattle.mm_base.specs.Faults.{next_count, CountsFaults};
 
 use crate::reason::Reason;
 use mm_base::Failed;
@@ -14,7 +14,7 @@ pub fn counted<T>(
 ) -> Result<T, Failed>
     ensures told { MatchResult outcome
         (λ value. (result ≡ Ok value) × (faults.new ≡ faults.old))
-        (λ _. IsErr result × (faults.new ≡ counted faults.old)) }
+        (λ _. IsErr result × (faults.new ≡ next_count faults.old)) }
     ensures keeps { MatchResult outcome
         (λ _. last.new ≡ last.old)
         (λ reason. last.new ≡ Some reason) }

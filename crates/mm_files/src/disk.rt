@@ -32,7 +32,7 @@ impl Identity {
 
 /// An open file.
 #[derive(Drop)]
-pub struct Opened<F> {
+pub struct OpenedFile<F> {
     file: F,
     /// The name that it was opened by.
     pub name: &'static str,
@@ -46,14 +46,14 @@ pub struct Opened<F> {
     pub identity: Identity,
 }
 
-impl<F: OpenFile + FileExt + Drop> Opened<F> {
+impl<F: OpenFile + FileExt + Drop> OpenedFile<F> {
     // A file that was just opened. An error where it is no file.
-    fn of(file: F, name: &'static str) -> Result<Opened<F>, Reason> {
+    fn of(file: F, name: &'static str) -> Result<OpenedFile<F>, Reason> {
         let there = named(name, file.metadata())?;
         if !there.is_file() {
             return Err(Reason::NoFile { name });
         }
-        Ok(Opened {
+        Ok(OpenedFile {
             file,
             name,
             size: there.len(),
@@ -114,19 +114,19 @@ impl<F: OpenFile + FileExt + Drop> Opened<F> {
 pub fn open_there<R: Files>(
     files: &R,
     name: &'static str,
-) -> Result<Option<Opened<R::File>>, Reason>
+) -> Result<Option<OpenedFile<R::File>>, Reason>
 where
     R::File: FileExt,
 {
     match OpenOptions::new().read(true).write(true).open(files, name) {
-        Ok(file) => Ok(Some(Opened::of(file, name)?)),
+        Ok(file) => Ok(Some(OpenedFile::of(file, name)?)),
         Err(error) if error.kind() == ErrorKind::NotFound => Ok(None),
         Err(error) => Err(Reason::System { name, error }),
     }
 }
 
 /// Opens the file of a name. Where it is absent an empty one is made.
-pub fn open_or_make<R: Files>(files: &R, name: &'static str) -> Result<Opened<R::File>, Reason>
+pub fn open_or_make<R: Files>(files: &R, name: &'static str) -> Result<OpenedFile<R::File>, Reason>
 where
     R::File: FileExt,
 {
@@ -136,11 +136,11 @@ where
         .create(true)
         .mode(OWNER_ALONE)
         .open(files, name);
-    Opened::of(named(name, file)?, name)
+    OpenedFile::of(named(name, file)?, name)
 }
 
 /// Makes an empty file at this path, as that of a name. An error where something is there: no link is followed.
-pub fn make<R: Files>(files: &R, name: &'static str, path: &str) -> Result<Opened<R::File>, Reason>
+pub fn make<R: Files>(files: &R, name: &'static str, path: &str) -> Result<OpenedFile<R::File>, Reason>
 where
     R::File: FileExt,
 {
@@ -150,7 +150,7 @@ where
         .create_new(true)
         .mode(OWNER_ALONE)
         .open(files, path);
-    Opened::of(named(name, file)?, name)
+    OpenedFile::of(named(name, file)?, name)
 }
 
 /// Puts these bytes in place of a file's, which is never seen in part: they are written to a new file and synced, and
@@ -160,7 +160,7 @@ pub fn replace<R: Files>(
     new: &'static str,
     name: &'static str,
     bytes: &[u8],
-) -> Result<Opened<R::File>, Reason>
+) -> Result<OpenedFile<R::File>, Reason>
 where
     R::File: FileExt,
 {

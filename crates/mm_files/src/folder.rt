@@ -1,7 +1,7 @@
 //! The files `nv` and `register`.
 
-use crate::disk::{Opened, replace};
-use crate::kept::Kept;
+use crate::disk::{OpenedFile, replace};
+use crate::kept::KeptFile;
 use crate::lock::Lock;
 use crate::place::sync_folder;
 use crate::reason::{HERE, Reason, named};
@@ -23,8 +23,8 @@ const SELECTOR: u16 = 208;
 pub struct Folder<'a, R: Files> {
     files: &'a R,
     lock: Option<R::File>,
-    nv: Kept<'a, R>,
-    register: Kept<'a, R>,
+    nv: KeptFile<'a, R>,
+    register: KeptFile<'a, R>,
     // What was read of `nv` with the selector, for the next read.
     seen: Option<[u8; WHOLE]>,
 }
@@ -37,8 +37,8 @@ where
         Folder {
             files,
             lock: None,
-            nv: Kept::new(files, "nv"),
-            register: Kept::new(files, "register"),
+            nv: KeptFile::new(files, "nv"),
+            register: KeptFile::new(files, "register"),
             seen: None,
         }
     }
@@ -108,7 +108,7 @@ where
     }
 
     // The value in the register's file.
-    fn value_of(&mut self, found: Option<Opened<R::File>>) -> Result<Digest, Reason> {
+    fn value_of(&mut self, found: Option<OpenedFile<R::File>>) -> Result<Digest, Reason> {
         let Some(mut opened) = found else {
             return Ok(zero());
         };
@@ -145,7 +145,7 @@ where
     }
 
     // Lets a file's bytes and its name be on the disk, where this program didn't yet.
-    fn settle(&self, opened: &mut Opened<R::File>) -> Result<(), Reason> {
+    fn settle(&self, opened: &mut OpenedFile<R::File>) -> Result<(), Reason> {
         opened.sync()?;
         if !opened.is_listed {
             self.sync_names()?;
@@ -172,7 +172,7 @@ fn locked(outcome: io::Result<()>) -> Result<(), Reason> {
 }
 
 // Opens a file, and lets its bytes be on the disk.
-fn synced<R: Files>(kept: &mut Kept<'_, R>) -> Result<Option<Opened<R::File>>, Reason>
+fn synced<R: Files>(kept: &mut KeptFile<'_, R>) -> Result<Option<OpenedFile<R::File>>, Reason>
 where
     R::File: FileExt,
 {
@@ -184,7 +184,7 @@ where
 }
 
 // Keeps a file whose name is on the disk.
-fn keep_listed<R: Files>(kept: &mut Kept<'_, R>, found: Option<Opened<R::File>>)
+fn keep_listed<R: Files>(kept: &mut KeptFile<'_, R>, found: Option<OpenedFile<R::File>>)
 where
     R::File: FileExt,
 {

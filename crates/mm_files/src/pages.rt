@@ -1,11 +1,11 @@
 //! Pages over files.
 
 ghost use Rattle.std.specs.Prelude.{◌≡◌, None, IfOk};
-ghost use Rattle.mm_files.specs.Untold.{untold_pages};
+ghost use Rattle.mm_files.specs.UntoldDevices.{untold_pages};
 
 use crate::counting::counted;
 use crate::reason::Reason;
-use crate::slots::Slots;
+use crate::slots::SlotFiles;
 use mm_base::{Failed, Memory};
 use mm_pages::PageDevice;
 use std::alloc::Global;
@@ -17,7 +17,7 @@ use std::rt::Files;
 /// or another slot's is neither read nor written: the call fails.
 #[derive(Drop)]
 pub struct FilePages<'a, R: Files> {
-    slots: Slots<'a, R>,
+    slots: SlotFiles<'a, R>,
     faults: u64,
     page_reads: u64,
     page_writes: u64,
@@ -37,7 +37,7 @@ where
         ensures lengths { IfOk result (λ pages. pages.length_writes ≡ 0) }
         ensures reason { IfOk result (λ pages. pages.last ≡ None) }
     {
-        let slots = Slots::new(alloc, files)?;
+        let slots = SlotFiles::new(alloc, files)?;
         Ok(FilePages {
             slots,
             faults: 0,

@@ -1,6 +1,6 @@
 //! Where the file of a slot itself stands, behind links, and whether it is one of its own.
 
-use crate::disk::{Identity, Opened, make};
+use crate::disk::{Identity, OpenedFile, make};
 use crate::reason::{HERE, Reason, named};
 use mm_base::Memory;
 use std::alloc::Global;
@@ -27,24 +27,24 @@ const NAMES: [&str; 7] = [
 /// Where the file of a slot stands: the path to which the links of its name led when the program began, whether a file was
 /// there or not.
 #[derive(Drop)]
-pub struct Place {
+pub struct FilePlace {
     name: &'static str,
     path: PathBuf,
     // Why the links couldn't be followed.
     failed: Option<Reason>,
 }
 
-impl Place {
+impl FilePlace {
     /// That of this name.
-    pub fn of<R: Files>(alloc: Global, files: &R, name: &'static str) -> Result<Place, Memory> {
+    pub fn of<R: Files>(alloc: Global, files: &R, name: &'static str) -> Result<FilePlace, Memory> {
         match path_behind(alloc, files, name) {
-            Ok(path) => Ok(Place {
+            Ok(path) => Ok(FilePlace {
                 name,
                 path,
                 failed: None,
             }),
             Err(error) if error.kind() == ErrorKind::OutOfMemory => Err(Memory),
-            Err(error) => Ok(Place {
+            Err(error) => Ok(FilePlace {
                 name,
                 path: PathBuf::new(alloc),
                 failed: Some(Reason::System { name, error }),
@@ -83,7 +83,7 @@ impl Place {
     }
 
     /// Makes the file, which is absent. An error where the place is that of another of the program's files.
-    pub fn make<R: Files>(&self, files: &R) -> Result<Opened<R::File>, Reason>
+    pub fn make<R: Files>(&self, files: &R) -> Result<OpenedFile<R::File>, Reason>
     where
         R::File: FileExt,
     {
@@ -143,7 +143,7 @@ fn is_current<R: Files>(files: &R, path: &str) -> io::Result<bool> {
 }
 
 /// A slot's file. An error where it is another of the program's files, by its name.
-pub fn refuse_same<R: Files>(files: &R, opened: &Opened<R::File>) -> Result<(), Reason>
+pub fn refuse_same<R: Files>(files: &R, opened: &OpenedFile<R::File>) -> Result<(), Reason>
 where
     R::File: FileExt,
 {

@@ -2,7 +2,7 @@
 
 ghost use Rattle.std.specs.Prelude.{◌≡◌, None, Some, IfErr, MatchResult};
 ghost use Rattle.mm_base.specs.Faults.{CountsFaults};
-ghost use Rattle.mm_files.specs.Untold.{none_are, untold};
+ghost use Rattle.mm_files.specs.UntoldDevices.{none_are, untold_standing};
 
 use crate::counting::counted;
 use crate::folder::Folder;
@@ -77,7 +77,7 @@ impl<R: Files> Device for FilePlatform<'_, R>
 where
     R::File: Lock + FileExt,
 {
-    ghost standing = { λ it. untold it.steps it.cycles it.faults };
+    ghost standing = { λ it. untold_standing it.steps it.cycles it.faults };
 }
 
 impl<R: Files> RawNv for FilePlatform<'_, R>

@@ -2,9 +2,9 @@
 
 ghost use Rattle.std.specs.Prelude.{◌≤◌};
 
-use crate::disk::{Identity, Opened};
-use crate::kept::Kept;
-use crate::place::{Place, refuse_same};
+use crate::disk::{Identity, OpenedFile};
+use crate::kept::KeptFile;
+use crate::place::{FilePlace, refuse_same};
 use crate::reason::Reason;
 use mm_base::Memory;
 use std::alloc::Global;
@@ -19,24 +19,24 @@ const LATER: u16 = 1;
 
 /// The files of the slots.
 #[derive(Drop)]
-pub struct Slots<'a, R: Files> {
+pub struct SlotFiles<'a, R: Files> {
     first: Slot<'a, R>,
     second: Slot<'a, R>,
     third: Slot<'a, R>,
     fourth: Slot<'a, R>,
 }
 
-impl<'a, R: Files> Slots<'a, R>
+impl<'a, R: Files> SlotFiles<'a, R>
 where
     R::File: FileExt,
 {
     /// The slots, whose links are followed now.
-    pub fn new(alloc: Global, files: &'a R) -> Result<Slots<'a, R>, Memory> {
+    pub fn new(alloc: Global, files: &'a R) -> Result<SlotFiles<'a, R>, Memory> {
         let first = Slot::new(alloc, files, "slot0")?;
         let second = Slot::new(alloc, files, "slot1")?;
         let third = Slot::new(alloc, files, "slot2")?;
         let fourth = Slot::new(alloc, files, "slot3")?;
-        Ok(Slots {
+        Ok(SlotFiles {
             first,
             second,
             third,
@@ -111,8 +111,8 @@ impl Claims {
 pub struct Slot<'a, R: Files> {
     files: &'a R,
     name: &'static str,
-    place: Place,
-    kept: Kept<'a, R>,
+    place: FilePlace,
+    kept: KeptFile<'a, R>,
     // The length that writes of pages gave it, none where it is that of its file.
     length: Option<u64>,
     // What all slots had open when this call began.
@@ -124,19 +124,19 @@ where
     R::File: FileExt,
 {
     fn new(alloc: Global, files: &'a R, name: &'static str) -> Result<Slot<'a, R>, Memory> {
-        let place = Place::of(alloc, files, name)?;
+        let place = FilePlace::of(alloc, files, name)?;
         Ok(Slot {
             files,
             name,
             place,
-            kept: Kept::new(files, name),
+            kept: KeptFile::new(files, name),
             length: None,
             claims: Claims::none(),
         })
     }
 
     // Takes the file, looked at for the first page. None where it is absent.
-    fn find(&mut self, page: u16) -> Result<Option<Opened<R::File>>, Reason> {
+    fn find(&mut self, page: u16) -> Result<Option<OpenedFile<R::File>>, Reason> {
         let found = match page {
             0 => self.kept.look()?,
             _ => self.kept.take()?,
@@ -148,7 +148,7 @@ where
     }
 
     // Takes the file, looked at for the first page. Where it is absent an empty one is made.
-    fn find_or_make(&mut self, page: u16) -> Result<Opened<R::File>, Reason> {
+    fn find_or_make(&mut self, page: u16) -> Result<OpenedFile<R::File>, Reason> {
         match self.find(page)? {
             Some(opened) => Ok(opened),
             None => self.alone(self.place.make(self.files)?),
@@ -156,7 +156,7 @@ where
     }
 
     // The file, where it is none of the program's others.
-    fn alone(&self, mut opened: Opened<R::File>) -> Result<Opened<R::File>, Reason> {
+    fn alone(&self, mut opened: OpenedFile<R::File>) -> Result<OpenedFile<R::File>, Reason> {
         if !opened.is_alone {
             refuse_same(self.files, &opened)?;
             self.refuse_claimed(&opened)?;
@@ -166,7 +166,7 @@ where
     }
 
     // An error where another slot has the file open.
-    fn refuse_claimed(&self, opened: &Opened<R::File>) -> Result<(), Reason> {
+    fn refuse_claimed(&self, opened: &OpenedFile<R::File>) -> Result<(), Reason> {
         match self.claims.name_of(opened.identity) {
             Some(other) if other != self.name => Err(Reason::Same {
                 name: self.name,
@@ -236,7 +236,7 @@ where
     }
 
     // Lets the file's bytes and its name be on the disk, where this program didn't yet.
-    fn settle(&mut self, mut opened: Opened<R::File>) -> Result<(), Reason> {
+    fn settle(&mut self, mut opened: OpenedFile<R::File>) -> Result<(), Reason> {
         opened.sync()?;
         if !opened.is_listed {
             self.place.sync_name(self.files)?;

@@ -1,85 +1,85 @@
 -- A call of the machine in flight: its step under another plan, what it goes on to, and a step that fails.
 use Rattle.mm_flight.proofs.Below.{◌≡◌, ℕ, true, Bool, false, List, Option, None, Some, Result, Ok, Err, refl, ap, subst, sym}
-use Rattle.mm_flight.proofs.Below.{◌∙◌, counted, StepFault, Meddle, Quiet, Plan, Standing, Goes, ReadCell, ReadRegister, cell_after, plan_by, under}
+use Rattle.mm_flight.proofs.Below.{◌∙◌, next_count, StepFault, Meddle, Quiet, Plan, Standing, StepGoes, ReadCell, ReadRegister, cell_after, plan_by, standing_under}
 use Rattle.mm_seal.specs.declared.cell.Cell.{Cell}
-use Rattle.mm_machine.specs.Acts.{act_in, acts_left, change_after}
-use Rattle.mm_machine.specs.Asked.{Asked}
-use Rattle.mm_machine.specs.Finishing.{ActsTo, Finishes, breaks_off}
-use Rattle.mm_machine.specs.Reading.{CellSays, Draws, Looks, RegisterSays, RoomFor, Rooms, Weighs, extends}
-use Rattle.mm_machine.specs.Stepping.{SightLeads, Steps, act_of, ended_by, position_if_last, step_found, step_made, step_to}
-use Rattle.mm_machine.specs.declared.call.Ended.{Ended}
-use Rattle.mm_machine.specs.declared.call.Ended.TheVariants.{Broken}
-use Rattle.mm_machine.specs.declared.call.Stage.{Stage}
-use Rattle.mm_machine.specs.declared.call.Stage.TheVariants.{Begun, Seen, Changing}
-use Rattle.mm_machine.specs.declared.call.Step.{Step}
-use Rattle.mm_machine.specs.declared.call.Step.TheVariants.{Going, Over}
+use Rattle.mm_machine.specs.Acts.{act_in, remaining_acts, change_after}
+use Rattle.mm_machine.specs.OpMeaning.{OpMeaning}
+use Rattle.mm_machine.specs.OpEnds.{OpActs, OpEnds, breaks_off}
+use Rattle.mm_machine.specs.OpReads.{CellSays, StepDraws, OpLooks, RegisterSays, RoomIsMadeIf, RoomIsMadeFor, OpWeighs, has_extension}
+use Rattle.mm_machine.specs.OpSteps.{SightLeads, OpSteps, act_of, ending_by_halt, position_if_last, step_of_finding, step_after_change, step_to}
+use Rattle.mm_machine.specs.declared.call.OpResult.{OpResult}
+use Rattle.mm_machine.specs.declared.call.OpResult.TheVariants.{Broken}
+use Rattle.mm_machine.specs.declared.call.OpStage.{OpStage}
+use Rattle.mm_machine.specs.declared.call.OpStage.TheVariants.{Begun, Seen, Changing}
+use Rattle.mm_machine.specs.declared.call.StepResult.{StepResult}
+use Rattle.mm_machine.specs.declared.call.StepResult.TheVariants.{Going, Over}
 use Rattle.mm_machine.specs.declared.change.Change.{Change as Move}
 use Rattle.mm_machine.specs.declared.change.Change.TheVariants.{Extending, Emptying, Placing, Writing}
-use Rattle.mm_machine.specs.declared.operation.Found.{Found}
-use Rattle.mm_machine.specs.declared.operation.Found.TheVariants.{Repeat, Change}
-use Rattle.mm_machine.specs.declared.operation.Ready.{Ready}
+use Rattle.mm_machine.specs.declared.operation.OpFinding.{OpFinding}
+use Rattle.mm_machine.specs.declared.operation.OpFinding.TheVariants.{Repeat, Change}
+use Rattle.mm_machine.specs.declared.operation.ReadyChange.{ReadyChange}
 use Rattle.mm_machine.specs.declared.operation.Sight.{Sight}
 use Rattle.mm_machine.specs.declared.operation.Sight.TheVariants as sight
 use Rattle.mm_machine.specs.declared.reading.Halt.{Halt}
 use Rattle.mm_machine.specs.declared.reading.Halt.TheVariants.{Fault, Refused, Lacks}
 use Rattle.mm_machine.proofs.Above.{joins}
-use Rattle.mm_flight.specs.Machine.{fault_stepped}
+use Rattle.mm_flight.specs.Machine.{fault_of_step}
 use Rattle.mm_flight.proofs.Replanning.{Moves, Replans, quiet_step, replanned}
 
 -- Under another plan that says the same of the step
 
 draws_under : {T R : Type 0} {goes other : Option StepFault → Type 0} {says later : Result T R → Type 0}
     → ((fault : Option StepFault) → goes fault → other fault) → ((it : Result T R) → says it → later it)
-    → (given : Result T (Halt R)) → Draws goes says given → Draws other later given
+    → (given : Result T (Halt R)) → StepDraws goes says given → StepDraws other later given
 draws_under step said (Ok it) d = (step None d.0, said (Ok it) d.1)
 draws_under step said (Err (Fault fault)) d = step (Some fault) d
 draws_under step said (Err (Refused why)) d = (step None d.0, said (Err why) d.1)
 draws_under step said (Err Lacks) d = absurd d
 
 module _ {A R : Type 0} (p : Plan) (at : ℕ) (old new : Standing) where
-  room_under : (flag : Bool) (found : Found A) (given : Result (Found A) (Halt R)) → RoomFor flag found old new given
-      → RoomFor flag found (under p at old) (under p at new) given
-  room_under false found given r = (ap (under p at) r.0, r.1)
-  room_under true found (Ok it) r = (record { room = r.0.room; same = ap (under p at) r.0.same }, r.1)
-  room_under true found (Err why) r = (ap (under p at) r.0, r.1)
+  room_under : (flag : Bool) (found : OpFinding A) (given : Result (OpFinding A) (Halt R)) → RoomIsMadeIf flag found old new given
+      → RoomIsMadeIf flag found (standing_under p at old) (standing_under p at new) given
+  room_under false found given r = (ap (standing_under p at) r.0, r.1)
+  room_under true found (Ok it) r = (record { room = r.0.room; same = ap (standing_under p at) r.0.same }, r.1)
+  room_under true found (Err why) r = (ap (standing_under p at) r.0, r.1)
 
-  rooms_under : (found given : Result (Found A) (Halt R)) → Rooms found old new given → Rooms found (under p at old) (under p at new) given
-  rooms_under (Err why) given r = (ap (under p at) r.0, r.1)
-  rooms_under (Ok found) given r = room_under (extends found) found given r
+  rooms_under : (found given : Result (OpFinding A) (Halt R)) → RoomIsMadeFor found old new given → RoomIsMadeFor found (standing_under p at old) (standing_under p at new) given
+  rooms_under (Err why) given r = (ap (standing_under p at) r.0, r.1)
+  rooms_under (Ok found) given r = room_under (has_extension found) found given r
 
-  leads_under : (seen : Result (Sight A) (Halt R)) (step : Step A R) → SightLeads seen old new step
-      → SightLeads seen (under p at old) (under p at new) step
-  leads_under (Err why) step s = (ap (under p at) s.0, s.1)
+  leads_under : (seen : Result (Sight A) (Halt R)) (step : StepResult A R) → SightLeads seen old new step
+      → SightLeads seen (standing_under p at old) (standing_under p at new) step
+  leads_under (Err why) step s = (ap (standing_under p at) s.0, s.1)
   leads_under (Ok (sight.Found found)) step s =
       record { found = s.found; finds = rooms_under (Ok found) s.found s.finds; gives = s.gives }
-  leads_under (Ok (sight.Cell cell)) step s = (ap (under p at) s.0, s.1)
+  leads_under (Ok (sight.Cell cell)) step s = (ap (standing_under p at) s.0, s.1)
 
-module _ {A R : Type 0} (o : Asked A R) (p q : Plan) (made : ℕ) (old : Standing) (r : Replans p q made old) where
+module _ {A R : Type 0} (o : OpMeaning A R) (p q : Plan) (made : ℕ) (old : Standing) (r : Replans p q made old) where
   abbrev begun : Standing
-  begun = under p made old
+  begun = standing_under p made old
 
   abbrev then : Standing → Standing
-  then new = under p (counted made) new
+  then new = standing_under p (next_count made) new
 
-  looks_under : (new : Standing) (seen : Result (Sight A) (Halt R)) → Looks o old new seen → Looks o begun (then new) seen
+  looks_under : (new : Standing) (seen : Result (Sight A) (Halt R)) → OpLooks o old new seen → OpLooks o begun (then new) seen
   looks_under new =
       draws_under {later = λ seen. CellSays begun (λ bytes. o.sees bytes seen)} (λ fault g. replanned ReadCell p q made old new fault r g)
       (λ (seen : Result (Sight A) R) (s : CellSays old (λ bytes. o.sees bytes seen)). record { bytes = s.bytes; told = s.told; said = s.said })
 
-  weighs_under : (cell : Cell) (new : Standing) (given : Result (Found A) (Halt R)) → Weighs o cell old new given
-      → Weighs o cell begun (then new) given
+  weighs_under : (cell : Cell) (new : Standing) (given : Result (OpFinding A) (Halt R)) → OpWeighs o cell old new given
+      → OpWeighs o cell begun (then new) given
   weighs_under cell new =
       draws_under {later = λ given. RegisterSays (then new) (λ register. o.finds cell register given)}
       (λ fault g. replanned ReadRegister p q made old new fault r g)
-      (λ (given : Result (Found A) R) (s : RegisterSays new (λ register. o.finds cell register given)). record { register = s.register; told = s.told; size = s.size; said = s.said })
+      (λ (given : Result (OpFinding A) R) (s : RegisterSays new (λ register. o.finds cell register given)). record { register = s.register; told = s.told; size = s.size; said = s.said })
 
-  pub steps_under : (stage : Stage A) (new : Standing) (step : Step A R) → Steps o stage old new step
-      → Steps o stage begun (then new) step
+  pub steps_under : (stage : OpStage A) (new : Standing) (step : StepResult A R) → OpSteps o stage old new step
+      → OpSteps o stage begun (then new) step
   steps_under Begun new step s = record {
     middle = then s.middle;
     seen = s.seen;
     looks = looks_under s.middle s.seen s.looks;
-    leads = leads_under p (counted made) s.middle new s.seen step s.leads;
+    leads = leads_under p (next_count made) s.middle new s.seen step s.leads;
   }
   steps_under (Seen cell) new step s =
       let f = s.finds in record {
@@ -88,7 +88,7 @@ module _ {A R : Type 0} (o : Asked A R) (p q : Plan) (made : ℕ) (old : Standin
           middle = then f.middle;
           found = f.found;
           finds = weighs_under cell f.middle f.found f.finds;
-          rooms = rooms_under p (counted made) f.middle new f.found s.found f.rooms;
+          rooms = rooms_under p (next_count made) f.middle new f.found s.found f.rooms;
         };
         gives = s.gives;
       }
@@ -98,81 +98,81 @@ module _ {A R : Type 0} (o : Asked A R) (p q : Plan) (made : ℕ) (old : Standin
 -- The device step that a step made
 
 -- It makes the device step that comes next, and hands its fault on. Besides it may make room.
-pub record ActsAt {A R : Type 0} (stage : Stage A) (old new : Standing) (step : Step A R) : Type 0 where
+pub record ActsAt {A R : Type 0} (stage : OpStage A) (old new : Standing) (step : StepResult A R) : Type 0 where
   pub middle : Standing
-  pub goes : Goes (act_of stage) old middle (fault_stepped step)
+  pub goes : StepGoes (act_of stage) old middle (fault_of_step step)
   pub room : new ≡ record middle { spare = new.spare }
 
 same_room : {middle new : Standing} → new ≡ middle → new ≡ record middle { spare = new.spare }
 same_room {middle = middle} e = subst (λ (x : Standing). x ≡ record middle { spare = x.spare }) (sym e) refl
 
 module _ {A R : Type 0} where
-  acts_by : (stage : Stage A) {old middle new : Standing} {step : Step A R} (it : Step A R) → step ≡ it
-      → Goes (act_of stage) old middle (fault_stepped it) → new ≡ record middle { spare = new.spare } → ActsAt stage old new step
+  acts_by : (stage : OpStage A) {old middle new : Standing} {step : StepResult A R} (it : StepResult A R) → step ≡ it
+      → StepGoes (act_of stage) old middle (fault_of_step it) → new ≡ record middle { spare = new.spare } → ActsAt stage old new step
   acts_by stage {old = old} {middle = middle} {new = new} it e g room =
       subst (ActsAt stage old new) (sym e) (record { middle = middle; goes = g; room = room })
 
   -- what is found leads to no fault of its own
-  room_acts : (flag : Bool) (stage : Stage A) (found : Found A) (old middle new : Standing) (given : Result (Found A) (Halt R))
-      (step : Step A R) → Goes (act_of stage) old middle None → RoomFor flag found middle new given → step ≡ step_found given
+  room_acts : (flag : Bool) (stage : OpStage A) (found : OpFinding A) (old middle new : Standing) (given : Result (OpFinding A) (Halt R))
+      (step : StepResult A R) → StepGoes (act_of stage) old middle None → RoomIsMadeIf flag found middle new given → step ≡ step_of_finding given
       → ActsAt stage old new step
   room_acts false stage (Repeat answer) old middle new given step g r e =
-      acts_by stage (step_found (Ok (Repeat answer))) (e ∙ ap step_found r.1) g (same_room r.0)
+      acts_by stage (step_of_finding (Ok (Repeat answer))) (e ∙ ap step_of_finding r.1) g (same_room r.0)
   room_acts false stage (Change ready) old middle new given step g r e =
-      acts_by stage (step_found (Ok (Change ready))) (e ∙ ap step_found r.1) g (same_room r.0)
-  room_acts true stage found old middle new (Ok (Repeat answer)) step g r e = acts_by stage (step_found (Ok (Repeat answer))) e g r.0.same
-  room_acts true stage found old middle new (Ok (Change ready)) step g r e = acts_by stage (step_found (Ok (Change ready))) e g r.0.same
+      acts_by stage (step_of_finding (Ok (Change ready))) (e ∙ ap step_of_finding r.1) g (same_room r.0)
+  room_acts true stage found old middle new (Ok (Repeat answer)) step g r e = acts_by stage (step_of_finding (Ok (Repeat answer))) e g r.0.same
+  room_acts true stage found old middle new (Ok (Change ready)) step g r e = acts_by stage (step_of_finding (Ok (Change ready))) e g r.0.same
   room_acts true stage found old middle new (Err why) step g r e =
-      acts_by stage (step_found (Err Lacks)) (e ∙ ap (λ (x : Halt R). step_found (Err x)) r.1) g (same_room r.0)
+      acts_by stage (step_of_finding (Err Lacks)) (e ∙ ap (λ (x : Halt R). step_of_finding (Err x)) r.1) g (same_room r.0)
 
-  module _ (o : Asked A R) where
-    looks_acts : (seen : Result (Sight A) (Halt R)) (old middle new : Standing) (step : Step A R) → Looks o old middle seen
+  module _ (o : OpMeaning A R) where
+    looks_acts : (seen : Result (Sight A) (Halt R)) (old middle new : Standing) (step : StepResult A R) → OpLooks o old middle seen
         → SightLeads seen middle new step → ActsAt Begun old new step
-    looks_acts (Err (Fault fault)) old middle new step l s = acts_by Begun (Over (ended_by (Fault fault))) s.1 l (same_room s.0)
-    looks_acts (Err (Refused why)) old middle new step l s = acts_by Begun (Over (ended_by (Refused why))) s.1 l.0 (same_room s.0)
+    looks_acts (Err (Fault fault)) old middle new step l s = acts_by Begun (Over (ending_by_halt (Fault fault))) s.1 l (same_room s.0)
+    looks_acts (Err (Refused why)) old middle new step l s = acts_by Begun (Over (ending_by_halt (Refused why))) s.1 l.0 (same_room s.0)
     looks_acts (Err Lacks) old middle new step l s = absurd l
     looks_acts (Ok (sight.Found found)) old middle new step l s =
-        room_acts (extends found) Begun found old middle new s.found step l.0 s.finds s.gives
+        room_acts (has_extension found) Begun found old middle new s.found step l.0 s.finds s.gives
     looks_acts (Ok (sight.Cell cell)) old middle new step l s = acts_by Begun (Going (Seen cell)) s.1 l.0 (same_room s.0)
 
-    weighs_acts : (cell : Cell) (found given : Result (Found A) (Halt R)) (old middle new : Standing) (step : Step A R)
-        → Weighs o cell old middle found → Rooms found middle new given → step ≡ step_found given → ActsAt (Seen cell) old new step
+    weighs_acts : (cell : Cell) (found given : Result (OpFinding A) (Halt R)) (old middle new : Standing) (step : StepResult A R)
+        → OpWeighs o cell old middle found → RoomIsMadeFor found middle new given → step ≡ step_of_finding given → ActsAt (Seen cell) old new step
     weighs_acts cell (Err (Fault fault)) given old middle new step w r e =
-        acts_by (Seen cell) (Over (ended_by (Fault fault))) (e ∙ ap step_found r.1) w (same_room r.0)
+        acts_by (Seen cell) (Over (ending_by_halt (Fault fault))) (e ∙ ap step_of_finding r.1) w (same_room r.0)
     weighs_acts cell (Err (Refused why)) given old middle new step w r e =
-        acts_by (Seen cell) (Over (ended_by (Refused why))) (e ∙ ap step_found r.1) w.0 (same_room r.0)
+        acts_by (Seen cell) (Over (ending_by_halt (Refused why))) (e ∙ ap step_of_finding r.1) w.0 (same_room r.0)
     weighs_acts cell (Err Lacks) given old middle new step w r e = absurd w
     weighs_acts cell (Ok found) given old middle new step w r e =
-        room_acts (extends found) (Seen cell) found old middle new given step w.0 r e
+        room_acts (has_extension found) (Seen cell) found old middle new given step w.0 r e
 
-    made_fault : (change : Option Move) (answer : A) → fault_stepped {A = A} {R = R} (step_to change answer) ≡ None
+    made_fault : (change : Option Move) (answer : A) → fault_of_step {A = A} {R = R} (step_to change answer) ≡ None
     made_fault None answer = refl
     made_fault (Some change) answer = refl
 
-    change_acts : (ready : Ready A) (fault : Option StepFault) (old new : Standing) (step : Step A R)
-        → Goes (act_in ready.change) old new fault → step ≡ step_made o ready fault → ActsAt (Changing ready) old new step
+    change_acts : (ready : ReadyChange A) (fault : Option StepFault) (old new : Standing) (step : StepResult A R)
+        → StepGoes (act_in ready.change) old new fault → step ≡ step_after_change o ready fault → ActsAt (Changing ready) old new step
     change_acts ready None old new step g e =
         acts_by (Changing ready) (step_to (change_after ready.change) ready.answer) e
-        (subst (Goes (act_in ready.change) old new) (sym (made_fault (change_after ready.change) ready.answer)) g) refl
-    change_acts ready (Some fault) old new step g e = acts_by (Changing ready) (step_made o ready (Some fault)) e g refl
+        (subst (StepGoes (act_in ready.change) old new) (sym (made_fault (change_after ready.change) ready.answer)) g) refl
+    change_acts ready (Some fault) old new step g e = acts_by (Changing ready) (step_after_change o ready (Some fault)) e g refl
 
-    pub steps_act : (stage : Stage A) (old new : Standing) (step : Step A R) → Steps o stage old new step → ActsAt stage old new step
+    pub steps_act : (stage : OpStage A) (old new : Standing) (step : StepResult A R) → OpSteps o stage old new step → ActsAt stage old new step
     steps_act Begun old new step s = looks_acts s.seen old s.middle new step s.looks s.leads
     steps_act (Seen cell) old new step s =
         weighs_acts cell s.finds.found s.found old s.finds.middle new step s.finds.finds s.finds.rooms s.gives
     steps_act (Changing ready) old new step s = change_acts ready s.fault old new step s.goes s.gives
 
     -- no fault comes where none is planned
-    pub steps_faultless : (stage : Stage A) (old new : Standing) (step : Step A R) (meddles : List Meddle) (made : ℕ) → old.is_on ≡ true
-        → old.plan ≡ Some (record (plan_by Quiet meddles) { at = made }) → Steps o stage old new step → fault_stepped step ≡ None
+    pub steps_faultless : (stage : OpStage A) (old new : Standing) (step : StepResult A R) (meddles : List Meddle) (made : ℕ) → old.is_on ≡ true
+        → old.plan ≡ Some (record (plan_by Quiet meddles) { at = made }) → OpSteps o stage old new step → fault_of_step step ≡ None
     steps_faultless stage old new step meddles made on planned s =
         let a = steps_act stage old new step s in
-        quiet_step (act_of stage) old a.middle (fault_stepped step) meddles made on planned a.goes
+        quiet_step (act_of stage) old a.middle (fault_of_step step) meddles made on planned a.goes
 
     -- A step that goes on wrote no cell
 
-    after_made : (change : Move) (answer : A) (fault : Option StepFault) (on : Stage A)
-        → Going on ≡ step_made o (record { change = change; answer = answer }) fault → (made : Bool) (cell : Option (List ℕ))
+    after_made : (change : Move) (answer : A) (fault : Option StepFault) (on : OpStage A)
+        → Going on ≡ step_after_change o (record { change = change; answer = answer }) fault → (made : Bool) (cell : Option (List ℕ))
         → cell_after (act_in change) made cell ≡ cell
     after_made (Extending value) answer fault on e made cell = refl
     after_made (Emptying opening) answer fault on e made cell = refl
@@ -180,13 +180,13 @@ module _ {A R : Type 0} where
     after_made (Writing next) answer None on e made cell = absurd (cc)
     after_made (Writing next) answer (Some fault) on e made cell = absurd (cc)
 
-    keeps_cell : (stage on : Stage A) (old new : Standing) → Steps o stage old new (Going on) → (made : Bool) (cell : Option (List ℕ))
+    keeps_cell : (stage on : OpStage A) (old new : Standing) → OpSteps o stage old new (Going on) → (made : Bool) (cell : Option (List ℕ))
         → cell_after (act_of stage) made cell ≡ cell
     keeps_cell Begun on old new s made cell = refl
     keeps_cell (Seen it) on old new s made cell = refl
     keeps_cell (Changing ready) on old new s made cell = after_made ready.change ready.answer s.fault on s.gives made cell
 
-    pub steps_move : (stage on : Stage A) (old new : Standing) → Steps o stage old new (Going on) → Moves old new
+    pub steps_move : (stage on : OpStage A) (old new : Standing) → OpSteps o stage old new (Going on) → Moves old new
     steps_move stage on old new s =
         let a = steps_act stage old new (Going on) s in record {
           act = act_of stage;
@@ -198,29 +198,29 @@ module _ {A R : Type 0} where
 
     -- What is left behind a step, and a step that fails
 
-    pub steps_then : (stage on : Stage A) (old middle new : Standing) (ended : Ended A R) → Steps o stage old middle (Going on)
-        → Finishes o on middle new ended → Finishes o stage old new ended
+    pub steps_then : (stage on : OpStage A) (old middle new : Standing) (ended : OpResult A R) → OpSteps o stage old middle (Going on)
+        → OpEnds o on middle new ended → OpEnds o stage old new ended
     steps_then stage on old middle new ended s f = joins o stage old middle new (Going on) ended s f
 
-    pub steps_over : (stage : Stage A) (old new : Standing) (ended : Ended A R) → Steps o stage old new (Over ended)
-        → Finishes o stage old new ended
+    pub steps_over : (stage : OpStage A) (old new : Standing) (ended : OpResult A R) → OpSteps o stage old new (Over ended)
+        → OpEnds o stage old new ended
     steps_over stage old new ended s = joins o stage old new new (Over ended) ended s (refl, refl)
 
     -- the position that the next step commits
-    abbrev pub commits_at : Stage A → Option ℕ
+    abbrev pub commits_at : OpStage A → Option ℕ
     commits_at Begun = None
     commits_at (Seen cell) = None
     commits_at (Changing ready) = position_if_last (change_after ready.change) (o.position ready.answer)
 
-    change_fails : (change : Move) (answer : A) (old new : Standing) (fault : StepFault) → Goes (act_in change) old new (Some fault)
-        → ActsTo o (acts_left change) answer old new (Broken fault (position_if_last (change_after change) (o.position answer)))
+    change_fails : (change : Move) (answer : A) (old new : Standing) (fault : StepFault) → StepGoes (act_in change) old new (Some fault)
+        → OpActs o (remaining_acts change) answer old new (Broken fault (position_if_last (change_after change) (o.position answer)))
     change_fails (Extending value) answer old new fault g = breaks_off fault g refl
     change_fails (Emptying opening) answer old new fault g = breaks_off fault g refl
     change_fails (Placing opening) answer old new fault g = breaks_off fault g refl
     change_fails (Writing next) answer old new fault g = breaks_off fault g refl
 
-    pub steps_fail : (stage : Stage A) (old new : Standing) (fault : StepFault) → Goes (act_of stage) old new (Some fault)
-        → Finishes o stage old new (Broken fault (commits_at stage))
+    pub steps_fail : (stage : OpStage A) (old new : Standing) (fault : StepFault) → StepGoes (act_of stage) old new (Some fault)
+        → OpEnds o stage old new (Broken fault (commits_at stage))
     steps_fail Begun old new fault g = record {
       middle = new;
       found = Err (Fault fault);

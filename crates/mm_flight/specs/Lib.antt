@@ -1,2 +1,2 @@
-pub mod InFlight
+pub mod Flight
 pub mod Machine

@@ -11,7 +11,7 @@ pub use Rattle.std.proofs.lemmas.List.{length-append, length-take, length-take-l
 pub use Rattle.std.proofs.lemmas.List.Elements.{All-append, All-from_recursion, All-nil, All-take, All-weaker, recursion_from_All}
 pub use Rattle.rand_chacha.specs.ChaCha.{ChaCha, key_of}
 pub use Rattle.sha2.specs.Sha256.{sha256}
-pub use Rattle.mm_base.specs.Input.{IsUnbroken, lines_joined, lines_of, tail_of}
+pub use Rattle.mm_base.specs.Input.{IsUnbroken, joined_lines, lines_of, tail_of}
 pub use Rattle.mm_base.specs.InputLaws.{joined-append, lines_of-joined, tail_of-joined}
 pub use Rattle.mm_base.specs.Limits.{longest_line, most_events}
 pub use Rattle.mm_digest.specs.declared.variant.Variant.{Variant}
@@ -23,10 +23,10 @@ pub use Rattle.mm_schedule.specs.Headers.{header_at, header_text, variant_text}
 pub use Rattle.mm_schedule.specs.Replies.{end_line}
 pub use Rattle.mm_schedule.specs.declared.header.Header.{Header}
 pub use Rattle.mm_schedule.proofs.Above.{header-read, spelled_is_read}
-pub use Rattle.mm_run.specs.Folds.{Followed, followed, replies_by_digests}
-pub use Rattle.mm_run.specs.Held.{world_of}
-pub use Rattle.mm_replay.specs.Progress.{running}
-pub use Rattle.mm_replay.specs.Schedule.{after_event, among, at_header, first_running, is_too_much, ReplayStage, Running, running_outcome}
+pub use Rattle.mm_run.specs.Folds.{RunOutcome, outcome_of_events, outcome_by_digests}
+pub use Rattle.mm_run.specs.WorldState.{world_of}
+pub use Rattle.mm_replay.specs.Progress.{running_replay}
+pub use Rattle.mm_replay.specs.Schedule.{running_replay_after, stage_among_events, header_stage, first_running_replay, is_too_much, ReplayStage, RunningReplay, running_outcome}
 pub use Rattle.mm_replay.specs.Schedule.{schedule_answer, schedule_closing}
 pub use Rattle.mm_replay.specs.Text.{text_of_replies}
 pub use Rattle.mm_gen.specs.Laws.{IsEventLine, IsSchedule}
@@ -34,8 +34,8 @@ pub use Rattle.mm_gen.specs.Limits.{is_over, IsLimited}
 pub use Rattle.mm_gen.specs.LineBreaks.{is_break, line_at}
 pub use Rattle.mm_gen.specs.Schedules.{lines_from, schedule_lines, schedule_text, seed_from, words_at}
 pub use Rattle.mm_gen.specs.Sums.{SumsUp}
-pub use Rattle.mm_gen.specs.Turns.{ask_text, cut_word, pair, request_chosen, row_14, row_15, turn_lines}
+pub use Rattle.mm_gen.specs.TurnLines.{ask_text, cut_word, pair, chosen_request, row_14, row_15, turn_lines}
 pub use Rattle.mm_gen.specs.declared.fault.BulkFault.{BulkFault}
 pub use Rattle.mm_gen.specs.declared.fault.BulkFault.TheVariants.{Memory, TooMuch}
 pub use Rattle.mm_gen.specs.declared.summary.Summary.{Summary}
-pub use Rattle.mm_gen.specs.declared.words.Words.{Words}
+pub use Rattle.mm_gen.specs.declared.words.TurnWords.{TurnWords}

@@ -1,6 +1,6 @@
 -- A schedule in the making: its text so far, and the lines that are left.
 use Rattle.mm_gen.proofs.Below.{◌≡◌, ◌<◌, ◌≤◌, ℕ, zero, suc, ◌+◌, ◌-◌, ◌*◌, List, [], ◌∷◌, ◌++◌, length, take, refl, sym, ap, ◌∙◌, arith}
-use Rattle.mm_gen.proofs.Below.{append_assoc, inl, inr, min, cases_lt, length-take, lines_joined, joined-append, Header, lines_from}
+use Rattle.mm_gen.proofs.Below.{append_assoc, inl, inr, min, cases_lt, length-take, joined_lines, joined-append, Header, lines_from}
 use Rattle.mm_gen.proofs.Below.{schedule_text, words_at, turn_lines}
 use Rattle.mm_gen.proofs.Spelled.{are_few}
 
@@ -10,7 +10,7 @@ pub record Going (number count : ℕ) (header : Header) (text key : List ℕ) (p
   pub drawn : place ≤ 4 * done
   pub turns : ℕ
   pub enough : count - done ≤ turns
-  pub whole : text ++ lines_joined (take (count - done) (lines_from header key place (done + 1) turns)) ≡ schedule_text number count header
+  pub whole : text ++ joined_lines (take (count - done) (lines_from header key place (done + 1) turns)) ≡ schedule_text number count header
 
 take_of_two : (n : ℕ) (xs ys : List (List ℕ)) → take n (xs ++ ys) ≡ take n xs ++ take (n - length xs) ys
 take_of_two zero [] ys = refl
@@ -37,9 +37,9 @@ behind header key place turns left done shown size is = elim (cases_lt left size
 module _ (number count : ℕ) (header : Header) (text : List ℕ) where
   -- one turn is put, with at most as many lines as are left
   stepped : (key : List ℕ) (place done shown turns : ℕ) → done < count → place ≤ 4 * done → count - done ≤ turns
-      → text ++ lines_joined (take (count - done) (lines_from header key place (done + 1) turns)) ≡ schedule_text number count header
+      → text ++ joined_lines (take (count - done) (lines_from header key place (done + 1) turns)) ≡ schedule_text number count header
       → shown ≡ length (take (count - done) (turn_lines header (done + 1) (words_at key place)))
-      → Going number count header (text ++ lines_joined (take (count - done) (turn_lines header (done + 1) (words_at key place)))) key
+      → Going number count header (text ++ joined_lines (take (count - done) (turn_lines header (done + 1) (words_at key place)))) key
       (place + 4) (done + shown)
   stepped key place done shown zero more drawn enough whole is = absurd (omega arith)
   stepped key place done shown (suc turns) more drawn enough whole is =
@@ -58,12 +58,12 @@ module _ (number count : ℕ) (header : Header) (text : List ℕ) where
         drawn = omega (arith, size, more, some, drawn);
         turns = turns;
         enough = omega (arith, size, more, some, enough);
-        whole = append_assoc text (lines_joined (take left lines)) (lines_joined later) ∙ ap (λ (more : List ℕ). text ++ more)
-            (sym (joined-append (take left lines) later)) ∙ ap (λ (more : List (List ℕ)). text ++ lines_joined more) (sym parts) ∙ whole;
+        whole = append_assoc text (joined_lines (take left lines)) (joined_lines later) ∙ ap (λ (more : List ℕ). text ++ more)
+            (sym (joined-append (take left lines) later)) ∙ ap (λ (more : List (List ℕ)). text ++ joined_lines more) (sym parts) ∙ whole;
       }
 
   pub goes_on : (key : List ℕ) (place done shown : ℕ) → Going number count header text key place done → done < count
       → shown ≡ length (take (count - done) (turn_lines header (done + 1) (words_at key place)))
-      → Going number count header (text ++ lines_joined (take (count - done) (turn_lines header (done + 1) (words_at key place)))) key
+      → Going number count header (text ++ joined_lines (take (count - done) (turn_lines header (done + 1) (words_at key place)))) key
       (place + 4) (done + shown)
   goes_on key place done shown going more is = stepped key place done shown going.turns more going.drawn going.enough going.whole is

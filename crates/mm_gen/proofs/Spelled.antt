@@ -1,12 +1,12 @@
 -- Each line of a turn spells an event: so a generated schedule is read as it was made.
-use Rattle.mm_gen.proofs.Below.{◌<◌, ◌≤◌, ℕ, Bool, true, false, List, length, arith, if◌then◌else◌, Header, Words, nat_tests, ◌≡◌, ◌≢◌, ◌^◌}
+use Rattle.mm_gen.proofs.Below.{◌<◌, ◌≤◌, ℕ, Bool, true, false, List, length, arith, if◌then◌else◌, Header, TurnWords, nat_tests, ◌≡◌, ◌≢◌, ◌^◌}
 use Rattle.mm_gen.proofs.Below.{◌+◌, [], ◌∷◌, ◌++◌, refl, ◌==◌, not, decimal, list_all, length-append, All-append, IsUnbroken, name_of}
-use Rattle.mm_gen.proofs.Below.{any_is_found, any_is_listed, request_chosen, ◌%◌, nat_lt, codes, AllByRecursion, Variant, Basic, Opt, Ask}
+use Rattle.mm_gen.proofs.Below.{any_is_found, any_is_listed, chosen_request, ◌%◌, nat_lt, codes, AllByRecursion, Variant, Basic, Opt, Ask}
 use Rattle.mm_gen.proofs.Below.{Checkpoint, Power, IsEventLine, ask_text, cut_word, pair, row_14, row_15, ◌*◌, zero, suc, sym, ap, ◌∙◌, All}
-use Rattle.mm_gen.proofs.Below.{length-take-le, All-from_recursion, All-nil, All-take, All-weaker, recursion_from_All, key_of, lines_joined}
+use Rattle.mm_gen.proofs.Below.{length-take-le, All-from_recursion, All-nil, All-take, All-weaker, recursion_from_All, key_of, joined_lines}
 use Rattle.mm_gen.proofs.Below.{lines_of, tail_of, lines_of-joined, tail_of-joined, most_events, header_text, variant_text, IsSchedule}
 use Rattle.mm_gen.proofs.Below.{lines_from, schedule_lines, seed_from, words_at}
-use Rattle.mm_gen.specs.Turns.{turn_lines}
+use Rattle.mm_gen.specs.TurnLines.{turn_lines}
 use Rattle.std.proofs.lemmas.Fmt.{length-decimal-le}
 use Rattle.mm_listing.specs.Listing.{is_name_byte}
 use Rattle.mm_module.specs.LineLaws.{All-is_unbroken, and-both, and-true, is_unbroken, is_unbroken-decimal}
@@ -72,10 +72,10 @@ name-part it = record {
 }
 
 -- a request of a module
-request-part : (it : AnyModule) (choice : ℕ) → IsPart 256 (request_chosen it choice)
+request-part : (it : AnyModule) (choice : ℕ) → IsPart 256 (chosen_request it choice)
 request-part it choice =
     let asks = (any_is_listed it).asks choice in
-    record { unbroken = All-is_unbroken (request_chosen it choice) asks.unbroken; short = asks.short }
+    record { unbroken = All-is_unbroken (chosen_request it choice) asks.unbroken; short = asks.short }
 
 -- ---- what ends a call, and what it offers
 
@@ -192,10 +192,10 @@ in_both : {A : Type 0} (P : A → Type 0) (b : Bool) {x y : A} → P x → P y �
 in_both P true one other = one
 in_both P false one other = other
 
-turn_events : (header : Header) (first : ℕ) (words : Words) → 0 < first → first < 10 ^ 9 → AreEvents (turn_lines header first words)
+turn_events : (header : Header) (first : ℕ) (words : TurnWords) → 0 < first → first < 10 ^ 9 → AreEvents (turn_lines header first words)
 unfolding turn_lines
 turn_events header first words some low =
-    let request : List ℕ = request_chosen header.module words.request in
+    let request : List ℕ = chosen_request header.module words.request in
     let part : IsPart 256 request = request-part header.module words.request in
     let snapshot : words.number % first < 10 ^ 9 = omega (arith, mod_below words.number first some, low) in
     in_both AreEvents (nat_lt (words.row % 16) 9) (last_asked request part, tt)
@@ -217,7 +217,7 @@ pub record IsFew (lines : List (List ℕ)) : Type 0 where
   pub some : 0 < length lines
   pub few : length lines ≤ 2
 
-pub are_few : (header : Header) (first : ℕ) (words : Words) → IsFew (turn_lines header first words)
+pub are_few : (header : Header) (first : ℕ) (words : TurnWords) → IsFew (turn_lines header first words)
 unfolding turn_lines
 are_few header first words = record { some = grind (arith, nat_tests); few = grind (arith, nat_tests) }
 
@@ -257,8 +257,8 @@ is_schedule number count header few =
     ) in
     let lines : List (List ℕ) = header_text header ∷ schedule_lines number count header in
     record {
-      lines = ap lines_of (sym (append-nil (lines_joined lines))) ∙ lines_of-joined lines [] unbroken ∙ append-nil lines;
-      ends = ap tail_of (sym (append-nil (lines_joined lines))) ∙ tail_of-joined lines [] unbroken;
+      lines = ap lines_of (sym (append-nil (joined_lines lines))) ∙ lines_of-joined lines [] unbroken ∙ append-nil lines;
+      ends = ap tail_of (sym (append-nil (joined_lines lines))) ∙ tail_of-joined lines [] unbroken;
       counted = length-take-le count all from.0;
       events = events;
     }

@@ -1,10 +1,10 @@
 -- A schedule among its events: the lines left, and what stands of its summary.
 use Rattle.mm_gen.proofs.Below.{◌≡◌, ◌≢◌, ◌<◌, ◌≤◌, ◌∙◌, ℕ, ◌+◌, suc, true, false, List, [], ◌∷◌, ◌++◌, length, map, refl, sym, ap, subst}
 use Rattle.mm_gen.proofs.Below.{arith, append_assoc, append-nil, Option, None, is_some, nat_lt, AllByRecursion, fold, position}
-use Rattle.mm_gen.proofs.Below.{position_or_len, ne_eqb, nat_tests, length-append, recursion_from_All, sha256, IsUnbroken, lines_joined}
+use Rattle.mm_gen.proofs.Below.{position_or_len, ne_eqb, nat_tests, length-append, recursion_from_All, sha256, IsUnbroken, joined_lines}
 use Rattle.mm_gen.proofs.Below.{longest_line, most_events, Header, Event, event_at, header_text, end_line, spelled_is_read, IsEventLine}
-use Rattle.mm_gen.proofs.Below.{schedule_lines, schedule_text, Followed, followed, replies_by_digests, world_of, Running, after_event}
-use Rattle.mm_gen.proofs.Below.{first_running, is_too_much, running_outcome, text_of_replies, IsLimited, is_over, is_break, SumsUp}
+use Rattle.mm_gen.proofs.Below.{schedule_lines, schedule_text, RunOutcome, outcome_of_events, outcome_by_digests, world_of, RunningReplay, running_replay_after}
+use Rattle.mm_gen.proofs.Below.{first_running_replay, is_too_much, running_outcome, text_of_replies, IsLimited, is_over, is_break, SumsUp}
 use Rattle.mm_gen.proofs.Below.{BulkFault, Memory, TooMuch, Summary}
 use Rattle.std.specs.Prelude.{Some, Err}
 use Rattle.std.proofs.Math.Seq.{take-append_seam, drop-append-add}
@@ -13,11 +13,11 @@ use Rattle.mm_schedule.specs.declared.reply.Reply.{Reply}
 use Rattle.mm_schedule.specs.declared.reply.Reply.TheVariants.{Told}
 use Rattle.mm_gen.proofs.Spelled.{header-unbroken, is_schedule}
 use Rattle.mm_model.specs.Moves.{Digests}
-use Rattle.mm_call.specs.Levels.{by_digests}
+use Rattle.mm_call.specs.Levels.{digest_level}
 use Rattle.mm_gen.specs.Limits.{RunsLine}
-use Rattle.mm_gen.specs.Sums.{counted_reply, counts_of, no_counts, total}
+use Rattle.mm_gen.specs.Sums.{counts_after_reply, counts_of, no_counts, total}
 use Rattle.mm_gen.specs.LineBreaks.{line_at}
-use Rattle.mm_gen.specs.declared.counts.Counts.{Counts}
+use Rattle.mm_gen.specs.declared.counts.ReplyCounts.{ReplyCounts}
 use Rattle.std.specs.List.{flat_map}
 
 -- ---- the first line
@@ -55,33 +55,33 @@ events_read (line ∷ lines) are =
 -- ---- what is left
 
 -- what follows of these events
-abbrev pub left_of : Running → List Event → Followed Digests
-left_of r events = followed (world_of r.header) (by_digests (world_of r.header)) r.digests r.issued events
+abbrev pub left_of : RunningReplay → List Event → RunOutcome Digests
+left_of r events = outcome_of_events (world_of r.header) (digest_level (world_of r.header)) r.digests r.issued events
 
 -- the whole is what was counted and written, and then what is left
-record Rests (r : Running) (counts : Counts) (text : List ℕ) (left whole : Followed Digests) : Type 0 where
+record Rests (r : RunningReplay) (counts : ReplyCounts) (text : List ℕ) (left whole : RunOutcome Digests) : Type 0 where
   replies : text ++ flat_map text_of_replies left.replies ≡ flat_map text_of_replies whole.replies
-  counted : fold counted_reply counts left.replies ≡ counts_of whole.replies
+  counted : fold counts_after_reply counts left.replies ≡ counts_of whole.replies
   state : left.state ≡ whole.state
   issued : left.issued ≡ whole.issued
 
 -- with these lines left, each of which is an event's
-record GoingWith (lines : List (List ℕ)) (rest : List ℕ) (r : Running) (counts : Counts) (text : List ℕ) (left : List (List ℕ))
+record GoingWith (lines : List (List ℕ)) (rest : List ℕ) (r : RunningReplay) (counts : ReplyCounts) (text : List ℕ) (left : List (List ℕ))
     (are : AllByRecursion IsEventLine left) : Type 0 where
   all : List Event
-  bytes : rest ≡ lines_joined left
+  bytes : rest ≡ joined_lines left
   whole : map event_at lines ≡ map Some all
   few : total counts + length left ≤ most_events
-  over : is_over r left ≡ is_over (first_running r.header) lines
-  rests : Rests r counts text (left_of r (events_of left are)) (replies_by_digests (world_of r.header) all)
+  over : is_over r left ≡ is_over (first_running_replay r.header) lines
+  rests : Rests r counts text (left_of r (events_of left are)) (outcome_by_digests (world_of r.header) all)
 
-pub record Going (lines : List (List ℕ)) (rest : List ℕ) (r : Running) (counts : Counts) (text : List ℕ) : Type 0 where
+pub record Going (lines : List (List ℕ)) (rest : List ℕ) (r : RunningReplay) (counts : ReplyCounts) (text : List ℕ) : Type 0 where
   left : List (List ℕ)
   are : AllByRecursion IsEventLine left
   stands : GoingWith lines rest r counts text left are
 
 -- the summary of what was counted and written so far
-abbrev pub so_far : Running → Counts → List ℕ → Summary
+abbrev pub so_far : RunningReplay → ReplyCounts → List ℕ → Summary
 so_far r counts text = record {
   counts = counts;
   committed = r.digests.count;
@@ -90,35 +90,35 @@ so_far r counts text = record {
 }
 
 -- an event line that is answered next
-pub record Next (lines : List (List ℕ)) (rest : List ℕ) (r : Running) (counts : Counts) (text line behind : List ℕ) : Type 0 where
+pub record Next (lines : List (List ℕ)) (rest : List ℕ) (r : RunningReplay) (counts : ReplyCounts) (text line behind : List ℕ) : Type 0 where
   pub less : length behind < length rest
-  pub header : (reply : Reply) (new : Running) → RunsLine r new line reply → new.header ≡ r.header
+  pub header : (reply : Reply) (new : RunningReplay) → RunsLine r new line reply → new.header ≡ r.header
   pub short : length line ≤ longest_line
   pub known : is_some (event_at line) ≡ true
   pub room : total counts < most_events
-  pub over : is_too_much r line ≡ true → is_over (first_running r.header) lines ≡ true
-  pub on : (reply : Reply) (new : Running) → RunsLine r new line reply
-      → Going lines behind new (counted_reply counts reply) (text ++ text_of_replies reply)
+  pub over : is_too_much r line ≡ true → is_over (first_running_replay r.header) lines ≡ true
+  pub on : (reply : Reply) (new : RunningReplay) → RunsLine r new line reply
+      → Going lines behind new (counts_after_reply counts reply) (text ++ text_of_replies reply)
 
-total-counted : (counts : Counts) (reply : Reply) → total (counted_reply counts reply) ≡ total counts + 1
+total-counted : (counts : ReplyCounts) (reply : Reply) → total (counts_after_reply counts reply) ≡ total counts + 1
 total-counted counts (Told false position outputs) = omega arith
 total-counted counts _ = omega arith
 
 -- a line that passes no limit: those behind it decide
-pub over_behind : (r : Running) (line : List ℕ) (more : List (List ℕ)) (event : Event) → event_at line ≡ Some event
-    → is_too_much r line ≡ false → is_over (after_event r line event) more ≡ is_over r (line ∷ more)
+pub over_behind : (r : RunningReplay) (line : List ℕ) (more : List (List ℕ)) (event : Event) → event_at line ≡ Some event
+    → is_too_much r line ≡ false → is_over (running_replay_after r line event) more ≡ is_over r (line ∷ more)
 over_behind r line more event is room = rw (is, room) refl
 
 -- a line that passes a limit
-pub over_at : (r : Running) (line : List ℕ) (more : List (List ℕ)) → is_too_much r line ≡ true → is_over r (line ∷ more) ≡ true
+pub over_at : (r : RunningReplay) (line : List ℕ) (more : List (List ℕ)) → is_too_much r line ≡ true → is_over r (line ∷ more) ≡ true
 over_at r line more much = rw much refl
 
 module _ (lines : List (List ℕ)) where
-  answered_on : (more : List (List ℕ)) (line rest : List ℕ) (r : Running) (counts : Counts) (text : List ℕ)
+  answered_on : (more : List (List ℕ)) (line rest : List ℕ) (r : RunningReplay) (counts : ReplyCounts) (text : List ℕ)
       (are : AllByRecursion IsEventLine (line ∷ more)) → event_at line ≡ Some are.0.event → is_too_much r line ≡ false
       → GoingWith lines rest r counts text (line ∷ more) are
       → (let said : Reply = (running_outcome r are.0.event).reply in
-      Going lines (lines_joined more) (after_event r line are.0.event) (counted_reply counts said) (text ++ text_of_replies said))
+      Going lines (joined_lines more) (running_replay_after r line are.0.event) (counts_after_reply counts said) (text ++ text_of_replies said))
   answered_on more line rest r counts text are is room going =
       let event : Event = are.0.event in
       let said : Reply = (running_outcome r event).reply in
@@ -141,7 +141,7 @@ module _ (lines : List (List ℕ)) where
         };
       }
 
-  next_line : (left : List (List ℕ)) (are : AllByRecursion IsEventLine left) (rest : List ℕ) (r : Running) (counts : Counts)
+  next_line : (left : List (List ℕ)) (are : AllByRecursion IsEventLine left) (rest : List ℕ) (r : RunningReplay) (counts : ReplyCounts)
       (text line behind : List ℕ) → GoingWith lines rest r counts text left are → line_at rest ≡ Some (line, behind)
       → Next lines rest r counts text line behind
   unfolding line_at
@@ -149,10 +149,10 @@ module _ (lines : List (List ℕ)) where
   next_line (l ∷ more) are rest r counts text line behind going found =
       let few = going.few in
       let read = spelled_is_read l are.0.event are.0.spelled in
-      let again = line_again l (lines_joined more) are.0.unbroken in let at = ap line_at going.bytes in
-      let made : Next lines rest r counts text l (lines_joined more) = record {
-        less = omega (arith, length-append l (10 ∷ lines_joined more), ap (λ (b : List ℕ). length b) going.bytes);
-        header = λ reply new answered. ap (λ (x : Running). x.header) (answered.1 are.0.event read).1;
+      let again = line_again l (joined_lines more) are.0.unbroken in let at = ap line_at going.bytes in
+      let made : Next lines rest r counts text l (joined_lines more) = record {
+        less = omega (arith, length-append l (10 ∷ joined_lines more), ap (λ (b : List ℕ). length b) going.bytes);
+        header = λ reply new answered. ap (λ (x : RunningReplay). x.header) (answered.1 are.0.event read).1;
         short = are.0.short;
         known = rw read refl;
         room = omega (arith, few);
@@ -160,46 +160,46 @@ module _ (lines : List (List ℕ)) where
         on = λ reply new answered.
             let is = answered.1 are.0.event read in rw (is.0, is.1) (answered_on more l rest r counts text are read answered.0 going);
       } in
-      let same : (l, lines_joined more) ≡ (line, behind) = cc in
+      let same : (l, joined_lines more) ≡ (line, behind) = cc in
       subst (λ (p : List ℕ × List ℕ). Next lines rest r counts text p.0 p.1) same made
 
-  pub next : (rest : List ℕ) (r : Running) (counts : Counts) (text line behind : List ℕ) → Going lines rest r counts text
+  pub next : (rest : List ℕ) (r : RunningReplay) (counts : ReplyCounts) (text line behind : List ℕ) → Going lines rest r counts text
       → line_at rest ≡ Some (line, behind) → Next lines rest r counts text line behind
   next rest r counts text line behind going found =
       next_line going.left going.are rest r counts text line behind going.stands found
 
   -- ---- the end
 
-  ended_at : (left : List (List ℕ)) (are : AllByRecursion IsEventLine left) (rest : List ℕ) (r : Running) (counts : Counts)
+  ended_at : (left : List (List ℕ)) (are : AllByRecursion IsEventLine left) (rest : List ℕ) (r : RunningReplay) (counts : ReplyCounts)
       (text : List ℕ) → GoingWith lines rest r counts text left are → line_at rest ≡ None
-      → (is_over (first_running r.header) lines ≡ false) × SumsUp r.header lines (so_far r counts text)
+      → (is_over (first_running_replay r.header) lines ≡ false) × SumsUp r.header lines (so_far r counts text)
   ended_at [] are rest r counts text going none =
       let rests = going.rests in
-      let written : text ≡ flat_map text_of_replies (replies_by_digests (world_of r.header) going.all).replies = sym (append-nil text) ∙ rests.replies in
+      let written : text ≡ flat_map text_of_replies (outcome_by_digests (world_of r.header) going.all).replies = sym (append-nil text) ∙ rests.replies in
       let numbered = rests.counted in let state = rests.state in let issued = rests.issued in (
         sym going.over,
         record { events = going.all; read = going.whole; told = rw (sym state, sym issued, sym numbered, sym written) refl },
       )
   ended_at (l ∷ more) are rest r counts text going none =
-      let found = ap line_at going.bytes ∙ line_again l (lines_joined more) are.0.unbroken in cc
+      let found = ap line_at going.bytes ∙ line_again l (joined_lines more) are.0.unbroken in cc
 
   -- no line was one too many
-  pub within : (rest : List ℕ) (r : Running) (counts : Counts) (text : List ℕ) (header : Header) → Going lines rest r counts text
-      → r.header ≡ header → line_at rest ≡ None → is_over (first_running header) lines ≡ false
+  pub within : (rest : List ℕ) (r : RunningReplay) (counts : ReplyCounts) (text : List ℕ) (header : Header) → Going lines rest r counts text
+      → r.header ≡ header → line_at rest ≡ None → is_over (first_running_replay header) lines ≡ false
   within rest r counts text header going same none =
-      subst (λ (h : Header). is_over (first_running h) lines ≡ false) same
+      subst (λ (h : Header). is_over (first_running_replay h) lines ≡ false) same
       (ended_at going.left going.are rest r counts text going.stands none).0
 
   -- a line was one too many, or memory was wanting
-  pub stops : (rest : List ℕ) (r : Running) (counts : Counts) (text line behind : List ℕ) (header : Header) (fault : BulkFault)
+  pub stops : (rest : List ℕ) (r : RunningReplay) (counts : ReplyCounts) (text line behind : List ℕ) (header : Header) (fault : BulkFault)
       → Next lines rest r counts text line behind → r.header ≡ header → (fault ≡ TooMuch → is_too_much r line ≡ true)
-      → IsLimited (is_over (first_running header) lines) (Err fault)
+      → IsLimited (is_over (first_running_replay header) lines) (Err fault)
   stops rest r counts text line behind header TooMuch step same limit =
-      subst (λ (h : Header). is_over (first_running h) lines ≡ true) same (step.over (limit refl))
+      subst (λ (h : Header). is_over (first_running_replay h) lines ≡ true) same (step.over (limit refl))
   stops rest r counts text line behind header Memory step same limit = tt
 
   -- a summary by its parts
-  pub ended : (rest : List ℕ) (r : Running) (counts : Counts) (text : List ℕ) (header : Header) (committed issued : ℕ) (digest : Digest)
+  pub ended : (rest : List ℕ) (r : RunningReplay) (counts : ReplyCounts) (text : List ℕ) (header : Header) (committed issued : ℕ) (digest : Digest)
       → Going lines rest r counts text → line_at rest ≡ None → r.header ≡ header → committed ≡ r.digests.count → issued ≡ length r.issued
       → digest.bytes ≡ sha256 (text ++ end_line r.digests.count (length r.issued))
       → SumsUp header lines (record { counts = counts; committed = committed; issued = issued; replies = digest })
@@ -215,12 +215,12 @@ module _ (lines : List (List ℕ)) where
 -- ---- the beginning
 
 pub behind_first : (number count : ℕ) (header : Header)
-    → line_at (schedule_text number count header) ≡ Some (header_text header, lines_joined (schedule_lines number count header))
+    → line_at (schedule_text number count header) ≡ Some (header_text header, joined_lines (schedule_lines number count header))
 behind_first number count header =
-    line_again (header_text header) (lines_joined (schedule_lines number count header)) (header-unbroken header)
+    line_again (header_text header) (joined_lines (schedule_lines number count header)) (header-unbroken header)
 
-pub starts : (number count : ℕ) (header : Header) (rest : List ℕ) (r : Running) (counts : Counts) (text : List ℕ) → count ≤ most_events
-    → rest ≡ lines_joined (schedule_lines number count header) → r ≡ first_running header → counts ≡ no_counts → text ≡ []
+pub starts : (number count : ℕ) (header : Header) (rest : List ℕ) (r : RunningReplay) (counts : ReplyCounts) (text : List ℕ) → count ≤ most_events
+    → rest ≡ joined_lines (schedule_lines number count header) → r ≡ first_running_replay header → counts ≡ no_counts → text ≡ []
     → Going (schedule_lines number count header) rest r counts text
 starts number count header rest r counts text few one two three four =
     let is = is_schedule number count header few in let lines : List (List ℕ) = schedule_lines number count header in
@@ -239,7 +239,7 @@ starts number count header rest r counts text few one two three four =
     })
 
 -- a line more, by what stands behind it
-pub goes_on : (lines : List (List ℕ)) (rest : List ℕ) (r new : Running) (counts more : Counts) (text written line behind : List ℕ)
-    (reply : Reply) → Next lines rest r counts text line behind → RunsLine r new line reply → more ≡ counted_reply counts reply
+pub goes_on : (lines : List (List ℕ)) (rest : List ℕ) (r new : RunningReplay) (counts more : ReplyCounts) (text written line behind : List ℕ)
+    (reply : Reply) → Next lines rest r counts text line behind → RunsLine r new line reply → more ≡ counts_after_reply counts reply
     → written ≡ text ++ text_of_replies reply → Going lines behind new more written
 goes_on lines rest r new counts more text written line behind reply step answered one two = rw (one, two) (step.on reply new answered)

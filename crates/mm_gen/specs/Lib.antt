@@ -2,8 +2,8 @@ pub mod Laws
 pub mod Limits
 pub mod LineBreaks
 pub mod Lines
-pub mod Replayed
+pub mod Replay
 pub mod Schedules
 pub mod Summaries
 pub mod Sums
-pub mod Turns
+pub mod TurnLines

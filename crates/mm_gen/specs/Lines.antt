@@ -6,11 +6,11 @@ use Rattle.mm_platform.specs.declared.plan.Stop.{Stop}
 use Rattle.mm_platform.specs.declared.plan.Stop.TheVariants.{Quiet, Cut, Drop, Fail}
 use Rattle.mm_gen.specs.declared.line.Line.{Line}
 use Rattle.mm_gen.specs.declared.line.Line.TheVariants.{Ask, Checkpoint, Power}
-use Rattle.mm_gen.specs.declared.line.Snapshot.{Snapshot}
-use Rattle.mm_gen.specs.declared.line.Snapshot.TheVariants.{Last, Number, Flip}
-use Rattle.mm_gen.specs.declared.turn.Turn.{Turn}
-use Rattle.mm_gen.specs.declared.turn.Turn.TheVariants.{One, Pair}
-use Rattle.mm_gen.specs.Turns.{ask_text}
+use Rattle.mm_gen.specs.declared.line.SnapshotChoice.{SnapshotChoice}
+use Rattle.mm_gen.specs.declared.line.SnapshotChoice.TheVariants.{Last, Number, Flip}
+use Rattle.mm_gen.specs.declared.turn.TurnLines.{TurnLines}
+use Rattle.mm_gen.specs.declared.turn.TurnLines.TheVariants.{One, Pair}
+use Rattle.mm_gen.specs.TurnLines.{ask_text}
 
 abbrev pub stop_text : Stop → List ℕ
 stop_text Quiet = []
@@ -19,7 +19,7 @@ stop_text (Drop step) = codes "drop " ++ decimal step ++ 32 ∷ []
 stop_text (Fail step true) = codes "fail " ++ decimal step ++ codes " done "
 stop_text (Fail step false) = codes "fail " ++ decimal step ++ codes " undone "
 
-abbrev pub snapshot_text : Snapshot → List ℕ
+abbrev pub snapshot_text : SnapshotChoice → List ℕ
 snapshot_text Last = codes "last"
 snapshot_text (Number number) = decimal number
 snapshot_text (Flip number byte) = codes "flip " ++ decimal number ++ 32 ∷ decimal byte
@@ -29,6 +29,6 @@ line_text request (Ask stop snapshot) = stop_text stop ++ ask_text (snapshot_tex
 line_text request Checkpoint = codes "checkpoint"
 line_text request Power = codes "power"
 
-abbrev pub lines_of_turn : List ℕ → Turn → List (List ℕ)
+abbrev pub lines_of_turn : List ℕ → TurnLines → List (List ℕ)
 lines_of_turn request (One line) = line_text request line ∷ []
 lines_of_turn request (Pair first second) = line_text request first ∷ line_text request second ∷ []

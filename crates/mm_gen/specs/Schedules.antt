@@ -2,18 +2,18 @@
 use Rattle.std.specs.Prelude.{ℕ, zero, suc, ◌+◌, List, [], ◌∷◌, ◌++◌, length, replicate, take}
 use Rattle.std.specs.Int.{w64, to_le_bytes}
 use Rattle.rand_chacha.specs.ChaCha.{key_of, word_at}
-use Rattle.mm_base.specs.Input.{lines_joined}
+use Rattle.mm_base.specs.Input.{joined_lines}
 use Rattle.mm_schedule.specs.declared.header.Header.{Header}
 use Rattle.mm_schedule.specs.Headers.{header_text}
-use Rattle.mm_gen.specs.declared.words.Words.{Words}
-use Rattle.mm_gen.specs.Turns.{turn_lines}
+use Rattle.mm_gen.specs.declared.words.TurnWords.{TurnWords}
+use Rattle.mm_gen.specs.TurnLines.{turn_lines}
 
 -- the seed of a number: its 8 bytes, the lowest first, and 24 zero bytes
 unfoldable pub seed_from : ℕ → List ℕ
 seed_from number = to_le_bytes w64 number ++ replicate 24 0
 
 -- four words of the ChaCha20 stream of a key, from this place on
-abbrev pub words_at : List ℕ → ℕ → Words
+abbrev pub words_at : List ℕ → ℕ → TurnWords
 words_at key place = record {
   row = word_at 10 key 0 place;
   number = word_at 10 key 0 (place + 1);

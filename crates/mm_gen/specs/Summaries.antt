@@ -2,19 +2,19 @@
 use Rattle.std.specs.Prelude.{ℕ, List, [], ◌∷◌, ◌++◌, codes}
 use Rattle.std.specs.Fmt.{decimal}
 use Rattle.hex.specs.Hex.{encode_lower}
-use Rattle.mm_base.specs.Input.{lines_joined}
-use Rattle.mm_gen.specs.declared.counts.Counts.{Counts}
+use Rattle.mm_base.specs.Input.{joined_lines}
+use Rattle.mm_gen.specs.declared.counts.ReplyCounts.{ReplyCounts}
 use Rattle.mm_gen.specs.declared.summary.Summary.{Summary}
 
 abbrev pub events_text : ℕ → List ℕ
 events_text events = codes "events " ++ decimal events
 
-abbrev pub told_counts : Counts → List ℕ
+abbrev pub told_counts : ReplyCounts → List ℕ
 told_counts counts =
     codes "ok " ++ decimal counts.ok ++ codes " again " ++ decimal counts.again ++ codes " no "
     ++ decimal counts.no
 
-abbrev pub other_counts : Counts → List ℕ
+abbrev pub other_counts : ReplyCounts → List ℕ
 other_counts counts =
     codes "kept " ++ decimal counts.kept ++ codes " lost " ++ decimal counts.lost ++ codes " other "
     ++ decimal counts.other

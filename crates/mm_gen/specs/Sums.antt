@@ -8,35 +8,35 @@ use Rattle.mm_schedule.specs.Grammar.{event_at}
 use Rattle.mm_schedule.specs.Replies.{end_line}
 use Rattle.mm_schedule.specs.declared.reply.Reply.{Reply}
 use Rattle.mm_schedule.specs.declared.reply.Reply.TheVariants.{Told, No, Kept, Nothing}
-use Rattle.mm_run.specs.Folds.{Followed, replies_by_digests}
-use Rattle.mm_run.specs.Held.{world_of}
+use Rattle.mm_run.specs.Folds.{RunOutcome, outcome_by_digests}
+use Rattle.mm_run.specs.WorldState.{world_of}
 use Rattle.mm_model.specs.Moves.{Digests}
 use Rattle.mm_replay.specs.Text.{text_of_replies}
-use Rattle.mm_gen.specs.declared.counts.Counts.{Counts}
+use Rattle.mm_gen.specs.declared.counts.ReplyCounts.{ReplyCounts}
 use Rattle.mm_gen.specs.declared.summary.Summary.{Summary}
 
-abbrev pub no_counts : Counts
+abbrev pub no_counts : ReplyCounts
 no_counts = record { ok = 0; again = 0; no = 0; kept = 0; lost = 0; other = 0 }
 
 -- one reply more, by its kind: `ok`, `again`, `no`, one with `kept`, one with `lost`, or another
-abbrev pub counted_reply : Counts → Reply → Counts
-counted_reply counts (Told false position outputs) = record counts { ok = counts.ok + 1 }
-counted_reply counts (Told true position outputs) = record counts { again = counts.again + 1 }
-counted_reply counts (No cause) = record counts { no = counts.no + 1 }
-counted_reply counts (Kept way position) = record counts { kept = counts.kept + 1 }
-counted_reply counts (Nothing way) = record counts { lost = counts.lost + 1 }
-counted_reply counts reply = record counts { other = counts.other + 1 }
+abbrev pub counts_after_reply : ReplyCounts → Reply → ReplyCounts
+counts_after_reply counts (Told false position outputs) = record counts { ok = counts.ok + 1 }
+counts_after_reply counts (Told true position outputs) = record counts { again = counts.again + 1 }
+counts_after_reply counts (No cause) = record counts { no = counts.no + 1 }
+counts_after_reply counts (Kept way position) = record counts { kept = counts.kept + 1 }
+counts_after_reply counts (Nothing way) = record counts { lost = counts.lost + 1 }
+counts_after_reply counts reply = record counts { other = counts.other + 1 }
 
 -- these replies, counted
-abbrev pub counts_of : List Reply → Counts
-counts_of replies = fold counted_reply no_counts replies
+abbrev pub counts_of : List Reply → ReplyCounts
+counts_of replies = fold counts_after_reply no_counts replies
 
 -- how many replies there are
-abbrev pub total : Counts → ℕ
+abbrev pub total : ReplyCounts → ℕ
 total counts = counts.ok + counts.again + counts.no + counts.kept + counts.lost + counts.other
 
 -- the replies counted, and digested with the last line of a replay
-abbrev pub bulk_summary : Followed Digests → Summary
+abbrev pub bulk_summary : RunOutcome Digests → Summary
 bulk_summary run = record {
   counts = counts_of run.replies;
   committed = run.state.count;
@@ -52,4 +52,4 @@ bulk_summary run = record {
 pub record SumsUp (header : Header) (lines : List (List ℕ)) (it : Summary) : Type 0 where
   pub events : List Event
   pub read : map event_at lines ≡ map Some events
-  pub told : it ≡ bulk_summary (replies_by_digests (world_of header) events)
+  pub told : it ≡ bulk_summary (outcome_by_digests (world_of header) events)

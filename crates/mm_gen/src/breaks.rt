@@ -3,13 +3,13 @@
 ghost use Rattle.std.specs.Prelude.{◌≡◌};
 ghost use Rattle.std.specs.List.{position};
 ghost use Rattle.std.specs.Option.{option_map};
-ghost use Rattle.mm_schedule.specs.Words.{in_place};
+ghost use Rattle.mm_schedule.specs.Words.{parts_in_place};
 ghost use Rattle.mm_gen.specs.LineBreaks.{is_break, line_at};
 
 /// The first line, without its LF, and what follows the LF. None where no LF is left.
 #[tactic(auto, unfolding(crate::specs::LineBreaks::line_at))]
 pub fn first_line(text: &[u8]) -> Option<(&[u8], &[u8])>
-    ensures { option_map in_place result ≡ line_at text.now }
+    ensures { option_map parts_in_place result ≡ line_at text.now }
 {
     let Some(at) = break_in(text) else {
         return None;

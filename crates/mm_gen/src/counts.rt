@@ -2,13 +2,13 @@
 
 ghost use Rattle.std.specs.Prelude.{◌≡◌, ◌+◌, ◌<◌};
 ghost use Rattle.mm_base.specs.Limits.{most_events};
-ghost use Rattle.mm_gen.specs.Sums.{counted_reply, no_counts, total};
+ghost use Rattle.mm_gen.specs.Sums.{counts_after_reply, no_counts, total};
 
 use mm_schedule::Reply;
 
 /// How many replies there are of each kind.
 #[derive(Clone, Copy, Debug, PartialEq, Eq)]
-pub struct Counts {
+pub struct ReplyCounts {
     pub ok: u32,
     pub again: u32,
     pub no: u32,
@@ -17,12 +17,12 @@ pub struct Counts {
     pub other: u32,
 }
 
-impl Counts {
+impl ReplyCounts {
     /// No reply.
-    pub fn none() -> Counts
+    pub fn none() -> ReplyCounts
         ensures { result ≡ no_counts }
     {
-        Counts {
+        ReplyCounts {
             ok: 0,
             again: 0,
             no: 0,
@@ -32,10 +32,10 @@ impl Counts {
         }
     }
 
-    /// Counts one reply more. A reply of several lines is one.
+    /// ReplyCounts one reply more. A reply of several lines is one.
     pub fn count(&mut self, reply: &Reply)
         requires { total self.old < most_events }
-        ensures counted { self.new ≡ counted_reply self.old reply.now }
+        ensures counted { self.new ≡ counts_after_reply self.old reply.now }
         ensures total { total self.new ≡ total self.old + 1 }
     {
         match reply {

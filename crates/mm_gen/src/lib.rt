@@ -12,7 +12,7 @@ mod summary;
 mod turn;
 mod words;
 
-pub use counts::Counts;
+pub use counts::ReplyCounts;
 pub use fault::BulkFault;
 pub use run::bulk;
 pub use schedule::gen_;

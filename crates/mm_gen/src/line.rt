@@ -3,7 +3,7 @@
 ghost use Rattle.std.specs.Prelude.{◌≡◌, ◌++◌, ◌∷◌, [], OnOk};
 ghost use Rattle.std.specs.Fmt.{decimal};
 ghost use Rattle.mm_gen.specs.Lines.{line_text, snapshot_text, stop_text};
-ghost use Rattle.mm_gen.specs.Turns.{request_chosen};
+ghost use Rattle.mm_gen.specs.TurnLines.{chosen_request};
 
 use mm_base::{Bytes, Memory, put_decimal};
 use mm_listing::Listed;
@@ -12,7 +12,7 @@ use mm_platform::Stop;
 
 /// The snapshot that a line offers.
 #[derive(Clone, Copy)]
-pub enum Snapshot {
+pub enum SnapshotChoice {
     /// The one with the highest number.
     Last,
     /// The one with this number.
@@ -25,7 +25,7 @@ pub enum Snapshot {
 #[derive(Clone, Copy)]
 pub enum Line {
     /// A request is asked of a snapshot.
-    Ask { stop: Stop, snapshot: Snapshot },
+    Ask { stop: Stop, snapshot: SnapshotChoice },
     /// The open segment is closed.
     Checkpoint,
     /// Power is lost and returns.
@@ -35,7 +35,7 @@ pub enum Line {
 /// Puts the line with its LF at the end, its request chosen by a number.
 pub fn put_line(into: &mut Bytes, line: &Line, module: AnyModule, choice: u32) -> Result<(), Memory>
     ensures { OnOk result
-        (into.new ≡ into.old ++ line_text (request_chosen «module» choice) line.now ++ 10 ∷ []) }
+        (into.new ≡ into.old ++ line_text (chosen_request «module» choice) line.now ++ 10 ∷ []) }
 {
     match line {
         Line::Ask { stop, snapshot } => {
@@ -73,13 +73,13 @@ fn put_step(into: &mut Bytes, before: &[u8], step: u8, behind: &[u8]) -> Result<
     into.append(behind)
 }
 
-fn put_snapshot(into: &mut Bytes, snapshot: Snapshot) -> Result<(), Memory>
+fn put_snapshot(into: &mut Bytes, snapshot: SnapshotChoice) -> Result<(), Memory>
     ensures { OnOk result (into.new ≡ into.old ++ snapshot_text snapshot) }
 {
     match snapshot {
-        Snapshot::Last => into.append(b"last"),
-        Snapshot::Number(number) => put_decimal(into, u64::from(number)),
-        Snapshot::Flip { number, byte } => {
+        SnapshotChoice::Last => into.append(b"last"),
+        SnapshotChoice::Number(number) => put_decimal(into, u64::from(number)),
+        SnapshotChoice::Flip { number, byte } => {
             into.append(b"flip ")?;
             put_decimal(into, u64::from(number))?;
             into.append(b" ")?;

@@ -6,22 +6,22 @@ ghost use Rattle.mm_base.specs.Limits.{longest_line, most_events};
 ghost use Rattle.mm_schedule.specs.Grammar.{event_at};
 ghost use Rattle.mm_schedule.specs.Replies.{IsPrintable};
 ghost use Rattle.mm_gen.specs.Schedules.{schedule_lines};
-ghost use Rattle.mm_replay.specs.Progress.{running};
-ghost use Rattle.mm_replay.specs.Schedule.{first_running, is_too_much};
+ghost use Rattle.mm_replay.specs.Progress.{running_replay};
+ghost use Rattle.mm_replay.specs.Schedule.{first_running_replay, is_too_much};
 ghost use Rattle.mm_gen.specs.Limits.{IsLimited, RunsLine, is_over};
 ghost use Rattle.mm_gen.specs.LineBreaks.{line_at};
-ghost use Rattle.mm_gen.specs.Replayed.{IsReplayed, replay_of};
+ghost use Rattle.mm_gen.specs.Replay.{IsReplayed, replay_of};
 ghost use Rattle.mm_gen.specs.Sums.{SumsUp};
 
 use crate::breaks::first_line;
-use crate::counts::Counts;
+use crate::counts::ReplyCounts;
 use crate::fault::BulkFault;
 use crate::schedule::gen_;
 use crate::summary::Summary;
 use mm_base::Bytes;
 use mm_digest::Digest;
-use mm_play::{Refused, ReplyFault};
-use mm_replay::{Progress, put_reply};
+use mm_play::{LineRefusal, ReplyFault};
+use mm_replay::{ReplayProgress, put_reply};
 use mm_schedule::{EventFault, Header, Reply, read_event};
 use sha2::{Digest as _, Sha256};
 use std::alloc::Global;
@@ -34,7 +34,7 @@ use std::alloc::Global;
 pub fn bulk(alloc: Global, number: u64, count: u32, header: &Header) -> Result<Summary, BulkFault>
     requires count { count ≤ most_events }
     ensures sums { IfOk result (SumsUp header.now (schedule_lines number count header.now)) }
-    ensures limit { IsLimited (is_over (first_running header.now) (schedule_lines number count header.now))
+    ensures limit { IsLimited (is_over (first_running_replay header.now) (schedule_lines number count header.now))
         result }
     ensures replayed { IsReplayed (replay_of number count header.now) result }
 {
@@ -50,13 +50,13 @@ fn run_schedule(
 ) -> Result<Summary, BulkFault>
     requires count { count ≤ most_events }
     ensures sums { IfOk result (SumsUp header.now (schedule_lines number count header.now)) }
-    ensures limit { IsLimited (is_over (first_running header.now) (schedule_lines number count header.now))
+    ensures limit { IsLimited (is_over (first_running_replay header.now) (schedule_lines number count header.now))
         result }
 {
     let schedule = gen_(alloc, number, count, header)?;
     let mut rest = behind_header(schedule.as_slice());
-    let mut progress = Progress::new(alloc, header)?;
-    let mut counts = Counts::none();
+    let mut progress = ReplayProgress::new(alloc, header)?;
+    let mut counts = ReplyCounts::none();
     let mut replies = Bytes::new(alloc);
     'lines: while let Some((line, behind)) = first_line(rest) {
         let reply = answered(alloc, line, &mut progress)?;
@@ -86,13 +86,13 @@ fn behind_header(text: &[u8]) -> &[u8]
 }
 
 /// The reply to an event line.
-fn answered(alloc: Global, line: &[u8], progress: &mut Progress) -> Result<Reply, BulkFault>
+fn answered(alloc: Global, line: &[u8], progress: &mut ReplayProgress) -> Result<Reply, BulkFault>
     requires short { length line.now ≤ longest_line }
     requires known { is_some (event_at line.now) ≡ true }
-    ensures reply { IfOk result (RunsLine (running progress.old) (running progress.new) line.now) }
+    ensures reply { IfOk result (RunsLine (running_replay progress.old) (running_replay progress.new) line.now) }
     ensures printable { IfOk result IsPrintable }
     ensures limit { result ≡ Err BulkFault.TooMuch
-        → is_too_much (running progress.old) line.now ≡ true }
+        → is_too_much (running_replay progress.old) line.now ≡ true }
 {
     let event = match read_event(alloc, line) {
         Ok(event) => event,
@@ -101,7 +101,7 @@ fn answered(alloc: Global, line: &[u8], progress: &mut Progress) -> Result<Reply
     };
     match progress.reply_to_event(line, &event) {
         Ok(reply) => Ok(reply),
-        Err(ReplyFault::Refused(Refused::Much)) => Err(BulkFault::TooMuch),
+        Err(ReplyFault::Refused(LineRefusal::Much)) => Err(BulkFault::TooMuch),
         Err(_) => Err(BulkFault::Memory),
     }
 }

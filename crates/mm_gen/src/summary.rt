@@ -4,7 +4,7 @@ ghost use Rattle.std.specs.Prelude.{◌≡◌, [], ◌∷◌, ◌++◌, IfOk, On
 ghost use Rattle.std.specs.Fmt.{decimal};
 ghost use Rattle.mm_gen.specs.Summaries.{bulk_text, end_text, events_text, other_counts, replies_text, told_counts};
 
-use crate::counts::Counts;
+use crate::counts::ReplyCounts;
 use mm_base::{Bytes, Memory, put_decimal};
 use mm_digest::Digest;
 use std::alloc::Global;
@@ -12,7 +12,7 @@ use std::alloc::Global;
 /// What came of a schedule.
 #[derive(Clone, Copy, Debug, PartialEq, Eq)]
 pub struct Summary {
-    pub counts: Counts,
+    pub counts: ReplyCounts,
     /// How many requests were committed.
     pub committed: u64,
     /// How many snapshots were issued, number 0 counted.
@@ -42,7 +42,7 @@ fn put_events(into: &mut Bytes, events: u32) -> Result<(), Memory>
     into.append(b"\n")
 }
 
-fn put_told_counts(into: &mut Bytes, counts: &Counts) -> Result<(), Memory>
+fn put_told_counts(into: &mut Bytes, counts: &ReplyCounts) -> Result<(), Memory>
     ensures { OnOk result (into.new ≡ into.old ++ told_counts counts.now ++ 10 ∷ []) }
 {
     put_numbered(into, b"ok ", u64::from(counts.ok))?;
@@ -51,7 +51,7 @@ fn put_told_counts(into: &mut Bytes, counts: &Counts) -> Result<(), Memory>
     into.append(b"\n")
 }
 
-fn put_other_counts(into: &mut Bytes, counts: &Counts) -> Result<(), Memory>
+fn put_other_counts(into: &mut Bytes, counts: &ReplyCounts) -> Result<(), Memory>
     ensures { OnOk result (into.new ≡ into.old ++ other_counts counts.now ++ 10 ∷ []) }
 {
     put_numbered(into, b"kept ", u64::from(counts.kept))?;

@@ -2,16 +2,16 @@
 
 ghost use Rattle.std.specs.Prelude.{◌≡◌, ◌<◌, ℕ, List, [], ◌∷◌, ◌++◌, length, take, OnOk, IfOk};
 ghost use Rattle.std.specs.Fmt.{decimal};
-ghost use Rattle.mm_base.specs.Input.{lines_joined};
+ghost use Rattle.mm_base.specs.Input.{joined_lines};
 ghost use Rattle.mm_platform.specs.declared.plan.Stop.TheVariants.{Quiet};
 ghost use Rattle.mm_gen.specs.Lines.{lines_of_turn, stop_text};
-ghost use Rattle.mm_gen.specs.Turns.{cut_word, request_chosen, row_14, row_15, turn_lines};
+ghost use Rattle.mm_gen.specs.TurnLines.{cut_word, chosen_request, row_14, row_15, turn_lines};
 ghost use Rattle.mm_gen.specs.declared.line.Line.TheVariants.{Ask};
-ghost use Rattle.mm_gen.specs.declared.line.Snapshot.TheVariants.{Last};
-ghost use Rattle.mm_gen.specs.declared.turn.Turn.TheVariants.{Pair};
+ghost use Rattle.mm_gen.specs.declared.line.SnapshotChoice.TheVariants.{Last};
+ghost use Rattle.mm_gen.specs.declared.turn.TurnLines.TheVariants.{Pair};
 
-use crate::line::{Line, Snapshot, put_line};
-use crate::words::Words;
+use crate::line::{Line, SnapshotChoice, put_line};
+use crate::words::TurnWords;
 use mm_base::{Bytes, Memory};
 use mm_digest::Variant;
 use mm_platform::Stop;
@@ -19,24 +19,24 @@ use mm_schedule::Header;
 
 /// The lines of a turn.
 #[derive(Clone, Copy)]
-pub enum Turn {
+pub enum TurnLines {
     One(Line),
     Pair(Line, Line),
 }
 
 /// The lines that these words give, where the first is the event line with this number.
-#[tactic(auto, unfolding(crate::specs::Turns::turn_lines))]
-fn turn_of(header: &Header, first: u32, words: &Words) -> Turn
+#[tactic(auto, unfolding(crate::specs::TurnLines::turn_lines))]
+fn turn_of(header: &Header, first: u32, words: &TurnWords) -> TurnLines
     requires { 0 < first }
-    ensures { lines_of_turn (request_chosen header.now.module words.now.request) result
+    ensures { lines_of_turn (chosen_request header.now.module words.now.request) result
         ≡ turn_lines header.now first words.now }
 {
     let step = 1 + (words.number % 5) as u8;
     let number = words.number % first;
     match words.row % 16 {
-        0..=8 => Turn::One(asking(Snapshot::Last)),
-        9 => Turn::One(asking(Snapshot::Number(number))),
-        10 => Turn::One(asking(Snapshot::Flip {
+        0..=8 => TurnLines::One(asking(SnapshotChoice::Last)),
+        9 => TurnLines::One(asking(SnapshotChoice::Number(number))),
+        10 => TurnLines::One(asking(SnapshotChoice::Flip {
             number,
             byte: words.detail % 128,
         })),
@@ -52,7 +52,7 @@ fn turn_of(header: &Header, first: u32, words: &Words) -> Turn
 }
 
 /// A request asked of a snapshot in a call that nothing ends.
-fn asking(snapshot: Snapshot) -> Line
+fn asking(snapshot: SnapshotChoice) -> Line
     ensures { result ≡ Ask Quiet snapshot }
 {
     Line::Ask {
@@ -62,15 +62,15 @@ fn asking(snapshot: Snapshot) -> Line
 }
 
 /// A request asked of the last snapshot in a call that is stopped, and then once more.
-fn stopped(stop: Stop) -> Turn
+fn stopped(stop: Stop) -> TurnLines
     ensures { result ≡ Pair (Ask stop Last) (Ask Quiet Last) }
 {
-    Turn::Pair(
+    TurnLines::Pair(
         Line::Ask {
             stop,
-            snapshot: Snapshot::Last,
+            snapshot: SnapshotChoice::Last,
         },
-        asking(Snapshot::Last),
+        asking(SnapshotChoice::Last),
     )
 }
 
@@ -84,21 +84,21 @@ fn cut_of(variant: Variant, step: u8) -> Stop
     }
 }
 
-fn row_14_of(variant: Variant) -> Turn
+fn row_14_of(variant: Variant) -> TurnLines
     ensures { (request : List ℕ) → lines_of_turn request result ≡ row_14 variant }
 {
     match variant {
-        Variant::Basic => Turn::One(Line::Power),
-        Variant::Opt => Turn::Pair(Line::Checkpoint, Line::Power),
+        Variant::Basic => TurnLines::One(Line::Power),
+        Variant::Opt => TurnLines::Pair(Line::Checkpoint, Line::Power),
     }
 }
 
-fn row_15_of(variant: Variant) -> Turn
+fn row_15_of(variant: Variant) -> TurnLines
     ensures { (request : List ℕ) → lines_of_turn request result ≡ row_15 variant }
 {
     match variant {
-        Variant::Basic => Turn::One(Line::Power),
-        Variant::Opt => Turn::One(Line::Checkpoint),
+        Variant::Basic => TurnLines::One(Line::Power),
+        Variant::Opt => TurnLines::One(Line::Checkpoint),
     }
 }
 
@@ -108,22 +108,22 @@ pub fn put_turn(
     header: &Header,
     first: u32,
     left: u32,
-    words: &Words,
+    words: &TurnWords,
 ) -> Result<u32, Memory>
     requires first { 0 < first }
     requires left { 0 < left }
     ensures lines { OnOk result
-        (into.new ≡ into.old ++ lines_joined (take left (turn_lines header.now first words.now))) }
+        (into.new ≡ into.old ++ joined_lines (take left (turn_lines header.now first words.now))) }
     ensures count { IfOk result
         (λ count. count ≡ length (take left (turn_lines header.now first words.now))) }
     ensures some { IfOk result (λ count. 0 < count) }
 {
     match turn_of(header, first, words) {
-        Turn::One(line) => {
+        TurnLines::One(line) => {
             put_line(into, &line, header.module, words.request)?;
             Ok(1)
         }
-        Turn::Pair(line, next) => {
+        TurnLines::Pair(line, next) => {
             put_line(into, &line, header.module, words.request)?;
             if left == 1 {
                 return Ok(1);

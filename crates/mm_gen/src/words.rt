@@ -9,7 +9,7 @@ use rand_core::utils::NextWord;
 
 /// The four words of a turn.
 #[derive(Clone, Copy)]
-pub struct Words {
+pub struct TurnWords {
     /// Chooses the turn's row.
     pub row: u32,
     /// Chooses a step, or a snapshot by its number.
@@ -21,13 +21,13 @@ pub struct Words {
 }
 
 /// The next four words of the generator.
-pub fn draw(generator: &mut ChaCha20Rng) -> Words
+pub fn draw(generator: &mut ChaCha20Rng) -> TurnWords
     requires stream { generator.now.stream ≡ 0 }
     requires place { generator.now.word_pos + 4 < 2 ^ 68 }
     ensures words { result ≡ words_at generator.old.key generator.old.word_pos }
     ensures after { generator.new ≡ record generator.old { word_pos = generator.old.word_pos + 4 } }
 {
-    Words {
+    TurnWords {
         row: generator.next_word(),
         number: generator.next_word(),
         detail: generator.next_word(),

@@ -11,7 +11,7 @@ pub use Rattle.std.proofs.lemmas.Bool.{or_from, or_parts}
 pub use Rattle.std.proofs.lemmas.Bool.Decides.{Decides-and, Decides-eqb, Decides-like, Decides-ltb, Decides-or}
 pub use Rattle.std.proofs.lemmas.List.{append-nil, drop-append-le, drop-map, drop_more, length-map, length-take, map-append}
 pub use Rattle.std.proofs.lemmas.List.{take-append-drop, take-append-le, take-map, take_all}
-pub use Rattle.mm_digest.specs.Messages.{anchored_of, start_of, zero_bytes}
+pub use Rattle.mm_digest.specs.Messages.{anchored_digest_of, start_digest_of, zero_bytes}
 pub use Rattle.mm_digest.specs.declared.variant.Variant.{Variant}
 pub use Rattle.mm_digest.specs.declared.variant.Variant.TheVariants.{Basic, Opt}
 pub use Rattle.mm_seal.specs.Body.{content_of}
@@ -22,18 +22,18 @@ pub use Rattle.mm_module.specs.Batch.{Batch, members_of, size_of}
 pub use Rattle.mm_module.specs.Meaning.{Meaning, state_after}
 pub use Rattle.mm_module.specs.RunLaws.{state_after-append, state_after-is_spelled}
 pub use Rattle.mm_modules.specs.Modules.{meaning_of}
-pub use Rattle.mm_model.specs.BatchLaws.{same_batch-Decides, total-cons}
+pub use Rattle.mm_model.specs.BatchLaws.{is_same_batch-Decides, total-cons}
 pub use Rattle.mm_model.specs.Chains.{guard, link, register_of, summary_of}
 pub use Rattle.mm_model.specs.ChainsWords.{own_values}
 pub use Rattle.mm_model.specs.FormLaws.{reads_zero}
-pub use Rattle.mm_model.specs.History.{Entry, History, joined, renamed, requests_of, total_of, value_of}
+pub use Rattle.mm_model.specs.History.{RegisterEntry, History, items_of_all, with_last_batch, requests_of, total_of, extension_value}
 pub use Rattle.mm_model.specs.HistoryLaws.{has_value-append, renamed-push}
 pub use Rattle.mm_model.specs.HistoryWords.{values_of}
 pub use Rattle.mm_model.specs.Instance.{Instance}
-pub use Rattle.mm_model.specs.Kept.{kept_batch, kept_batches, kept_entries, kept_entry, kept_segments}
-pub use Rattle.mm_model.specs.Life.{has_value, is_empty, same_batch}
+pub use Rattle.mm_model.specs.KeptHistory.{kept_batch, kept_batches, kept_entries, kept_entry, kept_segments}
+pub use Rattle.mm_model.specs.Life.{has_value, is_empty, is_same_batch}
 pub use Rattle.mm_model.specs.Long.{is_long}
-pub use Rattle.mm_model.specs.Places.{anchor_after, at_anchor, in_closed, in_current, IsPlaceOf, IsPoint, Names}
+pub use Rattle.mm_model.specs.Places.{anchor_after, at_anchor, in_closed, in_current, IsPlaceOf, IsPoint, NamesPosition}
 pub use Rattle.mm_model.specs.SegmentLaws.{joined-push, not_empty}
 pub use Rattle.mm_model.specs.declared.kept.KeptBatch.{KeptBatch}
 pub use Rattle.mm_model.specs.declared.kept.KeptEntry.{KeptEntry}

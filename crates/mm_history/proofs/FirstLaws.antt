@@ -1,8 +1,8 @@
 -- The first batches with so many requests, and tests of lists, decide what they say.
 use Rattle.mm_history.proofs.Below.{◌≡◌, ℕ, ◌-◌, ◌<◌, ◌≤◌, Bool, true, false, ◌&&◌, List, [], ◌∷◌, ◌++◌, length, Option, None, Some, refl}
 use Rattle.mm_history.proofs.Below.{sym, ap, ◌∙◌, arith, le-leb, if◌then◌else◌, ◌==◌, nat_le, option_map, Decides, Decides-eqb}
-use Rattle.mm_history.proofs.Below.{Decides-and, Decides-like, append-nil, Batch, size_of, total_of, is_empty, same_batch}
-use Rattle.mm_history.proofs.Below.{same_batch-Decides, total-cons, first_with, same_batches}
+use Rattle.mm_history.proofs.Below.{Decides-and, Decides-like, append-nil, Batch, size_of, total_of, is_empty, is_same_batch}
+use Rattle.mm_history.proofs.Below.{is_same_batch-Decides, total-cons, first_with, same_batches}
 use Rattle.mm_module.specs.BatchLaws.{size_of-pos}
 use Rattle.std.proofs.lemmas.Bool.{leb-true, ne_eqb}
 
@@ -57,10 +57,10 @@ pub same-Decides : (bs cs : List Batch) → Decides (same_batches bs cs) (bs ≡
 same-Decides [] [] = (λ e. refl, λ e. refl)
 same-Decides [] (c ∷ cs) = (λ e. absurd (cc), λ e. absurd (cc))
 same-Decides (b ∷ bs) [] = (λ e. absurd (cc), λ e. absurd (cc))
-same-Decides (b ∷ bs) (c ∷ cs) = Decides-like (same_batch b c && same_batches bs cs)
+same-Decides (b ∷ bs) (c ∷ cs) = Decides-like (is_same_batch b c && same_batches bs cs)
     (λ (p : (b ≡ c) × (bs ≡ cs)). let h : b ≡ c = p.0 in let t : bs ≡ cs = p.1 in cc)
     (λ (e : b ∷ bs ≡ c ∷ cs). let h : b ≡ c = cc in let t : bs ≡ cs = cc in (h, t))
-    (Decides-and (same_batch b c) (same_batches bs cs) (same_batch-Decides b c) (same-Decides bs cs))
+    (Decides-and (is_same_batch b c) (same_batches bs cs) (is_same_batch-Decides b c) (same-Decides bs cs))
 
 pub empty-Decides : {A : Type 0} (xs : List A) → Decides (is_empty xs) (xs ≡ [])
 empty-Decides [] = (λ e. refl, λ e. refl)

@@ -13,13 +13,13 @@ use Rattle.mm_model.specs.BatchLaws.{same_tests}
 use Rattle.mm_history.proofs.FirstLaws.{first_is, le-Decides}
 use Rattle.mm_history.specs.Waymarks.{IsBetween, IsWaymark, digest_behind}
 use Rattle.mm_history.specs.Marks.{marks_of}
-use Rattle.mm_history.specs.declared.marks.Marks.{Marks}
+use Rattle.mm_history.specs.declared.marks.HistoryMarks.{HistoryMarks}
 use Rattle.mm_digest.specs.declared.digest.Digest.{Digest}
 use Rattle.mm_model.specs.Instance.{Instance}
 use Rattle.mm_model.specs.HistoryWords.{cell_digest_of}
 use Rattle.mm_history.specs.Waymarks.{EndsWithCurrent}
 use Rattle.mm_history.proofs.PlaceLaws.{last_are}
-use Rattle.mm_history.proofs.Below.{Entry, anchored_of, append_assoc, has_value, has_value-append, joined, joined-push, not, values_of}
+use Rattle.mm_history.proofs.Below.{RegisterEntry, anchored_digest_of, append_assoc, has_value, has_value-append, items_of_all, joined-push, not, values_of}
 use Rattle.mm_model.specs.PlacesWords.{digest_of}
 use Rattle.mm_history.proofs.Below.{Decides-ltb}
 use Rattle.std.proofs.lemmas.Bool.{and_parts}
@@ -28,7 +28,7 @@ use Rattle.mm_model.specs.BatchLaws.{total-push}
 use Rattle.mm_model.specs.SegmentLaws.{same_halves}
 use Rattle.mm_history.proofs.TakenLaws.{anchor_more, not_or}
 use Rattle.mm_history.specs.Waymarks.{IsStage, stage_at}
-use Rattle.mm_history.specs.declared.waymarks.Stage.{Stage}
+use Rattle.mm_history.specs.declared.waymarks.SegmentStart.{SegmentStart}
 use Rattle.mm_history.specs.WaymarkLaws.{each_found}
 use Rattle.mm_history.specs.declared.waymarks.Waymark.{Waymark}
 
@@ -76,18 +76,18 @@ absent_behind (c ∷ batches) position lt =
 
 -- What is kept of the position where a history stands.
 
-abbrev pub digest_in : Variant → Marks → Digest
+abbrev pub digest_in : Variant → HistoryMarks → Digest
 digest_in Basic m = m.cell
 digest_in Opt m = m.own
 
-digest_kept : (variant : Variant) (i : Instance) (y : History) (m : Marks) (start : ℕ) → variant ≡ i.variant → m ≡ marks_of i y
+digest_kept : (variant : Variant) (i : Instance) (y : History) (m : HistoryMarks) (start : ℕ) → variant ≡ i.variant → m ≡ marks_of i y
     → (variant ≡ Opt → drop start y.batches ≡ y.current)
     → (digest_in variant m).bytes ≡ digest_behind variant i.meaning.id i.barrier start y.batches
-digest_kept Basic i y m start v e last = ap (λ (n : Marks). n.cell.bytes) e ∙ ap (λ (w : Variant). cell_digest_of i w y) (sym v)
-digest_kept Opt i y m start v e last = ap (λ (n : Marks). n.own.bytes) e
+digest_kept Basic i y m start v e last = ap (λ (n : HistoryMarks). n.cell.bytes) e ∙ ap (λ (w : Variant). cell_digest_of i w y) (sym v)
+digest_kept Opt i y m start v e last = ap (λ (n : HistoryMarks). n.own.bytes) e
     ∙ ap (λ (bs : List Batch). register_of (own_values i.barrier bs)) (sym (last refl))
 
-pub kept_mark : (i : Instance) (y : History) (variant : Variant) (m : Marks) (mark : Waymark) (bs cs : List KeptBatch) {state : List ℕ}
+pub kept_mark : (i : Instance) (y : History) (variant : Variant) (m : HistoryMarks) (mark : Waymark) (bs cs : List KeptBatch) {state : List ℕ}
     → variant ≡ i.variant → m ≡ marks_of i y → state ≡ state_after i.meaning (requests_of y.batches)
     → (i.variant ≡ Opt → EndsWithCurrent y) → kept_batches bs ≡ y.batches → kept_batches cs ≡ y.current → mark.count ≡ length bs
     → mark.position ≡ m.total → mark.digest ≡ digest_in variant m → mark.start ≡ length bs - length cs
@@ -102,7 +102,7 @@ kept_mark i y variant m mark bs cs v e run ends all current counts total digest 
       rest = [];
       split = sym (append-nil y.batches);
       count_is = counts ∙ sym (length-map bs kept_batch) ∙ ap length all;
-      position_is = total ∙ ap (λ (n : Marks). n.total) e;
+      position_is = total ∙ ap (λ (n : HistoryMarks). n.total) e;
       digest_is = ap (λ (d : Digest). d.bytes) digest ∙ digest_kept variant i y m mark.start v e last
           ∙ ap (λ (w : Variant). digest_behind w i.meaning.id i.barrier mark.start y.batches) v;
       state_is = kept ∙ ap (take mark.limit) run;
@@ -129,28 +129,28 @@ module _ {variant : Variant} {meaning : Meaning} {barrier : List ℕ} {batches :
 
 -- What a stage shows.
 
-pub stage_found : (id : ℕ) (barrier : List ℕ) (before later : List (List Entry)) (items : List Entry) (stages : List Stage) (n : ℕ)
-    (stage : Stage) → slice_get stages n ≡ Some stage → stage.count ≡ length before + 1
+pub stage_found : (id : ℕ) (barrier : List ℕ) (before later : List (List RegisterEntry)) (items : List RegisterEntry) (stages : List SegmentStart) (n : ℕ)
+    (stage : SegmentStart) → slice_get stages n ≡ Some stage → stage.count ≡ length before + 1
     → AllByRecursion (IsStage id barrier (before ++ items ∷ later)) stages → stage ≡ stage_at id barrier (before ++ items ∷ [])
 stage_found id barrier before later items stages n stage found counts are =
     let s = each_found (IsStage id barrier (before ++ items ∷ later)) stages n stage are found in
     let size : length (before ++ items ∷ []) ≡ length s.before =
-    omega (arith, length-append before (items ∷ []), counts, ap (λ (x : Stage). x.count) s.is) in
+    omega (arith, length-append before (items ∷ []), counts, ap (λ (x : SegmentStart). x.count) s.is) in
     let same = (same_halves (before ++ items ∷ []) s.before later s.later size (append_assoc before (items ∷ []) later ∙ s.split)).0 in
     s.is ∙ ap (stage_at id barrier) (sym same)
 
-pub stage_made : (id : ℕ) (barrier : List ℕ) (before : List (List Entry)) (es : List Entry) {count : ℕ} {here : Stage} {anchor : Digest}
+pub stage_made : (id : ℕ) (barrier : List ℕ) (before : List (List RegisterEntry)) (es : List RegisterEntry) {count : ℕ} {here : SegmentStart} {anchor : Digest}
     {register : List ℕ} {marred clean : Bool} → here ≡ stage_at id barrier before → count ≡ length before + 1
-    → register ≡ register_of (values_of barrier es) → anchor.bytes ≡ anchored_of here.anchor.bytes register → marred ≡ has_value es
+    → register ≡ register_of (values_of barrier es) → anchor.bytes ≡ anchored_digest_of here.anchor.bytes register → marred ≡ has_value es
     → clean ≡ (here.is_clean && not marred)
-    → ◌≡◌ {A = Stage} (record { count = count; anchor = anchor; is_clean = clean }) (stage_at id barrier (before ++ es ∷ []))
+    → ◌≡◌ {A = SegmentStart} (record { count = count; anchor = anchor; is_clean = clean }) (stage_at id barrier (before ++ es ∷ []))
 stage_made id barrier before es {here = here} is counts reads n v t =
-    let joins : joined (before ++ es ∷ []) ≡ joined before ++ es = joined-push before es in
+    let joins : items_of_all (before ++ es ∷ []) ≡ items_of_all before ++ es = joined-push before es in
     let size : _ ≡ length (before ++ es ∷ []) = counts ∙ sym (length-append before (es ∷ [])) in
-    let there = n ∙ (λ j. anchored_of (is j).anchor.bytes (reads j)) ∙ sym (anchor_more id barrier before es) in
+    let there = n ∙ (λ j. anchored_digest_of (is j).anchor.bytes (reads j)) ∙ sym (anchor_more id barrier before es) in
     let cleans = t ∙ (λ j. (is j).is_clean && not (v j))
-    ∙ sym (ap (λ (xs : List Entry). not (has_value xs)) joins ∙ ap not (has_value-append (joined before) es)
-    ∙ not_or (has_value (joined before)) (has_value es)) in
+    ∙ sym (ap (λ (xs : List RegisterEntry). not (has_value xs)) joins ∙ ap not (has_value-append (items_of_all before) es)
+    ∙ not_or (has_value (items_of_all before)) (has_value es)) in
     λ j. record { count = size j; anchor = digest_of (there j); is_clean = cleans j }
 
 -- none ends between two that are a batch apart

@@ -4,8 +4,8 @@ use Rattle.mm_history.proofs.Below.{None, Some, refl, sym, ap, ◌∙◌, subst,
 use Rattle.mm_history.proofs.Below.{Decides, Decides-eqb, Decides-and, Decides-or, Decides-like, Decides-ltb, append-nil, take-append-drop}
 use Rattle.mm_history.proofs.Below.{length-take, drop-append-le, take-append-le, length-drop, not_empty, Variant, Basic, Opt}
 use Rattle.mm_history.proofs.Below.{zero_bytes, Batch, state_after, Place, InBasic, InOpt, Content, summary_of, register_of}
-use Rattle.mm_history.proofs.Below.{own_values, Instance, Entry, History, requests_of, joined, is_empty, has_value, IsPoint}
-use Rattle.mm_history.proofs.Below.{at_anchor, in_closed, in_current, IsPlaceOf, Names, anchor_after, IsDecided, first_with}
+use Rattle.mm_history.proofs.Below.{own_values, Instance, RegisterEntry, History, requests_of, items_of_all, is_empty, has_value, IsPoint}
+use Rattle.mm_history.proofs.Below.{at_anchor, in_closed, in_current, IsPlaceOf, NamesPosition, anchor_after, IsDecided, first_with}
 use Rattle.mm_history.proofs.Below.{is_at, is_behind, is_within, is_inside_at, some_place, is_place, is_named_at, is_named}
 use Rattle.std.proofs.Math.Seq.{drop-append_seam}
 use Rattle.std.proofs.lemmas.Slice.Eq.{bytes_eq-Decides}
@@ -19,40 +19,40 @@ decided false d = λ p. let clash : false ≡ true = d.1 p in absurd (cc)
 -- A place, from some segments on, as a statement by the same recursion.
 
 module _ (i : Instance) (y : History) (named : List Batch) (a e : List ℕ) where
-  record IsAt (before : List (List Entry)) : Type 0 where
-    clean : has_value (joined before) ≡ false
-    counted : length named ≡ length (joined before)
+  record IsAt (before : List (List RegisterEntry)) : Type 0 where
+    clean : has_value (items_of_all before) ≡ false
+    counted : length named ≡ length (items_of_all before)
     anchor : a ≡ anchor_after i before
     extension : e ≡ zero_bytes
 
-  record IsBehind (start : ℕ) (before : List (List Entry)) : Type 0 where
+  record IsBehind (start : ℕ) (before : List (List RegisterEntry)) : Type 0 where
     starts : start < length named
     anchor : a ≡ anchor_after i before
     extension : e ≡ register_of (own_values i.barrier (drop start named))
 
-  abbrev IsWithin : List (List Entry) → List Entry → List (List Entry) → Type 0
-  IsWithin before segment later = (length named - length (joined before) ≤ length segment) ⊎ ((later ≡ []) × (y.current ≡ []))
+  abbrev IsWithin : List (List RegisterEntry) → List RegisterEntry → List (List RegisterEntry) → Type 0
+  IsWithin before segment later = (length named - length (items_of_all before) ≤ length segment) ⊎ ((later ≡ []) × (y.current ≡ []))
 
   record IsInside (start : ℕ) : Type 0 where
     last : drop start y.batches ≡ y.current
     behind : IsBehind start y.closed
 
-  abbrev Places : List (List Entry) → List (List Entry) → Type 0
+  abbrev Places : List (List RegisterEntry) → List (List RegisterEntry) → Type 0
   Places before [] = IsAt before ⊎ IsInside (length y.batches - length y.current)
   Places before (segment ∷ rest) =
-      (IsAt before ⊎ (IsBehind (length (joined before)) before × IsWithin before segment rest)) ⊎ Places (before ++ segment ∷ []) rest
+      (IsAt before ⊎ (IsBehind (length (items_of_all before)) before × IsWithin before segment rest)) ⊎ Places (before ++ segment ∷ []) rest
 
-  at-Decides : (before : List (List Entry))
-      → Decides (is_at (not (has_value (joined before))) (anchor_after i before) (length (joined before)) named a e) (IsAt before)
-  at-Decides before = Decides-like (is_at (not (has_value (joined before))) (anchor_after i before) (length (joined before)) named a e)
-      (λ (p : ((has_value (joined before) ≡ false) × (length named ≡ length (joined before)))
+  at-Decides : (before : List (List RegisterEntry))
+      → Decides (is_at (not (has_value (items_of_all before))) (anchor_after i before) (length (items_of_all before)) named a e) (IsAt before)
+  at-Decides before = Decides-like (is_at (not (has_value (items_of_all before))) (anchor_after i before) (length (items_of_all before)) named a e)
+      (λ (p : ((has_value (items_of_all before) ≡ false) × (length named ≡ length (items_of_all before)))
       × ((a ≡ anchor_after i before) × (e ≡ zero_bytes))). record { clean = p.0.0; counted = p.0.1; anchor = p.1.0; extension = p.1.1 })
       (λ (p : IsAt before). ((p.clean, p.counted), (p.anchor, p.extension)))
-      (Decides-and _ _ (Decides-and _ _ (not-true (has_value (joined before)), not_from_false (has_value (joined before)))
-      (Decides-eqb (length named) (length (joined before))))
+      (Decides-and _ _ (Decides-and _ _ (not-true (has_value (items_of_all before)), not_from_false (has_value (items_of_all before)))
+      (Decides-eqb (length named) (length (items_of_all before))))
       (Decides-and _ _ (bytes_eq-Decides a (anchor_after i before)) (bytes_eq-Decides e zero_bytes)))
 
-  behind-Decides : (start : ℕ) (before : List (List Entry))
+  behind-Decides : (start : ℕ) (before : List (List RegisterEntry))
       → Decides (is_behind i.barrier (anchor_after i before) start named a e) (IsBehind start before)
   behind-Decides start before =
       let there : List ℕ = register_of (own_values i.barrier (drop start named)) in
@@ -62,11 +62,11 @@ module _ (i : Instance) (y : History) (named : List Batch) (a e : List ℕ) wher
       (Decides-and _ _ (Decides-ltb start (length named))
       (Decides-and _ _ (bytes_eq-Decides a (anchor_after i before)) (bytes_eq-Decides e there)))
 
-  within-Decides : (before : List (List Entry)) (segment : List Entry) (later : List (List Entry))
-      → Decides (is_within (length (joined before)) named (length segment) (is_empty later && is_empty y.current))
+  within-Decides : (before : List (List RegisterEntry)) (segment : List RegisterEntry) (later : List (List RegisterEntry))
+      → Decides (is_within (length (items_of_all before)) named (length segment) (is_empty later && is_empty y.current))
       (IsWithin before segment later)
   within-Decides before segment later =
-      Decides-or _ _ (le-Decides (length named - length (joined before)) (length segment))
+      Decides-or _ _ (le-Decides (length named - length (items_of_all before)) (length segment))
       (Decides-and _ _ (empty-Decides later) (empty-Decides y.current))
 
   inside-Decides : Decides (is_inside_at i.barrier (anchor_after i y.closed) y named a e) (IsInside (length y.batches - length y.current))
@@ -77,17 +77,17 @@ module _ (i : Instance) (y : History) (named : List Batch) (a e : List ℕ) wher
       (λ (p : IsInside start). (p.last, p.behind))
       (Decides-and _ _ (same-Decides (drop start y.batches) y.current) (behind-Decides start y.closed))
 
-  places-Decides : (before rest : List (List Entry))
+  places-Decides : (before rest : List (List RegisterEntry))
       → Decides (some_place i.meaning.id i.barrier y named a e before rest) (Places before rest)
   places-Decides before [] = Decides-or _ _ (at-Decides before) inside-Decides
   places-Decides before (segment ∷ rest) =
       Decides-or _ _ (Decides-or _ _ (at-Decides before)
-      (Decides-and _ _ (behind-Decides (length (joined before)) before) (within-Decides before segment rest)))
+      (Decides-and _ _ (behind-Decides (length (items_of_all before)) before) (within-Decides before segment rest)))
       (places-Decides (before ++ segment ∷ []) rest)
 
   -- from the statement to a place
 
-  point_at : (before rest : List (List Entry)) → y.closed ≡ before ++ rest → IsAt before → IsPoint i y named a e
+  point_at : (before rest : List (List RegisterEntry)) → y.closed ≡ before ++ rest → IsAt before → IsPoint i y named a e
   point_at before rest is p = at_anchor (record {
     before = before;
     later = rest;
@@ -98,10 +98,10 @@ module _ (i : Instance) (y : History) (named : List Batch) (a e : List ℕ) wher
     extension_is = p.extension;
   })
 
-  point_closed : (before : List (List Entry)) (segment : List Entry) (rest : List (List Entry)) → y.closed ≡ before ++ segment ∷ rest
-      → IsBehind (length (joined before)) before → IsWithin before segment rest → IsPoint i y named a e
+  point_closed : (before : List (List RegisterEntry)) (segment : List RegisterEntry) (rest : List (List RegisterEntry)) → y.closed ≡ before ++ segment ∷ rest
+      → IsBehind (length (items_of_all before)) before → IsWithin before segment rest → IsPoint i y named a e
   point_closed before segment rest is p within =
-      let start : ℕ = length (joined before) in
+      let start : ℕ = length (items_of_all before) in
       let parts : take start named ++ drop start named ≡ named = take-append-drop start named in
       let sized : length (take start named) ≡ start = omega (arith, length-take start named, p.starts) in
       let taken : length (drop start named) ≡ length named - start = length-drop start named in
@@ -143,7 +143,7 @@ module _ (i : Instance) (y : History) (named : List Batch) (a e : List ℕ) wher
         extension_is = q.extension;
       })
 
-  places_tell : (rest_batches : List Batch) → y.batches ≡ named ++ rest_batches → (before rest : List (List Entry))
+  places_tell : (rest_batches : List Batch) → y.batches ≡ named ++ rest_batches → (before rest : List (List RegisterEntry))
       → y.closed ≡ before ++ rest → Places before rest → IsPoint i y named a e
   places_tell more first before [] is (inl here) = point_at before [] is here
   places_tell more first before [] is (inr inside) = point_current more first inside
@@ -154,16 +154,16 @@ module _ (i : Instance) (y : History) (named : List Batch) (a e : List ℕ) wher
 
   -- and back
 
-  places_here : (before later : List (List Entry)) → IsAt before → Places before later
+  places_here : (before later : List (List RegisterEntry)) → IsAt before → Places before later
   places_here before [] p = inl p
   places_here before (s ∷ later) p = inl (inl p)
 
   -- behind some more segments
-  places_along : (x before later : List (List Entry)) → Places (before ++ x) later → Places before (x ++ later)
-  places_along [] before later p = subst (λ (b : List (List Entry)). Places b later) (append-nil before) p
+  places_along : (x before later : List (List RegisterEntry)) → Places (before ++ x) later → Places before (x ++ later)
+  places_along [] before later p = subst (λ (b : List (List RegisterEntry)). Places b later) (append-nil before) p
   places_along (s ∷ x) before later p =
       inr (places_along x (before ++ s ∷ []) later
-      (subst (λ (b : List (List Entry)). Places b later) (sym (append_assoc before (s ∷ []) x)) p))
+      (subst (λ (b : List (List RegisterEntry)). Places b later) (sym (append_assoc before (s ∷ []) x)) p))
 
   place_found : IsPoint i y named a e → Places [] y.closed
   place_found (at_anchor p) = subst (Places []) (sym p.split)
@@ -174,7 +174,7 @@ module _ (i : Instance) (y : History) (named : List Batch) (a e : List ℕ) wher
         extension = p.extension_is;
       })))
   place_found (in_closed p) =
-      let start : ℕ = length (joined p.before) in
+      let start : ℕ = length (items_of_all p.before) in
       let counts : length named ≡ start + length p.taken = ap length p.named_is ∙ length-append p.done p.taken
       ∙ ap (λ (n : ℕ). n + length p.taken) p.counted in
       let taken : drop start named ≡ p.taken =
@@ -222,13 +222,13 @@ place-Decides Opt i y named rest (InOpt a e) first = point-Decides i y named a.b
 place-Decides _ i y named rest place first = (λ t. absurd (cc), λ p. absurd p)
 
 -- the first batches that are found, where another content of the same position names them
-pub first_beside : (i : Instance) (y : History) (content other : Content) → content.position ≡ other.position → (n : Names i y other)
+pub first_beside : (i : Instance) (y : History) (content other : Content) → content.position ≡ other.position → (n : NamesPosition i y other)
     → first_with content.position y.batches ≡ Some n.named
 first_beside i y content other same n =
     (λ j. first_with ((same ∙ n.position) j) (n.first j)) ∙ first_is n.named n.rest
 
 names-Decides : (i : Instance) (y : History) (content : Content) (found : Option (List Batch))
-    → first_with content.position y.batches ≡ found → Decides (is_named_at i y content found) (Names i y content)
+    → first_with content.position y.batches ≡ found → Decides (is_named_at i y content found) (NamesPosition i y content)
 names-Decides i y content None e = (
   λ t. absurd (cc),
   λ n. let clash : Some n.named ≡ None = sym (first_beside i y content content refl n) ∙ e in absurd (cc),
@@ -247,7 +247,7 @@ names-Decides i y content (Some named) e =
     )
 
 -- by what the test gave
-pub named_by : (i : Instance) (y : History) (content : Content) (r : Bool) → r ≡ is_named i y content → IsDecided r (Names i y content)
+pub named_by : (i : Instance) (y : History) (content : Content) (r : Bool) → r ≡ is_named i y content → IsDecided r (NamesPosition i y content)
 named_by i y content r e =
     let whole = names-Decides i y content (first_with content.position y.batches) refl in
-    subst (λ (t : Bool). IsDecided t (Names i y content)) (sym e) (decided (is_named i y content) whole)
+    subst (λ (t : Bool). IsDecided t (NamesPosition i y content)) (sym e) (decided (is_named i y content) whole)

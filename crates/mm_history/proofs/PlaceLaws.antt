@@ -2,8 +2,8 @@
 use Rattle.mm_history.proofs.Below.{◌≡◌, ℕ, ◌+◌, ◌-◌, ◌<◌, ◌≤◌, Bool, true, false, List, [], ◌∷◌, ◌++◌, length, take, drop, get_or, Option}
 use Rattle.mm_history.proofs.Below.{None, Some, refl, sym, ap, ◌∙◌, subst, arith, length-append, length-drop, Vec, not, ◌==◌, bytes_eq}
 use Rattle.mm_history.proofs.Below.{option_map, Decides-eqb, take-map, drop-map, take_all, length-map, Batch, Meaning, state_after, Variant}
-use Rattle.mm_history.proofs.Below.{Place, InBasic, Content, Instance, Names, Basic, Opt, register_of, Entry}
-use Rattle.mm_history.proofs.Below.{History, requests_of, joined, is_empty, has_value, joined-push, KeptBatch}
+use Rattle.mm_history.proofs.Below.{Place, InBasic, Content, Instance, NamesPosition, Basic, Opt, register_of, RegisterEntry}
+use Rattle.mm_history.proofs.Below.{History, requests_of, items_of_all, is_empty, has_value, joined-push, KeptBatch}
 use Rattle.mm_history.proofs.Below.{KeptEntry, kept_batch, kept_batches, kept_entry, kept_entries, kept_segments, first_with}
 use Rattle.mm_history.proofs.Below.{anchor_at, is_at, is_behind, is_here, is_inside_at, some_place, is_place_in, is_place, is_named_at}
 use Rattle.mm_history.proofs.Below.{instance_by, IsDecided, and_true, zero_bytes, nat_lt}
@@ -11,7 +11,7 @@ use Rattle.std.specs.Prelude.{◌&&◌}
 use Rattle.mm_history.proofs.NameLaws.{named_by}
 use Rattle.mm_history.proofs.FirstLaws.{same-Decides}
 use Rattle.mm_history.specs.Waymarks.{EndsWithCurrent, IsStage, stage_at}
-use Rattle.mm_history.specs.declared.waymarks.Stage.{Stage}
+use Rattle.mm_history.specs.declared.waymarks.SegmentStart.{SegmentStart}
 use Rattle.std.specs.List.{AllByRecursion}
 use Rattle.std.proofs.Math.Seq.{drop-append_seam}
 use Rattle.mm_history.proofs.Below.{suc, own_values, map, map-append, take-append-drop}
@@ -46,15 +46,15 @@ inside_by barrier last y named a e bs cs {start} all current at ends is =
     ∙ ap (λ (b : Bool). b && behind)
     (sym ((same-Decides (drop (length y.batches - length y.current) y.batches) y.current).1 (last_are y ends)))
 
-is_empty_by : (xs : List (List Entry)) (n : ℕ) → n ≡ length xs → (n == 0) ≡ is_empty xs
+is_empty_by : (xs : List (List RegisterEntry)) (n : ℕ) → n ≡ length xs → (n == 0) ≡ is_empty xs
 is_empty_by [] n same = (Decides-eqb n 0).1 same
 is_empty_by (x ∷ xs) n same = ne_eqb n 0 (λ z. absurd (omega (arith, same, z)))
 
 -- How far the walk over the closed segments has come.
 module _ (id : ℕ) (barrier : List ℕ) (y : History) (named : List Batch) (a e : List ℕ) where
-  pub record Reached (before rest all : List (List Entry)) (here : Stage) (entries later : ℕ) : Type 0 where
+  pub record Reached (before rest all : List (List RegisterEntry)) (here : SegmentStart) (entries later : ℕ) : Type 0 where
     pub here_is : here ≡ stage_at id barrier before
-    pub entries_is : entries ≡ length (joined before)
+    pub entries_is : entries ≡ length (items_of_all before)
     pub fits : entries ≤ length named
     pub left : later ≡ length rest
     pub same : some_place id barrier y named a e before rest ≡ some_place id barrier y named a e [] all
@@ -67,24 +67,24 @@ module _ (id : ℕ) (barrier : List ℕ) (y : History) (named : List Batch) (a e
   not_behind here start lt = and_left (nat_lt start (length named)) _ (le-ltb start (length named) (omega (arith, lt)))
 
   -- behind more entries than there are named batches, only the open segment is left
-  past : (before rest : List (List Entry)) → length named < length (joined before)
+  past : (before rest : List (List RegisterEntry)) → length named < length (items_of_all before)
       → is_inside_at barrier (anchor_at id barrier y.closed) y named a e ≡ some_place id barrier y named a e before rest
-  past before [] lt = rw (not_at (anchor_at id barrier before) (length (joined before)) (not (has_value (joined before))) lt) refl
+  past before [] lt = rw (not_at (anchor_at id barrier before) (length (items_of_all before)) (not (has_value (items_of_all before))) lt) refl
   past before (segment ∷ rest) lt =
       rw (
-        not_at (anchor_at id barrier before) (length (joined before)) (not (has_value (joined before))) lt,
-        not_behind (anchor_at id barrier before) (length (joined before)) lt,
+        not_at (anchor_at id barrier before) (length (items_of_all before)) (not (has_value (items_of_all before))) lt,
+        not_behind (anchor_at id barrier before) (length (items_of_all before)) lt,
       ) (past (before ++ segment ∷ []) rest
-      (omega (arith, lt, ap length (joined-push before segment), length-append (joined before) segment)))
+      (omega (arith, lt, ap length (joined-push before segment), length-append (items_of_all before) segment)))
 
 -- The walk, over owned segments and batches.
 module _ (id : ℕ) (barrier : List ℕ) (y : History) (named : List KeptBatch) (a e : List ℕ) where
-  abbrev pub Walked : {A : Type 0} → List (Vec KeptEntry A) → ℕ → (here : Stage) (entries later : ℕ) → Type 0
+  abbrev pub Walked : {A : Type 0} → List (Vec KeptEntry A) → ℕ → (here : SegmentStart) (entries later : ℕ) → Type 0
   Walked closed k here entries later =
       Reached id barrier y (kept_batches named) a e (kept_segments (take k closed)) (kept_segments (drop k closed)) (kept_segments closed)
       here entries later
 
-  pub walk_begins : {A : Type 0} (closed : List (Vec KeptEntry A)) (here : Stage) → here ≡ stage_at id barrier []
+  pub walk_begins : {A : Type 0} (closed : List (Vec KeptEntry A)) (here : SegmentStart) → here ≡ stage_at id barrier []
       → Reached id barrier y (kept_batches named) a e [] (kept_segments closed) (kept_segments closed) here 0 (length closed)
   walk_begins {A} closed here is = record {
     here_is = is;
@@ -95,30 +95,30 @@ module _ (id : ℕ) (barrier : List ℕ) (y : History) (named : List KeptBatch) 
   }
 
 -- at a segment where the place isn't
-module _ {A : Type 0} {id : ℕ} {barrier : List ℕ} {y : History} {a e : List ℕ} {here : Stage} {entries later size : ℕ}
+module _ {A : Type 0} {id : ℕ} {barrier : List ℕ} {y : History} {a e : List ℕ} {here : SegmentStart} {entries later size : ℕ}
     {shut ends tested : Bool} (named : List KeptBatch) (closed : List (Vec KeptEntry A)) (k : ℕ) (segment : Vec KeptEntry A)
     (l : k < length closed) (is : segment ≡ get_or closed k segment)
     (w : Walked id barrier y named a e closed k here entries later) (sized : size ≡ length segment.items)
     (clear : shut ≡ is_empty y.current) (ended : ends ≡ ((later - 1 == 0) && shut))
     (test : tested ≡ is_here here.is_clean barrier here.anchor.bytes entries (kept_batches named) size ends a e) (not_here : tested ≡ false) where
-  abbrev before : List (List Entry)
+  abbrev before : List (List RegisterEntry)
   before = kept_segments (take k closed)
 
-  abbrev rest : List (List Entry)
+  abbrev rest : List (List RegisterEntry)
   rest = kept_segments (drop (k + 1) closed)
 
-  abbrev items : List Entry
+  abbrev items : List RegisterEntry
   items = kept_entries segment.items
 
   cut : Reached id barrier y (kept_batches named) a e before (items ∷ rest) (kept_segments closed) here entries later
-  cut = subst (λ (s : List (List Entry)). Reached id barrier y (kept_batches named) a e before s (kept_segments closed) here entries
+  cut = subst (λ (s : List (List RegisterEntry)). Reached id barrier y (kept_batches named) a e before s (kept_segments closed) here entries
       later) (segments_left closed k segment l is) w
 
   sizes : size ≡ length items
   sizes = sized ∙ sym (length-map segment.items kept_entry)
 
   -- the test, as the walk makes it
-  here_by : tested ≡ is_here (not (has_value (joined before))) barrier (anchor_at id barrier before) (length (joined before))
+  here_by : tested ≡ is_here (not (has_value (items_of_all before))) barrier (anchor_at id barrier before) (length (items_of_all before))
       (kept_batches named) (length items) (is_empty rest && is_empty y.current) a e
   here_by =
       let x = cut in
@@ -135,8 +135,8 @@ module _ {A : Type 0} {id : ℕ} {barrier : List ℕ} {y : History} {a e : List 
       → r ≡ some_place id barrier y (kept_batches named) a e [] y.closed
   walk_past {last} {r} over all reads inside =
       let x = cut in
-      let more : length (joined (before ++ items ∷ [])) ≡ length (joined before) + length items =
-      ap length (joined-push before items) ∙ length-append (joined before) items in
+      let more : length (items_of_all (before ++ items ∷ [])) ≡ length (items_of_all before) + length items =
+      ap length (joined-push before items) ∙ length-append (items_of_all before) items in
       inside ∙ ap (λ (l : List ℕ). is_inside_at barrier l y (kept_batches named) a e) (reads ∙ ap (anchor_at id barrier) all)
       ∙ past id barrier y (kept_batches named) a e (before ++ items ∷ []) rest
       (omega (arith, over, sizes, x.entries_is, x.fits, more, length-map named kept_batch)) ∙ on_then
@@ -145,32 +145,32 @@ module _ {A : Type 0} {id : ℕ} {barrier : List ℕ} {y : History} {a e : List 
   -- the segments, cut here
   parted : kept_segments closed ≡ before ++ items ∷ rest
   parted =
-      let f : Vec KeptEntry A → List Entry = λ v. kept_entries v.items in
+      let f : Vec KeptEntry A → List RegisterEntry = λ v. kept_entries v.items in
       ap (map f) (sym (take-append-drop k closed)) ∙ map-append f (take k closed) (drop k closed)
-      ∙ ap (λ (s : List (List Entry)). before ++ s) (segments_left closed k segment l is)
+      ∙ ap (λ (s : List (List RegisterEntry)). before ++ s) (segments_left closed k segment l is)
 
-  pub walk_on : (stages : List Stage) {lent : List KeptEntry} {next : Stage} {count : ℕ} → size ≤ length named - entries
+  pub walk_on : (stages : List SegmentStart) {lent : List KeptEntry} {next : SegmentStart} {count : ℕ} → size ≤ length named - entries
       → lent ≡ segment.items → kept_segments closed ≡ y.closed → AllByRecursion (IsStage id barrier y.closed) stages
       → count ≡ length closed - (later - 1)
-      → ((n : ℕ) (front back : List (List Entry)) → here ≡ stage_at n barrier front → count ≡ length front + 1
+      → ((n : ℕ) (front back : List (List RegisterEntry)) → here ≡ stage_at n barrier front → count ≡ length front + 1
       → AllByRecursion (IsStage n barrier (front ++ kept_entries lent ∷ back)) stages
       → next ≡ stage_at n barrier (front ++ kept_entries lent ∷ []))
       → Walked id barrier y named a e closed (k + 1) next (entries + size) (later - 1)
   walk_on stages {lent = lent} {next = next} {count = count} room items_are all are counted behind =
       let x = cut in
-      let f : Vec KeptEntry A → List Entry = λ v. kept_entries v.items in
-      let joins : joined (before ++ items ∷ []) ≡ joined before ++ items = joined-push before items in
+      let f : Vec KeptEntry A → List RegisterEntry = λ v. kept_entries v.items in
+      let joins : items_of_all (before ++ items ∷ []) ≡ items_of_all before ++ items = joined-push before items in
       let sizes_all : length closed ≡ length before + suc (length rest) =
       sym (length-map closed f) ∙ ap length parted ∙ length-append before (items ∷ rest) in
       let one : count ≡ length before + 1 = omega (arith, counted, sizes_all, x.left) in
       let whole : y.closed ≡ before ++ kept_entries lent ∷ rest =
       sym all ∙ parted ∙ ap (λ (es : List KeptEntry). before ++ kept_entries es ∷ rest) (sym items_are) in
-      subst (λ (front : List (List Entry)). Reached id barrier y (kept_batches named) a e front rest (kept_segments closed) next
+      subst (λ (front : List (List RegisterEntry)). Reached id barrier y (kept_batches named) a e front rest (kept_segments closed) next
       (entries + size) (later - 1)) (taken f closed k segment l is) (record {
         here_is = behind id before rest x.here_is one
-            (subst (λ (s : List (List Entry)). AllByRecursion (IsStage id barrier s) stages) whole are)
+            (subst (λ (s : List (List RegisterEntry)). AllByRecursion (IsStage id barrier s) stages) whole are)
             ∙ ap (λ (es : List KeptEntry). stage_at id barrier (before ++ kept_entries es ∷ [])) items_are;
-        entries_is = omega (arith, x.entries_is, sizes, ap length joins, length-append (joined before) items);
+        entries_is = omega (arith, x.entries_is, sizes, ap length joins, length-append (items_of_all before) items);
         fits = omega (arith, room, x.fits, length-map named kept_batch);
         left = omega (arith, x.left);
         same = on_then;
@@ -201,7 +201,7 @@ module _ (variant : Variant) (meaning : Meaning) (key barrier : List ℕ) (y : H
   counted : first_with content.position y.batches ≡ option_map (λ (n : ℕ). take n (kept_batches batches)) found
   counted = ap (first_with content.position) (sym all) ∙ sym counts
 
-  pub not_counted : found ≡ None → IsDecided false (Names i y content)
+  pub not_counted : found ≡ None → IsDecided false (NamesPosition i y content)
   not_counted none = named_by i y content false
       (sym (ap (is_named_at i y content) (counted ∙ ap (option_map (λ (n : ℕ). take n (kept_batches batches))) none)))
 
@@ -218,14 +218,14 @@ module _ (variant : Variant) (meaning : Meaning) (key barrier : List ℕ) (y : H
     placed_is = sym (tested ∙ ap (λ (n : ℕ). is_place_in variant n barrier y named content.place) ids
         ∙ place_as variant meaning key barrier y named content.place)
 
-    pub other_place : placed ≡ false → IsDecided false (Names i y content)
+    pub other_place : placed ≡ false → IsDecided false (NamesPosition i y content)
     other_place off =
         let s = bytes_eq content.state (state_after i.meaning (requests_of named)) in
         named_by i y content false
         (sym (ap (is_named_at i y content) named_is ∙ ap (λ (b : Bool). s && b) (placed_is ∙ off) ∙ and_right s false refl))
 
     pub stated_by : {state : List ℕ} {s : Bool} → placed ≡ true → state ≡ state_after meaning (requests_of named)
-        → s ≡ bytes_eq content.state state → IsDecided s (Names i y content)
+        → s ≡ bytes_eq content.state state → IsDecided s (NamesPosition i y content)
     stated_by {state} {s} on run test =
         let t = bytes_eq content.state (state_after i.meaning (requests_of named)) in
         named_by i y content s

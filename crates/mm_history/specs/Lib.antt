@@ -3,4 +3,4 @@ pub mod MarkLaws
 pub mod Naming
 pub mod Waymarks
 pub mod WaymarkLaws
-pub mod Asked
+pub mod OfferMessages

@@ -6,24 +6,24 @@ use Rattle.std.proofs.lemmas.List.{map-append}
 use Rattle.std.proofs.lemmas.Bool.Decides.{nat_tests}
 use Rattle.mm_digest.specs.declared.variant.Variant.{Variant}
 use Rattle.mm_digest.specs.declared.variant.Variant.TheVariants.{Basic, Opt}
-use Rattle.mm_digest.specs.Messages.{extended_of}
+use Rattle.mm_digest.specs.Messages.{extended_digest_of}
 use Rattle.mm_module.specs.Batch.{Batch, size_of}
 use Rattle.mm_model.specs.Chains.{link, guard, register_of, anchor_of, summary_of}
 use Rattle.mm_model.specs.ChainsWords.{own_values}
 use Rattle.mm_model.specs.Instance.{Instance}
-use Rattle.mm_model.specs.History.{Entry, Own, Value, History, joined, renamed, committed}
+use Rattle.mm_model.specs.History.{RegisterEntry, Own, Value, History, items_of_all, with_last_batch, history_after_commit}
 use Rattle.mm_model.specs.HistoryWords.{values_of, cell_digest_of}
-use Rattle.mm_model.specs.Life.{is_empty, has_value, are_own, same_batch}
+use Rattle.mm_model.specs.Life.{is_empty, has_value, are_own, is_same_batch}
 use Rattle.mm_model.specs.PlacesWords.{digest_of}
-use Rattle.mm_model.specs.BatchLaws.{same_batch-Decides, total-push}
+use Rattle.mm_model.specs.BatchLaws.{is_same_batch-Decides, total-push}
 use Rattle.mm_model.specs.DigestLaws.{summary-push, register-push, anchor-push}
 use Rattle.mm_model.specs.FormLaws.{reads_zero}
 use Rattle.mm_model.specs.HistoryLaws.{own_values-append, has_value-append, register_more}
 use Rattle.mm_model.specs.SegmentLaws.{joined-push}
-use Rattle.mm_history.specs.Marks.{marks_of, with_value, emptied, closed_digest, closed_marks, linked_marks, grown, opened_marks}
+use Rattle.mm_history.specs.Marks.{marks_of, with_value, emptied_marks, closed_digest, closed_marks, linked_marks, grown_marks, opened_marks}
 
 pub own_more : (barrier : List ℕ) (batches : List Batch) (b : Batch)
-    → register_of (own_values barrier (batches ++ b ∷ [])) ≡ extended_of (register_of (own_values barrier batches)) (guard barrier b)
+    → register_of (own_values barrier (batches ++ b ∷ [])) ≡ extended_digest_of (register_of (own_values barrier batches)) (guard barrier b)
 own_more barrier batches b =
     ap register_of (own_values-append barrier batches (b ∷ [])) ∙ register-push (own_values barrier batches) (guard barrier b)
 
@@ -33,54 +33,54 @@ pub and_true : (b : Bool) → (b && true) ≡ b
 and_true true = refl
 and_true false = refl
 
-not_own_with : (items : List Entry) (v : List ℕ) (current : List Batch) → are_own (items ++ Value v ∷ []) current ≡ false
+not_own_with : (items : List RegisterEntry) (v : List ℕ) (current : List Batch) → are_own (items ++ Value v ∷ []) current ≡ false
 not_own_with [] v current = refl
 not_own_with (Own b ∷ items) v [] = refl
 not_own_with (Own b ∷ items) v (c ∷ current) =
-    ap (λ x. same_batch b c && x) (not_own_with items v current) ∙ and_right (same_batch b c) false refl
+    ap (λ x. is_same_batch b c && x) (not_own_with items v current) ∙ and_right (is_same_batch b c) false refl
 not_own_with (Value d ∷ items) v current = refl
 
 own_none : (current : List Batch) → are_own [] current ≡ is_empty current
 own_none [] = refl
 own_none (b ∷ current) = refl
 
-own_of_none : (items : List Entry) → are_own items [] ≡ is_empty items
+own_of_none : (items : List RegisterEntry) → are_own items [] ≡ is_empty items
 own_of_none [] = refl
 own_of_none (Own b ∷ items) = refl
 own_of_none (Value d ∷ items) = refl
 
-own_no_more : (items : List Entry) (b : Batch) → are_own (items ++ Own b ∷ []) [] ≡ false
+own_no_more : (items : List RegisterEntry) (b : Batch) → are_own (items ++ Own b ∷ []) [] ≡ false
 own_no_more [] b = refl
 own_no_more (Own c ∷ items) b = refl
 own_no_more (Value d ∷ items) b = refl
 
 own_alone : (b : Batch) (c : Batch) (current : List Batch) → are_own (Own b ∷ []) (c ∷ (current ++ b ∷ [])) ≡ false
-own_alone b c [] = and_right (same_batch b c) false refl
-own_alone b c (d ∷ current) = and_right (same_batch b c) false refl
+own_alone b c [] = and_right (is_same_batch b c) false refl
+own_alone b c (d ∷ current) = and_right (is_same_batch b c) false refl
 
 -- both grow by the same batch
-own_grown : (items : List Entry) (current : List Batch) (b : Batch)
+own_grown : (items : List RegisterEntry) (current : List Batch) (b : Batch)
     → are_own (items ++ Own b ∷ []) (current ++ b ∷ []) ≡ are_own items current
-own_grown [] [] b = and_true (same_batch b b) ∙ (same_batch-Decides b b).1 refl
+own_grown [] [] b = and_true (is_same_batch b b) ∙ (is_same_batch-Decides b b).1 refl
 own_grown [] (c ∷ current) b = own_alone b c current
-own_grown (Own c ∷ []) [] b = and_right (same_batch c b) false refl
-own_grown (Own c ∷ d ∷ items) [] b = ap (λ x. same_batch c b && x) (own_no_more (d ∷ items) b) ∙ and_right (same_batch c b) false refl
-own_grown (Own c ∷ items) (d ∷ current) b = ap (λ x. same_batch c d && x) (own_grown items current b)
+own_grown (Own c ∷ []) [] b = and_right (is_same_batch c b) false refl
+own_grown (Own c ∷ d ∷ items) [] b = ap (λ x. is_same_batch c b && x) (own_no_more (d ∷ items) b) ∙ and_right (is_same_batch c b) false refl
+own_grown (Own c ∷ items) (d ∷ current) b = ap (λ x. is_same_batch c d && x) (own_grown items current b)
 own_grown (Value d ∷ items) current b = refl
 
-still_some : (y z : Entry) (items : List Entry) (b : Batch) → is_empty (renamed (y ∷ z ∷ items) b) ≡ false
+still_some : (y z : RegisterEntry) (items : List RegisterEntry) (b : Batch) → is_empty (with_last_batch (y ∷ z ∷ items) b) ≡ false
 still_some y z items b = refl
 
 two_many : (n : ℕ) → nat_le (suc (suc n)) 1 ≡ false
 two_many n = grind (arith, nat_tests)
 
 -- the items of a batch that opens a segment are its own where it had at most one
-own_opened : (items : List Entry) (b : Batch) → are_own (renamed items b) (b ∷ []) ≡ nat_le (length items) 1
-own_opened [] b = and_true (same_batch b b) ∙ (same_batch-Decides b b).1 refl
-own_opened (x ∷ []) b = and_true (same_batch b b) ∙ (same_batch-Decides b b).1 refl
-own_opened (Own c ∷ y ∷ []) b = and_right (same_batch c b) false refl
+own_opened : (items : List RegisterEntry) (b : Batch) → are_own (with_last_batch items b) (b ∷ []) ≡ nat_le (length items) 1
+own_opened [] b = and_true (is_same_batch b b) ∙ (is_same_batch-Decides b b).1 refl
+own_opened (x ∷ []) b = and_true (is_same_batch b b) ∙ (is_same_batch-Decides b b).1 refl
+own_opened (Own c ∷ y ∷ []) b = and_right (is_same_batch c b) false refl
 own_opened (Own c ∷ y ∷ z ∷ items) b =
-    ap (λ x. same_batch c b && x) (own_of_none (renamed (y ∷ z ∷ items) b) ∙ still_some y z items b) ∙ and_right (same_batch c b) false refl
+    ap (λ x. is_same_batch c b && x) (own_of_none (with_last_batch (y ∷ z ∷ items) b) ∙ still_some y z items b) ∙ and_right (is_same_batch c b) false refl
     ∙ sym (two_many (suc (length items)))
 own_opened (Value d ∷ y ∷ []) b = refl
 own_opened (Value d ∷ y ∷ z ∷ items) b = sym (two_many (suc (length items)))
@@ -89,7 +89,7 @@ own_opened (Value d ∷ y ∷ z ∷ items) b = sym (two_many (suc (length items)
 pub cell_same : (i : Instance) (v : Variant) (y z : History) → y.batches ≡ z.batches → y.closed ≡ z.closed
     → cell_digest_of i v y ≡ cell_digest_of i v z
 cell_same i Basic y z b c = ap (summary_of i.meaning.id) b
-cell_same i Opt y z b c = ap (λ (s : List (List Entry)). anchor_of i.meaning.id (map (values_of i.barrier) s)) c
+cell_same i Opt y z b c = ap (λ (s : List (List RegisterEntry)). anchor_of i.meaning.id (map (values_of i.barrier) s)) c
 
 cell_shut : (i : Instance) (v : Variant) (y : History)
     → cell_digest_of i v (record y { closed = y.closed ++ y.items ∷ []; current = []; is_open = false })
@@ -106,7 +106,7 @@ marks_value i y v = λ j. record (marks_of i y) {
   is_own = not_own_with y.items v y.current j;
 }
 
-pub marks_emptied : (i : Instance) (y : History) → marks_of i (record y { items = [] }) ≡ emptied (marks_of i y) (is_empty y.current)
+pub marks_emptied : (i : Instance) (y : History) → marks_of i (record y { items = [] }) ≡ emptied_marks (marks_of i y) (is_empty y.current)
 marks_emptied i y = λ j. record (marks_of i y) {
   cell = digest_of (cell_same i i.variant (record y { items = [] }) y refl refl j);
   register = digest_of (reads_zero j);
@@ -119,40 +119,40 @@ marks_shut i y = λ j. record (marks_of i y) {
   cell = digest_of (cell_shut i i.variant y j);
   own = digest_of (reads_zero j);
   is_own = own_of_none y.items j;
-  is_marred = (ap has_value (joined-push y.closed y.items) ∙ has_value-append (joined y.closed) y.items) j;
+  is_marred = (ap has_value (joined-push y.closed y.items) ∙ has_value-append (items_of_all y.closed) y.items) j;
 }
 
 pub marks_linked : (i : Instance) (y : History) (b : Batch) → i.variant ≡ Basic
-    → marks_of i (committed Basic y.is_open y b) ≡ linked_marks (marks_of i y) b
+    → marks_of i (history_after_commit Basic y.is_open y b) ≡ linked_marks (marks_of i y) b
 marks_linked i y b e = λ j. record (marks_of i y) {
   total = total-push y.batches b j;
-  cell = digest_of ((ap (λ v. cell_digest_of i v (committed Basic y.is_open y b)) e ∙ summary-push i.meaning.id y.batches b
+  cell = digest_of ((ap (λ v. cell_digest_of i v (history_after_commit Basic y.is_open y b)) e ∙ summary-push i.meaning.id y.batches b
       ∙ ap (λ v. link (cell_digest_of i v y) b) (sym e)) j);
 }
 
 opt_cell : (i : Instance) (y z : History) → i.variant ≡ Opt → y.closed ≡ z.closed
     → cell_digest_of i i.variant y ≡ cell_digest_of i i.variant z
 opt_cell i y z e c =
-    ap (λ v. cell_digest_of i v y) e ∙ ap (λ (s : List (List Entry)). anchor_of i.meaning.id (map (values_of i.barrier) s)) c
+    ap (λ v. cell_digest_of i v y) e ∙ ap (λ (s : List (List RegisterEntry)). anchor_of i.meaning.id (map (values_of i.barrier) s)) c
     ∙ ap (λ v. cell_digest_of i v z) (sym e)
 
 pub marks_grown : (i : Instance) (y : History) (b : Batch) → i.variant ≡ Opt
-    → marks_of i (committed Opt true y b) ≡ grown (marks_of i y) (size_of b) (guard i.barrier b)
+    → marks_of i (history_after_commit Opt true y b) ≡ grown_marks (marks_of i y) (size_of b) (guard i.barrier b)
 marks_grown i y b e = λ j. record (marks_of i y) {
   total = total-push y.batches b j;
-  cell = digest_of (opt_cell i (committed Opt true y b) y e refl j);
+  cell = digest_of (opt_cell i (history_after_commit Opt true y b) y e refl j);
   own = digest_of (own_more i.barrier y.current b j);
   register = digest_of (register_more i.barrier y.items (Own b) j);
   is_own = own_grown y.items y.current b j;
 }
 
-pub marks_opened : (i : Instance) (y : History) (b : Batch) → i.variant ≡ Opt → marks_of i (committed Opt false y b)
-    ≡ opened_marks (marks_of i y) (size_of b) (guard i.barrier b) (register_of (values_of i.barrier (renamed y.items b)))
+pub marks_opened : (i : Instance) (y : History) (b : Batch) → i.variant ≡ Opt → marks_of i (history_after_commit Opt false y b)
+    ≡ opened_marks (marks_of i y) (size_of b) (guard i.barrier b) (register_of (values_of i.barrier (with_last_batch y.items b)))
     (nat_le (length y.items) 1)
 marks_opened i y b e = λ j. record (marks_of i y) {
   total = total-push y.batches b j;
-  cell = digest_of (opt_cell i (committed Opt false y b) y e refl j);
-  own = digest_of ((register-push [] (guard i.barrier b) ∙ ap (λ r. extended_of r (guard i.barrier b)) reads_zero) j);
-  register = digest_of (register_of (values_of i.barrier (renamed y.items b)));
+  cell = digest_of (opt_cell i (history_after_commit Opt false y b) y e refl j);
+  own = digest_of ((register-push [] (guard i.barrier b) ∙ ap (λ r. extended_digest_of r (guard i.barrier b)) reads_zero) j);
+  register = digest_of (register_of (values_of i.barrier (with_last_batch y.items b)));
   is_own = own_opened y.items b j;
 }

@@ -13,11 +13,11 @@ use Rattle.mm_seal.specs.Snapshot.{Content}
 use Rattle.mm_model.specs.Chains.{summary_of, register_of, anchor_of}
 use Rattle.mm_model.specs.ChainsWords.{own_values}
 use Rattle.mm_model.specs.Instance.{Instance}
-use Rattle.mm_model.specs.InstanceWords.{basic, opt}
-use Rattle.mm_model.specs.History.{Entry, History, requests_of, joined}
+use Rattle.mm_model.specs.InstanceWords.{basic_instance, opt_instance}
+use Rattle.mm_model.specs.History.{RegisterEntry, History, requests_of, items_of_all}
 use Rattle.mm_model.specs.HistoryWords.{values_of}
-use Rattle.mm_model.specs.Life.{is_empty, has_value, same_batch}
-use Rattle.mm_model.specs.Places.{Names}
+use Rattle.mm_model.specs.Life.{is_empty, has_value, is_same_batch}
+use Rattle.mm_model.specs.Places.{NamesPosition}
 
 -- the statement holds, or doesn't
 abbrev pub IsDecided : Bool → Type 0 → Type 0
@@ -38,10 +38,10 @@ abbrev pub same_batches : List Batch → List Batch → Bool
 same_batches [] [] = true
 same_batches [] (c ∷ cs) = false
 same_batches (b ∷ bs) [] = false
-same_batches (b ∷ bs) (c ∷ cs) = same_batch b c && same_batches bs cs
+same_batches (b ∷ bs) (c ∷ cs) = is_same_batch b c && same_batches bs cs
 
 -- the anchor after these segments, by the module's id and the barrier
-abbrev pub anchor_at : ℕ → List ℕ → List (List Entry) → List ℕ
+abbrev pub anchor_at : ℕ → List ℕ → List (List RegisterEntry) → List ℕ
 anchor_at id barrier segments = anchor_of id (map (values_of barrier) segments)
 
 -- a place of Opt: at this anchor, behind so many entries, of which none stands for no batch
@@ -80,15 +80,15 @@ is_inside_at barrier last y named anchor extension =
 
 -- some place, from these segments on
 abbrev pub some_place : ℕ → (barrier : List ℕ) → History → List Batch → (anchor extension : List ℕ)
-    → (before rest : List (List Entry))
+    → (before rest : List (List RegisterEntry))
     → Bool
 some_place id barrier y named anchor extension before [] =
-    is_at (not (has_value (joined before))) (anchor_at id barrier before) (length (joined before))
+    is_at (not (has_value (items_of_all before))) (anchor_at id barrier before) (length (items_of_all before))
     named anchor extension
     || is_inside_at barrier (anchor_at id barrier y.closed) y named anchor extension
 some_place id barrier y named anchor extension before (segment ∷ rest) =
-    is_here (not (has_value (joined before))) barrier (anchor_at id barrier before)
-    (length (joined before)) named
+    is_here (not (has_value (items_of_all before))) barrier (anchor_at id barrier before)
+    (length (items_of_all before)) named
     (length segment) (is_empty rest && is_empty y.current) anchor extension
     || some_place id barrier y named anchor extension (before ++ segment ∷ []) rest
 
@@ -115,9 +115,9 @@ is_named i y content = is_named_at i y content (first_with content.position y.ba
 -- So it is decided, in either variant.
 abbrev pub BasicNamesAreDecided : Type 0
 BasicNamesAreDecided = (meaning : Meaning) (key : List ℕ) (y : History) (content : Content) →
-    IsDecided (is_named (basic meaning key) y content) (Names (basic meaning key) y content)
+    IsDecided (is_named (basic_instance meaning key) y content) (NamesPosition (basic_instance meaning key) y content)
 
 abbrev pub OptNamesAreDecided : Type 0
 OptNamesAreDecided = (meaning : Meaning) (key barrier : List ℕ) (y : History) (content : Content) →
-    IsDecided (is_named (opt meaning key barrier) y content)
-    (Names (opt meaning key barrier) y content)
+    IsDecided (is_named (opt_instance meaning key barrier) y content)
+    (NamesPosition (opt_instance meaning key barrier) y content)

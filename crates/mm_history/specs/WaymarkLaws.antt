@@ -6,9 +6,9 @@ use Rattle.mm_digest.specs.declared.variant.Variant.{Variant}
 use Rattle.mm_digest.specs.declared.variant.Variant.TheVariants.{Opt}
 use Rattle.mm_module.specs.Batch.{Batch}
 use Rattle.mm_module.specs.Meaning.{Meaning}
-use Rattle.mm_model.specs.History.{Entry, History}
+use Rattle.mm_model.specs.History.{RegisterEntry, History}
 use Rattle.mm_history.specs.Waymarks.{AreWaymarks, EndsWithCurrent, IsStage, IsWaymark}
-use Rattle.mm_history.specs.declared.waymarks.Stage.{Stage}
+use Rattle.mm_history.specs.declared.waymarks.SegmentStart.{SegmentStart}
 use Rattle.mm_history.specs.declared.waymarks.Waymark.{Waymark}
 use Rattle.mm_history.specs.declared.waymarks.Waymarks.{Waymarks}
 
@@ -21,12 +21,12 @@ each_found P [] n x h e = absurd (cc)
 each_found P (z ∷ xs) zero x h e = subst P (let same : z ≡ x = cc in same) h.0
 each_found P (z ∷ xs) (suc n) x h e = each_found P xs n x h.1 e
 
-stage_on : {id : ℕ} {barrier : List ℕ} (closed more : List (List Entry)) (stage : Stage) → IsStage id barrier closed stage
+stage_on : {id : ℕ} {barrier : List ℕ} (closed more : List (List RegisterEntry)) (stage : SegmentStart) → IsStage id barrier closed stage
     → IsStage id barrier (closed ++ more) stage
 stage_on closed more stage s = record {
   before = s.before;
   later = s.later ++ more;
-  split = ap (λ (ss : List (List Entry)). ss ++ more) s.split ∙ append_assoc s.before s.later more;
+  split = ap (λ (ss : List (List RegisterEntry)). ss ++ more) s.split ∙ append_assoc s.before s.later more;
   is = s.is;
 }
 
@@ -44,13 +44,13 @@ module _ {variant : Variant} {meaning : Meaning} {barrier : List ℕ} where
   }
 
   -- more batches and closed segments
-  pub ways_on : {y z : History} {ways : Waymarks} (more : List Batch) (segments : List (List Entry)) → z.batches ≡ y.batches ++ more
+  pub ways_on : {y z : History} {ways : Waymarks} (more : List Batch) (segments : List (List RegisterEntry)) → z.batches ≡ y.batches ++ more
       → z.closed ≡ y.closed ++ segments → (variant ≡ Opt → EndsWithCurrent z) → AreWaymarks variant meaning barrier y ways
       → AreWaymarks variant meaning barrier z ways
   ways_on {y} {z} {ways} more segments batches closed ends w = record {
     marks = subst (λ (bs : List Batch). AllByRecursion (IsWaymark variant meaning barrier bs) ways.marks.items) (sym batches)
         (each_then (mark_on y.batches more) ways.marks.items w.marks);
-    stages = λ opt. subst (λ (ss : List (List Entry)). AllByRecursion (IsStage meaning.id barrier ss) ways.stages.items) (sym closed)
+    stages = λ opt. subst (λ (ss : List (List RegisterEntry)). AllByRecursion (IsStage meaning.id barrier ss) ways.stages.items) (sym closed)
         (each_then (stage_on y.closed segments) ways.stages.items (w.stages opt));
     ends = ends;
   }

@@ -7,11 +7,11 @@ use Rattle.mm_module.specs.Batch.{Batch}
 use Rattle.mm_module.specs.Meaning.{Meaning, state_after}
 use Rattle.mm_model.specs.Chains.{summary_of, register_of}
 use Rattle.mm_model.specs.ChainsWords.{own_values}
-use Rattle.mm_model.specs.History.{Entry, History, requests_of, total_of, joined}
+use Rattle.mm_model.specs.History.{RegisterEntry, History, requests_of, total_of, items_of_all}
 use Rattle.mm_model.specs.Life.{has_value}
 use Rattle.mm_model.specs.PlacesWords.{digest_of}
 use Rattle.mm_history.specs.Naming.{anchor_at}
-use Rattle.mm_history.specs.declared.waymarks.Stage.{Stage}
+use Rattle.mm_history.specs.declared.waymarks.SegmentStart.{SegmentStart}
 use Rattle.mm_history.specs.declared.waymarks.Waymark.{Waymark}
 use Rattle.mm_history.specs.declared.waymarks.Waymarks.{Waymarks}
 
@@ -32,18 +32,18 @@ pub record IsWaymark (variant : Variant) (meaning : Meaning) (barrier : List ℕ
   pub state_is : mark.state ≡ take mark.limit (state_after meaning (requests_of front))
 
 -- where the segment behind these begins
-abbrev pub stage_at : ℕ → (barrier : List ℕ) → List (List Entry) → Stage
+abbrev pub stage_at : ℕ → (barrier : List ℕ) → List (List RegisterEntry) → SegmentStart
 stage_at id barrier before = record {
   count = length before;
   anchor = digest_of (anchor_at id barrier before);
-  is_clean = not (has_value (joined before));
+  is_clean = not (has_value (items_of_all before));
 }
 
 -- a stage is of the place behind some first segments
-pub record IsStage (id : ℕ) (barrier : List ℕ) (closed : List (List Entry))
-    (stage : Stage) : Type 0 where
-  pub before : List (List Entry)
-  pub later : List (List Entry)
+pub record IsStage (id : ℕ) (barrier : List ℕ) (closed : List (List RegisterEntry))
+    (stage : SegmentStart) : Type 0 where
+  pub before : List (List RegisterEntry)
+  pub later : List (List RegisterEntry)
   pub split : closed ≡ before ++ later
   pub is : stage ≡ stage_at id barrier before
 

@@ -8,8 +8,8 @@ mod messages;
 mod naming;
 mod waymarks;
 
-pub use lists::Lists;
-pub use marks::{Marks, guard};
+pub use lists::HistoryLists;
+pub use marks::{HistoryMarks, guard};
 pub use messages::{anchored_message, joined, list_place};
 pub use naming::{is_named, names_are_decided};
-pub use waymarks::{Stage, Waymark, Waymarks};
+pub use waymarks::{SegmentStart, Waymark, Waymarks};

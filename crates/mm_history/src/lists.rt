@@ -1,8 +1,8 @@
 //! A history as lists.
 
 ghost use Rattle.std.specs.Prelude.{◌≡◌, ◌<◌, vec_len, vec_capacity};
-ghost use Rattle.mm_model.specs.History.{renamed};
-ghost use Rattle.mm_model.specs.Kept.{kept_batch, kept_entries};
+ghost use Rattle.mm_model.specs.History.{with_last_batch};
+ghost use Rattle.mm_model.specs.KeptHistory.{kept_batch, kept_entries};
 
 use crate::marks::register_of;
 use mm_base::Memory;
@@ -14,7 +14,7 @@ use std::marker::Model;
 
 /// A history as lists, which contracts see as the history.
 #[derive(Drop)]
-pub struct Lists {
+pub struct HistoryLists {
     alloc: Global,
     batches: Vec<KeptBatch>,
     closed: Vec<Vec<KeptEntry>>,
@@ -23,9 +23,9 @@ pub struct Lists {
     items: Vec<KeptEntry>,
 }
 
-impl Model for Lists {
+impl Model for HistoryLists {
     ghost use Rattle.mm_model.specs.History.{History};
-    ghost use Rattle.mm_model.specs.Kept.{kept_batches, kept_entries, kept_segments};
+    ghost use Rattle.mm_model.specs.KeptHistory.{kept_batches, kept_entries, kept_segments};
 
     ghost Value = { History };
 
@@ -42,28 +42,28 @@ impl Model for Lists {
 fn rename_last(items: &mut Vec<KeptEntry>, batch: KeptBatch)
     requires { vec_len items.old < vec_capacity items.old }
     ensures { kept_entries items.new.items
-        ≡ renamed (kept_entries items.old.items) (kept_batch batch) }
+        ≡ with_last_batch (kept_entries items.old.items) (kept_batch batch) }
 {
     let _ = items.pop();
     items.push_reserved(KeptEntry::Own(batch));
 }
 
-impl Lists {
+impl HistoryLists {
     ghost use Rattle.std.specs.Prelude.{◌≡◌, ◌++◌, [], ◌∷◌, true, false, length, nat_le, OnOk, OnErr};
     ghost use Rattle.mm_digest.specs.declared.variant.Variant.TheVariants.{Basic, Opt};
     ghost use Rattle.mm_module.specs.Batches.{batch_of};
-    ghost use Rattle.mm_model.specs.History.{Value, first_history, committed};
+    ghost use Rattle.mm_model.specs.History.{Value, first_history, history_after_commit};
     ghost use Rattle.mm_model.specs.HistoryWords.{values_of};
     ghost use Rattle.mm_model.specs.Chains.{register_of};
-    ghost use Rattle.mm_model.specs.Judge.{is_last};
+    ghost use Rattle.mm_model.specs.Verdicts.{is_last};
     ghost use Rattle.mm_model.specs.Life.{is_empty, has_value};
-    ghost use Rattle.mm_model.specs.Kept.{kept_batches, kept_segments};
+    ghost use Rattle.mm_model.specs.KeptHistory.{kept_batches, kept_segments};
 
     /// The first history. Takes no memory.
-    pub fn new(alloc: Global) -> Lists
+    pub fn new(alloc: Global) -> HistoryLists
         ensures { result ≡ first_history }
     {
-        Lists {
+        HistoryLists {
             alloc,
             batches: Vec::new(alloc),
             closed: Vec::new(alloc),
@@ -76,7 +76,7 @@ impl Lists {
     /// Basic: one more batch.
     pub fn add(&mut self, batch: Batch<'_>) -> Result<(), Memory>
         ensures ok { OnOk result
-            (self.new ≡ committed Basic self.old.is_open self.old (batch_of batch.entry)) }
+            (self.new ≡ history_after_commit Basic self.old.is_open self.old (batch_of batch.entry)) }
         ensures err { OnErr result (self.new ≡ self.old) }
     {
         let kept = KeptBatch::copy_of(self.alloc, &batch)?;
@@ -86,7 +86,7 @@ impl Lists {
 
     /// Opt: one more batch in the open segment.
     pub fn add_inside(&mut self, batch: Batch<'_>) -> Result<(), Memory>
-        ensures ok { OnOk result (self.new ≡ committed Opt true self.old (batch_of batch.entry)) }
+        ensures ok { OnOk result (self.new ≡ history_after_commit Opt true self.old (batch_of batch.entry)) }
         ensures err { OnErr result (self.new ≡ self.old) }
     {
         self.batches.reserve(1)?;
@@ -103,7 +103,7 @@ impl Lists {
 
     /// Opt: a batch opens a segment, and the last item becomes its own.
     pub fn open(&mut self, batch: Batch<'_>) -> Result<(), Memory>
-        ensures ok { OnOk result (self.new ≡ committed Opt false self.old (batch_of batch.entry)) }
+        ensures ok { OnOk result (self.new ≡ history_after_commit Opt false self.old (batch_of batch.entry)) }
         ensures err { OnErr result (self.new ≡ self.old) }
     {
         self.batches.reserve(1)?;

@@ -4,9 +4,9 @@ ghost use Rattle.std.specs.Prelude.{◌≡◌};
 ghost use Rattle.mm_module.specs.Batches.{batch_of};
 ghost use Rattle.mm_model.specs.Chains.{guard, link, register_of};
 ghost use Rattle.mm_model.specs.ChainsWords.{own_values};
-ghost use Rattle.mm_model.specs.History.{value_of};
+ghost use Rattle.mm_model.specs.History.{extension_value};
 ghost use Rattle.mm_model.specs.HistoryWords.{values_of};
-ghost use Rattle.mm_model.specs.Kept.{kept_batches, kept_entry, kept_entries};
+ghost use Rattle.mm_model.specs.KeptHistory.{kept_batches, kept_entry, kept_entries};
 
 use mm_digest::{
     Digest, Variant, anchored, extended, secured, secured_batch, start, successor, successor_batch,
@@ -17,7 +17,7 @@ use mm_module::Batch;
 
 /// What a history comes to.
 #[derive(Clone, Copy)]
-pub struct Marks {
+pub struct HistoryMarks {
     /// How many requests are committed.
     pub total: u64,
     /// The summary, or the anchor.
@@ -32,26 +32,26 @@ pub struct Marks {
     pub is_marred: bool,
 }
 
-impl Marks {
+impl HistoryMarks {
     ghost use Rattle.std.specs.Prelude.{◌≡◌, ◌+◌, ◌<◌, ◌^◌, true, false};
-    ghost use Rattle.mm_digest.specs.Messages.{start_of, zero_bytes};
+    ghost use Rattle.mm_digest.specs.Messages.{start_digest_of, zero_bytes};
     ghost use Rattle.mm_module.specs.Batch.{size_of};
     ghost use Rattle.mm_module.specs.Batches.{batch_of};
     ghost use Rattle.mm_model.specs.PlacesWords.{digest_of};
-    ghost use Rattle.mm_history.specs.Marks.{with_value, emptied, closed_marks, linked_marks, grown, opened_marks};
+    ghost use Rattle.mm_history.specs.Marks.{with_value, emptied_marks, closed_marks, linked_marks, grown_marks, opened_marks};
 
     /// Those of the first history.
-    pub fn first(variant: Variant, id: u8) -> Marks
+    pub fn first(variant: Variant, id: u8) -> HistoryMarks
         ensures { result ≡ record {
           total = 0;
-          cell = digest_of (start_of variant id);
+          cell = digest_of (start_digest_of variant id);
           own = digest_of zero_bytes;
           register = digest_of zero_bytes;
           is_own = true;
           is_marred = false;
         } }
     {
-        Marks {
+        HistoryMarks {
             total: 0,
             cell: start(variant, id),
             own: zero(),
@@ -62,10 +62,10 @@ impl Marks {
     }
 
     /// After the register took in a value that stands for no batch.
-    pub fn with_value(self, value: &Digest) -> Marks
+    pub fn with_value(self, value: &Digest) -> HistoryMarks
         ensures { result ≡ with_value self value.now.bytes }
     {
-        Marks {
+        HistoryMarks {
             register: extended(&self.register, value),
             is_own: false,
             ..self
@@ -73,10 +73,10 @@ impl Marks {
     }
 
     /// After the register was emptied, by whether no batch is in the open segment.
-    pub fn emptied(self, is_clear: bool) -> Marks
-        ensures { result ≡ emptied self is_clear }
+    pub fn emptied(self, is_clear: bool) -> HistoryMarks
+        ensures { result ≡ emptied_marks self is_clear }
     {
-        Marks {
+        HistoryMarks {
             register: zero(),
             is_own: is_clear,
             ..self
@@ -94,10 +94,10 @@ impl Marks {
     }
 
     /// After the open segment was closed, by whether it holds a value that stands for no batch, and whether it is empty.
-    pub fn closed(self, variant: Variant, has_value: bool, is_bare: bool) -> Marks
+    pub fn closed(self, variant: Variant, has_value: bool, is_bare: bool) -> HistoryMarks
         ensures { result ≡ closed_marks variant self has_value is_bare }
     {
-        Marks {
+        HistoryMarks {
             cell: self.closed_cell(variant),
             own: zero(),
             is_own: is_bare,
@@ -107,12 +107,12 @@ impl Marks {
     }
 
     /// Basic: after one more batch, of this size.
-    pub fn linked(self, batch: Batch<'_>, size: u64) -> Marks
+    pub fn linked(self, batch: Batch<'_>, size: u64) -> HistoryMarks
         requires size { size ≡ size_of (batch_of batch) }
         requires fits { self.total + size < 2 ^ 64 }
         ensures { result ≡ linked_marks self (batch_of batch.entry) }
     {
-        Marks {
+        HistoryMarks {
             total: self.total + size,
             cell: link(&self.cell, batch),
             ..self
@@ -120,11 +120,11 @@ impl Marks {
     }
 
     /// After one more batch of this size and guard in the open segment.
-    pub fn grown(self, size: u64, guard: &Digest) -> Marks
+    pub fn grown(self, size: u64, guard: &Digest) -> HistoryMarks
         requires { self.total + size < 2 ^ 64 }
-        ensures { result ≡ grown self size guard.now.bytes }
+        ensures { result ≡ grown_marks self size guard.now.bytes }
     {
-        Marks {
+        HistoryMarks {
             total: self.total + size,
             own: extended(&self.own, guard),
             register: extended(&self.register, guard),
@@ -134,11 +134,11 @@ impl Marks {
 
     /// After a batch of this size and guard opened a segment, by what the register reads then and whether it had at most one
     /// item before.
-    pub fn opened(self, size: u64, guard: &Digest, register: Digest, is_alone: bool) -> Marks
+    pub fn opened(self, size: u64, guard: &Digest, register: Digest, is_alone: bool) -> HistoryMarks
         requires { self.total + size < 2 ^ 64 }
         ensures { result ≡ opened_marks self size guard.now.bytes register.bytes is_alone }
     {
-        Marks {
+        HistoryMarks {
             total: self.total + size,
             own: extended(&zero(), guard),
             register,
@@ -149,7 +149,7 @@ impl Marks {
 }
 
 /// The summary after one more batch.
-#[tactic(auto, unfolding(mm_model::specs::Chains::link, mm_digest::specs::MessagesWords::successor_of, mm_digest::specs::MessagesWords::successor_batch_of))]
+#[tactic(auto, unfolding(mm_model::specs::Chains::link, mm_digest::specs::MessagesWords::successor_digest_of, mm_digest::specs::MessagesWords::successor_batch_digest_of))]
 pub(crate) fn link(summary: &Digest, batch: Batch<'_>) -> Digest
     ensures { result.bytes ≡ link summary.now.bytes (batch_of batch.entry) }
 {
@@ -160,7 +160,7 @@ pub(crate) fn link(summary: &Digest, batch: Batch<'_>) -> Digest
 }
 
 /// The value by which a batch extends the register.
-#[tactic(auto, unfolding(mm_model::specs::Chains::guard, mm_digest::specs::MessagesWords::secured_of, mm_digest::specs::MessagesWords::secured_batch_of))]
+#[tactic(auto, unfolding(mm_model::specs::Chains::guard, mm_digest::specs::MessagesWords::secured_digest_of, mm_digest::specs::MessagesWords::secured_batch_digest_of))]
 pub fn guard(barrier: &[u8; 32], batch: Batch<'_>) -> Digest
     ensures { result.bytes ≡ guard barrier.now (batch_of batch.entry) }
 {
@@ -172,7 +172,7 @@ pub fn guard(barrier: &[u8; 32], batch: Batch<'_>) -> Digest
 
 // The value by which an entry extended the register.
 fn value(barrier: &[u8; 32], entry: &KeptEntry) -> Digest
-    ensures { result.bytes ≡ value_of barrier.now (kept_entry entry.now) }
+    ensures { result.bytes ≡ extension_value barrier.now (kept_entry entry.now) }
 {
     match entry {
         KeptEntry::Own(batch) => guard(barrier, batch.lent()),

@@ -2,11 +2,11 @@
 
 ghost use Rattle.std.specs.Prelude.{◌≡◌, ◌∷◌, ◌++◌, IfOk, OnOk};
 ghost use Rattle.std.specs.Str.{bytes_eq};
-ghost use Rattle.mm_digest.specs.Messages.{zero_bytes, anchored_message, extended_message, extended_of};
+ghost use Rattle.mm_digest.specs.Messages.{zero_bytes, anchored_message, extended_message, extended_digest_of};
 ghost use Rattle.mm_module.specs.Batches.{batch_of};
 ghost use Rattle.mm_model.specs.Chains.{link_message, guard_message};
 ghost use Rattle.mm_model.specs.Messages.{form_messages, point_messages};
-ghost use Rattle.mm_history.specs.Asked.{place_messages};
+ghost use Rattle.mm_history.specs.OfferMessages.{messages_at_place};
 
 use crate::marks::guard;
 use mm_base::{Bytes, Memory};
@@ -117,7 +117,7 @@ pub fn list_place(
     messages: &mut Vec<Bytes>,
 ) -> Result<(), Memory>
     ensures { OnOk result (messages.new.items ≡ messages.old.items
-        ++ place_messages barrier.now place.now (batch_of batch.entry)) }
+        ++ messages_at_place barrier.now place.now (batch_of batch.entry)) }
 {
     match place {
         Place::Basic(summary) => {

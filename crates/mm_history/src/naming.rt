@@ -9,21 +9,21 @@ ghost use Rattle.mm_module.specs.Meaning.{state_after};
 ghost use Rattle.mm_digest.specs.declared.variant.Variant.TheVariants.{Opt};
 ghost use Rattle.mm_model.specs.Chains.{register_of, summary_of};
 ghost use Rattle.mm_model.specs.ChainsWords.{own_values};
-ghost use Rattle.mm_model.specs.History.{Entry, requests_of};
+ghost use Rattle.mm_model.specs.History.{RegisterEntry, requests_of};
 ghost use Rattle.mm_model.specs.Life.{is_empty};
 ghost use Rattle.mm_model.specs.Long.{is_long};
 ghost use Rattle.mm_seal.specs.Body.{content_of};
-ghost use Rattle.mm_model.specs.Places.{Names};
+ghost use Rattle.mm_model.specs.Places.{NamesPosition};
 ghost use Rattle.mm_call.specs.Standing.{instance_by};
-ghost use Rattle.mm_model.specs.Kept.{kept_batches, kept_entries, kept_segments};
+ghost use Rattle.mm_model.specs.KeptHistory.{kept_batches, kept_entries, kept_segments};
 ghost use Rattle.mm_history.specs.Naming.{BasicNamesAreDecided, OptNamesAreDecided, first_with, anchor_at, is_at, is_behind, is_here, is_inside_at, is_within, some_place, is_place_in, IsDecided};
 ghost use Rattle.mm_history.specs.Waymarks.{AreWaymarks, EndsWithCurrent, IsStage, IsWaymark, digest_behind, stage_at};
 
-use crate::lists::Lists;
+use crate::lists::HistoryLists;
 use crate::marks::{link, own_register, register_of};
-use crate::waymarks::{Stage, Waymark, Waymarks, first_from, is_between};
+use crate::waymarks::{SegmentStart, Waymark, Waymarks, first_from, is_between};
 use mm_base::{Bytes, Memory};
-use mm_call::{Ran, run_batch};
+use mm_call::{BatchRun, run_batch};
 use mm_digest::{Digest, Variant, anchored, start, zero};
 use mm_model::{KeptBatch, KeptEntry, some_value};
 use mm_module::Module;
@@ -67,7 +67,7 @@ fn state_after(alloc: Global, module: &AnyModule, batches: &[KeptBatch]) -> Resu
 {
     let mut state = module.first_state(alloc)?;
     'batches: for batch in batches {
-        let Ran { state: next, .. } = run_batch(alloc, module, state.as_slice(), batch.lent())?;
+        let BatchRun { state: next, .. } = run_batch(alloc, module, state.as_slice(), batch.lent())?;
         state = next;
     }
     Ok(state)
@@ -108,7 +108,7 @@ fn is_zero(digest: &Digest) -> bool
 // A place that is looked for: behind these first batches, at an anchor and what extends it. The register's value after all but
 // the first `start` batches is known.
 #[derive(Clone, Copy)]
-struct Sought<'a> {
+struct SoughtPlace<'a> {
     named: &'a [KeptBatch],
     start: usize,
     register: &'a Digest,
@@ -117,7 +117,7 @@ struct Sought<'a> {
 }
 
 // Whether the place is at this anchor, behind so many entries.
-fn is_at(is_clean: bool, here: &Digest, start: usize, sought: &Sought<'_>) -> bool
+fn is_at(is_clean: bool, here: &Digest, start: usize, sought: &SoughtPlace<'_>) -> bool
     ensures { result ≡ is_at is_clean here.now.bytes start (kept_batches sought.now.named.now) sought.now.anchor.now.bytes
         sought.now.extension.now.bytes }
 {
@@ -134,7 +134,7 @@ fn is_at(is_clean: bool, here: &Digest, start: usize, sought: &Sought<'_>) -> bo
 }
 
 // The register's value after the named batches but the first ones.
-fn register_behind(barrier: &[u8; 32], start: usize, sought: &Sought<'_>) -> Digest
+fn register_behind(barrier: &[u8; 32], start: usize, sought: &SoughtPlace<'_>) -> Digest
     requires within { start < length sought.now.named.now }
     requires register { sought.now.register.now.bytes ≡ register_of (own_values barrier.now
         (drop sought.now.start (kept_batches sought.now.named.now))) }
@@ -148,7 +148,7 @@ fn register_behind(barrier: &[u8; 32], start: usize, sought: &Sought<'_>) -> Dig
 }
 
 // Whether the place is behind this anchor, in a segment that starts behind so many entries.
-fn is_behind(barrier: &[u8; 32], here: &Digest, start: usize, sought: &Sought<'_>) -> bool
+fn is_behind(barrier: &[u8; 32], here: &Digest, start: usize, sought: &SoughtPlace<'_>) -> bool
     requires register { sought.now.register.now.bytes ≡ register_of (own_values barrier.now
         (drop sought.now.start (kept_batches sought.now.named.now))) }
     ensures { result ≡ is_behind barrier.now here.now.bytes start (kept_batches sought.now.named.now)
@@ -164,7 +164,7 @@ fn is_behind(barrier: &[u8; 32], here: &Digest, start: usize, sought: &Sought<'_
 }
 
 // Whether the place is inside the open segment, whose batches are the last of all.
-fn is_inside(lists: &Lists, barrier: &[u8; 32], last: &Digest, sought: &Sought<'_>) -> bool
+fn is_inside(lists: &HistoryLists, barrier: &[u8; 32], last: &Digest, sought: &SoughtPlace<'_>) -> bool
     requires register { sought.now.register.now.bytes ≡ register_of (own_values barrier.now
         (drop sought.now.start (kept_batches sought.now.named.now))) }
     requires ends { EndsWithCurrent lists.now }
@@ -187,10 +187,10 @@ fn anchor_at(id: u8, barrier: &[u8; 32], closed: &[Vec<KeptEntry>]) -> Digest
 }
 
 // Where the first segment begins.
-fn first_stage(id: u8) -> Stage
+fn first_stage(id: u8) -> SegmentStart
     ensures { (barrier : List ℕ) → result ≡ stage_at id barrier [] }
 {
-    Stage {
+    SegmentStart {
         count: 0,
         anchor: start(Variant::Opt, id),
         is_clean: true,
@@ -198,7 +198,7 @@ fn first_stage(id: u8) -> Stage
 }
 
 // The anchor after all these segments, which was kept or is computed.
-fn last_anchor(id: u8, barrier: &[u8; 32], stages: &[Stage], closed: &[Vec<KeptEntry>]) -> Digest
+fn last_anchor(id: u8, barrier: &[u8; 32], stages: &[SegmentStart], closed: &[Vec<KeptEntry>]) -> Digest
     requires { AllByRecursion (IsStage id barrier.now (kept_segments closed.now)) stages.now }
     ensures { result.bytes ≡ anchor_at id barrier.now (kept_segments closed.now) }
 {
@@ -218,12 +218,12 @@ fn last_anchor(id: u8, barrier: &[u8; 32], stages: &[Stage], closed: &[Vec<KeptE
 // these items begins.
 fn stage_behind(
     barrier: &[u8; 32],
-    stages: &[Stage],
+    stages: &[SegmentStart],
     count: usize,
-    here: &Stage,
+    here: &SegmentStart,
     items: &[KeptEntry],
-) -> Stage
-    ensures { (id : ℕ) → (before later : List (List Entry)) → here.now ≡ stage_at id barrier.now before
+) -> SegmentStart
+    ensures { (id : ℕ) → (before later : List (List RegisterEntry)) → here.now ≡ stage_at id barrier.now before
         → count ≡ length before + 1
         → AllByRecursion (IsStage id barrier.now (before ++ kept_entries items.now ∷ later)) stages.now
         → result ≡ stage_at id barrier.now (before ++ kept_entries items.now ∷ []) }
@@ -233,7 +233,7 @@ fn stage_behind(
     {
         return *stage;
     }
-    Stage {
+    SegmentStart {
         count,
         anchor: anchored(&here.anchor, &register_of(barrier, items)),
         is_clean: both(here.is_clean, !some_value(items)),
@@ -241,7 +241,7 @@ fn stage_behind(
 }
 
 // Whether the place is within a segment of this size, by whether it is the end.
-fn is_within(start: usize, sought: &Sought<'_>, size: usize, ends: bool) -> bool
+fn is_within(start: usize, sought: &SoughtPlace<'_>, size: usize, ends: bool) -> bool
     ensures { result ≡ is_within start (kept_batches sought.now.named.now) size ends }
 {
     if sought.named.len().saturating_sub(start) <= size {
@@ -256,7 +256,7 @@ fn is_here(
     barrier: &[u8; 32],
     here: &Digest,
     start: usize,
-    sought: &Sought<'_>,
+    sought: &SoughtPlace<'_>,
     size: usize,
     ends: bool,
 ) -> bool
@@ -282,11 +282,11 @@ fn both(one: bool, other: bool) -> bool
 
 // Whether it is some place of Opt.
 fn some_place(
-    lists: &Lists,
-    stages: &[Stage],
+    lists: &HistoryLists,
+    stages: &[SegmentStart],
     id: u8,
     barrier: &[u8; 32],
-    sought: &Sought<'_>,
+    sought: &SoughtPlace<'_>,
 ) -> bool
     requires register { sought.now.register.now.bytes ≡ register_of (own_values barrier.now
         (drop sought.now.start (kept_batches sought.now.named.now))) }
@@ -332,7 +332,7 @@ fn some_place(
 // What is known of a position: the batches before it; and in Basic their summary, in Opt the register's value after all but
 // the first `start` of them.
 #[derive(Clone, Copy)]
-struct Known<'a> {
+struct KnownPlace<'a> {
     named: &'a [KeptBatch],
     start: usize,
     digest: &'a Digest,
@@ -340,12 +340,12 @@ struct Known<'a> {
 
 // Whether it is a place of the position.
 fn is_place(
-    lists: &Lists,
-    stages: &[Stage],
+    lists: &HistoryLists,
+    stages: &[SegmentStart],
     variant: Variant,
     id: u8,
     barrier: &[u8; 32],
-    known: &Known<'_>,
+    known: &KnownPlace<'_>,
     place: &Place,
 ) -> bool
     requires digest { known.now.digest.now.bytes ≡ digest_behind variant id barrier.now
@@ -368,7 +368,7 @@ fn is_place(
                 stages,
                 id,
                 barrier,
-                &Sought {
+                &SoughtPlace {
                     named: known.named,
                     start: known.start,
                     register: known.digest,
@@ -380,7 +380,7 @@ fn is_place(
     }
 }
 
-// What a position of which nothing is kept has for `Known`, where all its batches are left out.
+// What a position of which nothing is kept has for `KnownPlace`, where all its batches are left out.
 fn digest_anew(variant: Variant, id: u8, named: &[KeptBatch]) -> Digest
     ensures { (barrier : List ℕ) → result.bytes ≡ digest_behind variant id barrier (length named.now)
         (kept_batches named.now) }
@@ -394,7 +394,7 @@ fn digest_anew(variant: Variant, id: u8, named: &[KeptBatch]) -> Digest
 // Whether what a right offer says names a position, of which nothing was kept. Runs the module only where the place is one.
 fn is_named_anew(
     alloc: Global,
-    lists: &Lists,
+    lists: &HistoryLists,
     ways: &Waymarks,
     variant: Variant,
     module: &AnyModule,
@@ -404,7 +404,7 @@ fn is_named_anew(
     requires short { list_any is_long lists.now.batches ≡ false }
     requires ways { AreWaymarks variant (meaning_of «module».now) barrier.now lists.now ways.now }
     ensures { IfOk result (λ yes. (key : List ℕ) → IsDecided yes
-        (Names (instance_by variant (meaning_of «module».now) key barrier.now) lists.now
+        (NamesPosition (instance_by variant (meaning_of «module».now) key barrier.now) lists.now
         (content_of body.now))) }
 {
     let batches = lists.batches();
@@ -414,7 +414,7 @@ fn is_named_anew(
     };
     let named = &batches[..count];
     let id = module.id();
-    let known = Known {
+    let known = KnownPlace {
         named,
         start: named.len(),
         digest: &digest_anew(variant, id, named),
@@ -458,7 +458,7 @@ fn is_state(
 // Whether what a right offer says names the position of a waymark.
 fn is_named_at(
     alloc: Global,
-    lists: &Lists,
+    lists: &HistoryLists,
     ways: &Waymarks,
     variant: Variant,
     module: &AnyModule,
@@ -471,12 +471,12 @@ fn is_named_at(
     requires mark { IsWaymark variant (meaning_of «module».now) barrier.now lists.now.batches mark.now }
     requires position { body.now.position ≡ mark.now.position }
     ensures { IfOk result (λ yes. (key : List ℕ) → IsDecided yes
-        (Names (instance_by variant (meaning_of «module».now) key barrier.now) lists.now
+        (NamesPosition (instance_by variant (meaning_of «module».now) key barrier.now) lists.now
         (content_of body.now))) }
 {
     let batches = lists.batches();
     let named = &batches[..mark.count];
-    let known = Known {
+    let known = KnownPlace {
         named,
         start: mark.start,
         digest: &mark.digest,
@@ -499,7 +499,7 @@ fn is_named_at(
 /// else by a walk over the history.
 pub fn is_named(
     alloc: Global,
-    lists: &Lists,
+    lists: &HistoryLists,
     ways: &Waymarks,
     variant: Variant,
     module: &AnyModule,
@@ -509,7 +509,7 @@ pub fn is_named(
     requires short { list_any is_long lists.now.batches ≡ false }
     requires ways { AreWaymarks variant (meaning_of «module».now) barrier.now lists.now ways.now }
     ensures { IfOk result (λ yes. (key : List ℕ) → IsDecided yes
-        (Names (instance_by variant (meaning_of «module».now) key barrier.now) lists.now
+        (NamesPosition (instance_by variant (meaning_of «module».now) key barrier.now) lists.now
         (content_of body.now))) }
 {
     let marks = ways.marks.as_slice();

@@ -7,8 +7,8 @@ ghost use Rattle.mm_model.specs.Instance.{Instance};
 ghost use Rattle.mm_history.specs.Marks.{marks_of};
 ghost use Rattle.mm_history.specs.Waymarks.{AreWaymarks, EndsWithCurrent, IsBetween, is_inside_batch, is_behind_all};
 
-use crate::lists::Lists;
-use crate::marks::Marks;
+use crate::lists::HistoryLists;
+use crate::marks::HistoryMarks;
 use mm_base::{Bytes, LONGEST_LINE, Memory};
 use mm_digest::{Digest, Variant};
 use std::alloc::Global;
@@ -33,7 +33,7 @@ pub struct Waymark {
 
 /// What is kept of the place where a segment begins.
 #[derive(Clone, Copy)]
-pub struct Stage {
+pub struct SegmentStart {
     /// How many segments are before it.
     pub(crate) count: usize,
     pub(crate) anchor: Digest,
@@ -45,7 +45,7 @@ pub struct Stage {
 #[derive(Drop)]
 pub struct Waymarks {
     pub(crate) marks: Vec<Waymark>,
-    pub(crate) stages: Vec<Stage>,
+    pub(crate) stages: Vec<SegmentStart>,
 }
 
 // The first bytes.
@@ -64,8 +64,8 @@ impl Waymarks {
     /// What is kept of a history's first position.
     pub fn first(
         alloc: Global,
-        lists: &Lists,
-        marks: &Marks,
+        lists: &HistoryLists,
+        marks: &HistoryMarks,
         variant: Variant,
         state: &[u8],
     ) -> Result<Waymarks, Memory>
@@ -86,8 +86,8 @@ impl Waymarks {
     pub fn keep(
         &mut self,
         alloc: Global,
-        lists: &Lists,
-        marks: &Marks,
+        lists: &HistoryLists,
+        marks: &HistoryMarks,
         variant: Variant,
         state: &[u8],
     ) -> Result<(), Memory>
@@ -114,12 +114,12 @@ impl Waymarks {
     }
 
     /// Keeps the place where the next segment begins.
-    pub fn keep_stage(&mut self, lists: &Lists, marks: &Marks) -> Result<(), Memory>
+    pub fn keep_stage(&mut self, lists: &HistoryLists, marks: &HistoryMarks) -> Result<(), Memory>
         ensures { (i : Instance) → marks.now ≡ marks_of i lists.now
             → AreWaymarks i.variant i.meaning i.barrier lists.now self.old
             → AreWaymarks i.variant i.meaning i.barrier lists.now self.new }
     {
-        self.stages.push(Stage {
+        self.stages.push(SegmentStart {
             count: lists.closed().len(),
             anchor: marks.cell,
             is_clean: !marks.is_marred,

@@ -1,10 +1,10 @@
 -- What crates above may cite of these proofs: the other files can be read and changed by this crate alone.
-pub use Rattle.mm_host.specs.Refusing.{CallsInTurn}
+pub use Rattle.mm_host.specs.Refusals.{CallsInTurn}
 pub use Rattle.mm_host.proofs.ByDigests.{chain_ends, lost_shown, refused_as_offer, shown_lost, shows_loss}
 pub use Rattle.mm_host.proofs.CallsMade.{among_input, chain_of, last_offer, served_calls, SomeChain, some_chain}
 pub use Rattle.mm_host.proofs.Continues.{continues_from, fits_genuine}
 pub use Rattle.mm_host.proofs.InTurn.{calls_reach, May, pending_for, StandsIn, stepped_by}
-pub use Rattle.mm_host.proofs.Leading.{basic_laws, Laws, Makes, Reaches, reach_same, reach_then, RunsOver-append, same_self, Shows, ShowsAt}
+pub use Rattle.mm_host.proofs.Leading.{basic_laws, Laws, Makes, Reaches, reach_same, reach_then, CallsRunOver-append, same_self, Shows, ShowsAt}
 pub use Rattle.mm_host.proofs.Leading.{Stays, steps_again, steps_fresh, unspoiled}
 pub use Rattle.mm_host.proofs.Lines.{by_told, tells_call, TellsCall}
 pub use Rattle.mm_host.proofs.NextRefused.{IsFaulty, next_in_hand, next_refused, RefusesOrFails}

@@ -1,7 +1,7 @@
 -- How a session ends by digests, over any store; and what is refused there.
 use Rattle.mm_host.proofs.Below.{◌≡◌, ◌∙◌, ℕ, Bool, true, false, List, [], ◌∷◌, Result, Ok, Err, refl, sym, ap, inl, inr, ◌⊎◌, arith}
 use Rattle.mm_host.proofs.Below.{None, Variant, Standing, One, Meaning, Instance, Digests, Answer, Refusal, SessionFault, Host, IsCall}
-use Rattle.mm_host.proofs.Below.{offered_after, Served, StandsAt, whole_in, found_at, by_digests, fault_of}
+use Rattle.mm_host.proofs.Below.{offer_after, ServedCall, StandsAt, batch_result_of, finding_at, digest_level, fault_of}
 use Rattle.mm_host.proofs.Below.{parts_of, Batch}
 use Rattle.std.specs.Prelude.{◌&&◌, ◌+◌, if◌then◌else◌, nat_le}
 use Rattle.std.specs.Result.{result_map_both}
@@ -14,17 +14,17 @@ use Rattle.mm_seal.specs.declared.snapshot.Place.{Place}
 use Rattle.mm_seal.specs.declared.snapshot.Place.TheVariants.{Basic as InBasic, Opt as InOpt}
 use Rattle.mm_seal.specs.declared.snapshot.PartsFault.{PartsFault}
 use Rattle.mm_seal.specs.declared.snapshot.PartsFault.TheVariants.{Form, Kind}
-use Rattle.mm_model.specs.Judge.{verdict_by, verdict_by_digests}
+use Rattle.mm_model.specs.Verdicts.{verdict_by, verdict_by_digests}
 use Rattle.mm_model.specs.declared.refusal.Refusal.TheVariants as refusal
-use Rattle.mm_call.specs.Found.{Found, found_by_verdict}
-use Rattle.mm_call.specs.Order.{examined}
-use Rattle.mm_call.specs.OrderWords.{weighed}
+use Rattle.mm_call.specs.CallFinding.{CallFinding, finding_by_verdict}
+use Rattle.mm_call.specs.Order.{check_of_offer}
+use Rattle.mm_call.specs.OrderWords.{check_by_tests}
 use Rattle.mm_call.specs.Standing.{instance_by}
 use Rattle.mm_model.specs.declared.verdict.Verdict.{Verdict}
 use Rattle.mm_model.specs.declared.verdict.Verdict.TheVariants.{Lost}
 use Rattle.mm_recovery.proofs.Above.{judged_refused}
 use Rattle.mm_recovery.specs.declared.fault.HostFault.TheVariants as host
-use Rattle.mm_host.specs.Refusing.{CallsInTurn, EndsAt, IsOfOffer}
+use Rattle.mm_host.specs.Refusals.{CallsInTurn, EndsAt, IsOfOffer}
 use Rattle.mm_host.proofs.CallsMade.{Chain, Ends, rests, stops}
 use Rattle.mm_host.proofs.Lines.{asks, fails, never_refused, told_refused}
 use Rattle.mm_host.proofs.RunningOnce.{by_fault, call_refused}
@@ -38,7 +38,7 @@ module _ (variant : Variant) (meaning : Meaning) (key barrier : List ℕ) where
     pub digests : Digests
     pub stands : StandsAt i new digests
     pub judged : (why : Refusal) → call ≡ Err why → fault_of why ≡ None
-        → (why ≡ refusal.Memory) ⊎ (found_at i (by_digests i) digests (One request) offer ≡ Err why)
+        → (why ≡ refusal.Memory) ⊎ (finding_at i (digest_level i) digests (One request) offer ≡ Err why)
 
   pub call_leaves : (old new : Standing) (offer request : List ℕ) (call : Result Answer Refusal)
       → IsCall variant meaning old new offer request call → (d : Digests) → StandsAt i old d → CallLeaves new offer request call
@@ -48,7 +48,7 @@ module _ (variant : Variant) (meaning : Meaning) (key barrier : List ℕ) where
         digests = _;
         stands = g.stands;
         judged = λ why e none.
-            judged_refused (by_digests i) i d c.goes.course (One request) offer why (sym g.gives ∙ ap whole_in e) none;
+            judged_refused (digest_level i) i d c.goes.course (One request) offer why (sym g.gives ∙ ap batch_result_of e) none;
       }
 
   -- the digests after calls that were answered
@@ -56,7 +56,7 @@ module _ (variant : Variant) (meaning : Meaning) (key barrier : List ℕ) where
     pub digests : Digests
     pub stands : StandsAt i standing digests
 
-  pub calls_leave : (offer : List ℕ) (before at : Standing) (told : List Served) → CallsInTurn variant meaning offer before told at
+  pub calls_leave : (offer : List ℕ) (before at : Standing) (told : List ServedCall) → CallsInTurn variant meaning offer before told at
       → (d : Digests) → StandsAt i before d → StandsSomewhere at
   calls_leave offer before at [] same d s = rw same (record { digests = d; stands = s })
   calls_leave offer before at (c ∷ told) h d s =
@@ -91,19 +91,19 @@ module _ (variant : Variant) (meaning : Meaning) (key barrier : List ℕ) where
             };
       }
 
-  pub chain_ends : (offer : List ℕ) (before after : Standing) (told : List Served) (hand : List ℕ → Type 0)
+  pub chain_ends : (offer : List ℕ) (before after : Standing) (told : List ServedCall) (hand : List ℕ → Type 0)
       (result : Result Unit SessionFault) → Chain variant meaning offer before after told hand result → (d : Digests)
-      → StandsAt i before d → EndsAt i after (offered_after offer told) hand result
+      → StandsAt i before d → EndsAt i after (offer_after offer told) hand result
   chain_ends offer before after told hand result c d s =
       let there = calls_leave offer before c.at told c.calls d s in
-      ends_leave c.at after (offered_after offer told) hand result there.digests there.stands c.ends
+      ends_leave c.at after (offer_after offer told) hand result there.digests there.stands c.ends
 
 -- What an offer may be refused for, and that this is lost power exactly where the digests show that.
 
-weighed_as : (s t fits : Bool) (v : Verdict) (why : Refusal) → weighed s t v fits ≡ Err why → IsOfOffer why
+weighed_as : (s t fits : Bool) (v : Verdict) (why : Refusal) → check_by_tests s t v fits ≡ Err why → IsOfOffer why
 weighed_as s t fits v why e = grind (arith, e)
 
-weighed_lost : (s t fits : Bool) (v : Verdict) → weighed s t v fits ≡ Err refusal.Lost → v ≡ Lost
+weighed_lost : (s t fits : Bool) (v : Verdict) → check_by_tests s t v fits ≡ Err refusal.Lost → v ≡ Lost
 weighed_lost s t fits v e = grind (arith, e)
 
 module _ (meaning : Meaning) (key : List ℕ) (snapshot : Snapshot) (b : Batch) (v : Verdict) where
@@ -116,13 +116,13 @@ module _ (meaning : Meaning) (key : List ℕ) (snapshot : Snapshot) (b : Batch) 
   abbrev fitting : Bool
   fitting = nat_le (snapshot.content.position + size_of b) last_position
 
-  examined_as : (why : Refusal) → examined meaning key snapshot b v ≡ Err why → IsOfOffer why
+  examined_as : (why : Refusal) → check_of_offer meaning key snapshot b v ≡ Err why → IsOfOffer why
   examined_as why e = weighed_as spelled tagged fitting v why e
 
-  examined_lost : examined meaning key snapshot b v ≡ Err refusal.Lost → v ≡ Lost
+  examined_lost : check_of_offer meaning key snapshot b v ≡ Err refusal.Lost → v ≡ Lost
   examined_lost e = weighed_lost spelled tagged fitting v e
 
-mapped_err : (f : Bool → Found) (r : Result Bool Refusal) (why : Refusal) → result_map_both f (λ w. w) r ≡ Err why → r ≡ Err why
+mapped_err : (f : Bool → CallFinding) (r : Result Bool Refusal) (why : Refusal) → result_map_both f (λ w. w) r ≡ Err why → r ≡ Err why
 mapped_err f r why e = grind (arith, e)
 
 verdict_lost : (lost is_fresh is_repeat : Bool) → verdict_by lost is_fresh is_repeat ≡ Lost → lost ≡ true
@@ -136,36 +136,36 @@ module _ (i : Instance) (d : Digests) (b : Batch) where
   place_lost (InBasic s) e = let clash : false ≡ true = verdict_lost false _ _ e in absurd (cc)
   place_lost (InOpt a x) e = verdict_lost shows_loss _ _ e
 
-  parts_as : (parts : Result Snapshot PartsFault) (why : Refusal) → found_by_verdict i (by_digests i) d b parts ≡ Err why → IsOfOffer why
+  parts_as : (parts : Result Snapshot PartsFault) (why : Refusal) → finding_by_verdict i (digest_level i) d b parts ≡ Err why → IsOfOffer why
   parts_as (Ok snapshot) why e =
-      examined_as i.meaning i.key snapshot b ((by_digests i).verdict d snapshot.content b) why (mapped_err _ _ why e)
+      examined_as i.meaning i.key snapshot b ((digest_level i).verdict d snapshot.content b) why (mapped_err _ _ why e)
   parts_as (Err Form) why e = let is : why ≡ refusal.Form = cc in rw is tt
   parts_as (Err Kind) why e = let is : why ≡ refusal.Kind = cc in rw is tt
 
-  parts_lost : (parts : Result Snapshot PartsFault) → found_by_verdict i (by_digests i) d b parts ≡ Err refusal.Lost → shows_loss ≡ true
+  parts_lost : (parts : Result Snapshot PartsFault) → finding_by_verdict i (digest_level i) d b parts ≡ Err refusal.Lost → shows_loss ≡ true
   parts_lost (Ok snapshot) e =
       place_lost snapshot.content.place
-      (examined_lost i.meaning i.key snapshot b ((by_digests i).verdict d snapshot.content b) (mapped_err _ _ refusal.Lost e))
+      (examined_lost i.meaning i.key snapshot b ((digest_level i).verdict d snapshot.content b) (mapped_err _ _ refusal.Lost e))
   parts_lost (Err Form) e = absurd (cc)
   parts_lost (Err Kind) e = absurd (cc)
 
   as_by : (offer : List ℕ) (lost : Bool) (why : Refusal)
-      → (if lost then Err refusal.Lost else found_by_verdict i (by_digests i) d b (parts_of i.variant i.meaning.id offer)) ≡ Err why
+      → (if lost then Err refusal.Lost else finding_by_verdict i (digest_level i) d b (parts_of i.variant i.meaning.id offer)) ≡ Err why
       → IsOfOffer why
   as_by offer true why e = let is : why ≡ refusal.Lost = cc in rw is tt
   as_by offer false why e = parts_as (parts_of i.variant i.meaning.id offer) why e
 
-  pub refused_as_offer : (offer : List ℕ) (why : Refusal) → found_at i (by_digests i) d b offer ≡ Err why → IsOfOffer why
+  pub refused_as_offer : (offer : List ℕ) (why : Refusal) → finding_at i (digest_level i) d b offer ≡ Err why → IsOfOffer why
   refused_as_offer offer why e = as_by offer shows_loss why e
 
   lost_by : (offer : List ℕ) (lost : Bool) → shows_loss ≡ lost
-      → (if lost then Err refusal.Lost else found_by_verdict i (by_digests i) d b (parts_of i.variant i.meaning.id offer))
+      → (if lost then Err refusal.Lost else finding_by_verdict i (digest_level i) d b (parts_of i.variant i.meaning.id offer))
       ≡ Err refusal.Lost → shows_loss ≡ true
   lost_by offer true is e = is
   lost_by offer false is e = parts_lost (parts_of i.variant i.meaning.id offer) e
 
-  pub lost_shown : (offer : List ℕ) → found_at i (by_digests i) d b offer ≡ Err refusal.Lost → shows_loss ≡ true
+  pub lost_shown : (offer : List ℕ) → finding_at i (digest_level i) d b offer ≡ Err refusal.Lost → shows_loss ≡ true
   lost_shown offer e = lost_by offer shows_loss refl e
 
-  pub shown_lost : (offer : List ℕ) → shows_loss ≡ true → found_at i (by_digests i) d b offer ≡ Err refusal.Lost
+  pub shown_lost : (offer : List ℕ) → shows_loss ≡ true → finding_at i (digest_level i) d b offer ≡ Err refusal.Lost
   shown_lost offer e = rw e refl

@@ -2,16 +2,16 @@
 -- and the lines of its input.
 use Rattle.mm_host.proofs.Below.{◌≡◌, ◌∙◌, ℕ, List, [], ◌∷◌, ◌++◌, Option, None, Some, Result, Ok, Err, refl, sym, ap, inl, inr}
 use Rattle.mm_host.proofs.Below.{append_assoc, lines_of, Variant, Standing, Meaning, Refusal, StoreFault, ReadsSlot, StoreStanding}
-use Rattle.mm_host.proofs.Below.{Pending, Slots, slot_read, HostFault, SessionFault, Host, Resumed, Start, Answered, first_offer}
-use Rattle.mm_host.proofs.Below.{offer_slot, offered_after, IsCall, IsInHand, told_first, told_in, store_fault_as, AfterFinding}
-use Rattle.mm_host.proofs.Below.{AfterOffer, started, SendsReply, reply_text, snapshot_at, Place, Served, Serves, AfterResume}
-use Rattle.mm_host.proofs.Below.{BeginsWith, Sessions, StopsAtOnce, IsWaiting, Saw, one_waiting, saw_two, AreAmong, requests_with}
-use Rattle.mm_host.proofs.Below.{lines_served, Answer}
+use Rattle.mm_host.proofs.Below.{PendingRecord, Slots, slot_front, HostFault, SessionFault, Host, Resumed, Start, Answered, first_offer}
+use Rattle.mm_host.proofs.Below.{offer_slot, offer_after, IsCall, IsInHand, first_served_call, served_calls_in, store_fault_as, GoesAfterFinding}
+use Rattle.mm_host.proofs.Below.{GoesAfterOffer, result_of_start, SendsReply, reply_text, snapshot_at, SessionPlace, ServedCall, ServesCalls, GoesAfterResume}
+use Rattle.mm_host.proofs.Below.{BeginsWith, IsSession, StopsAtOnce, IsWaiting, Saw, one_waiting, saw_two, AreAmong, requests_with}
+use Rattle.mm_host.proofs.Below.{served_lines, Answer}
 use Rattle.mm_recovery.specs.declared.fault.HostFault.TheVariants as host
-use Rattle.mm_host.specs.Sessions.{GoesOn, ServesLines}
+use Rattle.mm_host.specs.Sessions.{SessionGoesOn, ServesAllLines}
 use Rattle.mm_host.proofs.Lines.{answered_call, asks, by_end, by_told, IsRead, line_tries, lines_in, never_refused, TellsCall}
 use Rattle.mm_host.proofs.Lines.{tried_answer, next_line, read_of, tells_call, Tries}
-use Rattle.mm_host.specs.Refusing.{CallsInTurn}
+use Rattle.mm_host.specs.Refusals.{CallsInTurn}
 
 -- How a session ends behind its calls: it rests, and isn't refused; or a request in hand is tried, and what comes ends it.
 pub data Ends (variant : Variant) (meaning : Meaning) (at final : Standing) (offer : List ℕ) (hand : List ℕ → Type 0)
@@ -22,50 +22,50 @@ pub data Ends (variant : Variant) (meaning : Meaning) (at final : Standing) (off
       → Ends variant meaning at final offer hand result
 
 -- a session as its calls
-pub record Chain (variant : Variant) (meaning : Meaning) (offer : List ℕ) (before final : Standing) (told : List Served)
+pub record Chain (variant : Variant) (meaning : Meaning) (offer : List ℕ) (before final : Standing) (told : List ServedCall)
     (hand : List ℕ → Type 0) (result : Result Unit SessionFault) : Type 0 where
   pub at : Standing
   pub calls : CallsInTurn variant meaning offer before told at
-  pub ends : Ends variant meaning at final (offered_after offer told) hand result
+  pub ends : Ends variant meaning at final (offer_after offer told) hand result
 
 -- What a start came to: nothing was asked, as memory was wanting or the store failed; nothing waits, and it begins with these bytes;
 -- or a call that offers them was made for what waits.
-pub data Begun (variant : Variant) (meaning : Meaning) (before after : Standing) (offer : List ℕ) (waiting : Option Pending)
+pub data Begun (variant : Variant) (meaning : Meaning) (before after : Standing) (offer : List ℕ) (waiting : Option PendingRecord)
     (came : Result Resumed HostFault) : Type 0 where
   failed : after ≡ before → (why : StoreFault) → came ≡ Err (store_fault_as why) → Begun variant meaning before after offer waiting came
   starts : after ≡ before → waiting ≡ None → came ≡ Ok (Start offer) → Begun variant meaning before after offer waiting came
-  repeats : (p : Pending) → waiting ≡ Some p → (call : Result Answer Refusal) → IsCall variant meaning before after offer p.request call
+  repeats : (p : PendingRecord) → waiting ≡ Some p → (call : Result Answer Refusal) → IsCall variant meaning before after offer p.request call
       → TellsCall call came → Begun variant meaning before after offer waiting came
 
 module _ (variant : Variant) (meaning : Meaning) where
-  pub served_calls : (from to : Place) (calls : List Served) → Serves variant meaning from calls to
+  pub served_calls : (from to : SessionPlace) (calls : List ServedCall) → ServesCalls variant meaning from calls to
       → CallsInTurn variant meaning (snapshot_at from.last) from.platform calls to.platform
-  served_calls from to [] s = ap (λ (p : Place). p.platform) s
+  served_calls from to [] s = ap (λ (p : SessionPlace). p.platform) s
   served_calls from to (c ∷ calls) s = (
     s.platform,
     answered_call c.answer (line_tries s.asks),
     served_calls (record { platform = s.platform; store = s.store; last = Answered c.answer }) to calls s.rest,
   )
 
-  pub last_offer : (from to : Place) (calls : List Served) → Serves variant meaning from calls to
-      → offered_after (snapshot_at from.last) calls ≡ snapshot_at to.last
-  last_offer from to [] s = ap (λ (p : Place). snapshot_at p.last) (sym s)
+  pub last_offer : (from to : SessionPlace) (calls : List ServedCall) → ServesCalls variant meaning from calls to
+      → offer_after (snapshot_at from.last) calls ≡ snapshot_at to.last
+  last_offer from to [] s = ap (λ (p : SessionPlace). snapshot_at p.last) (sym s)
   last_offer from to (c ∷ calls) s =
       last_offer (record { platform = s.platform; store = s.store; last = Answered c.answer }) to calls s.rest
 
-  pub calls_split : (offer : List ℕ) (before after : Standing) (front behind : List Served)
+  pub calls_split : (offer : List ℕ) (before after : Standing) (front behind : List ServedCall)
       → CallsInTurn variant meaning offer before (front ++ behind) after
       → (middle : Standing) × CallsInTurn variant meaning offer before front middle
-      × CallsInTurn variant meaning (offered_after offer front) middle behind after
+      × CallsInTurn variant meaning (offer_after offer front) middle behind after
   calls_split offer before after [] behind h = (before, refl, h)
   calls_split offer before after (c ∷ front) behind h =
       let r = calls_split c.answer.snapshot h.0 after front behind h.2 in
       (r.0, (h.0, h.1, r.1), r.2)
 
 -- the lines that were served, and how they end
-module _ {variant : Variant} {meaning : Meaning} {from : Place} {after : Standing} {new : StoreStanding} {left : Option (List ℕ)}
+module _ {variant : Variant} {meaning : Meaning} {from : SessionPlace} {after : Standing} {new : StoreStanding} {left : Option (List ℕ)}
     {taken sent : List ℕ} {result : Result Unit SessionFault}
-    (l : ServesLines variant meaning 1 from after new left taken sent result) where
+    (l : ServesAllLines variant meaning 1 from after new left taken sent result) where
   abbrev pub InHand : List ℕ → Type 0
   InHand request = (held : List ℕ) × BeginsWith l.more request held
 
@@ -83,64 +83,64 @@ module _ (variant : Variant) (meaning : Meaning) (before after : Standing) where
   -- how a start came to it, over a store that tells its slots
   module _ (slots : Slots) where
     begun_start : (zero : Result (List ℕ) StoreFault) (came : Result Resumed HostFault) (old new : StoreStanding) → after ≡ before
-        → old.slots ≡ Some slots → ReadsSlot 0 old new zero → came ≡ started zero
+        → old.slots ≡ Some slots → ReadsSlot 0 old new zero → came ≡ result_of_start zero
         → Begun variant meaning before after (first_offer slots None) None came
     begun_start (Ok bytes) came old new same told r e = starts same refl (e ∙ ap (λ (b : List ℕ). Ok (Start b)) (r.gives slots told))
     begun_start (Err why) came old new same told r e = failed same why e
 
-    begun_repeat : (offer : Result (List ℕ) StoreFault) (came : Result Resumed HostFault) (old middle new : StoreStanding) (p : Pending)
+    begun_repeat : (offer : Result (List ℕ) StoreFault) (came : Result Resumed HostFault) (old middle new : StoreStanding) (p : PendingRecord)
         → old.slots ≡ Some slots → ReadsSlot (offer_slot p) old middle offer
-        → AfterOffer variant meaning before after offer middle new p came
+        → GoesAfterOffer variant meaning before after offer middle new p came
         → Begun variant meaning before after (first_offer slots (Some p)) (Some p) came
     begun_repeat (Err why) came old middle new p told r g = failed g.0 why g.2
     begun_repeat (Ok bytes) came old middle new p told r g =
         repeats p refl g.asked (rw (r.gives slots told) at g.asks) (tells_call g.asked middle new came g.goes)
 
-    begun_found : (found : Result (Option Pending) StoreFault) (came : Result Resumed HostFault) (waiting : Option Pending)
-        (first middle new : StoreStanding) → IsWaiting (slot_read slots 2) (slot_read slots 3) waiting → Saw slots first middle found
-        → AfterFinding variant meaning before after found middle new came
+    begun_found : (found : Result (Option PendingRecord) StoreFault) (came : Result Resumed HostFault) (waiting : Option PendingRecord)
+        (first middle new : StoreStanding) → IsWaiting (slot_front slots 2) (slot_front slots 3) waiting → Saw slots first middle found
+        → GoesAfterFinding variant meaning before after found middle new came
         → Begun variant meaning before after (first_offer slots waiting) waiting came
     begun_found (Err why) came waiting first middle new w s g = failed g.0 why g.2
     begun_found (Ok found) came waiting first middle new w s g =
-        rw (one_waiting (slot_read slots 2) (slot_read slots 3) waiting found w (s.waiting found refl)) (by_found found g)
+        rw (one_waiting (slot_front slots 2) (slot_front slots 3) waiting found w (s.waiting found refl)) (by_found found g)
       where
-        by_found : (found : Option Pending) → AfterFinding variant meaning before after (Ok found) middle new came
+        by_found : (found : Option PendingRecord) → GoesAfterFinding variant meaning before after (Ok found) middle new came
             → Begun variant meaning before after (first_offer slots found) found came
         by_found None g = begun_start g.1.zero came middle new g.0 s.told g.1.reads g.1.gives
         by_found (Some p) g = begun_repeat g.offer came middle g.middle new p s.told g.reads g.goes
 
   -- and over any store: with some bytes
   abbrev pub BegunSomehow : Result Resumed HostFault → Type 0
-  BegunSomehow came = (offer : List ℕ) × (waiting : Option Pending) × Begun variant meaning before after offer waiting came
+  BegunSomehow came = (offer : List ℕ) × (waiting : Option PendingRecord) × Begun variant meaning before after offer waiting came
 
-  begun_by_zero : (zero : Result (List ℕ) StoreFault) (came : Result Resumed HostFault) → after ≡ before → came ≡ started zero
+  begun_by_zero : (zero : Result (List ℕ) StoreFault) (came : Result Resumed HostFault) → after ≡ before → came ≡ result_of_start zero
       → BegunSomehow came
   begun_by_zero (Ok bytes) came same e = (bytes, None, starts same refl e)
   begun_by_zero (Err why) came same e = ([], None, failed same why e)
 
-  begun_by_offer : (offer : Result (List ℕ) StoreFault) (came : Result Resumed HostFault) (middle new : StoreStanding) (p : Pending)
-      → AfterOffer variant meaning before after offer middle new p came → BegunSomehow came
+  begun_by_offer : (offer : Result (List ℕ) StoreFault) (came : Result Resumed HostFault) (middle new : StoreStanding) (p : PendingRecord)
+      → GoesAfterOffer variant meaning before after offer middle new p came → BegunSomehow came
   begun_by_offer (Err why) came middle new p g = ([], None, failed g.0 why g.2)
   begun_by_offer (Ok bytes) came middle new p g =
       (bytes, Some p, repeats p refl g.asked g.asks (tells_call g.asked middle new came g.goes))
 
-  begun_somehow : (found : Result (Option Pending) StoreFault) (came : Result Resumed HostFault) (middle new : StoreStanding)
-      → AfterFinding variant meaning before after found middle new came → BegunSomehow came
+  begun_somehow : (found : Result (Option PendingRecord) StoreFault) (came : Result Resumed HostFault) (middle new : StoreStanding)
+      → GoesAfterFinding variant meaning before after found middle new came → BegunSomehow came
   begun_somehow (Err why) came middle new g = ([], None, failed g.0 why g.2)
   begun_somehow (Ok None) came middle new g = begun_by_zero g.1.zero came g.0 g.1.gives
   begun_somehow (Ok (Some p)) came middle new g = begun_by_offer g.offer came g.middle new p g.goes
 
 module _ (variant : Variant) (meaning : Meaning) (before after : Standing) (offer : List ℕ) where
   -- what waited was answered, or nothing did
-  pub record FirstCalls (waiting : Option Pending) (first : Resumed) : Type 0 where
-    pub calls : (lines : List Served) (at : Standing) → CallsInTurn variant meaning (snapshot_at first) after lines at
-        → CallsInTurn variant meaning offer before (told_first waiting first ++ lines) at
-    pub offers : (lines : List Served)
-        → offered_after offer (told_first waiting first ++ lines) ≡ offered_after (snapshot_at first) lines
-    pub told : (lines : List Served) (rest : List (List ℕ))
-        → lines_served (told_first waiting first ++ lines) ++ rest ≡ requests_with waiting (lines_served lines ++ rest)
+  pub record FirstCalls (waiting : Option PendingRecord) (first : Resumed) : Type 0 where
+    pub calls : (lines : List ServedCall) (at : Standing) → CallsInTurn variant meaning (snapshot_at first) after lines at
+        → CallsInTurn variant meaning offer before (first_served_call waiting first ++ lines) at
+    pub offers : (lines : List ServedCall)
+        → offer_after offer (first_served_call waiting first ++ lines) ≡ offer_after (snapshot_at first) lines
+    pub told : (lines : List ServedCall) (rest : List (List ℕ))
+        → served_lines (first_served_call waiting first ++ lines) ++ rest ≡ requests_with waiting (served_lines lines ++ rest)
 
-  first_calls : (waiting : Option Pending) (first : Resumed) → Begun variant meaning before after offer waiting (Ok first)
+  first_calls : (waiting : Option PendingRecord) (first : Resumed) → Begun variant meaning before after offer waiting (Ok first)
       → FirstCalls waiting first
   first_calls waiting first (failed same why e) = let clash : Ok first ≡ Err (store_fault_as why) = e in absurd (cc)
   first_calls waiting first (starts same none e) =
@@ -151,10 +151,10 @@ module _ (variant : Variant) (meaning : Meaning) (before after : Standing) (offe
       rw (some, a.1) (record { calls = λ lines at h. (after, a.2, h); offers = λ lines. refl; told = λ lines rest. refl })
 
   -- it stops at once
-  at_once : (waiting : Option Pending) (begun : Result Resumed HostFault) (taken sent : List ℕ) (result : Result Unit SessionFault)
+  at_once : (waiting : Option PendingRecord) (begun : Result Resumed HostFault) (taken sent : List ℕ) (result : Result Unit SessionFault)
       → StopsAtOnce begun taken sent result → Begun variant meaning before after offer waiting begun
       → Ends variant meaning before after offer
-      (λ (request : List ℕ). (p : Pending) × (waiting ≡ Some p) × (p.request ≡ request)) result
+      (λ (request : List ℕ). (p : PendingRecord) × (waiting ≡ Some p) × (p.request ≡ request)) result
   at_once waiting begun taken sent result s (failed same why e) =
       rests same (λ (refusal : Refusal) (r : result ≡ Err (Host (host.Refused refusal))).
       let is : Err s.fault ≡ Err (Host (host.Refused refusal)) = sym s.stops ∙ r in
@@ -167,16 +167,16 @@ module _ (variant : Variant) (meaning : Meaning) (before after : Standing) (offe
 
 module _ {variant : Variant} {meaning : Meaning} {before after : Standing} {old new : StoreStanding}
     {left left' received received' : Option (List ℕ)} {result : Result Unit SessionFault}
-    (s : Sessions variant meaning before after old new left left' received received' result) where
+    (s : IsSession variant meaning before after old new left left' received received' result) where
   -- a session that began so
-  module _ (offer : List ℕ) (waiting : Option Pending) (begun_by : Begun variant meaning before s.platform offer waiting s.begun) where
+  module _ (offer : List ℕ) (waiting : Option PendingRecord) (begun_by : Begun variant meaning before s.platform offer waiting s.begun) where
     pub first_by : (first : Resumed) → s.begun ≡ Ok first → FirstCalls variant meaning before s.platform offer waiting first
     first_by first e =
         first_calls variant meaning before s.platform offer waiting first
         (rw e at begun_by)
 
-    chain_by : (goes : AfterResume variant meaning s.begun s.platform after s.store new left' s.taken s.sent result)
-        → Chain variant meaning offer before after (told_in waiting goes) (IsInHand waiting goes) result
+    chain_by : (goes : GoesAfterResume variant meaning s.begun s.platform after s.store new left' s.taken s.sent result)
+        → Chain variant meaning offer before after (served_calls_in waiting goes) (IsInHand waiting goes) result
     chain_by (inl e) = record {
       at = before;
       calls = refl;
@@ -193,54 +193,54 @@ module _ {variant : Variant} {meaning : Meaning} {before after : Standing} {old 
         }
 
     among_by : (input : List ℕ) → IsRead input s.taken left'
-        → (goes : AfterResume variant meaning s.begun s.platform after s.store new left' s.taken s.sent result)
-        → AreAmong (told_in waiting goes) (IsInHand waiting goes) (requests_with waiting (lines_of input))
+        → (goes : GoesAfterResume variant meaning s.begun s.platform after s.store new left' s.taken s.sent result)
+        → AreAmong (served_calls_in waiting goes) (IsInHand waiting goes) (requests_with waiting (lines_of input))
     among_by input read (inl e) = record {
       served = (requests_with waiting (lines_of input), refl);
       in_hand = λ request h. rw h.1 (lines_of input, ap (λ (r : List ℕ). r ∷ lines_of input) (sym h.2));
     }
     among_by input read (inr g) =
         let l = g.lines in
-        let told : List Served = told_first waiting g.first in
-        let all_lines : lines_served (told ++ l.calls) ++ lines_of (l.more ++ read.rest) ≡ requests_with waiting (lines_of input) =
+        let told : List ServedCall = first_served_call waiting g.first in
+        let all_lines : served_lines (told ++ l.calls) ++ lines_of (l.more ++ read.rest) ≡ requests_with waiting (lines_of input) =
         (first_by g.first g.begins).told l.calls (lines_of (l.more ++ read.rest)) ∙ ap (requests_with waiting) (sym (lines_in l read)) in
         record {
           served = (lines_of (l.more ++ read.rest), all_lines);
           in_hand = λ request h. (
             lines_of (h.0 ++ read.rest),
-            append_assoc (lines_served (told ++ l.calls)) (request ∷ []) (lines_of (h.0 ++ read.rest))
-                ∙ ap (λ (x : List (List ℕ)). lines_served (told ++ l.calls) ++ x) (sym (next_line l.more read.rest request h.0 h.1))
+            append_assoc (served_lines (told ++ l.calls)) (request ∷ []) (lines_of (h.0 ++ read.rest))
+                ∙ ap (λ (x : List (List ℕ)). served_lines (told ++ l.calls) ++ x) (sym (next_line l.more read.rest request h.0 h.1))
                 ∙ all_lines,
           );
         }
 
   -- over a store that tells its slots
-  module _ (slots : Slots) (waiting : Option Pending) (slots_told : old.slots ≡ Some slots)
-      (w : IsWaiting (slot_read slots 2) (slot_read slots 3) waiting) where
+  module _ (slots : Slots) (waiting : Option PendingRecord) (slots_told : old.slots ≡ Some slots)
+      (w : IsWaiting (slot_front slots 2) (slot_front slots 3) waiting) where
     pub begun_told : Begun variant meaning before s.platform (first_offer slots waiting) waiting s.begun
     begun_told =
         let r = s.resumes in
         begun_found variant meaning before s.platform slots r.waiting s.begun waiting old r.middle s.store w
         (saw_two slots r.finds.two old r.finds.middle r.middle r.waiting slots_told r.finds.reads r.finds.goes) r.goes
 
-    pub chain_of : Chain variant meaning (first_offer slots waiting) before after (told_in waiting s.goes) (IsInHand waiting s.goes) result
+    pub chain_of : Chain variant meaning (first_offer slots waiting) before after (served_calls_in waiting s.goes) (IsInHand waiting s.goes) result
     chain_of = chain_by (first_offer slots waiting) waiting begun_told s.goes
 
     pub among_input : (input : List ℕ) → left ≡ Some input
-        → AreAmong (told_in waiting s.goes) (IsInHand waiting s.goes) (requests_with waiting (lines_of input))
+        → AreAmong (served_calls_in waiting s.goes) (IsInHand waiting s.goes) (requests_with waiting (lines_of input))
     among_input input e =
         among_by (first_offer slots waiting) waiting begun_told input (read_of left left' input s.taken e s.consumed) s.goes
 
     -- what was told first
-    pub first_told : (g : GoesOn variant meaning s.begun s.platform after s.store new left' s.taken s.sent result) (rest : List (List ℕ))
-        → lines_served (told_first waiting g.first ++ g.lines.calls) ++ rest ≡ requests_with waiting (lines_served g.lines.calls ++ rest)
+    pub first_told : (g : SessionGoesOn variant meaning s.begun s.platform after s.store new left' s.taken s.sent result) (rest : List (List ℕ))
+        → served_lines (first_served_call waiting g.first ++ g.lines.calls) ++ rest ≡ requests_with waiting (served_lines g.lines.calls ++ rest)
     first_told g rest = (first_by (first_offer slots waiting) waiting begun_told g.first g.begins).told g.lines.calls rest
 
   -- and over any store
   pub record SomeChain : Type 0 where
     pub offer : List ℕ
-    pub waiting : Option Pending
-    pub chain : Chain variant meaning offer before after (told_in waiting s.goes) (IsInHand waiting s.goes) result
+    pub waiting : Option PendingRecord
+    pub chain : Chain variant meaning offer before after (served_calls_in waiting s.goes) (IsInHand waiting s.goes) result
 
   pub some_chain : SomeChain
   some_chain =

@@ -1,19 +1,19 @@
 -- A session over an honest store goes on, also where the cell was read before.
-use Rattle.mm_host.proofs.Below.{◌≡◌, ◌∙◌, ℕ, List, Option, None, Some, Result, refl, [], Standing, Batch, Meaning, IsLawful, Instance, opt}
-use Rattle.mm_host.proofs.Below.{History, Variant, Basic, Opt, inl, StoreStanding, Pending, Slots, SessionFault, ContinuesFrom, MayGoOn}
-use Rattle.mm_host.proofs.Below.{MayStart, SessionContinues, FitsBy, taking, names_alike, IsGenuine, first_offer, Holds, one_content}
+use Rattle.mm_host.proofs.Below.{◌≡◌, ◌∙◌, ℕ, List, Option, None, Some, Result, refl, [], Standing, Batch, Meaning, IsLawful, Instance, opt_instance}
+use Rattle.mm_host.proofs.Below.{History, Variant, Basic, Opt, inl, StoreStanding, PendingRecord, Slots, SessionFault, ContinuesFrom, MayGoOn}
+use Rattle.mm_host.proofs.Below.{MayStart, SessionContinues, FitsBy, history_with_values, names_alike, IsGenuine, first_offer, IsSnapshotAt, one_content}
 use Rattle.mm_host.proofs.Below.{StepFault}
-use Rattle.mm_platform.specs.Steps.{beside, Goes, ReadCell}
+use Rattle.mm_platform.specs.Steps.{items_beside, StepGoes, ReadCell}
 use Rattle.mm_host.proofs.Leading.{basic_laws}
 use Rattle.mm_host.proofs.OptLeading.{opt_laws}
 use Rattle.mm_host.proofs.RunningOnce.{enter_by, nothing_beside, powered_looked}
 use Rattle.mm_host.proofs.SessionRuns.{continues_to}
 
 -- what fits is genuine
-holds_genuine : (i : Instance) (y : History) (bytes : List ℕ) (position : ℕ) → Holds i y bytes position → IsGenuine i y bytes
+holds_genuine : (i : Instance) (y : History) (bytes : List ℕ) (position : ℕ) → IsSnapshotAt i y bytes position → IsGenuine i y bytes
 holds_genuine i y bytes position h = λ content right. rw (one_content i bytes h.content content h.right right) at h.names
 
-pub fits_genuine : (i : Instance) (slots : Slots) (y : History) (waiting : Option Pending) → FitsBy i slots y waiting
+pub fits_genuine : (i : Instance) (slots : Slots) (y : History) (waiting : Option PendingRecord) → FitsBy i slots y waiting
     → IsGenuine i y (first_offer slots waiting)
 fits_genuine i slots y None f = holds_genuine i y _ _ f.1
 fits_genuine i slots y (Some p) f = holds_genuine i y _ _ f.1
@@ -34,22 +34,22 @@ starts_by {i = i} {y = y} {slots = slots} may = record {
 -- slots that fit go on to where others extended the register
 module _ (meaning : Meaning) (key barrier : List ℕ) (y : History) (values : List (List ℕ)) (slots : Slots) where
   abbrev i : Instance
-  i = opt meaning key barrier
+  i = opt_instance meaning key barrier
 
-  holds_looked : (bytes : List ℕ) (position : ℕ) → Holds i y bytes position → Holds i (taking y values) bytes position
+  holds_looked : (bytes : List ℕ) (position : ℕ) → IsSnapshotAt i y bytes position → IsSnapshotAt i (history_with_values y values) bytes position
   holds_looked bytes position h = record {
     content = h.content;
     right = h.right;
-    names = names_alike meaning key barrier y (taking y values) h.content refl h.names;
+    names = names_alike meaning key barrier y (history_with_values y values) h.content refl h.names;
     at = h.at;
   }
 
-  fits_looked : (waiting : Option Pending) → FitsBy i slots y waiting → FitsBy i slots (taking y values) waiting
+  fits_looked : (waiting : Option PendingRecord) → FitsBy i slots y waiting → FitsBy i slots (history_with_values y values) waiting
   fits_looked None f = (f.0, holds_looked _ _ f.1)
   fits_looked (Some p) f = (f.0, holds_looked _ _ f.1)
 
 continue_over : (variant : Variant) (meaning : Meaning) → IsLawful meaning → (entry before after : Standing) (values : List (List ℕ))
-    → before.cell ≡ entry.cell → before.items ≡ beside values entry.items
+    → before.cell ≡ entry.cell → before.items ≡ items_beside values entry.items
     → (old new : StoreStanding) (left left' received received' : Option (List ℕ)) (result : Result Unit SessionFault)
     → ContinuesFrom variant meaning entry before after old new left left' received received' result
 continue_over Basic meaning lawful entry before after values cell looked old new left left' received received' result =
@@ -65,14 +65,14 @@ continue_over Opt meaning lawful entry before after values cell looked old new l
     λ s key barrier y slots all others asked requests items more may f among known ends shown_so.
     let e = enter_by meaning lawful entry before after values cell looked s key barrier y slots all others asked requests items more
     (starts_by may) known ends y.is_open refl shown_so in
-    continues_to (opt_laws meaning lawful key barrier all others asked after may.clear may.apart) s (taking y values) y slots
+    continues_to (opt_laws meaning lawful key barrier all others asked after may.clear may.apart) s (history_with_values y values) y slots
     may.fits.waiting may.told may.honest may.fits.is_waiting (fits_looked meaning key barrier y values slots may.fits.waiting may.fits.fits)
     requests e.0 e.1 f among (powered_looked values y)
 
 -- behind a reading of the cell, whether that failed or not
 pub continues_from : (variant : Variant) (meaning : Meaning) → IsLawful meaning
     → (entry before after : Standing) (fault : Option StepFault) (old new : StoreStanding) (left left' received received' : Option (List ℕ))
-    (result : Result Unit SessionFault) → Goes ReadCell entry before fault
+    (result : Result Unit SessionFault) → StepGoes ReadCell entry before fault
     → ContinuesFrom variant meaning entry before after old new left left' received received' result
 continues_from variant meaning lawful entry before after fault old new left left' received received' result g =
     continue_over variant meaning lawful entry before after g.others g.cell g.items old new left left' received received' result

@@ -1,29 +1,29 @@
 -- What a session counts, by the steps: whose fault it is that it ends, and how often it is to write the cell.
 use Rattle.mm_host.proofs.Below.{ℕ, ◌≡◌, ◌≢◌, ◌+◌, ◌≤◌, List, [], ◌∷◌, length, Option, None, Some, Result, Ok, Err, refl, ap, ◌∙◌, subst}
 use Rattle.mm_host.proofs.Below.{inl, inr, arith, is_some, length-append, lines_of, lines_of-joined, lines_of-line, Variant, Basic, Opt}
-use Rattle.mm_host.proofs.Below.{Standing, StepFault, Meaning, Refusal, Blames, fault_of, StoreStanding, HostFault, SessionFault, Host}
-use Rattle.mm_host.proofs.Below.{Resumed, Start, Answered, MayBeUntold, SendsReply, told_cause, refusal_text, reply_text, Place, Served}
-use Rattle.mm_host.proofs.Below.{Serves, lines_served, AfterResume, BeginsWith, Sessions, Told, next_told, resumes_told, AnsweredWrites}
+use Rattle.mm_host.proofs.Below.{Standing, StepFault, Meaning, Refusal, CountsHandedFault, fault_of, StoreStanding, HostFault, SessionFault, Host}
+use Rattle.mm_host.proofs.Below.{Resumed, Start, Answered, MayBeUntold, SendsReply, told_cause, refusal_text, reply_text, SessionPlace, ServedCall}
+use Rattle.mm_host.proofs.Below.{ServesCalls, served_lines, GoesAfterResume, BeginsWith, IsSession, Told, next_told, resumes_told, AnsweredWrites}
 use Rattle.mm_host.proofs.Below.{CameWrites, answered_writes, both_writes, next_came, new_most, resumes_came, counted_most, joined}
 use Rattle.mm_host.proofs.Below.{leads_rest, rests}
 use Rattle.std.specs.Prelude.{IsSome}
 use Rattle.mm_model.specs.declared.refusal.Refusal.TheVariants.{Device}
-use Rattle.mm_play.specs.Plays.{IsBlamed}
+use Rattle.mm_play.specs.PlaysInput.{IsBlamed}
 use Rattle.mm_recovery.specs.declared.fault.HostFault.TheVariants as host
-use Rattle.mm_recovery.specs.Blame.{Blamed}
-use Rattle.mm_recovery.specs.CellWrites.{IsNewAt, WritesFor, new_by, IsNewOf, new_first}
+use Rattle.mm_recovery.specs.Blame.{BlamesHostFault}
+use Rattle.mm_recovery.specs.CellWrites.{IsNewAt, WritesFor, new_requests_by, IsNewOf, new_requests_at}
 use Rattle.mm_host.specs.SessionBlame.{IsRefusalNamed, is_platform_fault, is_store_fault}
-use Rattle.mm_host.specs.SessionWrites.{SessionWrites, new_lines, new_told}
-use Rattle.mm_host.specs.Sessions.{ServesLines}
-use Rattle.mm_host.proofs.Lines.{by_end, by_told, IsByInput, length-lines_served, unbroken_served}
+use Rattle.mm_host.specs.SessionWrites.{SessionWrites, new_lines, new_told_requests}
+use Rattle.mm_host.specs.Sessions.{ServesAllLines}
+use Rattle.mm_host.proofs.Lines.{by_end, by_told, IsByInput, length-served_lines, unbroken_served}
 
 -- Lines that were answered: no count of faults rises, and the new ones write the cell.
-record Counts (variant : Variant) (requests : ℕ) (from to : Place) : Type 0 where
+record Counts (variant : Variant) (requests : ℕ) (from to : SessionPlace) : Type 0 where
   platform : to.platform.faults ≡ from.platform.faults
   store : to.store.faults ≡ from.store.faults
   wrote : AnsweredWrites variant requests from.platform to.platform
 
-served_counts : (variant : Variant) (meaning : Meaning) (from to : Place) (calls : List Served) → Serves variant meaning from calls to
+served_counts : (variant : Variant) (meaning : Meaning) (from to : SessionPlace) (calls : List ServedCall) → ServesCalls variant meaning from calls to
     → Counts variant (new_lines calls) from to
 served_counts variant meaning from to [] s = rw s (record {
   platform = refl;
@@ -36,12 +36,12 @@ served_counts variant meaning from to [] s = rw s (record {
 served_counts variant meaning from to (c ∷ calls) s =
     let t = next_told variant meaning from.platform s.platform from.store s.store from.last c.line (Ok (Answered c.answer)) s.asks in
     let w = next_came variant meaning from.platform s.platform from.store s.store from.last c.line (Ok (Answered c.answer)) s.asks in
-    let next : Place = record { platform = s.platform; store = s.store; last = Answered c.answer } in
+    let next : SessionPlace = record { platform = s.platform; store = s.store; last = Answered c.answer } in
     let rest = served_counts variant meaning next to calls s.rest in
     record {
       platform = rest.platform ∙ t.blamed.0;
       store = rest.store ∙ t.blamed.1;
-      wrote = both_writes variant (new_by c.answer.again) (new_lines calls) from.platform s.platform to.platform
+      wrote = both_writes variant (new_requests_by c.answer.again) (new_lines calls) from.platform s.platform to.platform
           (answered_writes variant (Answered c.answer) from.platform s.platform w) rest.wrote;
     }
 
@@ -62,12 +62,12 @@ pub record Counted (variant : Variant) (told most : ℕ) (result : Result Unit S
   pub writes : WritesFor variant (told + in_hand) before after
 
 -- the fault that came
-blames_by : (broken : Option StepFault) (before now : ℕ) → Blames broken before now → IsBlamed (is_some broken) before now
+blames_by : (broken : Option StepFault) (before now : ℕ) → CountsHandedFault broken before now → IsBlamed (is_some broken) before now
 blames_by None before now b = b
 blames_by (Some fault) before now b = b
 
 host_blamed : (fault : HostFault) (before after : Standing) (old new : StoreStanding)
-    → Blamed {T = Resumed} (Err fault) before after old new
+    → BlamesHostFault {T = Resumed} (Err fault) before after old new
     → IsBlamed (is_platform_fault {T = Unit} (Err (Host fault))) before.faults after.faults
     × IsBlamed (is_store_fault {T = Unit} (Err (Host fault))) old.faults new.faults
 host_blamed (host.Refused why) before after old new b = (blames_by (fault_of why) before.faults after.faults b.0, b.1)
@@ -80,7 +80,7 @@ told_no_device _ h = refl
 
 -- where a text is told, no count rose
 quiet_told : (came : Result Resumed HostFault) (before after : Standing) (old new : StoreStanding) → reply_text came ≢ []
-    → Blamed came before after old new → (after.faults ≡ before.faults) × (new.faults ≡ old.faults)
+    → BlamesHostFault came before after old new → (after.faults ≡ before.faults) × (new.faults ≡ old.faults)
 quiet_told (Err host.Store) before after old new h b = absurd (h refl)
 quiet_told (Err (host.Refused why)) before after old new h b = (rw (told_no_device why h) at b.0, b.1)
 quiet_told _ before after old new h b = b
@@ -90,9 +90,9 @@ new_at : (broken : Option StepFault) (n : ℕ) → IsNewAt broken n → (n ≤ 1
 new_at None n h = (omega (arith, h), λ k. absurd (k h))
 new_at (Some fault) n h = (h, λ k. refl)
 
-first_most : (it : Resumed) → new_first it ≤ 1
+first_most : (it : Resumed) → new_requests_at it ≤ 1
 first_most (Start first) = omega arith
-first_most (Answered answer) = new_most answer.again (new_by answer.again) refl
+first_most (Answered answer) = new_most answer.again (new_requests_by answer.again) refl
 
 came_most : (came : Result Resumed HostFault) (n : ℕ) → IsNewOf came n → n ≤ 1
 came_most (Ok it) n h = let most = first_most it in omega (arith, h, most)
@@ -146,9 +146,9 @@ rest_says result before after old new by q = record {
 }
 
 -- the end of the lines
-module _ (variant : Variant) (meaning : Meaning) (from : Place) (after : Standing) (new : StoreStanding) (left : Option (List ℕ))
+module _ (variant : Variant) (meaning : Meaning) (from : SessionPlace) (after : Standing) (new : StoreStanding) (left : Option (List ℕ))
     (taken sent : List ℕ) (result : Result Unit SessionFault)
-    (l : ServesLines variant meaning 1 from after new left taken sent result) where
+    (l : ServesAllLines variant meaning 1 from after new left taken sent result) where
   has_line : (line held : List ℕ) → BeginsWith l.more line held → 1 ≤ length (lines_of l.more)
   has_line line held b =
       let counted : length (lines_of l.more) ≡ length (line ∷ lines_of held) =
@@ -170,14 +170,14 @@ module _ (variant : Variant) (meaning : Meaning) (from : Place) (after : Standin
   taken_lines : length (lines_of taken) ≡ length l.calls + length (lines_of l.more)
   taken_lines =
       ap (λ (x : List ℕ). length (lines_of x)) l.took
-      ∙ ap (λ (ls : List (List ℕ)). length ls) (lines_of-joined (lines_served l.calls) l.more
+      ∙ ap (λ (ls : List (List ℕ)). length ls) (lines_of-joined (served_lines l.calls) l.more
       (unbroken_served variant meaning from l.at l.calls l.serves))
-      ∙ length-append (lines_served l.calls) (lines_of l.more) ∙ ap (λ (n : ℕ). n + length (lines_of l.more)) (length-lines_served l.calls)
+      ∙ length-append (served_lines l.calls) (lines_of l.more) ∙ ap (λ (n : ℕ). n + length (lines_of l.more)) (length-served_lines l.calls)
 
-lines_most : (calls : List Served) → new_lines calls ≤ length calls
+lines_most : (calls : List ServedCall) → new_lines calls ≤ length calls
 lines_most [] = omega arith
 lines_most (c ∷ calls) =
-    let one = new_most c.answer.again (new_by c.answer.again) refl in
+    let one = new_most c.answer.again (new_requests_by c.answer.again) refl in
     let rest = lines_most calls in
     omega (arith, one, rest)
 
@@ -188,9 +188,9 @@ for_most Opt n before after w = w.each
 -- a whole session
 module _ {variant : Variant} {meaning : Meaning} {before after : Standing} {old new : StoreStanding}
     {left left' received received' : Option (List ℕ)} {result : Result Unit SessionFault}
-    (s : Sessions variant meaning before after old new left left' received received' result) where
-  counted_by : (goes : AfterResume variant meaning s.begun s.platform after s.store new left' s.taken s.sent result)
-      → Counted variant (new_told goes) (1 + length (lines_of s.taken)) result before after old new
+    (s : IsSession variant meaning before after old new left left' received received' result) where
+  counted_by : (goes : GoesAfterResume variant meaning s.begun s.platform after s.store new left' s.taken s.sent result)
+      → Counted variant (new_told_requests goes) (1 + length (lines_of s.taken)) result before after old new
   counted_by (inl e) =
       let most : ℕ = 1 + length (lines_of s.taken) in
       rw e.2.stops (rw e.0 (rw e.1 (said_counted variant s.begun s.sent e.2.fault most before s.platform old s.store e.2.says
@@ -198,13 +198,13 @@ module _ {variant : Variant} {meaning : Meaning} {before after : Standing} {old 
       (resumes_came variant meaning before s.platform old s.store s.begun s.resumes) (omega arith))))
   counted_by (inr g) =
       let l = g.lines in
-      let from : Place = record { platform = s.platform; store = s.store; last = g.first } in
+      let from : SessionPlace = record { platform = s.platform; store = s.store; last = g.first } in
       let told : Told (Ok g.first) before s.platform old s.store =
       rw g.begins at (resumes_told variant meaning before s.platform old s.store s.begun s.resumes) in
       let first = answered_writes variant g.first before s.platform (rw g.begins at
       (resumes_came variant meaning before s.platform old s.store s.begun s.resumes)) in
       let c = served_counts variant meaning from l.at l.calls l.serves in
-      let told_writes = both_writes variant (new_first g.first) (new_lines l.calls) before s.platform l.at.platform first c.wrote in
+      let told_writes = both_writes variant (new_requests_at g.first) (new_lines l.calls) before s.platform l.at.platform first c.wrote in
       let e = ends_counted variant meaning from after new left' s.taken g.replies result l in
       let none : 0 + e.in_hand ≡ e.in_hand = omega arith in
       record {
@@ -223,17 +223,17 @@ module _ {variant : Variant} {meaning : Meaning} {before after : Standing} {old 
           e.few,
           taken_lines variant meaning from after new left' s.taken g.replies result l,
         );
-        writes = joined variant (new_first g.first + new_lines l.calls) e.in_hand before l.at.platform after told_writes.leads
+        writes = joined variant (new_requests_at g.first + new_lines l.calls) e.in_hand before l.at.platform after told_writes.leads
             told_writes.writes (rw none at e.writes);
       }
 
-  pub session_counted : Counted variant (new_told s.goes) (1 + length (lines_of s.taken)) result before after old new
+  pub session_counted : Counted variant (new_told_requests s.goes) (1 + length (lines_of s.taken)) result before after old new
   session_counted = counted_by s.goes
 
   pub session_writes : SessionWrites variant meaning before after old new left left' received received' result
   session_writes =
       let c = session_counted in
-      let most = for_most variant (new_told s.goes + c.in_hand) before after c.writes in record {
+      let most = for_most variant (new_told_requests s.goes + c.in_hand) before after c.writes in record {
         ran = s;
         in_hand = c.in_hand;
         one = c.one;

@@ -2,19 +2,19 @@
 use Rattle.mm_host.proofs.Below.{◌≡◌, ◌≢◌, ◌∙◌, ◌+◌, ◌-◌, ◌%◌, ℕ, List, Option, None, Some, Result, Ok, Err, IfOk, refl, sym, ap}
 use Rattle.mm_host.proofs.Below.{inl, arith, ◌⊎◌, nat_eq, take_all, MayGrow, longest_request, Standing, Batch, One, Content}
 use Rattle.mm_host.proofs.Below.{Instance, History, requests_of, total_of, LostLife, life_of, IsRight, Answer}
-use Rattle.mm_host.proofs.Below.{BatchAnswer, Refusal, whole, whole_in}
-use Rattle.mm_host.proofs.Below.{StoreFault, WritesSlot, putting, StoreStanding, Pending, pending_spelling, Slots, longest_slot}
-use Rattle.mm_host.proofs.Below.{slot_read, with_slot, longest_slot-is, HostFault, Resumed, Start, Answered, IsNotBeyond}
-use Rattle.mm_host.proofs.Below.{waiting_position, refusal_fault, store_fault_as, FitsHistory, FitsBy, Holds, offer_slot, ◌∷◌}
-use Rattle.mm_host.proofs.Below.{answered_to, AreAskedInTurn, RecoversTo, position_at, snapshot_at}
-use Rattle.mm_host.proofs.Below.{AfterRecord, record_for, Place, length-pending_spelling, NoMore, left_by, ask_exit}
-use Rattle.mm_host.proofs.Below.{refusal_told, RunsOver, [], issued_bytes, inr, Met, sealed_of, first_offer, requests_with, IsCall}
+use Rattle.mm_host.proofs.Below.{BatchAnswer, Refusal, batch_answer_of, batch_result_of}
+use Rattle.mm_host.proofs.Below.{StoreFault, WritesSlot, slots_with_bytes, StoreStanding, PendingRecord, pending_spelling, Slots, longest_slot}
+use Rattle.mm_host.proofs.Below.{slot_front, slots_with, longest_slot-is, HostFault, Resumed, Start, Answered, IsNotBeyond}
+use Rattle.mm_host.proofs.Below.{waiting_position, refusal_fault, store_fault_as, FitsHistory, FitsBy, IsSnapshotAt, offer_slot, ◌∷◌}
+use Rattle.mm_host.proofs.Below.{history_after_answer, AreAskedInTurn, RecoversTo, position_at, snapshot_at}
+use Rattle.mm_host.proofs.Below.{GoesAfterRecord, record_for, SessionPlace, length-pending_spelling, NoMore, left_by, ask_exit}
+use Rattle.mm_host.proofs.Below.{refusal_told, CallsRunOver, [], issued_bytes, inr, Met, sealed_snapshot_of, first_offer, requests_with, IsCall}
 use Rattle.mm_host.proofs.Below.{last_position, one_content, one_more, IsSame, subst, ◌≤◌}
-use Rattle.mm_host.proofs.Below.{◌<◌, false, take, nat_tests, Batch, StepFault, fault_of, AfterAsk, fits_on, found_full, grows}
+use Rattle.mm_host.proofs.Below.{◌<◌, false, take, nat_tests, Batch, StepFault, fault_of, GoesAfterAsk, fits_on, found_full, grows}
 use Rattle.mm_host.proofs.Below.{RefusesAs, Host, IsRight}
 use Rattle.std.proofs.lemmas.Bool.{cases_lt}
-use Rattle.mm_call.specs.Coming.{Comes}
-use Rattle.mm_call.specs.Coming as coming
+use Rattle.mm_call.specs.HistoryGrowth.{HistoryGrows}
+use Rattle.mm_call.specs.HistoryGrowth as coming
 use Rattle.mm_model.specs.declared.refusal.Refusal.TheVariants as refusal
 use Rattle.mm_store.specs.declared.fault.StoreFault.TheVariants as fault
 use Rattle.mm_recovery.specs.declared.fault.HostFault.TheVariants as host
@@ -23,7 +23,7 @@ use Rattle.mm_host.proofs.Lines.{never_stored}
 use Rattle.mm_host.proofs.Leading.{Laws, Reaches}
 use Rattle.mm_host.proofs.Settling.{answers_of, broken_refused, came_by, CameTo, IsSettledAt, refused_in, refused_last, refused_with}
 use Rattle.mm_host.proofs.Settling.{settled_by, went_first}
-use Rattle.mm_host.proofs.Below.{AfterRecord, Enters}
+use Rattle.mm_host.proofs.Below.{GoesAfterRecord, Enters}
 use Rattle.mm_host.proofs.Putting.{IsNext, IsPut, fits_next, fits_room, full_fits, put_next, torn_fits, waits_next}
 
 module _ {all others : List (List ℕ)} {asked : List Batch} {i : Instance} {final : Standing} (laws : Laws all others asked i final) where
@@ -32,11 +32,11 @@ module _ {all others : List (List ℕ)} {asked : List Batch} {i : Instance} {fin
   IsBetween z standing offer lines after = May laws after standing offer lines × IsSame i.variant after z
 
   -- A session stands for a history that is the same as this one but for others' values, and these lines may be asked from there.
-  pub record IsReady {at : Place} (s : IsSettledAt all others asked i at) (z : History) (lines : List (List ℕ)) : Type 0 where
+  pub record IsReady {at : SessionPlace} (s : IsSettledAt all others asked i at) (z : History) (lines : List (List ℕ)) : Type 0 where
     pub between : IsBetween z at.platform (snapshot_at at.last) lines s.after
     pub follow : AreAskedInTurn all asked i z (snapshot_at at.last) lines
 
-  pub stands_in : {at : Place} (s : IsSettledAt all others asked i at) (z : History) → IsSame i.variant s.after z
+  pub stands_in : {at : SessionPlace} (s : IsSettledAt all others asked i at) (z : History) → IsSame i.variant s.after z
       → StandsIn all others asked i s.after z at.platform (snapshot_at at.last)
   stands_in {at} s z same = record {
     stands = s.stands;
@@ -46,29 +46,29 @@ module _ {all others : List (List ℕ)} {asked : List Batch} {i : Instance} {fin
   }
 
   -- the snapshot of an answer says what the history issues
-  ready_on : (z : History) (at : Place) (lines : List (List ℕ)) (s : IsSettledAt all others asked i at)
+  ready_on : (z : History) (at : SessionPlace) (lines : List (List ℕ)) (s : IsSettledAt all others asked i at)
       → snapshot_at at.last ≡ issued_bytes i s.after → IsBetween z at.platform (issued_bytes i z) lines s.after
       → AreAskedInTurn all asked i z (issued_bytes i z) lines → IsReady s z lines
   ready_on z at lines s is between follow =
       let here : issued_bytes i z ≡ snapshot_at at.last =
-      sym (is ∙ ap (λ (c : Content). sealed_of i.key c) (laws.issue s.after z between.1)) in
+      sym (is ∙ ap (λ (c : Content). sealed_snapshot_of i.key c) (laws.issue s.after z between.1)) in
       record {
         between = subst (λ (offer : List ℕ). IsBetween z at.platform offer lines s.after) here between;
         follow = subst (λ (offer : List ℕ). AreAskedInTurn all asked i z offer lines) here follow;
       }
 
   -- the history once what waits is answered
-  abbrev pub waiting_then : History → Slots → Option Pending → History
+  abbrev pub waiting_then : History → Slots → Option PendingRecord → History
   waiting_then z slots None = z
-  waiting_then z slots (Some p) = answered_to i z (slot_read slots (offer_slot p)) p.request
+  waiting_then z slots (Some p) = history_after_answer i z (slot_front slots (offer_slot p)) p.request
 
   -- and what is offered then
-  abbrev pub offer_then : History → Slots → Option Pending → List ℕ
-  offer_then z slots None = slot_read slots 0
+  abbrev pub offer_then : History → Slots → Option PendingRecord → List ℕ
+  offer_then z slots None = slot_front slots 0
   offer_then z slots (Some p) = issued_bytes i (waiting_then z slots (Some p))
 
   -- where a session stands once what waits is answered
-  pub ready_first : (y z : History) (slots : Slots) (waiting : Option Pending) (standing : Standing) (kept : StoreStanding)
+  pub ready_first : (y z : History) (slots : Slots) (waiting : Option PendingRecord) (standing : Standing) (kept : StoreStanding)
       (first : Resumed) (lines : List (List ℕ)) (f : FitsBy i slots y waiting)
       (r : RecoversTo all others asked i y slots waiting standing kept (Ok first))
       → IsBetween (waiting_then z slots waiting) standing (offer_then z slots waiting) lines r.after
@@ -87,31 +87,31 @@ module _ {all others : List (List ℕ)} {asked : List Batch} {i : Instance} {fin
       (settled_by (Some p) (Answered answer) f r) (ap (λ (b : BatchAnswer). b.snapshot) a.1) m follow.2
 
   -- a call that was answered, with others behind it
-  pub between_called : (y z : History) (old middle : Standing) (offer : List ℕ) (p : Pending) (answer : Answer) (rest : List (List ℕ))
+  pub between_called : (y z : History) (old middle : Standing) (offer : List ℕ) (p : PendingRecord) (answer : Answer) (rest : List (List ℕ))
       → StandsIn all others asked i y z old offer → AreAskedInTurn all asked i z offer (p.request ∷ rest)
       → May laws y old offer (p.request ∷ rest) → Reaches i.variant i middle final
       → IsCall i.variant i.meaning old middle offer p.request (Ok answer)
-      → (o : Met all others asked i y middle offer p (Ok (whole answer)))
-      × IsBetween (answered_to i z offer p.request) middle (issued_bytes i (answered_to i z offer p.request)) rest o.after
+      → (o : Met all others asked i y middle offer p (Ok (batch_answer_of answer)))
+      × IsBetween (history_after_answer i z offer p.request) middle (issued_bytes i (history_after_answer i z offer p.request)) rest o.after
   between_called y z old middle offer p answer rest s f may reaches c =
       let m = met_between laws y z old middle offer p rest s f may answer reaches c in
       let t = stepped_by laws y z old middle offer p answer s c.fits m.0 m.0.comes in
       (m.0, (subst (λ (bytes : List ℕ). May laws m.0.after middle bytes rest) t.next m.1, t.here.same))
 
   -- and what is told wasn't refused
-  pub between_told : (y z : History) (old middle : Standing) (offer : List ℕ) (p : Pending) (call : Result Answer Refusal)
+  pub between_told : (y z : History) (old middle : Standing) (offer : List ℕ) (p : PendingRecord) (call : Result Answer Refusal)
       (resumed : Resumed) (rest : List (List ℕ))
       → StandsIn all others asked i y z old offer → AreAskedInTurn all asked i z offer (p.request ∷ rest)
       → May laws y old offer (p.request ∷ rest) → Reaches i.variant i middle final
       → IsCall i.variant i.meaning old middle offer p.request call
       → ((why : Refusal) → call ≡ Err why → Ok resumed ≡ Err (refusal_fault why))
-      → (o : Met all others asked i y middle offer p (whole_in call))
-      × IsBetween (answered_to i z offer p.request) middle (issued_bytes i (answered_to i z offer p.request)) rest o.after
+      → (o : Met all others asked i y middle offer p (batch_result_of call))
+      × IsBetween (history_after_answer i z offer p.request) middle (issued_bytes i (history_after_answer i z offer p.request)) rest o.after
   between_told y z old middle offer p (Ok answer) resumed rest s f may reaches c told =
       between_called y z old middle offer p answer rest s f may reaches c
   between_told y z old middle offer p (Err why) resumed rest s f may reaches c told = let clash = told why refl in absurd (cc)
 
-  module _ (at : Place) (line : List ℕ) (settled : IsSettledAt all others asked i at) (within : MayGrow longest_request line) where
+  module _ (at : SessionPlace) (line : List ℕ) (settled : IsSettledAt all others asked i at) (within : MayGrow longest_request line) where
     abbrev y : History
     y = settled.after
 
@@ -121,14 +121,14 @@ module _ {all others : List (List ℕ)} {asked : List Batch} {i : Instance} {fin
     abbrev offer : List ℕ
     offer = snapshot_at at.last
 
-    abbrev next : Pending
+    abbrev next : PendingRecord
     next = record_for at.last line
 
     abbrev slot : ℕ
     slot = 2 + (position + 1) % 2
 
     abbrev put : List ℕ → Slots
-    put bytes = with_slot settled.slots_after slot bytes
+    put bytes = slots_with settled.slots_after slot bytes
 
     recorded : waiting_position settled.fits.waiting ≡ position
     recorded = ap waiting_position settled.same_wait ∙ settled.recorded
@@ -136,7 +136,7 @@ module _ {all others : List (List ℕ)} {asked : List Batch} {i : Instance} {fin
     is_put : (bytes : List ℕ) → IsPut settled.slots_after (put bytes) position bytes
     is_put bytes = put_next settled.slots_after position bytes
 
-    holds_newest : Holds i y (slot_read settled.slots_after (position % 2)) position
+    holds_newest : IsSnapshotAt i y (slot_front settled.slots_after (position % 2)) position
     holds_newest = rw settled.newest settled.holds
 
     most : position ≤ last_position
@@ -154,10 +154,10 @@ module _ {all others : List (List ℕ)} {asked : List Batch} {i : Instance} {fin
       spelled = spelled;
     }
 
-    offers : slot_read (put (pending_spelling next)) (offer_slot next) ≡ offer
+    offers : slot_front (put (pending_spelling next)) (offer_slot next) ≡ offer
     offers =
         let back : position + 1 - 1 ≡ position = omega arith in
-        ap (λ (m : ℕ). slot_read (put (pending_spelling next)) (m % 2)) back
+        ap (λ (m : ℕ). slot_front (put (pending_spelling next)) (m % 2)) back
         ∙ (is_put (pending_spelling next)).snapshots position ∙ settled.newest
 
     -- once the record is written, the line waits, where there is a position for it
@@ -166,7 +166,7 @@ module _ {all others : List (List ℕ)} {asked : List Batch} {i : Instance} {fin
         → Enters all others asked i y (put (pending_spelling next)) at.platform middle
     enters room it middle w = record {
       honest = w.honest ∙ settled.honest;
-      told = w.leaves settled.honest ∙ ap (λ (x : Option Slots). putting slot (pending_spelling next) x) settled.told;
+      told = w.leaves settled.honest ∙ ap (λ (x : Option Slots). slots_with_bytes slot (pending_spelling next) x) settled.told;
       stands = settled.stands;
       fits = record {
         waiting = Some next;
@@ -182,17 +182,17 @@ module _ {all others : List (List ℕ)} {asked : List Batch} {i : Instance} {fin
     recovered : (room : position < last_position) (More : History → Type 0) (after : Standing) (middle new : StoreStanding)
         (came : Result Resumed HostFault) (it : Unit {0})
         → WritesSlot slot (pending_spelling next) at.store middle (Ok it)
-        → (g : AfterRecord i.variant i.meaning at.platform after (Ok it) middle new at.last line came)
-        → (o : Met all others asked i y after offer next (whole_in g.asked)) × More o.after
+        → (g : GoesAfterRecord i.variant i.meaning at.platform after (Ok it) middle new at.last line came)
+        → (o : Met all others asked i y after offer next (batch_result_of g.asked)) × More o.after
         → (r : RecoversTo all others asked i y (put (pending_spelling next)) (Some next) after new came)
         × IfOk came (λ (resumed : Resumed). More r.after)
     unfolding enters
     recovered room More after middle new came it w g leads =
         let slots : Slots = put (pending_spelling next) in
         let can : Enters all others asked i y slots at.platform middle = enters room it middle w in
-        let o = subst (λ (bytes : List ℕ). (o : Met all others asked i y after bytes next (whole_in g.asked)) × More o.after) (sym offers)
+        let o = subst (λ (bytes : List ℕ). (o : Met all others asked i y after bytes next (batch_result_of g.asked)) × More o.after) (sym offers)
         leads in
-        let l = left_by all others asked i y slots at.platform middle can More after next (whole_in g.asked) refl o.0 o.1 in
+        let l = left_by all others asked i y slots at.platform middle can More after next (batch_result_of g.asked) refl o.0 o.1 in
         ask_exit More all others asked i laws.lawful y slots (Some next) next after g.asked middle new came l.0 l.1 g.asks.fits can.honest
         can.told g.goes
 
@@ -219,7 +219,7 @@ module _ {all others : List (List ℕ)} {asked : List Batch} {i : Instance} {fin
 
     pub line_unwritten : (why : StoreFault) (middle new : StoreStanding) (came : Result Resumed HostFault)
         → WritesSlot slot (pending_spelling next) at.store middle (Err why)
-        → AfterRecord i.variant i.meaning at.platform final (Err why) middle new at.last line came
+        → GoesAfterRecord i.variant i.meaning at.platform final (Err why) middle new at.last line came
         → CameTo all others asked i y (Some next) final new came
     line_unwritten fault.Memory middle new came w g =
         unwritten fault.Memory middle new came settled.slots_after w.honest g (w.leaves settled.honest ∙ settled.told) (λ n. settled.fits)
@@ -227,7 +227,7 @@ module _ {all others : List (List ℕ)} {asked : List Batch} {i : Instance} {fin
     line_unwritten fault.Failed middle new came w g =
         let left = w.leaves settled.honest in
         unwritten fault.Failed middle new came (put left.0) w.honest g
-        (left.1 ∙ ap (λ (x : Option Slots). putting slot left.0 x) settled.told)
+        (left.1 ∙ ap (λ (x : Option Slots). slots_with_bytes slot left.0 x) settled.told)
         (torn_fits i y settled.slots_after (put left.0) position left.0 settled.fits recorded settled.at_end holds_newest (is_put left.0))
         (λ n. absurd (n refl))
 
@@ -252,17 +252,17 @@ module _ {all others : List (List ℕ)} {asked : List Batch} {i : Instance} {fin
         ]
       ]
 
-      never_answered : (answer : Answer) → (m : Met all others asked i y standing offer next (Ok (whole answer)))
-          → Comes i y offer (One line) m.after (Ok (whole answer)) → ⊥
+      never_answered : (answer : Answer) → (m : Met all others asked i y standing offer next (Ok (batch_answer_of answer)))
+          → HistoryGrows i y offer (One line) m.after (Ok (batch_answer_of answer)) → ⊥
       never_answered answer m (coming.kept same answers) =
-          let r = answers (whole answer) refl in
+          let r = answers (batch_answer_of answer) refl in
           omega (arith, r.position, said_here r.content r.right, one_more r.ends.front line, ap total_of r.ends.is)
       never_answered answer m (coming.grown content right at more answers) =
-          omega (arith, ap total_of more, one_more y.batches line, ap total_of (full_same (Ok (whole answer)) m))
+          omega (arith, ap total_of more, one_more y.batches line, ap total_of (full_same (Ok (batch_answer_of answer)) m))
 
       never_told : (call : Result Answer Refusal) (resumed : Resumed)
           → ((why : Refusal) → call ≡ Err why → Ok resumed ≡ Err (refusal_fault why))
-          → Met all others asked i y standing offer next (whole_in call) → ⊥
+          → Met all others asked i y standing offer next (batch_result_of call) → ⊥
       never_told (Ok answer) resumed told m = never_answered answer m m.comes
       never_told (Err why) resumed told m = let clash = told why refl in cc
 
@@ -282,7 +282,7 @@ module _ {all others : List (List ℕ)} {asked : List Batch} {i : Instance} {fin
     -- so there was a position for a line that is answered
     room_for : (standing : Standing) (call : Result Answer Refusal) (resumed : Resumed)
         → ((why : Refusal) → call ≡ Err why → Ok resumed ≡ Err (refusal_fault why))
-        → Met all others asked i y standing offer next (whole_in call) → position < last_position
+        → Met all others asked i y standing offer next (batch_result_of call) → position < last_position
     room_for standing call resumed told m = elim (cases_lt position last_position) [
       | inl room ↦ room
       | inr full ↦ absurd (never_told (omega (arith, full, most)) standing call resumed told m)
@@ -291,7 +291,7 @@ module _ {all others : List (List ℕ)} {asked : List Batch} {i : Instance} {fin
     -- And a line that isn't is refused, and nothing changes: what waited goes on to wait.
     full_last : (full : position ≡ last_position) (middle new : StoreStanding) (came : Result Resumed HostFault)
         (call : Result Answer Refusal) (it : Unit {0}) → WritesSlot slot (pending_spelling next) at.store middle (Ok it)
-        → AfterAsk call middle new came → Met all others asked i y final offer next (whole_in call)
+        → GoesAfterAsk call middle new came → Met all others asked i y final offer next (batch_result_of call)
         → CameTo all others asked i y (Some next) final new came
     full_last full middle new came (Ok answer) it w g m = absurd (never_answered full final answer m m.comes)
     full_last full middle new came (Err why) it w g m =
@@ -311,7 +311,7 @@ module _ {all others : List (List ℕ)} {asked : List Batch} {i : Instance} {fin
           within = m.within;
           slots_after = slots;
           honest = w.honest ∙ settled.honest;
-          told = w.leaves settled.honest ∙ ap (λ (x : Option Slots). putting slot (pending_spelling next) x) settled.told;
+          told = w.leaves settled.honest ∙ ap (λ (x : Option Slots). slots_with_bytes slot (pending_spelling next) x) settled.told;
           fits = λ n. fits;
           whole = λ n. fits;
           grown = inl same;
@@ -331,7 +331,7 @@ module _ {all others : List (List ℕ)} {asked : List Batch} {i : Instance} {fin
       -- the last line, where it is asked
       pub line_last : (it : Unit {0}) (middle new : StoreStanding) (came : Result Resumed HostFault)
           → WritesSlot slot (pending_spelling next) at.store middle (Ok it)
-          → AfterRecord i.variant i.meaning at.platform final (Ok it) middle new at.last line came
+          → GoesAfterRecord i.variant i.meaning at.platform final (Ok it) middle new at.last line came
           → CameTo all others asked i y (Some next) final new came
       line_last it middle new came w g =
           let m = met_last laws y z at.platform offer next lines g.asked here s.follow s.between.0 g.asks in
@@ -342,20 +342,20 @@ module _ {all others : List (List ℕ)} {asked : List Batch} {i : Instance} {fin
 
       -- a line that was answered, with others behind it
       abbrev pub then_is : History
-      then_is = answered_to i z offer line
+      then_is = history_after_answer i z offer line
 
       pub record LineGoes (after : Standing) (new : StoreStanding) (answer : Answer) : Type 0 where
         pub settled_then : IsSettledAt all others asked i (record { platform = after; store = new; last = Answered answer })
         pub ready : IsReady settled_then then_is lines
         pub new_here : (answer.again ≡ false) × (answer.position ≡ total_of y.batches + 1)
         pub total : total_of settled_then.after.batches ≡ total_of y.batches + 1
-        pub run : RunsOver i.meaning (requests_of y.batches) (record { line = line; answer = answer } ∷ [])
+        pub run : CallsRunOver i.meaning (requests_of y.batches) (record { line = line; answer = answer } ∷ [])
             (requests_of settled_then.after.batches)
         pub powered : life_of i.variant y ≢ LostLife → life_of i.variant settled_then.after ≢ LostLife
 
       pub line_goes : (recorded : Result Unit StoreFault) (after : Standing) (middle new : StoreStanding) (answer : Answer)
           → Reaches i.variant i after final → WritesSlot slot (pending_spelling next) at.store middle recorded
-          → AfterRecord i.variant i.meaning at.platform after recorded middle new at.last line (Ok (Answered answer))
+          → GoesAfterRecord i.variant i.meaning at.platform after recorded middle new at.last line (Ok (Answered answer))
           → LineGoes after new answer
       unfolding enters
       line_goes (Err why) after middle new answer reaches w g =

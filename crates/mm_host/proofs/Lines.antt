@@ -1,14 +1,14 @@
 -- What a session reads, asks and tells, line by line, and how it ends; and it doesn't blame lines that are within the limits.
 use Rattle.mm_host.proofs.Below.{◌≡◌, ◌≢◌, ◌+◌, ℕ, List, [], length, Option, Result, Ok, Err, refl, subst, inl, inr, Variant, Standing}
 use Rattle.mm_host.proofs.Below.{Meaning, StoreStanding, HostFault, SessionFault, Host, Lines, Memory, WriteFault, Resumed, SendsReply}
-use Rattle.mm_host.proofs.Below.{comes_as, reply_text, Place, IsAtRest, StopsInLine, ◌∙◌, ap, ◌⊎◌, Answer, Refusal, StoreFault, Answered}
-use Rattle.mm_host.proofs.Below.{IsCall, store_fault_as, refusal_fault, AfterAsk, kept_as, snapshot_at, AfterRecord, AsksNext, ◌∷◌, ◌++◌}
-use Rattle.mm_host.proofs.Below.{None, Some, sym, append_assoc, suc, Consumes, IsAtEnd, AllByRecursion, IsUnbroken, lines_joined}
-use Rattle.mm_host.proofs.Below.{lines_of, lines_of-joined, lines_of-line, Served, Serves, lines_served, BeginsWith, ◌<◌, ◌≤◌, take}
-use Rattle.mm_host.proofs.Below.{drop, arith, length-append, length-take, take-append-drop, tail_of, onto_first, onto_tail, IsLong}
+use Rattle.mm_host.proofs.Below.{session_result_of, reply_text, SessionPlace, IsAtRest, StopsInLine, ◌∙◌, ap, ◌⊎◌, Answer, Refusal, StoreFault, Answered}
+use Rattle.mm_host.proofs.Below.{IsCall, store_fault_as, refusal_fault, GoesAfterAsk, result_of_keep, snapshot_at, GoesAfterRecord, AsksNext, ◌∷◌, ◌++◌}
+use Rattle.mm_host.proofs.Below.{None, Some, sym, append_assoc, suc, Consumes, IsAtEnd, AllByRecursion, IsUnbroken, joined_lines}
+use Rattle.mm_host.proofs.Below.{lines_of, lines_of-joined, lines_of-line, ServedCall, ServesCalls, served_lines, BeginsWith, ◌<◌, ◌≤◌, take}
+use Rattle.mm_host.proofs.Below.{drop, arith, length-append, length-take, take-append-drop, tail_of, lines_with_front, tail_with_front, IsLong}
 use Rattle.mm_host.proofs.Below.{MayGrow, lines_of-append, tail_of-append, tail_of-joined, tail_of-unbroken, longest_request, LineLong}
-use Rattle.mm_host.proofs.Below.{BadLine, TooMuch, AfterResume, Sessions, most_lines}
-use Rattle.mm_host.specs.Sessions.{ServesLines}
+use Rattle.mm_host.proofs.Below.{BadLine, TooMuch, GoesAfterResume, IsSession, most_lines}
+use Rattle.mm_host.specs.Sessions.{ServesAllLines}
 use Rattle.std.proofs.Common.{append-nil}
 use Rattle.mm_model.specs.ListLaws.{each_right}
 use Rattle.mm_host.specs.SessionLines.{AreWithin, IsNoLines, SparesLines}
@@ -23,9 +23,9 @@ IsByInput (Err (Lines WriteFault)) = ⊥
 IsByInput _ = Unit {0}
 
 -- It ends with a line in hand, or at rest.
-pub by_end : {variant : Variant} {meaning : Meaning} {from : Place} {after : Standing} {new : StoreStanding} {left : Option (List ℕ)}
+pub by_end : {variant : Variant} {meaning : Meaning} {from : SessionPlace} {after : Standing} {new : StoreStanding} {left : Option (List ℕ)}
     {taken sent : List ℕ} (P : Result Unit SessionFault → Type 0) (result : Result Unit SessionFault)
-    (l : ServesLines variant meaning 1 from after new left taken sent result)
+    (l : ServesAllLines variant meaning 1 from after new left taken sent result)
     → ((fault : SessionFault) → StopsInLine variant meaning (length l.calls + 1) l.at after new l.more l.last fault → P (Err fault))
     → (IsByInput result → IsAtRest l.at after new l.last → P result) → P result
 by_end P (Err (Host fault)) l line rest = line (Host fault) l.ends
@@ -39,7 +39,7 @@ pub by_told : (P : SessionFault → Type 0) (came : Result Resumed HostFault) (s
     → (reply_text came ≢ [] → P (Lines WriteFault)) → P fault
 by_told P (Ok it) sent fault (inl s) by out = let clash : Err fault ≡ Ok it = s.1 in absurd (cc)
 by_told P (Err why) sent fault (inl s) by out =
-    let told : Err fault ≡ comes_as (Err why) = s.1 in
+    let told : Err fault ≡ session_result_of (Err why) = s.1 in
     let same : Host why ≡ fault = cc in
     subst P same (by why refl)
 by_told P came sent fault (inr s) by out =
@@ -61,19 +61,19 @@ pub data Tries (variant : Variant) (meaning : Meaning) (before after : Standing)
   asks : (call : Result Answer Refusal) → IsCall variant meaning before after offer request call → TellsCall call came
       → Tries variant meaning before after offer request came
 
-kept_tells : (answer : Answer) (written : Result Unit StoreFault) (came : Result Resumed HostFault) → came ≡ kept_as answer written
+kept_tells : (answer : Answer) (written : Result Unit StoreFault) (came : Result Resumed HostFault) → came ≡ result_of_keep answer written
     → TellsCall (Ok answer) came
 kept_tells answer (Ok it) came e = inl e
 kept_tells answer (Err why) came e = inr (why, e)
 
-pub tells_call : (call : Result Answer Refusal) (old new : StoreStanding) (came : Result Resumed HostFault) → AfterAsk call old new came
+pub tells_call : (call : Result Answer Refusal) (old new : StoreStanding) (came : Result Resumed HostFault) → GoesAfterAsk call old new came
     → TellsCall call came
 tells_call (Err why) old new came g = g.1
 tells_call (Ok answer) old new came g = kept_tells answer g.written came g.gives
 
 module _ {variant : Variant} {meaning : Meaning} {before after : Standing} {old new : StoreStanding} {last : Resumed} {line : List ℕ}
     {came : Result Resumed HostFault} (a : AsksNext variant meaning before after old new last line came) where
-  tries_by : (recorded : Result Unit StoreFault) → AfterRecord variant meaning before after recorded a.middle new last line came
+  tries_by : (recorded : Result Unit StoreFault) → GoesAfterRecord variant meaning before after recorded a.middle new last line came
       → Tries variant meaning before after (snapshot_at last) line came
   tries_by (Err why) g = fails g.0 why g.2
   tries_by (Ok it) g = asks g.asked g.asks (tells_call g.asked a.middle new came g.goes)
@@ -133,29 +133,29 @@ read_of (Some xs) (Some ys) input taken e c =
     let same : xs ≡ input = cc in
     record { rest = ys; is = sym same ∙ c; at_end = λ h. h }
 
-pub unbroken_served : (variant : Variant) (meaning : Meaning) (from to : Place) (calls : List Served) → Serves variant meaning from calls to
-    → AllByRecursion IsUnbroken (lines_served calls)
+pub unbroken_served : (variant : Variant) (meaning : Meaning) (from to : SessionPlace) (calls : List ServedCall) → ServesCalls variant meaning from calls to
+    → AllByRecursion IsUnbroken (served_lines calls)
 unbroken_served variant meaning from to [] s = tt
 unbroken_served variant meaning from to (c ∷ calls) s = (
   s.within.unbroken,
   unbroken_served variant meaning (record { platform = s.platform; store = s.store; last = Answered c.answer }) to calls s.rest,
 )
 
-pub length-lines_served : (calls : List Served) → length (lines_served calls) ≡ length calls
-length-lines_served [] = refl
-length-lines_served (c ∷ calls) = ap (λ (n : ℕ). suc n) (length-lines_served calls)
+pub length-served_lines : (calls : List ServedCall) → length (served_lines calls) ≡ length calls
+length-served_lines [] = refl
+length-served_lines (c ∷ calls) = ap (λ (n : ℕ). suc n) (length-served_lines calls)
 
 -- the input behind the lines that were served
-module _ {variant : Variant} {meaning : Meaning} {from : Place} {after : Standing} {new : StoreStanding} {left : Option (List ℕ)}
+module _ {variant : Variant} {meaning : Meaning} {from : SessionPlace} {after : Standing} {new : StoreStanding} {left : Option (List ℕ)}
     {taken sent input : List ℕ} {result : Result Unit SessionFault}
-    (l : ServesLines variant meaning 1 from after new left taken sent result) (r : IsRead input taken left) where
-  pub bytes_in : input ≡ lines_joined (lines_served l.calls) ++ (l.more ++ r.rest)
-  bytes_in = r.is ∙ ap (λ (x : List ℕ). x ++ r.rest) l.took ∙ append_assoc (lines_joined (lines_served l.calls)) l.more r.rest
+    (l : ServesAllLines variant meaning 1 from after new left taken sent result) (r : IsRead input taken left) where
+  pub bytes_in : input ≡ joined_lines (served_lines l.calls) ++ (l.more ++ r.rest)
+  bytes_in = r.is ∙ ap (λ (x : List ℕ). x ++ r.rest) l.took ∙ append_assoc (joined_lines (served_lines l.calls)) l.more r.rest
 
-  pub lines_in : lines_of input ≡ lines_served l.calls ++ lines_of (l.more ++ r.rest)
+  pub lines_in : lines_of input ≡ served_lines l.calls ++ lines_of (l.more ++ r.rest)
   lines_in =
       ap lines_of bytes_in
-      ∙ lines_of-joined (lines_served l.calls) (l.more ++ r.rest) (unbroken_served variant meaning from l.at l.calls l.serves)
+      ∙ lines_of-joined (served_lines l.calls) (l.more ++ r.rest) (unbroken_served variant meaning from l.at l.calls l.serves)
 
 -- the next line, where one is in hand
 pub next_line : (more rest line held : List ℕ) → BeginsWith more line held → lines_of (more ++ rest) ≡ line ∷ lines_of (held ++ rest)
@@ -175,8 +175,8 @@ record IsRest (count : ℕ) (bytes : List ℕ) : Type 0 where
   few : count + length (lines_of bytes) ≤ most_lines
 
 -- no line is too long
-long_front : (lines : List (List ℕ)) (front tail : List ℕ) → longest_request < length front → onto_tail front lines tail ≡ []
-    → AreShort (onto_first front lines) → ⊥
+long_front : (lines : List (List ℕ)) (front tail : List ℕ) → longest_request < length front → tail_with_front front lines tail ≡ []
+    → AreShort (lines_with_front front lines) → ⊥
 long_front [] front tail h e s = absurd (omega (arith, h, ap (λ (x : List ℕ). length x) e, length-append front tail))
 long_front (line ∷ lines) front tail h e s = absurd (omega (arith, h, s.0, length-append front line))
 
@@ -206,8 +206,8 @@ module _ (count : ℕ) (more rest : List ℕ) (r : IsRest count (more ++ rest)) 
       ap (λ (ls : List (List ℕ)). length ls) (next_line more rest line held b) in
       absurd (omega (arith, next, e, r.few))
 
-spares_end : {variant : Variant} {meaning : Meaning} {from : Place} {after : Standing} {new : StoreStanding} {left : Option (List ℕ)}
-    {taken sent : List ℕ} (result : Result Unit SessionFault) (l : ServesLines variant meaning 1 from after new left taken sent result)
+spares_end : {variant : Variant} {meaning : Meaning} {from : SessionPlace} {after : Standing} {new : StoreStanding} {left : Option (List ℕ)}
+    {taken sent : List ℕ} (result : Result Unit SessionFault) (l : ServesAllLines variant meaning 1 from after new left taken sent result)
     (rest : List ℕ) → IsRest (length l.calls) (l.more ++ rest) → (IsAtEnd left → rest ≡ []) → IsNoLines result
 spares_end (Err (Lines (LineLong line))) l rest r h = not_long (length l.calls) l.more rest r l.ends.2
 spares_end (Err (Lines (BadLine line))) l rest r h = not_cut (length l.calls) l.more rest r (h l.ends.4) l.ends.2 l.ends.3
@@ -216,25 +216,25 @@ spares_end _ l rest r h = tt
 
 module _ {variant : Variant} {meaning : Meaning} {before after : Standing} {old new : StoreStanding}
     {left left' received received' : Option (List ℕ)} {result : Result Unit SessionFault}
-    (s : Sessions variant meaning before after old new left left' received received' result) where
+    (s : IsSession variant meaning before after old new left left' received received' result) where
   spares_by : (input : List ℕ) → IsRead input s.taken left' → AreWithin input
-      → AfterResume variant meaning s.begun s.platform after s.store new left' s.taken s.sent result → IsNoLines result
+      → GoesAfterResume variant meaning s.begun s.platform after s.store new left' s.taken s.sent result → IsNoLines result
   spares_by input r w (inl e) = rw e.2.stops
       (by_told (λ (f : SessionFault). IsNoLines {T = Unit} (Err f)) s.begun s.sent e.2.fault e.2.says (λ why e. tt) (λ n. tt))
   spares_by input r w (inr g) =
       let l = g.lines in
       let served = lines_in l r in
       spares_end result l r.rest (record {
-        whole = sym (ap tail_of (bytes_in l r) ∙ tail_of-joined (lines_served l.calls) (l.more ++ r.rest)
+        whole = sym (ap tail_of (bytes_in l r) ∙ tail_of-joined (served_lines l.calls) (l.more ++ r.rest)
             (unbroken_served variant meaning _ l.at l.calls l.serves)) ∙ w.whole;
-        short = each_right (λ line. length line ≤ longest_request) (lines_served l.calls) (lines_of (l.more ++ r.rest))
+        short = each_right (λ line. length line ≤ longest_request) (served_lines l.calls) (lines_of (l.more ++ r.rest))
             (rw served at w.short);
         few = omega (
           arith,
           ap (λ (ls : List (List ℕ)). length ls) served,
-          length-lines_served l.calls,
+          length-served_lines l.calls,
           w.few,
-          length-append (lines_served l.calls) (lines_of (l.more ++ r.rest)),
+          length-append (served_lines l.calls) (lines_of (l.more ++ r.rest)),
         );
       }) r.at_end
 

@@ -1,16 +1,16 @@
 -- What a session asked, by its steps: the first of some requests.
 use Rattle.mm_host.proofs.Below.{◌≡◌, ◌∙◌, ℕ, List, [], ◌∷◌, ◌++◌, Option, Some, Result, Err, inl, inr}
 use Rattle.mm_host.proofs.Below.{Standing}
-use Rattle.mm_host.proofs.Below.{StoreStanding, Pending, SessionFault, Host}
-use Rattle.mm_host.proofs.Below.{Place, Served, IsAtRest, Ok}
-use Rattle.mm_host.proofs.Below.{lines_served, AreAmong}
-use Rattle.mm_host.proofs.Below.{told_first}
-use Rattle.mm_host.proofs.Below.{Sessions, AfterResume}
+use Rattle.mm_host.proofs.Below.{StoreStanding, PendingRecord, SessionFault, Host}
+use Rattle.mm_host.proofs.Below.{SessionPlace, ServedCall, IsAtRest, Ok}
+use Rattle.mm_host.proofs.Below.{served_lines, AreAmong}
+use Rattle.mm_host.proofs.Below.{first_served_call}
+use Rattle.mm_host.proofs.Below.{IsSession, GoesAfterResume}
 use Rattle.mm_host.proofs.Below.{sym, Variant}
 use Rattle.mm_host.proofs.Below.{append_assoc, append_cancel_left}
-use Rattle.mm_host.specs.Sessions.{ServesLines}
-use Rattle.mm_host.proofs.Below.{◌+◌, length, Meaning, BeginsWith, ended_as, IsMade}
-use Rattle.mm_host.proofs.Below.{Lines, Memory, ServedOn, StopsInLine, StoreFault, WriteFault}
+use Rattle.mm_host.specs.Sessions.{ServesAllLines}
+use Rattle.mm_host.proofs.Below.{◌+◌, length, Meaning, BeginsWith, turn_answer_of, IsMade}
+use Rattle.mm_host.proofs.Below.{Lines, Memory, TurnGoes, StopsInLine, StoreFault, WriteFault}
 use Rattle.mm_host.proofs.Lines.{IsByInput}
 
 -- A line in hand is one of the requests, where it was asked.
@@ -19,14 +19,14 @@ abbrev pub IsWritten : Result Unit StoreFault → Type 0
 IsWritten (Ok it) = Unit {0}
 IsWritten (Err why) = ⊥
 
-abbrev pub IsFirstIn : {variant : Variant} {meaning : Meaning} {number : ℕ} {at : Place} {after : Standing} {new : StoreStanding}
+abbrev pub IsFirstIn : {variant : Variant} {meaning : Meaning} {number : ℕ} {at : SessionPlace} {after : Standing} {new : StoreStanding}
     {more sent : List ℕ} (rest : List (List ℕ)) (fault : SessionFault)
     → StopsInLine variant meaning number at after new more sent fault → Type 0
 IsFirstIn rest fault e = IsWritten e.asks.recorded → (next : List (List ℕ)) × (rest ≡ e.line ∷ next)
 
-abbrev pub IsLineAsked : (variant : Variant) (meaning : Meaning) (number : ℕ) (at : Place) (after : Standing) (new : StoreStanding)
+abbrev pub IsLineAsked : (variant : Variant) (meaning : Meaning) (number : ℕ) (at : SessionPlace) (after : Standing) (new : StoreStanding)
     (left : Option (List ℕ)) (more sent : List ℕ) (rest : List (List ℕ)) (result : Result Unit SessionFault)
-    → ServedOn variant meaning number at after new left more [] sent (ended_as result) → Type 0
+    → TurnGoes variant meaning number at after new left more [] sent (turn_answer_of result) → Type 0
 IsLineAsked variant meaning number at after new left more sent rest (Err (Host fault)) e = IsFirstIn rest (Host fault) e
 IsLineAsked variant meaning number at after new left more sent rest (Err (Lines WriteFault)) e = IsFirstIn rest (Lines WriteFault) e
 IsLineAsked variant meaning number at after new left more sent rest _ e = Unit {0}
@@ -34,24 +34,24 @@ IsLineAsked variant meaning number at after new left more sent rest _ e = Unit {
 -- What a session asked, if anything, are the first of these requests: what waited, the lines that were told, and the one in hand.
 module _ {variant : Variant} {meaning : Meaning} {before final : Standing} {old new : StoreStanding}
     {left left' received received' : Option (List ℕ)} {result : Result Unit SessionFault}
-    (s : Sessions variant meaning before final old new left left' received received' result) (waiting : Option Pending)
+    (s : IsSession variant meaning before final old new left left' received received' result) (waiting : Option PendingRecord)
     (requests : List (List ℕ)) where
   abbrev pub IsFirstAsked : Type 0
   IsFirstAsked =
       IsMade variant meaning before s.platform s.resumes.waiting s.resumes.middle s.store s.begun s.resumes.goes
-      → (p : Pending) → waiting ≡ Some p → (rest : List (List ℕ)) × (requests ≡ p.request ∷ rest)
+      → (p : PendingRecord) → waiting ≡ Some p → (rest : List (List ℕ)) × (requests ≡ p.request ∷ rest)
 
-  abbrev pub AreMade : AfterResume variant meaning s.begun s.platform final s.store new left' s.taken s.sent result → Type 0
+  abbrev pub AreMade : GoesAfterResume variant meaning s.begun s.platform final s.store new left' s.taken s.sent result → Type 0
   AreMade (inl stops) = IsFirstAsked
   AreMade (inr g) =
-      (rest : List (List ℕ)) × (lines_served (told_first waiting g.first ++ g.lines.calls) ++ rest ≡ requests)
+      (rest : List (List ℕ)) × (served_lines (first_served_call waiting g.first ++ g.lines.calls) ++ rest ≡ requests)
       × IsLineAsked variant meaning (length g.lines.calls + 1) g.lines.at final new left' g.lines.more g.lines.last rest result
       g.lines.ends
 
 -- It ends with a line in hand, which was asked or not, or at rest.
-pub by_asked : {variant : Variant} {meaning : Meaning} {from : Place} {after : Standing} {new : StoreStanding} {left : Option (List ℕ)}
+pub by_asked : {variant : Variant} {meaning : Meaning} {from : SessionPlace} {after : Standing} {new : StoreStanding} {left : Option (List ℕ)}
     {taken sent : List ℕ} (P : Result Unit SessionFault → Type 0) (rest : List (List ℕ)) (result : Result Unit SessionFault)
-    (l : ServesLines variant meaning 1 from after new left taken sent result)
+    (l : ServesAllLines variant meaning 1 from after new left taken sent result)
     → IsLineAsked variant meaning (length l.calls + 1) l.at after new left l.more l.last rest result l.ends
     → ((fault : SessionFault) (e : StopsInLine variant meaning (length l.calls + 1) l.at after new l.more l.last fault)
     → IsFirstIn rest fault e → P (Err fault))
@@ -62,12 +62,12 @@ by_asked P rest (Err (Lines Memory)) l a line still = absurd l.ends
 by_asked P rest _ l a line still = still tt l.ends.0
 
 -- the line behind those that were told
-pub among_next : (told : List Served) (more : List ℕ) {requests : List (List ℕ)}
+pub among_next : (told : List ServedCall) (more : List ℕ) {requests : List (List ℕ)}
     (a : AreAmong told (λ (request : List ℕ). (held : List ℕ) × BeginsWith more request held) requests) (line held : List ℕ)
     → BeginsWith more line held → (next : List (List ℕ)) × (a.served.0 ≡ line ∷ next)
 among_next told more a line held b =
     let next = a.in_hand line (held, b) in (
       next.0,
-      append_cancel_left (lines_served told) a.served.0 (line ∷ next.0)
-          (a.served.1 ∙ sym next.1 ∙ append_assoc (lines_served told) (line ∷ []) next.0),
+      append_cancel_left (served_lines told) a.served.0 (line ∷ next.0)
+          (a.served.1 ∙ sym next.1 ∙ append_assoc (served_lines told) (line ∷ []) next.0),
     )

@@ -4,12 +4,12 @@ use Rattle.mm_host.proofs.Below.{◌≡◌, ◌∙◌, ◌+◌, ◌≤◌, ℕ, 
 use Rattle.mm_host.proofs.Below.{subst, inl, inr, ◌⊎◌, arith, IsSome, take, drop, take-append-drop, length-append, length-take, append_assoc}
 use Rattle.mm_host.proofs.Below.{append_cancel_left, append-nil, Variant, Basic, Opt, Standing, One, Batch, Meaning, Instance, Digests, Answer}
 use Rattle.mm_host.proofs.Below.{Refusal, SessionFault, Host, Lines, Memory, WriteFault, LineLong, BadLine, TooMuch, IsCall, StoreFault}
-use Rattle.mm_host.proofs.Below.{offered_after, Served, Sessions, StandsAt, StoreStanding, found_at, by_digests, fault_of, by_refusal}
+use Rattle.mm_host.proofs.Below.{offer_after, ServedCall, IsSession, StandsAt, StoreStanding, finding_at, digest_level, fault_of, by_refusal}
 use Rattle.mm_host.proofs.Below.{IsInHand, parts_of, HostFault, Resumed, SendsReply, reply_text, store_fault_as, refusal_fault}
-use Rattle.mm_host.proofs.Below.{snapshot_at, Pending, Slots, slot_read, IsWaiting, first_offer, requests_with, lines_served, told_in, told_first}
+use Rattle.mm_host.proofs.Below.{snapshot_at, PendingRecord, Slots, slot_front, IsWaiting, first_offer, requests_with, served_lines, served_calls_in, first_served_call}
 use Rattle.mm_host.proofs.Below.{lines_of, lines_of-append, IsUnbroken, IsLong, longest_request, most_lines}
-use Rattle.mm_host.proofs.Below.{AfterResume, StopsAtOnce, StopsInLine, onto_first, InBasic, InOpt}
-use Rattle.mm_host.proofs.Below.{if◌then◌else◌, later, Place, ReadsPending}
+use Rattle.mm_host.proofs.Below.{GoesAfterResume, StopsAtOnce, StopsInLine, lines_with_front, InBasic, InOpt}
+use Rattle.mm_host.proofs.Below.{if◌then◌else◌, later_record, SessionPlace, ReadsPending}
 use Rattle.std.specs.Prelude.{◌<◌, IfSome, nat_le}
 use Rattle.mm_base.specs.InputLaws.{lines_of-unbroken}
 use Rattle.mm_base.specs.declared.replay_fault.ReplayFault.TheVariants.{ReadFault}
@@ -20,18 +20,18 @@ use Rattle.mm_seal.specs.Snapshot.{Snapshot, variant_of}
 use Rattle.mm_seal.specs.declared.snapshot.Place.{Place as Placed}
 use Rattle.mm_seal.specs.declared.snapshot.PartsFault.{PartsFault}
 use Rattle.mm_seal.specs.declared.snapshot.PartsFault.TheVariants.{Form, Kind}
-use Rattle.mm_model.specs.Judge.{verdict_by_digests}
-use Rattle.mm_call.specs.Found.{Found, found_by_verdict}
-use Rattle.mm_call.specs.Order.{examined}
+use Rattle.mm_model.specs.Verdicts.{verdict_by_digests}
+use Rattle.mm_call.specs.CallFinding.{CallFinding, finding_by_verdict}
+use Rattle.mm_call.specs.Order.{check_of_offer}
 use Rattle.mm_call.specs.Standing.{cell_at, instance_by}
 use Rattle.mm_model.specs.declared.verdict.Verdict.{Verdict}
 use Rattle.mm_recovery.specs.declared.fault.HostFault.TheVariants as host
 use Rattle.mm_store.specs.declared.fault.StoreFault.TheVariants as store
-use Rattle.mm_host.specs.Refusing.{IsNext}
-use Rattle.mm_host.specs.Sessions.{GoesOn, ServesLines}
+use Rattle.mm_host.specs.Refusals.{IsNext}
+use Rattle.mm_host.specs.Sessions.{SessionGoesOn, ServesAllLines}
 use Rattle.mm_host.proofs.ByDigests.{call_leaves, calls_leave}
 use Rattle.mm_host.proofs.CallsMade.{Begun, begun_told, failed, first_by, last_offer, repeats, served_calls, starts}
-use Rattle.mm_host.proofs.Lines.{asks, by_told, fails, IsRead, length-lines_served, line_tries, lines_in, next_line, read_of, Tries}
+use Rattle.mm_host.proofs.Lines.{asks, by_told, fails, IsRead, length-served_lines, line_tries, lines_in, next_line, read_of, Tries}
 use Rattle.mm_host.proofs.RunningOnce.{by_fault}
 use Rattle.std.specs.Result.{result_map_both}
 
@@ -53,29 +53,29 @@ place_same barrier digest one two (InOpt a x) b e = absurd (cc)
 abbrev with_register : List ℕ → Bool → List ℕ → Digests
 with_register digest flag register = record { digest = digest; flag = flag; register = register; count = 0 }
 
-abbrev found_with : Instance → Batch → List ℕ → List ℕ → Bool → List ℕ → Result Found Refusal
-found_with i b offer digest flag register = found_at i (by_digests i) (with_register digest flag register) b offer
+abbrev found_with : Instance → Batch → List ℕ → List ℕ → Bool → List ℕ → Result CallFinding Refusal
+found_with i b offer digest flag register = finding_at i (digest_level i) (with_register digest flag register) b offer
 
 module _ (meaning : Meaning) (key barrier : List ℕ) (b : Batch) (offer digest one two : List ℕ) where
-  abbrev basic_by : List ℕ → Result Snapshot PartsFault → Result Found Refusal
+  abbrev basic_by : List ℕ → Result Snapshot PartsFault → Result CallFinding Refusal
   basic_by register parts =
       let i = instance_by Basic meaning key barrier in
-      found_by_verdict i (by_digests i) (with_register digest false register) b parts
+      finding_by_verdict i (digest_level i) (with_register digest false register) b parts
 
   basic_parts : (parts : Result Snapshot PartsFault) → parts_of Basic meaning.id offer ≡ parts → basic_by one parts ≡ basic_by two parts
   basic_parts (Err Form) e = refl
   basic_parts (Err Kind) e = refl
   basic_parts (Ok snapshot) e =
       ap (λ (v : Verdict). result_map_both (λ again. record { offered = snapshot.content; again = again }) (λ w. w)
-      (examined meaning key snapshot b v))
+      (check_of_offer meaning key snapshot b v))
       (place_same (instance_by Basic meaning key barrier).barrier digest one two snapshot.content.place b
       (spells_read Basic meaning.id offer snapshot e).1.0)
 
 found_same : (v : Variant) (meaning : Meaning) (key barrier : List ℕ) (standing : Standing) (d e : Digests)
     → StandsAt (instance_by v meaning key barrier) standing d → StandsAt (instance_by v meaning key barrier) standing e
     → (b : Batch) (offer : List ℕ)
-    → found_at (instance_by v meaning key barrier) (by_digests (instance_by v meaning key barrier)) d b offer
-    ≡ found_at (instance_by v meaning key barrier) (by_digests (instance_by v meaning key barrier)) e b offer
+    → finding_at (instance_by v meaning key barrier) (digest_level (instance_by v meaning key barrier)) d b offer
+    ≡ finding_at (instance_by v meaning key barrier) (digest_level (instance_by v meaning key barrier)) e b offer
 found_same Basic meaning key barrier standing d e a c b offer =
     let i = instance_by Basic meaning key barrier in
     let cells = cells_same i standing d e a c in
@@ -129,7 +129,7 @@ module _ (variant : Variant) (meaning : Meaning) (key barrier : List ℕ) (after
   i = instance_by variant meaning key barrier
 
   abbrev Judged : (offer request : List ℕ) → Type 0
-  Judged offer request = found_at i (by_digests i) there (One request) offer ≡ Err why
+  Judged offer request = finding_at i (digest_level i) there (One request) offer ≡ Err why
 
   refused_call : (at : Standing) (offer request : List ℕ) → Judged offer request → (call : Result Answer Refusal)
       → IsCall variant meaning at after offer request call → (d : Digests) → StandsAt i at d → (w : Refusal) → call ≡ Err w
@@ -164,11 +164,11 @@ module _ (variant : Variant) (meaning : Meaning) (key barrier : List ℕ) (after
 
 -- What is next of an input.
 
-abbrev IsShort : Pending → Type 0
+abbrev IsShort : PendingRecord → Type 0
 IsShort p = length p.request ≤ longest_request
 
 -- a line isn't longer than what stands before its LF
-long_first : (lines : List (List ℕ)) (front request : List ℕ) (rest : List (List ℕ)) → onto_first front lines ≡ request ∷ rest
+long_first : (lines : List (List ℕ)) (front request : List ℕ) (rest : List (List ℕ)) → lines_with_front front lines ≡ request ∷ rest
     → longest_request < length front → length request ≤ longest_request → ⊥
 long_first [] front request rest e h short = absurd (cc)
 long_first (line ∷ lines) front request rest e h short =
@@ -194,9 +194,9 @@ none_next more rest request lines u at_end e =
     ap lines_of (ap (λ (x : List ℕ). more ++ x) at_end ∙ append-nil more) ∙ lines_of-unbroken more u in
     absurd (cc)
 
-next_ends : {variant : Variant} {meaning : Meaning} {from : Place} {after : Standing} {new : StoreStanding} {left : Option (List ℕ)}
+next_ends : {variant : Variant} {meaning : Meaning} {from : SessionPlace} {after : Standing} {new : StoreStanding} {left : Option (List ℕ)}
     {taken sent input : List ℕ} (why : Refusal) (result : Result Unit SessionFault)
-    (l : ServesLines variant meaning 1 from after new left taken sent result) (r : IsRead input taken left) (request : List ℕ)
+    (l : ServesAllLines variant meaning 1 from after new left taken sent result) (r : IsRead input taken left) (request : List ℕ)
     (lines : List (List ℕ)) → lines_of (l.more ++ r.rest) ≡ request ∷ lines → length request ≤ longest_request
     → length l.calls + 1 ≤ most_lines
     → ((fault : SessionFault) → StopsInLine variant meaning (length l.calls + 1) l.at after new l.more l.last fault → EndsFor why fault)
@@ -213,16 +213,16 @@ next_ends why (Err (Lines (LineLong line))) l r request lines e short few stops 
     absurd (not_long l.more r.rest request lines e short l.ends.2)
 next_ends why (Err (Lines TooMuch)) l r request lines e short few stops = absurd (omega (arith, few, l.ends.1))
 
-requests_cancel : (waiting : Option Pending) (a b : List (List ℕ)) → requests_with waiting a ≡ requests_with waiting b → a ≡ b
+requests_cancel : (waiting : Option PendingRecord) (a b : List (List ℕ)) → requests_with waiting a ≡ requests_with waiting b → a ≡ b
 requests_cancel None a b e = e
 requests_cancel (Some p) a b e = cc
 
 -- what waits is no longer than a line
-record_short : (slot : ℕ) (bytes : List ℕ) (found : Option Pending) → ReadsPending slot bytes found → IfSome found IsShort
+record_short : (slot : ℕ) (bytes : List ℕ) (found : Option PendingRecord) → ReadsPending slot bytes found → IfSome found IsShort
 record_short slot bytes None r = tt
 record_short slot bytes (Some p) r = r.0.line.short
 
-later_short : (two three : Option Pending) → IfSome two IsShort → IfSome three IsShort → IfSome (later two three) IsShort
+later_short : (two three : Option PendingRecord) → IfSome two IsShort → IfSome three IsShort → IfSome (later_record two three) IsShort
 later_short None three a b = b
 later_short (Some two) None a b = a
 later_short (Some two) (Some three) a b = chosen (nat_le three.position two.position)
@@ -231,13 +231,13 @@ later_short (Some two) (Some three) a b = chosen (nat_le three.position two.posi
     chosen true = a
     chosen false = b
 
-waiting_short : (two three : List ℕ) (waiting : Option Pending) → IsWaiting two three waiting → IfSome waiting IsShort
+waiting_short : (two three : List ℕ) (waiting : Option PendingRecord) → IsWaiting two three waiting → IfSome waiting IsShort
 waiting_short two three waiting w =
     rw w.is (later_short w.in_two w.in_three (record_short 2 two w.in_two w.reads_two) (record_short 3 three w.in_three w.reads_three))
 
 -- a session that the host ends has a line in hand, which isn't one too many
-few_by : {variant : Variant} {meaning : Meaning} {from : Place} {after : Standing} {new : StoreStanding} {left : Option (List ℕ)}
-    {taken sent : List ℕ} (result : Result Unit SessionFault) (l : ServesLines variant meaning 1 from after new left taken sent result)
+few_by : {variant : Variant} {meaning : Meaning} {from : SessionPlace} {after : Standing} {new : StoreStanding} {left : Option (List ℕ)}
+    {taken sent : List ℕ} (result : Result Unit SessionFault) (l : ServesAllLines variant meaning 1 from after new left taken sent result)
     (fault : HostFault) → result ≡ Err (Host fault) → length l.calls + 1 ≤ most_lines
 few_by (Ok done) l fault e = absurd (cc)
 few_by (Err (Host is)) l fault e = l.ends.few
@@ -246,50 +246,50 @@ few_by (Err (Lines is)) l fault e = absurd (cc)
 -- A session whose next request is refused by the digests at its end.
 module _ {variant : Variant} {meaning : Meaning} {before after : Standing} {old new : StoreStanding}
     {left left' received received' : Option (List ℕ)} {result : Result Unit SessionFault}
-    (s : Sessions variant meaning before after old new left left' received received' result) (slots : Slots) (waiting : Option Pending)
-    (slots_told : old.slots ≡ Some slots) (w : IsWaiting (slot_read slots 2) (slot_read slots 3) waiting) (input : List ℕ)
+    (s : IsSession variant meaning before after old new left left' received received' result) (slots : Slots) (waiting : Option PendingRecord)
+    (slots_told : old.slots ≡ Some slots) (w : IsWaiting (slot_front slots 2) (slot_front slots 3) waiting) (input : List ℕ)
     (left_told : left ≡ Some input) where
   abbrev Goes : Type 0
-  Goes = AfterResume variant meaning s.begun s.platform after s.store new left' s.taken s.sent result
+  Goes = GoesAfterResume variant meaning s.begun s.platform after s.store new left' s.taken s.sent result
 
   abbrev first : List ℕ
   first = first_offer slots waiting
 
   -- the request in hand is next, where it was refused
   in_hand_by : (fault : HostFault) → result ≡ Err (Host fault) → (goes : Goes) (request : List ℕ) → IsInHand waiting goes request
-      → IsNext waiting input (told_in waiting goes) request
+      → IsNext waiting input (served_calls_in waiting goes) request
   in_hand_by fault e (inl stops) request h = record {
     lines = [];
     asked = rw h.1 (ap (λ (x : List ℕ). x ∷ []) (sym h.2));
     first = (lines_of input, refl);
     few = omega arith;
-    short = rw (sym h.2) (rw h.1 at (waiting_short (slot_read slots 2) (slot_read slots 3) waiting w));
+    short = rw (sym h.2) (rw h.1 at (waiting_short (slot_front slots 2) (slot_front slots 3) waiting w));
   }
   in_hand_by fault e (inr g) request h =
       let l = g.lines in
       let read = read_of left left' input s.taken left_told s.consumed in
       let f = first_by s first waiting (begun_told s slots waiting slots_told w) g.first g.begins in
       record {
-        lines = lines_served l.calls ++ request ∷ [];
+        lines = served_lines l.calls ++ request ∷ [];
         asked = f.told l.calls (request ∷ []);
         first = (
           lines_of (h.0 ++ read.rest),
-          append_assoc (lines_served l.calls) (request ∷ []) (lines_of (h.0 ++ read.rest))
-              ∙ ap (λ (x : List (List ℕ)). lines_served l.calls ++ x) (sym (next_line l.more read.rest request h.0 h.1))
+          append_assoc (served_lines l.calls) (request ∷ []) (lines_of (h.0 ++ read.rest))
+              ∙ ap (λ (x : List (List ℕ)). served_lines l.calls ++ x) (sym (next_line l.more read.rest request h.0 h.1))
               ∙ sym (lines_in l read),
         );
-        few = omega (arith, few_by result l fault e, length-append (lines_served l.calls) (request ∷ []), length-lines_served l.calls);
+        few = omega (arith, few_by result l fault e, length-append (served_lines l.calls) (request ∷ []), length-served_lines l.calls);
         short = h.1.within.short;
       }
 
   pub next_in_hand : (fault : HostFault) → result ≡ Err (Host fault) → (request : List ℕ) → IsInHand waiting s.goes request
-      → IsNext waiting input (told_in waiting s.goes) request
+      → IsNext waiting input (served_calls_in waiting s.goes) request
   next_in_hand fault e request h = in_hand_by fault e s.goes request h
 
   module _ (key barrier : List ℕ) (d there : Digests) (starts_at : StandsAt (instance_by variant meaning key barrier) before d)
       (ends_at : StandsAt (instance_by variant meaning key barrier) after there) (why : Refusal) (request : List ℕ) where
-    abbrev JudgedBehind : List Served → Type 0
-    JudgedBehind told = Judged variant meaning key barrier after there ends_at why (offered_after first told) request
+    abbrev JudgedBehind : List ServedCall → Type 0
+    JudgedBehind told = Judged variant meaning key barrier after there ends_at why (offer_after first told) request
 
     at_once_ends : (stops : StopsAtOnce s.begun s.taken s.sent result) → Begun variant meaning before after first waiting s.begun
         → IsNext waiting input [] request → JudgedBehind [] → EndsFor why stops.fault
@@ -297,38 +297,38 @@ module _ {variant : Variant} {meaning : Meaning} {before after : Standing} {old 
     at_once_ends stops (starts same none e) n judged =
         by_told (EndsFor why) s.begun s.sent stops.fault stops.says (λ x k. absurd (cc)) (λ r. absurd (r (ap reply_text e)))
     at_once_ends stops (repeats p some call c t) n judged =
-        let asked : request ∷ [] ≡ p.request ∷ n.lines = n.asked ∙ ap (λ (x : Option Pending). requests_with x n.lines) some in
+        let asked : request ∷ [] ≡ p.request ∷ n.lines = n.asked ∙ ap (λ (x : Option PendingRecord). requests_with x n.lines) some in
         let is : request ≡ p.request = cc in
         tried_ends variant meaning key barrier after there ends_at why before first p.request
         (subst (λ (x : List ℕ). Judged variant meaning key barrier after there ends_at why first x) is judged) s.begun (asks call c t) d
         starts_at s.sent stops.fault stops.says
 
-    lines_ends : (g : GoesOn variant meaning s.begun s.platform after s.store new left' s.taken s.sent result)
-        → IsNext waiting input (told_first waiting g.first ++ g.lines.calls) request
-        → JudgedBehind (told_first waiting g.first ++ g.lines.calls) → RefusesOrFails why result
+    lines_ends : (g : SessionGoesOn variant meaning s.begun s.platform after s.store new left' s.taken s.sent result)
+        → IsNext waiting input (first_served_call waiting g.first ++ g.lines.calls) request
+        → JudgedBehind (first_served_call waiting g.first ++ g.lines.calls) → RefusesOrFails why result
     lines_ends g n judged =
         let l = g.lines in
         let read = read_of left left' input s.taken left_told s.consumed in
         let f = first_by s first waiting (begun_told s slots waiting slots_told w) g.first g.begins in
-        let lines_are : n.lines ≡ lines_served l.calls ++ request ∷ [] =
-        requests_cancel waiting n.lines (lines_served l.calls ++ request ∷ []) (sym n.asked ∙ f.told l.calls (request ∷ [])) in
-        let all : lines_served l.calls ++ lines_of (l.more ++ read.rest) ≡ lines_served l.calls ++ request ∷ n.first.0 =
+        let lines_are : n.lines ≡ served_lines l.calls ++ request ∷ [] =
+        requests_cancel waiting n.lines (served_lines l.calls ++ request ∷ []) (sym n.asked ∙ f.told l.calls (request ∷ [])) in
+        let all : served_lines l.calls ++ lines_of (l.more ++ read.rest) ≡ served_lines l.calls ++ request ∷ n.first.0 =
         sym (lines_in l read) ∙ sym n.first.1 ∙ ap (λ (x : List (List ℕ)). x ++ n.first.0) lines_are
-        ∙ append_assoc (lines_served l.calls) (request ∷ []) n.first.0 in
-        let next : lines_of (l.more ++ read.rest) ≡ request ∷ n.first.0 = append_cancel_left (lines_served l.calls) _ _ all in
+        ∙ append_assoc (served_lines l.calls) (request ∷ []) n.first.0 in
+        let next : lines_of (l.more ++ read.rest) ≡ request ∷ n.first.0 = append_cancel_left (served_lines l.calls) _ _ all in
         let calls = f.calls l.calls l.at.platform
         (served_calls variant meaning _ l.at l.calls l.serves) in
-        let there_at = calls_leave variant meaning key barrier first before l.at.platform (told_first waiting g.first ++ l.calls) calls d
+        let there_at = calls_leave variant meaning key barrier first before l.at.platform (first_served_call waiting g.first ++ l.calls) calls d
         starts_at in
-        let offer_is : offered_after first (told_first waiting g.first ++ l.calls) ≡ snapshot_at l.at.last =
+        let offer_is : offer_after first (first_served_call waiting g.first ++ l.calls) ≡ snapshot_at l.at.last =
         f.offers l.calls ∙ last_offer variant meaning _ l.at l.calls l.serves in
         next_ends why result l read request n.first.0 next n.short
         (omega (
           arith,
           n.few,
           ap (λ (x : List (List ℕ)). length x) lines_are,
-          length-append (lines_served l.calls) (request ∷ []),
-          length-lines_served l.calls,
+          length-append (served_lines l.calls) (request ∷ []),
+          length-served_lines l.calls,
         ))
         (λ fault e.
         let begins : lines_of (l.more ++ read.rest) ≡ e.line ∷ lines_of (e.held ++ read.rest) =
@@ -337,12 +337,12 @@ module _ {variant : Variant} {meaning : Meaning} {before after : Standing} {old 
         tried_ends variant meaning key barrier after there ends_at why l.at.platform (snapshot_at l.at.last) e.line
         (rw (sym is, sym offer_is) judged) e.came (line_tries e.asks) there_at.digests there_at.stands l.last fault e.says)
 
-    next_by : (goes : Goes) → IsNext waiting input (told_in waiting goes) request → JudgedBehind (told_in waiting goes)
+    next_by : (goes : Goes) → IsNext waiting input (served_calls_in waiting goes) request → JudgedBehind (served_calls_in waiting goes)
         → RefusesOrFails why result
     next_by (inl e) n judged =
         rw e.2.stops (at_once_ends e.2 (rw e.0 (begun_told s slots waiting slots_told w)) n judged)
     next_by (inr g) n judged = lines_ends g n judged
 
-    pub next_refused : IsNext waiting input (told_in waiting s.goes) request → JudgedBehind (told_in waiting s.goes)
+    pub next_refused : IsNext waiting input (served_calls_in waiting s.goes) request → JudgedBehind (served_calls_in waiting s.goes)
         → RefusesOrFails why result
     next_refused = next_by s.goes

@@ -1,24 +1,24 @@
 -- What the calls of a session lead to in Opt.
 use Rattle.mm_host.proofs.Below.{◌≡◌, ℕ, Bool, true, false, List, [], ◌∷◌, ◌++◌, length, refl, sym, ap, ◌∙◌, inl, inr, append-nil}
-use Rattle.mm_host.proofs.Below.{zero_bytes, Opt, Meaning, Batch, InBasic, InOpt, Instance, opt, Entry, History, first_history}
-use Rattle.mm_host.proofs.Below.{has_value, is_empty, IsPoint, at_anchor, in_closed, in_current, IsPlaceOf, anchor_after, issued}
+use Rattle.mm_host.proofs.Below.{zero_bytes, Opt, Meaning, Batch, InBasic, InOpt, Instance, opt_instance, RegisterEntry, History, first_history}
+use Rattle.mm_host.proofs.Below.{has_value, is_empty, IsPoint, at_anchor, in_closed, in_current, IsPlaceOf, anchor_after, content_of_issue}
 use Rattle.mm_host.proofs.Below.{digest_of, IsSound, batches_in, has_value-append, bare, ◌+◌, Some, Result, Ok, append_assoc, arith}
-use Rattle.mm_host.proofs.Below.{append_cancel_right, Item, Standing, IsLawful, One, Commit, moved, register_value_of, total_of}
-use Rattle.mm_host.proofs.Below.{BatchAnswer, Refusal, counted_part, CallsOn, found_at, by_digests, all_made, shown, standing_items}
+use Rattle.mm_host.proofs.Below.{append_cancel_right, Item, Standing, IsLawful, One, Commit, history_after, register_value_of, total_of}
+use Rattle.mm_host.proofs.Below.{BatchAnswer, Refusal, counted_part, IsCallOnCourse, finding_at, digest_level, state_after_moves, items_after_moves, standing_items}
 use Rattle.mm_host.proofs.Below.{counted_open, asks, Alike, still, grown_by, alike_commit, clean_open, issued_alike, names_after, opened}
 use Rattle.mm_host.proofs.Below.{same_closed, issued_content, answered_at, Hands, hands, IsClear, AreNoGuards, flag_kept, pushed_open}
-use Rattle.mm_host.proofs.Below.{shown_front, Pending, one_more, Met, IsGrownBy, opt_met, opt_met_idle, opt_grown, issued_in_opt}
+use Rattle.mm_host.proofs.Below.{shown_front, PendingRecord, one_more, Met, IsGrownBy, opt_met, opt_met_idle, opt_grown, issued_in_opt}
 use Rattle.mm_host.proofs.Below.{◌⊎◌, ◌≤◌, last_position, not_lost}
 use Rattle.mm_seal.specs.declared.snapshot.Place.{Place}
-use Rattle.mm_model.specs.History.{joined}
+use Rattle.mm_model.specs.History.{items_of_all}
 use Rattle.mm_model.specs.ListLaws.{each_left}
 use Rattle.mm_model.specs.HistoryLaws.{length-batches_in}
 use Rattle.mm_model.specs.SegmentLaws.{no_segments}
 use Rattle.std.specs.Option.{option_map}
-use Rattle.mm_model.specs.Steps.{Step}
-use Rattle.mm_call.specs.Called.{called, seen_at}
-use Rattle.mm_call.specs.Courses.{walk, closes}
-use Rattle.mm_call.specs.FoundWords.{found_unless_wanting, is_fresh}
+use Rattle.mm_model.specs.Steps.{DeviceStep}
+use Rattle.mm_call.specs.CallOutcome.{call_outcome, state_seen}
+use Rattle.mm_call.specs.Courses.{walk, has_close}
+use Rattle.mm_call.specs.CallFindingWords.{finding_unless_wanting, is_fresh}
 use Rattle.mm_call.specs.AlongLaws.{opt_closes}
 use Rattle.mm_host.proofs.Leading.{Laws, Makes, names_none, push_batches, Reaches, ShowsAt}
 
@@ -26,25 +26,25 @@ none_of : {A : Type 0} (xs ys : List A) → xs ++ ys ≡ [] → (xs ≡ []) × (
 none_of [] ys e = (refl, e)
 none_of (x ∷ xs) ys e = absurd (cc)
 
-marred_in : (before : List (List Entry)) (last : List Entry) → has_value last ≡ true → has_value (joined (before ++ last ∷ [])) ≡ true
+marred_in : (before : List (List RegisterEntry)) (last : List RegisterEntry) → has_value last ≡ true → has_value (items_of_all (before ++ last ∷ [])) ≡ true
 marred_in [] last e = ap has_value (append-nil last) ∙ e
 marred_in (segment ∷ before) last e =
     let rest = marred_in before last e in rw has_value-append (grind (arith, rest))
 
-clean_batches : (y : History) → IsSound y → has_value (joined y.closed) ≡ false → y.batches ≡ batches_in (joined y.closed) ++ y.current
+clean_batches : (y : History) → IsSound y → has_value (items_of_all y.closed) ≡ false → y.batches ≡ batches_in (items_of_all y.closed) ++ y.current
 clean_batches y sound clean =
     elim sound.history [
       | inl c ↦ c.batches
       | inr m ↦
-          let clash : true ≡ false = sym (ap (λ (s : List (List Entry)). has_value (joined s)) m.split
+          let clash : true ≡ false = sym (ap (λ (s : List (List RegisterEntry)). has_value (items_of_all s)) m.split
           ∙ marred_in m.before m.last m.marred) ∙ clean in absurd (cc)
     ]
 
-pub opt_begins : (y : History) → IsSound y → y.batches ≡ [] → has_value (joined y.closed) ≡ false → bare y ≡ bare first_history
+pub opt_begins : (y : History) → IsSound y → y.batches ≡ [] → has_value (items_of_all y.closed) ≡ false → bare y ≡ bare first_history
 opt_begins y sound none clean =
-    let both = none_of (batches_in (joined y.closed)) y.current (sym (clean_batches y sound clean) ∙ none) in
+    let both = none_of (batches_in (items_of_all y.closed)) y.current (sym (clean_batches y sound clean) ∙ none) in
     let closed : y.closed ≡ [] = no_segments y.closed sound.filled
-    (sym (length-batches_in (joined y.closed) clean) ∙ ap (λ (bs : List Batch). length bs) both.0) in
+    (sym (length-batches_in (items_of_all y.closed) clean) ∙ ap (λ (bs : List Batch). length bs) both.0) in
     let shut : y.is_open ≡ false = sound.shut_is (ap is_empty both.1) in
     λ j. record { batches = none j; closed = closed j; current = both.1 j; is_open = shut j; items = [] }
 
@@ -56,7 +56,7 @@ not_taken named done taken e is begun =
 first_point : (i : Instance) (y : History) (named : List Batch) (a e : List ℕ) → IsSound y → named ≡ [] → IsPoint i y named a e
     → (a ≡ anchor_after i []) × (e ≡ zero_bytes)
 first_point i y named a e sound none (at_anchor p) =
-    let filled = each_left (λ (segment : List Entry). is_empty segment ≡ false) p.before p.later
+    let filled = each_left (λ (segment : List RegisterEntry). is_empty segment ≡ false) p.before p.later
     (rw p.split at sound.filled) in
     let before : p.before ≡ [] = no_segments p.before filled (sym p.counted ∙ ap (λ (bs : List Batch). length bs) none) in
     (p.anchor_is ∙ ap (anchor_after i) before, p.extension_is)
@@ -64,42 +64,42 @@ first_point i y named a e sound none (in_closed p) = absurd (not_taken named p.d
 first_point i y named a e sound none (in_current p) = absurd (not_taken named p.done p.taken none p.named_is p.begun)
 
 pub opt_place : (meaning : Meaning) (key barrier : List ℕ) (y : History) (named : List Batch) (place : Place) → IsSound y
-    → IsPlaceOf Opt (opt meaning key barrier) y named place → named ≡ [] → place ≡ (issued (opt meaning key barrier) first_history).place
+    → IsPlaceOf Opt (opt_instance meaning key barrier) y named place → named ≡ [] → place ≡ (content_of_issue (opt_instance meaning key barrier) first_history).place
 opt_place meaning key barrier y named (InBasic s) sound p e = absurd p
 opt_place meaning key barrier y named (InOpt a b) sound p e =
-    let f = first_point (opt meaning key barrier) y named a.bytes b.bytes sound e p in
+    let f = first_point (opt_instance meaning key barrier) y named a.bytes b.bytes sound e p in
     ap (λ (x : List ℕ). InOpt (digest_of x) (digest_of b.bytes)) f.0
-    ∙ ap (λ (x : List ℕ). InOpt (digest_of (anchor_after (opt meaning key barrier) [])) (digest_of x)) f.1
+    ∙ ap (λ (x : List ℕ). InOpt (digest_of (anchor_after (opt_instance meaning key barrier) [])) (digest_of x)) f.1
 
 -- What the calls of a session lead to in Opt.
 
 opt_reach : (meaning : Meaning) (key barrier : List ℕ) (old new : Standing) (offer request : List ℕ) (gives : Result BatchAnswer Refusal)
-    → CallsOn Opt meaning old new offer (One request) gives → Reaches Opt (opt meaning key barrier) old new
+    → IsCallOnCourse Opt meaning old new offer (One request) gives → Reaches Opt (opt_instance meaning key barrier) old new
 opt_reach meaning key barrier old new offer request gives c = λ d s f items known.
-    let i : Instance = opt meaning key barrier in
+    let i : Instance = opt_instance meaning key barrier in
     let b : Batch = One request in
-    let o = called i (by_digests i) d c.course offer b in
+    let o = call_outcome i (digest_level i) d c.course offer b in
     let g = c.goes key barrier d s in
     let p = pushed_open meaning key barrier d c.course offer b f in
     let fresh : Bool = is_fresh
-    (found_unless_wanting (found_at i (by_digests i) (seen_at i (by_digests i) d c.course) b offer) c.course.lacks) in
-    let quiet : closes o.moves ≡ false = ap (λ (st : List Step). closes (walk c.course.fates 1 st).moves) (asks d.flag fresh b)
+    (finding_unless_wanting (finding_at i (digest_level i) (state_seen i (digest_level i) d c.course) b offer) c.course.lacks) in
+    let quiet : has_close o.moves ≡ false = ap (λ (st : List DeviceStep). has_close (walk c.course.fates 1 st).moves) (asks d.flag fresh b)
     ∙ opt_closes c.course.fates d.flag fresh b in
     record {
-      digests = all_made (by_digests i) d o.moves;
+      digests = state_after_moves (digest_level i) d o.moves;
       stands = g.stands;
       flag = flag_kept meaning key barrier o.moves d f quiet;
       more = p.more;
-      shows = g.items ∙ ap (option_map (shown i d o.moves)) known ∙ ap (λ (xs : List Item). Some xs) (p.are items);
+      shows = g.items ∙ ap (option_map (items_after_moves i d o.moves)) known ∙ ap (λ (xs : List Item). Some xs) (p.are items);
     }
 
 -- a call that was answered, with others behind it
 module _ (meaning : Meaning) (lawful : IsLawful meaning) (key barrier : List ℕ) (all others : List (List ℕ)) (asked : List Batch)
-    (final : Standing) (y : History) (old middle : Standing) (offer : List ℕ) (p : Pending) (answer : BatchAnswer)
-    (m : Makes all others asked (opt meaning key barrier) y old middle offer p (Ok answer))
-    (shows : ShowsAt all others (opt meaning key barrier) y old final) where
+    (final : Standing) (y : History) (old middle : Standing) (offer : List ℕ) (p : PendingRecord) (answer : BatchAnswer)
+    (m : Makes all others asked (opt_instance meaning key barrier) y old middle offer p (Ok answer))
+    (shows : ShowsAt all others (opt_instance meaning key barrier) y old final) where
   abbrev i : Instance
-  i = opt meaning key barrier
+  i = opt_instance meaning key barrier
 
   abbrev Between : Type 0
   Between = (o : Met all others asked i y middle offer p (Ok answer)) × ShowsAt all others i o.after middle final
@@ -197,16 +197,16 @@ module _ (meaning : Meaning) (lawful : IsLawful meaning) (key barrier : List ℕ
       between_by h h.left.after.is_open refl
 
 opt_grow : (meaning : Meaning) (key barrier : List ℕ) (y z after : History) (b : Batch) → IsSound after
-    → (has_value (joined y.closed) ≡ false → bare y ≡ bare z)
-    → bare after ≡ bare (moved (opt meaning key barrier) y (Commit b)) → bare after ≡ bare (moved (opt meaning key barrier) z (Commit b))
+    → (has_value (items_of_all y.closed) ≡ false → bare y ≡ bare z)
+    → bare after ≡ bare (history_after (opt_instance meaning key barrier) y (Commit b)) → bare after ≡ bare (history_after (opt_instance meaning key barrier) z (Commit b))
 opt_grow meaning key barrier y z after b sound like e =
-    let clean : has_value (joined y.closed) ≡ false =
-    ap (λ (s : List (List Entry)). has_value (joined s)) (sym (same_closed meaning key barrier y after b e))
+    let clean : has_value (items_of_all y.closed) ≡ false =
+    ap (λ (s : List (List RegisterEntry)). has_value (items_of_all s)) (sym (same_closed meaning key barrier y after b e))
     ∙ clean_open after sound (opened meaning key barrier y after b e) in
     e ∙ alike_commit meaning key barrier y z b (like clean)
 
 pub opt_laws : (meaning : Meaning) → IsLawful meaning → (key barrier : List ℕ) (all others : List (List ℕ)) (asked : List Batch)
-    (final : Standing) → IsClear all → AreNoGuards barrier others asked → Laws all others asked (opt meaning key barrier) final
+    (final : Standing) → IsClear all → AreNoGuards barrier others asked → Laws all others asked (opt_instance meaning key barrier) final
 opt_laws meaning lawful key barrier all others asked final clear apart = record {
   lawful = lawful;
   clear = clear;
@@ -225,5 +225,5 @@ opt_laws meaning lawful key barrier all others asked final clear apart = record 
   grow = opt_grow meaning key barrier;
   begins = opt_begins;
   placed = λ y content sound n e.
-      opt_place meaning key barrier y n.named content.place sound n.place (names_none (opt meaning key barrier) y content n e);
+      opt_place meaning key barrier y n.named content.place sound n.place (names_none (opt_instance meaning key barrier) y content n e);
 }

@@ -1,8 +1,8 @@
 -- What waits, and what fits, once the record of a next request was written, whole or torn.
 use Rattle.mm_host.proofs.Below.{◌≡◌, ◌∙◌, ◌+◌, ◌-◌, ◌%◌, ◌<◌, ◌≤◌, ℕ, List, take, Option, None, Some, refl, sym, ap, inl, inr, arith}
 use Rattle.mm_host.proofs.Below.{◌⊎◌, nat_tests, MayGrow, last_position, longest_request, Instance, History, total_of}
-use Rattle.mm_host.proofs.Below.{Pending, ReadsPending, pending_spelling, Slots, longest_slot, slot_read, with_slot, one_reading}
-use Rattle.mm_host.proofs.Below.{IsNotBeyond, waiting_position, FitsHistory, FitsBy, Holds, IsWaiting, later}
+use Rattle.mm_host.proofs.Below.{PendingRecord, ReadsPending, pending_spelling, Slots, longest_slot, slot_front, slots_with, one_reading}
+use Rattle.mm_host.proofs.Below.{IsNotBeyond, waiting_position, FitsHistory, FitsBy, IsSnapshotAt, IsWaiting, later_record}
 use Rattle.std.proofs.lemmas.Bool.{cases_lt}
 use Rattle.mm_store.proofs.Above.{slot_in-with_slot}
 use Rattle.mm_host.proofs.Below.{beyond_none, waiting_position, waiting_most}
@@ -17,16 +17,16 @@ sides n = elim (cases_lt (n % 2) 1) [ inl h ↦ inl (omega arith, omega arith) |
 
 -- The slot of the next record was written: the other record is as before, and so are the snapshots.
 pub record IsPut (slots other : Slots) (position : ℕ) (bytes : List ℕ) : Type 0 where
-  pub snapshots : (n : ℕ) → slot_read other (n % 2) ≡ slot_read slots (n % 2)
-  pub here : slot_read other (2 + position % 2) ≡ slot_read slots (2 + position % 2)
-  pub next : slot_read other (2 + (position + 1) % 2) ≡ take longest_slot bytes
+  pub snapshots : (n : ℕ) → slot_front other (n % 2) ≡ slot_front slots (n % 2)
+  pub here : slot_front other (2 + position % 2) ≡ slot_front slots (2 + position % 2)
+  pub next : slot_front other (2 + (position + 1) % 2) ≡ take longest_slot bytes
 
 -- a slot that wasn't written shows what it did
 unwritten : (slots : Slots) (bytes : List ℕ) (n m : ℕ) → n < 4 → m < 4 → (n ≡ m → ⊥)
-    → slot_read (with_slot slots n bytes) m ≡ slot_read slots m
+    → slot_front (slots_with slots n bytes) m ≡ slot_front slots m
 unwritten slots bytes n m small least unless = grind (arith, nat_tests, small, least, unless)
 
-pub put_next : (slots : Slots) (position : ℕ) (bytes : List ℕ) → IsPut slots (with_slot slots (2 + (position + 1) % 2) bytes) position bytes
+pub put_next : (slots : Slots) (position : ℕ) (bytes : List ℕ) → IsPut slots (slots_with slots (2 + (position + 1) % 2) bytes) position bytes
 put_next slots position bytes = record {
   snapshots = λ n. unwritten slots bytes (2 + (position + 1) % 2) (n % 2) (omega arith) (omega arith) (λ e. omega (arith, e));
   here = unwritten slots bytes (2 + (position + 1) % 2) (2 + position % 2) (omega arith) (omega arith) (λ e. omega (arith, e));
@@ -34,32 +34,32 @@ put_next slots position bytes = record {
 }
 
 -- The later of two records is one of them, and of no earlier position than either.
-record IsLater (a b w : Option Pending) : Type 0 where
+record IsLater (a b w : Option PendingRecord) : Type 0 where
   is : (w ≡ a) ⊎ (w ≡ b)
   over_first : waiting_position a ≤ waiting_position w
   over_second : waiting_position b ≤ waiting_position w
 
-later_swap : (a b w : Option Pending) → IsLater a b w → IsLater b a w
+later_swap : (a b w : Option PendingRecord) → IsLater a b w → IsLater b a w
 later_swap a b w l =
     record { is = elim l.is [ inl e ↦ inr e | inr e ↦ inl e ]; over_first = l.over_second; over_second = l.over_first }
 
-later_is : (a b : Option Pending) → IsLater a b (later a b)
+later_is : (a b : Option PendingRecord) → IsLater a b (later_record a b)
 later_is None b = record { is = inr refl; over_first = omega arith; over_second = omega arith }
 later_is (Some p) None = record { is = inl refl; over_first = omega arith; over_second = omega arith }
 later_is (Some p) (Some q) = grind (arith, nat_tests)
 
-later_only : (a b w : Option Pending) → IsLater a b w → waiting_position a < waiting_position b → b ≡ w
+later_only : (a b w : Option PendingRecord) → IsLater a b w → waiting_position a < waiting_position b → b ≡ w
 later_only a b w l h = elim l.is [ inl e ↦ absurd (omega (arith, h, l.over_second, ap waiting_position e)) | inr e ↦ sym e ]
 
 -- what waits, by the record of one slot and that of the other
-record Reads (slots : Slots) (kept other : ℕ) (w : Option Pending) : Type 0 where
-  here : Option Pending
-  there : Option Pending
-  reads_here : ReadsPending kept (slot_read slots kept) here
-  reads_there : ReadsPending other (slot_read slots other) there
+record Reads (slots : Slots) (kept other : ℕ) (w : Option PendingRecord) : Type 0 where
+  here : Option PendingRecord
+  there : Option PendingRecord
+  reads_here : ReadsPending kept (slot_front slots kept) here
+  reads_there : ReadsPending other (slot_front slots other) there
   later_of : IsLater here there w
 
-reads_of : (slots : Slots) (kept other : ℕ) (w : Option Pending) → AreSides kept other → IsWaiting (slot_read slots 2) (slot_read slots 3) w
+reads_of : (slots : Slots) (kept other : ℕ) (w : Option PendingRecord) → AreSides kept other → IsWaiting (slot_front slots 2) (slot_front slots 3) w
     → Reads slots kept other w
 reads_of slots kept other w (inl s) a = rw (s.0, s.1) (record {
   here = a.in_two;
@@ -77,36 +77,36 @@ reads_of slots kept other w (inr s) a = rw (s.0, s.1) (record {
       (rw a.is (later_is a.in_two a.in_three));
 })
 
-waits_of : (slots : Slots) (kept other : ℕ) (here : Option Pending) (next : Pending) → AreSides kept other
-    → ReadsPending kept (slot_read slots kept) here → ReadsPending other (slot_read slots other) (Some next)
-    → waiting_position here < next.position → IsWaiting (slot_read slots 2) (slot_read slots 3) (Some next)
+waits_of : (slots : Slots) (kept other : ℕ) (here : Option PendingRecord) (next : PendingRecord) → AreSides kept other
+    → ReadsPending kept (slot_front slots kept) here → ReadsPending other (slot_front slots other) (Some next)
+    → waiting_position here < next.position → IsWaiting (slot_front slots 2) (slot_front slots 3) (Some next)
 waits_of slots kept other here next (inl s) r t h = record {
   in_two = here;
   in_three = Some next;
   reads_two = rw s.0 at r;
   reads_three = rw s.1 at t;
-  is = later_only here (Some next) (later here (Some next)) (later_is here (Some next)) h;
+  is = later_only here (Some next) (later_record here (Some next)) (later_is here (Some next)) h;
 }
 waits_of slots kept other here next (inr s) r t h = record {
   in_two = Some next;
   in_three = here;
   reads_two = rw s.1 at t;
   reads_three = rw s.0 at r;
-  is = later_only here (Some next) (later (Some next) here)
-      (later_swap (Some next) here (later (Some next) here) (later_is (Some next) here)) h;
+  is = later_only here (Some next) (later_record (Some next) here)
+      (later_swap (Some next) here (later_record (Some next) here) (later_is (Some next) here)) h;
 }
 
 -- the record that was written whole waits
 
-pub record IsNext (position : ℕ) (next : Pending) (bytes : List ℕ) : Type 0 where
+pub record IsNext (position : ℕ) (next : PendingRecord) (bytes : List ℕ) : Type 0 where
   pub follows : next.position ≡ position + 1
   pub most : next.position ≤ last_position
   pub line : MayGrow longest_request next.request
   pub spelled : take longest_slot bytes ≡ pending_spelling next
 
-pub waits_next : (slots other : Slots) (position : ℕ) (bytes : List ℕ) (w : Option Pending) (next : Pending)
-    → IsWaiting (slot_read slots 2) (slot_read slots 3) w → waiting_position w ≤ position → IsNext position next bytes
-    → IsPut slots other position bytes → IsWaiting (slot_read other 2) (slot_read other 3) (Some next)
+pub waits_next : (slots other : Slots) (position : ℕ) (bytes : List ℕ) (w : Option PendingRecord) (next : PendingRecord)
+    → IsWaiting (slot_front slots 2) (slot_front slots 3) w → waiting_position w ≤ position → IsNext position next bytes
+    → IsPut slots other position bytes → IsWaiting (slot_front other 2) (slot_front other 3) (Some next)
 waits_next slots other position bytes w next a h n p =
     let r = reads_of slots (2 + position % 2) (2 + (position + 1) % 2) w (sides position) a in
     waits_of other (2 + position % 2) (2 + (position + 1) % 2) r.here next (sides position)
@@ -123,7 +123,7 @@ waits_next slots other position bytes w next a h n p =
 -- a torn record
 
 -- what isn't in this slot is of the other parity
-elsewhere : (slot other position : ℕ) (xs ys : List ℕ) (a b w : Option Pending) → ReadsPending slot xs a → ReadsPending other ys b
+elsewhere : (slot other position : ℕ) (xs ys : List ℕ) (a b w : Option PendingRecord) → ReadsPending slot xs a → ReadsPending other ys b
     → other ≡ 2 + (position + 1) % 2 → (w ≡ a) ⊎ (w ≡ b) → waiting_position a ≤ waiting_position w
     → (w ≡ a) ⊎ (waiting_position w % 2 ≡ (position + 1) % 2)
 elsewhere slot other position xs ys a b w v u n (inl e) h = inl e
@@ -132,15 +132,15 @@ elsewhere slot other position xs ys (Some q) None w v u n (inr e) h = absurd (om
 elsewhere slot other position xs ys a (Some q) w v u n (inr e) h = inr (omega (arith, n, u.0.parity, ap waiting_position e))
 
 -- Beside a record of this position, one of no later position than the next waits only as the next.
-torn : (slots other : Slots) (position : ℕ) (bytes : List ℕ) (w v : Option Pending) → IsWaiting (slot_read slots 2) (slot_read slots 3) w
-    → waiting_position w ≡ position → IsWaiting (slot_read other 2) (slot_read other 3) v → waiting_position v ≤ position + 1
+torn : (slots other : Slots) (position : ℕ) (bytes : List ℕ) (w v : Option PendingRecord) → IsWaiting (slot_front slots 2) (slot_front slots 3) w
+    → waiting_position w ≡ position → IsWaiting (slot_front other 2) (slot_front other 3) v → waiting_position v ≤ position + 1
     → IsPut slots other position bytes → (v ≡ w) ⊎ (waiting_position v ≡ position + 1)
 torn slots other position bytes w v a at b few p =
     let here : ℕ = 2 + position % 2 in
     let there : ℕ = 2 + (position + 1) % 2 in
     let r = reads_of slots here there w (sides position) a in
     let t = reads_of other here there v (sides position) b in
-    let same : t.here ≡ r.here = one_reading here (slot_read slots here) t.here r.here
+    let same : t.here ≡ r.here = one_reading here (slot_front slots here) t.here r.here
     (rw p.here at t.reads_here) r.reads_here in
     let kept : w ≡ r.here = elim (elsewhere here there position _ _ r.here r.there w r.reads_here r.reads_there refl r.later_of.is
     r.later_of.over_first) [
@@ -154,20 +154,20 @@ torn slots other position bytes w v a at b few p =
 
 -- and what fits
 
-fits_moved : (i : Instance) (y : History) (slots other : Slots) (position : ℕ) (bytes : List ℕ) (w : Option Pending)
+fits_moved : (i : Instance) (y : History) (slots other : Slots) (position : ℕ) (bytes : List ℕ) (w : Option PendingRecord)
     → IsPut slots other position bytes → FitsBy i slots y w → FitsBy i other y w
 fits_moved i y slots other position bytes None p f = (f.0, rw (p.snapshots 0) f.1)
 fits_moved i y slots other position bytes (Some q) p f = (f.0, rw (p.snapshots (q.position - 1)) f.1)
 
-pub fits_next : (i : Instance) (y : History) (slots : Slots) (position : ℕ) (v : Option Pending) → waiting_position v ≡ position + 1
-    → position ≡ total_of y.batches → Holds i y (slot_read slots (position % 2)) position → FitsBy i slots y v
+pub fits_next : (i : Instance) (y : History) (slots : Slots) (position : ℕ) (v : Option PendingRecord) → waiting_position v ≡ position + 1
+    → position ≡ total_of y.batches → IsSnapshotAt i y (slot_front slots (position % 2)) position → FitsBy i slots y v
 fits_next i y slots position None e at h = absurd (omega (arith, e))
 fits_next i y slots position (Some q) e at h =
     let before : position ≡ q.position - 1 = omega (arith, e) in
     (inl (e ∙ ap (λ (n : ℕ). n + 1) at), rw before at h)
 
 pub torn_fits : (i : Instance) (y : History) (slots other : Slots) (position : ℕ) (bytes : List ℕ) (f : FitsHistory i slots y)
-    → waiting_position f.waiting ≡ position → position ≡ total_of y.batches → Holds i y (slot_read slots (position % 2)) position
+    → waiting_position f.waiting ≡ position → position ≡ total_of y.batches → IsSnapshotAt i y (slot_front slots (position % 2)) position
     → IsPut slots other position bytes → IsNotBeyond other (total_of y.batches + 1) → FitsHistory i other y
 torn_fits i y slots other position bytes f h at holds p n = record {
   waiting = n.waiting;
@@ -180,11 +180,11 @@ torn_fits i y slots other position bytes f h at holds p n = record {
 
 -- What waits has one of the positions, and so has what it follows.
 
-pub waits_most : (two three : List ℕ) (w : Option Pending) → IsWaiting two three w → waiting_position w ≤ last_position
+pub waits_most : (two three : List ℕ) (w : Option PendingRecord) → IsWaiting two three w → waiting_position w ≤ last_position
 waits_most two three None a = omega arith
 waits_most two three (Some p) a = waiting_most two three (Some p) p a refl
 
-pub fits_most : (i : Instance) (slots : Slots) (y : History) (w : Option Pending) → FitsBy i slots y w
+pub fits_most : (i : Instance) (slots : Slots) (y : History) (w : Option PendingRecord) → FitsBy i slots y w
     → waiting_position w ≤ last_position → total_of y.batches ≤ last_position
 fits_most i slots y None f h = omega (arith, f.0)
 fits_most i slots y (Some p) (inl next, holds) h = omega (arith, next, h)
@@ -192,17 +192,17 @@ fits_most i slots y (Some p) (inr last, holds) h = omega (arith, last.0, h)
 
 pub fits_room : (i : Instance) (slots : Slots) (y : History) → FitsHistory i slots y → total_of y.batches ≤ last_position
 fits_room i slots y f =
-    fits_most i slots y f.waiting f.fits (waits_most (slot_read slots 2) (slot_read slots 3) f.waiting f.is_waiting)
+    fits_most i slots y f.waiting f.fits (waits_most (slot_front slots 2) (slot_front slots 3) f.waiting f.is_waiting)
 
 -- A record behind the last position isn't read: what waited goes on to wait.
 
-later_none : (a : Option Pending) → a ≡ later a None
+later_none : (a : Option PendingRecord) → a ≡ later_record a None
 later_none None = refl
 later_none (Some p) = refl
 
-waits_alone : (slots : Slots) (kept other : ℕ) (here : Option Pending) → AreSides kept other
-    → ReadsPending kept (slot_read slots kept) here → ReadsPending other (slot_read slots other) None
-    → IsWaiting (slot_read slots 2) (slot_read slots 3) here
+waits_alone : (slots : Slots) (kept other : ℕ) (here : Option PendingRecord) → AreSides kept other
+    → ReadsPending kept (slot_front slots kept) here → ReadsPending other (slot_front slots other) None
+    → IsWaiting (slot_front slots 2) (slot_front slots 3) here
 waits_alone slots kept other here (inl s) r t = record {
   in_two = here;
   in_three = None;
@@ -219,10 +219,10 @@ waits_alone slots kept other here (inr s) r t = record {
 }
 
 -- beside what waited
-waits_still : (slots other : Slots) (position : ℕ) (bytes : List ℕ) (w : Option Pending)
-    → IsWaiting (slot_read slots 2) (slot_read slots 3) w → waiting_position w ≡ position
-    → ReadsPending (2 + (position + 1) % 2) (slot_read other (2 + (position + 1) % 2)) None → IsPut slots other position bytes
-    → IsWaiting (slot_read other 2) (slot_read other 3) w
+waits_still : (slots other : Slots) (position : ℕ) (bytes : List ℕ) (w : Option PendingRecord)
+    → IsWaiting (slot_front slots 2) (slot_front slots 3) w → waiting_position w ≡ position
+    → ReadsPending (2 + (position + 1) % 2) (slot_front other (2 + (position + 1) % 2)) None → IsPut slots other position bytes
+    → IsWaiting (slot_front other 2) (slot_front other 3) w
 waits_still slots other position bytes w a at none p =
     let here : ℕ = 2 + position % 2 in
     let there : ℕ = 2 + (position + 1) % 2 in
@@ -234,13 +234,13 @@ waits_still slots other position bytes w a at none p =
     ] in
     rw kept (waits_alone other here there r.here (sides position) (rw p.here r.reads_here) none)
 
-pub full_fits : (i : Instance) (y : History) (slots other : Slots) (position : ℕ) (next : Pending) (f : FitsHistory i slots y)
+pub full_fits : (i : Instance) (y : History) (slots other : Slots) (position : ℕ) (next : PendingRecord) (f : FitsHistory i slots y)
     → waiting_position f.waiting ≡ position → position ≡ last_position → next.position ≡ position + 1
     → take longest_slot (pending_spelling next) ≡ pending_spelling next → IsPut slots other position (pending_spelling next)
     → FitsHistory i other y
 full_fits i y slots other position next f h full at spelled p = record {
   waiting = f.waiting;
   is_waiting = waits_still slots other position (pending_spelling next) f.waiting f.is_waiting h
-      (beyond_none (2 + (position + 1) % 2) (slot_read other (2 + (position + 1) % 2)) next (omega (arith, at, full)) (p.next ∙ spelled)) p;
+      (beyond_none (2 + (position + 1) % 2) (slot_front other (2 + (position + 1) % 2)) next (omega (arith, at, full)) (p.next ∙ spelled)) p;
   fits = fits_moved i y slots other position (pending_spelling next) f.waiting p f.fits;
 }

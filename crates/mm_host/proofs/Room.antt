@@ -1,22 +1,22 @@
 -- Where there is a position for each request, none is refused as Full.
 use Rattle.mm_host.proofs.Below.{◌≡◌, ◌+◌, ◌-◌, ◌≤◌, ℕ, Bool, true, false, List, [], ◌∷◌, ◌++◌, Option, Some, Result, Err, length, arith, ap}
 use Rattle.mm_host.proofs.Below.{inl, inr, length-append, last_position, Variant, Standing, Batch, One, Meaning, Instance, History, total_of}
-use Rattle.mm_host.proofs.Below.{StepsOn, StoreStanding, Pending, Slots, slot_read, IsWaiting, Served, lines_served}
-use Rattle.mm_host.proofs.Below.{AreAmong, ContinuesTo, IsInHand, RunsOver, SessionFault, Host, Sessions, told_in}
+use Rattle.mm_host.proofs.Below.{IsBatchStep, StoreStanding, PendingRecord, Slots, slot_front, IsWaiting, ServedCall, served_lines}
+use Rattle.mm_host.proofs.Below.{AreAmong, ContinuesTo, IsInHand, CallsRunOver, SessionFault, Host, IsSession, served_calls_in}
 use Rattle.mm_host.proofs.CallsMade.{chain_of, Ends, rests, stops}
-use Rattle.mm_host.proofs.Lines.{length-lines_served}
+use Rattle.mm_host.proofs.Lines.{length-served_lines}
 use Rattle.mm_model.specs.declared.refusal.Refusal.TheVariants.{Full}
 use Rattle.mm_recovery.specs.declared.fault.HostFault.TheVariants as host
 use Rattle.mm_schedule.specs.declared.reply.Reply.TheVariants.{Told}
 
 -- each answer adds one request at most
 step_most : (meaning : Meaning) (again : Bool) (requests after : List (List ℕ)) (line : List ℕ) (before : ℕ) (outputs : List (List ℕ))
-    → StepsOn meaning requests (One line) (Told again before outputs) after → length after ≤ length requests + 1
+    → IsBatchStep meaning requests (One line) (Told again before outputs) after → length after ≤ length requests + 1
 step_most meaning false requests after line before outputs s =
     omega (arith, ap (λ (xs : List (List ℕ)). length xs) s.grown, length-append requests (line ∷ []))
 step_most meaning true requests after line before outputs s = omega (arith, ap (λ (xs : List (List ℕ)). length xs) s.2)
 
-runs_most : (meaning : Meaning) (told : List Served) (requests after : List (List ℕ)) → RunsOver meaning requests told after
+runs_most : (meaning : Meaning) (told : List ServedCall) (requests after : List (List ℕ)) → CallsRunOver meaning requests told after
     → length after ≤ length requests + length told
 runs_most meaning [] requests after r = omega (arith, ap (λ (xs : List (List ℕ)). length xs) r)
 runs_most meaning (c ∷ told) requests after r =
@@ -28,12 +28,12 @@ runs_most meaning (c ∷ told) requests after r =
 
 module _ {variant : Variant} {meaning : Meaning} {before final : Standing} {old new : StoreStanding}
     {left left' received received' : Option (List ℕ)} {result : Result Unit SessionFault}
-    (s : Sessions variant meaning before final old new left left' received received' result) (slots : Slots) (waiting : Option Pending)
-    (slots_told : old.slots ≡ Some slots) (w : IsWaiting (slot_read slots 2) (slot_read slots 3) waiting)
+    (s : IsSession variant meaning before final old new left left' received received' result) (slots : Slots) (waiting : Option PendingRecord)
+    (slots_told : old.slots ≡ Some slots) (w : IsWaiting (slot_front slots 2) (slot_front slots 3) waiting)
     {all others : List (List ℕ)} {asked : List Batch} {i : Instance} (y : History) (requests : List (List ℕ))
-    (among : AreAmong (told_in waiting s.goes) (IsInHand waiting s.goes) requests)
+    (among : AreAmong (served_calls_in waiting s.goes) (IsInHand waiting s.goes) requests)
     (room : total_of y.batches + length requests ≤ last_position)
-    (c : ContinuesTo all others asked i y waiting final new (told_in waiting s.goes) (IsInHand waiting s.goes) result) where
+    (c : ContinuesTo all others asked i y waiting final new (served_calls_in waiting s.goes) (IsInHand waiting s.goes) result) where
   -- the requests at the end are those that were told, with none in hand
   few : result ≡ Err (Host (host.Refused Full)) → length c.runs.requests ≡ last_position
   few full = elim c.runs.committed [
@@ -51,10 +51,10 @@ module _ {variant : Variant} {meaning : Meaning} {before final : Standing} {old 
         arith,
         few full,
         room,
-        runs_most i.meaning (told_in waiting s.goes) _ c.runs.requests c.runs.run,
-        length-lines_served (told_in waiting s.goes),
-        length-append (lines_served (told_in waiting s.goes)) (request ∷ []),
-        length-append (lines_served (told_in waiting s.goes) ++ request ∷ []) first.0,
+        runs_most i.meaning (served_calls_in waiting s.goes) _ c.runs.requests c.runs.run,
+        length-served_lines (served_calls_in waiting s.goes),
+        length-append (served_lines (served_calls_in waiting s.goes)) (request ∷ []),
+        length-append (served_lines (served_calls_in waiting s.goes) ++ request ∷ []) first.0,
         ap (λ (xs : List (List ℕ)). length xs) first.1,
       )
 

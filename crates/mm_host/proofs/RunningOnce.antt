@@ -1,16 +1,16 @@
 -- A session is one run whatever the slots hold: each first part of what was told, and how it ends; also where the cell was read before.
 use Rattle.mm_host.proofs.Below.{bare, idle_again, ◌≡◌, ◌≢◌, ◌∙◌, ℕ, Bool, true, false, List, [], ◌∷◌, ◌++◌, Option, None, Some, Result}
 use Rattle.mm_host.proofs.Below.{Ok, Err, IsSome, refl, sym, ap, subst, inl, inr, append_assoc, ◌⊎◌, append_cancel_left, StepFault}
-use Rattle.mm_host.proofs.Below.{Standing, Batch, One, Meaning, Instance, opt, History, requests_of, LostLife, life_of, StandsFor}
-use Rattle.mm_host.proofs.Below.{Answer, Refusal, IsWithin, whole_in, fault_of, unless_idle, StoreFault, StoreStanding, Pending, Slots}
-use Rattle.mm_host.proofs.Below.{slot_read, HostFault, SessionFault, Host, Resumed, AreAskedInTurn, AsksNothingNew, EndsRun, RunsOnce}
-use Rattle.mm_host.proofs.Below.{offered_after, first_offer, IsCall, IsInHand, RunsOver, told_in, store_fault_as, refusal_fault}
-use Rattle.mm_host.proofs.Below.{MayHaveCommitted, Served, Sessions, lines_served, grows, IsWaiting, Met, by_refusal, map}
+use Rattle.mm_host.proofs.Below.{Standing, Batch, One, Meaning, Instance, opt_instance, History, requests_of, LostLife, life_of, StandsFor}
+use Rattle.mm_host.proofs.Below.{Answer, Refusal, IsWithin, batch_result_of, fault_of, unless_idle, StoreFault, StoreStanding, PendingRecord, Slots}
+use Rattle.mm_host.proofs.Below.{slot_front, HostFault, SessionFault, Host, Resumed, AreAskedInTurn, AsksNothingNew, EndsRun, RunsOnce}
+use Rattle.mm_host.proofs.Below.{offer_after, first_offer, IsCall, IsInHand, CallsRunOver, served_calls_in, store_fault_as, refusal_fault}
+use Rattle.mm_host.proofs.Below.{MayHaveCommitted, ServedCall, IsSession, served_lines, grows, IsWaiting, Met, by_refusal, map}
 use Rattle.mm_host.proofs.Below.{AllByRecursion, Contains, fold, extended_message, Variant, Basic, Opt, Item, foreign_item, IsLawful}
-use Rattle.mm_host.proofs.Below.{after, trail, Entry, Value, Foreign, moved, register_value_of, are_own, has_value, is_empty, Within}
-use Rattle.mm_host.proofs.Below.{Digests, digests_of, opt_digests, moves_messages, all_made, by_digests, by_lists, AreShown, StandsAt}
+use Rattle.mm_host.proofs.Below.{digest_after, trail, RegisterEntry, Value, Foreign, history_after, register_value_of, are_own, has_value, is_empty, AreMessagesIn}
+use Rattle.mm_host.proofs.Below.{Digests, digests_of, opt_digests, messages_of_moves, state_after_moves, digest_level, list_level, AreShown, StandsAt}
 use Rattle.mm_host.proofs.Below.{foreign_items, standing_items, stands_at, stands_for, agrees_is, foreign_may, is_agrees, counted_open}
-use Rattle.mm_host.proofs.Below.{foreign_agrees, holds_open, within_items, within_of, foreign_all, holds_made, foreign_messages, taking}
+use Rattle.mm_host.proofs.Below.{foreign_agrees, holds_open, within_items, within_of, foreign_all, holds_made, foreign_messages, history_with_values}
 use Rattle.mm_host.proofs.Below.{taking_is, names_alike, shown_back, shown_front, shown_shut, MayStart, RunsOnceFrom, not_lost}
 use Rattle.mm_host.proofs.Below.{was_powered, append-nil, SessionRunsOnce, counted_part}
 use Rattle.mm_model.specs.declared.refusal.Refusal.TheVariants as refusal
@@ -22,13 +22,13 @@ use Rattle.mm_host.proofs.InTurn.{AfterTurns, May, MindsNothing, StandsIn, calls
 use Rattle.mm_host.proofs.InTurn.{chain_reaches}
 use Rattle.mm_host.proofs.SessionRuns.{line_committed, runs_to}
 use Rattle.mm_host.proofs.Lines.{asks, fails, never_refused, never_stored, TellsCall, told_refused}
-use Rattle.mm_digest.specs.Messages.{extended_of}
-use Rattle.mm_platform.specs.Steps.{Goes, ReadCell, beside}
+use Rattle.mm_digest.specs.Messages.{extended_digest_of}
+use Rattle.mm_platform.specs.Steps.{StepGoes, ReadCell, items_beside}
 use Rattle.mm_model.specs.Chains as chains
-use Rattle.mm_model.specs.History.{joined}
-use Rattle.mm_call.specs.TrailLaws.{foreign_made, foreign_values, reads_beside, reads_of, with_register}
+use Rattle.mm_model.specs.History.{items_of_all}
+use Rattle.mm_call.specs.TrailLaws.{foreign_made, foreign_values, reads_beside, register_of_items, with_register}
 use Rattle.mm_host.proofs.OptLeading.{opt_laws}
-use Rattle.mm_host.specs.Refusing.{CallsInTurn}
+use Rattle.mm_host.specs.Refusals.{CallsInTurn}
 
 -- what came of the request in hand
 
@@ -43,7 +43,7 @@ store_may fault.Memory = tt
 store_may fault.Failed = tt
 
 pub only_by : {A : Type 0} (call : Result Answer Refusal) (came : Result Resumed HostFault) → TellsCall call came
-    → ((why : Refusal) → whole_in call ≡ Err why → fault_of why ≡ None → A) → A ⊎ MayHaveCommitted came
+    → ((why : Refusal) → batch_result_of call ≡ Err why → fault_of why ≡ None → A) → A ⊎ MayHaveCommitted came
 only_by (Err why) came t still = elim (by_fault why (fault_of why) refl (still why refl)) [
   | inl some ↦ inr (rw t
       (by_refusal (λ (w : Refusal) (f : HostFault). IsSome (fault_of w) → MayHaveCommitted {T = Resumed} (Err f)) (λ e. tt) (λ w n e. e) why
@@ -69,8 +69,8 @@ call_refused (Ok answer) came why (inr t) e =
 
 module _ {all others : List (List ℕ)} {asked : List Batch} {i : Instance} {final : Standing} (laws : Laws all others asked i final) where
   -- how a session ends behind what was told
-  module _ (y z : History) (first : List ℕ) (at : Standing) (told : List Served) (hand : List ℕ → Type 0) (stands : StandsFor i at z)
-      (within : IsWithin all others asked i z) (run : RunsOver i.meaning (requests_of y.batches) told (requests_of z.batches))
+  module _ (y z : History) (first : List ℕ) (at : Standing) (told : List ServedCall) (hand : List ℕ → Type 0) (stands : StandsFor i at z)
+      (within : IsWithin all others asked i z) (run : CallsRunOver i.meaning (requests_of y.batches) told (requests_of z.batches))
       (powered : life_of i.variant y ≢ LostLife → life_of i.variant z ≢ LostLife) where
     rests_run : (result : Result Unit SessionFault) → final ≡ at → ((why : Refusal) → result ≡ Err (Host (host.Refused why)) → ⊥)
         → EndsRun all others asked i y first final told hand result
@@ -81,9 +81,9 @@ module _ {all others : List (List ℕ)} {asked : List Batch} {i : Instance} {fin
 
     ends_run : (result : Result Unit SessionFault)
         → ((request : List ℕ) (call : Result Answer Refusal) → hand request
-        → IsCall i.variant i.meaning at final (offered_after first told) request call
-        → Met all others asked i z final (offered_after first told) (pending_for request) (whole_in call))
-        → Ends i.variant i.meaning at final (offered_after first told) hand result
+        → IsCall i.variant i.meaning at final (offer_after first told) request call
+        → Met all others asked i z final (offer_after first told) (pending_for request) (batch_result_of call))
+        → Ends i.variant i.meaning at final (offer_after first told) hand result
         → EndsRun all others asked i y first final told hand result
     ends_run result meets (rests same none) = rests_run result same none
     ends_run result meets (stops request h came (fails same why e) sent fault says is) =
@@ -94,13 +94,13 @@ module _ {all others : List (List ℕ)} {asked : List Batch} {i : Instance} {fin
         rw is (record {
           runs = runs_to y told hand m.after m.stands m.within run
               (line_committed z m.after request came sent fault hand h says (only_by call came t m.only)
-              (grows i z (pending_for request) (offered_after first told) m.after (whole_in call) m.comes)) (λ p. m.powered (powered p));
+              (grows i z (pending_for request) (offer_after first told) m.after (batch_result_of call) m.comes)) (λ p. m.powered (powered p));
           refuses = λ (why : Refusal) (r : Err fault ≡ Err (Host (host.Refused why))).
               let is = call_refused call came why t (told_refused came sent fault why says (cc)) in
               record {
                 request = request;
                 in_hand = h;
-                judged = by_fault why (fault_of why) refl (λ none. elim (m.judged why (ap whole_in is.0) none) [
+                judged = by_fault why (fault_of why) refl (λ none. elim (m.judged why (ap batch_result_of is.0) none) [
                   | inl memory ↦ absurd (is.1 memory)
                   | inr found ↦ found
                 ]);
@@ -110,8 +110,8 @@ module _ {all others : List (List ℕ)} {asked : List Batch} {i : Instance} {fin
   -- A session from a history that is the same as this one but for others' values.
   module _ {before : Standing} {old new : StoreStanding} {left left' received received' : Option (List ℕ)}
       {result : Result Unit SessionFault}
-      (s : Sessions i.variant i.meaning before final old new left left' received received' result) (y z : History) (slots : Slots)
-      (waiting : Option Pending) (slots_told : old.slots ≡ Some slots) (w : IsWaiting (slot_read slots 2) (slot_read slots 3) waiting)
+      (s : IsSession i.variant i.meaning before final old new left left' received received' result) (y z : History) (slots : Slots)
+      (waiting : Option PendingRecord) (slots_told : old.slots ≡ Some slots) (w : IsWaiting (slot_front slots 2) (slot_front slots 3) waiting)
       (requests : List (List ℕ)) (here : StandsIn all others asked i y z before (first_offer slots waiting))
       (powered : life_of i.variant z ≢ LostLife → life_of i.variant y ≢ LostLife)
       (may : May laws y before (first_offer slots waiting) requests)
@@ -119,26 +119,26 @@ module _ {all others : List (List ℕ)} {asked : List Batch} {i : Instance} {fin
     abbrev first : List ℕ
     first = first_offer slots waiting
 
-    turns_to : (front : List Served) (at : Standing) (rest : List (List ℕ)) → lines_served front ++ rest ≡ requests
+    turns_to : (front : List ServedCall) (at : Standing) (rest : List (List ℕ)) → served_lines front ++ rest ≡ requests
         → Reaches i.variant i at final → CallsInTurn i.variant i.meaning first before front at → AfterTurns laws y at first front rest
     turns_to front at rest e reaches calls = turns laws y z before at first front rest here (rw e may)
         (rw e f) calls reaches
 
-    from_there : (calls : List Served) (after : List (List ℕ)) → RunsOver i.meaning (requests_of y.batches) calls after
-        → RunsOver i.meaning (requests_of z.batches) calls after
+    from_there : (calls : List ServedCall) (after : List (List ℕ)) → CallsRunOver i.meaning (requests_of y.batches) calls after
+        → CallsRunOver i.meaning (requests_of z.batches) calls after
     from_there calls after r = rw (laws.batches y z here.same) at r
 
-    pub runs_once : RunsOnce all others asked i z slots waiting left final (told_in waiting s.goes)
+    pub runs_once : RunsOnce all others asked i z slots waiting left final (served_calls_in waiting s.goes)
         (IsInHand waiting s.goes) requests result
     runs_once =
         let chain = chain_of s slots waiting slots_told w in
-        let told : List Served = told_in waiting s.goes in
+        let told : List ServedCall = served_calls_in waiting s.goes in
         record {
           fronts = λ front behind e among.
               let c = calls_split i.variant i.meaning first before chain.at front behind
               (rw e at chain.calls) in
               let t = turns_to front c.0 among.0 among.1
-              (calls_reach laws (offered_after first front) c.0 chain.at behind c.2 (ends_reach laws chain.ends)) c.1 in
+              (calls_reach laws (offer_after first front) c.0 chain.at behind c.2 (ends_reach laws chain.ends)) c.1 in
               (requests_of t.after.batches, from_there front (requests_of t.after.batches) t.run);
           ends = λ among.
               let rest : List (List ℕ) = among.served.0 in
@@ -148,11 +148,11 @@ module _ {all others : List (List ℕ)} {asked : List Batch} {i : Instance} {fin
               (λ p. t.powered (powered p)) result
               (λ request call h c.
               let next = among.in_hand request h in
-              let is : rest ≡ request ∷ next.0 = append_cancel_left (lines_served told) rest (request ∷ next.0)
-              (among.served.1 ∙ sym next.1 ∙ append_assoc (lines_served told) (request ∷ []) next.0) in
-              met_last laws t.after t.then_is chain.at (offered_after first told) (pending_for request) next.0 call t.here
-              (subst (λ (rs : List (List ℕ)). AreAskedInTurn all asked i t.then_is (offered_after first told) rs) is t.asked_in_turn)
-              (subst (λ (rs : List (List ℕ)). May laws t.after chain.at (offered_after first told) rs) is t.may) c)
+              let is : rest ≡ request ∷ next.0 = append_cancel_left (served_lines told) rest (request ∷ next.0)
+              (among.served.1 ∙ sym next.1 ∙ append_assoc (served_lines told) (request ∷ []) next.0) in
+              met_last laws t.after t.then_is chain.at (offer_after first told) (pending_for request) next.0 call t.here
+              (subst (λ (rs : List (List ℕ)). AreAskedInTurn all asked i t.then_is (offer_after first told) rs) is t.asked_in_turn)
+              (subst (λ (rs : List (List ℕ)). May laws t.after chain.at (offer_after first told) rs) is t.may) c)
               chain.ends;
           made = among_input s slots waiting slots_told w;
         }
@@ -170,7 +170,7 @@ unless_nothing i y offer (request ∷ []) unless = unless_idle i y offer (One re
 unless_nothing i y offer (request ∷ next ∷ requests) unless = inl (unless (λ k. k))
 
 pub minds_nothing : (meaning : Meaning) (key barrier : List ℕ) (y z : History) (offer : List ℕ) (requests : List (List ℕ))
-    → bare z ≡ bare y → AsksNothingNew (opt meaning key barrier) y offer requests → MindsNothing (opt meaning key barrier) z offer requests
+    → bare z ≡ bare y → AsksNothingNew (opt_instance meaning key barrier) y offer requests → MindsNothing (opt_instance meaning key barrier) z offer requests
 minds_nothing meaning key barrier y z offer [] e k = tt
 minds_nothing meaning key barrier y z offer (request ∷ []) e k = (idle_again meaning key barrier y z offer (One request) e k, refl)
 minds_nothing meaning key barrier y z offer (request ∷ next ∷ requests) e k = absurd k
@@ -181,59 +181,59 @@ pub foreign_of : (values : List (List ℕ)) → foreign_items (map foreign_item 
 foreign_of [] = refl
 foreign_of (v ∷ values) = ap (λ (vs : List (List ℕ)). v ∷ vs) (foreign_of values)
 
-more_items : (items more : List Entry) → is_empty items ≡ false → is_empty (items ++ more) ≡ false
+more_items : (items more : List RegisterEntry) → is_empty items ≡ false → is_empty (items ++ more) ≡ false
 more_items [] more e = absurd (cc)
 more_items (x ∷ items) more e = refl
 
 module _ (meaning : Meaning) (key barrier : List ℕ) where
   abbrev i : Instance
-  i = opt meaning key barrier
+  i = opt_instance meaning key barrier
 
   register_pushed : (y : History) (v : List ℕ)
-      → register_value_of i (moved i y (Foreign v)) ≡ after extended_message (register_value_of i y) (v ∷ [])
-  unfolding extended_of
+      → register_value_of i (history_after i y (Foreign v)) ≡ digest_after extended_message (register_value_of i y) (v ∷ [])
+  unfolding extended_digest_of
   register_pushed y v =
       ap (λ (d : Digests). d.register) (opt_digests meaning key barrier y (Foreign v) (foreign_may i y y.is_open v))
 
   pub register_looked : (values : List (List ℕ)) (y : History)
-      → register_value_of i (all_made (by_lists i) y (map Foreign values)) ≡ after extended_message (register_value_of i y) values
+      → register_value_of i (state_after_moves (list_level i) y (map Foreign values)) ≡ digest_after extended_message (register_value_of i y) values
   register_looked [] y = refl
   register_looked (v ∷ values) y =
-      register_looked values (moved i y (Foreign v)) ∙ ap (λ (s : List ℕ). after extended_message s values) (register_pushed y v)
+      register_looked values (history_after i y (Foreign v)) ∙ ap (λ (s : List ℕ). digest_after extended_message s values) (register_pushed y v)
 
   pub messages_looked : (values : List (List ℕ)) (y : History)
-      → moves_messages i y (map Foreign values) ≡ trail extended_message (register_value_of i y) values
+      → messages_of_moves i y (map Foreign values) ≡ trail extended_message (register_value_of i y) values
   messages_looked [] y = refl
   messages_looked (v ∷ values) y =
       let s : List ℕ = register_value_of i y in
-      ap (λ (ms : List (List ℕ)). ms ++ moves_messages i (moved i y (Foreign v)) (map Foreign values))
+      ap (λ (ms : List (List ℕ)). ms ++ messages_of_moves i (history_after i y (Foreign v)) (map Foreign values))
       (foreign_messages meaning key barrier y y.is_open v)
-      ∙ ap (λ (ms : List (List ℕ)). extended_message s v ∷ ms) (rw (← register_pushed y v) (messages_looked values (moved i y (Foreign v))))
+      ∙ ap (λ (ms : List (List ℕ)). extended_message s v ∷ ms) (rw (← register_pushed y v) (messages_looked values (history_after i y (Foreign v))))
 
   shut_of : (y : History) (offer : List ℕ) (requests : List (List ℕ)) → AsksNothingNew i y offer requests → y.is_open ≡ false
   shut_of y offer [] k = k
   shut_of y offer (r ∷ []) k = k.shut
   shut_of y offer (r ∷ next ∷ requests) k = absurd k
 
-pub powered_looked : (values : List (List ℕ)) (y : History) → life_of Opt y ≢ LostLife → life_of Opt (taking y values) ≢ LostLife
+pub powered_looked : (values : List (List ℕ)) (y : History) → life_of Opt y ≢ LostLife → life_of Opt (history_with_values y values) ≢ LostLife
 powered_looked values y p =
     not_lost y.is_open (is_empty (y.items ++ map Value values)) (are_own (y.items ++ map Value values) y.current)
-    (has_value (joined y.closed))
+    (has_value (items_of_all y.closed))
     (λ (e : y.is_open ≡ true). more_items y.items (map Value values)
-    (was_powered y.is_open (is_empty y.items) (are_own y.items y.current) (has_value (joined y.closed)) p e))
+    (was_powered y.is_open (is_empty y.items) (are_own y.items y.current) (has_value (items_of_all y.closed)) p e))
 
 module _ (meaning : Meaning) (lawful : IsLawful meaning) (entry before after : Standing) (brought_by : List (List ℕ))
-    (cell : before.cell ≡ entry.cell) (looked : before.items ≡ beside brought_by entry.items) {old new : StoreStanding}
+    (cell : before.cell ≡ entry.cell) (looked : before.items ≡ items_beside brought_by entry.items) {old new : StoreStanding}
     {left left' received received' : Option (List ℕ)}
-    {result : Result Unit SessionFault} (s : Sessions Opt meaning before after old new left left' received received' result)
+    {result : Result Unit SessionFault} (s : IsSession Opt meaning before after old new left left' received received' result)
     (key barrier : List ℕ) (y : History) (slots : Slots) (all others : List (List ℕ)) (asked : List Batch)
-    (requests : List (List ℕ)) (items more : List Item) (may : MayStart all others asked (opt meaning key barrier) y slots entry old)
+    (requests : List (List ℕ)) (items more : List Item) (may : MayStart all others asked (opt_instance meaning key barrier) y slots entry old)
     (known : entry.items ≡ Some items) (ends : after.items ≡ Some (standing_items y.is_open items ++ more)) where
   abbrev j : Instance
-  j = opt meaning key barrier
+  j = opt_instance meaning key barrier
 
   abbrev z : History
-  z = taking y brought_by
+  z = history_with_values y brought_by
 
   abbrev offered : List ℕ
   offered = first_offer slots may.waiting
@@ -249,20 +249,20 @@ module _ (meaning : Meaning) (lawful : IsLawful meaning) (entry before after : S
   Enters = (here : StandsIn all others asked j z y before offered) × May laws z before offered requests
 
   there : before.items ≡ Some (items ++ brought)
-  there = looked ∙ ap (λ (xs : Option (List Item)). beside brought_by xs) known
+  there = looked ∙ ap (λ (xs : Option (List Item)). items_beside brought_by xs) known
 
   stands : StandsFor j before z
   stands =
       let d : Digests = digests_of j y in
       let at = stands_at j entry y may.stands in
-      let read : StandsAt j before (with_register d (fold extended_of d.register brought_by)) = record {
+      let read : StandsAt j before (with_register d (fold extended_digest_of d.register brought_by)) = record {
         spells = at.spells;
         cell = cell ∙ at.cell;
-        reads = ap (λ (xs : Option (List Item)). reads_of xs) looked ∙ reads_beside entry.items brought_by d.register at.reads;
+        reads = ap (λ (xs : Option (List Item)). register_of_items xs) looked ∙ reads_beside entry.items brought_by d.register at.reads;
       } in
-      let is : with_register d (fold extended_of d.register brought_by) ≡ digests_of j z =
+      let is : with_register d (fold extended_digest_of d.register brought_by) ≡ digests_of j z =
       sym (foreign_made j d brought_by)
-      ∙ agrees_is j (all_made (by_lists j) y (map Foreign brought_by)) (all_made (by_digests j) d (map Foreign brought_by))
+      ∙ agrees_is j (state_after_moves (list_level j) y (map Foreign brought_by)) (state_after_moves (digest_level j) d (map Foreign brought_by))
       (foreign_agrees meaning key barrier brought_by y d (is_agrees j y d refl))
       ∙ ap (digests_of j) (taking_is j brought_by y) in
       stands_for j before z (rw is at read)
@@ -272,11 +272,11 @@ module _ (meaning : Meaning) (lawful : IsLawful meaning) (entry before after : S
   within_open k e a =
       let d : Digests = digests_of j y in
       let front = shown_front all others j y brought k a in
-      let listed : Within (moves_messages j y (map Foreign brought_by)) all =
+      let listed : AreMessagesIn (messages_of_moves j y (map Foreign brought_by)) all =
       rw (messages_looked meaning key barrier brought_by y, ← counted_open y e) (rw (foreign_values brought_by) at front.messages) in
       let outside : AllByRecursion (Contains others) brought_by = rw (foreign_of brought_by) at front.values in
-      rw (taking_is j brought_by y) at (within_of meaning key barrier all others asked (all_made (by_lists j) y (map Foreign brought_by))
-      (all_made (by_digests j) d (map Foreign brought_by)) (holds_made meaning key barrier all others asked (map Foreign brought_by) y d
+      rw (taking_is j brought_by y) at (within_of meaning key barrier all others asked (state_after_moves (list_level j) y (map Foreign brought_by))
+      (state_after_moves (digest_level j) d (map Foreign brought_by)) (holds_made meaning key barrier all others asked (map Foreign brought_by) y d
       (holds_open meaning key barrier all others asked y d e (is_agrees j y d refl) may.within)
       (foreign_all meaning key barrier all others asked brought_by y outside) listed))
 
@@ -284,8 +284,8 @@ module _ (meaning : Meaning) (lawful : IsLawful meaning) (entry before after : S
   shown_open k e a =
       shown_back all others j y z brought k
       (ap (register_value_of j) (counted_open z e ∙ sym (taking_is j brought_by y)) ∙ register_looked meaning key barrier brought_by y
-      ∙ ap (λ (x : History). chains.after extended_message (register_value_of j x) brought_by) (sym (counted_open y e))
-      ∙ ap (λ (vs : List (List ℕ)). chains.after extended_message (register_value_of j (counted_part y)) vs)
+      ∙ ap (λ (x : History). chains.digest_after extended_message (register_value_of j x) brought_by) (sym (counted_open y e))
+      ∙ ap (λ (vs : List (List ℕ)). chains.digest_after extended_message (register_value_of j (counted_part y)) vs)
       (sym (foreign_values brought_by))) a
 
   enter_from : IsWithin all others asked j z → May laws z before offered requests → Enters
@@ -339,7 +339,7 @@ module _ (meaning : Meaning) (lawful : IsLawful meaning) (entry before after : S
 
 -- a session behind others' values
 run_over : (variant : Variant) (meaning : Meaning) → IsLawful meaning → (entry before after : Standing) (values : List (List ℕ))
-    → before.cell ≡ entry.cell → before.items ≡ beside values entry.items
+    → before.cell ≡ entry.cell → before.items ≡ items_beside values entry.items
     → (old new : StoreStanding) (left left' received received' : Option (List ℕ)) (result : Result Unit SessionFault)
     → RunsOnceFrom variant meaning entry before after old new left left' received received' result
 run_over Basic meaning lawful entry before after values cell looked old new left left' received received' result =
@@ -355,18 +355,18 @@ run_over Opt meaning lawful entry before after values cell looked old new left l
     λ s key barrier y slots all others asked requests items more may f known ends shown_so.
     let e = enter_by meaning lawful entry before after values cell looked s key barrier y slots all others asked requests items more may
     known ends y.is_open refl shown_so in
-    runs_once (opt_laws meaning lawful key barrier all others asked after may.clear may.apart) s (taking y values) y slots may.waiting
+    runs_once (opt_laws meaning lawful key barrier all others asked after may.clear may.apart) s (history_with_values y values) y slots may.waiting
     may.told may.is_waiting requests e.0 (powered_looked values y) e.1 f
 
 -- behind a reading of the cell, whether that failed or not
 pub runs_once_from : (variant : Variant) (meaning : Meaning) → IsLawful meaning
     → (entry before after : Standing) (fault : Option StepFault) (old new : StoreStanding) (left left' received received' : Option (List ℕ))
-    (result : Result Unit SessionFault) → Goes ReadCell entry before fault
+    (result : Result Unit SessionFault) → StepGoes ReadCell entry before fault
     → RunsOnceFrom variant meaning entry before after old new left left' received received' result
 runs_once_from variant meaning lawful entry before after fault old new left left' received received' result g =
     run_over variant meaning lawful entry before after g.others g.cell g.items old new left left' received received' result
 
-pub nothing_beside : (items : Option (List Item)) → items ≡ beside [] items
+pub nothing_beside : (items : Option (List Item)) → items ≡ items_beside [] items
 nothing_beside None = refl
 nothing_beside (Some xs) = ap (λ (x : List Item). Some x) (sym (append-nil xs))
 

@@ -1,22 +1,22 @@
 -- A session by lists, in either variant: from what waited, over the lines, to each of its ends.
 use Rattle.mm_host.proofs.Below.{◌≡◌, ◌≢◌, ◌∙◌, ℕ, List, [], ◌∷◌, ◌++◌, Option, None, Some, Result, Err, refl, ap, inl, inr, ◌⊎◌}
 use Rattle.mm_host.proofs.Below.{Standing, Batch, One, Instance, History, requests_of, LostLife, life_of, requests-push}
-use Rattle.mm_host.proofs.Below.{StoreStanding, Pending, Refusal, HostFault, SessionFault, Host, Resumed, ContinuesTo, HasUntold}
-use Rattle.mm_host.proofs.Below.{MayBeUntold, RefusesAs, RunsOver, IsGrown, MayHaveCommitted, SendsReply, comes_as}
-use Rattle.mm_host.proofs.Below.{reply_text, Place, Served, IsAtRest, Ok, Slots, Answered, FitsBy}
-use Rattle.mm_host.proofs.Below.{RecoversTo, record_for, Serves, lines_served, AreAmong, AreAskedInTurn, answered_to, snapshot_at}
-use Rattle.mm_host.proofs.Below.{whole_in, slot_read, Answer, IsInHand, told_first, told_in, first_offer, requests_with}
+use Rattle.mm_host.proofs.Below.{StoreStanding, PendingRecord, Refusal, HostFault, SessionFault, Host, Resumed, ContinuesTo, HasUntold}
+use Rattle.mm_host.proofs.Below.{MayBeUntold, RefusesAs, CallsRunOver, IsGrown, MayHaveCommitted, SendsReply, session_result_of}
+use Rattle.mm_host.proofs.Below.{reply_text, SessionPlace, ServedCall, IsAtRest, Ok, Slots, Answered, FitsBy}
+use Rattle.mm_host.proofs.Below.{RecoversTo, record_for, ServesCalls, served_lines, AreAmong, AreAskedInTurn, history_after_answer, snapshot_at}
+use Rattle.mm_host.proofs.Below.{batch_result_of, slot_front, Answer, IsInHand, first_served_call, served_calls_in, first_offer, requests_with}
 use Rattle.mm_host.proofs.Below.{AreNewFrom, AreToldOnce}
-use Rattle.mm_host.proofs.Below.{offer_slot, Resumes, Sessions, AfterResume, StopsAtOnce, NoMore, left_by, IsCall, IsWaiting}
+use Rattle.mm_host.proofs.Below.{offer_slot, HostResumes, IsSession, GoesAfterResume, StopsAtOnce, NoMore, left_by, IsCall, IsWaiting}
 use Rattle.mm_host.proofs.Below.{recovers_by, Met, IfOk, subst, sym, total_of, refusal_fault, RunsTo, StandsFor, IsWithin, Variant}
 use Rattle.mm_host.proofs.Below.{true}
-use Rattle.mm_host.specs.Sessions.{GoesOn}
-use Rattle.mm_host.proofs.Below.{◌+◌, ◌%◌, length, MayGrow, longest_request, AfterRecord, BeginsWith, ended_as, IsMade, Enters}
-use Rattle.mm_host.proofs.Below.{Lines, pending_spelling, position_at, ServedOn, StoreFault, WriteFault, WritesSlot}
+use Rattle.mm_host.specs.Sessions.{SessionGoesOn}
+use Rattle.mm_host.proofs.Below.{◌+◌, ◌%◌, length, MayGrow, longest_request, GoesAfterRecord, BeginsWith, turn_answer_of, IsMade, Enters}
+use Rattle.mm_host.proofs.Below.{Lines, pending_spelling, position_at, TurnGoes, StoreFault, WriteFault, WritesSlot}
 use Rattle.mm_recovery.specs.declared.fault.HostFault.TheVariants as host
 use Rattle.mm_host.proofs.CallsMade.{first_told, InHand, lines_chain, served_calls}
 use Rattle.mm_host.proofs.InTurn.{calls_reach, chain_reaches, ends_reach, May, met_last, StandsIn}
-use Rattle.mm_host.proofs.Leading.{Laws, Reaches, RunsOver-append, same_pending, unspoiled}
+use Rattle.mm_host.proofs.Leading.{Laws, Reaches, CallsRunOver-append, same_pending, unspoiled}
 use Rattle.mm_host.proofs.LineStep.{between_told, IsBetween, IsReady, line_goes, line_last, line_unwritten, ready_first}
 use Rattle.mm_host.proofs.LineStep.{offer_then, waiting_then}
 use Rattle.mm_host.proofs.Made.{among_next, AreMade, by_asked, IsFirstAsked, IsLineAsked, IsWritten}
@@ -39,7 +39,7 @@ rest_refuses _ variant after by = tt
 
 store_came : (came : Result Resumed HostFault) (sent : List ℕ) (fault : SessionFault) → SendsReply came sent (Err fault)
     → came ≡ Err host.Store → fault ≡ Host host.Store
-store_came came sent fault (inl s) e = let told : Err fault ≡ Err (Host host.Store) = s.1 ∙ ap comes_as e in cc
+store_came came sent fault (inl s) e = let told : Err fault ≡ Err (Host host.Store) = s.1 ∙ ap session_result_of e in cc
 store_came came sent fault (inr s) e = absurd (s.1 (ap reply_text e))
 
 pub line_committed : (z after : History) (line : List ℕ) (came : Result Resumed HostFault) (sent : List ℕ) (fault : SessionFault)
@@ -56,17 +56,17 @@ line_committed z after line came sent fault hand h s (inr may) (inr more) = inr 
   grown = ap requests_of more ∙ requests-push z.batches (One line);
 })
 
-waiting_committed : (y after : History) (waiting : Option Pending) (begun : Result Resumed HostFault) (sent : List ℕ) (fault : SessionFault)
-    (hand : List ℕ → Type 0) → ((p : Pending) → waiting ≡ Some p → hand p.request) → SendsReply begun sent (Err fault)
+waiting_committed : (y after : History) (waiting : Option PendingRecord) (begun : Result Resumed HostFault) (sent : List ℕ) (fault : SessionFault)
+    (hand : List ℕ → Type 0) → ((p : PendingRecord) → waiting ≡ Some p → hand p.request) → SendsReply begun sent (Err fault)
     → (after.batches ≡ y.batches) ⊎ MayHaveCommitted begun → IsGrown y waiting after
     → (requests_of after.batches ≡ requests_of y.batches) ⊎ HasUntold hand (Err fault) (requests_of y.batches) (requests_of after.batches)
 waiting_committed y after None begun sent fault hand h s o g = inl (ap requests_of g)
 waiting_committed y after (Some p) begun sent fault hand h s o g = line_committed y after p.request begun sent fault hand (h p refl) s o g
 
 -- behind what was told
-module _ {all others : List (List ℕ)} {asked : List Batch} {i : Instance} (y : History) (told : List Served) (hand : List ℕ → Type 0) where
+module _ {all others : List (List ℕ)} {asked : List Batch} {i : Instance} (y : History) (told : List ServedCall) (hand : List ℕ → Type 0) where
   abbrev pub runs_to : {final : Standing} {result : Result Unit SessionFault} {requests : List (List ℕ)} (after : History)
-      → StandsFor i final after → IsWithin all others asked i after → RunsOver i.meaning (requests_of y.batches) told requests
+      → StandsFor i final after → IsWithin all others asked i after → CallsRunOver i.meaning (requests_of y.batches) told requests
       → (requests_of after.batches ≡ requests) ⊎ HasUntold hand result requests (requests_of after.batches)
       → (life_of i.variant y ≢ LostLife → life_of i.variant after ≢ LostLife) → RunsTo all others asked i y final told hand result
   runs_to {requests = requests} after stands within run committed powered = record {
@@ -81,12 +81,12 @@ module _ {all others : List (List ℕ)} {asked : List Batch} {i : Instance} (y :
   }
 
 -- where this waited first
-module _ {all others : List (List ℕ)} {asked : List Batch} {i : Instance} (y : History) (first : Option Pending) (told : List Served)
+module _ {all others : List (List ℕ)} {asked : List Batch} {i : Instance} (y : History) (first : Option PendingRecord) (told : List ServedCall)
     (hand : List ℕ → Type 0) where
   -- by what is left of the history and of the slots
-  ends_at : {final : Standing} {u : History} {waiting : Option Pending} {came : Result Resumed HostFault} {requests : List (List ℕ)}
+  ends_at : {final : Standing} {u : History} {waiting : Option PendingRecord} {came : Result Resumed HostFault} {requests : List (List ℕ)}
       (new : StoreStanding) (result : Result Unit SessionFault) (c : CameTo all others asked i u waiting final new came)
-      → (came ≡ Err host.Store → result ≡ Err (Host host.Store)) → RunsOver i.meaning (requests_of y.batches) told requests
+      → (came ≡ Err host.Store → result ≡ Err (Host host.Store)) → CallsRunOver i.meaning (requests_of y.batches) told requests
       → AreToldOnce (total_of y.batches) first told
       → (requests_of c.after.batches ≡ requests) ⊎ HasUntold hand result requests (requests_of c.after.batches)
       → RefusesAs result i.variant c.after → (life_of i.variant y ≢ LostLife → life_of i.variant c.after ≢ LostLife)
@@ -104,8 +104,8 @@ module _ {all others : List (List ℕ)} {asked : List Batch} {i : Instance} (y :
   }
 
   -- it rests where it stands
-  rests_at : {final : Standing} (at : Place) (new : StoreStanding) (sent : List ℕ) (result : Result Unit SessionFault)
-      (s : IsSettledAt all others asked i at) → RunsOver i.meaning (requests_of y.batches) told (requests_of s.after.batches)
+  rests_at : {final : Standing} (at : SessionPlace) (new : StoreStanding) (sent : List ℕ) (result : Result Unit SessionFault)
+      (s : IsSettledAt all others asked i at) → CallsRunOver i.meaning (requests_of y.batches) told (requests_of s.after.batches)
       → AreToldOnce (total_of y.batches) first told
       → (life_of i.variant y ≢ LostLife → life_of i.variant s.after ≢ LostLife) → IsAtRest at final new sent → IsByInput result
       → ContinuesTo all others asked i y first final new told hand result
@@ -114,11 +114,11 @@ module _ {all others : List (List ℕ)} {asked : List Batch} {i : Instance} (y :
       (rest_refuses result i.variant s.after by) powered)
 
   -- what came ends it
-  stops_with : {final : Standing} (z : History) (waiting : Option Pending) (new : StoreStanding) (came : Result Resumed HostFault)
-      (sent : List ℕ) (fault : SessionFault) → RunsOver i.meaning (requests_of y.batches) told (requests_of z.batches)
+  stops_with : {final : Standing} (z : History) (waiting : Option PendingRecord) (new : StoreStanding) (came : Result Resumed HostFault)
+      (sent : List ℕ) (fault : SessionFault) → CallsRunOver i.meaning (requests_of y.batches) told (requests_of z.batches)
       → AreToldOnce (total_of y.batches) first told
       → (life_of i.variant y ≢ LostLife → life_of i.variant z ≢ LostLife) → CameTo all others asked i z waiting final new came
-      → ((p : Pending) → waiting ≡ Some p → hand p.request) → SendsReply came sent (Err fault)
+      → ((p : PendingRecord) → waiting ≡ Some p → hand p.request) → SendsReply came sent (Err fault)
       → ContinuesTo all others asked i y first final new told hand (Err fault)
   stops_with z waiting new came sent fault run once powered c h s =
       ends_at new (Err fault) c (λ e. ap (λ (x : SessionFault). Err x) (store_came came sent fault s e)) run once
@@ -130,32 +130,32 @@ module _ {all others : List (List ℕ)} {asked : List Batch} {i : Instance} (y :
 -- The lines of a session that are answered, by lists: each grows the history.
 
 module _ {all others : List (List ℕ)} {asked : List Batch} {i : Instance} {final : Standing} (laws : Laws all others asked i final) where
-  pub record AfterLines (y : History) (to : Place) (calls : List Served) (rest : List (List ℕ)) : Type 0 where
+  pub record AfterLines (y : History) (to : SessionPlace) (calls : List ServedCall) (rest : List (List ℕ)) : Type 0 where
     pub settled : IsSettledAt all others asked i to
     pub then_is : History
     pub ready : IsReady laws settled then_is rest
-    pub run : RunsOver i.meaning (requests_of y.batches) calls (requests_of settled.after.batches)
+    pub run : CallsRunOver i.meaning (requests_of y.batches) calls (requests_of settled.after.batches)
     pub once : AreNewFrom (total_of y.batches) calls
     pub powered : life_of i.variant y ≢ LostLife → life_of i.variant settled.after ≢ LostLife
 
-  pub lines_come : (z : History) (from to : Place) (calls : List Served) (rest : List (List ℕ)) (s : IsSettledAt all others asked i from)
-      → IsReady laws s z (lines_served calls ++ rest) → Serves i.variant i.meaning from calls to
+  pub lines_come : (z : History) (from to : SessionPlace) (calls : List ServedCall) (rest : List (List ℕ)) (s : IsSettledAt all others asked i from)
+      → IsReady laws s z (served_lines calls ++ rest) → ServesCalls i.variant i.meaning from calls to
       → Reaches i.variant i to.platform final → AfterLines s.after to calls rest
   lines_come z from to [] rest s ready h reaches =
       rw h (record { settled = s; then_is = z; ready = ready; run = refl; once = tt; powered = λ p. p })
   lines_come z from to (c ∷ calls) rest s ready h reaches =
-      let next : Place = record { platform = h.platform; store = h.store; last = Answered c.answer } in
-      let b = line_goes laws from c.line s h.within z (lines_served calls ++ rest) ready h.asks.recorded h.platform h.asks.middle h.store
+      let next : SessionPlace = record { platform = h.platform; store = h.store; last = Answered c.answer } in
+      let b = line_goes laws from c.line s h.within z (served_lines calls ++ rest) ready h.asks.recorded h.platform h.asks.middle h.store
       c.answer
       (calls_reach laws c.answer.snapshot h.platform to.platform calls
       (served_calls i.variant i.meaning next to calls h.rest) reaches)
       h.asks.records h.asks.goes in
-      let r = lines_come (answered_to i z (snapshot_at from.last) c.line) next to calls rest b.settled_then b.ready h.rest reaches in
+      let r = lines_come (history_after_answer i z (snapshot_at from.last) c.line) next to calls rest b.settled_then b.ready h.rest reaches in
       record {
         settled = r.settled;
         then_is = r.then_is;
         ready = r.ready;
-        run = RunsOver-append i.meaning (requests_of s.after.batches) (requests_of b.settled_then.after.batches)
+        run = CallsRunOver-append i.meaning (requests_of s.after.batches) (requests_of b.settled_then.after.batches)
             (requests_of r.settled.after.batches) (c ∷ []) calls b.run r.run;
         once = (b.new_here.0, b.new_here.1, subst (λ (n : ℕ). AreNewFrom n calls) b.total r.once);
         powered = λ k. r.powered (b.powered k);
@@ -163,11 +163,11 @@ module _ {all others : List (List ℕ)} {asked : List Batch} {i : Instance} {fin
 
 -- what the line in hand came to
 module _ {all others : List (List ℕ)} {asked : List Batch} {i : Instance} {final : Standing} (laws : Laws all others asked i final)
-    (at : Place) (settled : IsSettledAt all others asked i at) (z : History) (rest : List (List ℕ)) (ready : IsReady laws settled z rest)
+    (at : SessionPlace) (settled : IsSettledAt all others asked i at) (z : History) (rest : List (List ℕ)) (ready : IsReady laws settled z rest)
     (line : List ℕ) (new : StoreStanding) (came : Result Resumed HostFault) (within : MayGrow longest_request line) where
   line_came : (recorded : Result Unit StoreFault) (middle : StoreStanding)
       → WritesSlot (2 + (position_at at.last + 1) % 2) (pending_spelling (record_for at.last line)) at.store middle recorded
-      → AfterRecord i.variant i.meaning at.platform final recorded middle new at.last line came
+      → GoesAfterRecord i.variant i.meaning at.platform final recorded middle new at.last line came
       → (IsWritten recorded → (next : List (List ℕ)) × (rest ≡ line ∷ next))
       → CameTo all others asked i settled.after (Some (record_for at.last line)) final new came
   line_came (Err why) middle records g first = line_unwritten laws at line settled within why middle new came records g
@@ -181,22 +181,22 @@ module _ {all others : List (List ℕ)} {asked : List Batch} {i : Instance} {fin
 
 module _ {all others : List (List ℕ)} {asked : List Batch} {i : Instance} {final : Standing} (laws : Laws all others asked i final)
     {before : Standing} {old new : StoreStanding} {left left' received received' : Option (List ℕ)} {result : Result Unit SessionFault}
-    (s : Sessions i.variant i.meaning before final old new left left' received received' result) (y z : History) (slots : Slots)
-    (waiting : Option Pending) (slots_told : old.slots ≡ Some slots) (honest : old.is_honest ≡ true)
-    (w : IsWaiting (slot_read slots 2) (slot_read slots 3) waiting) (fits : FitsBy i slots y waiting) (requests : List (List ℕ))
+    (s : IsSession i.variant i.meaning before final old new left left' received received' result) (y z : History) (slots : Slots)
+    (waiting : Option PendingRecord) (slots_told : old.slots ≡ Some slots) (honest : old.is_honest ≡ true)
+    (w : IsWaiting (slot_front slots 2) (slot_front slots 3) waiting) (fits : FitsBy i slots y waiting) (requests : List (List ℕ))
     (here : StandsIn all others asked i y z before (first_offer slots waiting))
     (may : May laws y before (first_offer slots waiting) requests)
     (follow : AreAskedInTurn all asked i z (first_offer slots waiting) requests)
   where
     -- where that is asked
-    record AsksFirst (p : Pending) (rest : List (List ℕ)) : Type 0 where
-      first_here : StandsIn all others asked i y z before (slot_read slots (offer_slot p))
-      first_may : May laws y before (slot_read slots (offer_slot p)) (p.request ∷ rest)
-      first_follow : AreAskedInTurn all asked i z (slot_read slots (offer_slot p)) (p.request ∷ rest)
+    record AsksFirst (p : PendingRecord) (rest : List (List ℕ)) : Type 0 where
+      first_here : StandsIn all others asked i y z before (slot_front slots (offer_slot p))
+      first_may : May laws y before (slot_front slots (offer_slot p)) (p.request ∷ rest)
+      first_follow : AreAskedInTurn all asked i z (slot_front slots (offer_slot p)) (p.request ∷ rest)
 
-    asks_first : (p : Pending) (rest : List (List ℕ)) → waiting ≡ Some p → requests ≡ p.request ∷ rest → AsksFirst p rest
+    asks_first : (p : PendingRecord) (rest : List (List ℕ)) → waiting ≡ Some p → requests ≡ p.request ∷ rest → AsksFirst p rest
     asks_first p rest e is =
-        let offer : first_offer slots waiting ≡ slot_read slots (offer_slot p) = ap (first_offer slots) e in
+        let offer : first_offer slots waiting ≡ slot_front slots (offer_slot p) = ap (first_offer slots) e in
         record {
           first_here = subst (λ (bytes : List ℕ). StandsIn all others asked i y z before bytes) offer here;
           first_may = subst (λ (bytes : List ℕ). May laws y before bytes (p.request ∷ rest)) offer
@@ -216,18 +216,18 @@ module _ {all others : List (List ℕ)} {asked : List Batch} {i : Instance} {fin
 
     -- the recovery, by what a call for what waits comes to
     recovered_by : (More : History → Type 0) (after : Standing) (came : Result Resumed HostFault)
-        → (waiting ≡ None → after ≡ before → More y) → (r : Resumes i.variant i.meaning before after old s.store came)
+        → (waiting ≡ None → after ≡ before → More y) → (r : HostResumes i.variant i.meaning before after old s.store came)
         → (IsMade i.variant i.meaning before after r.waiting r.middle s.store came r.goes
-        → (p : Pending) (call : Result Answer Refusal) → waiting ≡ Some p
-        → IsCall i.variant i.meaning before after (slot_read slots (offer_slot p)) p.request call
+        → (p : PendingRecord) (call : Result Answer Refusal) → waiting ≡ Some p
+        → IsCall i.variant i.meaning before after (slot_front slots (offer_slot p)) p.request call
         → ((why : Refusal) → call ≡ Err why → came ≡ Err (refusal_fault why))
-        → (o : Met all others asked i y after (slot_read slots (offer_slot p)) p (whole_in call)) × More o.after)
+        → (o : Met all others asked i y after (slot_front slots (offer_slot p)) p (batch_result_of call)) × More o.after)
         → (v : RecoversTo all others asked i y slots waiting after s.store came) × IfOk came (λ (resumed : Resumed). More v.after)
     unfolding enters
     recovered_by More after came none r leads =
         recovers_by More i.variant all others asked i laws.lawful y slots before after old enters s.store came none r
         (λ made p call e told c.
-        let o = leads made p call e c told in left_by all others asked i y slots before old enters More after p (whole_in call) e o.0 o.1)
+        let o = leads made p call e c told in left_by all others asked i y slots before old enters More after p (batch_result_of call) e o.0 o.1)
 
     -- it is all
     recovers_last : final ≡ s.platform → IsFirstAsked s waiting requests → RecoversTo all others asked i y slots waiting final s.store s.begun
@@ -236,9 +236,9 @@ module _ {all others : List (List ℕ)} {asked : List Batch} {i : Instance} {fin
         (recovered_by NoMore s.platform s.begun (λ n e. tt) s.resumes (λ made p call e c told.
         let f = first made p e in
         let a = asks_first p f.0 e f.1 in
-        let m = met_last laws y z before (slot_read slots (offer_slot p)) p f.0 call a.first_here a.first_follow a.first_may
-        (subst (λ (x : Standing). IsCall i.variant i.meaning before x (slot_read slots (offer_slot p)) p.request call) (sym same) c) in
-        (subst (λ (x : Standing). Met all others asked i y x (slot_read slots (offer_slot p)) p (whole_in call)) same m, tt))).0
+        let m = met_last laws y z before (slot_front slots (offer_slot p)) p f.0 call a.first_here a.first_follow a.first_may
+        (subst (λ (x : Standing). IsCall i.variant i.meaning before x (slot_front slots (offer_slot p)) p.request call) (sym same) c) in
+        (subst (λ (x : Standing). Met all others asked i y x (slot_front slots (offer_slot p)) p (batch_result_of call)) same m, tt))).0
 
     -- or lines come behind it
     recovers_between : (first : Resumed) (lines : List (List ℕ)) → Reaches i.variant i s.platform final → s.begun ≡ Ok first
@@ -248,24 +248,24 @@ module _ {all others : List (List ℕ)} {asked : List Batch} {i : Instance} {fin
         recovered_by (IsBetween laws (waiting_then laws z slots waiting) s.platform (offer_then laws z slots waiting) lines) s.platform
         (Ok first)
         (λ n e.
-        let rests : May laws y s.platform (slot_read slots 0) lines =
-        subst (λ (x : Standing). May laws y x (slot_read slots 0) lines) (sym e)
-        (subst (λ (rs : List (List ℕ)). May laws y before (slot_read slots 0) rs)
-        (all_lines ∙ ap (λ (v : Option Pending). requests_with v lines) n)
-        (subst (λ (v : Option Pending). May laws y before (first_offer slots v) requests) n may)) in
-        subst (λ (v : Option Pending). IsBetween laws (waiting_then laws z slots v) s.platform (offer_then laws z slots v) lines y) (sym n)
+        let rests : May laws y s.platform (slot_front slots 0) lines =
+        subst (λ (x : Standing). May laws y x (slot_front slots 0) lines) (sym e)
+        (subst (λ (rs : List (List ℕ)). May laws y before (slot_front slots 0) rs)
+        (all_lines ∙ ap (λ (v : Option PendingRecord). requests_with v lines) n)
+        (subst (λ (v : Option PendingRecord). May laws y before (first_offer slots v) requests) n may)) in
+        subst (λ (v : Option PendingRecord). IsBetween laws (waiting_then laws z slots v) s.platform (offer_then laws z slots v) lines y) (sym n)
         (rests, here.same))
         (rw is at s.resumes)
         (λ made p call e c told.
-        let a = asks_first p lines e (all_lines ∙ ap (λ (v : Option Pending). requests_with v lines) e) in
-        let b = between_told laws y z before s.platform (slot_read slots (offer_slot p)) p call first lines a.first_here a.first_follow
+        let a = asks_first p lines e (all_lines ∙ ap (λ (v : Option PendingRecord). requests_with v lines) e) in
+        let b = between_told laws y z before s.platform (slot_front slots (offer_slot p)) p call first lines a.first_here a.first_follow
         a.first_may reaches c told in
-        subst (λ (v : Option Pending).
-        (o : Met all others asked i y s.platform (slot_read slots (offer_slot p)) p (whole_in call))
+        subst (λ (v : Option PendingRecord).
+        (o : Met all others asked i y s.platform (slot_front slots (offer_slot p)) p (batch_result_of call))
         × IsBetween laws (waiting_then laws z slots v) s.platform (offer_then laws z slots v) lines o.after) (sym e) b)
 
     -- nothing was told
-    none_told : (w : Option Pending) → FitsBy i slots y w → AreToldOnce (total_of y.batches) w []
+    none_told : (w : Option PendingRecord) → FitsBy i slots y w → AreToldOnce (total_of y.batches) w []
     none_told None f = tt
     none_told (Some p) f = tt
 
@@ -273,33 +273,33 @@ module _ {all others : List (List ℕ)} {asked : List Batch} {i : Instance} {fin
     at_once : new ≡ s.store → (e : StopsAtOnce s.begun s.taken s.sent result)
         → RecoversTo all others asked i y slots waiting final s.store s.begun
         → ContinuesTo all others asked i y waiting final new []
-        (λ (request : List ℕ). (p : Pending) × (waiting ≡ Some p) × (p.request ≡ request)) result
+        (λ (request : List ℕ). (p : PendingRecord) × (waiting ≡ Some p) × (p.request ≡ request)) result
     at_once same e r =
-        let hand : List ℕ → Type 0 = λ request. (p : Pending) × (waiting ≡ Some p) × (p.request ≡ request) in
+        let hand : List ℕ → Type 0 = λ request. (p : PendingRecord) × (waiting ≡ Some p) × (p.request ≡ request) in
         rw e.stops (rw same (stops_with y waiting [] hand y waiting s.store s.begun s.sent e.fault refl (none_told waiting fits) (λ p. p)
         (came_by waiting s.begun r)
         (λ p w. (p, w, refl)) e.says))
 
     -- the lines
-    serves_on : (g : GoesOn i.variant i.meaning s.begun s.platform final s.store new left' s.taken s.sent result)
-        → (rest : List (List ℕ)) → lines_served (told_first waiting g.first ++ g.lines.calls) ++ rest ≡ requests
+    serves_on : (g : SessionGoesOn i.variant i.meaning s.begun s.platform final s.store new left' s.taken s.sent result)
+        → (rest : List (List ℕ)) → served_lines (first_served_call waiting g.first ++ g.lines.calls) ++ rest ≡ requests
         → IsLineAsked i.variant i.meaning (length g.lines.calls + 1) g.lines.at final new left' g.lines.more g.lines.last rest result
         g.lines.ends
-        → ContinuesTo all others asked i y waiting final new (told_first waiting g.first ++ g.lines.calls) (InHand g.lines) result
+        → ContinuesTo all others asked i y waiting final new (first_served_call waiting g.first ++ g.lines.calls) (InHand g.lines) result
     serves_on g rest served asks_line =
         let l = g.lines in
-        let told : List Served = told_first waiting g.first ++ l.calls in
-        let from : Place = record { platform = s.platform; store = s.store; last = g.first } in
-        let lines : List (List ℕ) = lines_served l.calls ++ rest in
+        let told : List ServedCall = first_served_call waiting g.first ++ l.calls in
+        let from : SessionPlace = record { platform = s.platform; store = s.store; last = g.first } in
+        let lines : List (List ℕ) = served_lines l.calls ++ rest in
         let all_lines : requests ≡ requests_with waiting lines = sym served ∙ first_told s slots waiting slots_told w g rest in
         let r = recovers_between g.first lines (chain_reaches laws (lines_chain l)) g.begins all_lines in
         let ready = ready_first laws y z slots waiting s.platform s.store g.first lines fits r.0 r.1
         (subst (λ (rs : List (List ℕ)). AreAskedInTurn all asked i z (first_offer slots waiting) rs) all_lines follow) in
         let c = lines_come laws (waiting_then laws z slots waiting) from l.at l.calls rest (settled_by waiting g.first fits r.0) ready
         l.serves (ends_reach laws (lines_chain l).ends) in
-        let run : RunsOver i.meaning (requests_of y.batches) told (requests_of c.settled.after.batches) =
-        RunsOver-append i.meaning (requests_of y.batches) (requests_of r.0.after.batches) (requests_of c.settled.after.batches)
-        (told_first waiting g.first) l.calls (went_first waiting g.first fits r.0).run c.run in
+        let run : CallsRunOver i.meaning (requests_of y.batches) told (requests_of c.settled.after.batches) =
+        CallsRunOver-append i.meaning (requests_of y.batches) (requests_of r.0.after.batches) (requests_of c.settled.after.batches)
+        (first_served_call waiting g.first) l.calls (went_first waiting g.first fits r.0).run c.run in
         let once : AreToldOnce (total_of y.batches) waiting told = once_first waiting g.first r.0 l.calls c.once in
         by_asked (λ x. ContinuesTo all others asked i y waiting final new told (InHand l) x) rest result l asks_line
         (λ fault e first.
@@ -310,15 +310,15 @@ module _ {all others : List (List ℕ)} {asked : List Batch} {i : Instance} {fin
         (λ p k. rw (same_pending (record_for l.at.last e.line) p k) (e.held, e.begins)) e.says)
         (λ by x. rests_at y waiting told (InHand l) l.at new l.last result c.settled run once (λ p. c.powered (r.0.powered p)) x by)
 
-    ends_by : (goes : AfterResume i.variant i.meaning s.begun s.platform final s.store new left' s.taken s.sent result)
+    ends_by : (goes : GoesAfterResume i.variant i.meaning s.begun s.platform final s.store new left' s.taken s.sent result)
         → AreMade s waiting requests goes
-        → ContinuesTo all others asked i y waiting final new (told_in waiting goes) (IsInHand waiting goes) result
+        → ContinuesTo all others asked i y waiting final new (served_calls_in waiting goes) (IsInHand waiting goes) result
     ends_by (inl e) a = at_once e.1 e.2 (recovers_last e.0 a)
     ends_by (inr g) a = serves_on g a.0 a.1 a.2
 
     -- of the history of which was asked
     pub continues_by : AreMade s waiting requests s.goes → (life_of i.variant z ≢ LostLife → life_of i.variant y ≢ LostLife)
-        → ContinuesTo all others asked i z waiting final new (told_in waiting s.goes) (IsInHand waiting s.goes) result
+        → ContinuesTo all others asked i z waiting final new (served_calls_in waiting s.goes) (IsInHand waiting s.goes) result
     continues_by made powered =
         let c = ends_by s.goes made in
         record {
@@ -327,13 +327,13 @@ module _ {all others : List (List ℕ)} {asked : List Batch} {i : Instance} {fin
             stands = c.runs.stands;
             within = c.runs.within;
             requests = c.runs.requests;
-            run = subst (λ (bs : List Batch). RunsOver i.meaning (requests_of bs) (told_in waiting s.goes) c.runs.requests)
+            run = subst (λ (bs : List Batch). CallsRunOver i.meaning (requests_of bs) (served_calls_in waiting s.goes) c.runs.requests)
                 (laws.batches y z here.same) c.runs.run;
             committed = c.runs.committed;
             unspoiled = c.runs.unspoiled;
             powered = λ p. c.runs.powered (powered p);
           };
-          once = subst (λ (bs : List Batch). AreToldOnce (total_of bs) waiting (told_in waiting s.goes)) (laws.batches y z here.same) c.once;
+          once = subst (λ (bs : List Batch). AreToldOnce (total_of bs) waiting (served_calls_in waiting s.goes)) (laws.batches y z here.same) c.once;
           room = c.room;
           slots_after = c.slots_after;
           honest = c.honest;
@@ -344,26 +344,26 @@ module _ {all others : List (List ℕ)} {asked : List Batch} {i : Instance} {fin
         }
 
     -- where all that were told, and the one in hand, are the first of the requests
-    line_among : (told : List Served) (number : ℕ) (at : Place) (left : Option (List ℕ)) (more sent : List ℕ)
+    line_among : (told : List ServedCall) (number : ℕ) (at : SessionPlace) (left : Option (List ℕ)) (more sent : List ℕ)
         (a : AreAmong told (λ (request : List ℕ). (held : List ℕ) × BeginsWith more request held) requests)
         → (result : Result Unit SessionFault)
-        → (e : ServedOn i.variant i.meaning number at final new left more [] sent (ended_as result))
+        → (e : TurnGoes i.variant i.meaning number at final new left more [] sent (turn_answer_of result))
         → IsLineAsked i.variant i.meaning number at final new left more sent a.served.0 result e
     line_among told number at left more sent a (Err (Host fault)) e = λ written. among_next told more a e.line e.held e.begins
     line_among told number at left more sent a (Err (Lines WriteFault)) e = λ written. among_next told more a e.line e.held e.begins
     line_among told number at left more sent a _ e = tt
 
-    made_among : (goes : AfterResume i.variant i.meaning s.begun s.platform final s.store new left' s.taken s.sent result)
-        → AreAmong (told_in waiting goes) (IsInHand waiting goes) requests → AreMade s waiting requests goes
+    made_among : (goes : GoesAfterResume i.variant i.meaning s.begun s.platform final s.store new left' s.taken s.sent result)
+        → AreAmong (served_calls_in waiting goes) (IsInHand waiting goes) requests → AreMade s waiting requests goes
     made_among (inl e) a = λ made p k. let f = a.in_hand p.request (p, k, refl) in (f.0, sym f.1)
     made_among (inr g) a = (
       a.served.0,
       a.served.1,
-      line_among (told_first waiting g.first ++ g.lines.calls) (length g.lines.calls + 1) g.lines.at left' g.lines.more g.lines.last a result
+      line_among (first_served_call waiting g.first ++ g.lines.calls) (length g.lines.calls + 1) g.lines.at left' g.lines.more g.lines.last a result
           g.lines.ends,
     )
 
-    pub continues_to : AreAmong (told_in waiting s.goes) (IsInHand waiting s.goes) requests
+    pub continues_to : AreAmong (served_calls_in waiting s.goes) (IsInHand waiting s.goes) requests
         → (life_of i.variant z ≢ LostLife → life_of i.variant y ≢ LostLife)
-        → ContinuesTo all others asked i z waiting final new (told_in waiting s.goes) (IsInHand waiting s.goes) result
+        → ContinuesTo all others asked i z waiting final new (served_calls_in waiting s.goes) (IsInHand waiting s.goes) result
     continues_to among powered = continues_by (made_among s.goes among) powered

@@ -2,16 +2,16 @@
 use Rattle.mm_host.proofs.Below.{◌≡◌, ◌≢◌, ◌∙◌, ◌+◌, ℕ, true, List, Option, None, Some, Result, Ok, Err, refl, sym, ap}
 use Rattle.mm_host.proofs.Below.{inl, arith, ◌⊎◌, nat_eq, Standing, Batch, One}
 use Rattle.mm_host.proofs.Below.{Instance, History, requests_of, total_of, LostLife, life_of, StandsFor, Answer}
-use Rattle.mm_host.proofs.Below.{BatchAnswer, Refusal, answer_on, IsWithin, whole}
-use Rattle.mm_host.proofs.Below.{StoreStanding, Pending, Slots}
+use Rattle.mm_host.proofs.Below.{BatchAnswer, Refusal, answer_on, IsWithin, batch_answer_of}
+use Rattle.mm_host.proofs.Below.{StoreStanding, PendingRecord, Slots}
 use Rattle.mm_host.proofs.Below.{HostFault, Resumed, Start, Answered, IsNotBeyond}
 use Rattle.mm_host.proofs.Below.{waiting_position, refusal_fault, FitsHistory, FitsBy, AnswersAt}
 use Rattle.mm_host.proofs.Below.{IsGrown, MayHaveCommitted, RecoversTo, IsRefusedAs, position_at}
-use Rattle.mm_host.proofs.Below.{Place}
-use Rattle.mm_host.proofs.Below.{RunsOver, told_first, inr}
+use Rattle.mm_host.proofs.Below.{SessionPlace}
+use Rattle.mm_host.proofs.Below.{CallsRunOver, first_served_call, inr}
 use Rattle.mm_host.proofs.Below.{last_position, subst, ◌≤◌}
 use Rattle.mm_host.proofs.Below.{◌++◌, Variant, Batch, Life, StepFault, fault_of, by_refusal}
-use Rattle.mm_host.proofs.Below.{AreNewFrom, AreToldOnce, RefusesAs, Served, Host}
+use Rattle.mm_host.proofs.Below.{AreNewFrom, AreToldOnce, RefusesAs, ServedCall, Host}
 use Rattle.mm_model.specs.declared.refusal.Refusal.TheVariants as refusal
 use Rattle.mm_recovery.specs.declared.fault.HostFault.TheVariants as host
 use Rattle.mm_host.proofs.Leading.{answered_first, same_pending}
@@ -19,17 +19,17 @@ use Rattle.mm_host.proofs.Putting.{fits_room}
 
 -- Between two lines a session stands where a recovery left it, or a line, which is asked as one. The last answer is that of the
 -- history's end.
-pub record IsSettledAt (all others : List (List ℕ)) (asked : List Batch) (i : Instance) (at : Place) : Type 0 where
+pub record IsSettledAt (all others : List (List ℕ)) (asked : List Batch) (i : Instance) (at : SessionPlace) : Type 0 where
   pub from : History
   pub slots : Slots
-  pub waiting : Option Pending
+  pub waiting : Option PendingRecord
   pub came : RecoversTo all others asked i from slots waiting at.platform at.store (Ok at.last)
   pub open came use *
   pub recorded : waiting_position waiting ≡ position_at at.last
   pub at_end : position_at at.last ≡ total_of came.after.batches
 
 -- What a request comes to, which waits or is a line's.
-pub record CameTo (all others : List (List ℕ)) (asked : List Batch) (i : Instance) (y : History) (waiting : Option Pending)
+pub record CameTo (all others : List (List ℕ)) (asked : List Batch) (i : Instance) (y : History) (waiting : Option PendingRecord)
     (standing : Standing) (kept : StoreStanding) (came : Result Resumed HostFault) : Type 0 where
   pub after : History
   pub stands : StandsFor i standing after
@@ -70,14 +70,14 @@ refused_with why variant after h =
     → RefusesAs {T = Unit} (Err (Host f)) variant after)
     (λ k. tt) (λ v n k. elim k [ inl e ↦ absurd (n e) | inr r ↦ r ]) why h
 
-pub answers_of : (i : Instance) (y after : History) (p : Pending) (answer : Answer) → AnswersAt i y (Some p) after answer
+pub answers_of : (i : Instance) (y after : History) (p : PendingRecord) (answer : Answer) → AnswersAt i y (Some p) after answer
     → (p.position ≡ total_of after.batches)
     × (whole answer ≡ answer_on i after (One p.request) (nat_eq p.position (total_of y.batches)))
 answers_of i y after p answer a = let same : a.p ≡ p = same_pending p a.p a.waits in (rw same at a.position, rw same at a.answer_is)
 
 module _ {all others : List (List ℕ)} {asked : List Batch} {i : Instance} {y : History} {slots : Slots} {standing : Standing}
     {kept : StoreStanding} where
-  abbrev pub came_by : (waiting : Option Pending) (came : Result Resumed HostFault)
+  abbrev pub came_by : (waiting : Option PendingRecord) (came : Result Resumed HostFault)
       → RecoversTo all others asked i y slots waiting standing kept came → CameTo all others asked i y waiting standing kept came
   came_by waiting came r = record {
     after = r.after;
@@ -96,13 +96,13 @@ module _ {all others : List (List ℕ)} {asked : List Batch} {i : Instance} {y :
   }
 
   -- what waited, and was told
-  pub record Went (waiting : Option Pending) (first : Resumed)
+  pub record Went (waiting : Option PendingRecord) (first : Resumed)
       (r : RecoversTo all others asked i y slots waiting standing kept (Ok first)) : Type 0 where
     pub recorded : waiting_position waiting ≡ position_at first
     pub at_end : position_at first ≡ total_of r.after.batches
-    pub run : RunsOver i.meaning (requests_of y.batches) (told_first waiting first) (requests_of r.after.batches)
+    pub run : CallsRunOver i.meaning (requests_of y.batches) (first_served_call waiting first) (requests_of r.after.batches)
 
-  pub went_first : (waiting : Option Pending) (first : Resumed) → FitsBy i slots y waiting
+  pub went_first : (waiting : Option PendingRecord) (first : Resumed) → FitsBy i slots y waiting
       → (r : RecoversTo all others asked i y slots waiting standing kept (Ok first)) → Went waiting first r
   went_first None (Start first) f r = let none : FitsBy i r.slots_after r.after None = rw r.same_wait at r.fits.fits in
       record { recorded = refl; at_end = sym none.0; run = ap requests_of r.grown }
@@ -114,9 +114,9 @@ module _ {all others : List (List ℕ)} {asked : List Batch} {i : Instance} {y :
       record { recorded = a.0 ∙ sym at; at_end = at; run = answered_first i y r.after p answer f.0 a.0 a.1 r.grown }
 
   -- with the lines behind it
-  pub once_first : (waiting : Option Pending) (first : Resumed)
-      → (r : RecoversTo all others asked i y slots waiting standing kept (Ok first)) → (calls : List Served)
-      → AreNewFrom (total_of r.after.batches) calls → AreToldOnce (total_of y.batches) waiting (told_first waiting first ++ calls)
+  pub once_first : (waiting : Option PendingRecord) (first : Resumed)
+      → (r : RecoversTo all others asked i y slots waiting standing kept (Ok first)) → (calls : List ServedCall)
+      → AreNewFrom (total_of r.after.batches) calls → AreToldOnce (total_of y.batches) waiting (first_served_call waiting first ++ calls)
   once_first None (Start first) r calls new =
       subst (λ (bs : List Batch). AreNewFrom (total_of bs) calls) r.grown new
   once_first None (Answered answer) r calls new = let clash : None ≡ Some r.comes.p = r.comes.waits in absurd (cc)
@@ -129,7 +129,7 @@ module _ {all others : List (List ℕ)} {asked : List Batch} {i : Instance} {y :
         subst (λ (n : ℕ). AreNewFrom n calls) (sym a.0) new,
       )
 
-  abbrev pub settled_by : (waiting : Option Pending) (last : Resumed) → FitsBy i slots y waiting
+  abbrev pub settled_by : (waiting : Option PendingRecord) (last : Resumed) → FitsBy i slots y waiting
       → RecoversTo all others asked i y slots waiting standing kept (Ok last)
       → IsSettledAt all others asked i (record { platform = standing; store = kept; last = last })
   settled_by waiting last f r = record {

@@ -1,11 +1,11 @@
 -- The steps of a session: its start, a turn from what the reader read and what came of the line, and the rest of it.
 use Rattle.mm_host.proofs.Below.{◌≡◌, ℕ, List, [], ◌++◌, Option, Result, Ok, Err, refl, ap, inl, inr, Appends-nil, Appends-trans}
 use Rattle.mm_host.proofs.Below.{Consumes-nil, Variant, Standing, Meaning, StoreStanding, HostFault, SessionFault, Host, Resumed}
-use Rattle.mm_host.proofs.Below.{Resumes, SendsReply, TellsReply, comes_as, reply_text, Sessions, ServesInput, ◌∙◌, ◌+◌, ◌≤◌, ◌∷◌, sym}
-use Rattle.mm_host.proofs.Below.{append_assoc, arith, longest_request, Lines, WriteFault, AsksNext, Place, BeginsWith, StopsInLine}
-use Rattle.mm_host.proofs.Below.{most_lines, ServesNext, ServedOn, length, Some, Consumes-trans, lines_joined, Answered, lines_served}
-use Rattle.mm_host.proofs.Below.{replies_to, ServesLine, AsksAndTells, Turns, Served, ended_as}
-use Rattle.mm_base.specs.Next.{NextLine}
+use Rattle.mm_host.proofs.Below.{HostResumes, SendsReply, TellsReply, session_result_of, reply_text, IsSession, ServesInput, ◌∙◌, ◌+◌, ◌≤◌, ◌∷◌, sym}
+use Rattle.mm_host.proofs.Below.{append_assoc, arith, longest_request, Lines, WriteFault, AsksNext, SessionPlace, BeginsWith, StopsInLine}
+use Rattle.mm_host.proofs.Below.{most_lines, ServesNext, TurnGoes, length, Some, Consumes-trans, joined_lines, Answered, served_lines}
+use Rattle.mm_host.proofs.Below.{replies_to, ServesLine, AsksAndTells, TurnSends, ServedCall, turn_answer_of}
+use Rattle.mm_base.specs.ReadsNextLine.{ReadsNextLine}
 use Rattle.mm_base.specs.declared.lines.LineFault.{LineFault}
 use Rattle.mm_base.specs.declared.lines.Read.{Read}
 use Rattle.mm_base.specs.declared.lines.Read.TheVariants.{Line}
@@ -16,9 +16,9 @@ use Rattle.mm_host.proofs.Lines.{line_tries, tried_answer}
 -- what was begun, and what was told of it
 module _ {variant : Variant} {meaning : Meaning} {before platform : Standing} {old store : StoreStanding}
     {received received' : Option (List ℕ)} {begun : Result Resumed HostFault} {told : Result Resumed SessionFault}
-    (r : Resumes variant meaning before platform old store begun) (t : TellsReply begun received received' told) where
+    (r : HostResumes variant meaning before platform old store begun) (t : TellsReply begun received received' told) where
   pub stops_at_once : (left : Option (List ℕ)) (fault : SessionFault) → told ≡ Err fault
-      → Sessions variant meaning before platform old store left left received received' (Err fault)
+      → IsSession variant meaning before platform old store left left received received' (Err fault)
   stops_at_once left fault e = record {
     taken = [];
     sent = t.sent;
@@ -34,17 +34,17 @@ module _ {variant : Variant} {meaning : Meaning} {before platform : Standing} {o
   told_on : (came : Result Resumed HostFault) (first : Resumed) → SendsReply came t.sent (Ok first)
       → (came ≡ Ok first) × (t.sent ≡ reply_text came)
   told_on (Ok resumed) first (inl s) =
-      let told : Ok first ≡ comes_as (Ok resumed) = s.1 in
+      let told : Ok first ≡ session_result_of (Ok resumed) = s.1 in
       let same : resumed ≡ first = cc in
       (ap Ok same, s.0)
-  told_on (Err fault) first (inl s) = let clash : Ok first ≡ comes_as (Err fault) = s.1 in absurd (cc)
+  told_on (Err fault) first (inl s) = let clash : Ok first ≡ session_result_of (Err fault) = s.1 in absurd (cc)
   told_on came first (inr s) = let e = s.0 in absurd (cc)
 
   pub goes_on : {after : Standing} {new : StoreStanding} {left left' received'' : Option (List ℕ)} {result : Result Unit SessionFault}
       (first : Resumed) → told ≡ Ok first
       → ServesInput variant meaning 1 (record { platform = platform; store = store; last = first }) after new left left' [] received'
       received'' result
-      → Sessions variant meaning before after old new left left' received received'' result
+      → IsSession variant meaning before after old new left left' received received'' result
   goes_on {received''} first e s = let o = told_on begun first (rw e at t.says) in
       record {
         taken = s.taken;
@@ -66,9 +66,9 @@ module _ {variant : Variant} {meaning : Meaning} {before platform : Standing} {o
 
 -- want of memory at once is that of a first read
 pub lacks_memory : (variant : Variant) (meaning : Meaning) (before : Standing) (old : StoreStanding) (left received : Option (List ℕ))
-    → Sessions variant meaning before before old old left left received received (Err (Host host.Memory))
+    → IsSession variant meaning before before old old left left received received (Err (Host host.Memory))
 lacks_memory variant meaning before old left received =
-    let begun : Resumes variant meaning before before old old (Err host.Memory) = record {
+    let begun : HostResumes variant meaning before before old old (Err host.Memory) = record {
       middle = old;
       waiting = Err fault.Memory;
       finds = record {
@@ -89,7 +89,7 @@ goes_on_with (Ok next) = Ok (Some next)
 goes_on_with (Err fault) = Err fault
 
 -- what a line comes to
-module _ {variant : Variant} {meaning : Meaning} {number : ℕ} {at : Place} {after : Standing} {new : StoreStanding}
+module _ {variant : Variant} {meaning : Meaning} {number : ℕ} {at : SessionPlace} {after : Standing} {new : StoreStanding}
     {bytes line held : List ℕ} (b : BeginsWith bytes line held) (few : number ≤ most_lines) where
   -- it stops the session
   in_line : (sent : List ℕ) (came : Result Resumed HostFault) (fault : SessionFault)
@@ -100,7 +100,7 @@ module _ {variant : Variant} {meaning : Meaning} {number : ℕ} {at : Place} {af
   -- by what is told of it
   went : (left : Option (List ℕ)) (sent : List ℕ) (came : Result Resumed HostFault) (told : Result Resumed SessionFault)
       → AsksNext variant meaning at.platform after at.store new at.last line came → SendsReply came sent told
-      → ServedOn variant meaning number at after new left bytes held sent (goes_on_with told)
+      → TurnGoes variant meaning number at after new left bytes held sent (goes_on_with told)
   unfolding in_line
   went left sent (Ok resumed) told a (inl s) =
       let answer = tried_answer resumed (line_tries a) in
@@ -118,17 +118,17 @@ module _ {variant : Variant} {meaning : Meaning} {number : ℕ} {at : Place} {af
 
   pub asked_and_told : (left : Option (List ℕ)) {received received' : Option (List ℕ)} (told : Result Resumed SessionFault)
       → AsksAndTells variant meaning at after new received received' line told
-      → Turns variant meaning number at after new left bytes held received received' (goes_on_with told)
+      → TurnSends variant meaning number at after new left bytes held received received' (goes_on_with told)
   asked_and_told left told t =
       record { sent = t.tells.sent; appended = t.tells.appended; went = went left t.tells.sent t.came told t.asks t.tells.says }
 
 -- A line was read, and served or not.
-pub turned_by_line : {variant : Variant} {meaning : Meaning} {number : ℕ} {at : Place} {after : Standing} {new : StoreStanding}
+pub turned_by_line : {variant : Variant} {meaning : Meaning} {number : ℕ} {at : SessionPlace} {after : Standing} {new : StoreStanding}
     {left left' : Option (List ℕ)} {held held' : List ℕ} {received received' : Option (List ℕ)}
     {result : Result (Option Resumed) SessionFault} (read : Result Read LineFault) (what : Read) (line : _)
-    → number ≤ most_lines + 1 → NextLine longest_request left left' held read held' → read ≡ Ok what → what ≡ Line line
+    → number ≤ most_lines + 1 → ReadsNextLine longest_request left left' held read held' → read ≡ Ok what → what ≡ Line line
     → ((left : Option (List ℕ)) (bytes held : List ℕ) → number ≤ most_lines + 1 → BeginsWith bytes line.now held
-    → Turns variant meaning number at after new left bytes held received received' result)
+    → TurnSends variant meaning number at after new left bytes held received received' result)
     → ServesNext variant meaning number at after new left left' held held' received received' result
 turned_by_line {left' = left'} {held = held} {held' = held'} read what line few n is what_is t =
     let r = rw (is, what_is) at n in
@@ -141,23 +141,23 @@ turned_by_line {left' = left'} {held = held} {held' = held'} read what line few 
 
 -- The rest of a session from where it stands between two lines, and how a turn goes on to it or ends it.
 
-module _ {variant : Variant} {meaning : Meaning} {at : Place} {number : ℕ} {after : Standing} {new : StoreStanding}
+module _ {variant : Variant} {meaning : Meaning} {at : SessionPlace} {number : ℕ} {after : Standing} {new : StoreStanding}
     {left left' received received' : Option (List ℕ)} {held held' : List ℕ} {result : Result (Option Resumed) SessionFault}
     (t : ServesNext variant meaning number at after new left left' held held' received received' result) where
   abbrev said : List ℕ
   said = t.turns.sent
 
   went_as : (r : Result (Option Resumed) SessionFault) → result ≡ r
-      → ServedOn variant meaning number at after new left' (held ++ t.taken) held' said r
+      → TurnGoes variant meaning number at after new left' (held ++ t.taken) held' said r
   went_as r e = rw e at t.turns.went
 
   ends_of : (ended : Result Unit SessionFault)
-      → ServedOn variant meaning number at after new left' (held ++ t.taken) held' said (ended_as ended)
-      → ServedOn variant meaning number at after new left' (held ++ t.taken) [] said (ended_as ended)
+      → TurnGoes variant meaning number at after new left' (held ++ t.taken) held' said (turn_answer_of ended)
+      → TurnGoes variant meaning number at after new left' (held ++ t.taken) [] said (turn_answer_of ended)
   ends_of (Ok it) s = s
   ends_of (Err fault) s = s
 
-  pub rest_ends : (ended : Result Unit SessionFault) → number ≤ most_lines + 1 → result ≡ ended_as ended
+  pub rest_ends : (ended : Result Unit SessionFault) → number ≤ most_lines + 1 → result ≡ turn_answer_of ended
       → ServesInput variant meaning number at after new left left' held received received' ended
   rest_ends ended few e = let none : 0 + number ≡ number = omega arith in record {
     taken = t.taken;
@@ -173,7 +173,7 @@ module _ {variant : Variant} {meaning : Meaning} {at : Place} {number : ℕ} {af
       last = said;
       took = refl;
       wrote = refl;
-      ends = rw none (ends_of ended (went_as (ended_as ended) e));
+      ends = rw none (ends_of ended (went_as (turn_answer_of ended) e));
     };
   }
 
@@ -193,8 +193,8 @@ module _ {variant : Variant} {meaning : Meaning} {at : Place} {number : ℕ} {af
         let w = served in
         let l = r.lines in
         let reply : List ℕ = reply_text (Ok (Answered w.answer)) in
-        let lines : List ℕ = lines_joined (lines_served l.calls) in
-        let calls : List Served = record { line = w.line; answer = w.answer } ∷ l.calls in
+        let lines : List ℕ = joined_lines (served_lines l.calls) in
+        let calls : List ServedCall = record { line = w.line; answer = w.answer } ∷ l.calls in
         let counted : length l.calls + (number + 1) ≡ length calls + number = omega arith in
         record {
           taken = t.taken ++ r.taken;

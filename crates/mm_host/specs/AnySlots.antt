@@ -4,20 +4,20 @@
 use Rattle.std.specs.Prelude.{◌≡◌, ℕ, Bool, false, List, [], ◌∷◌, ◌++◌, Option, None, Some, Result, Err, IsSome, nat_eq, if◌then◌else◌}
 use Rattle.std.specs.Prelude.{◌⊎◌}
 use Rattle.std.specs.List.{Contains}
-use Rattle.mm_host.specs.Below.{lines_of, Variant, Basic, Opt, Content, Item, Standing, Batch, One, Meaning, History, Commit, moved}
-use Rattle.mm_host.specs.Below.{requests_of, total_of, Instance, basic, opt, Within, IsClear, AreNoGuards}
-use Rattle.mm_host.specs.Below.{StandsFor, IsGenuine, issued_bytes, Refusal, IsWithin, right_messages, found_at, right_content, by_lists}
-use Rattle.mm_host.specs.Below.{AreShown, IsIdle, fault_of, standing_items, StoreStanding, Pending, Slots, slot_read, first_offer}
+use Rattle.mm_host.specs.Below.{lines_of, Variant, Basic, Opt, Content, Item, Standing, Batch, One, Meaning, History, Commit, history_after}
+use Rattle.mm_host.specs.Below.{requests_of, total_of, Instance, basic_instance, opt_instance, AreMessagesIn, IsClear, AreNoGuards}
+use Rattle.mm_host.specs.Below.{StandsFor, IsGenuine, issued_bytes, Refusal, IsWithin, right_messages, finding_at, right_content, list_level}
+use Rattle.mm_host.specs.Below.{AreShown, IsIdle, fault_of, standing_items, StoreStanding, PendingRecord, Slots, slot_front, first_offer}
 use Rattle.mm_host.specs.Below.{IsWaiting, Refused}
 use Rattle.mm_host.specs.declared.fault.SessionFault.{SessionFault}
 use Rattle.mm_host.specs.declared.fault.SessionFault.TheVariants.{Host}
-use Rattle.mm_host.specs.Continuing.{IsInHand, RunsOver, RunsTo, told_in}
-use Rattle.mm_host.specs.Sessions.{Served, lines_served, Sessions}
+use Rattle.mm_host.specs.Continuation.{IsInHand, CallsRunOver, RunsTo, served_calls_in}
+use Rattle.mm_host.specs.Sessions.{ServedCall, served_lines, IsSession}
 
 -- the bytes that are offered next: the last answer's snapshot, and before any answer the first ones
-abbrev pub offered_after : List ℕ → List Served → List ℕ
-offered_after first [] = first
-offered_after first (c ∷ calls) = offered_after c.answer.snapshot calls
+abbrev pub offer_after : List ℕ → List ServedCall → List ℕ
+offer_after first [] = first
+offer_after first (c ∷ calls) = offer_after c.answer.snapshot calls
 
 -- whether a right offer says the last position
 abbrev pub says_last : History → Option Content → Bool
@@ -26,9 +26,9 @@ says_last y (Some content) = nat_eq content.position (total_of y.batches)
 
 -- The history once a request is answered, but for others' values: it is committed where the offer
 -- says the last position, and else it is a repeat.
-abbrev pub answered_to : Instance → History → List ℕ → List ℕ → History
-answered_to i y offer request =
-    if says_last y (right_content i offer) then moved i y (Commit (One request)) else y
+abbrev pub history_after_answer : Instance → History → List ℕ → List ℕ → History
+history_after_answer i y offer request =
+    if says_last y (right_content i offer) then history_after i y (Commit (One request)) else y
 
 -- What is asked of requests that are asked one after another, of which each but the first offers
 -- the snapshot of the answer before: each is among those asked, and the messages of its offer are
@@ -38,9 +38,9 @@ abbrev pub AreAskedInTurn : List (List ℕ) → List Batch → Instance → Hist
 AreAskedInTurn all asked i y offer [] = Unit {0}
 AreAskedInTurn all asked i y offer (request ∷ requests) =
     Contains asked (One request)
-    × Within (right_messages i (One request) (right_content i offer)) all
-    × AreAskedInTurn all asked i (answered_to i y offer request)
-    (issued_bytes i (answered_to i y offer request)) requests
+    × AreMessagesIn (right_messages i (One request) (right_content i offer)) all
+    × AreAskedInTurn all asked i (history_after_answer i y offer request)
+    (issued_bytes i (history_after_answer i y offer request)) requests
 
 -- No segment is open, and nothing is asked, or one request that isn't taken for new.
 abbrev pub AsksNothingNew : Instance → History → List ℕ → List (List ℕ) → Type 0
@@ -49,7 +49,7 @@ AsksNothingNew i y offer (request ∷ []) = IsIdle i y offer (One request)
 AsksNothingNew i y offer (request ∷ next ∷ requests) = ⊥
 
 -- what waits, and then the lines
-abbrev pub requests_with : Option Pending → List (List ℕ) → List (List ℕ)
+abbrev pub requests_with : Option PendingRecord → List (List ℕ) → List (List ℕ)
 requests_with None lines = lines
 requests_with (Some p) lines = p.request ∷ lines
 
@@ -58,11 +58,11 @@ abbrev pub AreFirstOf : List (List ℕ) → List (List ℕ) → Type 0
 AreFirstOf first requests = (rest : List (List ℕ)) × (first ++ rest ≡ requests)
 
 -- The requests that were told, and the one in hand, are the first of these.
-pub record AreAmong (told : List Served) (hand : List ℕ → Type 0)
+pub record AreAmong (told : List ServedCall) (hand : List ℕ → Type 0)
     (requests : List (List ℕ)) : Type 0 where
-  pub served : AreFirstOf (lines_served told) requests
+  pub served : AreFirstOf (served_lines told) requests
   pub in_hand : (request : List ℕ) → hand request →
-      AreFirstOf (lines_served told ++ request ∷ []) requests
+      AreFirstOf (served_lines told ++ request ∷ []) requests
 
 -- The request in hand was refused: by a device's fault; or so as this offer is by lists, at the
 -- history. That is Lost where the history is lost; Form, Kind, State or Tag by the offer's bytes;
@@ -72,7 +72,7 @@ pub record IsRefusedFor (i : Instance) (after : History) (offer : List ℕ)
   pub request : List ℕ
   pub in_hand : hand request
   pub judged : IsSome (fault_of why)
-      ⊎ (found_at i (by_lists i) after (One request) offer ≡ Err why)
+      ⊎ (finding_at i (list_level i) after (One request) offer ≡ Err why)
 
 module _ (all others : List (List ℕ)) (asked : List Batch) (i : Instance) (y : History) where
   -- What is asked where a session starts: the store tells its slots, and this waits in them; the
@@ -81,8 +81,8 @@ module _ (all others : List (List ℕ)) (asked : List Batch) (i : Instance) (y :
   -- position of the history. Nothing else is asked of the slots or of the store.
   pub record MayStart (slots : Slots) (standing : Standing) (kept : StoreStanding) : Type 0 where
     pub told : kept.slots ≡ Some slots
-    pub waiting : Option Pending
-    pub is_waiting : IsWaiting (slot_read slots 2) (slot_read slots 3) waiting
+    pub waiting : Option PendingRecord
+    pub is_waiting : IsWaiting (slot_front slots 2) (slot_front slots 3) waiting
     pub stands : StandsFor i standing y
     pub clear : IsClear all
     pub apart : AreNoGuards i.barrier others asked
@@ -90,22 +90,22 @@ module _ (all others : List (List ℕ)) (asked : List Batch) (i : Instance) (y :
     pub genuine : IsGenuine i y (first_offer slots waiting)
 
   -- From a history: what was told is one run of the module, and a refusal is by the offer.
-  pub record EndsRun (offer : List ℕ) (standing : Standing) (told : List Served)
+  pub record EndsRun (offer : List ℕ) (standing : Standing) (told : List ServedCall)
       (hand : List ℕ → Type 0) (result : Result Unit SessionFault) : Type 0 where
     pub runs : RunsTo all others asked i y standing told hand result
     pub open runs use *
     pub refuses : (why : Refusal) → result ≡ Err (Host (Refused why)) →
-        IsRefusedFor i runs.after (offered_after offer told) hand why
+        IsRefusedFor i runs.after (offer_after offer told) hand why
 
   -- Where these requests are what is asked of: each first part of what was told that is among them
   -- is one run; and where all that were made are among them, so the session ends. All that were
   -- made are among what waited and the lines of the input, where that tells its bytes.
-  pub record RunsOnce (slots : Slots) (waiting : Option Pending) (left : Option (List ℕ))
-      (standing : Standing) (told : List Served) (hand : List ℕ → Type 0)
+  pub record RunsOnce (slots : Slots) (waiting : Option PendingRecord) (left : Option (List ℕ))
+      (standing : Standing) (told : List ServedCall) (hand : List ℕ → Type 0)
       (requests : List (List ℕ)) (result : Result Unit SessionFault) : Type 0 where
-    pub fronts : (front behind : List Served) → told ≡ front ++ behind →
-        AreFirstOf (lines_served front) requests →
-        (after : List (List ℕ)) × RunsOver i.meaning (requests_of y.batches) front after
+    pub fronts : (front behind : List ServedCall) → told ≡ front ++ behind →
+        AreFirstOf (served_lines front) requests →
+        (after : List (List ℕ)) × CallsRunOver i.meaning (requests_of y.batches) front after
     pub ends : AreAmong told hand requests →
         EndsRun (first_offer slots waiting) standing told hand result
     pub made : (input : List ℕ) → left ≡ Some input →
@@ -122,24 +122,24 @@ abbrev pub RunsOnceFrom : Variant → Meaning → Standing → Standing → Stan
     → Option (List ℕ)
     → Option (List ℕ) → Result Unit SessionFault → Type 0
 RunsOnceFrom Basic meaning entry before after old new left left' received received' result =
-    (s : Sessions Basic meaning before after old new left left' received received' result)
+    (s : IsSession Basic meaning before after old new left left' received received' result)
     (key : List ℕ) (y : History) (slots : Slots) (all others : List (List ℕ)) (asked : List Batch)
     (requests : List (List ℕ)) →
-    (may : MayStart all others asked (basic meaning key) y slots entry old) →
-    AreAskedInTurn all asked (basic meaning key) y (first_offer slots may.waiting) requests →
-    RunsOnce all others asked (basic meaning key) y slots may.waiting left after
-    (told_in may.waiting s.goes) (IsInHand may.waiting s.goes) requests result
+    (may : MayStart all others asked (basic_instance meaning key) y slots entry old) →
+    AreAskedInTurn all asked (basic_instance meaning key) y (first_offer slots may.waiting) requests →
+    RunsOnce all others asked (basic_instance meaning key) y slots may.waiting left after
+    (served_calls_in may.waiting s.goes) (IsInHand may.waiting s.goes) requests result
 RunsOnceFrom Opt meaning entry before after old new left left' received received' result =
-    (s : Sessions Opt meaning before after old new left left' received received' result)
+    (s : IsSession Opt meaning before after old new left left' received received' result)
     (key barrier : List ℕ) (y : History) (slots : Slots) (all others : List (List ℕ))
     (asked : List Batch) (requests : List (List ℕ)) (items more : List Item) →
-    (may : MayStart all others asked (opt meaning key barrier) y slots entry old) →
-    AreAskedInTurn all asked (opt meaning key barrier) y (first_offer slots may.waiting) requests →
+    (may : MayStart all others asked (opt_instance meaning key barrier) y slots entry old) →
+    AreAskedInTurn all asked (opt_instance meaning key barrier) y (first_offer slots may.waiting) requests →
     entry.items ≡ Some items → after.items ≡ Some (standing_items y.is_open items ++ more) →
-    ((AsksNothingNew (opt meaning key barrier) y (first_offer slots may.waiting) requests → ⊥) →
-    AreShown all others (opt meaning key barrier) y more) →
-    RunsOnce all others asked (opt meaning key barrier) y slots may.waiting left after
-    (told_in may.waiting s.goes) (IsInHand may.waiting s.goes) requests result
+    ((AsksNothingNew (opt_instance meaning key barrier) y (first_offer slots may.waiting) requests → ⊥) →
+    AreShown all others (opt_instance meaning key barrier) y more) →
+    RunsOnce all others asked (opt_instance meaning key barrier) y slots may.waiting left after
+    (served_calls_in may.waiting s.goes) (IsInHand may.waiting s.goes) requests result
 
 -- a session is entered where it starts
 abbrev pub SessionRunsOnce : Variant → Meaning → Standing → Standing → StoreStanding

@@ -1,9 +1,9 @@
 pub mod Below
 pub mod Sessions
 pub mod SessionBlame
-pub mod Continuing
+pub mod Continuation
 pub mod SessionLines
 pub mod SessionWrites
 pub mod AnySlots
-pub mod Refusing
-pub mod Honest
+pub mod Refusals
+pub mod HonestStore

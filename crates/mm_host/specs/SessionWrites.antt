@@ -1,23 +1,23 @@
 -- How often a session is to write the cell.
 use Rattle.std.specs.Prelude.{◌≢◌, ◌+◌, ◌≤◌, ℕ, List, [], ◌∷◌, length, Option, Result}
 use Rattle.std.proofs.Common.{inl, inr}
-use Rattle.mm_host.specs.Below.{lines_of, Variant, Standing, Meaning, StoreStanding, WritesFor, new_by, new_first, HostFault, Resumed}
+use Rattle.mm_host.specs.Below.{lines_of, Variant, Standing, Meaning, StoreStanding, WritesFor, new_requests_by, new_requests_at, HostFault, Resumed}
 use Rattle.mm_host.specs.declared.fault.SessionFault.{SessionFault}
-use Rattle.mm_host.specs.Continuing.{MayBeUntold}
-use Rattle.mm_host.specs.Sessions.{Served, AfterResume, Sessions}
+use Rattle.mm_host.specs.Continuation.{MayBeUntold}
+use Rattle.mm_host.specs.Sessions.{ServedCall, GoesAfterResume, IsSession}
 
 -- the new requests among the lines that were answered
-abbrev pub new_lines : List Served → ℕ
+abbrev pub new_lines : List ServedCall → ℕ
 new_lines [] = 0
-new_lines (c ∷ calls) = new_by c.answer.again + new_lines calls
+new_lines (c ∷ calls) = new_requests_by c.answer.again + new_lines calls
 
-abbrev pub new_told : {variant : Variant} {meaning : Meaning} {begun : Result Resumed HostFault}
+abbrev pub new_told_requests : {variant : Variant} {meaning : Meaning} {begun : Result Resumed HostFault}
     {platform after : Standing}
     {store new : StoreStanding} {left : Option (List ℕ)} {taken sent : List ℕ}
     {result : Result Unit SessionFault}
-    → AfterResume variant meaning begun platform after store new left taken sent result → ℕ
-new_told (inl stops) = 0
-new_told (inr goes) = new_first goes.first + new_lines goes.lines.calls
+    → GoesAfterResume variant meaning begun platform after store new left taken sent result → ℕ
+new_told_requests (inl stops) = 0
+new_told_requests (inr goes) = new_requests_at goes.first + new_lines goes.lines.calls
 
 -- The cell was to be written for the new requests that were told, and for the one in hand, where
 -- that was new and came to its writing step, and the session stopped at a fault before it was told.
@@ -27,9 +27,9 @@ pub record SessionWrites (variant : Variant) (meaning : Meaning) (before after :
     (old new : StoreStanding)
     (left left' received received' : Option (List ℕ)) (result : Result Unit SessionFault) : Type 0
   where
-    pub ran : Sessions variant meaning before after old new left left' received received' result
+    pub ran : IsSession variant meaning before after old new left left' received received' result
     pub in_hand : ℕ
     pub one : in_hand ≤ 1
     pub untold : in_hand ≢ 0 → MayBeUntold result
-    pub writes : WritesFor variant (new_told ran.goes + in_hand) before after
+    pub writes : WritesFor variant (new_told_requests ran.goes + in_hand) before after
     pub by_lines : after.writes ≤ before.writes + (1 + length (lines_of ran.taken))

@@ -1,9 +1,9 @@
 -- A session, by its steps: what it writes, the lines that it serves, and each turn.
 use Rattle.std.specs.Prelude.{◌≡◌, ◌≢◌, ℕ, List, [], ◌∷◌, ◌++◌, codes, Option, None, Some, Result, Ok, Err, ◌⊎◌, ◌+◌, ◌<◌, ◌≤◌, length}
 use Rattle.std.specs.Io.KnownBytes.{Appends, Consumes, IsAtEnd}
-use Rattle.mm_host.specs.Below.{lines_joined, longest_request, MayGrow, IsLong, WriteFault, ReadFault, LineLong, BadLine, TooMuch}
+use Rattle.mm_host.specs.Below.{joined_lines, longest_request, MayGrow, IsLong, WriteFault, ReadFault, LineLong, BadLine, TooMuch}
 use Rattle.mm_host.specs.Below.{Variant, Standing, Meaning, Answer, Refusal, cause_text, told_line, Cause, StoreStanding, IsFrontOf}
-use Rattle.mm_host.specs.Below.{AsksNext, Resumes, HostFault, Memory, Refused, Resumed, Answered}
+use Rattle.mm_host.specs.Below.{AsksNext, HostResumes, HostFault, Memory, Refused, Resumed, Answered}
 use Rattle.mm_host.specs.declared.fault.SessionFault.{SessionFault}
 use Rattle.mm_host.specs.declared.fault.SessionFault.TheVariants.{Host, Lines}
 use Rattle.mm_base.specs.declared.replay_fault.ReplayFault.TheVariants.{Memory}
@@ -33,15 +33,15 @@ reply_text (Ok (Answered answer)) = told_line answer.again answer.position answe
 reply_text (Err (Refused why)) = refusal_text (told_cause why)
 reply_text _ = []
 
-abbrev pub comes_as : Result Resumed HostFault → Result Resumed SessionFault
-comes_as (Ok resumed) = Ok resumed
-comes_as (Err fault) = Err (Host fault)
+abbrev pub session_result_of : Result Resumed HostFault → Result Resumed SessionFault
+session_result_of (Ok resumed) = Ok resumed
+session_result_of (Err fault) = Err (Host fault)
 
 -- All of the text went out, and what came is handed on; or the output failed, and a front of it
 -- went out.
 abbrev pub SendsReply : Result Resumed HostFault → List ℕ → Result Resumed SessionFault → Type 0
 SendsReply came sent result =
-    ((sent ≡ reply_text came) × (result ≡ comes_as came))
+    ((sent ≡ reply_text came) × (result ≡ session_result_of came))
     ⊎ ((result ≡ Err (Lines WriteFault)) × (reply_text came ≢ [])
     × IsFrontOf sent (reply_text came))
 
@@ -54,22 +54,22 @@ pub record TellsReply (came : Result Resumed HostFault) (received received' : Op
 -- The lines that a session serves, one after another. Nothing is asked for these steps.
 
 -- where a session stands: its platform, its store, and what it came to last
-pub record Place : Type 0 where
+pub record SessionPlace : Type 0 where
   pub platform : Standing
   pub store : StoreStanding
   pub last : Resumed
 
 -- a line, and the answer to it
-pub record Served : Type 0 where
+pub record ServedCall : Type 0 where
   pub line : List ℕ
   pub answer : Answer
 
 -- the lines that were served, and what was written for them
-abbrev pub lines_served : List Served → List (List ℕ)
-lines_served [] = []
-lines_served (c ∷ calls) = c.line ∷ lines_served calls
+abbrev pub served_lines : List ServedCall → List (List ℕ)
+served_lines [] = []
+served_lines (c ∷ calls) = c.line ∷ served_lines calls
 
-abbrev pub replies_to : List Served → List ℕ
+abbrev pub replies_to : List ServedCall → List ℕ
 replies_to [] = []
 replies_to (c ∷ calls) =
     told_line c.answer.again c.answer.position c.answer.output ++ replies_to calls
@@ -79,7 +79,7 @@ abbrev pub most_lines : ℕ
 most_lines = 1000000
 
 -- Nothing more is asked or written.
-pub record IsAtRest (at : Place) (after : Standing) (new : StoreStanding) (sent : List ℕ) : Type 0
+pub record IsAtRest (at : SessionPlace) (after : Standing) (new : StoreStanding) (sent : List ℕ) : Type 0
   where
     pub platform : after ≡ at.platform
     pub store : new ≡ at.store
@@ -91,9 +91,9 @@ pub record BeginsWith (bytes line held : List ℕ) : Type 0 where
   pub within : MayGrow longest_request line
 
 -- a session's end, as a turn answers it
-abbrev pub ended_as : Result Unit SessionFault → Result (Option Resumed) SessionFault
-ended_as (Ok _) = Ok None
-ended_as (Err fault) = Err fault
+abbrev pub turn_answer_of : Result Unit SessionFault → Result (Option Resumed) SessionFault
+turn_answer_of (Ok _) = Ok None
+turn_answer_of (Err fault) = Err fault
 
 -- What waited came to a fault, or its reply isn't written whole; no line is read.
 pub record StopsAtOnce (begun : Result Resumed HostFault) (taken sent : List ℕ)
@@ -105,7 +105,7 @@ pub record StopsAtOnce (begun : Result Resumed HostFault) (taken sent : List ℕ
 
 module _ (variant : Variant) (meaning : Meaning) where
   -- The line is asked and answered, and the session goes on.
-  pub record ServesFirst (from : Place) (c : Served) (goes : Place → Type 0) : Type 0 where
+  pub record ServesFirst (from : SessionPlace) (c : ServedCall) (goes : SessionPlace → Type 0) : Type 0 where
     pub within : MayGrow longest_request c.line
     pub platform : Standing
     pub store : StoreStanding
@@ -115,12 +115,12 @@ module _ (variant : Variant) (meaning : Meaning) where
 
   -- These lines are asked one after another, each with the snapshot of the answer before, and
   -- answered so.
-  abbrev pub Serves : Place → List Served → Place → Type 0
-  Serves from [] to = to ≡ from
-  Serves from (c ∷ calls) to = ServesFirst from c (λ next. Serves next calls to)
+  abbrev pub ServesCalls : SessionPlace → List ServedCall → SessionPlace → Type 0
+  ServesCalls from [] to = to ≡ from
+  ServesCalls from (c ∷ calls) to = ServesFirst from c (λ next. ServesCalls next calls to)
 
   -- The line of this number is asked, and what comes is told.
-  pub record AsksAndTells (at : Place) (after : Standing) (new : StoreStanding)
+  pub record AsksAndTells (at : SessionPlace) (after : Standing) (new : StoreStanding)
       (received received' : Option (List ℕ)) (line : List ℕ)
       (result : Result Resumed SessionFault) : Type 0 where
     pub came : Result Resumed HostFault
@@ -129,7 +129,7 @@ module _ (variant : Variant) (meaning : Meaning) where
 
   -- One turn, where the line of this number would be next: it is read and served, or the session
   -- ends.
-  module _ (number : ℕ) (at : Place) (after : Standing) (new : StoreStanding) where
+  module _ (number : ℕ) (at : SessionPlace) (after : Standing) (new : StoreStanding) where
     -- The line in hand is asked, and comes to a fault; or its reply isn't written whole.
     pub record StopsInLine (more sent : List ℕ) (fault : SessionFault) : Type 0 where
       pub line : List ℕ
@@ -141,25 +141,25 @@ module _ (variant : Variant) (meaning : Meaning) where
       pub says : SendsReply came sent (Err fault)
 
     -- How the session stops; `more` was taken of the input behind the lines before this one.
-    abbrev pub Stops : Option (List ℕ) → List ℕ → List ℕ → SessionFault → Type 0
+    abbrev pub SessionStops : Option (List ℕ) → List ℕ → List ℕ → SessionFault → Type 0
     -- the source failed before the line's LF
-    Stops left more sent (Lines ReadFault) =
+    SessionStops left more sent (Lines ReadFault) =
         IsAtRest at after new sent × MayGrow longest_request more
     -- the input ended within the line
-    Stops left more sent (Lines (BadLine line)) =
+    SessionStops left more sent (Lines (BadLine line)) =
         IsAtRest at after new sent × (line ≡ number) × MayGrow longest_request more
         × (0 < length more) × IsAtEnd left
     -- more bytes came than a line may have
-    Stops left more sent (Lines (LineLong line)) =
+    SessionStops left more sent (Lines (LineLong line)) =
         IsAtRest at after new sent × (line ≡ number) × IsLong longest_request more
     -- the line is one too many
-    Stops left more sent (Lines TooMuch) =
+    SessionStops left more sent (Lines TooMuch) =
         IsAtRest at after new sent × (number ≡ most_lines + 1) × (line : List ℕ) × (held : List ℕ)
         × BeginsWith more line held
     -- the host alone wants memory
-    Stops left more sent (Lines Memory) = ⊥
+    SessionStops left more sent (Lines Memory) = ⊥
     -- the line was asked
-    Stops left more sent fault = StopsInLine more sent fault
+    SessionStops left more sent fault = StopsInLine more sent fault
 
     -- The line was answered, and the answer told.
     pub record ServesLine (bytes held sent : List ℕ) (next : Resumed) : Type 0 where
@@ -174,75 +174,75 @@ module _ (variant : Variant) (meaning : Meaning) where
 
     -- How the turn went, by its answer: `bytes` are those held before and those taken, and `held`
     -- those held after. None: the input ended behind a whole line.
-    abbrev pub ServedOn : Option (List ℕ) → List ℕ → List ℕ → List ℕ
+    abbrev pub TurnGoes : Option (List ℕ) → List ℕ → List ℕ → List ℕ
         → Result (Option Resumed) SessionFault → Type 0
-    ServedOn left bytes held sent (Ok (Some next)) = ServesLine bytes held sent next
-    ServedOn left bytes held sent (Ok None) =
+    TurnGoes left bytes held sent (Ok (Some next)) = ServesLine bytes held sent next
+    TurnGoes left bytes held sent (Ok None) =
         IsAtRest at after new sent × (bytes ≡ []) × IsAtEnd left
-    ServedOn left bytes held sent (Err fault) = Stops left bytes sent fault
+    TurnGoes left bytes held sent (Err fault) = SessionStops left bytes sent fault
 
     -- What was sent in a turn, and how it went.
-    pub record Turns (left : Option (List ℕ)) (bytes held : List ℕ)
+    pub record TurnSends (left : Option (List ℕ)) (bytes held : List ℕ)
         (received received' : Option (List ℕ))
         (result : Result (Option Resumed) SessionFault) : Type 0 where
       pub sent : List ℕ
       pub appended : Appends received received' sent
-      pub went : ServedOn left bytes held sent result
+      pub went : TurnGoes left bytes held sent result
 
     pub record ServesNext (left left' : Option (List ℕ)) (held held' : List ℕ)
         (received received' : Option (List ℕ))
         (result : Result (Option Resumed) SessionFault) : Type 0 where
       pub taken : List ℕ
       pub consumed : Consumes left left' taken
-      pub turns : Turns left' (held ++ taken) held' received received' result
+      pub turns : TurnSends left' (held ++ taken) held' received received' result
 
   -- Some lines are served from where the session stands, of which the first would have this number,
   -- and there it ends; `bytes` were held before or taken.
-  pub record ServesLines (number : ℕ) (from : Place) (after : Standing) (new : StoreStanding)
+  pub record ServesAllLines (number : ℕ) (from : SessionPlace) (after : Standing) (new : StoreStanding)
       (left : Option (List ℕ)) (bytes sent : List ℕ)
       (result : Result Unit SessionFault) : Type 0 where
-    pub calls : List Served
+    pub calls : List ServedCall
     pub few : length calls + number ≤ most_lines + 1
-    pub at : Place
-    pub serves : Serves from calls at
+    pub at : SessionPlace
+    pub serves : ServesCalls from calls at
     pub more : List ℕ
     pub last : List ℕ
-    pub took : bytes ≡ lines_joined (lines_served calls) ++ more
+    pub took : bytes ≡ joined_lines (served_lines calls) ++ more
     pub wrote : sent ≡ replies_to calls ++ last
-    pub ends : ServedOn (length calls + number) at after new left more [] last (ended_as result)
+    pub ends : TurnGoes (length calls + number) at after new left more [] last (turn_answer_of result)
 
   -- The lines of an input are served, where some bytes are held; with what was taken and written
   -- for them.
-  pub record ServesInput (number : ℕ) (from : Place) (after : Standing) (new : StoreStanding)
+  pub record ServesInput (number : ℕ) (from : SessionPlace) (after : Standing) (new : StoreStanding)
       (left left' : Option (List ℕ)) (held : List ℕ) (received received' : Option (List ℕ))
       (result : Result Unit SessionFault) : Type 0 where
     pub taken : List ℕ
     pub sent : List ℕ
     pub consumed : Consumes left left' taken
     pub appended : Appends received received' sent
-    pub lines : ServesLines number from after new left' (held ++ taken) sent result
+    pub lines : ServesAllLines number from after new left' (held ++ taken) sent result
 
   -- What waited is told, and the lines are served.
-  pub record GoesOn (begun : Result Resumed HostFault) (platform after : Standing)
+  pub record SessionGoesOn (begun : Result Resumed HostFault) (platform after : Standing)
       (store new : StoreStanding) (left : Option (List ℕ)) (taken sent : List ℕ)
       (result : Result Unit SessionFault) : Type 0 where
     pub first : Resumed
     pub begins : begun ≡ Ok first
     pub replies : List ℕ
     pub wrote : sent ≡ reply_text begun ++ replies
-    pub lines : ServesLines 1 (record { platform = platform; store = store; last = first }) after
+    pub lines : ServesAllLines 1 (record { platform = platform; store = store; last = first }) after
         new left taken replies result
 
   -- It stops at once, or it goes on, as what waited came to.
-  abbrev pub AfterResume : Result Resumed HostFault → Standing → Standing → StoreStanding
+  abbrev pub GoesAfterResume : Result Resumed HostFault → Standing → Standing → StoreStanding
       → StoreStanding → Option (List ℕ) → List ℕ → List ℕ → Result Unit SessionFault → Type 0
-  AfterResume begun platform after store new left taken sent result =
+  GoesAfterResume begun platform after store new left taken sent result =
       ((after ≡ platform) × (new ≡ store) × StopsAtOnce begun taken sent result)
-      ⊎ GoesOn begun platform after store new left taken sent result
+      ⊎ SessionGoesOn begun platform after store new left taken sent result
 
   -- A session: it goes on after a stop, and then answers each line of its input before it reads the
   -- next. These bytes were taken of the input, and those written.
-  pub record Sessions (before after : Standing) (old new : StoreStanding)
+  pub record IsSession (before after : Standing) (old new : StoreStanding)
       (left left' received received' : Option (List ℕ))
       (result : Result Unit SessionFault) : Type 0 where
     pub taken : List ℕ
@@ -252,5 +252,5 @@ module _ (variant : Variant) (meaning : Meaning) where
     pub begun : Result Resumed HostFault
     pub platform : Standing
     pub store : StoreStanding
-    pub resumes : Resumes variant meaning before platform old store begun
-    pub goes : AfterResume begun platform after store new left' taken sent result
+    pub resumes : HostResumes variant meaning before platform old store begun
+    pub goes : GoesAfterResume begun platform after store new left' taken sent result

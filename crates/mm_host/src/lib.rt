@@ -7,5 +7,5 @@ mod serving;
 mod telling;
 
 pub use fault::SessionFault;
-pub use mm_recovery::{HostFault, Hosted, InitFault, Resumed, ask_next, init, resume};
+pub use mm_recovery::{HostFault, HostedModule, InitFault, Resumed, ask_next, init, resume};
 pub use serving::session;

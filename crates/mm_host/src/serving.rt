@@ -3,14 +3,14 @@
 ghost use Rattle.std.specs.Prelude.{◌≡◌, ◌+◌, ◌≤◌, ℕ, false, List, [], Option, IfOk, IfSome};
 ghost use Rattle.mm_base.specs.Lines.{MayGrow};
 ghost use Rattle.mm_base.specs.Limits.{longest_request};
-ghost use Rattle.mm_play.specs.Plays.{IsBlamed};
-ghost use Rattle.mm_recovery.specs.Last.{IsSized};
+ghost use Rattle.mm_play.specs.PlaysInput.{IsBlamed};
+ghost use Rattle.mm_recovery.specs.LastAnswer.{IsSized};
 ghost use Rattle.mm_host.specs.AnySlots.{SessionRunsOnce};
-ghost use Rattle.mm_host.specs.Honest.{SessionContinues};
+ghost use Rattle.mm_host.specs.HonestStore.{SessionContinues};
 ghost use Rattle.mm_host.specs.SessionBlame.{IsRefusalNamed, is_platform_fault, is_read_fault, is_store_fault, is_write_fault};
 ghost use Rattle.mm_host.specs.SessionLines.{SparesLines};
 ghost use Rattle.mm_host.specs.SessionWrites.{SessionWrites};
-ghost use Rattle.mm_host.specs.Sessions.{Sessions, most_lines, AsksAndTells, BeginsWith, ServesInput, ServesNext, Turns};
+ghost use Rattle.mm_host.specs.Sessions.{IsSession, most_lines, AsksAndTells, BeginsWith, ServesInput, ServesNext, TurnSends};
 
 use crate::fault::SessionFault;
 use crate::telling::tell;
@@ -18,7 +18,7 @@ use mm_base::{LONGEST_REQUEST, LineFault, LineReader, Read, ReplayFault, Sink, S
 use mm_digest::Variant;
 use mm_module::Module;
 use mm_platform::Platform;
-use mm_recovery::{Hosted, Resumed, ask_next, resume};
+use mm_recovery::{HostedModule, Resumed, ask_next, resume};
 use mm_store::Store;
 use std::alloc::Global;
 
@@ -27,7 +27,7 @@ const MOST_LINES: u32 = 1_000_000;
 
 /// Where a session stands: the number of the line that is next, and what it came to last.
 #[derive(Drop)]
-struct Turn {
+struct SessionState {
     number: u32,
     last: Resumed,
 }
@@ -47,7 +47,7 @@ pub fn session<M: Module, P: Platform, T: Store, S: Source, K: Sink>(
     input: &mut S,
     out: &mut K,
 ) -> Result<(), SessionFault>
-    ensures sessions { Sessions variant (M.meaning «module».now) (P.standing platform.old)
+    ensures sessions { IsSession variant (M.meaning «module».now) (P.standing platform.old)
         (P.standing platform.new) (T.kept store.old) (T.kept store.new) (S.left input.old)
         (S.left input.new) (K.received out.old) (K.received out.new) result }
     ensures platform { IsBlamed (is_platform_fault result) (P.standing platform.old).faults
@@ -68,7 +68,7 @@ pub fn session<M: Module, P: Platform, T: Store, S: Source, K: Sink>(
         (P.standing platform.new) (T.kept store.old) (T.kept store.new) (S.left input.old)
         (S.left input.new) (K.received out.old) (K.received out.new) result }
 {
-    let hosted = Hosted {
+    let hosted = HostedModule {
         alloc,
         variant,
         module,
@@ -78,13 +78,13 @@ pub fn session<M: Module, P: Platform, T: Store, S: Source, K: Sink>(
 
 // Recovers, and serves the lines.
 fn session_by_steps<M: Module, P: Platform, T: Store, S: Source, K: Sink>(
-    hosted: &Hosted<M>,
+    hosted: &HostedModule<M>,
     platform: &mut P,
     store: &mut T,
     input: &mut S,
     out: &mut K,
 ) -> Result<(), SessionFault>
-    ensures sessions { Sessions hosted.now.variant (M.meaning hosted.now.«module».now)
+    ensures sessions { IsSession hosted.now.variant (M.meaning hosted.now.«module».now)
         (P.standing platform.old) (P.standing platform.new) (T.kept store.old) (T.kept store.new)
         (S.left input.old) (S.left input.new) (K.received out.old) (K.received out.new) result }
     ensures read { IsBlamed (is_read_fault result) (S.faults input.old) (S.faults input.new) }
@@ -100,7 +100,7 @@ fn session_by_steps<M: Module, P: Platform, T: Store, S: Source, K: Sink>(
 
 // Serves each line of the input.
 fn serve_lines<M: Module, P: Platform, T: Store, S: Source, K: Sink>(
-    hosted: &Hosted<M>,
+    hosted: &HostedModule<M>,
     platform: &mut P,
     store: &mut T,
     input: &mut S,
@@ -117,7 +117,7 @@ fn serve_lines<M: Module, P: Platform, T: Store, S: Source, K: Sink>(
     ensures read { IsBlamed (is_read_fault result) (S.faults input.old) (S.faults input.new) }
     ensures wrote { IsBlamed (is_write_fault result) (K.faults out.old) (K.faults out.new) }
 {
-    let mut turn = Turn {
+    let mut turn = SessionState {
         number: 1,
         last: first,
     };
@@ -130,7 +130,7 @@ fn serve_lines<M: Module, P: Platform, T: Store, S: Source, K: Sink>(
         &mut reader,
         &turn,
     )? {
-        turn = Turn {
+        turn = SessionState {
             number: turn.number + 1,
             last: next,
         };
@@ -140,13 +140,13 @@ fn serve_lines<M: Module, P: Platform, T: Store, S: Source, K: Sink>(
 
 // Reads the line of this number and serves it. None where the input ends before it.
 fn serve_next<M: Module, P: Platform, T: Store, S: Source, K: Sink>(
-    hosted: &Hosted<M>,
+    hosted: &HostedModule<M>,
     platform: &mut P,
     store: &mut T,
     input: &mut S,
     out: &mut K,
     reader: &mut LineReader,
-    turn: &Turn,
+    turn: &SessionState,
 ) -> Result<Option<Resumed>, SessionFault>
     requires number { turn.now.number ≤ most_lines + 1 }
     requires sized { IsSized turn.now.last }
@@ -175,18 +175,18 @@ fn serve_next<M: Module, P: Platform, T: Store, S: Source, K: Sink>(
 
 // Serves the line of this number, unless it is one too many.
 fn serve_line<M: Module, P: Platform, T: Store, K: Sink>(
-    hosted: &Hosted<M>,
+    hosted: &HostedModule<M>,
     platform: &mut P,
     store: &mut T,
     out: &mut K,
-    turn: &Turn,
+    turn: &SessionState,
     line: &[u8],
 ) -> Result<Option<Resumed>, SessionFault>
     requires sized { IsSized turn.now.last }
     requires line { MayGrow longest_request line.now }
     ensures turns { (left : Option (List ℕ)) (bytes held : List ℕ) →
         turn.now.number ≤ most_lines + 1 → BeginsWith bytes line.now held →
-        Turns hosted.now.variant (M.meaning hosted.now.«module».now) turn.now.number (record {
+        TurnSends hosted.now.variant (M.meaning hosted.now.«module».now) turn.now.number (record {
           platform = P.standing platform.old;
           store = T.kept store.old;
           last = turn.now.last;
@@ -208,7 +208,7 @@ fn serve_line<M: Module, P: Platform, T: Store, K: Sink>(
 
 // Asks a line, and tells what came.
 fn ask_and_tell<M: Module, P: Platform, T: Store, K: Sink>(
-    hosted: &Hosted<M>,
+    hosted: &HostedModule<M>,
     platform: &mut P,
     store: &mut T,
     out: &mut K,

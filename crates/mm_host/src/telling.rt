@@ -2,13 +2,13 @@
 
 ghost use Rattle.std.specs.Prelude.{◌≡◌, ◌≢◌, ◌≤◌, None, Ok, Err, IfOk, OnErr, length};
 ghost use Rattle.mm_base.specs.Faults.{CountsFaults};
-ghost use Rattle.mm_base.specs.Streams.{Sends};
+ghost use Rattle.mm_base.specs.Streams.{SinkSends};
 ghost use Rattle.mm_base.specs.Limits.{longest_request};
-ghost use Rattle.mm_play.specs.Plays.{IsBlamed};
+ghost use Rattle.mm_play.specs.PlaysInput.{IsBlamed};
 ghost use Rattle.mm_schedule.specs.RepliesWords.{told_line};
 ghost use Rattle.mm_recovery.specs.declared.fault.HostFault.TheVariants.{Refused};
 ghost use Rattle.mm_recovery.specs.declared.resuming.Resumed.TheVariants.{Answered};
-ghost use Rattle.mm_recovery.specs.Last.{IsSized};
+ghost use Rattle.mm_recovery.specs.LastAnswer.{IsSized};
 ghost use Rattle.mm_host.specs.Sessions.{TellsReply, told_cause, refusal_text};
 ghost use Rattle.mm_host.specs.SessionBlame.{is_write_fault};
 
@@ -64,7 +64,7 @@ fn tell_refusal<K: Sink>(refusal: Refusal, out: &mut K) -> Result<Resumed, Sessi
 
 fn write_answer<K: Sink>(answer: &Answer, out: &mut K) -> Result<(), WriteFault>
     requires { length answer.now.output ≤ longest_request }
-    ensures sent { Sends (K.received out.old) (K.received out.new)
+    ensures sent { SinkSends (K.received out.old) (K.received out.new)
         (told_line answer.now.again answer.now.position answer.now.output) result }
     ensures counted { CountsFaults (K.faults out.old) (K.faults out.new) result }
 {
@@ -80,7 +80,7 @@ fn write_answer<K: Sink>(answer: &Answer, out: &mut K) -> Result<(), WriteFault>
 }
 
 fn write_refusal<K: Sink>(refusal: Refusal, out: &mut K) -> Result<(), WriteFault>
-    ensures sent { Sends (K.received out.old) (K.received out.new)
+    ensures sent { SinkSends (K.received out.old) (K.received out.new)
         (refusal_text (told_cause refusal)) result }
     ensures told { OnErr result (told_cause refusal ≢ None) }
     ensures counted { CountsFaults (K.faults out.old) (K.faults out.new) result }

@@ -9,32 +9,32 @@ use Rattle.mm_module.specs.Batch.{Batch}
 use Rattle.mm_module.specs.Meaning.{IsLawful, Meaning}
 use Rattle.mm_model.specs.History.{Foreign, History, Move, first_history}
 use Rattle.mm_model.specs.Instance.{Instance}
-use Rattle.mm_model.specs.InstanceWords.{basic}
+use Rattle.mm_model.specs.InstanceWords.{basic_instance}
 use Rattle.mm_model.specs.ListLaws.{each_self}
 use Rattle.mm_model.specs.Messages.{AreNoGuards, IsClear}
 use Rattle.mm_model.specs.Moves.{digests_of}
-use Rattle.mm_model.specs.Places.{Names}
+use Rattle.mm_model.specs.Places.{NamesPosition}
 use Rattle.mm_model.specs.Standing.{IsGenuine, StandsFor, issued_bytes}
 use Rattle.mm_model.proofs.Above.{basic_issued}
-use Rattle.mm_call.specs.Asked.{IsWithin, counted_moves, from_reset}
-use Rattle.mm_call.specs.Checkpoints.{checkpointed}
-use Rattle.mm_call.specs.Levels.{by_digests, by_lists}
-use Rattle.mm_call.specs.MoveLaws.{committed_in, same_batches}
+use Rattle.mm_call.specs.CallPremises.{IsWithin, counted_moves, moves_from_reset}
+use Rattle.mm_call.specs.Checkpoints.{checkpoint_outcome}
+use Rattle.mm_call.specs.Levels.{digest_level, list_level}
+use Rattle.mm_call.specs.MoveLaws.{committed_batches, same_batches}
 use Rattle.mm_call.specs.OfferLaws.{basic_content, issued_once}
 use Rattle.mm_call.specs.WalkLaws.{committed-foreign}
 use Rattle.mm_call.proofs.Above.{names_made, read_moves}
-use Rattle.mm_opt.specs.ChecksOn.{ChecksOn}
+use Rattle.mm_opt.specs.CheckpointOnCourse.{IsCheckpointOnCourse}
 use Rattle.mm_host.proofs.Above.{basic_laws}
-use Rattle.mm_life.specs.Deeds.{Call, Calls, Checkpoints, Deed, DeedLeads, Extends, LosesPower}
+use Rattle.mm_life.specs.Deeds.{LifeCall, Calls, Checkpoints, Deed, DeedLeads, Extends, LosesPower}
 use Rattle.mm_life.specs.Laws.{BasicLifeIsOne}
 use Rattle.mm_life.specs.Premises.{life_batches, life_messages}
-use Rattle.mm_life.specs.Staying.{BasicDeedsStay, IsNoCall, Stays}
-use Rattle.mm_life.specs.Stages.{IsLife, Part, Stage, life_calls}
+use Rattle.mm_life.specs.DeedHistory.{BasicDeedsStay, IsNoCall, HistoryStays}
+use Rattle.mm_life.specs.Stages.{IsLife, LifePart, LifeStage, life_calls}
 use Rattle.mm_life.specs.Below.{Checkpointed, CheckpointRefusal}
 use Rattle.std.specs.Prelude.{Result}
 use Rattle.mm_life.proofs.Living.{AreSeen, LifeLaws, lives}
 
-none_reset : (values : List (List ℕ)) → from_reset (map Foreign values) ≡ []
+none_reset : (values : List (List ℕ)) → moves_from_reset (map Foreign values) ≡ []
 none_reset [] = refl
 none_reset (v ∷ values) = none_reset values
 
@@ -44,11 +44,11 @@ none_foreign barrier asked d b among batches = absurd (omega (arith, among.1))
 
 module _ (meaning : Meaning) (key : List ℕ) (all others : List (List ℕ)) (asked : List Batch) (clear : IsClear all) where
   abbrev I : Instance
-  I = basic meaning key
+  I = basic_instance meaning key
 
   -- where the cell is as before
   stays_same : (y : History) (old new : Standing) → new.cell ≡ old.cell → StandsFor I old y → IsWithin all others asked I y
-      → Stays all others asked I y new
+      → HistoryStays all others asked I y new
   stays_same y old new same stands within = record {
     after = y;
     stands = record { spells = stands.spells; cell = same ∙ stands.cell; register = tt };
@@ -58,25 +58,25 @@ module _ (meaning : Meaning) (key : List ℕ) (all others : List (List ℕ)) (as
   }
 
   -- a checkpoint finds no segment
-  stays_checked : (y : History) (old new : Standing) (said : Result Checkpointed CheckpointRefusal) → ChecksOn old new said
-      → StandsFor I old y → IsWithin all others asked I y → Stays all others asked I y new
+  stays_checked : (y : History) (old new : Standing) (said : Result Checkpointed CheckpointRefusal) → IsCheckpointOnCourse old new said
+      → StandsFor I old y → IsWithin all others asked I y → HistoryStays all others asked I y new
   stays_checked y old new said k stands within =
-      let moves : List Move = (checkpointed I (by_digests I) (digests_of I y) k.course).moves in
+      let moves : List Move = (checkpoint_outcome I (digest_level I) (digests_of I y) k.course).moves in
       let are : moves ≡ map Foreign (k.course.fates 1).brings = read_moves (k.course.fates 1).brings (k.course.fates 1).ends in
       let none : counted_moves y.is_open moves ≡ [] =
-      ap (λ f. counted_moves f moves) within.sound.shut ∙ ap from_reset are ∙ none_reset (k.course.fates 1).brings in
+      ap (λ f. counted_moves f moves) within.sound.shut ∙ ap moves_from_reset are ∙ none_reset (k.course.fates 1).brings in
       let f = k.continues Basic meaning key key y all others asked stands
       (record { clear = clear; within = within; messages = rw none tt; values = rw none tt }) in
       record {
-        after = (checkpointed I (by_lists I) y k.course).state;
+        after = (checkpoint_outcome I (list_level I) y k.course).state;
         stands = f.stands;
         within = f.within;
-        batches = same_batches I moves y (ap committed_in are ∙ committed-foreign (k.course.fates 1).brings);
+        batches = same_batches I moves y (ap committed_batches are ∙ committed-foreign (k.course.fates 1).brings);
         names = names_made meaning key moves y;
       }
 
   stays : (y : History) (old : Standing) (deed : Deed) (new : Standing) → IsNoCall deed → DeedLeads Basic meaning old deed new
-      → StandsFor I old y → IsWithin all others asked I y → Stays all others asked I y new
+      → StandsFor I old y → IsWithin all others asked I y → HistoryStays all others asked I y new
   stays y old (Calls c) new quiet f stands within = absurd quiet
   stays y old (Extends values) new quiet f stands within = stays_same y old new f.0 stands within
   stays y old LosesPower new quiet f stands within = stays_same y old new f.0 stands within
@@ -84,14 +84,14 @@ module _ (meaning : Meaning) (key : List ℕ) (all others : List (List ℕ)) (as
 
 module _ (meaning : Meaning) (lawful : IsLawful meaning) (key : List ℕ) where
   abbrev B : Instance
-  B = basic meaning key
+  B = basic_instance meaning key
 
   -- nothing is asked of what the register shows
-  abbrev NothingSeen : Standing → Part → Standing → Type 0
+  abbrev NothingSeen : Standing → LifePart → Standing → Type 0
   NothingSeen old part new = Unit {0}
 
   -- so no part need be still
-  abbrev NoneStill : Standing → List Call → Type 0
+  abbrev NoneStill : Standing → List LifeCall → Type 0
   NoneStill old calls = ⊥
 
   pub basic_life : (all : List (List ℕ)) (asked : List Batch) → IsClear all → LifeLaws all [] asked B NothingSeen NoneStill
@@ -106,7 +106,7 @@ module _ (meaning : Meaning) (lawful : IsLawful meaning) (key : List ℕ) where
     stays_still = λ y old deed new quiet still f stands within. absurd still;
   }
 
-  pub all_seen : (all : List (List ℕ)) (asked : List Batch) (clear : IsClear all) (start : Standing) (stages : List Stage)
+  pub all_seen : (all : List (List ℕ)) (asked : List Batch) (clear : IsClear all) (start : Standing) (stages : List LifeStage)
       (f : IsLife Basic meaning start stages) → AreSeen (basic_life all asked clear) start stages f
   unfolding basic_life
   all_seen all asked clear start [] f = tt
@@ -115,7 +115,7 @@ module _ (meaning : Meaning) (lawful : IsLawful meaning) (key : List ℕ) where
   -- what was issued at the first start names its end
   first_genuine : IsGenuine B first_history (issued_bytes B first_history)
   first_genuine content right =
-      subst (λ (x : Content). Names B first_history x)
+      subst (λ (x : Content). NamesPosition B first_history x)
       (issued_once B (issued_bytes B first_history) first_history content
       (basic_content meaning lawful key first_history (omega arith)) refl right) (basic_issued meaning key first_history)
 
@@ -131,8 +131,8 @@ basic_deeds_stay meaning key all others asked y old deed new clear quiet f stand
 pub basic_is_one : BasicLifeIsOne
 unfolding basic_life
 basic_is_one meaning lawful key start stages f stands clear untagged =
-    let i : Instance = basic meaning key in
-    let calls : List Call = life_calls Basic meaning start stages f in
+    let i : Instance = basic_instance meaning key in
+    let calls : List LifeCall = life_calls Basic meaning start stages f in
     let all : List (List ℕ) = life_messages i start stages f in
     let asked : List Batch = life_batches i start stages f in
     let itself = each_self [] all in

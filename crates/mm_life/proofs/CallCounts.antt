@@ -11,25 +11,25 @@ use Rattle.mm_model.specs.declared.answer.Answer.{Answer}
 use Rattle.mm_model.specs.declared.refusal.Refusal.{Refusal}
 use Rattle.mm_model.specs.declared.refusal.Refusal.TheVariants.{Device}
 use Rattle.mm_call.specs.Refusals.{fault_of}
-use Rattle.mm_call.specs.Standing.{counted_by}
+use Rattle.mm_call.specs.Standing.{count_after_more}
 use Rattle.mm_store.specs.declared.fault.StoreFault.{StoreFault}
 use Rattle.mm_store.specs.declared.fault.StoreFault.TheVariants as store
-use Rattle.mm_recovery.specs.Asking.{IsCall}
-use Rattle.mm_recovery.specs.CellWrites.{TellsFlag, WritesFor, is_open_after, new_by, openings}
+use Rattle.mm_recovery.specs.HostCall.{IsCall}
+use Rattle.mm_recovery.specs.CellWrites.{TellsFlag, WritesFor, is_open_after, new_requests_by, openings}
 use Rattle.mm_recovery.specs.Faults.{refusal_fault, store_fault_as}
 use Rattle.mm_recovery.specs.declared.fault.HostFault.{HostFault}
 use Rattle.mm_recovery.specs.declared.resuming.Resumed.{Resumed}
 use Rattle.mm_recovery.proofs.Above.{AnsweredWrites, both_writes, joined, leads_rest, new_most, rests}
-use Rattle.mm_host.specs.Sessions.{SendsReply, Served, comes_as}
+use Rattle.mm_host.specs.Sessions.{SendsReply, ServedCall, session_result_of}
 use Rattle.mm_host.specs.declared.fault.SessionFault.{SessionFault}
 use Rattle.mm_host.specs.declared.fault.SessionFault.TheVariants.{Host, Lines}
 use Rattle.mm_host.proofs.Above.{CallsInTurn, TellsCall}
-use Rattle.mm_life.specs.Deeds.{Call}
-use Rattle.mm_life.specs.Idle.{has_open}
+use Rattle.mm_life.specs.Deeds.{LifeCall}
+use Rattle.mm_life.specs.IdleParts.{has_open}
 use Rattle.mm_life.specs.OneList.{call_replies, told_replies}
-use Rattle.mm_life.specs.Writes.{call_stop}
-use Rattle.mm_life.specs.Writes.{fault_stop, host_stop, new_replies, refusal_stop, session_stop}
-use Rattle.mm_life.specs.Writes.{turned, turned_unless}
+use Rattle.mm_life.specs.LifeWrites.{call_stop}
+use Rattle.mm_life.specs.LifeWrites.{fault_stop, host_stop, new_replies, refusal_stop, session_stop}
+use Rattle.mm_life.specs.LifeWrites.{turns_between, turns_unless_stopped}
 use Rattle.mm_life.proofs.Chains.{Ends, rests as at_rest, stops}
 use Rattle.mm_life.proofs.Idling.{open_told}
 
@@ -42,7 +42,7 @@ module _ (came : Result Resumed HostFault) (sent : List ℕ) (fault : SessionFau
         let is : fault ≡ Lines WriteFault = cc in ap (λ (f : SessionFault). session_stop (Err f)) is
   ]
     where
-      by_came : (it : Result Resumed HostFault) → came ≡ it → (let r : Result Resumed SessionFault = Err fault in r ≡ comes_as it)
+      by_came : (it : Result Resumed HostFault) → came ≡ it → (let r : Result Resumed SessionFault = Err fault in r ≡ session_result_of it)
           → session_stop (Err fault) ≡ 1
       by_came (Ok resumed) e s = absurd (cc)
       by_came (Err why) e s =
@@ -113,7 +113,7 @@ module _ {variant : Variant} {meaning : Meaning} where
         still = λ z. absurd (omega (arith, stopped, z));
       }
 
-  pub ends_writes : {at final : Standing} {offer : List ℕ} {hand : List ℕ → Type 0} {calls : List Call} {result : Result Unit SessionFault}
+  pub ends_writes : {at final : Standing} {offer : List ℕ} {hand : List ℕ → Type 0} {calls : List LifeCall} {result : Result Unit SessionFault}
       → Ends variant meaning at final offer hand calls result → LastWrites variant at final (session_stop result)
   ends_writes {at} {final} {result = result} (at_rest same none) = last_none variant at final (session_stop result) same
   ends_writes {at} {final} {offer} (stops request h gives c is came t sent fault says ends) =
@@ -129,7 +129,7 @@ module _ {variant : Variant} {meaning : Meaning} where
 
 -- one that was answered
 call_answered : (variant : Variant) {meaning : Meaning} {old new : Standing} {offer request : List ℕ} {answer : Answer}
-    → IsCall variant meaning old new offer request (Ok answer) → AnsweredWrites variant (new_by answer.again) old new
+    → IsCall variant meaning old new offer request (Ok answer) → AnsweredWrites variant (new_requests_by answer.again) old new
 call_answered Basic {old = old} {new = new} c =
     record { writes = subst (λ (n : ℕ). WritesFor Basic n old new) c.counts.new c.counts.writes; leads = tt }
 call_answered Opt {old = old} {new = new} c = record {
@@ -144,18 +144,18 @@ pub record CallsWrite (variant : Variant) (old new : Standing) (told stop : ℕ)
   pub last : LastWrites variant at new stop
 
 module _ (variant : Variant) (meaning : Meaning) where
-  pub told_write : (told : List Served) (offer : List ℕ) (before at : Standing) → CallsInTurn variant meaning offer before told at
+  pub told_write : (told : List ServedCall) (offer : List ℕ) (before at : Standing) → CallsInTurn variant meaning offer before told at
       → AnsweredWrites variant (new_replies (told_replies told)) before at
   told_write [] offer before at h =
       record { writes = rests variant before at h; leads = leads_rest variant before at h }
   told_write (c ∷ told) offer before at h =
-      both_writes variant (new_by c.answer.again) (new_replies (told_replies told)) before h.0 at (call_answered variant h.1)
+      both_writes variant (new_requests_by c.answer.again) (new_replies (told_replies told)) before h.0 at (call_answered variant h.1)
       (told_write told c.answer.snapshot h.0 at h.2)
 
   pub call_writes : (old new : Standing) (offer request : List ℕ) (gives : Result Answer Refusal)
       → IsCall variant meaning old new offer request gives → CallsWrite variant old new (new_replies (call_replies gives)) (call_stop gives)
   call_writes old new offer request (Ok answer) c =
-      let more : new_by answer.again ≡ new_by answer.again + 0 = omega arith in
+      let more : new_requests_by answer.again ≡ new_requests_by answer.again + 0 = omega arith in
       record {
         at = new;
         answered = subst (λ (n : ℕ). AnsweredWrites variant n old new) more (call_answered variant c);
@@ -172,12 +172,12 @@ module _ (variant : Variant) (meaning : Meaning) where
 pub record Counts (old new : Standing) (stop due : ℕ) : Type 0 where
   pub in_hand : ℕ
   pub few : in_hand ≤ stop
-  pub writes : new.writes ≡ counted_by (due + in_hand) old.writes
+  pub writes : new.writes ≡ count_after_more (due + in_hand) old.writes
 
 pub counts_by : (old new : Standing) (stop due in_hand written : ℕ) → in_hand ≤ stop → written ≡ due + in_hand
-    → new.writes ≡ counted_by written old.writes → Counts old new stop due
+    → new.writes ≡ count_after_more written old.writes → Counts old new stop due
 counts_by old new stop due in_hand written few is writes =
-    record { in_hand = in_hand; few = few; writes = subst (λ (n : ℕ). new.writes ≡ counted_by n old.writes) is writes }
+    record { in_hand = in_hand; few = few; writes = subst (λ (n : ℕ). new.writes ≡ count_after_more n old.writes) is writes }
 
 -- Basic: a call writes the cell where it told a request for the first time
 pub basic_counts : (old new : Standing) (told stop : ℕ) → CallsWrite Basic old new told stop → Counts old new stop told
@@ -188,11 +188,11 @@ basic_counts old new told stop c = record {
 }
 
 -- Opt: by the flag
-pub turned_same : (flag : Bool) → turned flag flag ≡ 0
+pub turned_same : (flag : Bool) → turns_between flag flag ≡ 0
 turned_same true = refl
 turned_same false = refl
 
-turned_by : (flag : Bool) (n : ℕ) → openings flag n ≡ turned flag (is_open_after flag n)
+turned_by : (flag : Bool) (n : ℕ) → openings flag n ≡ turns_between flag (is_open_after flag n)
 turned_by true zero = refl
 turned_by true (suc n) = refl
 turned_by false zero = refl
@@ -208,11 +208,11 @@ openings_most false zero = omega arith
 openings_most false (suc n) = omega arith
 
 -- a part without a stop was to write the cell where it turned the flag
-pub turning : (stop : ℕ) (before after : Bool) (old new : Standing) (written : ℕ) → written ≤ 1 → (stop ≡ 0 → written ≡ turned before after)
-    → new.writes ≡ counted_by written old.writes → Counts old new stop (turned_unless stop before after)
+pub turning : (stop : ℕ) (before after : Bool) (old new : Standing) (written : ℕ) → written ≤ 1 → (stop ≡ 0 → written ≡ turns_between before after)
+    → new.writes ≡ count_after_more written old.writes → Counts old new stop (turns_unless_stopped stop before after)
 turning zero before after old new written most whole writes =
     let is = whole refl in
-    counts_by old new 0 (turned before after) 0 written (omega arith) (omega (arith, is)) writes
+    counts_by old new 0 (turns_between before after) 0 written (omega arith) (omega (arith, is)) writes
 turning (suc stop) before after old new written most whole writes =
     counts_by old new (suc stop) 0 written written (omega (arith, most)) (omega arith) writes
 
@@ -231,15 +231,15 @@ module _ (old new : Standing) (told stop : ℕ) (c : CallsWrite Opt old new told
       let f = flag_then in
       record { cell = f.cell; is_cell = f.is_cell; tells = c.last.still z ∙ f.tells; shows = f.shows }
 
-  opt_whole : stop ≡ 0 → openings flag n ≡ turned (has_open old) (has_open new)
+  opt_whole : stop ≡ 0 → openings flag n ≡ turns_between (has_open old) (has_open new)
   opt_whole z =
       let few = c.last.few in
       let none : n ≡ told = omega (arith, few, z) in
       ap (openings flag) none ∙ turned_by flag told
-      ∙ ap (λ (x : Bool). turned x (is_open_after flag told)) (sym (open_told old flag t))
-      ∙ ap (λ (x : Bool). turned (has_open old) x) (sym (open_told new (is_open_after flag told) (flag_new z)))
+      ∙ ap (λ (x : Bool). turns_between x (is_open_after flag told)) (sym (open_told old flag t))
+      ∙ ap (λ (x : Bool). turns_between (has_open old) x) (sym (open_told new (is_open_after flag told) (flag_new z)))
 
-  pub opt_counts : Counts old new stop (turned_unless stop (has_open old) (has_open new))
+  pub opt_counts : Counts old new stop (turns_unless_stopped stop (has_open old) (has_open new))
   opt_counts =
       let w = joined Opt told c.last.in_hand old c.at new c.answered.leads c.answered.writes c.last.writes in
       turning stop (has_open old) (has_open new) old new (openings flag n) (openings_most flag n) opt_whole (w.opens flag t)

@@ -6,86 +6,86 @@ use Rattle.mm_platform.specs.Standing.{Standing}
 use Rattle.mm_module.specs.Meaning.{Meaning}
 use Rattle.mm_model.specs.declared.answer.Answer.{Answer}
 use Rattle.mm_model.specs.declared.refusal.Refusal.{Refusal}
-use Rattle.mm_store.specs.Kept.{StoreStanding}
-use Rattle.mm_store.specs.Pending.{Pending}
+use Rattle.mm_store.specs.StoreStanding.{StoreStanding}
+use Rattle.mm_store.specs.PendingRecord.{PendingRecord}
 use Rattle.mm_store.specs.declared.fault.StoreFault.{StoreFault}
-use Rattle.mm_recovery.specs.Asking.{IsCall}
+use Rattle.mm_recovery.specs.HostCall.{IsCall}
 use Rattle.mm_recovery.specs.Faults.{refusal_fault, store_fault_as}
-use Rattle.mm_recovery.specs.Last.{snapshot_at}
-use Rattle.mm_recovery.specs.Next.{AfterRecord}
-use Rattle.mm_recovery.specs.Resumes.{AfterFinding, AfterOffer, started}
+use Rattle.mm_recovery.specs.LastAnswer.{snapshot_at}
+use Rattle.mm_recovery.specs.NextRequest.{GoesAfterRecord}
+use Rattle.mm_recovery.specs.Resumption.{GoesAfterFinding, GoesAfterOffer, result_of_start}
 use Rattle.mm_recovery.specs.declared.fault.HostFault.{HostFault}
 use Rattle.mm_recovery.specs.declared.resuming.Resumed.{Resumed}
 use Rattle.mm_recovery.specs.declared.resuming.Resumed.TheVariants.{Answered, Start}
-use Rattle.mm_host.specs.AnySlots.{offered_after}
-use Rattle.mm_host.specs.Continuing.{IsInHand, told_first, told_in}
-use Rattle.mm_host.specs.Sessions.{AfterResume, BeginsWith, Place, SendsReply, Served, ServedOn, Sessions, StopsInLine}
-use Rattle.mm_host.specs.Sessions.{ended_as}
+use Rattle.mm_host.specs.AnySlots.{offer_after}
+use Rattle.mm_host.specs.Continuation.{IsInHand, first_served_call, served_calls_in}
+use Rattle.mm_host.specs.Sessions.{GoesAfterResume, BeginsWith, SessionPlace, SendsReply, ServedCall, TurnGoes, IsSession, StopsInLine}
+use Rattle.mm_host.specs.Sessions.{turn_answer_of}
 use Rattle.mm_host.specs.declared.fault.SessionFault.{SessionFault}
 use Rattle.mm_host.specs.declared.fault.SessionFault.TheVariants.{Host, Lines}
 use Rattle.mm_host.proofs.Above.{CallsInTurn, TellsCall, last_offer, served_calls, tells_call}
-use Rattle.mm_life.specs.Deeds.{Call}
-use Rattle.mm_life.specs.SessionCalls.{InHandOf, bytes_of, first_bytes, first_calls, found_waiting, last_calls, line_calls, offered_calls}
-use Rattle.mm_life.specs.SessionCalls.{offered_first, recorded_calls, told_by, untold_calls}
+use Rattle.mm_life.specs.Deeds.{LifeCall}
+use Rattle.mm_life.specs.SessionCalls.{IsInHandOf, bytes_of, first_bytes, first_calls, found_pending, last_calls, line_calls, offered_calls}
+use Rattle.mm_life.specs.SessionCalls.{offer_after_finding, recorded_calls, served_calls_of, untold_calls}
 
 -- one call, by what was offered, asked and given
-abbrev pub call_of : List ℕ → List ℕ → Result Answer Refusal → Call
+abbrev pub call_of : List ℕ → List ℕ → Result Answer Refusal → LifeCall
 call_of offer request gives = record { offer = offer; request = request; gives = gives }
 
 -- How a session ends behind what it told: it rests, with no call more; or a request in hand was called, and what came of it
 -- ends the session.
 pub data Ends (variant : Variant) (meaning : Meaning) (at final : Standing) (offer : List ℕ) (hand : List ℕ → Type 0)
-    (calls : List Call) (result : Result Unit SessionFault) : Type 0 where
+    (calls : List LifeCall) (result : Result Unit SessionFault) : Type 0 where
   rests : final ≡ at → calls ≡ [] → Ends variant meaning at final offer hand calls result
   stops : (request : List ℕ) → hand request → (gives : Result Answer Refusal)
       → IsCall variant meaning at final offer request gives → calls ≡ call_of offer request gives ∷ []
       → (came : Result Resumed HostFault) → TellsCall gives came → (sent : List ℕ) (fault : SessionFault)
       → SendsReply came sent (Err fault) → result ≡ Err fault → Ends variant meaning at final offer hand calls result
 
-pub record Chain (variant : Variant) (meaning : Meaning) (offer : List ℕ) (before final : Standing) (told : List Served)
-    (hand : List ℕ → Type 0) (untold : List Call) (result : Result Unit SessionFault) : Type 0 where
+pub record Chain (variant : Variant) (meaning : Meaning) (offer : List ℕ) (before final : Standing) (told : List ServedCall)
+    (hand : List ℕ → Type 0) (untold : List LifeCall) (result : Result Unit SessionFault) : Type 0 where
   pub at : Standing
   pub calls : CallsInTurn variant meaning offer before told at
-  pub ends : Ends variant meaning at final (offered_after offer told) hand untold result
+  pub ends : Ends variant meaning at final (offer_after offer told) hand untold result
 
 -- What a start came to: nothing was asked; nothing waits, and it begins with what it read; or a call was made for what waits.
-data Begun (variant : Variant) (meaning : Meaning) (before after : Standing) (waiting : Option Pending) (offer : List ℕ)
-    (calls : List Call) (came : Result Resumed HostFault) : Type 0 where
+data Begun (variant : Variant) (meaning : Meaning) (before after : Standing) (waiting : Option PendingRecord) (offer : List ℕ)
+    (calls : List LifeCall) (came : Result Resumed HostFault) : Type 0 where
   failed : after ≡ before → calls ≡ [] → (why : StoreFault) → came ≡ Err (store_fault_as why)
       → Begun variant meaning before after waiting offer calls came
   starts : after ≡ before → calls ≡ [] → waiting ≡ None → came ≡ Ok (Start offer)
       → Begun variant meaning before after waiting offer calls came
-  repeats : (p : Pending) → waiting ≡ Some p → (gives : Result Answer Refusal)
+  repeats : (p : PendingRecord) → waiting ≡ Some p → (gives : Result Answer Refusal)
       → IsCall variant meaning before after offer p.request gives → calls ≡ call_of offer p.request gives ∷ []
       → TellsCall gives came → Begun variant meaning before after waiting offer calls came
 
 module _ (variant : Variant) (meaning : Meaning) (before after : Standing) where
-  begun_start : (zero : Result (List ℕ) StoreFault) (came : Result Resumed HostFault) → after ≡ before → came ≡ started zero
+  begun_start : (zero : Result (List ℕ) StoreFault) (came : Result Resumed HostFault) → after ≡ before → came ≡ result_of_start zero
       → Begun variant meaning before after None (bytes_of variant meaning before after zero) [] came
   begun_start (Ok bytes) came same e = starts same refl refl e
   begun_start (Err why) came same e = failed same refl why e
 
-  begun_repeat : (offer : Result (List ℕ) StoreFault) (old new : StoreStanding) (p : Pending) (came : Result Resumed HostFault)
-      (g : AfterOffer variant meaning before after offer old new p came)
+  begun_repeat : (offer : Result (List ℕ) StoreFault) (old new : StoreStanding) (p : PendingRecord) (came : Result Resumed HostFault)
+      (g : GoesAfterOffer variant meaning before after offer old new p came)
       → Begun variant meaning before after (Some p) (bytes_of variant meaning before after offer)
       (offered_calls variant meaning before after offer old new p came g) came
   begun_repeat (Ok bytes) old new p came g = repeats p refl g.asked g.asks refl (tells_call g.asked old new came g.goes)
   begun_repeat (Err why) old new p came g = failed g.0 refl why g.2
 
-  begun_by : (waiting : Result (Option Pending) StoreFault) (old new : StoreStanding) (came : Result Resumed HostFault)
-      (g : AfterFinding variant meaning before after waiting old new came)
-      → Begun variant meaning before after (found_waiting waiting)
-      (offered_first variant meaning before after waiting old new came g)
+  begun_by : (waiting : Result (Option PendingRecord) StoreFault) (old new : StoreStanding) (came : Result Resumed HostFault)
+      (g : GoesAfterFinding variant meaning before after waiting old new came)
+      → Begun variant meaning before after (found_pending waiting)
+      (offer_after_finding variant meaning before after waiting old new came g)
       (first_calls variant meaning before after waiting old new came g) came
   begun_by (Ok (Some p)) old new came g = begun_repeat g.offer g.middle new p came g.goes
   begun_by (Ok None) old new came g = begun_start g.1.zero came g.0 g.1.gives
   begun_by (Err why) old new came g = failed g.0 refl why g.2
 
   -- it stops at once
-  at_once : (final : Standing) (waiting : Option Pending) (offer : List ℕ) (calls : List Call) (begun : Result Resumed HostFault)
+  at_once : (final : Standing) (waiting : Option PendingRecord) (offer : List ℕ) (calls : List LifeCall) (begun : Result Resumed HostFault)
       (sent : List ℕ) (fault : SessionFault) (result : Result Unit SessionFault) → final ≡ after → SendsReply begun sent (Err fault)
       → result ≡ Err fault → Begun variant meaning before after waiting offer calls begun
-      → Ends variant meaning before final offer (λ (request : List ℕ). (p : Pending) × (waiting ≡ Some p) × (p.request ≡ request))
+      → Ends variant meaning before final offer (λ (request : List ℕ). (p : PendingRecord) × (waiting ≡ Some p) × (p.request ≡ request))
       calls result
   at_once final waiting offer calls begun sent fault result ends says is (failed same none why e) = rests (ends ∙ same) none
   at_once final waiting offer calls begun sent fault result ends says is (starts same none waits e) = rests (ends ∙ same) none
@@ -93,13 +93,13 @@ module _ (variant : Variant) (meaning : Meaning) (before after : Standing) where
       stops p.request (p, some, refl) gives (rw ends c) called begun t sent fault says is
 
   -- what waited was answered, or nothing did
-  record FirstCalls (waiting : Option Pending) (offer : List ℕ) (first : Resumed) : Type 0 where
-    calls : (lines : List Served) (at : Standing) → CallsInTurn variant meaning (snapshot_at first) after lines at
-        → CallsInTurn variant meaning offer before (told_first waiting first ++ lines) at
-    offers : (lines : List Served)
-        → offered_after offer (told_first waiting first ++ lines) ≡ offered_after (snapshot_at first) lines
+  record FirstCalls (waiting : Option PendingRecord) (offer : List ℕ) (first : Resumed) : Type 0 where
+    calls : (lines : List ServedCall) (at : Standing) → CallsInTurn variant meaning (snapshot_at first) after lines at
+        → CallsInTurn variant meaning offer before (first_served_call waiting first ++ lines) at
+    offers : (lines : List ServedCall)
+        → offer_after offer (first_served_call waiting first ++ lines) ≡ offer_after (snapshot_at first) lines
 
-  answered_first : (gives : Result Answer Refusal) (p : Pending) (offer : List ℕ) (first : Resumed)
+  answered_first : (gives : Result Answer Refusal) (p : PendingRecord) (offer : List ℕ) (first : Resumed)
       → IsCall variant meaning before after offer p.request gives → TellsCall gives (Ok first) → FirstCalls (Some p) offer first
   answered_first (Err why) p offer first c t = let clash : Ok first ≡ Err (refusal_fault why) = t in absurd (cc)
   answered_first (Ok answer) p offer first c (inl t) =
@@ -107,7 +107,7 @@ module _ (variant : Variant) (meaning : Meaning) (before after : Standing) where
       rw is (record { calls = λ lines at h. (after, c, h); offers = λ lines. refl })
   answered_first (Ok answer) p offer first c (inr t) = let clash : Ok first ≡ Err (store_fault_as t.0) = t.1 in absurd (cc)
 
-  first_by : (waiting : Option Pending) (offer : List ℕ) (calls : List Call) (first : Resumed) (came : Result Resumed HostFault)
+  first_by : (waiting : Option PendingRecord) (offer : List ℕ) (calls : List LifeCall) (first : Resumed) (came : Result Resumed HostFault)
       → came ≡ Ok first → Begun variant meaning before after waiting offer calls came → FirstCalls waiting offer first
   first_by waiting offer calls first came is (failed same none why e) =
       let clash : Ok first ≡ Err (store_fault_as why) = sym is ∙ e in absurd (cc)
@@ -119,14 +119,14 @@ module _ (variant : Variant) (meaning : Meaning) (before after : Standing) where
       rw some (answered_first gives p offer first c (rw is at t))
 
 -- how the lines end
-module _ (variant : Variant) (meaning : Meaning) (number : ℕ) (at : Place) (after : Standing) (new : StoreStanding)
+module _ (variant : Variant) (meaning : Meaning) (number : ℕ) (at : SessionPlace) (after : Standing) (new : StoreStanding)
     (left : Option (List ℕ)) (more sent : List ℕ) where
   abbrev InHand : List ℕ → Type 0
   InHand request = (held : List ℕ) × BeginsWith more request held
 
   line_ends : (recorded : Result Unit StoreFault) (middle : StoreStanding) (line : List ℕ)
       (came : Result Resumed HostFault) (fault : SessionFault)
-      (g : AfterRecord variant meaning at.platform after recorded middle new at.last line came) → InHand line
+      (g : GoesAfterRecord variant meaning at.platform after recorded middle new at.last line came) → InHand line
       → SendsReply came sent (Err fault)
       → Ends variant meaning at.platform after (snapshot_at at.last) InHand
       (recorded_calls variant meaning at.platform after recorded middle new at.last line came g) (Err fault)
@@ -140,7 +140,7 @@ module _ (variant : Variant) (meaning : Meaning) (number : ℕ) (at : Place) (af
   in_line fault e = line_ends e.asks.recorded e.asks.middle e.line e.came fault e.asks.goes (e.held, e.begins) e.says
 
   lines_end : (result : Result Unit SessionFault)
-      (e : ServedOn variant meaning number at after new left more [] sent (ended_as result))
+      (e : TurnGoes variant meaning number at after new left more [] sent (turn_answer_of result))
       → Ends variant meaning at.platform after (snapshot_at at.last) InHand
       (last_calls variant meaning number at after new left more sent result e) result
   lines_end (Err (Host fault)) e = in_line (Host fault) e
@@ -150,9 +150,9 @@ module _ (variant : Variant) (meaning : Meaning) (number : ℕ) (at : Place) (af
 
 module _ {variant : Variant} {meaning : Meaning} {before after : Standing} {old new : StoreStanding}
     {left left' received received' : Option (List ℕ)} {result : Result Unit SessionFault}
-    (s : Sessions variant meaning before after old new left left' received received' result) where
-  abbrev waiting : Option Pending
-  waiting = found_waiting s.resumes.waiting
+    (s : IsSession variant meaning before after old new left left' received received' result) where
+  abbrev waiting : Option PendingRecord
+  waiting = found_pending s.resumes.waiting
 
   abbrev Began : Type 0
   Began =
@@ -162,8 +162,8 @@ module _ {variant : Variant} {meaning : Meaning} {before after : Standing} {old 
   began : Began
   began = begun_by variant meaning before s.platform s.resumes.waiting s.resumes.middle s.store s.begun s.resumes.goes
 
-  chain_by : (goes : AfterResume variant meaning s.begun s.platform after s.store new left' s.taken s.sent result)
-      → Chain variant meaning (first_bytes s) before after (told_in waiting goes) (IsInHand waiting goes) (untold_calls s goes) result
+  chain_by : (goes : GoesAfterResume variant meaning s.begun s.platform after s.store new left' s.taken s.sent result)
+      → Chain variant meaning (first_bytes s) before after (served_calls_in waiting goes) (IsInHand waiting goes) (untold_calls s goes) result
   chain_by (inl e) = record {
     at = before;
     calls = refl;
@@ -172,7 +172,7 @@ module _ {variant : Variant} {meaning : Meaning} {before after : Standing} {old 
   }
   chain_by (inr g) =
       let l = g.lines in
-      let from : Place = record { platform = s.platform; store = s.store; last = g.first } in
+      let from : SessionPlace = record { platform = s.platform; store = s.store; last = g.first } in
       let f = first_by variant meaning before s.platform waiting (first_bytes s) _ g.first s.begun g.begins began in
       record {
         at = l.at.platform;
@@ -181,5 +181,5 @@ module _ {variant : Variant} {meaning : Meaning} {before after : Standing} {old 
             (lines_end variant meaning _ l.at after new left' l.more l.last result l.ends));
       }
 
-  pub session_chain : Chain variant meaning (first_bytes s) before after (told_by s) (InHandOf s) (untold_calls s s.goes) result
+  pub session_chain : Chain variant meaning (first_bytes s) before after (served_calls_of s) (IsInHandOf s) (untold_calls s s.goes) result
   session_chain = chain_by s.goes

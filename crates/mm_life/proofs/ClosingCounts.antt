@@ -8,59 +8,59 @@ use Rattle.mm_platform.specs.declared.fault.StepFault.{StepFault}
 use Rattle.mm_module.specs.Meaning.{Meaning}
 use Rattle.mm_model.specs.History.{Close, Foreign}
 use Rattle.mm_model.specs.Instance.{Instance}
-use Rattle.mm_model.specs.InstanceWords.{basic, opt}
-use Rattle.mm_model.specs.Moves.{Digests, made}
+use Rattle.mm_model.specs.InstanceWords.{basic_instance, opt_instance}
+use Rattle.mm_model.specs.Moves.{Digests, digests_after}
 use Rattle.mm_model.specs.Steps.{Reads, Writes, checkpoint_steps}
-use Rattle.mm_call.specs.Checkpoints.{Stops, checkpointed, closing_of}
-use Rattle.mm_call.specs.Courses.{Done, End, Fails, Fate, Walked, after_step, walk}
-use Rattle.mm_call.specs.Levels.{all_made, by_digests}
+use Rattle.mm_call.specs.Checkpoints.{Stops, checkpoint_outcome, checkpoint_ending}
+use Rattle.mm_call.specs.Courses.{Done, End, Fails, StepFate, StepsWalk, walk_from_step, walk}
+use Rattle.mm_call.specs.Levels.{state_after_moves, digest_level}
 use Rattle.mm_call.specs.Standing.{StandsAt}
-use Rattle.mm_call.specs.TrailLaws.{all_made-append, foreign_made}
-use Rattle.mm_opt.specs.ChecksOn.{ChecksOn, closing_told}
+use Rattle.mm_call.specs.TrailLaws.{state_after_moves-append, foreign_made}
+use Rattle.mm_opt.specs.CheckpointOnCourse.{IsCheckpointOnCourse, checkpoint_result}
 use Rattle.mm_opt.specs.declared.segment.CheckpointRefusal.{CheckpointRefusal}
 use Rattle.mm_opt.specs.declared.segment.Checkpointed.{Checkpointed}
 use Rattle.mm_recovery.specs.CellWrites.{TellsFlag}
-use Rattle.mm_life.specs.Idle.{has_open}
-use Rattle.mm_life.specs.Writes.{checkpoint_stop}
-use Rattle.mm_life.specs.Writes.{turned, turned_unless}
+use Rattle.mm_life.specs.IdleParts.{has_open}
+use Rattle.mm_life.specs.LifeWrites.{checkpoint_stop}
+use Rattle.mm_life.specs.LifeWrites.{turns_between, turns_unless_stopped}
 use Rattle.mm_life.proofs.Idling.{open_told}
 use Rattle.mm_life.proofs.CallCounts.{Counts, counts_by, turned_same, turning}
 
 -- What a checkpoint's walk was to write, by the flag that it leaves.
 module _ (i : Instance) where
-  record Closing (flag : Bool) (d : Digests) (w : Walked) : Type 0 where
-    whole : w.broken ≡ None → w.writes ≡ turned flag (all_made (by_digests i) d w.moves).flag
+  record Closing (flag : Bool) (d : Digests) (w : StepsWalk) : Type 0 where
+    whole : w.broken ≡ None → w.writes ≡ turns_between flag (state_after_moves (digest_level i) d w.moves).flag
     most : w.writes ≤ 1
 
-  closing_none : (fates : ℕ → Fate) (number : ℕ) (flag : Bool) (d : Digests) → d.flag ≡ flag → Closing flag d (walk fates number [])
+  closing_none : (fates : ℕ → StepFate) (number : ℕ) (flag : Bool) (d : Digests) → d.flag ≡ flag → Closing flag d (walk fates number [])
   closing_none fates number flag d e = record {
-    whole = λ w. sym (ap (turned flag) e ∙ turned_same flag);
+    whole = λ w. sym (ap (turns_between flag) e ∙ turned_same flag);
     most = omega arith;
   }
 
-  closing_read : (values : List (List ℕ)) (ends : End) (rest : Walked) (flag : Bool) (d : Digests)
-      → ((e : Digests) → e.flag ≡ d.flag → Closing flag e rest) → Closing flag d (after_step Reads values ends rest)
+  closing_read : (values : List (List ℕ)) (ends : End) (rest : StepsWalk) (flag : Bool) (d : Digests)
+      → ((e : Digests) → e.flag ≡ d.flag → Closing flag e rest) → Closing flag d (walk_from_step Reads values ends rest)
   closing_read values Done rest flag d behind =
-      let h = behind (all_made (by_digests i) d (map Foreign values)) (ap (λ (x : Digests). x.flag) (foreign_made i d values)) in
+      let h = behind (state_after_moves (digest_level i) d (map Foreign values)) (ap (λ (x : Digests). x.flag) (foreign_made i d values)) in
       record {
-        whole = λ w. h.whole w ∙ ap (λ (x : Digests). turned flag x.flag) (sym (all_made-append i d (map Foreign values) rest.moves));
+        whole = λ w. h.whole w ∙ ap (λ (x : Digests). turns_between flag x.flag) (sym (state_after_moves-append i d (map Foreign values) rest.moves));
         most = h.most;
       }
   closing_read values (Fails fault effect) rest flag d behind = record { whole = λ w. absurd (cc); most = omega arith }
 
-  pub flag_behind : (values : List (List ℕ)) (d : Digests) → (all_made (by_digests i) d (map Foreign values ++ [])).flag ≡ d.flag
+  pub flag_behind : (values : List (List ℕ)) (d : Digests) → (state_after_moves (digest_level i) d (map Foreign values ++ [])).flag ≡ d.flag
   flag_behind [] d = refl
-  flag_behind (v ∷ values) d = flag_behind values (made i d (Foreign v))
+  flag_behind (v ∷ values) d = flag_behind values (digests_after i d (Foreign v))
 
-  closing_write : (fates : ℕ → Fate) (number : ℕ) (values : List (List ℕ)) (ends : End) (d : Digests)
-      → Closing true d (after_step (Writes Close) values ends (walk fates number []))
+  closing_write : (fates : ℕ → StepFate) (number : ℕ) (values : List (List ℕ)) (ends : End) (d : Digests)
+      → Closing true d (walk_from_step (Writes Close) values ends (walk fates number []))
   closing_write fates number values Done d = record {
-    whole = λ w. ap (turned true) (sym (flag_behind values (made i d Close)));
+    whole = λ w. ap (turns_between true) (sym (flag_behind values (digests_after i d Close)));
     most = omega arith;
   }
   closing_write fates number values (Fails fault effect) d = record { whole = λ w. absurd (cc); most = omega arith }
 
-  closing_walk : (fates : ℕ → Fate) (flag lost : Bool) (d : Digests) → d.flag ≡ flag
+  closing_walk : (fates : ℕ → StepFate) (flag lost : Bool) (d : Digests) → d.flag ≡ flag
       → Closing flag d (walk fates 1 (checkpoint_steps Opt flag lost))
   closing_walk fates false lost d e =
       closing_read (fates 1).brings (fates 1).ends (walk fates 2 []) false d (λ x same. closing_none fates 2 false x (same ∙ e))
@@ -74,37 +74,37 @@ module _ (i : Instance) where
       (λ z also. closing_write fates 4 (fates 3).brings (fates 3).ends z))
 
 told_stop : (broken : Option StepFault) (closed flag lost : Bool) (said : Result Checkpointed CheckpointRefusal)
-    → said ≡ closing_told (option_map_or (λ fault. Stops fault closed) broken (closing_of Opt flag lost))
+    → said ≡ checkpoint_result (option_map_or (λ fault. Stops fault closed) broken (checkpoint_ending Opt flag lost))
     → (broken ≡ None) ⊎ (checkpoint_stop said ≡ 1)
 told_stop None closed flag lost said e = inl refl
 told_stop (Some fault) closed flag lost said e = inr (ap checkpoint_stop e)
 
-read_writes : (values : List (List ℕ)) (ends : End) (fates : ℕ → Fate) (number : ℕ)
-    → (after_step Reads values ends (walk fates number [])).writes ≡ 0
+read_writes : (values : List (List ℕ)) (ends : End) (fates : ℕ → StepFate) (number : ℕ)
+    → (walk_from_step Reads values ends (walk fates number [])).writes ≡ 0
 read_writes values Done fates number = refl
 read_writes values (Fails fault effect) fates number = refl
 
 module _ (meaning : Meaning) (key barrier : List ℕ) (old new : Standing) (said : Result Checkpointed CheckpointRefusal)
-    (k : ChecksOn old new said) where
-  pub basic_checked : (d : Digests) → StandsAt (basic meaning key) old d → Counts old new (checkpoint_stop said) 0
+    (k : IsCheckpointOnCourse old new said) where
+  pub basic_checked : (d : Digests) → StandsAt (basic_instance meaning key) old d → Counts old new (checkpoint_stop said) 0
   basic_checked d s =
       let g = k.goes Basic meaning key barrier d s in
       let none = read_writes (k.course.fates 1).brings (k.course.fates 1).ends k.course.fates 2 in
       counts_by old new (checkpoint_stop said) 0 0 _ (omega arith) (none ∙ omega arith) g.writes
 
-  pub opt_checked : (d : Digests) → StandsAt (opt meaning key barrier) old d
-      → Counts old new (checkpoint_stop said) (turned_unless (checkpoint_stop said) (has_open old) (has_open new))
+  pub opt_checked : (d : Digests) → StandsAt (opt_instance meaning key barrier) old d
+      → Counts old new (checkpoint_stop said) (turns_unless_stopped (checkpoint_stop said) (has_open old) (has_open new))
   opt_checked d s =
-      let i : Instance = opt meaning key barrier in
+      let i : Instance = opt_instance meaning key barrier in
       let g = k.goes Opt meaning key barrier d s in
-      let o = checkpointed i (by_digests i) d k.course in
+      let o = checkpoint_outcome i (digest_level i) d k.course in
       let c = closing_walk i k.course.fates d.flag _ d refl in
       let before : TellsFlag old d.flag = record { cell = _; is_cell = s.spells; tells = s.cell; shows = refl } in
       let after : TellsFlag new o.state.flag = record { cell = _; is_cell = g.stands.spells; tells = g.stands.cell; shows = refl } in
       turning (checkpoint_stop said) (has_open old) (has_open new) old new _ c.most
       (λ z. elim (told_stop _ _ d.flag _ said g.gives) [
         | inl whole ↦
-            c.whole whole ∙ ap (λ (x : Bool). turned x o.state.flag) (sym (open_told old d.flag before))
-            ∙ ap (λ (x : Bool). turned (has_open old) x) (sym (open_told new o.state.flag after))
+            c.whole whole ∙ ap (λ (x : Bool). turns_between x o.state.flag) (sym (open_told old d.flag before))
+            ∙ ap (λ (x : Bool). turns_between (has_open old) x) (sym (open_told new o.state.flag after))
         | inr stopped ↦ absurd (omega (arith, stopped, z))
       ]) g.writes

@@ -3,22 +3,22 @@ use Rattle.std.proofs.Common.{◌∙◌, ℕ, List, [], ◌∷◌, Option, Resul
 use Rattle.mm_digest.specs.declared.variant.Variant.TheVariants.{Basic}
 use Rattle.mm_platform.specs.Standing.{Standing}
 use Rattle.mm_module.specs.Meaning.{IsLawful, Meaning}
-use Rattle.mm_store.specs.Kept.{StoreStanding}
+use Rattle.mm_store.specs.StoreStanding.{StoreStanding}
 use Rattle.mm_model.specs.Instance.{Instance}
-use Rattle.mm_model.specs.InstanceWords.{basic}
+use Rattle.mm_model.specs.InstanceWords.{basic_instance}
 use Rattle.mm_evidence.proofs.Above.{clash_or}
-use Rattle.mm_recovery.specs.Begins.{Begins}
+use Rattle.mm_recovery.specs.FirstStart.{InstanceBegins}
 use Rattle.mm_recovery.specs.Init.{Devices}
 use Rattle.mm_host.specs.declared.fault.SessionFault.{SessionFault}
 use Rattle.mm_life.specs.Deeds.{LosesPower}
-use Rattle.mm_life.specs.Honest.{BasicLifeGoesOn}
+use Rattle.mm_life.specs.HonestLife.{BasicLifeGoesOn}
 use Rattle.mm_life.specs.OneStore.{LivesOnOneStore, session_stage}
 use Rattle.mm_life.specs.Premises.{life_batches, life_messages}
-use Rattle.mm_life.specs.Stages.{Does, IsLife, Stage}
-use Rattle.mm_life.specs.Writes.{BasicLivesWriteOnce}
+use Rattle.mm_life.specs.Stages.{Does, IsLife, LifeStage}
+use Rattle.mm_life.specs.LifeWrites.{BasicLivesWriteOnce}
 
 pub lives_on_one_store : BasicLifeGoesOn → BasicLivesWriteOnce → (meaning : Meaning) → IsLawful meaning → (before started : Devices)
-    → Begins Basic meaning before started → (middle empty after : Standing) (between new : StoreStanding)
+    → InstanceBegins Basic meaning before started → (middle empty after : Standing) (between new : StoreStanding)
     (first first' second second' received told received' : Option (List ℕ)) (one two : Result Unit SessionFault)
     → IsLife Basic meaning started.platform
     (session_stage started.store between first first' received told one middle
@@ -35,8 +35,8 @@ lives_on_one_store law counted meaning lawful before started begun middle empty 
       told = told;
       life = life;
       goes = λ cell slots here honest shown whole whole'.
-          let i : Instance = basic meaning (take 32 begun.secrets) in
-          let stages : List Stage =
+          let i : Instance = basic_instance meaning (take 32 begun.secrets) in
+          let stages : List LifeStage =
           session_stage started.store between first first' received told one middle
           ∷ record { part = Does LosesPower; after = empty }
           ∷ session_stage between new second second' told received' two after ∷ [] in

@@ -5,11 +5,11 @@ use Rattle.mm_digest.specs.declared.variant.Variant.TheVariants.{Basic, Opt}
 use Rattle.mm_module.specs.Batch.{Batch}
 use Rattle.mm_model.specs.History.{first_history}
 use Rattle.mm_model.specs.Instance.{Instance}
-use Rattle.mm_model.specs.InstanceWords.{basic, opt}
+use Rattle.mm_model.specs.InstanceWords.{basic_instance, opt_instance}
 use Rattle.mm_model.specs.ListLaws.{each_left, each_right, each_self}
-use Rattle.mm_recovery.specs.Begins.{first_on, first_slots}
+use Rattle.mm_recovery.specs.FirstStart.{first_history_on, first_slots}
 use Rattle.mm_recovery.proofs.Above.{is_first}
-use Rattle.mm_life.specs.Honest.{BasicLifeGoesOn, OptLifeGoesOn}
+use Rattle.mm_life.specs.HonestLife.{BasicLifeGoesOn, OptLifeGoesOn}
 use Rattle.mm_life.specs.Premises.{life_batches, life_messages, opt_messages, others_values, register_messages}
 use Rattle.mm_life.proofs.BasicLife as basic_proofs
 use Rattle.mm_life.proofs.OptLife as opt_proofs
@@ -17,7 +17,7 @@ use Rattle.mm_life.proofs.HonestLife.{life_goes}
 
 pub basic_goes_on : BasicLifeGoesOn
 basic_goes_on meaning lawful key start kept stages f stands honest told over clear chance =
-    let i : Instance = basic meaning key in
+    let i : Instance = basic_instance meaning key in
     let all : List (List ℕ) = life_messages i start stages f in
     let asked : List Batch = life_batches i start stages f in
     let itself = each_self [] all in
@@ -30,7 +30,7 @@ basic_goes_on meaning lawful key start kept stages f stands honest told over cle
 
 pub opt_goes_on : OptLifeGoesOn
 opt_goes_on meaning lawful key barrier values start kept stages f stands honest told over clear apart chance =
-    let i : Instance = opt meaning key barrier in
+    let i : Instance = opt_instance meaning key barrier in
     let all : List (List ℕ) = opt_messages i start stages f in
     let asked : List Batch = life_batches i start stages f in
     let others : List (List ℕ) = others_values i start stages f in
@@ -39,7 +39,7 @@ opt_goes_on meaning lawful key barrier values start kept stages f stands honest 
     let itself = each_self [] all in
     let calls = each_left (Contains all) front back itself in
     let first = is_first Opt meaning key barrier values lawful in
-    life_goes (opt_proofs.opt_life meaning lawful key barrier all others asked clear apart) stages (first_on values) kept (first_slots i) start f
+    life_goes (opt_proofs.opt_life meaning lawful key barrier all others asked clear apart) stages (first_history_on values) kept (first_slots i) start f
     honest told stands (opt_proofs.first_within meaning lawful key barrier values all others asked calls.0) first.fits over
     (opt_proofs.all_seen meaning lawful key barrier all others asked clear apart start stages f
     (each_right (Contains all) front back itself) (each_self [] others)) chance

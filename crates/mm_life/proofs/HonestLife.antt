@@ -7,28 +7,28 @@ use Rattle.mm_module.specs.Meaning.{Meaning}
 use Rattle.mm_model.specs.History.{History, requests_of, total_of}
 use Rattle.mm_model.specs.Instance.{Instance}
 use Rattle.mm_model.specs.Standing.{StandsFor}
-use Rattle.mm_call.specs.Asked.{IsWithin}
+use Rattle.mm_call.specs.CallPremises.{IsWithin}
 use Rattle.mm_call.proofs.Above.{requests-push}
-use Rattle.mm_schedule.specs.Machine.{StepsOn}
+use Rattle.mm_schedule.specs.Machine.{IsBatchStep}
 use Rattle.mm_schedule.specs.declared.reply.Reply.TheVariants.{Told}
-use Rattle.mm_store.specs.Pending.{Pending}
+use Rattle.mm_store.specs.PendingRecord.{PendingRecord}
 use Rattle.mm_store.specs.Slots.{Slots}
-use Rattle.mm_recovery.specs.Fitting.{FitsBy, FitsHistory}
+use Rattle.mm_recovery.specs.SlotFit.{FitsBy, FitsHistory}
 use Rattle.mm_recovery.specs.declared.fault.HostFault.TheVariants.{Store}
 use Rattle.mm_recovery.proofs.Above.{fits_on}
-use Rattle.mm_host.specs.Continuing.{ContinuesTo, HasUntold, IsInHand, IsNotBeyond, RunsOver, told_in}
-use Rattle.mm_host.specs.Sessions.{Served}
+use Rattle.mm_host.specs.Continuation.{ContinuesTo, HasUntold, IsInHand, IsNotBeyond, CallsRunOver, served_calls_in}
+use Rattle.mm_host.specs.Sessions.{ServedCall}
 use Rattle.mm_host.specs.declared.fault.SessionFault.{SessionFault}
 use Rattle.mm_host.specs.declared.fault.SessionFault.TheVariants.{Host}
 use Rattle.mm_host.proofs.Above.{Shows, calls_reach}
-use Rattle.mm_life.specs.Deeds.{Call, Calls, Checkpoints, Deed, DeedLeads, Extends, LosesPower}
-use Rattle.mm_life.specs.Honest.{AreNoChance, BeginsOver, IsGoneOnWith, IsNextOrLast, IsOverOneStore, LeavesNoChance}
-use Rattle.mm_life.specs.Honest.{PartGoesOn, kept_behind, reached}
-use Rattle.mm_store.specs.Kept.{StoreStanding}
+use Rattle.mm_life.specs.Deeds.{LifeCall, Calls, Checkpoints, Deed, DeedLeads, Extends, LosesPower}
+use Rattle.mm_life.specs.HonestLife.{AreNoChance, BeginsOver, IsGoneOnWith, IsNextOrLast, IsOverOneStore, LeavesNoChance}
+use Rattle.mm_life.specs.HonestLife.{PartGoesOn, store_behind, reached_position}
+use Rattle.mm_store.specs.StoreStanding.{StoreStanding}
 use Rattle.mm_life.specs.OneList.{PartSteps, SessionSteps}
-use Rattle.mm_life.specs.SessionCalls.{first_bytes, InHandOf, session_calls, told_by}
-use Rattle.mm_life.specs.Stages.{Does, Holds, IsLife, Part, PartLeads, Program, Stage, life_calls, part_calls}
-use Rattle.mm_life.specs.Staying.{IsNoCall, Stays}
+use Rattle.mm_life.specs.SessionCalls.{first_bytes, IsInHandOf, session_calls, served_calls_of}
+use Rattle.mm_life.specs.Stages.{Does, Holds, IsLife, LifePart, PartLeads, Program, LifeStage, life_calls, part_calls}
+use Rattle.mm_life.specs.DeedHistory.{IsNoCall, HistoryStays}
 use Rattle.mm_life.proofs.Chains.{session_chain}
 use Rattle.mm_life.proofs.HonestSession.{AreStill, goes_on}
 use Rattle.mm_life.proofs.Living.{AreSeen, LifeLaws, listed_left, listed_right}
@@ -41,7 +41,7 @@ none_of : (requests : List (List ℕ)) → length requests ≡ 0 → requests �
 none_of [] e = refl
 none_of (x ∷ requests) e = absurd (omega (arith, e))
 
-next_or_last : (i : Instance) (slots : Slots) (y : History) (waiting : Option Pending) → FitsBy i slots y waiting
+next_or_last : (i : Instance) (slots : Slots) (y : History) (waiting : Option PendingRecord) → FitsBy i slots y waiting
     → IsNextOrLast (requests_of y.batches) waiting
 next_or_last i slots y None f = none_of (requests_of y.batches) f.0
 next_or_last i slots y (Some p) (inl next, holds) = inl next
@@ -51,7 +51,7 @@ next_or_last i slots y (Some p) (inr last, holds) =
 -- what a session told reaches no further than its requests
 
 told_most : (meaning : Meaning) (again : Bool) (requests after : List (List ℕ)) (line : List ℕ) (before : ℕ) (outputs : List (List ℕ))
-    → StepsOn meaning requests (One line) (Told again before outputs) after → before + 1 ≤ length after
+    → IsBatchStep meaning requests (One line) (Told again before outputs) after → before + 1 ≤ length after
 told_most meaning false requests after line before outputs s =
     omega (arith, s.counted, ap (λ (xs : List (List ℕ)). length xs) s.grown, length-append requests (line ∷ []))
 told_most meaning true requests after line before outputs s =
@@ -63,8 +63,8 @@ told_most meaning true requests after line before outputs s =
       ap (λ (xs : List (List ℕ)). length xs) s.2,
     )
 
-calls_reached : (meaning : Meaning) (waiting : Option Pending) (c : Served) (calls : List Served) (requests after : List (List ℕ))
-    → RunsOver meaning requests (c ∷ calls) after → reached waiting (c ∷ calls) ≤ length after
+calls_reached : (meaning : Meaning) (waiting : Option PendingRecord) (c : ServedCall) (calls : List ServedCall) (requests after : List (List ℕ))
+    → CallsRunOver meaning requests (c ∷ calls) after → reached_position waiting (c ∷ calls) ≤ length after
 calls_reached meaning waiting c [] requests after r =
     omega (
       arith,
@@ -73,8 +73,8 @@ calls_reached meaning waiting c [] requests after r =
     )
 calls_reached meaning waiting c (next ∷ calls) requests after r = calls_reached meaning waiting next calls r.0 after r.2
 
-reached_most : (meaning : Meaning) (waiting : Option Pending) (told : List Served) (requests between : List (List ℕ))
-    → IsNextOrLast requests waiting → RunsOver meaning requests told between → reached waiting told ≤ length between
+reached_most : (meaning : Meaning) (waiting : Option PendingRecord) (told : List ServedCall) (requests between : List (List ℕ))
+    → IsNextOrLast requests waiting → CallsRunOver meaning requests told between → reached_position waiting told ≤ length between
 reached_most meaning None [] requests between w r = omega arith
 reached_most meaning (Some p) [] requests between (inl next) r = omega (arith, next, ap (λ (xs : List (List ℕ)). length xs) r)
 reached_most meaning (Some p) [] requests between (inr last) r = omega (arith, last.0, ap (λ (xs : List (List ℕ)). length xs) r)
@@ -94,19 +94,19 @@ store_failed : (result : Result Unit SessionFault) → (result ≡ Err (Host Sto
 store_failed (Err (Host Store)) = inl refl
 store_failed _ = inr (λ e. cc)
 
-module _ {all others : List (List ℕ)} {asked : List Batch} {i : Instance} {IsSeen : Standing → Part → Standing → Type 0}
-    {IsStill : Standing → List Call → Type 0} (life : LifeLaws all others asked i IsSeen IsStill) where
+module _ {all others : List (List ℕ)} {asked : List Batch} {i : Instance} {IsSeen : Standing → LifePart → Standing → Type 0}
+    {IsStill : Standing → List LifeCall → Type 0} (life : LifeLaws all others asked i IsSeen IsStill) where
   -- where a part leads, from a history that the slots fit
-  record PartGone (y : History) (kept : StoreStanding) (old : Standing) (part : Part) (new : Standing)
+  record PartGone (y : History) (kept : StoreStanding) (old : Standing) (part : LifePart) (new : Standing)
       (f : PartLeads i.variant i.meaning old part new) : Type 0 where
     after : History
     stands : StandsFor i new after
     within : IsWithin all others asked i after
     goes : PartGoesOn others i old part new f (requests_of y.batches) (requests_of after.batches)
     steps : PartSteps i.variant i.meaning old part new f (requests_of y.batches) (requests_of after.batches)
-    honest : (kept_behind kept part).is_honest ≡ true
+    honest : (store_behind kept part).is_honest ≡ true
     left : Slots
-    told : (kept_behind kept part).slots ≡ Some left
+    told : (store_behind kept part).slots ≡ Some left
     fits : FitsHistory i left after
 
   module _ (y : History) (kept : StoreStanding) (slots : Slots) (old : Standing) (p : Program) (new : Standing)
@@ -114,17 +114,17 @@ module _ {all others : List (List ℕ)} {asked : List Batch} {i : Instance} {IsS
       (chance : LeavesNoChance i.variant i.meaning old (Holds p) new s) where
     abbrev On : Type 0
     On =
-        ContinuesTo all others asked i y fits.waiting new p.new (told_in fits.waiting s.goes) (IsInHand fits.waiting s.goes) p.result
+        ContinuesTo all others asked i y fits.waiting new p.new (served_calls_in fits.waiting s.goes) (IsInHand fits.waiting s.goes) p.result
 
     waits : IsNextOrLast (requests_of y.batches) fits.waiting
     waits = next_or_last i slots y fits.waiting fits.fits
 
     fits_then : (c : On) → FitsHistory i c.slots_after c.runs.after
     fits_then c = elim (store_failed p.result) [
-      | inl failed ↦ c.fits (beyond_less c.slots_after (reached fits.waiting (told_in fits.waiting s.goes)) (total_of c.runs.after.batches)
+      | inl failed ↦ c.fits (beyond_less c.slots_after (reached_position fits.waiting (served_calls_in fits.waiting s.goes)) (total_of c.runs.after.batches)
           (omega (
             arith,
-            reached_most i.meaning fits.waiting (told_in fits.waiting s.goes) (requests_of y.batches) c.runs.requests waits
+            reached_most i.meaning fits.waiting (served_calls_in fits.waiting s.goes) (requests_of y.batches) c.runs.requests waits
                 c.runs.run,
             committed_most (IsInHand fits.waiting s.goes) p.result c.runs.requests (requests_of c.runs.after.batches)
                 c.runs.committed,
@@ -133,7 +133,7 @@ module _ {all others : List (List ℕ)} {asked : List Batch} {i : Instance} {IsS
       | inr whole ↦ c.whole whole
     ]
 
-    program_gone : StandsFor i old y → (c : On) → SessionSteps i.meaning (requests_of y.batches) (told_by s) (InHandOf s) p.result
+    program_gone : StandsFor i old y → (c : On) → SessionSteps i.meaning (requests_of y.batches) (served_calls_of s) (IsInHandOf s) p.result
         (requests_of c.runs.after.batches) → PartGone y kept old (Holds p) new s
     program_gone stands c steps = record {
       after = c.runs.after;
@@ -163,7 +163,7 @@ module _ {all others : List (List ℕ)} {asked : List Batch} {i : Instance} {IsS
 
   deed_gone : (y : History) (kept : StoreStanding) (slots : Slots) (old : Standing) (deed : Deed) (new : Standing)
       (f : DeedLeads i.variant i.meaning old deed new) → kept.is_honest ≡ true → kept.slots ≡ Some slots → FitsHistory i slots y
-      → (s : Stays all others asked i y new)
+      → (s : HistoryStays all others asked i y new)
       → PartSteps i.variant i.meaning old (Does deed) new f (requests_of y.batches) (requests_of s.after.batches)
       → PartGone y kept old (Does deed) new f
   deed_gone y kept slots old deed new f honest told fits s steps = record {
@@ -183,11 +183,11 @@ module _ {all others : List (List ℕ)} {asked : List Batch} {i : Instance} {IsS
   }
 
   deed_stays : (y : History) (old : Standing) (deed : Deed) (new : Standing) → IsNoCall deed → IsSeen old (Does deed) new ⊎ IsStill old []
-      → DeedLeads i.variant i.meaning old deed new → StandsFor i old y → IsWithin all others asked i y → Stays all others asked i y new
+      → DeedLeads i.variant i.meaning old deed new → StandsFor i old y → IsWithin all others asked i y → HistoryStays all others asked i y new
   deed_stays y old deed new quiet (inl seen) f stands within = life.stays y old deed new quiet seen f stands within
   deed_stays y old deed new quiet (inr still) f stands within = life.stays_still y old deed new quiet still f stands within
 
-  part_goes : (y : History) (kept : StoreStanding) (slots : Slots) (old : Standing) (part : Part) (new : Standing)
+  part_goes : (y : History) (kept : StoreStanding) (slots : Slots) (old : Standing) (part : LifePart) (new : Standing)
       (f : PartLeads i.variant i.meaning old part new) → kept.is_honest ≡ true → kept.slots ≡ Some slots
       → StandsFor i old y → IsWithin all others asked i y → FitsHistory i slots y → BeginsOver kept part
       → IsSeen old part new ⊎ IsStill old (part_calls i.variant i.meaning old part new f)
@@ -196,12 +196,12 @@ module _ {all others : List (List ℕ)} {asked : List Batch} {i : Instance} {IsS
   part_goes y kept slots old (Holds p) new s honest told stands within fits begins seen chance listed =
       let laws = life.laws new in
       let k = session_chain s in
-      let reaches = calls_reach laws (first_bytes s) old k.at (told_by s) k.calls (ends_reach laws k.ends) in
+      let reaches = calls_reach laws (first_bytes s) old k.at (served_calls_of s) k.calls (ends_reach laws k.ends) in
       let seen_so : Shows i.variant all others i y old new ⊎ AreStill laws y old (session_calls s) = elim seen [
         | inl shown ↦ inl (life.shows y old (Holds p) new shown stands reaches (chain_leads i life.leads k))
         | inr still ↦ inr (
           life.few old (session_calls s) still,
-          λ c one middle makes. life.idles y old middle c (subst (λ (calls : List Call). IsStill old calls) one still) makes,
+          λ c one middle makes. life.idles y old middle c (subst (λ (calls : List LifeCall). IsStill old calls) one still) makes,
         )
       ] in
       let here : p.old.slots ≡ Some slots = begins.1 ∙ told in
@@ -218,7 +218,7 @@ module _ {all others : List (List ℕ)} {asked : List Batch} {i : Instance} {IsS
       let on = deed_stays y old (Checkpoints said) new tt seen f stands within in
       deed_gone y kept slots old (Checkpoints said) new f honest told fits on (ap requests_of on.batches)
 
-  pub life_goes : (stages : List Stage) (y : History) (kept : StoreStanding) (slots : Slots) (start : Standing)
+  pub life_goes : (stages : List LifeStage) (y : History) (kept : StoreStanding) (slots : Slots) (start : Standing)
       (f : IsLife i.variant i.meaning start stages) → kept.is_honest ≡ true → kept.slots ≡ Some slots
       → StandsFor i start y → IsWithin all others asked i y → FitsHistory i slots y → IsOverOneStore kept stages
       → AreSeen life start stages f → AreNoChance i.variant i.meaning start stages f
@@ -238,11 +238,11 @@ module _ {all others : List (List ℕ)} {asked : List Batch} {i : Instance} {IsS
     fits = fits;
   }
   life_goes (stage ∷ stages) y kept slots start f honest told stands within fits over seen chance listed =
-      let calls : List Call = part_calls i.variant i.meaning start stage.part stage.after f.0 in
-      let more : List Call = life_calls i.variant i.meaning stage.after stages f.1 in
+      let calls : List LifeCall = part_calls i.variant i.meaning start stage.part stage.after f.0 in
+      let more : List LifeCall = life_calls i.variant i.meaning stage.after stages f.1 in
       let p = part_goes y kept slots start stage.part stage.after f.0 honest told stands within fits over.0 seen.0 chance.0
       (listed_left all asked i calls more listed) in
-      let r = life_goes stages p.after (kept_behind kept stage.part) p.left stage.after f.1 p.honest p.told p.stands p.within p.fits
+      let r = life_goes stages p.after (store_behind kept stage.part) p.left stage.after f.1 p.honest p.told p.stands p.within p.fits
       over.1 seen.1 chance.1
       (listed_right all asked i calls more listed) in
       record {

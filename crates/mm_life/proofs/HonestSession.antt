@@ -8,24 +8,24 @@ use Rattle.mm_module.specs.Meaning.{Meaning}
 use Rattle.mm_model.specs.History.{History}
 use Rattle.mm_model.specs.Instance.{Instance}
 use Rattle.mm_model.specs.Standing.{StandsFor}
-use Rattle.mm_call.specs.Asked.{IsWithin}
-use Rattle.mm_call.specs.Leaving.{whole, whole_in}
+use Rattle.mm_call.specs.CallPremises.{IsWithin}
+use Rattle.mm_call.specs.Untouched.{batch_answer_of, batch_result_of}
 use Rattle.mm_store.specs.Calls.{ReadsSlot}
-use Rattle.mm_store.specs.Kept.{StoreStanding}
-use Rattle.mm_store.specs.Pending.{Pending}
-use Rattle.mm_store.specs.Slots.{Slots, slot_read}
+use Rattle.mm_store.specs.StoreStanding.{StoreStanding}
+use Rattle.mm_store.specs.PendingRecord.{PendingRecord}
+use Rattle.mm_store.specs.Slots.{Slots, slot_front}
 use Rattle.mm_store.specs.declared.fault.StoreFault.{StoreFault}
 use Rattle.mm_recovery.specs.Faults.{store_fault_as}
-use Rattle.mm_recovery.specs.Fitting.{FitsBy, FitsHistory, first_offer, offer_slot}
-use Rattle.mm_recovery.specs.Next.{AfterRecord}
-use Rattle.mm_recovery.specs.Resumes.{AfterFinding, AfterOffer, started}
-use Rattle.mm_recovery.specs.Waiting.{IsWaiting}
+use Rattle.mm_recovery.specs.SlotFit.{FitsBy, FitsHistory, first_offer, offer_slot}
+use Rattle.mm_recovery.specs.NextRequest.{GoesAfterRecord}
+use Rattle.mm_recovery.specs.Resumption.{GoesAfterFinding, GoesAfterOffer, result_of_start}
+use Rattle.mm_recovery.specs.WaitingRequest.{IsWaiting}
 use Rattle.mm_recovery.specs.declared.fault.HostFault.{HostFault}
 use Rattle.mm_recovery.specs.declared.resuming.Resumed.{Resumed}
 use Rattle.mm_recovery.proofs.Above.{IsMade, MadeOf, Saw, one_waiting, saw_two}
-use Rattle.mm_host.specs.AnySlots.{AreAskedInTurn, answered_to, offered_after}
-use Rattle.mm_host.specs.Continuing.{ContinuesTo, IsInHand, told_in}
-use Rattle.mm_host.specs.Sessions.{AfterResume, Place, Served, ServedOn, Sessions, ended_as, lines_served}
+use Rattle.mm_host.specs.AnySlots.{AreAskedInTurn, history_after_answer, offer_after}
+use Rattle.mm_host.specs.Continuation.{ContinuesTo, IsInHand, served_calls_in}
+use Rattle.mm_host.specs.Sessions.{GoesAfterResume, SessionPlace, ServedCall, TurnGoes, IsSession, turn_answer_of, served_lines}
 use Rattle.mm_host.specs.declared.fault.SessionFault.{SessionFault}
 use Rattle.mm_host.specs.declared.fault.SessionFault.TheVariants.{Host, Lines}
 use Rattle.mm_host.proofs.Above.{AreMade, CallsInTurn, IsLineAsked, IsWritten, Laws, Shows, StandsIn, calls_reach, continues_by, May}
@@ -33,85 +33,85 @@ use Rattle.mm_host.proofs.Above.{fits_genuine, pending_for, same_self, stepped_b
 use Rattle.std.proofs.Common.{Bool, ap}
 use Rattle.mm_model.specs.History.{requests_of, total_of}
 use Rattle.mm_store.specs.declared.fault.StoreFault.TheVariants as fault
-use Rattle.mm_host.specs.Continuing.{AreToldOnce, RefusesAs}
+use Rattle.mm_host.specs.Continuation.{AreToldOnce, RefusesAs}
 use Rattle.mm_host.proofs.Above.{by_told, fits_room, unspoiled}
 use Rattle.mm_life.specs.OneList.{SessionSteps}
-use Rattle.mm_life.specs.Deeds.{Call}
-use Rattle.mm_life.specs.SessionCalls.{bytes_of, first_bytes, first_calls, found_waiting, InHandOf, last_calls, offered_calls, offered_first}
+use Rattle.mm_life.specs.Deeds.{LifeCall}
+use Rattle.mm_life.specs.SessionCalls.{bytes_of, first_bytes, first_calls, found_pending, IsInHandOf, last_calls, offered_calls, offer_after_finding}
 use Rattle.mm_life.specs.SessionCalls.{recorded_calls, session_calls, told_calls, untold_calls}
 use Rattle.mm_life.proofs.Chains.{Chain, Ends, call_of, rests, session_chain, stops}
 use Rattle.mm_life.proofs.OneCall.{AreListed, makes_call}
 use Rattle.mm_life.proofs.Sessions.{AreIdle, ends_reach, listed_first, listed_rest}
 
 -- what was asked, by the calls that were made
-abbrev pub requests_in : List Call → List (List ℕ)
+abbrev pub requests_in : List LifeCall → List (List ℕ)
 requests_in calls = map (λ c. c.request) calls
 
 module _ {all others : List (List ℕ)} {asked : List Batch} {i : Instance} {final : Standing} (laws : Laws all others asked i final) where
-  asked_last : (z : History) (at : Standing) (offer : List ℕ) (hand : List ℕ → Type 0) (untold : List Call)
+  asked_last : (z : History) (at : Standing) (offer : List ℕ) (hand : List ℕ → Type 0) (untold : List LifeCall)
       (result : Result Unit SessionFault) → Ends i.variant i.meaning at final offer hand untold result → AreListed all asked i untold
       → AreAskedInTurn all asked i z offer (requests_in untold)
   asked_last z at offer hand untold result (rests same none) listed = rw none tt
   asked_last z at offer hand untold result (stops request h gives c is came t sent fault says ends) listed =
-      let made : Call = call_of offer request gives in
+      let made : LifeCall = call_of offer request gives in
       let l : AreListed all asked i (made ∷ []) = rw is at listed in
       rw is (l.batches.0, listed_first all asked i made [] l, tt)
 
-  asked_in_turn : (told : List Served) (y z : History) (old at : Standing) (offer : List ℕ) (hand : List ℕ → Type 0) (untold : List Call)
+  asked_in_turn : (told : List ServedCall) (y z : History) (old at : Standing) (offer : List ℕ) (hand : List ℕ → Type 0) (untold : List LifeCall)
       (result : Result Unit SessionFault) → CallsInTurn i.variant i.meaning offer old told at
-      → Ends i.variant i.meaning at final (offered_after offer told) hand untold result → StandsIn all others asked i y z old offer
+      → Ends i.variant i.meaning at final (offer_after offer told) hand untold result → StandsIn all others asked i y z old offer
       → Shows i.variant all others i y old final → AreListed all asked i (told_calls offer told ++ untold)
-      → AreAskedInTurn all asked i z offer (lines_served told ++ requests_in untold)
+      → AreAskedInTurn all asked i z offer (served_lines told ++ requests_in untold)
   asked_in_turn [] y z old at offer hand untold result h ends s shows listed = asked_last z at offer hand untold result ends listed
   asked_in_turn (c ∷ told) y z old at offer hand untold result h ends s shows listed =
-      let made : Call = call_of offer c.line (Ok c.answer) in
-      let rest : List Call = told_calls c.answer.snapshot told ++ untold in
-      let then_is : History = answered_to i z offer c.line in
+      let made : LifeCall = call_of offer c.line (Ok c.answer) in
+      let rest : List LifeCall = told_calls c.answer.snapshot told ++ untold in
+      let then_is : History = history_after_answer i z offer c.line in
       let first = listed_first all asked i made rest listed in
-      let m = laws.met y old h.0 offer (pending_for c.line) (whole c.answer)
-      (makes_call laws old h.0 offer c.line y (Ok (whole c.answer)) h.1.goes s.stands s.within s.genuine listed.batches.0 first) shows
+      let m = laws.met y old h.0 offer (pending_for c.line) (batch_answer_of c.answer)
+      (makes_call laws old h.0 offer c.line y (Ok (batch_answer_of c.answer)) h.1.goes s.stands s.within s.genuine listed.batches.0 first) shows
       (calls_reach laws c.answer.snapshot h.0 at told h.2 (ends_reach laws ends)) in
       let t = stepped_by laws y z old h.0 offer (pending_for c.line) c.answer s h.1.fits m.0 m.0.comes in (
         listed.batches.0,
         first,
-        subst (λ (bytes : List ℕ). AreAskedInTurn all asked i then_is bytes (lines_served told ++ requests_in untold)) t.next
+        subst (λ (bytes : List ℕ). AreAskedInTurn all asked i then_is bytes (served_lines told ++ requests_in untold)) t.next
             (asked_in_turn told m.0.after then_is h.0 at c.answer.snapshot hand untold result h.2 ends t.here m.1
             (listed_rest all asked i made rest listed)),
       )
 
   -- at most one call was made, and it minds no register
-  abbrev pub AreStill : History → Standing → List Call → Type 0
-  AreStill y before calls = ((calls ≡ []) ⊎ ((c : Call) × (calls ≡ c ∷ []))) × AreIdle laws y before calls
+  abbrev pub AreStill : History → Standing → List LifeCall → Type 0
+  AreStill y before calls = ((calls ≡ []) ⊎ ((c : LifeCall) × (calls ≡ c ∷ []))) × AreIdle laws y before calls
 
   -- these are asked, whatever others do
   abbrev AreAskedStill : History → Standing → List ℕ → List (List ℕ) → Type 0
   AreAskedStill y before offer requests = AreAskedInTurn all asked i y offer requests × May laws y before offer requests
 
-  still_last : (y : History) (before : Standing) (offer : List ℕ) (hand : List ℕ → Type 0) (untold : List Call)
+  still_last : (y : History) (before : Standing) (offer : List ℕ) (hand : List ℕ → Type 0) (untold : List LifeCall)
       (result : Result Unit SessionFault) → Ends i.variant i.meaning before final offer hand untold result
       → StandsIn all others asked i y y before offer → AreListed all asked i untold → AreStill y before untold
       → AreAskedStill y before offer (requests_in untold)
   still_last y before offer hand untold result (rests same none) s listed still = rw none (tt, inr tt)
   still_last y before offer hand untold result (stops request h gives c is came t sent fault says ends) s listed still =
-      let made : Call = call_of offer request gives in
+      let made : LifeCall = call_of offer request gives in
       let l : AreListed all asked i (made ∷ []) = rw is at listed in
       let first = listed_first all asked i made [] l in
-      let m = makes_call laws before final offer request y (whole_in gives) c.goes s.stands s.within s.genuine l.batches.0 first in
+      let m = makes_call laws before final offer request y (batch_result_of gives) c.goes s.stands s.within s.genuine l.batches.0 first in
       rw is ((l.batches.0, first, tt), inr (still.1 made is final m, refl))
 
-  asked_still : (y : History) (before : Standing) (offer : List ℕ) (told : List Served) (hand : List ℕ → Type 0) (untold : List Call)
+  asked_still : (y : History) (before : Standing) (offer : List ℕ) (told : List ServedCall) (hand : List ℕ → Type 0) (untold : List LifeCall)
       (result : Result Unit SessionFault) → Chain i.variant i.meaning offer before final told hand untold result
       → StandsIn all others asked i y y before offer → AreListed all asked i (told_calls offer told ++ untold)
-      → AreStill y before (told_calls offer told ++ untold) → AreAskedStill y before offer (lines_served told ++ requests_in untold)
+      → AreStill y before (told_calls offer told ++ untold) → AreAskedStill y before offer (served_lines told ++ requests_in untold)
   asked_still y before offer [] hand untold result k s listed still =
       still_last y before offer hand untold result
       (subst (λ (x : Standing). Ends i.variant i.meaning x final offer hand untold result) k.calls k.ends) s listed still
   asked_still y before offer (c ∷ []) hand untold result k s listed still =
-      let made : Call = call_of offer c.line (Ok c.answer) in
+      let made : LifeCall = call_of offer c.line (Ok c.answer) in
       let none : untold ≡ [] = elim still.0 [ inl e ↦ absurd (cc) | inr one ↦ cc (one.1) ] in
       let one : made ∷ untold ≡ made ∷ [] = cc in
       let first = listed_first all asked i made untold listed in
-      let m = makes_call laws before k.calls.0 offer c.line y (Ok (whole c.answer)) k.calls.1.goes s.stands s.within s.genuine
+      let m = makes_call laws before k.calls.0 offer c.line y (Ok (batch_answer_of c.answer)) k.calls.1.goes s.stands s.within s.genuine
       listed.batches.0 first in
       rw none ((listed.batches.0, first, tt), inr (still.1 made one k.calls.0 m, refl))
   asked_still y before offer (c ∷ next ∷ told) hand untold result k s listed still =
@@ -126,30 +126,30 @@ record Rests (before after : Standing) (slots : Slots) (honest : Bool) (new : St
   is : came ≡ Err (store_fault_as why)
 
 -- It rests; or what the slots show was offered first, for what waits in them.
-data Opens (variant : Variant) (meaning : Meaning) (before after : Standing) (slots : Slots) (honest : Bool) (waiting : Option Pending)
-    (found : Result (Option Pending) StoreFault) (middle new : StoreStanding) (came : Result Resumed HostFault)
-    (g : AfterFinding variant meaning before after found middle new came) : Type 0 where
+data Opens (variant : Variant) (meaning : Meaning) (before after : Standing) (slots : Slots) (honest : Bool) (waiting : Option PendingRecord)
+    (found : Result (Option PendingRecord) StoreFault) (middle new : StoreStanding) (came : Result Resumed HostFault)
+    (g : GoesAfterFinding variant meaning before after found middle new came) : Type 0 where
   unasked : Rests before after slots honest new came → Opens variant meaning before after slots honest waiting found middle new came g
-  offers : offered_first variant meaning before after found middle new came g ≡ first_offer slots waiting → found_waiting found ≡ waiting
+  offers : offer_after_finding variant meaning before after found middle new came g ≡ first_offer slots waiting → found_pending found ≡ waiting
       → Opens variant meaning before after slots honest waiting found middle new came g
 
 module _ (variant : Variant) (meaning : Meaning) (before after : Standing) (slots : Slots) where
   zero_shown : (zero : Result (List ℕ) StoreFault) (old new : StoreStanding) (came : Result Resumed HostFault) → after ≡ before
-      → old.slots ≡ Some slots → ReadsSlot 0 old new zero → came ≡ started zero
-      → (bytes_of variant meaning before after zero ≡ slot_read slots 0) ⊎ Rests before after slots old.is_honest new came
+      → old.slots ≡ Some slots → ReadsSlot 0 old new zero → came ≡ result_of_start zero
+      → (bytes_of variant meaning before after zero ≡ slot_front slots 0) ⊎ Rests before after slots old.is_honest new came
   zero_shown (Ok bytes) old new came same told r e = inl (r.gives slots told)
   zero_shown (Err why) old new came same told r e =
       inr (record { same = same; told = r.slots ∙ told; is_honest = r.honest; why = why; is = e })
 
-  offer_shown : (offer : Result (List ℕ) StoreFault) (first old new : StoreStanding) (p : Pending) (came : Result Resumed HostFault)
-      → AfterOffer variant meaning before after offer old new p came → first.slots ≡ Some slots → ReadsSlot (offer_slot p) first old offer
-      → (bytes_of variant meaning before after offer ≡ slot_read slots (offer_slot p)) ⊎ Rests before after slots first.is_honest new came
+  offer_shown : (offer : Result (List ℕ) StoreFault) (first old new : StoreStanding) (p : PendingRecord) (came : Result Resumed HostFault)
+      → GoesAfterOffer variant meaning before after offer old new p came → first.slots ≡ Some slots → ReadsSlot (offer_slot p) first old offer
+      → (bytes_of variant meaning before after offer ≡ slot_front slots (offer_slot p)) ⊎ Rests before after slots first.is_honest new came
   offer_shown (Ok bytes) first old new p came g told r = inl (r.gives slots told)
   offer_shown (Err why) first old new p came g told r =
       rw g.1 (inr (record { same = g.0; told = r.slots ∙ told; is_honest = r.honest; why = why; is = g.2 }))
 
-  opens_found : (found : Option Pending) (middle new : StoreStanding) (came : Result Resumed HostFault)
-      (g : AfterFinding variant meaning before after (Ok found) middle new came) → middle.slots ≡ Some slots
+  opens_found : (found : Option PendingRecord) (middle new : StoreStanding) (came : Result Resumed HostFault)
+      (g : GoesAfterFinding variant meaning before after (Ok found) middle new came) → middle.slots ≡ Some slots
       → Opens variant meaning before after slots middle.is_honest found (Ok found) middle new came g
   opens_found None middle new came g told = elim (zero_shown g.1.zero middle new came g.0 told g.1.reads g.1.gives) [
     | inl is ↦ offers is refl
@@ -160,46 +160,46 @@ module _ (variant : Variant) (meaning : Meaning) (before after : Standing) (slot
     | inr rest ↦ unasked rest
   ]
 
-  opens_by : (waiting : Option Pending) (found : Result (Option Pending) StoreFault) (first middle new : StoreStanding)
-      (came : Result Resumed HostFault) (g : AfterFinding variant meaning before after found middle new came)
-      → IsWaiting (slot_read slots 2) (slot_read slots 3) waiting → Saw slots first middle found
+  opens_by : (waiting : Option PendingRecord) (found : Result (Option PendingRecord) StoreFault) (first middle new : StoreStanding)
+      (came : Result Resumed HostFault) (g : GoesAfterFinding variant meaning before after found middle new came)
+      → IsWaiting (slot_front slots 2) (slot_front slots 3) waiting → Saw slots first middle found
       → Opens variant meaning before after slots middle.is_honest waiting found middle new came g
   opens_by waiting (Err why) first middle new came g w s =
       unasked (rw g.1 (record { same = g.0; told = s.told; is_honest = refl; why = why; is = g.2 }))
   opens_by waiting (Ok found) first middle new came g w s =
-      subst (λ (v : Option Pending). Opens variant meaning before after slots middle.is_honest v (Ok found) middle new came g)
-      (one_waiting (slot_read slots 2) (slot_read slots 3) found waiting (s.waiting found refl) w)
+      subst (λ (v : Option PendingRecord). Opens variant meaning before after slots middle.is_honest v (Ok found) middle new came g)
+      (one_waiting (slot_front slots 2) (slot_front slots 3) found waiting (s.waiting found refl) w)
       (opens_found found middle new came g s.told)
 
 -- Where a call was made, it is the first or the last one.
 module _ (variant : Variant) (meaning : Meaning) (before after : Standing) where
-  offer_made : (offer : Result (List ℕ) StoreFault) (old new : StoreStanding) (p : Pending) (came : Result Resumed HostFault)
-      (g : AfterOffer variant meaning before after offer old new p came) → MadeOf offer
+  offer_made : (offer : Result (List ℕ) StoreFault) (old new : StoreStanding) (p : PendingRecord) (came : Result Resumed HostFault)
+      (g : GoesAfterOffer variant meaning before after offer old new p came) → MadeOf offer
       → requests_in (offered_calls variant meaning before after offer old new p came g) ≡ p.request ∷ []
   offer_made (Ok bytes) old new p came g m = refl
   offer_made (Err why) old new p came g m = absurd m
 
-  first_made : (found : Result (Option Pending) StoreFault) (middle new : StoreStanding) (came : Result Resumed HostFault)
-      (g : AfterFinding variant meaning before after found middle new came) → IsMade variant meaning before after found middle new came g
-      → (p : Pending) → found_waiting found ≡ Some p
+  first_made : (found : Result (Option PendingRecord) StoreFault) (middle new : StoreStanding) (came : Result Resumed HostFault)
+      (g : GoesAfterFinding variant meaning before after found middle new came) → IsMade variant meaning before after found middle new came g
+      → (p : PendingRecord) → found_pending found ≡ Some p
       → requests_in (first_calls variant meaning before after found middle new came g) ≡ p.request ∷ []
   first_made (Ok (Some q)) middle new came g m p e =
       let same : q ≡ p = cc in
-      subst (λ (x : Pending). requests_in (offered_calls variant meaning before after g.offer g.middle new q came g.goes) ≡ x.request ∷ [])
+      subst (λ (x : PendingRecord). requests_in (offered_calls variant meaning before after g.offer g.middle new q came g.goes) ≡ x.request ∷ [])
       same (offer_made g.offer g.middle new q came g.goes m)
   first_made (Ok None) middle new came g m p e = absurd m
   first_made (Err why) middle new came g m p e = absurd m
 
   record_made : (recorded : Result Unit StoreFault) (old new : StoreStanding) (last : Resumed) (line : List ℕ)
       (came : Result Resumed HostFault)
-      (g : AfterRecord variant meaning before after recorded old new last line came) → IsWritten recorded
+      (g : GoesAfterRecord variant meaning before after recorded old new last line came) → IsWritten recorded
       → requests_in (recorded_calls variant meaning before after recorded old new last line came g) ≡ line ∷ []
   record_made (Ok it) old new last line came g m = refl
   record_made (Err why) old new last line came g m = absurd m
 
-module _ (variant : Variant) (meaning : Meaning) (number : ℕ) (at : Place) (after : Standing) (new : StoreStanding)
+module _ (variant : Variant) (meaning : Meaning) (number : ℕ) (at : SessionPlace) (after : Standing) (new : StoreStanding)
     (left : Option (List ℕ)) (more sent : List ℕ) where
-  line_made : (result : Result Unit SessionFault) (e : ServedOn variant meaning number at after new left more [] sent (ended_as result))
+  line_made : (result : Result Unit SessionFault) (e : TurnGoes variant meaning number at after new left more [] sent (turn_answer_of result))
       → IsLineAsked variant meaning number at after new left more sent
       (requests_in (last_calls variant meaning number at after new left more sent result e)) result e
   line_made (Err (Host fault)) e =
@@ -210,12 +210,12 @@ module _ (variant : Variant) (meaning : Meaning) (number : ℕ) (at : Place) (af
 
 module _ {variant : Variant} {meaning : Meaning} {before after : Standing} {old new : StoreStanding}
     {left left' received received' : Option (List ℕ)} {result : Result Unit SessionFault}
-    (s : Sessions variant meaning before after old new left left' received received' result) (waiting : Option Pending) where
+    (s : IsSession variant meaning before after old new left left' received received' result) (waiting : Option PendingRecord) where
   abbrev Goes : Type 0
-  Goes = AfterResume variant meaning s.begun s.platform after s.store new left' s.taken s.sent result
+  Goes = GoesAfterResume variant meaning s.begun s.platform after s.store new left' s.taken s.sent result
 
-  all_made : (goes : Goes) → found_waiting s.resumes.waiting ≡ waiting
-      → AreMade s waiting (lines_served (told_in waiting goes) ++ requests_in (untold_calls s goes)) goes
+  all_made : (goes : Goes) → found_pending s.resumes.waiting ≡ waiting
+      → AreMade s waiting (served_lines (served_calls_in waiting goes) ++ requests_in (untold_calls s goes)) goes
   all_made (inl e) is = λ m p k. (
     [],
     first_made variant meaning before s.platform s.resumes.waiting s.resumes.middle s.store s.begun s.resumes.goes m p (is ∙ k),
@@ -228,15 +228,15 @@ module _ {variant : Variant} {meaning : Meaning} {before after : Standing} {old 
 
 module _ {all others : List (List ℕ)} {asked : List Batch} {i : Instance} {final : Standing} (laws : Laws all others asked i final)
     {before : Standing} {old new : StoreStanding} {left left' received received' : Option (List ℕ)} {result : Result Unit SessionFault}
-    (s : Sessions i.variant i.meaning before final old new left left' received received' result) (y : History) (slots : Slots)
+    (s : IsSession i.variant i.meaning before final old new left left' received received' result) (y : History) (slots : Slots)
     (told : old.slots ≡ Some slots) (honest : old.is_honest ≡ true) (stands : StandsFor i before y)
     (within : IsWithin all others asked i y) (fits : FitsHistory i slots y)
     (seen : Shows i.variant all others i y before final ⊎ AreStill laws y before (session_calls s)) where
-  abbrev OnBy : AfterResume i.variant i.meaning s.begun s.platform final s.store new left' s.taken s.sent result → Type 0
+  abbrev OnBy : GoesAfterResume i.variant i.meaning s.begun s.platform final s.store new left' s.taken s.sent result → Type 0
   OnBy goes =
-      (c : ContinuesTo all others asked i y fits.waiting final new (told_in fits.waiting goes) (IsInHand fits.waiting goes) result)
-      × SessionSteps i.meaning (requests_of y.batches) (told_in (found_waiting s.resumes.waiting) goes)
-      (IsInHand (found_waiting s.resumes.waiting) goes) result (requests_of c.runs.after.batches)
+      (c : ContinuesTo all others asked i y fits.waiting final new (served_calls_in fits.waiting goes) (IsInHand fits.waiting goes) result)
+      × SessionSteps i.meaning (requests_of y.batches) (served_calls_in (found_pending s.resumes.waiting) goes)
+      (IsInHand (found_pending s.resumes.waiting) goes) result (requests_of c.runs.after.batches)
 
   here : StandsIn all others asked i y y before (first_offer slots fits.waiting)
   here = record {
@@ -248,30 +248,30 @@ module _ {all others : List (List ℕ)} {asked : List Batch} {i : Instance} {fin
 
   -- what was asked goes on
   on_offers : AreListed all asked i (session_calls s) → first_bytes s ≡ first_offer slots fits.waiting
-      → found_waiting s.resumes.waiting ≡ fits.waiting → OnBy s.goes
+      → found_pending s.resumes.waiting ≡ fits.waiting → OnBy s.goes
   on_offers listed is found =
-      let untold : List Call = untold_calls s s.goes in
-      let k = subst (λ (bytes : List ℕ). Chain i.variant i.meaning bytes before final (told_in fits.waiting s.goes) (InHandOf s) untold result)
-      is (subst (λ (w : Option Pending). Chain i.variant i.meaning (first_bytes s) before final (told_in w s.goes) (InHandOf s) untold
+      let untold : List LifeCall = untold_calls s s.goes in
+      let k = subst (λ (bytes : List ℕ). Chain i.variant i.meaning bytes before final (served_calls_in fits.waiting s.goes) (IsInHandOf s) untold result)
+      is (subst (λ (w : Option PendingRecord). Chain i.variant i.meaning (first_bytes s) before final (served_calls_in w s.goes) (IsInHandOf s) untold
       result) found (session_chain s)) in
-      let l = subst (λ (bytes : List ℕ). AreListed all asked i (told_calls bytes (told_in fits.waiting s.goes) ++ untold)) is
-      (subst (λ (w : Option Pending). AreListed all asked i (told_calls (first_bytes s) (told_in w s.goes) ++ untold)) found listed) in
-      let requests : List (List ℕ) = lines_served (told_in fits.waiting s.goes) ++ requests_in untold in
+      let l = subst (λ (bytes : List ℕ). AreListed all asked i (told_calls bytes (served_calls_in fits.waiting s.goes) ++ untold)) is
+      (subst (λ (w : Option PendingRecord). AreListed all asked i (told_calls (first_bytes s) (served_calls_in w s.goes) ++ untold)) found listed) in
+      let requests : List (List ℕ) = served_lines (served_calls_in fits.waiting s.goes) ++ requests_in untold in
       let follow : AreAskedStill laws y before (first_offer slots fits.waiting) requests = elim seen [
         | inl shows ↦ (
-          asked_in_turn laws (told_in fits.waiting s.goes) y y before k.at (first_offer slots fits.waiting) (InHandOf s) untold result
+          asked_in_turn laws (served_calls_in fits.waiting s.goes) y y before k.at (first_offer slots fits.waiting) (IsInHandOf s) untold result
               k.calls k.ends here shows l,
           inl shows,
         )
         | inr still ↦
-            asked_still laws y before (first_offer slots fits.waiting) (told_in fits.waiting s.goes) (InHandOf s) untold result k here l
-            (subst (λ (bytes : List ℕ). AreStill laws y before (told_calls bytes (told_in fits.waiting s.goes) ++ untold)) is
-            (subst (λ (w : Option Pending). AreStill laws y before (told_calls (first_bytes s) (told_in w s.goes) ++ untold)) found still))
+            asked_still laws y before (first_offer slots fits.waiting) (served_calls_in fits.waiting s.goes) (IsInHandOf s) untold result k here l
+            (subst (λ (bytes : List ℕ). AreStill laws y before (told_calls bytes (served_calls_in fits.waiting s.goes) ++ untold)) is
+            (subst (λ (w : Option PendingRecord). AreStill laws y before (told_calls (first_bytes s) (served_calls_in w s.goes) ++ untold)) found still))
       ] in
       let c = continues_by laws s y y slots fits.waiting told honest fits.is_waiting fits.fits requests here follow.1 follow.0
       (all_made s fits.waiting s.goes found) (λ p. p) in (
         c,
-        subst (λ (w : Option Pending). SessionSteps i.meaning (requests_of y.batches) (told_in w s.goes) (IsInHand w s.goes) result
+        subst (λ (w : Option PendingRecord). SessionSteps i.meaning (requests_of y.batches) (served_calls_in w s.goes) (IsInHand w s.goes) result
             (requests_of c.runs.after.batches)) (sym found)
             (record { between = c.runs.requests; run = c.runs.run; committed = c.runs.committed }),
       )
@@ -281,11 +281,11 @@ module _ {all others : List (List ℕ)} {asked : List Batch} {i : Instance} {fin
   stored_refuses fault.Memory = tt
   stored_refuses fault.Failed = tt
 
-  none_told : (w : Option Pending) → FitsBy i slots y w → AreToldOnce (total_of y.batches) w []
+  none_told : (w : Option PendingRecord) → FitsBy i slots y w → AreToldOnce (total_of y.batches) w []
   none_told None f = tt
   none_told (Some p) f = tt
 
-  on_rests : (goes : AfterResume i.variant i.meaning s.begun s.platform final s.store new left' s.taken s.sent result) → (kept : Bool)
+  on_rests : (goes : GoesAfterResume i.variant i.meaning s.begun s.platform final s.store new left' s.taken s.sent result) → (kept : Bool)
       → kept ≡ true → Rests before s.platform slots kept s.store s.begun → OnBy goes
   on_rests (inr g) kept e r =
       let clash : Ok g.first ≡ Err (store_fault_as r.why) = sym g.begins ∙ r.is in absurd (cc)

@@ -9,16 +9,16 @@ use Rattle.mm_platform.specs.Standing.{Standing}
 use Rattle.mm_platform.specs.declared.fault.StepFault.{StepFault}
 use Rattle.mm_module.specs.Batch.{Batch, One}
 use Rattle.mm_module.specs.Meaning.{Meaning}
-use Rattle.mm_model.specs.History.{Entry, Foreign, History, Move}
+use Rattle.mm_model.specs.History.{RegisterEntry, Foreign, History, Move}
 use Rattle.mm_model.specs.Instance.{Instance}
-use Rattle.mm_model.specs.InstanceWords.{opt}
-use Rattle.mm_model.specs.Judge.{is_last, judged}
+use Rattle.mm_model.specs.InstanceWords.{opt_instance}
+use Rattle.mm_model.specs.Verdicts.{is_last, verdict_by_tests}
 use Rattle.mm_model.specs.Life.{Life, is_lost, life_of}
 use Rattle.mm_recovery.specs.CellWrites.{TellsFlag}
 use Rattle.mm_seal.specs.Cell.{cell_spelling, flag_byte}
 use Rattle.mm_seal.specs.declared.cell.Cell.{Cell}
 use Rattle.mm_seal.specs.Parts.{parts_of}
-use Rattle.mm_life.specs.Idle.{flag_in, has_open}
+use Rattle.mm_life.specs.IdleParts.{flag_in, has_open}
 use Rattle.mm_model.specs.Moves.{Digests, digests_of}
 use Rattle.mm_model.specs.Standing.{StandsFor}
 use Rattle.mm_model.specs.Steps.{ask_steps}
@@ -26,13 +26,13 @@ use Rattle.mm_model.specs.declared.answer.BatchAnswer.{BatchAnswer}
 use Rattle.mm_model.specs.declared.refusal.Refusal.{Refusal}
 use Rattle.mm_model.specs.declared.refusal.Refusal.TheVariants.{Device, Memory}
 use Rattle.mm_model.specs.declared.refusal.Refusal.TheVariants as refusal
-use Rattle.mm_call.specs.Asked.{IsAsked, counted_moves, from_reset}
-use Rattle.mm_call.specs.Called.{called, ended_by, given_for, seen_at}
-use Rattle.mm_call.specs.CallsOn.{CallsOn}
+use Rattle.mm_call.specs.CallPremises.{IsAsked, counted_moves, moves_from_reset}
+use Rattle.mm_call.specs.CallOutcome.{call_outcome, call_ending_by, result_of_ending, state_seen}
+use Rattle.mm_call.specs.CallOnCourse.{IsCallOnCourse}
 use Rattle.mm_call.specs.Courses.{walk}
-use Rattle.mm_call.specs.Found.{Found, found_at, found_by_verdict}
-use Rattle.mm_call.specs.FoundWords.{found_unless_wanting, is_fresh}
-use Rattle.mm_call.specs.Levels.{Level, by_digests, by_lists}
+use Rattle.mm_call.specs.CallFinding.{CallFinding, finding_at, finding_by_verdict}
+use Rattle.mm_call.specs.CallFindingWords.{finding_unless_wanting, is_fresh}
+use Rattle.mm_call.specs.Levels.{Level, digest_level, list_level}
 use Rattle.mm_call.specs.Premises.{AreAsked, IsIdle}
 use Rattle.mm_call.specs.Refusals.{fault_of}
 use Rattle.mm_call.specs.ShowingLaws.{asked_by}
@@ -51,9 +51,9 @@ abbrev SaysAgain : {S : Type 0} → Level S → Type 0
 SaysAgain {S} level =
     (again : Bool) (seen end : S) (offered : Content) (b : Batch) → (level.answer again seen end offered b).again ≡ again
 
-old_found : {S : Type 0} (level : Level S) → SaysAgain level → (seen end : S) (b : Batch) (at : Result Found Refusal) (lacks : Bool)
+old_found : {S : Type 0} (level : Level S) → SaysAgain level → (seen end : S) (b : Batch) (at : Result CallFinding Refusal) (lacks : Bool)
     (moves : List Move) (broken : Option StepFault) (gives : Result BatchAnswer Refusal)
-    → gives ≡ given_for (ended_by level seen end b (found_unless_wanting at lacks) moves broken) → IsNotNew gives → is_fresh at ≡ false
+    → gives ≡ result_of_ending (call_ending_by level seen end b (finding_unless_wanting at lacks) moves broken) → IsNotNew gives → is_fresh at ≡ false
 old_found level says seen end b at lacks moves (Some fault) gives e n =
     let failed : (Some fault ≡ None) × (Device fault ≢ Memory) = subst IsNotNew e n in absurd (cc (failed.0))
 old_found level says seen end b (Err why) lacks moves None gives e n = refl
@@ -64,43 +64,43 @@ old_found level says seen end b (Ok f) false moves None gives e n =
 old_found level says seen end b (Ok f) true moves None gives e n =
     let wanting : (fault_of Memory ≡ None) × (Memory ≢ Memory) = subst IsNotNew e n in absurd (wanting.1 refl)
 
-still_old : (at : Result Found Refusal) (lacks : Bool) → is_fresh at ≡ false → is_fresh (found_unless_wanting at lacks) ≡ false
+still_old : (at : Result CallFinding Refusal) (lacks : Bool) → is_fresh at ≡ false → is_fresh (finding_unless_wanting at lacks) ≡ false
 still_old (Err why) lacks f = refl
 still_old (Ok found) false f = f
 still_old (Ok found) true f = refl
 
-none_reset : (values : List (List ℕ)) → from_reset (map Foreign values) ≡ []
+none_reset : (values : List (List ℕ)) → moves_from_reset (map Foreign values) ≡ []
 none_reset [] = refl
 none_reset (v ∷ values) = none_reset values
 
 module _ (meaning : Meaning) (key barrier : List ℕ) where
   abbrev I : Instance
-  I = opt meaning key barrier
+  I = opt_instance meaning key barrier
 
   -- what is found by lists at this life
-  abbrev found_alive : History → Life → Batch → List ℕ → Result Found Refusal
+  abbrev found_alive : History → Life → Batch → List ℕ → Result CallFinding Refusal
   found_alive y life b offer =
-      let level : Level History = record (by_lists I) {
-        verdict = λ z offered c. judged life (nat_eq offered.position (total_of y.batches))
+      let level : Level History = record (list_level I) {
+        verdict = λ z offered c. verdict_by_tests life (nat_eq offered.position (total_of y.batches))
             (nat_eq (offered.position + size_of c) (total_of y.batches) && is_last y.batches c);
       } in
-      if is_lost life then Err refusal.Lost else found_by_verdict I level y b (parts_of Opt meaning.id offer)
+      if is_lost life then Err refusal.Lost else finding_by_verdict I level y b (parts_of Opt meaning.id offer)
 
   -- others' values change nothing of what is found, where no segment is open
-  found_seen : (y : History) (items : List Entry) (b : Batch) (offer : List ℕ) → y.is_open ≡ false
-      → found_at I (by_lists I) (record y { items = items }) b offer ≡ found_at I (by_lists I) y b offer
+  found_seen : (y : History) (items : List RegisterEntry) (b : Batch) (offer : List ℕ) → y.is_open ≡ false
+      → finding_at I (list_level I) (record y { items = items }) b offer ≡ finding_at I (list_level I) y b offer
   found_seen y items b offer shut =
       let lives : life_of Opt (record y { items = items }) ≡ life_of Opt y = life_bare y items shut ∙ sym (life_bare y y.items shut) in
       ap (λ (life : Life). found_alive y life b offer) lives
 
-  lists_say : SaysAgain (by_lists I)
+  lists_say : SaysAgain (list_level I)
   lists_say again seen end offered b = refl
 
-  digests_say : SaysAgain (by_digests I)
+  digests_say : SaysAgain (digest_level I)
   digests_say again seen end offered b = refl
 
   module _ (all others : List (List ℕ)) (asked : List Batch) (y : History) (old new : Standing) (offer request : List ℕ)
-      (gives : Result BatchAnswer Refusal) (c : CallsOn Opt meaning old new offer (One request) gives) (s : StandsFor I old y)
+      (gives : Result BatchAnswer Refusal) (c : IsCallOnCourse Opt meaning old new offer (One request) gives) (s : StandsFor I old y)
       (a : AreAsked all others asked I y offer (One request)) (shut : y.is_open ≡ false) (n : IsNotNew gives) where
     abbrev b : Batch
     b = One request
@@ -109,23 +109,23 @@ module _ (meaning : Meaning) (key barrier : List ℕ) where
     d = digests_of I y
 
     abbrev moves : List Move
-    moves = (called I (by_digests I) d c.course offer b).moves
+    moves = (call_outcome I (digest_level I) d c.course offer b).moves
 
     only_read : Brought moves
     only_read =
         let g = c.goes key barrier d (stands_at I old y s) in
-        let seen : Digests = seen_at I (by_digests I) d c.course in
-        let at : Result Found Refusal = found_at I (by_digests I) seen b offer in
-        let o = called I (by_digests I) d c.course offer b in
+        let seen : Digests = state_seen I (digest_level I) d c.course in
+        let at : Result CallFinding Refusal = finding_at I (digest_level I) seen b offer in
+        let o = call_outcome I (digest_level I) d c.course offer b in
         let old_one = still_old at c.course.lacks
-        (old_found (by_digests I) digests_say seen o.state b at c.course.lacks o.moves _ gives g.gives n) in
+        (old_found (digest_level I) digests_say seen o.state b at c.course.lacks o.moves _ gives g.gives n) in
         subst (λ (x : Bool). Brought (walk c.course.fates 1 (ask_steps Opt d.flag x b)).moves) (sym old_one)
         (subst (λ (x : Bool). Brought (walk c.course.fates 1 (ask_steps Opt x false b)).moves) (sym shut)
         (reads_only (c.course.fates 1).brings (c.course.fates 2).brings (c.course.fates 1).ends (c.course.fates 2).ends))
 
     none_counts : counted_moves y.is_open moves ≡ []
     none_counts =
-        ap (λ (f : Bool). counted_moves f moves) shut ∙ ap from_reset only_read.are ∙ none_reset only_read.values
+        ap (λ (f : Bool). counted_moves f moves) shut ∙ ap moves_from_reset only_read.are ∙ none_reset only_read.values
 
     is_asked : IsAsked all others asked I y moves offer b
     is_asked = asked_by I all others asked y moves offer b a (rw none_counts tt) (rw none_counts tt)
@@ -133,13 +133,13 @@ module _ (meaning : Meaning) (key barrier : List ℕ) where
     pub is_idle_where : IsIdle I y offer b
     is_idle_where =
         let k = c.continues key barrier y all others asked s is_asked in
-        let seen : History = seen_at I (by_lists I) y c.course in
-        let at : Result Found Refusal = found_at I (by_lists I) seen b offer in
-        let o = called I (by_lists I) y c.course offer b in
-        let old_one = old_found (by_lists I) lists_say seen o.state b at c.course.lacks o.moves _ gives k.gives n in
+        let seen : History = state_seen I (list_level I) y c.course in
+        let at : Result CallFinding Refusal = finding_at I (list_level I) seen b offer in
+        let o = call_outcome I (list_level I) y c.course offer b in
+        let old_one = old_found (list_level I) lists_say seen o.state b at c.course.lacks o.moves _ gives k.gives n in
         record {
           shut = shut;
-          not_new = ap is_fresh (sym (ap (λ (z : History). found_at I (by_lists I) z b offer) (sight_is I y c.course)
+          not_new = ap is_fresh (sym (ap (λ (z : History). finding_at I (list_level I) z b offer) (sight_is I y c.course)
               ∙ found_seen y _ b offer shut)) ∙ old_one;
         }
 

@@ -9,20 +9,20 @@ use Rattle.mm_model.specs.History.{History, requests_of}
 use Rattle.mm_model.specs.Instance.{Instance}
 use Rattle.mm_model.specs.ListLaws.{each_append, each_left, each_right}
 use Rattle.mm_model.specs.Standing.{IsGenuine, StandsFor}
-use Rattle.mm_call.specs.Asked.{IsWithin, right_messages}
-use Rattle.mm_call.specs.Found.{right_content}
-use Rattle.mm_call.specs.Leaving.{whole_in}
+use Rattle.mm_call.specs.CallPremises.{IsWithin, right_messages}
+use Rattle.mm_call.specs.CallFinding.{right_content}
+use Rattle.mm_call.specs.Untouched.{batch_result_of}
 use Rattle.mm_call.specs.Premises.{IsIdle}
-use Rattle.mm_recovery.specs.Asking.{IsCall}
+use Rattle.mm_recovery.specs.HostCall.{IsCall}
 use Rattle.mm_call.proofs.Above.{each_at}
 use Rattle.mm_recovery.proofs.Above.{Met}
 use Rattle.mm_host.proofs.Above.{Laws, Makes, Reaches, Shows, pending_for}
-use Rattle.mm_life.specs.Deeds.{Call, Calls, Checkpoints, Deed, DeedLeads, Extends, LosesPower}
-use Rattle.mm_life.specs.OneList.{FollowsOn, IsLastJudged, PartSteps}
-use Rattle.mm_life.specs.Premises.{AreUntagged, IsFirstUntagged, issued_in, requests_asked, snapshots_of}
-use Rattle.mm_life.specs.SessionCalls.{InHandOf, first_bytes, session_calls, told_by, untold_calls}
-use Rattle.mm_life.specs.Staying.{IsNoCall, Stays}
-use Rattle.mm_life.specs.Stages.{Does, Holds, IsLife, Part, PartLeads, Program, Stage, end_of, latest_calls, life_calls, part_calls}
+use Rattle.mm_life.specs.Deeds.{LifeCall, Calls, Checkpoints, Deed, DeedLeads, Extends, LosesPower}
+use Rattle.mm_life.specs.OneList.{LifeFollows, IsLastJudged, PartSteps}
+use Rattle.mm_life.specs.Premises.{AreUntagged, IsFirstUntagged, issued_snapshot_in, call_batches, snapshots_of}
+use Rattle.mm_life.specs.SessionCalls.{IsInHandOf, first_bytes, session_calls, served_calls_of, untold_calls}
+use Rattle.mm_life.specs.DeedHistory.{IsNoCall, HistoryStays}
+use Rattle.mm_life.specs.Stages.{Does, Holds, IsLife, LifePart, PartLeads, Program, LifeStage, end_of, latest_calls, life_calls, part_calls}
 use Rattle.mm_life.proofs.Chains.{session_chain}
 use Rattle.mm_life.proofs.OneCall.{AreListed, all_genuine, issues_genuine, makes_call, met_judged, met_steps}
 use Rattle.mm_life.proofs.Sessions.{CallsLead, IsFirstGenuine, Leads, Lived, chain_idles, chain_lives}
@@ -31,79 +31,79 @@ use Rattle.mm_life.proofs.Sessions.{CallsLead, IsFirstGenuine, Leads, Lived, cha
 -- behind it; and so what the register shows there; and what other deeds leave. Of a part that is still nothing is asked: at most one
 -- call is made in it, which minds no register.
 pub record LifeLaws (all others : List (List ℕ)) (asked : List Batch) (i : Instance)
-    (IsSeen : Standing → Part → Standing → Type 0) (IsStill : Standing → List Call → Type 0) : Type 0 where
+    (IsSeen : Standing → LifePart → Standing → Type 0) (IsStill : Standing → List LifeCall → Type 0) : Type 0 where
   pub laws : (final : Standing) → Laws all others asked i final
   pub leads : CallsLead i
-  pub shows : (y : History) (old : Standing) (part : Part) (final : Standing) → IsSeen old part final → StandsFor i old y
+  pub shows : (y : History) (old : Standing) (part : LifePart) (final : Standing) → IsSeen old part final → StandsFor i old y
       → Reaches i.variant i old final → Leads i old final → Shows i.variant all others i y old final
   pub stays : (y : History) (old : Standing) (deed : Deed) (new : Standing) → IsNoCall deed → IsSeen old (Does deed) new
-      → DeedLeads i.variant i.meaning old deed new → StandsFor i old y → IsWithin all others asked i y → Stays all others asked i y new
-  pub few : (old : Standing) (calls : List Call) → IsStill old calls → (calls ≡ []) ⊎ ((c : Call) × (calls ≡ c ∷ []))
-  pub idles : (y : History) (old new : Standing) (c : Call) → IsStill old (c ∷ [])
-      → Makes all others asked i y old new c.offer (pending_for c.request) (whole_in c.gives) → IsIdle i y c.offer (One c.request)
+      → DeedLeads i.variant i.meaning old deed new → StandsFor i old y → IsWithin all others asked i y → HistoryStays all others asked i y new
+  pub few : (old : Standing) (calls : List LifeCall) → IsStill old calls → (calls ≡ []) ⊎ ((c : LifeCall) × (calls ≡ c ∷ []))
+  pub idles : (y : History) (old new : Standing) (c : LifeCall) → IsStill old (c ∷ [])
+      → Makes all others asked i y old new c.offer (pending_for c.request) (batch_result_of c.gives) → IsIdle i y c.offer (One c.request)
   pub stays_still : (y : History) (old : Standing) (deed : Deed) (new : Standing) → IsNoCall deed → IsStill old []
-      → DeedLeads i.variant i.meaning old deed new → StandsFor i old y → IsWithin all others asked i y → Stays all others asked i y new
+      → DeedLeads i.variant i.meaning old deed new → StandsFor i old y → IsWithin all others asked i y → HistoryStays all others asked i y new
 
 -- nobody else made a tag, so what is offered first is genuine
-first_genuine : (i : Instance) (y : History) (issued : List (List ℕ)) (calls : List Call) → AllByRecursion (IsGenuine i y) issued
+first_genuine : (i : Instance) (y : History) (issued : List (List ℕ)) (calls : List LifeCall) → AllByRecursion (IsGenuine i y) issued
     → IsFirstUntagged i issued calls → IsFirstGenuine i y calls
 first_genuine i y issued [] g u = tt
 first_genuine i y issued (c ∷ calls) g u = λ content right. each_at (IsGenuine i y) issued c.offer g (u content right) content right
 
-pub listed_left : (all : List (List ℕ)) (asked : List Batch) (i : Instance) (calls more : List Call) → AreListed all asked i (calls ++ more)
+pub listed_left : (all : List (List ℕ)) (asked : List Batch) (i : Instance) (calls more : List LifeCall) → AreListed all asked i (calls ++ more)
     → AreListed all asked i calls
 listed_left all asked i calls more a = record {
-  messages = each_left (Contains all) _ _ (rw (flat_map-append (λ (c : Call). right_messages i (One c.request) (right_content i c.offer))
+  messages = each_left (Contains all) _ _ (rw (flat_map-append (λ (c : LifeCall). right_messages i (One c.request) (right_content i c.offer))
       calls more) at a.messages);
-  batches = each_left (Contains asked) _ _ (rw (map-append (λ (c : Call). One c.request) calls more) at a.batches);
+  batches = each_left (Contains asked) _ _ (rw (map-append (λ (c : LifeCall). One c.request) calls more) at a.batches);
 }
 
-pub listed_right : (all : List (List ℕ)) (asked : List Batch) (i : Instance) (calls more : List Call) → AreListed all asked i (calls ++ more)
+pub listed_right : (all : List (List ℕ)) (asked : List Batch) (i : Instance) (calls more : List LifeCall) → AreListed all asked i (calls ++ more)
     → AreListed all asked i more
 listed_right all asked i calls more a = record {
   messages = each_right (Contains all)
-      (flat_map (λ (c : Call). right_messages i (One c.request) (right_content i c.offer)) calls) _
-      (rw (flat_map-append (λ (c : Call). right_messages i (One c.request) (right_content i c.offer)) calls more) at a.messages);
-  batches = each_right (Contains asked) (requests_asked calls) _
-      (rw (map-append (λ (c : Call). One c.request) calls more) at a.batches);
+      (flat_map (λ (c : LifeCall). right_messages i (One c.request) (right_content i c.offer)) calls) _
+      (rw (flat_map-append (λ (c : LifeCall). right_messages i (One c.request) (right_content i c.offer)) calls more) at a.messages);
+  batches = each_right (Contains asked) (call_batches calls) _
+      (rw (map-append (λ (c : LifeCall). One c.request) calls more) at a.batches);
 }
 
-module _ {all others : List (List ℕ)} {asked : List Batch} {i : Instance} {IsSeen : Standing → Part → Standing → Type 0}
-    {IsStill : Standing → List Call → Type 0} (life : LifeLaws all others asked i IsSeen IsStill) where
+module _ {all others : List (List ℕ)} {asked : List Batch} {i : Instance} {IsSeen : Standing → LifePart → Standing → Type 0}
+    {IsStill : Standing → List LifeCall → Type 0} (life : LifeLaws all others asked i IsSeen IsStill) where
   -- one part of a life
-  abbrev PartLived : History → (old : Standing) (part : Part) (new : Standing) → PartLeads i.variant i.meaning old part new → Type 0
+  abbrev PartLived : History → (old : Standing) (part : LifePart) (new : Standing) → PartLeads i.variant i.meaning old part new → Type 0
   PartLived y old part new f =
       Lived (life.laws new) y new (part_calls i.variant i.meaning old part new f)
       (λ after. PartSteps i.variant i.meaning old part new f (requests_of y.batches) after)
 
-  call_lives : (y : History) (old new : Standing) (c : Call) (f : IsCall i.variant i.meaning old new c.offer c.request c.gives)
+  call_lives : (y : History) (old new : Standing) (c : LifeCall) (f : IsCall i.variant i.meaning old new c.offer c.request c.gives)
       → StandsFor i old y → IsWithin all others asked i y → IsSeen old (Does (Calls c)) new ⊎ IsStill old (c ∷ [])
       → IsFirstGenuine i y (c ∷ [])
       → AreListed all asked i (c ∷ []) → PartLived y old (Does (Calls c)) new f
   call_lives y old new c f stands within seen first listed =
       let laws = life.laws new in
-      let makes = makes_call laws old new c.offer c.request y (whole_in c.gives) f.goes stands within first listed.batches.0
+      let makes = makes_call laws old new c.offer c.request y (batch_result_of c.gives) f.goes stands within first listed.batches.0
       (each_left (Contains all) (right_messages i (One c.request) (right_content i c.offer)) [] listed.messages) in
-      let m : Met all others asked i y new c.offer (pending_for c.request) (whole_in c.gives) = elim seen [
+      let m : Met all others asked i y new c.offer (pending_for c.request) (batch_result_of c.gives) = elim seen [
         | inl shown ↦
-            laws.met_last y old c.offer (pending_for c.request) (whole_in c.gives) makes
-            (life.shows y old (Does (Calls c)) new shown stands (laws.reach old new c.offer c.request (whole_in c.gives) f.goes)
-            (life.leads old new c.offer c.request (whole_in c.gives) f.goes))
+            laws.met_last y old c.offer (pending_for c.request) (batch_result_of c.gives) makes
+            (life.shows y old (Does (Calls c)) new shown stands (laws.reach old new c.offer c.request (batch_result_of c.gives) f.goes)
+            (life.leads old new c.offer c.request (batch_result_of c.gives) f.goes))
         | inr still ↦
-            laws.idle y old new c.offer (pending_for c.request) (whole_in c.gives) makes (life.idles y old new c still makes)
+            laws.idle y old new c.offer (pending_for c.request) (batch_result_of c.gives) makes (life.idles y old new c still makes)
       ] in
       record {
         after = m.after;
         stands = m.stands;
         within = m.within;
         names = m.names;
-        issued = each_append (IsGenuine i m.after) (issued_in c.gives) []
+        issued = each_append (IsGenuine i m.after) (issued_snapshot_in c.gives) []
             (issues_genuine laws old new c.offer c.request c.gives y f m) tt;
         steps = met_steps y new c.offer c.request c.gives m;
         judged = met_judged y new c.offer c.request c.gives m;
       }
 
-  stays_lives : (y : History) (new : Standing) → Stays all others asked i y new
+  stays_lives : (y : History) (new : Standing) → HistoryStays all others asked i y new
       → Lived (life.laws new) y new [] (λ after. after ≡ requests_of y.batches)
   stays_lives y new s = record {
     after = s.after;
@@ -116,7 +116,7 @@ module _ {all others : List (List ℕ)} {asked : List Batch} {i : Instance} {IsS
   }
 
   -- what is asked of a part: what stands behind it is seen, or it is still
-  abbrev pub IsSeenOrStill : (old : Standing) (part : Part) (new : Standing) → PartLeads i.variant i.meaning old part new → Type 0
+  abbrev pub IsSeenOrStill : (old : Standing) (part : LifePart) (new : Standing) → PartLeads i.variant i.meaning old part new → Type 0
   IsSeenOrStill old part new f = IsSeen old part new ⊎ IsStill old (part_calls i.variant i.meaning old part new f)
 
   session_lives : (y : History) (old : Standing) (p : Program) (new : Standing) (f : PartLeads i.variant i.meaning old (Holds p) new)
@@ -124,12 +124,12 @@ module _ {all others : List (List ℕ)} {asked : List Batch} {i : Instance} {IsS
       → IsFirstGenuine i y (part_calls i.variant i.meaning old (Holds p) new f)
       → AreListed all asked i (part_calls i.variant i.meaning old (Holds p) new f) → PartLived y old (Holds p) new f
   session_lives y old p new f stands within (inl seen) first listed =
-      chain_lives (life.laws new) y old (first_bytes f) (told_by f) (InHandOf f) (untold_calls f f.goes) p.result (session_chain f) stands
+      chain_lives (life.laws new) y old (first_bytes f) (served_calls_of f) (IsInHandOf f) (untold_calls f f.goes) p.result (session_chain f) stands
       within first listed life.leads (λ reaches leads. life.shows y old (Holds p) new seen stands reaches leads)
   session_lives y old p new f stands within (inr still) first listed =
-      chain_idles (life.laws new) y old (first_bytes f) (told_by f) (InHandOf f) (untold_calls f f.goes) p.result (session_chain f) stands
+      chain_idles (life.laws new) y old (first_bytes f) (served_calls_of f) (IsInHandOf f) (untold_calls f f.goes) p.result (session_chain f) stands
       within first listed (life.few old (session_calls f) still)
-      (λ c one middle makes. life.idles y old middle c (subst (λ (calls : List Call). IsStill old calls) one still) makes)
+      (λ c one middle makes. life.idles y old middle c (subst (λ (calls : List LifeCall). IsStill old calls) one still) makes)
 
   deed_lives : (y : History) (old : Standing) (deed : Deed) (new : Standing) → IsNoCall deed
       → DeedLeads i.variant i.meaning old deed new → StandsFor i old y → IsWithin all others asked i y
@@ -138,7 +138,7 @@ module _ {all others : List (List ℕ)} {asked : List Batch} {i : Instance} {IsS
   deed_lives y old deed new quiet f stands within (inr still) =
       stays_lives y new (life.stays_still y old deed new quiet still f stands within)
 
-  part_lives : (y : History) (old : Standing) (part : Part) (new : Standing) (f : PartLeads i.variant i.meaning old part new)
+  part_lives : (y : History) (old : Standing) (part : LifePart) (new : Standing) (f : PartLeads i.variant i.meaning old part new)
       → StandsFor i old y → IsWithin all others asked i y → IsSeenOrStill old part new f
       → IsFirstGenuine i y (part_calls i.variant i.meaning old part new f)
       → AreListed all asked i (part_calls i.variant i.meaning old part new f) → PartLived y old part new f
@@ -151,28 +151,28 @@ module _ {all others : List (List ℕ)} {asked : List Batch} {i : Instance} {IsS
       deed_lives y old (Checkpoints said) new tt f stands within seen
 
   -- what is asked of each part by what stands before and behind it
-  abbrev pub AreSeen : (start : Standing) (stages : List Stage) → IsLife i.variant i.meaning start stages → Type 0
+  abbrev pub AreSeen : (start : Standing) (stages : List LifeStage) → IsLife i.variant i.meaning start stages → Type 0
   AreSeen start [] f = Unit {0}
   AreSeen start (stage ∷ stages) f = IsSeenOrStill start stage.part stage.after f.0 × AreSeen stage.after stages f.1
 
   -- a life from a history
-  pub record Lives (y : History) (issued : List (List ℕ)) (start : Standing) (stages : List Stage)
+  pub record Lives (y : History) (issued : List (List ℕ)) (start : Standing) (stages : List LifeStage)
       (f : IsLife i.variant i.meaning start stages) : Type 0 where
     pub after : History
     pub stands : StandsFor i (end_of start stages) after
     pub within : IsWithin all others asked i after
     pub named : AllByRecursion (IsGenuine i after) (issued ++ snapshots_of (life_calls i.variant i.meaning start stages f))
-    pub follows : FollowsOn i.variant i.meaning start stages f (requests_of y.batches) (requests_of after.batches)
+    pub follows : LifeFollows i.variant i.meaning start stages f (requests_of y.batches) (requests_of after.batches)
     pub judged : IsLastJudged i after (latest_calls i.variant i.meaning start stages f)
 
-  judged_last : (start : Standing) (stage : Stage) (stages : List Stage) (f : IsLife i.variant i.meaning start (stage ∷ stages))
+  judged_last : (start : Standing) (stage : LifeStage) (stages : List LifeStage) (f : IsLife i.variant i.meaning start (stage ∷ stages))
       (y z : History) → (stages ≡ [] → z ≡ y) → IsLastJudged i y (part_calls i.variant i.meaning start stage.part stage.after f.0)
       → IsLastJudged i z (latest_calls i.variant i.meaning stage.after stages f.1)
       → IsLastJudged i z (latest_calls i.variant i.meaning start (stage ∷ stages) f)
   judged_last start stage [] f y z same here later = rw (same refl) here
   judged_last start stage (next ∷ stages) f y z same here later = later
 
-  pub lives : (stages : List Stage) (y : History) (issued : List (List ℕ)) (start : Standing)
+  pub lives : (stages : List LifeStage) (y : History) (issued : List (List ℕ)) (start : Standing)
       (f : IsLife i.variant i.meaning start stages) → StandsFor i start y → IsWithin all others asked i y → AreSeen start stages f
       → AllByRecursion (IsGenuine i y) issued → AreUntagged i issued start stages f
       → AreListed all asked i (life_calls i.variant i.meaning start stages f)
@@ -189,8 +189,8 @@ module _ {all others : List (List ℕ)} {asked : List Batch} {i : Instance} {IsS
     λ e. refl,
   )
   lives (stage ∷ stages) y issued start f stands within seen named untagged listed =
-      let calls : List Call = part_calls i.variant i.meaning start stage.part stage.after f.0 in
-      let more : List Call = life_calls i.variant i.meaning stage.after stages f.1 in
+      let calls : List LifeCall = part_calls i.variant i.meaning start stage.part stage.after f.0 in
+      let more : List LifeCall = life_calls i.variant i.meaning stage.after stages f.1 in
       let p = part_lives y start stage.part stage.after f.0 stands within seen.0 (first_genuine i y issued calls named untagged.0)
       (listed_left all asked i calls more listed) in
       let named_then : AllByRecursion (IsGenuine i p.after) (issued ++ snapshots_of calls) =
@@ -201,7 +201,7 @@ module _ {all others : List (List ℕ)} {asked : List Batch} {i : Instance} {IsS
           after = r.0.after;
           stands = r.0.stands;
           within = r.0.within;
-          named = rw (flat_map-append (λ (c : Call). issued_in c.gives) calls more)
+          named = rw (flat_map-append (λ (c : LifeCall). issued_snapshot_in c.gives) calls more)
               (rw (append_assoc issued (snapshots_of calls) (snapshots_of more)) at r.0.named);
           follows = (requests_of p.after.batches, p.steps, r.0.follows);
           judged = judged_last start stage stages f p.after r.0.after r.1 p.judged r.0.judged;

@@ -11,23 +11,23 @@ use Rattle.mm_module.specs.Meaning.{Meaning}
 use Rattle.mm_model.specs.declared.answer.Answer.{Answer}
 use Rattle.mm_model.specs.declared.refusal.Refusal.{Refusal}
 use Rattle.mm_call.specs.Refusals.{fault_of}
-use Rattle.mm_schedule.specs.Machine.{StepsOn}
+use Rattle.mm_schedule.specs.Machine.{IsBatchStep}
 use Rattle.mm_schedule.specs.declared.reply.Reply.{Reply}
 use Rattle.mm_schedule.specs.declared.reply.Reply.TheVariants.{Told}
-use Rattle.mm_recovery.specs.CellWrites.{new_by}
+use Rattle.mm_recovery.specs.CellWrites.{new_requests_by}
 use Rattle.mm_recovery.specs.Recovery.{MayHaveCommitted}
 use Rattle.mm_recovery.specs.declared.fault.HostFault.{HostFault}
 use Rattle.mm_recovery.specs.declared.fault.HostFault.TheVariants.{Refused}
-use Rattle.mm_host.specs.Continuing.{MayBeUntold, RunsOver}
-use Rattle.mm_host.specs.Sessions.{Served}
+use Rattle.mm_host.specs.Continuation.{MayBeUntold, CallsRunOver}
+use Rattle.mm_host.specs.Sessions.{ServedCall}
 use Rattle.mm_host.specs.declared.fault.SessionFault.{SessionFault}
 use Rattle.mm_host.specs.declared.fault.SessionFault.TheVariants.{Host, Lines}
 use Rattle.mm_life.specs.Deeds.{Calls, Checkpoints, Extends, LosesPower}
-use Rattle.mm_life.specs.OneList.{CallSteps, FollowsOn, PartSteps, SessionSteps, call_replies, life_replies, part_replies, told_replies}
-use Rattle.mm_life.specs.SessionCalls.{InHandOf, told_by}
-use Rattle.mm_life.specs.Stages.{Does, Holds, IsLife, Part, PartLeads, Stage}
-use Rattle.mm_life.specs.Writes.{call_stop, checkpoint_stop}
-use Rattle.mm_life.specs.Writes.{fault_stop, host_stop, new_replies, part_stop, refusal_stop, session_stop, stops_in}
+use Rattle.mm_life.specs.OneList.{CallSteps, LifeFollows, PartSteps, SessionSteps, call_replies, life_replies, part_replies, told_replies}
+use Rattle.mm_life.specs.SessionCalls.{IsInHandOf, served_calls_of}
+use Rattle.mm_life.specs.Stages.{Does, Holds, IsLife, LifePart, PartLeads, LifeStage}
+use Rattle.mm_life.specs.LifeWrites.{call_stop, checkpoint_stop}
+use Rattle.mm_life.specs.LifeWrites.{fault_stop, host_stop, new_replies, part_stop, refusal_stop, session_stop, stops_in}
 
 pub new_append : (xs ys : List Reply) → new_replies (xs ++ ys) ≡ new_replies xs + new_replies ys
 new_append [] ys = omega arith
@@ -65,13 +65,13 @@ untold_stop (Err (Lines fault)) u = ap (λ (f : ReplayFault). session_stop (Err 
 
 module _ (meaning : Meaning) where
   step_longer : (again : Bool) (position : ℕ) (outputs : List (List ℕ)) (request : List ℕ) (before after : List (List ℕ))
-      → StepsOn meaning before (One request) (Told again position outputs) after → length after ≡ length before + new_by again
+      → IsBatchStep meaning before (One request) (Told again position outputs) after → length after ≡ length before + new_requests_by again
   step_longer false position outputs request before after s =
       ap length s.grown ∙ length-append before (request ∷ [])
   step_longer true position outputs request before after s =
       let same : length after ≡ length before = ap length s.2 in omega (arith, same)
 
-  run_longer : (told : List Served) (before after : List (List ℕ)) → RunsOver meaning before told after
+  run_longer : (told : List ServedCall) (before after : List (List ℕ)) → CallsRunOver meaning before told after
       → length after ≡ length before + new_replies (told_replies told)
   run_longer [] before after run = let same : length after ≡ length before = ap length run in omega (arith, same)
   run_longer (c ∷ told) before after run =
@@ -79,7 +79,7 @@ module _ (meaning : Meaning) where
       let rest = run_longer told run.0 after run.2 in
       omega (arith, first, rest)
 
-  session_longer : (told : List Served) (hand : List ℕ → Type 0) (result : Result Unit SessionFault) (before after : List (List ℕ))
+  session_longer : (told : List ServedCall) (hand : List ℕ → Type 0) (result : Result Unit SessionFault) (before after : List (List ℕ))
       → SessionSteps meaning before told hand result after → IsLonger before after (new_replies (told_replies told)) (session_stop result)
   session_longer told hand result before after s =
       let run = run_longer told before s.between s.run in
@@ -100,17 +100,17 @@ module _ (meaning : Meaning) where
       longer_one before after request (refusal_stop why) (refused_untold (fault_of why) untold.0) untold.1
 
 module _ (variant : Variant) (meaning : Meaning) where
-  part_longer : (old : Standing) (part : Part) (new : Standing) (f : PartLeads variant meaning old part new)
+  part_longer : (old : Standing) (part : LifePart) (new : Standing) (f : PartLeads variant meaning old part new)
       (before after : List (List ℕ)) → PartSteps variant meaning old part new f before after
       → IsLonger before after (new_replies (part_replies variant meaning old part new f)) (part_stop part)
-  part_longer old (Holds p) new f before after s = session_longer meaning (told_by f) (InHandOf f) p.result before after s
+  part_longer old (Holds p) new f before after s = session_longer meaning (served_calls_of f) (IsInHandOf f) p.result before after s
   part_longer old (Does (Calls c)) new f before after s = call_longer meaning c.request c.gives before after s
   part_longer old (Does (Extends values)) new f before after s = longer_none before after 0 s
   part_longer old (Does LosesPower) new f before after s = longer_none before after 0 s
   part_longer old (Does (Checkpoints said)) new f before after s = longer_none before after (checkpoint_stop said) s
 
-  pub life_longer : (stages : List Stage) (start : Standing) (f : IsLife variant meaning start stages) (before after : List (List ℕ))
-      → FollowsOn variant meaning start stages f before after
+  pub life_longer : (stages : List LifeStage) (start : Standing) (f : IsLife variant meaning start stages) (before after : List (List ℕ))
+      → LifeFollows variant meaning start stages f before after
       → IsLonger before after (new_replies (life_replies variant meaning start stages f)) (stops_in stages)
   life_longer [] start f before after s = longer_none before after 0 s
   life_longer (stage ∷ stages) start f before after s =

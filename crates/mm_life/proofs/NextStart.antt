@@ -1,7 +1,7 @@
 -- Behind a life the next session may start.
 use Rattle.mm_call.proofs.Above.{each_at}
 use Rattle.mm_model.specs.Standing.{IsGenuine}
-use Rattle.mm_recovery.specs.Fitting.{first_offer}
+use Rattle.mm_recovery.specs.SlotFit.{first_offer}
 use Rattle.mm_life.specs.Laws.{NextMayStart}
 
 pub next_starts : NextMayStart

@@ -4,36 +4,36 @@ use Rattle.mm_digest.specs.declared.variant.Variant.{Variant}
 use Rattle.mm_platform.specs.Standing.{Standing}
 use Rattle.mm_module.specs.Meaning.{Meaning}
 use Rattle.mm_store.specs.Calls.{ReadsSlot}
-use Rattle.mm_store.specs.Kept.{StoreStanding}
-use Rattle.mm_store.specs.Pending.{Pending}
-use Rattle.mm_store.specs.Slots.{Slots, slot_read}
+use Rattle.mm_store.specs.StoreStanding.{StoreStanding}
+use Rattle.mm_store.specs.PendingRecord.{PendingRecord}
+use Rattle.mm_store.specs.Slots.{Slots, slot_front}
 use Rattle.mm_store.specs.declared.fault.StoreFault.{StoreFault}
 use Rattle.mm_recovery.specs.Faults.{store_fault_as}
-use Rattle.mm_recovery.specs.Fitting.{first_offer, offer_slot}
-use Rattle.mm_recovery.specs.Resumes.{AfterFinding, AfterOffer, started}
-use Rattle.mm_recovery.specs.Waiting.{IsWaiting}
+use Rattle.mm_recovery.specs.SlotFit.{first_offer, offer_slot}
+use Rattle.mm_recovery.specs.Resumption.{GoesAfterFinding, GoesAfterOffer, result_of_start}
+use Rattle.mm_recovery.specs.WaitingRequest.{IsWaiting}
 use Rattle.mm_recovery.specs.declared.fault.HostFault.{HostFault}
 use Rattle.mm_recovery.specs.declared.resuming.Resumed.{Resumed}
 use Rattle.mm_recovery.proofs.Above.{Saw, saw_two}
-use Rattle.mm_host.specs.AnySlots.{offered_after}
-use Rattle.mm_host.specs.Continuing.{told_in}
-use Rattle.mm_host.specs.Sessions.{AfterResume, Served, Sessions}
+use Rattle.mm_host.specs.AnySlots.{offer_after}
+use Rattle.mm_host.specs.Continuation.{served_calls_in}
+use Rattle.mm_host.specs.Sessions.{GoesAfterResume, ServedCall, IsSession}
 use Rattle.mm_host.specs.declared.fault.SessionFault.{SessionFault}
-use Rattle.mm_life.specs.Deeds.{Call}
+use Rattle.mm_life.specs.Deeds.{LifeCall}
 use Rattle.mm_life.specs.Laws.{OffersSlots, SessionsOfferSlots}
-use Rattle.mm_life.specs.SessionCalls.{IsFirstOffered, bytes_of, first_bytes, first_calls, found_waiting, offered_calls, offered_first}
-use Rattle.mm_life.specs.SessionCalls.{told_by, told_calls, untold_calls}
+use Rattle.mm_life.specs.SessionCalls.{IsFirstOffered, bytes_of, first_bytes, first_calls, found_pending, offered_calls, offer_after_finding}
+use Rattle.mm_life.specs.SessionCalls.{served_calls_of, told_calls, untold_calls}
 use Rattle.mm_life.proofs.Chains.{session_chain}
 use Rattle.mm_life.proofs.Sessions.{offered_by}
 
 -- What was offered first is what the slots show for what waits in them; or no call was made, and no line is read.
 module _ (variant : Variant) (meaning : Meaning) (before after : Standing) (slots : Slots) where
   record Shown (offered : List ℕ) : Type 0 where
-    waiting : Option Pending
-    is_waiting : IsWaiting (slot_read slots 2) (slot_read slots 3) waiting
+    waiting : Option PendingRecord
+    is_waiting : IsWaiting (slot_front slots 2) (slot_front slots 3) waiting
     is : offered ≡ first_offer slots waiting
 
-  abbrev Offers : List ℕ → List Call → Result Resumed HostFault → Type 0
+  abbrev Offers : List ℕ → List LifeCall → Result Resumed HostFault → Type 0
   Offers offered calls came = Shown offered ⊎ ((calls ≡ []) × ((resumed : Resumed) → came ≡ Ok resumed → ⊥))
 
   offers_none : (why : StoreFault) (offered : List ℕ) (came : Result Resumed HostFault) → came ≡ Err (store_fault_as why)
@@ -41,22 +41,22 @@ module _ (variant : Variant) (meaning : Meaning) (before after : Standing) (slot
   offers_none why offered came e = inr (refl, λ resumed is. cc)
 
   offers_start : (zero : Result (List ℕ) StoreFault) (old new : StoreStanding) (came : Result Resumed HostFault)
-      → old.slots ≡ Some slots → ReadsSlot 0 old new zero → came ≡ started zero
-      → IsWaiting (slot_read slots 2) (slot_read slots 3) None → Offers (bytes_of variant meaning before after zero) [] came
+      → old.slots ≡ Some slots → ReadsSlot 0 old new zero → came ≡ result_of_start zero
+      → IsWaiting (slot_front slots 2) (slot_front slots 3) None → Offers (bytes_of variant meaning before after zero) [] came
   offers_start (Ok bytes) old new came told r e w = inl (record { waiting = None; is_waiting = w; is = r.gives slots told })
   offers_start (Err why) old new came told r e w = offers_none why [] came e
 
-  offers_repeat : (offer : Result (List ℕ) StoreFault) (first old new : StoreStanding) (p : Pending) (came : Result Resumed HostFault)
-      (g : AfterOffer variant meaning before after offer old new p came) → first.slots ≡ Some slots
-      → ReadsSlot (offer_slot p) first old offer → IsWaiting (slot_read slots 2) (slot_read slots 3) (Some p)
+  offers_repeat : (offer : Result (List ℕ) StoreFault) (first old new : StoreStanding) (p : PendingRecord) (came : Result Resumed HostFault)
+      (g : GoesAfterOffer variant meaning before after offer old new p came) → first.slots ≡ Some slots
+      → ReadsSlot (offer_slot p) first old offer → IsWaiting (slot_front slots 2) (slot_front slots 3) (Some p)
       → Offers (bytes_of variant meaning before after offer) (offered_calls variant meaning before after offer old new p came g) came
   offers_repeat (Ok bytes) first old new p came g told r w =
       inl (record { waiting = Some p; is_waiting = w; is = r.gives slots told })
   offers_repeat (Err why) first old new p came g told r w = offers_none why [] came g.2
 
-  offers_by : (found : Result (Option Pending) StoreFault) (first middle new : StoreStanding)
-      (came : Result Resumed HostFault) (g : AfterFinding variant meaning before after found middle new came) → Saw slots first middle found
-      → Offers (offered_first variant meaning before after found middle new came g)
+  offers_by : (found : Result (Option PendingRecord) StoreFault) (first middle new : StoreStanding)
+      (came : Result Resumed HostFault) (g : GoesAfterFinding variant meaning before after found middle new came) → Saw slots first middle found
+      → Offers (offer_after_finding variant meaning before after found middle new came g)
       (first_calls variant meaning before after found middle new came g) came
   offers_by (Ok (Some p)) first middle new came g s =
       offers_repeat g.offer middle g.middle new p came g.goes s.told g.reads (s.waiting (Some p) refl)
@@ -64,18 +64,18 @@ module _ (variant : Variant) (meaning : Meaning) (before after : Standing) (slot
   offers_by (Err why) first middle new came g s = offers_none why [] came g.2
 
 -- the calls begin with what is offered first
-first_told : (bytes : List ℕ) (told : List Served) (untold : List Call) → IsFirstOffered (offered_after bytes told) untold
+first_told : (bytes : List ℕ) (told : List ServedCall) (untold : List LifeCall) → IsFirstOffered (offer_after bytes told) untold
     → IsFirstOffered bytes (told_calls bytes told ++ untold)
 first_told bytes [] untold h = h
 first_told bytes (c ∷ told) untold h = refl
 
 module _ {variant : Variant} {meaning : Meaning} {before after : Standing} {old new : StoreStanding}
     {left left' received received' : Option (List ℕ)} {result : Result Unit SessionFault}
-    (s : Sessions variant meaning before after old new left left' received received' result) (slots : Slots) where
-  abbrev calls_by : AfterResume variant meaning s.begun s.platform after s.store new left' s.taken s.sent result → List Call
-  calls_by goes = told_calls (first_bytes s) (told_in (found_waiting s.resumes.waiting) goes) ++ untold_calls s goes
+    (s : IsSession variant meaning before after old new left left' received received' result) (slots : Slots) where
+  abbrev calls_by : GoesAfterResume variant meaning s.begun s.platform after s.store new left' s.taken s.sent result → List LifeCall
+  calls_by goes = told_calls (first_bytes s) (served_calls_in (found_pending s.resumes.waiting) goes) ++ untold_calls s goes
 
-  by_offers : (goes : AfterResume variant meaning s.begun s.platform after s.store new left' s.taken s.sent result)
+  by_offers : (goes : GoesAfterResume variant meaning s.begun s.platform after s.store new left' s.taken s.sent result)
       → Offers variant meaning before s.platform slots (first_bytes s)
       (first_calls variant meaning before s.platform s.resumes.waiting s.resumes.middle s.store s.begun s.resumes.goes) s.begun
       → IsFirstOffered (first_bytes s) (calls_by goes) → (calls_by goes ≡ []) ⊎ OffersSlots slots (calls_by goes)
@@ -93,4 +93,4 @@ offer_slots variant meaning before after old new left left' received received' r
     by_offers s slots s.goes
     (offers_by variant meaning before s.platform slots r.waiting old r.middle s.store s.begun r.goes
     (saw_two slots r.finds.two old r.finds.middle r.middle r.waiting slots_told r.finds.reads r.finds.goes))
-    (first_told (first_bytes s) (told_by s) (untold_calls s s.goes) (offered_by (session_chain s).ends))
+    (first_told (first_bytes s) (served_calls_of s) (untold_calls s s.goes) (offered_by (session_chain s).ends))

@@ -6,29 +6,29 @@ use Rattle.mm_base.specs.declared.fault.Failed.{Failed}
 use Rattle.mm_digest.specs.declared.variant.Variant.{Variant}
 use Rattle.mm_digest.specs.declared.variant.Variant.TheVariants.{Opt}
 use Rattle.mm_platform.specs.Standing.{Item, Standing, foreign_item, item_values}
-use Rattle.mm_platform.specs.Steps.{beside}
+use Rattle.mm_platform.specs.Steps.{items_beside}
 use Rattle.mm_platform.specs.declared.fault.StepFault.{StepFault}
 use Rattle.mm_module.specs.Meaning.{IsLawful, Meaning}
 use Rattle.mm_module.specs.Batch.{Batch}
 use Rattle.mm_model.specs.History.{History}
 use Rattle.mm_model.specs.Instance.{Instance}
-use Rattle.mm_model.specs.InstanceWords.{opt}
+use Rattle.mm_model.specs.InstanceWords.{opt_instance}
 use Rattle.mm_model.specs.Moves.{digests_of}
 use Rattle.mm_model.specs.Standing.{StandsFor}
 use Rattle.mm_call.proofs.Above.{stands_at}
 use Rattle.mm_opt.specs.declared.segment.CheckpointRefusal.{CheckpointRefusal}
 use Rattle.mm_opt.specs.declared.segment.Checkpointed.{Checkpointed}
-use Rattle.mm_store.specs.Kept.{StoreStanding}
+use Rattle.mm_store.specs.StoreStanding.{StoreStanding}
 use Rattle.mm_store.specs.declared.fault.StoreFault.{StoreFault}
 use Rattle.mm_evidence.proofs.Above.{clash_or}
-use Rattle.mm_recovery.specs.Begins.{Begins}
-use Rattle.mm_recovery.specs.Init.{AfterLooking, AfterPuts, AfterTaking, Devices, Inits, SetsUp, instance_from}
+use Rattle.mm_recovery.specs.FirstStart.{InstanceBegins}
+use Rattle.mm_recovery.specs.Init.{GoesAfterLooking, GoesAfterAllPuts, GoesAfterTaking, Devices, InitGoes, SetsUp, instance_from}
 use Rattle.mm_host.specs.declared.fault.SessionFault.{SessionFault}
-use Rattle.mm_life.specs.Honest.{IsGoneOnWith, OptLifeGoesOn}
+use Rattle.mm_life.specs.HonestLife.{IsGoneOnWith, OptLifeGoesOn}
 use Rattle.mm_life.specs.OneStore.{IsUnlost, LivesOverCheckpoint, session_stage, stages_around}
 use Rattle.mm_life.specs.Premises.{life_batches, opt_messages, others_values}
-use Rattle.mm_life.specs.Stages.{Holds, IsLife, Program, Stage}
-use Rattle.mm_life.specs.Writes.{OptLivesWriteOnce}
+use Rattle.mm_life.specs.Stages.{Holds, IsLife, Program, LifeStage}
+use Rattle.mm_life.specs.LifeWrites.{OptLivesWriteOnce}
 use Rattle.mm_life.proofs.Standings.{part_stands}
 use Rattle.mm_life.proofs.Unlost.{shut_behind, still_open, unlost}
 
@@ -37,14 +37,14 @@ record Told (standing : Standing) : Type 0 where
   items : List Item
   tells : standing.items ≡ Some items
 
-told_on : (old new : Standing) (others : List (List ℕ)) → new.items ≡ beside others old.items → Told old → Told new
+told_on : (old new : Standing) (others : List (List ℕ)) → new.items ≡ items_beside others old.items → Told old → Told new
 told_on old new others e t = record {
   items = t.items ++ map foreign_item others;
-  tells = e ∙ ap (λ xs. beside others xs) t.tells;
+  tells = e ∙ ap (λ xs. items_beside others xs) t.tells;
 }
 
 puts_told : (cell : List ℕ) (before after : Standing) (stored : Result Unit StoreFault)
-    → AfterPuts cell before after stored (Ok tt) → Told before → Told after
+    → GoesAfterAllPuts cell before after stored (Ok tt) → Told before → Told after
 puts_told cell before after (Err why) g t = let e = g.1 in absurd (cc)
 puts_told cell before after (Ok it) g t = told_on before after g.goes.others g.goes.items t
 
@@ -54,20 +54,20 @@ set_up_told i before after old new (inl none) t = let e = none.2 in absurd (cc)
 set_up_told i before after old new (inr both) t = puts_told _ before after both.stored both.goes t
 
 taken_told : (variant : Variant) (meaning : Meaning) (middle after : Devices) (taken : Result (List ℕ) Failed)
-    → AfterTaking variant meaning middle after taken (Ok tt) → Told middle.platform → Told after.platform
+    → GoesAfterTaking variant meaning middle after taken (Ok tt) → Told middle.platform → Told after.platform
 taken_told variant meaning middle after (Err why) g t = let e = g.1 in absurd (cc)
 taken_told variant meaning middle after (Ok secrets) (inl few) t = let e = few.2 in absurd (cc)
 taken_told variant meaning middle after (Ok secrets) (inr all) t =
     set_up_told (instance_from variant meaning secrets) middle.platform after.platform middle.store after.store all.2 t
 
 looked_told : (variant : Variant) (meaning : Meaning) (middle after : Devices) (is_blank : Result Bool StepFault)
-    → AfterLooking variant meaning middle after is_blank (Ok tt) → Told middle.platform → Told after.platform
+    → GoesAfterLooking variant meaning middle after is_blank (Ok tt) → Told middle.platform → Told after.platform
 looked_told variant meaning middle after (Err why) g t = let e = g.1 in absurd (cc)
 looked_told variant meaning middle after (Ok false) g t = let e = g.1 in absurd (cc)
 looked_told variant meaning middle after (Ok true) g t =
     taken_told variant meaning (record middle { left = g.left; source_faults = g.source_faults }) after g.taken g.goes t
 
-started_told : (variant : Variant) (meaning : Meaning) (before after : Devices) → Inits variant meaning before after (Ok tt)
+started_told : (variant : Variant) (meaning : Meaning) (before after : Devices) → InitGoes variant meaning before after (Ok tt)
     → Told before.platform → Told after.platform
 started_told variant meaning before after n t =
     looked_told variant meaning (record before { platform = n.platform }) after n.is_blank n.goes
@@ -76,9 +76,9 @@ started_told variant meaning before after n t =
 -- Where the checkpoint wasn't refused, the last session isn't refused as Lost.
 module _ (all others : List (List ℕ)) (asked : List Batch) (meaning : Meaning) (key barrier : List ℕ) where
   abbrev I : Instance
-  I = opt meaning key barrier
+  I = opt_instance meaning key barrier
 
-  last_unlost : (start closed empty : Standing) (first : Stage) (p : Program) (end : Standing) (kept : StoreStanding)
+  last_unlost : (start closed empty : Standing) (first : LifeStage) (p : Program) (end : Standing) (kept : StoreStanding)
       → (said : Result Checkpointed CheckpointRefusal) → (y : History) → StandsFor I start y
       → (f : IsLife Opt meaning start (stages_around first said closed empty (record { part = Holds p; after = end })))
       → IsGoneOnWith all others asked I [] kept start (stages_around first said closed empty (record { part = Holds p; after = end })) f
@@ -92,7 +92,7 @@ module _ (all others : List (List ℕ)) (asked : List Batch) (meaning : Meaning)
       ∙ shut_behind meaning key barrier first.after closed made f.1.0 s.digests s.stands)
 
 pub lives_over_checkpoint : OptLifeGoesOn → OptLivesWriteOnce → (meaning : Meaning) → IsLawful meaning → (before started : Devices)
-    → Inits Opt meaning before started (Ok tt) → Begins Opt meaning before started → (middle closed empty after : Standing)
+    → InitGoes Opt meaning before started (Ok tt) → InstanceBegins Opt meaning before started → (middle closed empty after : Standing)
     (between new : StoreStanding) (first first' second second' received told received' : Option (List ℕ))
     (one : Result Unit SessionFault) (said : Result Checkpointed CheckpointRefusal) (two : Result Unit SessionFault)
     → IsLife Opt meaning started.platform
@@ -115,8 +115,8 @@ lives_over_checkpoint law counted meaning lawful before started inits begun midd
       are = refl;
       life = life;
       goes = λ cell items slots here there honest kept whole whole'.
-          let i : Instance = opt meaning (take 32 begun.secrets) (drop 32 begun.secrets) in
-          let stages : List Stage =
+          let i : Instance = opt_instance meaning (take 32 begun.secrets) (drop 32 begun.secrets) in
+          let stages : List LifeStage =
           stages_around (session_stage started.store between first first' received told one middle) said closed empty
           (session_stage between new second second' told received' two after) in
           let t = shown items there in

@@ -3,51 +3,51 @@ use Rattle.std.specs.List.{AllByRecursion, Contains}
 use Rattle.std.specs.Option.{option_map, option_map_or}
 use Rattle.std.specs.Prelude.{Err, Ok, Result, ◌&&◌, if◌then◌else◌, not}
 use Rattle.std.proofs.Common.{◌≡◌, ◌⊎◌, ◌∙◌, ◌++◌, ℕ, Bool, true, false, List, [], ◌∷◌, Option, Some, map, fold, arith, refl, sym, ap, subst, inl, inr}
-use Rattle.mm_digest.specs.Messages.{extended_of, start_message}
+use Rattle.mm_digest.specs.Messages.{extended_digest_of, start_message}
 use Rattle.mm_digest.specs.declared.variant.Variant.TheVariants.{Opt}
 use Rattle.mm_seal.specs.Snapshot.{Content}
 use Rattle.mm_platform.specs.Standing.{Item, Standing, foreign_item}
-use Rattle.mm_platform.specs.Steps.{beside}
+use Rattle.mm_platform.specs.Steps.{items_beside}
 use Rattle.mm_module.specs.Batch.{Batch}
 use Rattle.mm_module.specs.Meaning.{IsLawful, Meaning}
 use Rattle.mm_model.specs.FormLaws.{reads_zero}
-use Rattle.mm_model.specs.History.{Foreign, History, Power, Value, first_history, moved, register_value_of}
+use Rattle.mm_model.specs.History.{Foreign, History, Power, Value, first_history, history_after, register_value_of}
 use Rattle.mm_model.specs.Instance.{Instance}
-use Rattle.mm_model.specs.InstanceWords.{opt}
+use Rattle.mm_model.specs.InstanceWords.{opt_instance}
 use Rattle.mm_model.specs.ListLaws.{each_left, each_right, each_self}
-use Rattle.mm_model.specs.Messages.{AreNoGuards, IsClear, Within}
+use Rattle.mm_model.specs.Messages.{AreNoGuards, IsClear, AreMessagesIn}
 use Rattle.mm_model.specs.Moves.{Digests, digests_of}
-use Rattle.mm_model.specs.Places.{Names}
+use Rattle.mm_model.specs.Places.{NamesPosition}
 use Rattle.mm_model.specs.Sound.{IsSound}
 use Rattle.mm_model.specs.Standing.{IsGenuine, StandsFor, cell_of, issued_bytes}
 use Rattle.mm_model.specs.declared.answer.Answer.{Answer}
 use Rattle.mm_model.specs.declared.refusal.Refusal.{Refusal}
 use Rattle.mm_model.specs.declared.refusal.Refusal.TheVariants.{Device, Memory}
-use Rattle.mm_call.specs.Leaving.{whole_in}
+use Rattle.mm_call.specs.Untouched.{batch_result_of}
 use Rattle.mm_model.proofs.Above.{opt_issued}
-use Rattle.mm_call.specs.Asked.{IsWithin, moves_messages}
-use Rattle.mm_call.specs.Levels.{all_made, by_digests, by_lists}
+use Rattle.mm_call.specs.CallPremises.{IsWithin, messages_of_moves}
+use Rattle.mm_call.specs.Levels.{state_after_moves, digest_level, list_level}
 use Rattle.mm_call.specs.OfferLaws.{issued_once, opt_content}
 use Rattle.mm_call.specs.Premises.{AreShown}
 use Rattle.mm_call.specs.Standing.{StandsAt}
-use Rattle.mm_call.specs.Tied.{foreign_items, standing_items}
-use Rattle.mm_call.specs.TrailLaws.{foreign_made, foreign_values, reads_beside, reads_of, with_register}
-use Rattle.mm_call.specs.WalkLaws.{taking, taking_is}
+use Rattle.mm_call.specs.ShownItems.{foreign_items, standing_items}
+use Rattle.mm_call.specs.TrailLaws.{foreign_made, foreign_values, reads_beside, register_of_items, with_register}
+use Rattle.mm_call.specs.WalkLaws.{history_with_values, taking_is}
 use Rattle.mm_call.proofs.Above.{agrees_is, bare, counted_open, foreign_agrees, foreign_all, holds_made, holds_moved, holds_open, is_agrees}
 use Rattle.mm_call.proofs.Above.{names_alike, power_fine, stands_at, stands_for, within_items, within_of}
-use Rattle.mm_opt.specs.ChecksOn.{ChecksOn}
+use Rattle.mm_opt.specs.CheckpointOnCourse.{IsCheckpointOnCourse}
 use Rattle.mm_callers.specs.Closing.{MayClose}
 use Rattle.mm_callers.proofs.Above.{check_goes_on, check_leaves}
 use Rattle.mm_host.proofs.Above.{Reaches, ShowsAt, foreign_of, messages_looked, opt_laws}
-use Rattle.mm_recovery.specs.Begins.{first_on}
+use Rattle.mm_recovery.specs.FirstStart.{first_history_on}
 use Rattle.mm_life.specs.Below.{CheckpointRefusal, Checkpointed}
-use Rattle.mm_life.specs.Deeds.{Call, Calls, Checkpoints, Deed, DeedLeads, Extends, LosesPower}
-use Rattle.mm_life.specs.Idle.{has_open, is_idle, is_old}
+use Rattle.mm_life.specs.Deeds.{LifeCall, Calls, Checkpoints, Deed, DeedLeads, Extends, LosesPower}
+use Rattle.mm_life.specs.IdleParts.{has_open, is_idle, is_old}
 use Rattle.mm_life.specs.Laws.{OptLifeIsOne}
 use Rattle.mm_life.specs.Premises.{closing_messages, life_batches, life_messages, opt_messages, others_values}
-use Rattle.mm_life.specs.Premises.{register_messages, shown_messages, unless_idle}
-use Rattle.mm_life.specs.Staying.{IsNoCall, IsSeen, OptDeedsStay, Stays}
-use Rattle.mm_life.specs.Stages.{Does, IsLife, Part, Stage, part_calls}
+use Rattle.mm_life.specs.Premises.{register_messages, shown_messages, bytes_unless_idle}
+use Rattle.mm_life.specs.DeedHistory.{IsNoCall, IsSeen, OptDeedsStay, HistoryStays}
+use Rattle.mm_life.specs.Stages.{Does, IsLife, LifePart, LifeStage, part_calls}
 use Rattle.mm_life.proofs.Idling.{IsNotNew, is_idle_where, open_told}
 use Rattle.mm_life.proofs.Living.{AreSeen, LifeLaws, lives}
 use Rattle.mm_life.proofs.OptSeen.{items_told, seen_closing, seen_open, seen_shut}
@@ -55,10 +55,10 @@ use Rattle.mm_life.proofs.Sessions.{Leads}
 
 module _ (meaning : Meaning) (key barrier : List ℕ) (all others : List (List ℕ)) (asked : List Batch) (clear : IsClear all) where
   abbrev I : Instance
-  I = opt meaning key barrier
+  I = opt_instance meaning key barrier
 
   -- what the register shows behind calls
-  shows_by : (y : History) (old : Standing) (part : Part) (final : Standing) (flag : Bool) → y.is_open ≡ flag
+  shows_by : (y : History) (old : Standing) (part : LifePart) (final : Standing) (flag : Bool) → y.is_open ≡ flag
       → IsSeen all others old part final → StandsFor I old y → Reaches Opt I old final → Leads I old final
       → ShowsAt all others I y old final
   shows_by y old part final true e seen stands reaches leads =
@@ -85,23 +85,23 @@ module _ (meaning : Meaning) (key barrier : List ℕ) (all others : List (List �
 
   -- others extend the register
   module _ (y : History) (old new : Standing) (values : List (List ℕ)) (cell : new.cell ≡ old.cell)
-      (beside_is : new.items ≡ beside values old.items) (seen : y.is_open ≡ true → IsSeen all others old (Does (Extends values)) new)
+      (beside_is : new.items ≡ items_beside values old.items) (seen : y.is_open ≡ true → IsSeen all others old (Does (Extends values)) new)
       (stands : StandsFor I old y) (within : IsWithin all others asked I y) where
     abbrev z : History
-    z = taking y values
+    z = history_with_values y values
 
     stands_taking : StandsFor I new z
     stands_taking =
         let d : Digests = digests_of I y in
         let at = stands_at I old y stands in
-        let read : StandsAt I new (with_register d (fold extended_of d.register values)) = record {
+        let read : StandsAt I new (with_register d (fold extended_digest_of d.register values)) = record {
           spells = at.spells;
           cell = cell ∙ at.cell;
-          reads = ap (λ (xs : Option (List Item)). reads_of xs) beside_is ∙ reads_beside old.items values d.register at.reads;
+          reads = ap (λ (xs : Option (List Item)). register_of_items xs) beside_is ∙ reads_beside old.items values d.register at.reads;
         } in
-        let is : with_register d (fold extended_of d.register values) ≡ digests_of I z =
+        let is : with_register d (fold extended_digest_of d.register values) ≡ digests_of I z =
         sym (foreign_made I d values)
-        ∙ agrees_is I (all_made (by_lists I) y (map Foreign values)) (all_made (by_digests I) d (map Foreign values))
+        ∙ agrees_is I (state_after_moves (list_level I) y (map Foreign values)) (state_after_moves (digest_level I) d (map Foreign values))
         (foreign_agrees meaning key barrier values y d (is_agrees I y d refl))
         ∙ ap (digests_of I) (taking_is I values y) in
         stands_for I new z (rw is at read)
@@ -113,16 +113,16 @@ module _ (meaning : Meaning) (key barrier : List ℕ) (all others : List (List �
         let told = items_told meaning key barrier old.items (register_value_of I y) stands.register in
         let a : AreShown all others I y (map foreign_item values) =
         seen_open meaning key barrier all others y old (Does (Extends values)) new (seen e) stands told.0 (map foreign_item values) told.1 e
-        (beside_is ∙ ap (λ (xs : Option (List Item)). beside values xs) told.1) in
-        let listed : Within (moves_messages I y (map Foreign values)) all =
+        (beside_is ∙ ap (λ (xs : Option (List Item)). items_beside values xs) told.1) in
+        let listed : AreMessagesIn (messages_of_moves I y (map Foreign values)) all =
         rw (messages_looked meaning key barrier values y, ← counted_open y e) (rw (foreign_values values) at a.messages) in
         let outside : AllByRecursion (Contains others) values = rw (foreign_of values) at a.values in
-        rw (taking_is I values y) at (within_of meaning key barrier all others asked (all_made (by_lists I) y (map Foreign values))
-        (all_made (by_digests I) d (map Foreign values)) (holds_made meaning key barrier all others asked (map Foreign values) y d
+        rw (taking_is I values y) at (within_of meaning key barrier all others asked (state_after_moves (list_level I) y (map Foreign values))
+        (state_after_moves (digest_level I) d (map Foreign values)) (holds_made meaning key barrier all others asked (map Foreign values) y d
         (holds_open meaning key barrier all others asked y d e (is_agrees I y d refl) within)
         (foreign_all meaning key barrier all others asked values y outside) listed))
 
-    stays_extended : Stays all others asked I y new
+    stays_extended : HistoryStays all others asked I y new
     stays_extended = record {
       after = z;
       stands = stands_taking;
@@ -138,12 +138,12 @@ module _ (meaning : Meaning) (key barrier : List ℕ) (all others : List (List �
     within_bare false e = within_items meaning key barrier all others asked y [] e within
     within_bare true e =
         let d : Digests = digests_of I y in
-        within_of meaning key barrier all others asked (moved I y Power) _
+        within_of meaning key barrier all others asked (history_after I y Power) _
         (holds_moved meaning key barrier all others asked y d Power
         (holds_open meaning key barrier all others asked y d e (is_agrees I y d refl) within)
         (power_fine meaning key barrier all others asked y) tt)
 
-    stays_emptied : Stays all others asked I y new
+    stays_emptied : HistoryStays all others asked I y new
     stays_emptied =
         let told = items_told meaning key barrier old.items (register_value_of I y) stands.register in
         let none : new.items ≡ Some [] = emptied ∙ ap (λ (xs : Option (List Item)). option_map (λ _. []) xs) told.1 in
@@ -152,7 +152,7 @@ module _ (meaning : Meaning) (key barrier : List ℕ) (all others : List (List �
           stands = record {
             spells = stands.spells;
             cell = cell ∙ stands.cell;
-            register = ap (λ (xs : Option (List Item)). reads_of xs) none ∙ ap (λ (r : List ℕ). Some r) (sym reads_zero);
+            register = ap (λ (xs : Option (List Item)). register_of_items xs) none ∙ ap (λ (r : List ℕ). Some r) (sym reads_zero);
           };
           within = within_bare y.is_open refl;
           batches = refl;
@@ -160,23 +160,23 @@ module _ (meaning : Meaning) (key barrier : List ℕ) (all others : List (List �
         }
 
   -- a checkpoint is made
-  module _ (y : History) (old new : Standing) (said : Result Checkpointed CheckpointRefusal) (k : ChecksOn old new said)
+  module _ (y : History) (old new : Standing) (said : Result Checkpointed CheckpointRefusal) (k : IsCheckpointOnCourse old new said)
       (seen : y.is_open ≡ true → IsSeen all others old (Does (Checkpoints said)) new) (stands : StandsFor I old y)
       (within : IsWithin all others asked I y) where
     stays_left : (items more : List Item) → old.items ≡ Some items → new.items ≡ Some (standing_items y.is_open items ++ more)
-        → (y.is_open ≡ true → AreShown all others I y more × MayClose all I y more) → Stays all others asked I y new
+        → (y.is_open ≡ true → AreShown all others I y more × MayClose all I y more) → HistoryStays all others asked I y new
     stays_left items more known ends asks =
         let c = check_leaves meaning key barrier all others asked y items more k stands known ends clear within asks in
         record { after = c.after; stands = c.stands; within = c.within; batches = c.batches; names = c.names }
 
-    stays_by : (flag : Bool) → y.is_open ≡ flag → Stays all others asked I y new
+    stays_by : (flag : Bool) → y.is_open ≡ flag → HistoryStays all others asked I y new
     stays_by flag e =
         let told = items_told meaning key barrier old.items (register_value_of I y) stands.register in
         let on = check_goes_on meaning key barrier k (digests_of I y) (stands_at I old y stands) told.0 told.1 in
         by_flag flag e told.0 told.1 on.0 on.1
       where
         by_flag : (flag : Bool) → y.is_open ≡ flag → (items : List Item) → old.items ≡ Some items → (more : List Item)
-            → new.items ≡ Some (items ++ more) → Stays all others asked I y new
+            → new.items ≡ Some (items ++ more) → HistoryStays all others asked I y new
         by_flag true e items known more ends =
             stays_left items more known (ends ∙ ap (λ (f : Bool). Some (standing_items f items ++ more)) (sym e))
             (λ _. (
@@ -189,32 +189,32 @@ module _ (meaning : Meaning) (key barrier : List ℕ) (all others : List (List �
             (ends ∙ ap (λ (f : Bool). Some (standing_items f items ++ (items ++ more))) (sym e))
             (λ f. let clash : true ≡ false = sym f ∙ e in absurd (cc))
 
-    stays_checked : Stays all others asked I y new
+    stays_checked : HistoryStays all others asked I y new
     stays_checked = stays_by y.is_open refl
 
   stays : (y : History) (old : Standing) (deed : Deed) (new : Standing) → IsNoCall deed
       → (y.is_open ≡ true → IsSeen all others old (Does deed) new)
-      → DeedLeads Opt meaning old deed new → StandsFor I old y → IsWithin all others asked I y → Stays all others asked I y new
+      → DeedLeads Opt meaning old deed new → StandsFor I old y → IsWithin all others asked I y → HistoryStays all others asked I y new
   stays y old (Calls c) new quiet seen f stands within = absurd quiet
   stays y old (Extends values) new quiet seen f stands within = stays_extended y old new values f.0 f.1 seen stands within
   stays y old LosesPower new quiet seen f stands within = stays_emptied y old new f.0 f.1 stands within
   stays y old (Checkpoints said) new quiet seen f stands within = stays_checked y old new said f seen stands within
 
 -- a part is still where it is idle
-abbrev IsStill : Standing → List Call → Type 0
+abbrev IsStill : Standing → List LifeCall → Type 0
 IsStill old calls = is_idle old calls ≡ true
 
 idle_parts : (a b : Bool) → (not a && b) ≡ true → (a ≡ false) × (b ≡ true)
 idle_parts true b e = absurd (cc)
 idle_parts false b e = (refl, e)
 
-few_still : (old : Standing) (calls : List Call) → IsStill old calls → (calls ≡ []) ⊎ ((c : Call) × (calls ≡ c ∷ []))
+few_still : (old : Standing) (calls : List LifeCall) → IsStill old calls → (calls ≡ []) ⊎ ((c : LifeCall) × (calls ≡ c ∷ []))
 few_still old [] e = inl refl
 few_still old (c ∷ []) e = inr (c, refl)
 few_still old (c ∷ next ∷ calls) e = let clash : false ≡ true = (idle_parts (has_open old) false e).1 in absurd (cc)
 
 -- an idle part asks nothing new
-old_not_new : (gives : Result Answer Refusal) → is_old gives ≡ true → IsNotNew (whole_in gives)
+old_not_new : (gives : Result Answer Refusal) → is_old gives ≡ true → IsNotNew (batch_result_of gives)
 old_not_new (Ok answer) e = e
 old_not_new (Err Memory) e = absurd (cc)
 old_not_new (Err (Device fault)) e = absurd (cc)
@@ -222,7 +222,7 @@ old_not_new (Err _) e = (refl, λ same. cc)
 
 module _ (meaning : Meaning) (lawful : IsLawful meaning) (key barrier : List ℕ) where
   abbrev O : Instance
-  O = opt meaning key barrier
+  O = opt_instance meaning key barrier
 
   is_shut : (y : History) (old : Standing) → StandsFor O old y → has_open old ≡ false → y.is_open ≡ false
   is_shut y old s shut =
@@ -240,7 +240,7 @@ module _ (meaning : Meaning) (lawful : IsLawful meaning) (key barrier : List ℕ
     few = few_still;
     idles = λ y old new c still makes.
         let parts = idle_parts _ _ still in
-        is_idle_where meaning key barrier all others asked y old new c.offer c.request (whole_in c.gives) makes.goes makes.stands
+        is_idle_where meaning key barrier all others asked y old new c.offer c.request (batch_result_of c.gives) makes.goes makes.stands
         makes.asks (is_shut y old makes.stands parts.0) (old_not_new c.gives parts.1);
     stays_still = λ y old deed new quiet still f stands within.
         stays meaning key barrier all others asked clear y old deed new quiet
@@ -248,9 +248,9 @@ module _ (meaning : Meaning) (lawful : IsLawful meaning) (key barrier : List ℕ
         let clash : true ≡ false = sym e ∙ shut in absurd (cc)) f stands within;
   }
 
-  seen_unless : (all others : List (List ℕ)) (old : Standing) (part : Part) (new : Standing) (calls : List Call) (idle : Bool)
+  seen_unless : (all others : List (List ℕ)) (old : Standing) (part : LifePart) (new : Standing) (calls : List LifeCall) (idle : Bool)
       → is_idle old calls ≡ idle
-      → Within (if idle then [] else shown_messages new.items ++ closing_messages part old.cell new.items) all
+      → AreMessagesIn (if idle then [] else shown_messages new.items ++ closing_messages part old.cell new.items) all
       → AllByRecursion (Contains others) (if idle then [] else option_map_or foreign_items new.items [])
       → IsSeen all others old part new ⊎ IsStill old calls
   seen_unless all others old part new calls true e w v = inr e
@@ -261,15 +261,15 @@ module _ (meaning : Meaning) (lawful : IsLawful meaning) (key barrier : List ℕ
   })
 
   pub all_seen : (all others : List (List ℕ)) (asked : List Batch) (clear : IsClear all) (apart : AreNoGuards barrier others asked)
-      (start : Standing) (stages : List Stage) (f : IsLife Opt meaning start stages) → Within (register_messages O start stages f) all
+      (start : Standing) (stages : List LifeStage) (f : IsLife Opt meaning start stages) → AreMessagesIn (register_messages O start stages f) all
       → AllByRecursion (Contains others) (others_values O start stages f) → AreSeen (opt_life all others asked clear apart) start stages f
   unfolding opt_life
   all_seen all others asked clear apart start [] f w v = tt
   all_seen all others asked clear apart start (stage ∷ stages) f w v =
-      let calls : List Call = part_calls Opt meaning start stage.part stage.after f.0 in
+      let calls : List LifeCall = part_calls Opt meaning start stage.part stage.after f.0 in
       let shown : List (List ℕ) =
-      unless_idle start calls (shown_messages stage.after.items ++ closing_messages stage.part start.cell stage.after.items) in
-      let values : List (List ℕ) = unless_idle start calls (option_map_or foreign_items stage.after.items []) in (
+      bytes_unless_idle start calls (shown_messages stage.after.items ++ closing_messages stage.part start.cell stage.after.items) in
+      let values : List (List ℕ) = bytes_unless_idle start calls (option_map_or foreign_items stage.after.items []) in (
         seen_unless all others start stage.part stage.after calls (is_idle start calls) refl
             (each_left (Contains all) shown (register_messages O stage.after stages f.1) w)
             (each_left (Contains others) values (others_values O stage.after stages f.1) v),
@@ -279,7 +279,7 @@ module _ (meaning : Meaning) (lawful : IsLawful meaning) (key barrier : List ℕ
       )
 
   -- the first history, on a register that others extended
-  first_sound : (values : List (List ℕ)) → IsSound (first_on values)
+  first_sound : (values : List (List ℕ)) → IsSound (first_history_on values)
   first_sound values = record {
     open_is = λ e. absurd (cc);
     shut_is = λ e. refl;
@@ -289,16 +289,16 @@ module _ (meaning : Meaning) (lawful : IsLawful meaning) (key barrier : List ℕ
   }
 
   pub first_within : (values all others : List (List ℕ)) (asked : List Batch) → Contains all (start_message Opt meaning.id)
-      → IsWithin all others asked O (first_on values)
+      → IsWithin all others asked O (first_history_on values)
   first_within values all others asked started =
       record { sound = first_sound values; outside = tt; listed = (started, tt); batches = tt }
 
-  first_genuine : (values : List (List ℕ)) → IsGenuine O (first_on values) (issued_bytes O first_history)
+  first_genuine : (values : List (List ℕ)) → IsGenuine O (first_history_on values) (issued_bytes O first_history)
   first_genuine values content right =
-      subst (λ (x : Content). Names O (first_on values) x)
-      (issued_once O (issued_bytes O first_history) (first_on values) content
-      (opt_content meaning lawful key barrier (first_on values) (omega arith)) refl right)
-      (opt_issued meaning key barrier (first_on values) (first_sound values) refl)
+      subst (λ (x : Content). NamesPosition O (first_history_on values) x)
+      (issued_once O (issued_bytes O first_history) (first_history_on values) content
+      (opt_content meaning lawful key barrier (first_history_on values) (omega arith)) refl right)
+      (opt_issued meaning key barrier (first_history_on values) (first_sound values) refl)
 
 pub opt_deeds_stay : OptDeedsStay
 opt_deeds_stay meaning key barrier all others asked y old deed new clear quiet seen f stands within =
@@ -307,7 +307,7 @@ opt_deeds_stay meaning key barrier all others asked y old deed new clear quiet s
 pub opt_is_one : OptLifeIsOne
 unfolding opt_life
 opt_is_one meaning lawful key barrier values start stages f stands clear apart untagged =
-    let i : Instance = opt meaning key barrier in
+    let i : Instance = opt_instance meaning key barrier in
     let all : List (List ℕ) = opt_messages i start stages f in
     let asked : List Batch = life_batches i start stages f in
     let others : List (List ℕ) = others_values i start stages f in
@@ -315,7 +315,7 @@ opt_is_one meaning lawful key barrier values start stages f stands clear apart u
     let back : List (List ℕ) = register_messages i start stages f in
     let itself = each_self [] all in
     let calls = each_left (Contains all) front back itself in
-    let l = (lives (opt_life meaning lawful key barrier all others asked clear apart) stages (first_on values)
+    let l = (lives (opt_life meaning lawful key barrier all others asked clear apart) stages (first_history_on values)
     (issued_bytes i first_history ∷ []) start f stands (first_within meaning lawful key barrier values all others asked calls.0)
     (all_seen meaning lawful key barrier all others asked clear apart start stages f (each_right (Contains all) front back itself)
     (each_self [] others)) (first_genuine meaning lawful key barrier values, tt) untagged

@@ -10,21 +10,21 @@ use Rattle.mm_modules.specs.Modules.{listing_of, meaning_of}
 use Rattle.mm_model.specs.declared.answer.Answer.{Answer}
 use Rattle.mm_model.specs.declared.refusal.Refusal.{Refusal}
 use Rattle.mm_schedule.specs.Events.{Ask, Event}
-use Rattle.mm_schedule.specs.Machine.{Runs, StepsOn}
+use Rattle.mm_schedule.specs.Machine.{IsEventRun, IsBatchStep}
 use Rattle.mm_schedule.specs.Promises.{RunsKeepPromises}
 use Rattle.mm_schedule.specs.Tellings.{TellsWhatWasSaid, tellings_in, tellings_of}
 use Rattle.mm_schedule.specs.declared.event.Offer.TheVariants.{Last}
 use Rattle.mm_schedule.specs.declared.reply.Reply.{Reply}
 use Rattle.mm_schedule.specs.declared.reply.Reply.TheVariants.{Kept}
 use Rattle.mm_schedule.specs.declared.reply.Way.TheVariants.{Drop}
-use Rattle.mm_host.specs.Continuing.{RunsOver, answer_reply}
-use Rattle.mm_host.specs.Sessions.{Served}
+use Rattle.mm_host.specs.Continuation.{CallsRunOver, answer_reply}
+use Rattle.mm_host.specs.Sessions.{ServedCall}
 use Rattle.mm_host.specs.declared.fault.SessionFault.{SessionFault}
 use Rattle.mm_life.specs.Deeds.{Calls, Checkpoints, Extends, LosesPower}
 use Rattle.mm_life.specs.Laws.{LivesKeepPromises, LivesTellWhatWasSaid}
-use Rattle.mm_life.specs.OneList.{CallSteps, FollowsOn, PartSteps, SessionSteps, call_replies, life_replies, part_replies, told_replies}
-use Rattle.mm_life.specs.SessionCalls.{InHandOf, told_by}
-use Rattle.mm_life.specs.Stages.{Does, Holds, IsLife, Part, PartLeads, Stage}
+use Rattle.mm_life.specs.OneList.{CallSteps, LifeFollows, PartSteps, SessionSteps, call_replies, life_replies, part_replies, told_replies}
+use Rattle.mm_life.specs.SessionCalls.{IsInHandOf, served_calls_of}
+use Rattle.mm_life.specs.Stages.{Does, Holds, IsLife, LifePart, PartLeads, LifeStage}
 use Rattle.std.proofs.Common.{append_assoc}
 
 -- a request that is asked
@@ -35,7 +35,7 @@ asking request = Ask [] Quiet Last (One request)
 record Ran (meaning : Meaning) (requests : List (List ℕ)) (tellings : List Telling) (after : List (List ℕ)) : Type 0 where
   events : List Event
   replies : List Reply
-  runs : Runs meaning requests events replies after
+  runs : IsEventRun meaning requests events replies after
   tells : tellings_in replies ≡ tellings
 
 module _ (meaning : Meaning) where
@@ -44,7 +44,7 @@ module _ (meaning : Meaning) where
 
   -- one more request in front
   ran_more : (requests between after : List (List ℕ)) (request : List ℕ) (reply : Reply) (tellings : List Telling)
-      → StepsOn meaning requests (One request) reply between → Ran meaning between tellings after
+      → IsBatchStep meaning requests (One request) reply between → Ran meaning between tellings after
       → Ran meaning requests (tellings_of reply ++ tellings) after
   ran_more requests between after request reply tellings step r = record {
     events = asking request ∷ r.events;
@@ -69,7 +69,7 @@ module _ (meaning : Meaning) where
       ap (λ (ts : List Telling). tellings_of x ++ ts) (tellings_append xs ys)
       ∙ sym (append_assoc (tellings_of x) (tellings_in xs) (tellings_in ys))
 
-  ran_told : (calls : List Served) (requests between after : List (List ℕ)) (more : List Reply) → RunsOver meaning requests calls between
+  ran_told : (calls : List ServedCall) (requests between after : List (List ℕ)) (more : List Reply) → CallsRunOver meaning requests calls between
       → Ran meaning between (tellings_in more) after → Ran meaning requests (tellings_in (told_replies calls ++ more)) after
   ran_told [] requests between after more run r = ran_same requests between after (tellings_in more) run r
   ran_told (c ∷ calls) requests between after more run r =
@@ -85,7 +85,7 @@ module _ (meaning : Meaning) where
   ran_call request (Err why) requests between after more (inr untold) r =
       ran_kept requests between after request (tellings_in more) untold.1 r
 
-  ran_session : (told : List Served) (hand : List ℕ → Type 0) (result : Result Unit SessionFault)
+  ran_session : (told : List ServedCall) (hand : List ℕ → Type 0) (result : Result Unit SessionFault)
       (requests between after : List (List ℕ)) (more : List Reply) → SessionSteps meaning requests told hand result between
       → Ran meaning between (tellings_in more) after → Ran meaning requests (tellings_in (told_replies told ++ more)) after
   ran_session told hand result requests between after more s r =
@@ -96,12 +96,12 @@ module _ (meaning : Meaning) where
       ])
 
 module _ (variant : Variant) (meaning : Meaning) where
-  ran_part : (old : Standing) (part : Part) (new : Standing) (f : PartLeads variant meaning old part new)
+  ran_part : (old : Standing) (part : LifePart) (new : Standing) (f : PartLeads variant meaning old part new)
       (requests between after : List (List ℕ)) (more : List Reply) → PartSteps variant meaning old part new f requests between
       → Ran meaning between (tellings_in more) after
       → Ran meaning requests (tellings_in (part_replies variant meaning old part new f ++ more)) after
   ran_part old (Holds p) new f requests between after more steps r =
-      ran_session meaning (told_by f) (InHandOf f) p.result requests between after more steps r
+      ran_session meaning (served_calls_of f) (IsInHandOf f) p.result requests between after more steps r
   ran_part old (Does (Calls c)) new f requests between after more steps r =
       ran_call meaning c.request c.gives requests between after more steps r
   ran_part old (Does (Extends values)) new f requests between after more steps r =
@@ -111,8 +111,8 @@ module _ (variant : Variant) (meaning : Meaning) where
   ran_part old (Does (Checkpoints said)) new f requests between after more steps r =
       ran_same meaning requests between after (tellings_in more) steps r
 
-  ran : (stages : List Stage) (start : Standing) (f : IsLife variant meaning start stages) (requests after : List (List ℕ))
-      → FollowsOn variant meaning start stages f requests after
+  ran : (stages : List LifeStage) (start : Standing) (f : IsLife variant meaning start stages) (requests after : List (List ℕ))
+      → LifeFollows variant meaning start stages f requests after
       → Ran meaning requests (tellings_in (life_replies variant meaning start stages f)) after
   ran [] start f requests after follows = ran_none meaning requests after follows
   ran (stage ∷ stages) start f requests after follows =

@@ -9,54 +9,54 @@ use Rattle.mm_platform.specs.declared.fault.StepFault.{StepFault}
 use Rattle.mm_module.specs.Meaning.{Meaning}
 use Rattle.mm_model.specs.History.{Close, Foreign}
 use Rattle.mm_model.specs.Instance.{Instance}
-use Rattle.mm_model.specs.InstanceWords.{opt}
+use Rattle.mm_model.specs.InstanceWords.{opt_instance}
 use Rattle.mm_model.specs.Life.{Lost, life_by}
-use Rattle.mm_model.specs.Moves.{Digests, digests_of, made}
+use Rattle.mm_model.specs.Moves.{Digests, digests_of, digests_after}
 use Rattle.mm_model.specs.Steps.{Reads, Writes, checkpoint_steps}
 use Rattle.mm_model.specs.declared.refusal.Refusal.TheVariants as refusal
-use Rattle.mm_call.specs.Checkpoints.{Stops, checkpointed, closing_of}
-use Rattle.mm_call.specs.Courses.{Done, End, Fails, Fate, Walked, after_step, walk}
-use Rattle.mm_call.specs.Levels.{all_made, by_digests}
+use Rattle.mm_call.specs.Checkpoints.{Stops, checkpoint_outcome, checkpoint_ending}
+use Rattle.mm_call.specs.Courses.{Done, End, Fails, StepFate, StepsWalk, walk_from_step, walk}
+use Rattle.mm_call.specs.Levels.{state_after_moves, digest_level}
 use Rattle.mm_call.specs.Standing.{StandsAt}
-use Rattle.mm_call.specs.TrailLaws.{all_made-append, foreign_made}
+use Rattle.mm_call.specs.TrailLaws.{state_after_moves-append, foreign_made}
 use Rattle.mm_call.proofs.Above.{stands_at}
-use Rattle.mm_opt.specs.ChecksOn.{ChecksOn, closing_told}
+use Rattle.mm_opt.specs.CheckpointOnCourse.{IsCheckpointOnCourse, checkpoint_result}
 use Rattle.mm_opt.specs.declared.segment.Checkpointed.{Checkpointed}
 use Rattle.mm_recovery.specs.CellWrites.{TellsFlag}
 use Rattle.mm_recovery.specs.declared.fault.HostFault.TheVariants.{Refused}
 use Rattle.mm_host.specs.declared.fault.SessionFault.{SessionFault}
 use Rattle.mm_host.specs.declared.fault.SessionFault.TheVariants.{Host}
-use Rattle.mm_host.specs.Continuing.{RefusesAs}
-use Rattle.mm_life.specs.Below.{Pending, Served}
-use Rattle.mm_life.specs.Honest.{GoesOnOver}
-use Rattle.mm_life.specs.Idle.{flag_in, has_open}
+use Rattle.mm_host.specs.Continuation.{RefusesAs}
+use Rattle.mm_life.specs.Below.{PendingRecord, ServedCall}
+use Rattle.mm_life.specs.HonestLife.{GoesOnOver}
+use Rattle.mm_life.specs.IdleParts.{flag_in, has_open}
 use Rattle.mm_life.proofs.ClosingCounts.{flag_behind}
 use Rattle.mm_life.proofs.Idling.{open_told}
 
 module _ (i : Instance) where
   -- the walk leaves no open segment, unless it is broken off
-  abbrev Shuts : Digests → Walked → Type 0
-  Shuts d w = w.broken ≡ None → (all_made (by_digests i) d w.moves).flag ≡ false
+  abbrev Shuts : Digests → StepsWalk → Type 0
+  Shuts d w = w.broken ≡ None → (state_after_moves (digest_level i) d w.moves).flag ≡ false
 
-  shut_none : (fates : ℕ → Fate) (number : ℕ) (d : Digests) → d.flag ≡ false → Shuts d (walk fates number [])
+  shut_none : (fates : ℕ → StepFate) (number : ℕ) (d : Digests) → d.flag ≡ false → Shuts d (walk fates number [])
   shut_none fates number d e w = e
 
-  shut_read : (values : List (List ℕ)) (ends : End) (rest : Walked) (d : Digests)
-      → ((e : Digests) → e.flag ≡ d.flag → Shuts e rest) → Shuts d (after_step Reads values ends rest)
+  shut_read : (values : List (List ℕ)) (ends : End) (rest : StepsWalk) (d : Digests)
+      → ((e : Digests) → e.flag ≡ d.flag → Shuts e rest) → Shuts d (walk_from_step Reads values ends rest)
   shut_read values Done rest d behind w =
-      ap (λ (x : Digests). x.flag) (all_made-append i d (map Foreign values) rest.moves)
-      ∙ behind (all_made (by_digests i) d (map Foreign values)) (ap (λ (x : Digests). x.flag) (foreign_made i d values)) w
+      ap (λ (x : Digests). x.flag) (state_after_moves-append i d (map Foreign values) rest.moves)
+      ∙ behind (state_after_moves (digest_level i) d (map Foreign values)) (ap (λ (x : Digests). x.flag) (foreign_made i d values)) w
   shut_read values (Fails fault effect) rest d behind w = absurd (cc)
 
-  shut_write : (fates : ℕ → Fate) (number : ℕ) (values : List (List ℕ)) (ends : End) (d : Digests)
-      → Shuts d (after_step (Writes Close) values ends (walk fates number []))
-  shut_write fates number values Done d w = flag_behind i values (made i d Close)
+  shut_write : (fates : ℕ → StepFate) (number : ℕ) (values : List (List ℕ)) (ends : End) (d : Digests)
+      → Shuts d (walk_from_step (Writes Close) values ends (walk fates number []))
+  shut_write fates number values Done d w = flag_behind i values (digests_after i d Close)
   shut_write fates number values (Fails fault effect) d w = absurd (cc)
 
-  shut_walk : (fates : ℕ → Fate) (flag lost closed : Bool) (d : Digests) → d.flag ≡ flag → (broken : Option StepFault)
+  shut_walk : (fates : ℕ → StepFate) (flag lost closed : Bool) (d : Digests) → d.flag ≡ flag → (broken : Option StepFault)
       → (walk fates 1 (checkpoint_steps Opt flag lost)).broken ≡ broken → (said : Checkpointed)
-      → Ok said ≡ closing_told (option_map_or (λ fault. Stops fault closed) broken (closing_of Opt flag lost))
-      → (all_made (by_digests i) d (walk fates 1 (checkpoint_steps Opt flag lost)).moves).flag ≡ false
+      → Ok said ≡ checkpoint_result (option_map_or (λ fault. Stops fault closed) broken (checkpoint_ending Opt flag lost))
+      → (state_after_moves (digest_level i) d (walk fates 1 (checkpoint_steps Opt flag lost)).moves).flag ≡ false
   shut_walk fates flag lost closed d e (Some fault) b said told = absurd (cc)
   shut_walk fates false lost closed d e None b said told =
       shut_read (fates 1).brings (fates 1).ends (walk fates 2 []) d (λ x same. shut_none fates 2 x (same ∙ e)) b
@@ -75,20 +75,20 @@ not_lost false false own false e l = absurd (cc)
 
 module _ (meaning : Meaning) (key barrier : List ℕ) where
   abbrev pub I : Instance
-  I = opt meaning key barrier
+  I = opt_instance meaning key barrier
 
-  pub shut_behind : (old new : Standing) (said : Checkpointed) → ChecksOn old new (Ok said) → (d : Digests) → StandsAt I old d
+  pub shut_behind : (old new : Standing) (said : Checkpointed) → IsCheckpointOnCourse old new (Ok said) → (d : Digests) → StandsAt I old d
       → has_open new ≡ false
   shut_behind old new said k d s =
       let g = k.goes Opt meaning key barrier d s in
-      let o = checkpointed I (by_digests I) d k.course in
+      let o = checkpoint_outcome I (digest_level I) d k.course in
       let after : TellsFlag new o.state.flag = record { cell = _; is_cell = g.stands.spells; tells = g.stands.cell; shows = refl } in
       open_told new o.state.flag after ∙ shut_walk I k.course.fates d.flag _ _ d refl _ refl said g.gives
 
   pub still_open : (old new : Standing) → new.cell ≡ old.cell → has_open new ≡ has_open old
   still_open old new same = ap (λ (c : Option (List ℕ)). bytes_eq (option_map_or flag_in c []) (1 ∷ [])) same
 
-  pub unlost : (others : List (List ℕ)) (old new : Standing) (requests : List (List ℕ)) (waiting : Option Pending) (told : List Served)
+  pub unlost : (others : List (List ℕ)) (old new : Standing) (requests : List (List ℕ)) (waiting : Option PendingRecord) (told : List ServedCall)
       (hand : List ℕ → Type 0) (result : Result Unit SessionFault) (after : List (List ℕ))
       → GoesOnOver others I old new requests waiting told hand result after → has_open old ≡ false
       → result ≢ Err (Host (Refused refusal.Lost))

@@ -8,19 +8,19 @@ use Rattle.mm_digest.specs.declared.variant.Variant.TheVariants.{Basic, Opt}
 use Rattle.mm_platform.specs.Standing.{Standing}
 use Rattle.mm_module.specs.Meaning.{Meaning}
 use Rattle.mm_model.specs.Instance.{Instance}
-use Rattle.mm_model.specs.InstanceWords.{basic, opt}
+use Rattle.mm_model.specs.InstanceWords.{basic_instance, opt_instance}
 use Rattle.mm_model.specs.Moves.{Digests, digests_of}
 use Rattle.mm_call.specs.Standing.{StandsAt}
 use Rattle.mm_call.proofs.Above.{stands_at}
 use Rattle.mm_recovery.specs.CellWrites.{TellsFlag}
 use Rattle.mm_life.specs.Deeds.{Calls, Checkpoints, Extends, LosesPower}
-use Rattle.mm_life.specs.Idle.{flag_in, has_open}
+use Rattle.mm_life.specs.IdleParts.{flag_in, has_open}
 use Rattle.mm_life.specs.OneList.{life_replies, part_replies, told_replies}
-use Rattle.mm_life.specs.SessionCalls.{first_bytes, told_by}
-use Rattle.mm_life.specs.Stages.{Does, Holds, IsLife, Part, PartLeads, Program, Stage}
-use Rattle.mm_life.specs.Writes.{BasicLivesWriteOnce, OptLivesWriteOnce, PartWrites, WritesOnceEach}
-use Rattle.mm_life.specs.Writes.{new_replies, part_stop, segments_turned, session_stop}
-use Rattle.mm_life.specs.Writes.{turned, turned_unless}
+use Rattle.mm_life.specs.SessionCalls.{first_bytes, served_calls_of}
+use Rattle.mm_life.specs.Stages.{Does, Holds, IsLife, LifePart, PartLeads, Program, LifeStage}
+use Rattle.mm_life.specs.LifeWrites.{BasicLivesWriteOnce, OptLivesWriteOnce, PartWrites, WritesOnceEach}
+use Rattle.mm_life.specs.LifeWrites.{new_replies, part_stop, segment_turns, session_stop}
+use Rattle.mm_life.specs.LifeWrites.{turns_between, turns_unless_stopped}
 use Rattle.mm_life.proofs.Chains.{session_chain}
 use Rattle.mm_life.proofs.Standings.{part_stands}
 use Rattle.mm_life.proofs.CallCounts.{basic_counts, call_writes, CallsWrite, ends_writes, opt_counts, told_write, turned_same}
@@ -28,7 +28,7 @@ use Rattle.mm_life.proofs.ClosingCounts.{basic_checked, opt_checked}
 use Rattle.mm_life.proofs.Longer.{life_longer, new_append}
 
 -- one part
-record PartCounts (old : Standing) (part : Part) (new : Standing) (due : ℕ) : Type 0 where
+record PartCounts (old : Standing) (part : LifePart) (new : Standing) (due : ℕ) : Type 0 where
   in_hand : ℕ
   few : in_hand ≤ part_stop part
   writes : PartWrites old part new (due + in_hand)
@@ -41,13 +41,13 @@ lost_counts : (old new : Standing) → PartCounts old (Does LosesPower) new 0
 lost_counts old new = record { in_hand = 0; few = omega arith; writes = omega arith }
 
 session_writes : (variant : Variant) (meaning : Meaning) (old new : Standing) (p : Program) (f : PartLeads variant meaning old (Holds p) new)
-    → CallsWrite variant old new (new_replies (told_replies (told_by f))) (session_stop p.result)
+    → CallsWrite variant old new (new_replies (told_replies (served_calls_of f))) (session_stop p.result)
 session_writes variant meaning old new p f =
     let k = session_chain f in
-    record { at = k.at; answered = told_write variant meaning (told_by f) (first_bytes f) old k.at k.calls; last = ends_writes k.ends }
+    record { at = k.at; answered = told_write variant meaning (served_calls_of f) (first_bytes f) old k.at k.calls; last = ends_writes k.ends }
 
 -- a part, and the parts behind it
-joined_parts : (start : Standing) (stage : Stage) (stages : List Stage) (here later due : ℕ) → due ≡ here + later
+joined_parts : (start : Standing) (stage : LifeStage) (stages : List LifeStage) (here later due : ℕ) → due ≡ here + later
     → PartCounts start stage.part stage.after here → WritesOnceEach stage.after stages later → WritesOnceEach start (stage ∷ stages) due
 joined_parts start stage stages here later due e p r = record {
   in_hand = p.in_hand + r.in_hand;
@@ -59,8 +59,8 @@ no_parts : (start : Standing) → WritesOnceEach start [] 0
 no_parts start = record { in_hand = 0; few = omega arith; writes = omega arith }
 
 module _ (meaning : Meaning) (key : List ℕ) where
-  basic_part : (old : Standing) (part : Part) (new : Standing) (f : PartLeads Basic meaning old part new) (d : Digests)
-      → StandsAt (basic meaning key) old d → PartCounts old part new (new_replies (part_replies Basic meaning old part new f))
+  basic_part : (old : Standing) (part : LifePart) (new : Standing) (f : PartLeads Basic meaning old part new) (d : Digests)
+      → StandsAt (basic_instance meaning key) old d → PartCounts old part new (new_replies (part_replies Basic meaning old part new f))
   basic_part old (Holds p) new f d s =
       let c = basic_counts old new _ _ (session_writes Basic meaning old new p f) in
       record { in_hand = c.in_hand; few = c.few; writes = c.writes }
@@ -73,8 +73,8 @@ module _ (meaning : Meaning) (key : List ℕ) where
       let c = basic_checked meaning key key old new said f d s in
       record { in_hand = c.in_hand; few = c.few; writes = c.writes }
 
-  basic_lives : (stages : List Stage) (start : Standing) (f : IsLife Basic meaning start stages) (d : Digests)
-      → StandsAt (basic meaning key) start d → WritesOnceEach start stages (new_replies (life_replies Basic meaning start stages f))
+  basic_lives : (stages : List LifeStage) (start : Standing) (f : IsLife Basic meaning start stages) (d : Digests)
+      → StandsAt (basic_instance meaning key) start d → WritesOnceEach start stages (new_replies (life_replies Basic meaning start stages f))
   basic_lives [] start f d s = no_parts start
   basic_lives (stage ∷ stages) start f d s =
       let n = part_stands Basic meaning key key start stage.part stage.after f.0 d s in
@@ -83,14 +83,14 @@ module _ (meaning : Meaning) (key : List ℕ) where
       (basic_part start stage.part stage.after f.0 d s) (basic_lives stages stage.after f.1 n.digests n.stands)
 
 module _ (meaning : Meaning) (key barrier : List ℕ) where
-  unturned : (old new : Standing) → new.cell ≡ old.cell → turned (has_open old) (has_open new) ≡ 0
+  unturned : (old new : Standing) → new.cell ≡ old.cell → turns_between (has_open old) (has_open new) ≡ 0
   unturned old new same =
-      ap (λ (c : Option (List ℕ)). turned (has_open old) (bytes_eq (option_map_or flag_in c []) (1 ∷ []))) same
+      ap (λ (c : Option (List ℕ)). turns_between (has_open old) (bytes_eq (option_map_or flag_in c []) (1 ∷ []))) same
       ∙ turned_same (has_open old)
 
-  opt_part : (old : Standing) (part : Part) (new : Standing) → PartLeads Opt meaning old part new → (d : Digests)
-      → StandsAt (opt meaning key barrier) old d
-      → PartCounts old part new (turned_unless (part_stop part) (has_open old) (has_open new))
+  opt_part : (old : Standing) (part : LifePart) (new : Standing) → PartLeads Opt meaning old part new → (d : Digests)
+      → StandsAt (opt_instance meaning key barrier) old d
+      → PartCounts old part new (turns_unless_stopped (part_stop part) (has_open old) (has_open new))
   opt_part old (Holds p) new f d s =
       let before : TellsFlag old d.flag = record { cell = _; is_cell = s.spells; tells = s.cell; shows = refl } in
       let c = opt_counts old new _ _ (session_writes Opt meaning old new p f) d.flag before in
@@ -105,8 +105,8 @@ module _ (meaning : Meaning) (key barrier : List ℕ) where
       let c = opt_checked meaning key barrier old new said f d s in
       record { in_hand = c.in_hand; few = c.few; writes = c.writes }
 
-  opt_lives : (stages : List Stage) (start : Standing) → IsLife Opt meaning start stages → (d : Digests)
-      → StandsAt (opt meaning key barrier) start d → WritesOnceEach start stages (segments_turned start stages)
+  opt_lives : (stages : List LifeStage) (start : Standing) → IsLife Opt meaning start stages → (d : Digests)
+      → StandsAt (opt_instance meaning key barrier) start d → WritesOnceEach start stages (segment_turns start stages)
   opt_lives [] start f d s = no_parts start
   opt_lives (stage ∷ stages) start f d s =
       let n = part_stands Opt meaning key barrier start stage.part stage.after f.0 d s in
@@ -115,7 +115,7 @@ module _ (meaning : Meaning) (key barrier : List ℕ) where
 
 pub basic_lives_write : BasicLivesWriteOnce
 basic_lives_write meaning key y start stages f requests stands follows =
-    let i : Instance = basic meaning key in
+    let i : Instance = basic_instance meaning key in
     let l = life_longer Basic meaning stages start f [] requests follows in
     record {
       once = basic_lives meaning key stages start f (digests_of i y) (stands_at i start y stands);
@@ -126,5 +126,5 @@ basic_lives_write meaning key y start stages f requests stands follows =
 
 pub opt_lives_write : OptLivesWriteOnce
 opt_lives_write meaning key barrier y start stages f stands =
-    let i : Instance = opt meaning key barrier in
+    let i : Instance = opt_instance meaning key barrier in
     opt_lives meaning key barrier stages start f (digests_of i y) (stands_at i start y stands)

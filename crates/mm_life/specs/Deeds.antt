@@ -1,10 +1,10 @@
 -- What is done to a platform between its programs, one deed at a time.
 use Rattle.std.specs.Prelude.{◌≡◌, ℕ, List, [], Result}
 use Rattle.std.specs.Option.{option_map}
-use Rattle.mm_life.specs.Below.{Variant, Standing, beside, Meaning, Answer, Refusal, IsCall, ChecksOn, CheckpointRefusal, Checkpointed}
+use Rattle.mm_life.specs.Below.{Variant, Standing, items_beside, Meaning, Answer, Refusal, IsCall, IsCheckpointOnCourse, CheckpointRefusal, Checkpointed}
 
 -- one call for a request: what was offered with it, and what it gave
-pub record Call : Type 0 where
+pub record LifeCall : Type 0 where
   pub offer : List ℕ
   pub request : List ℕ
   pub gives : Result Answer Refusal
@@ -12,7 +12,7 @@ pub record Call : Type 0 where
 -- A deed: anybody calls; others extend the register by these values; power is lost and comes back;
 -- a checkpoint is made, and says this.
 pub data Deed : Type 0 where
-  Calls : Call → Deed
+  Calls : LifeCall → Deed
   Extends : List (List ℕ) → Deed
   LosesPower : Deed
   Checkpoints : Result Checkpointed CheckpointRefusal → Deed
@@ -22,7 +22,7 @@ abbrev pub DeedLeads : Variant → Meaning → Standing → Deed → Standing �
 DeedLeads variant meaning old (Calls c) new =
     IsCall variant meaning old new c.offer c.request c.gives
 DeedLeads variant meaning old (Extends values) new =
-    (new.cell ≡ old.cell) × (new.items ≡ beside values old.items)
+    (new.cell ≡ old.cell) × (new.items ≡ items_beside values old.items)
 DeedLeads variant meaning old LosesPower new =
     (new.cell ≡ old.cell) × (new.items ≡ option_map (λ _. []) old.items)
-DeedLeads variant meaning old (Checkpoints result) new = ChecksOn old new result
+DeedLeads variant meaning old (Checkpoints result) new = IsCheckpointOnCourse old new result

@@ -1,18 +1,18 @@
 -- The laws of a life.
 use Rattle.std.specs.Prelude.{◌≡◌, ℕ, List, [], ◌∷◌, Option, Some, Result, ◌⊎◌}
-use Rattle.mm_life.specs.Below.{Variant, Basic, Opt, Standing, IsLawful, Meaning, AreSaid, AnyModule, meaning_of, first_history, basic}
-use Rattle.mm_life.specs.Below.{AreNoGuards, IsClear, StandsFor, issued_bytes, Promises, tellings_in, Instance, opt, Batch, first_on}
-use Rattle.mm_life.specs.Below.{StoreStanding, Pending, Slots, slot_read, first_offer, IsWaiting, MayStart, SessionFault, Sessions}
+use Rattle.mm_life.specs.Below.{Variant, Basic, Opt, Standing, IsLawful, Meaning, AreSaid, AnyModule, meaning_of, first_history, basic_instance}
+use Rattle.mm_life.specs.Below.{AreNoGuards, IsClear, StandsFor, issued_bytes, ModulePromises, tellings_in, Instance, opt_instance, Batch, first_history_on}
+use Rattle.mm_life.specs.Below.{StoreStanding, PendingRecord, Slots, slot_front, first_offer, IsWaiting, MayStart, SessionFault, IsSession}
 use Rattle.mm_life.specs.SessionCalls.{IsFirstOffered, session_calls}
-use Rattle.mm_life.specs.Deeds.{Call}
-use Rattle.mm_life.specs.OneList.{FollowsOn, IsOneWhole, life_replies}
+use Rattle.mm_life.specs.Deeds.{LifeCall}
+use Rattle.mm_life.specs.OneList.{LifeFollows, IsOneWhole, life_replies}
 use Rattle.mm_life.specs.Premises.{AreUntagged, IsUntagged, life_batches, life_messages, opt_messages, others_values, snapshots_of}
-use Rattle.mm_life.specs.Stages.{IsLife, Stage, end_of, life_calls}
+use Rattle.mm_life.specs.Stages.{IsLife, LifeStage, end_of, life_calls}
 
 -- the first snapshot, and those that the calls of a life issued
-abbrev pub issued_over : (i : Instance) (start : Standing) (stages : List Stage)
+abbrev pub life_snapshots : (i : Instance) (start : Standing) (stages : List LifeStage)
     → IsLife i.variant i.meaning start stages → List (List ℕ)
-issued_over i start stages f =
+life_snapshots i start stages f =
     issued_bytes i first_history ∷ snapshots_of (life_calls i.variant i.meaning start stages f)
 
 -- Basic: whatever is done behind a first start, it is one whole, where no two messages of its calls
@@ -21,14 +21,14 @@ issued_over i start stages f =
 abbrev pub BasicLifeIsOne : Type 0
 BasicLifeIsOne =
     (meaning : Meaning) → IsLawful meaning → (key : List ℕ) (start : Standing)
-    (stages : List Stage) (f : IsLife Basic meaning start stages) →
-    StandsFor (basic meaning key) start first_history →
-    IsClear (life_messages (basic meaning key) start stages f) →
-    AreUntagged (basic meaning key) (issued_bytes (basic meaning key) first_history ∷ []) start
+    (stages : List LifeStage) (f : IsLife Basic meaning start stages) →
+    StandsFor (basic_instance meaning key) start first_history →
+    IsClear (life_messages (basic_instance meaning key) start stages f) →
+    AreUntagged (basic_instance meaning key) (issued_bytes (basic_instance meaning key) first_history ∷ []) start
     stages f →
-    IsOneWhole (life_messages (basic meaning key) start stages f) []
-    (life_batches (basic meaning key) start stages f) (basic meaning key)
-    (issued_over (basic meaning key) start stages f) start stages f
+    IsOneWhole (life_messages (basic_instance meaning key) start stages f) []
+    (life_batches (basic_instance meaning key) start stages f) (basic_instance meaning key)
+    (life_snapshots (basic_instance meaning key) start stages f) start stages f
 
 -- Opt, from a register that others had extended by these values: the same, where besides the
 -- messages by which the register's items went into it share no digest, as it shows them behind each
@@ -37,22 +37,22 @@ BasicLifeIsOne =
 abbrev pub OptLifeIsOne : Type 0
 OptLifeIsOne =
     (meaning : Meaning) → IsLawful meaning → (key barrier : List ℕ) (values : List (List ℕ))
-    (start : Standing) (stages : List Stage) (f : IsLife Opt meaning start stages) →
-    StandsFor (opt meaning key barrier) start (first_on values) →
-    IsClear (opt_messages (opt meaning key barrier) start stages f) →
-    AreNoGuards barrier (others_values (opt meaning key barrier) start stages f)
-    (life_batches (opt meaning key barrier) start stages f) →
-    AreUntagged (opt meaning key barrier)
-    (issued_bytes (opt meaning key barrier) first_history ∷ []) start stages f →
-    IsOneWhole (opt_messages (opt meaning key barrier) start stages f)
-    (others_values (opt meaning key barrier) start stages f)
-    (life_batches (opt meaning key barrier) start stages f) (opt meaning key barrier)
-    (issued_over (opt meaning key barrier) start stages f) start stages f
+    (start : Standing) (stages : List LifeStage) (f : IsLife Opt meaning start stages) →
+    StandsFor (opt_instance meaning key barrier) start (first_history_on values) →
+    IsClear (opt_messages (opt_instance meaning key barrier) start stages f) →
+    AreNoGuards barrier (others_values (opt_instance meaning key barrier) start stages f)
+    (life_batches (opt_instance meaning key barrier) start stages f) →
+    AreUntagged (opt_instance meaning key barrier)
+    (issued_bytes (opt_instance meaning key barrier) first_history ∷ []) start stages f →
+    IsOneWhole (opt_messages (opt_instance meaning key barrier) start stages f)
+    (others_values (opt_instance meaning key barrier) start stages f)
+    (life_batches (opt_instance meaning key barrier) start stages f) (opt_instance meaning key barrier)
+    (life_snapshots (opt_instance meaning key barrier) start stages f) start stages f
 
 -- What waits in these slots was found, and the first of the calls offers what they show for it.
-pub record OffersSlots (slots : Slots) (calls : List Call) : Type 0 where
-  pub waiting : Option Pending
-  pub is_waiting : IsWaiting (slot_read slots 2) (slot_read slots 3) waiting
+pub record OffersSlots (slots : Slots) (calls : List LifeCall) : Type 0 where
+  pub waiting : Option PendingRecord
+  pub is_waiting : IsWaiting (slot_front slots 2) (slot_front slots 3) waiting
   pub offered : IsFirstOffered (first_offer slots waiting) calls
 
 -- What a session offers first is what its slots show, where its store tells them; or it made no
@@ -61,7 +61,7 @@ abbrev pub SessionsOfferSlots : Type 0
 SessionsOfferSlots =
     (variant : Variant) (meaning : Meaning) (before after : Standing) (old new : StoreStanding)
     (left left' received received' : Option (List ℕ)) (result : Result Unit SessionFault)
-    (s : Sessions variant meaning before after old new left left' received received' result)
+    (s : IsSession variant meaning before after old new left left' received received' result)
     (slots : Slots) →
     old.slots ≡ Some slots → (session_calls s ≡ []) ⊎ OffersSlots slots (session_calls s)
 
@@ -70,11 +70,11 @@ SessionsOfferSlots =
 abbrev pub NextMayStart : Type 0
 NextMayStart =
     (all others : List (List ℕ)) (asked : List Batch) (i : Instance) (issued : List (List ℕ))
-    (start : Standing) (stages : List Stage) (f : IsLife i.variant i.meaning start stages)
+    (start : Standing) (stages : List LifeStage) (f : IsLife i.variant i.meaning start stages)
     (whole : IsOneWhole all others asked i issued start stages f) →
     IsClear all → AreNoGuards i.barrier others asked →
-    (slots : Slots) (kept : StoreStanding) (waiting : Option Pending) →
-    kept.slots ≡ Some slots → IsWaiting (slot_read slots 2) (slot_read slots 3) waiting →
+    (slots : Slots) (kept : StoreStanding) (waiting : Option PendingRecord) →
+    kept.slots ≡ Some slots → IsWaiting (slot_front slots 2) (slot_front slots 3) waiting →
     IsUntagged i issued (first_offer slots waiting) →
     MayStart all others asked i whole.history slots (end_of start stages) kept
 
@@ -82,15 +82,15 @@ NextMayStart =
 -- the one list.
 abbrev pub LivesTellWhatWasSaid : Type 0
 LivesTellWhatWasSaid =
-    (variant : Variant) (meaning : Meaning) (start : Standing) (stages : List Stage)
+    (variant : Variant) (meaning : Meaning) (start : Standing) (stages : List LifeStage)
     (f : IsLife variant meaning start stages) (requests : List (List ℕ)) →
-    FollowsOn variant meaning start stages f [] requests →
+    LifeFollows variant meaning start stages f [] requests →
     AreSaid meaning requests (tellings_in (life_replies variant meaning start stages f))
 
 -- What a module promises of one run holds over a whole life.
 abbrev pub LivesKeepPromises : Type 0
 LivesKeepPromises =
-    («module» : AnyModule) (variant : Variant) (start : Standing) (stages : List Stage)
+    («module» : AnyModule) (variant : Variant) (start : Standing) (stages : List LifeStage)
     (f : IsLife variant (meaning_of «module») start stages) (requests : List (List ℕ)) →
-    FollowsOn variant (meaning_of «module») start stages f [] requests →
-    Promises «module» requests (life_replies variant (meaning_of «module») start stages f)
+    LifeFollows variant (meaning_of «module») start stages f [] requests →
+    ModulePromises «module» requests (life_replies variant (meaning_of «module») start stages f)

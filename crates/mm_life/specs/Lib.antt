@@ -3,11 +3,11 @@ pub mod Deeds
 pub mod SessionCalls
 pub mod Stages
 pub mod OneList
-pub mod Idle
+pub mod IdleParts
 pub mod Premises
 pub mod Laws
-pub mod Staying
-pub mod Doing
-pub mod Honest
+pub mod DeedHistory
+pub mod DeviceDeeds
+pub mod HonestLife
 pub mod OneStore
-pub mod Writes
+pub mod LifeWrites

@@ -2,32 +2,32 @@
 use Rattle.std.specs.Prelude.{◌≡◌, ℕ, List, [], ◌∷◌, ◌++◌, Result, Ok, Err, IsSome, ◌⊎◌}
 use Rattle.std.specs.List.{AllByRecursion}
 use Rattle.mm_life.specs.Below.{Variant, Standing, Batch, One, Meaning, Answer, History, requests_of, Instance, IsGenuine, StandsFor}
-use Rattle.mm_life.specs.Below.{Refusal, Memory, IsWithin, found_at, by_lists, fault_of, StepsOn, Reply, answer_reply, Served}
-use Rattle.mm_life.specs.Below.{HasUntold, RunsOver, SessionFault}
-use Rattle.mm_life.specs.Deeds.{Call, Calls}
-use Rattle.mm_life.specs.SessionCalls.{InHandOf, told_by}
-use Rattle.mm_life.specs.Stages.{Does, Holds, IsLife, Part, PartLeads, Stage, end_of, latest_calls}
+use Rattle.mm_life.specs.Below.{Refusal, Memory, IsWithin, finding_at, list_level, fault_of, IsBatchStep, Reply, answer_reply, ServedCall}
+use Rattle.mm_life.specs.Below.{HasUntold, CallsRunOver, SessionFault}
+use Rattle.mm_life.specs.Deeds.{LifeCall, Calls}
+use Rattle.mm_life.specs.SessionCalls.{IsInHandOf, served_calls_of}
+use Rattle.mm_life.specs.Stages.{Does, Holds, IsLife, LifePart, PartLeads, LifeStage, end_of, latest_calls}
 
 -- One call on a list of requests: its answer is a step of the machine. Refused it leaves the list;
 -- by a device's fault its request may be run, and not told.
 abbrev pub CallSteps : Meaning → List (List ℕ) → List ℕ → Result Answer Refusal → List (List ℕ)
     → Type 0
 CallSteps meaning requests request (Ok answer) after =
-    StepsOn meaning requests (One request) (answer_reply answer) after
+    IsBatchStep meaning requests (One request) (answer_reply answer) after
 CallSteps meaning requests request (Err why) after =
     (after ≡ requests) ⊎ (IsSome (fault_of why) × (after ≡ requests ++ request ∷ []))
 
 -- A session on a list of requests: what it told are steps of the machine, one after another; and
 -- where it stopped the request in hand may be run, and not told.
-pub record SessionSteps (meaning : Meaning) (requests : List (List ℕ)) (told : List Served)
+pub record SessionSteps (meaning : Meaning) (requests : List (List ℕ)) (told : List ServedCall)
     (hand : List ℕ → Type 0) (result : Result Unit SessionFault)
     (after : List (List ℕ)) : Type 0 where
   pub between : List (List ℕ)
-  pub run : RunsOver meaning requests told between
+  pub run : CallsRunOver meaning requests told between
   pub committed : (after ≡ between) ⊎ HasUntold hand result between after
 
 -- the replies that are told of calls
-abbrev pub told_replies : List Served → List Reply
+abbrev pub told_replies : List ServedCall → List Reply
 told_replies [] = []
 told_replies (c ∷ calls) = answer_reply c.answer ∷ told_replies calls
 
@@ -36,34 +36,34 @@ call_replies (Ok answer) = answer_reply answer ∷ []
 call_replies (Err why) = []
 
 -- one part of a life: other deeds leave the list
-abbrev pub PartSteps : (variant : Variant) (meaning : Meaning) (old : Standing) (part : Part)
+abbrev pub PartSteps : (variant : Variant) (meaning : Meaning) (old : Standing) (part : LifePart)
     (new : Standing) → PartLeads variant meaning old part new → List (List ℕ) → List (List ℕ)
     → Type 0
 PartSteps variant meaning old (Holds p) new s requests after =
-    SessionSteps meaning requests (told_by s) (InHandOf s) p.result after
+    SessionSteps meaning requests (served_calls_of s) (IsInHandOf s) p.result after
 PartSteps variant meaning old (Does (Calls c)) new s requests after =
     CallSteps meaning requests c.request c.gives after
 PartSteps variant meaning old (Does _) new s requests after = after ≡ requests
 
 -- The life is steps on one list, from these requests to those.
-abbrev pub FollowsOn : (variant : Variant) (meaning : Meaning) (start : Standing)
-    (stages : List Stage) → IsLife variant meaning start stages → List (List ℕ) → List (List ℕ)
+abbrev pub LifeFollows : (variant : Variant) (meaning : Meaning) (start : Standing)
+    (stages : List LifeStage) → IsLife variant meaning start stages → List (List ℕ) → List (List ℕ)
     → Type 0
-FollowsOn variant meaning start [] f requests after = after ≡ requests
-FollowsOn variant meaning start (stage ∷ stages) f requests after =
+LifeFollows variant meaning start [] f requests after = after ≡ requests
+LifeFollows variant meaning start (stage ∷ stages) f requests after =
     (between : List (List ℕ))
     × PartSteps variant meaning start stage.part stage.after f.0 requests between
-    × FollowsOn variant meaning stage.after stages f.1 between after
+    × LifeFollows variant meaning stage.after stages f.1 between after
 
 -- the replies that are told in a part of a life, and in all of it
-abbrev pub part_replies : (variant : Variant) (meaning : Meaning) (old : Standing) (part : Part)
+abbrev pub part_replies : (variant : Variant) (meaning : Meaning) (old : Standing) (part : LifePart)
     (new : Standing) → PartLeads variant meaning old part new → List Reply
-part_replies variant meaning old (Holds p) new s = told_replies (told_by s)
+part_replies variant meaning old (Holds p) new s = told_replies (served_calls_of s)
 part_replies variant meaning old (Does (Calls c)) new s = call_replies c.gives
 part_replies variant meaning old (Does _) new s = []
 
 abbrev pub life_replies : (variant : Variant) (meaning : Meaning) (start : Standing)
-    (stages : List Stage) → IsLife variant meaning start stages → List Reply
+    (stages : List LifeStage) → IsLife variant meaning start stages → List Reply
 life_replies variant meaning start [] f = []
 life_replies variant meaning start (stage ∷ stages) f =
     part_replies variant meaning start stage.part stage.after f.0
@@ -71,21 +71,21 @@ life_replies variant meaning start (stage ∷ stages) f =
 
 -- The last of these calls, where it was refused and neither for a device's fault nor for want of
 -- memory, was refused as its offer is by lists at the history.
-abbrev pub IsLastJudged : Instance → History → List Call → Type 0
+abbrev pub IsLastJudged : Instance → History → List LifeCall → Type 0
 IsLastJudged i y [] = Unit {0}
 IsLastJudged i y (c ∷ []) =
     (why : Refusal) → c.gives ≡ Err why
     → IsSome (fault_of why) ⊎ (why ≡ Memory)
-    ⊎ (found_at i (by_lists i) y (One c.request) c.offer ≡ Err why)
+    ⊎ (finding_at i (list_level i) y (One c.request) c.offer ≡ Err why)
 IsLastJudged i y (c ∷ next ∷ calls) = IsLastJudged i y (next ∷ calls)
 
 -- The life is one whole: there is one list of requests that all of it follows, from none; and what
 -- stands at the end stands for a history of this list, for which all that was issued is genuine.
 pub record IsOneWhole (all others : List (List ℕ)) (asked : List Batch) (i : Instance)
-    (issued : List (List ℕ)) (start : Standing) (stages : List Stage)
+    (issued : List (List ℕ)) (start : Standing) (stages : List LifeStage)
     (f : IsLife i.variant i.meaning start stages) : Type 0 where
   pub requests : List (List ℕ)
-  pub follows : FollowsOn i.variant i.meaning start stages f [] requests
+  pub follows : LifeFollows i.variant i.meaning start stages f [] requests
   pub history : History
   pub holds : requests_of history.batches ≡ requests
   pub stands : StandsFor i (end_of start stages) history

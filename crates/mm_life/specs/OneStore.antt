@@ -1,23 +1,23 @@
 -- What a life over one store comes to, over any devices: a first start, a session, a loss of power,
 -- and a session over what the first one left; in Opt with a checkpoint before power is lost.
 use Rattle.std.specs.Prelude.{◌≡◌, ◌≢◌, ◌⊎◌, ℕ, true, List, [], ◌∷◌, Option, Some, Result, Ok, Err, drop, take}
-use Rattle.mm_life.specs.Below.{Basic, Opt, Item, Standing, Meaning, basic, opt, Slots, Store, StoreStanding}
+use Rattle.mm_life.specs.Below.{Basic, Opt, Item, Standing, Meaning, basic_instance, opt_instance, Slots, Store, StoreStanding}
 use Rattle.mm_life.specs.Below.{SessionFault, CheckpointRefusal, Checkpointed}
 use Rattle.mm_model.specs.declared.refusal.Refusal.TheVariants.{Lost}
 use Rattle.mm_recovery.specs.declared.fault.HostFault.TheVariants.{Refused}
 use Rattle.mm_host.specs.declared.fault.SessionFault.TheVariants.{Host}
-use Rattle.mm_recovery.specs.Begins.{Begins}
+use Rattle.mm_recovery.specs.FirstStart.{InstanceBegins}
 use Rattle.mm_recovery.specs.Init.{Devices}
 use Rattle.mm_life.specs.Deeds.{Checkpoints, LosesPower}
 use Rattle.mm_evidence.specs.Evidence.{HasClash}
-use Rattle.mm_life.specs.Honest.{IsGoneOnWith}
+use Rattle.mm_life.specs.HonestLife.{IsGoneOnWith}
 use Rattle.mm_life.specs.Premises.{life_batches, life_messages, opt_messages, others_values}
-use Rattle.mm_life.specs.Stages.{Does, Holds, IsLife, Stage}
-use Rattle.mm_life.specs.Writes.{BasicWrites, WritesOnceEach, segments_turned}
+use Rattle.mm_life.specs.Stages.{Does, Holds, IsLife, LifeStage}
+use Rattle.mm_life.specs.LifeWrites.{BasicWrites, WritesOnceEach, segment_turns}
 
 -- A session: the store, its input and its output, before and after; and what stands behind it.
 abbrev pub session_stage : StoreStanding → StoreStanding → Option (List ℕ) → Option (List ℕ)
-    → Option (List ℕ) → Option (List ℕ) → Result Unit SessionFault → Standing → Stage
+    → Option (List ℕ) → Option (List ℕ) → Result Unit SessionFault → Standing → LifeStage
 session_stage old new left left' received received' result after = record {
   part = Holds (record {
     old = old;
@@ -39,13 +39,13 @@ KeepsStore result = result ≢ Err (Host Store)
 -- for the first time. Or it gives evidence: two different messages of its calls have one digest, or
 -- the digest of one is zero.
 abbrev pub IsGoneOnInBasic : (meaning : Meaning) (key : List ℕ) (start : Standing)
-    (kept : StoreStanding) (stages : List Stage) → IsLife Basic meaning start stages → Type 0
+    (kept : StoreStanding) (stages : List LifeStage) → IsLife Basic meaning start stages → Type 0
 IsGoneOnInBasic meaning key start kept stages f =
-    ((gone : IsGoneOnWith (life_messages (basic meaning key) start stages f) []
-    (life_batches (basic meaning key) start stages f) (basic meaning key) [] kept start stages f)
+    ((gone : IsGoneOnWith (life_messages (basic_instance meaning key) start stages f) []
+    (life_batches (basic_instance meaning key) start stages f) (basic_instance meaning key) [] kept start stages f)
     × BasicWrites meaning start stages f gone.after)
-    ⊎ HasClash (basic meaning key) (life_messages (basic meaning key) start stages f) []
-    (life_batches (basic meaning key) start stages f)
+    ⊎ HasClash (basic_instance meaning key) (life_messages (basic_instance meaning key) start stages f) []
+    (life_batches (basic_instance meaning key) start stages f)
 
 -- It is one, or gives evidence, where the platform told its cell before the first start, and an
 -- honest store its slots, and the store failed in neither session.
@@ -53,7 +53,7 @@ pub record LivesOnOneStore (meaning : Meaning) (before : Devices) (after : Stand
     (new : StoreStanding) (first first' second second' received received' : Option (List ℕ))
     (one two : Result Unit SessionFault) : Type 0 where
   pub started : Devices
-  pub begun : Begins Basic meaning before started
+  pub begun : InstanceBegins Basic meaning before started
   pub middle : Standing
   pub empty : Standing
   pub between : StoreStanding
@@ -80,21 +80,21 @@ IsUnlost (Err why) result = Unit {0}
 -- items went into it, have one digest, or the digest of one is zero; or a value of others is the
 -- guard of a request.
 abbrev pub IsGoneOnInOpt : (meaning : Meaning) (key barrier : List ℕ) (start : Standing)
-    (kept : StoreStanding) (stages : List Stage) → IsLife Opt meaning start stages
+    (kept : StoreStanding) (stages : List LifeStage) → IsLife Opt meaning start stages
     → Result Checkpointed CheckpointRefusal → Result Unit SessionFault → Type 0
 IsGoneOnInOpt meaning key barrier start kept stages f said last =
-    (IsGoneOnWith (opt_messages (opt meaning key barrier) start stages f)
-    (others_values (opt meaning key barrier) start stages f)
-    (life_batches (opt meaning key barrier) start stages f) (opt meaning key barrier) [] kept start
+    (IsGoneOnWith (opt_messages (opt_instance meaning key barrier) start stages f)
+    (others_values (opt_instance meaning key barrier) start stages f)
+    (life_batches (opt_instance meaning key barrier) start stages f) (opt_instance meaning key barrier) [] kept start
     stages f
     × IsUnlost said last)
-    ⊎ HasClash (opt meaning key barrier) (opt_messages (opt meaning key barrier) start stages f)
-    (others_values (opt meaning key barrier) start stages f)
-    (life_batches (opt meaning key barrier) start stages f)
+    ⊎ HasClash (opt_instance meaning key barrier) (opt_messages (opt_instance meaning key barrier) start stages f)
+    (others_values (opt_instance meaning key barrier) start stages f)
+    (life_batches (opt_instance meaning key barrier) start stages f)
 
 -- a checkpoint that said this, and a loss of power, between two sessions
-abbrev pub stages_around : Stage → Result Checkpointed CheckpointRefusal → (closed empty : Standing)
-    → Stage → List Stage
+abbrev pub stages_around : LifeStage → Result Checkpointed CheckpointRefusal → (closed empty : Standing)
+    → LifeStage → List LifeStage
 stages_around first said closed empty second =
     first ∷ record { part = Does (Checkpoints said); after = closed }
     ∷ record { part = Does LosesPower; after = empty } ∷ second ∷ []
@@ -107,13 +107,13 @@ pub record LivesOverCheckpoint (meaning : Meaning) (before : Devices) (after : S
     (one : Result Unit SessionFault) (said : Result Checkpointed CheckpointRefusal)
     (two : Result Unit SessionFault) : Type 0 where
   pub started : Devices
-  pub begun : Begins Opt meaning before started
+  pub begun : InstanceBegins Opt meaning before started
   pub middle : Standing
   pub closed : Standing
   pub empty : Standing
   pub between : StoreStanding
   pub told : Option (List ℕ)
-  pub stages : List Stage
+  pub stages : List LifeStage
   pub are : stages ≡ stages_around
       (session_stage started.store between first first' received told one middle) said closed empty
       (session_stage between new second second' told received' two after)
@@ -126,4 +126,4 @@ pub record LivesOverCheckpoint (meaning : Meaning) (before : Devices) (after : S
       started.store stages life said two
   pub writes : (cell : List ℕ) (items : List Item) → before.platform.cell ≡ Some cell →
       before.platform.items ≡ Some items →
-      WritesOnceEach started.platform stages (segments_turned started.platform stages)
+      WritesOnceEach started.platform stages (segment_turns started.platform stages)

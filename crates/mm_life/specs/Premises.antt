@@ -3,33 +3,33 @@ use Rattle.std.specs.Prelude.{ℕ, List, [], ◌∷◌, ◌++◌, drop, map, tak
 use Rattle.std.specs.List.{Contains, flat_map}
 use Rattle.std.specs.Option.{option_map_or}
 use Rattle.mm_life.specs.Below.{anchored_message, extended_message, start_message, zero_bytes, Content, Item, Standing}
-use Rattle.mm_life.specs.Below.{item_values, Batch, One, after, Instance, register_trail, IsRight, right_messages}
+use Rattle.mm_life.specs.Below.{item_values, Batch, One, digest_after, Instance, register_trail, IsRight, right_messages}
 use Rattle.mm_life.specs.Below.{right_content, foreign_items, Answer, Refusal}
-use Rattle.mm_life.specs.Deeds.{Call, Checkpoints}
-use Rattle.mm_life.specs.Idle.{is_idle}
-use Rattle.mm_life.specs.Stages.{Does, IsLife, Part, Stage, life_calls, part_calls}
+use Rattle.mm_life.specs.Deeds.{LifeCall, Checkpoints}
+use Rattle.mm_life.specs.IdleParts.{is_idle}
+use Rattle.mm_life.specs.Stages.{Does, IsLife, LifePart, LifeStage, life_calls, part_calls}
 
 -- the snapshots that these calls issued, told or not
-abbrev pub issued_in : Result Answer Refusal → List (List ℕ)
-issued_in (Ok answer) = answer.snapshot ∷ []
-issued_in (Err why) = []
+abbrev pub issued_snapshot_in : Result Answer Refusal → List (List ℕ)
+issued_snapshot_in (Ok answer) = answer.snapshot ∷ []
+issued_snapshot_in (Err why) = []
 
-abbrev pub snapshots_of : List Call → List (List ℕ)
-snapshots_of calls = flat_map (λ c. issued_in c.gives) calls
+abbrev pub snapshots_of : List LifeCall → List (List ℕ)
+snapshots_of calls = flat_map (λ c. issued_snapshot_in c.gives) calls
 
 -- Nobody else made its tag: bytes that are right were issued before.
 abbrev pub IsUntagged : Instance → List (List ℕ) → List ℕ → Type 0
 IsUntagged i issued offer = (content : Content) → IsRight i offer content → Contains issued offer
 
 -- asked of the first of these calls
-abbrev pub IsFirstUntagged : Instance → List (List ℕ) → List Call → Type 0
+abbrev pub IsFirstUntagged : Instance → List (List ℕ) → List LifeCall → Type 0
 IsFirstUntagged i issued [] = Unit {0}
 IsFirstUntagged i issued (c ∷ calls) = IsUntagged i issued c.offer
 
 -- Of each program, and of each call of others, it is asked of what is offered first. What a program
 -- offers later are snapshots that it was answered.
 abbrev pub AreUntagged : (i : Instance) (issued : List (List ℕ)) (start : Standing)
-    (stages : List Stage) → IsLife i.variant i.meaning start stages → Type 0
+    (stages : List LifeStage) → IsLife i.variant i.meaning start stages → Type 0
 AreUntagged i issued start [] f = Unit {0}
 AreUntagged i issued start (stage ∷ stages) f =
     (let calls = part_calls i.variant i.meaning start stage.part stage.after f.0 in
@@ -37,12 +37,12 @@ AreUntagged i issued start (stage ∷ stages) f =
     × AreUntagged i (issued ++ snapshots_of calls) stage.after stages f.1)
 
 -- the requests of the calls, each a batch
-abbrev pub requests_asked : List Call → List Batch
-requests_asked calls = map (λ c. One c.request) calls
+abbrev pub call_batches : List LifeCall → List Batch
+call_batches calls = map (λ c. One c.request) calls
 
 -- The messages of calls: the start message, and for each call those of what is asked with a right
 -- offer.
-abbrev pub call_messages : Instance → List Call → List (List ℕ)
+abbrev pub call_messages : Instance → List LifeCall → List (List ℕ)
 call_messages i calls =
     start_message i.variant i.meaning.id
     ∷ flat_map (λ c. right_messages i (One c.request) (right_content i c.offer)) calls
@@ -53,52 +53,52 @@ call_messages i calls =
 abbrev pub shown_messages : Option (List Item) → List (List ℕ)
 shown_messages items = option_map_or (λ shown. register_trail (item_values shown)) items []
 
-abbrev pub closings : List ℕ → List ℕ → List (List ℕ) → List (List ℕ)
-closings anchor register [] = anchored_message anchor register ∷ []
-closings anchor register (value ∷ values) =
+abbrev pub possible_closings : List ℕ → List ℕ → List (List ℕ) → List (List ℕ)
+possible_closings anchor register [] = anchored_message anchor register ∷ []
+possible_closings anchor register (value ∷ values) =
     anchored_message anchor register
-    ∷ closings anchor (after extended_message register (value ∷ [])) values
+    ∷ possible_closings anchor (digest_after extended_message register (value ∷ [])) values
 
 -- the digest in a cell's bytes
 abbrev pub digest_in : List ℕ → List ℕ
 digest_in cell = take 32 (drop 8 cell)
 
-abbrev pub closing_messages : Part → Option (List ℕ) → Option (List Item) → List (List ℕ)
+abbrev pub closing_messages : LifePart → Option (List ℕ) → Option (List Item) → List (List ℕ)
 closing_messages (Does (Checkpoints said)) (Some cell) (Some items) =
-    closings (digest_in cell) zero_bytes (item_values items)
+    possible_closings (digest_in cell) zero_bytes (item_values items)
 closing_messages _ _ _ = []
 
 -- nothing of a part that is idle
-abbrev pub unless_idle : Standing → List Call → List (List ℕ) → List (List ℕ)
-unless_idle old calls asked = if is_idle old calls then [] else asked
+abbrev pub bytes_unless_idle : Standing → List LifeCall → List (List ℕ) → List (List ℕ)
+bytes_unless_idle old calls asked = if is_idle old calls then [] else asked
 
-abbrev pub register_messages : (i : Instance) (start : Standing) (stages : List Stage)
+abbrev pub register_messages : (i : Instance) (start : Standing) (stages : List LifeStage)
     → IsLife i.variant i.meaning start stages → List (List ℕ)
 register_messages i start [] f = []
 register_messages i start (stage ∷ stages) f =
-    unless_idle start (part_calls i.variant i.meaning start stage.part stage.after f.0)
+    bytes_unless_idle start (part_calls i.variant i.meaning start stage.part stage.after f.0)
     (shown_messages stage.after.items
     ++ closing_messages stage.part start.cell stage.after.items)
     ++ register_messages i stage.after stages f.1
 
 -- the values by which others extended the register, as it shows them behind each part that isn't
 -- idle
-abbrev pub others_values : (i : Instance) (start : Standing) (stages : List Stage)
+abbrev pub others_values : (i : Instance) (start : Standing) (stages : List LifeStage)
     → IsLife i.variant i.meaning start stages → List (List ℕ)
 others_values i start [] f = []
 others_values i start (stage ∷ stages) f =
-    unless_idle start (part_calls i.variant i.meaning start stage.part stage.after f.0)
+    bytes_unless_idle start (part_calls i.variant i.meaning start stage.part stage.after f.0)
     (option_map_or foreign_items stage.after.items [])
     ++ others_values i stage.after stages f.1
 
-abbrev pub life_batches : (i : Instance) (start : Standing) (stages : List Stage)
+abbrev pub life_batches : (i : Instance) (start : Standing) (stages : List LifeStage)
     → IsLife i.variant i.meaning start stages → List Batch
-life_batches i start stages f = requests_asked (life_calls i.variant i.meaning start stages f)
+life_batches i start stages f = call_batches (life_calls i.variant i.meaning start stages f)
 
-abbrev pub life_messages : (i : Instance) (start : Standing) (stages : List Stage)
+abbrev pub life_messages : (i : Instance) (start : Standing) (stages : List LifeStage)
     → IsLife i.variant i.meaning start stages → List (List ℕ)
 life_messages i start stages f = call_messages i (life_calls i.variant i.meaning start stages f)
 
-abbrev pub opt_messages : (i : Instance) (start : Standing) (stages : List Stage)
+abbrev pub opt_messages : (i : Instance) (start : Standing) (stages : List LifeStage)
     → IsLife i.variant i.meaning start stages → List (List ℕ)
 opt_messages i start stages f = life_messages i start stages f ++ register_messages i start stages f

@@ -1,8 +1,8 @@
 -- The life of a platform behind its first start: programs, and deeds between them, one after
 -- another, whatever the slots hold when a program starts.
 use Rattle.std.specs.Prelude.{ℕ, List, [], ◌∷◌, ◌++◌, Option, Result}
-use Rattle.mm_life.specs.Below.{Variant, Standing, Meaning, StoreStanding, Sessions, SessionFault}
-use Rattle.mm_life.specs.Deeds.{Call, Calls, Deed, DeedLeads}
+use Rattle.mm_life.specs.Below.{Variant, Standing, Meaning, StoreStanding, IsSession, SessionFault}
+use Rattle.mm_life.specs.Deeds.{LifeCall, Calls, Deed, DeedLeads}
 use Rattle.mm_life.specs.SessionCalls.{session_calls}
 
 -- A program's session: its store, its input and its output, before and after; and how it ended.
@@ -17,37 +17,37 @@ pub record Program : Type 0 where
   pub result : Result Unit SessionFault
 
 -- a program holds a session, or a deed is done
-pub data Part : Type 0 where
-  Holds : Program → Part
-  Does : Deed → Part
+pub data LifePart : Type 0 where
+  Holds : Program → LifePart
+  Does : Deed → LifePart
 
 -- a part of a life, and what stands behind it
-pub record Stage : Type 0 where
-  pub part : Part
+pub record LifeStage : Type 0 where
+  pub part : LifePart
   pub after : Standing
 
 -- The part leads a platform from one standing to another.
-abbrev pub PartLeads : Variant → Meaning → Standing → Part → Standing → Type 0
+abbrev pub PartLeads : Variant → Meaning → Standing → LifePart → Standing → Type 0
 PartLeads variant meaning old (Holds p) new =
-    Sessions variant meaning old new p.old p.new p.left p.left' p.received p.received' p.result
+    IsSession variant meaning old new p.old p.new p.left p.left' p.received p.received' p.result
 PartLeads variant meaning old (Does deed) new = DeedLeads variant meaning old deed new
 
 -- Each of these stages begins with what stands behind the one before it, the first one here.
-abbrev pub IsLife : Variant → Meaning → Standing → List Stage → Type 0
+abbrev pub IsLife : Variant → Meaning → Standing → List LifeStage → Type 0
 IsLife variant meaning start [] = Unit {0}
 IsLife variant meaning start (stage ∷ stages) =
     PartLeads variant meaning start stage.part stage.after
     × IsLife variant meaning stage.after stages
 
 -- the calls that were made in a part of a life, and in all of it
-abbrev pub part_calls : (variant : Variant) (meaning : Meaning) (old : Standing) (part : Part)
-    (new : Standing) → PartLeads variant meaning old part new → List Call
+abbrev pub part_calls : (variant : Variant) (meaning : Meaning) (old : Standing) (part : LifePart)
+    (new : Standing) → PartLeads variant meaning old part new → List LifeCall
 part_calls variant meaning old (Holds p) new s = session_calls s
 part_calls variant meaning old (Does (Calls c)) new s = c ∷ []
 part_calls variant meaning old (Does _) new s = []
 
 abbrev pub life_calls : (variant : Variant) (meaning : Meaning) (start : Standing)
-    (stages : List Stage) → IsLife variant meaning start stages → List Call
+    (stages : List LifeStage) → IsLife variant meaning start stages → List LifeCall
 life_calls variant meaning start [] f = []
 life_calls variant meaning start (stage ∷ stages) f =
     part_calls variant meaning start stage.part stage.after f.0
@@ -55,7 +55,7 @@ life_calls variant meaning start (stage ∷ stages) f =
 
 -- those of the last part
 abbrev pub latest_calls : (variant : Variant) (meaning : Meaning) (start : Standing)
-    (stages : List Stage) → IsLife variant meaning start stages → List Call
+    (stages : List LifeStage) → IsLife variant meaning start stages → List LifeCall
 latest_calls variant meaning start [] f = []
 latest_calls variant meaning start (stage ∷ []) f =
     part_calls variant meaning start stage.part stage.after f.0
@@ -63,6 +63,6 @@ latest_calls variant meaning start (stage ∷ next ∷ stages) f =
     latest_calls variant meaning stage.after (next ∷ stages) f.1
 
 -- what stands at the end
-abbrev pub end_of : Standing → List Stage → Standing
+abbrev pub end_of : Standing → List LifeStage → Standing
 end_of start [] = start
 end_of start (stage ∷ stages) = end_of stage.after stages

@@ -1,6 +1,6 @@
 //! Laws of a life over one honest store, each the contract of a function that does nothing.
 
-ghost use Rattle.mm_life.specs.Honest.{BasicLifeGoesOn, OptLifeGoesOn};
+ghost use Rattle.mm_life.specs.HonestLife.{BasicLifeGoesOn, OptLifeGoesOn};
 
 /// Basic: over the store of a first start, where each program starts over what the one before it left, each stop is
 /// resumed. What waits is the next request of the one list or the last; it is told first, and each line once; and a session

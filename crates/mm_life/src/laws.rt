@@ -1,8 +1,8 @@
 //! Laws of a life, each the contract of a function that does nothing, or calls what it needs.
 
-ghost use Rattle.mm_life.specs.Doing.{CyclesAreDeeds, ReadsAreDeeds};
-ghost use Rattle.mm_life.specs.Staying.{BasicDeedsStay, OptDeedsStay};
-ghost use Rattle.mm_life.specs.Writes.{BasicLivesWriteOnce, OptLivesWriteOnce};
+ghost use Rattle.mm_life.specs.DeviceDeeds.{CyclesAreDeeds, ReadsAreDeeds};
+ghost use Rattle.mm_life.specs.DeedHistory.{BasicDeedsStay, OptDeedsStay};
+ghost use Rattle.mm_life.specs.LifeWrites.{BasicLivesWriteOnce, OptLivesWriteOnce};
 ghost use Rattle.mm_life.specs.Laws.{BasicLifeIsOne, LivesKeepPromises, LivesTellWhatWasSaid, NextMayStart, OptLifeIsOne, SessionsOfferSlots};
 
 use mm_schedule::laws::{runs_keep_promises, tells_what_was_said};

@@ -33,7 +33,7 @@ pub struct CheckedSessions {
 
 /// Why there weren't two sessions.
 #[derive(Clone, Copy, Debug, PartialEq, Eq)]
-pub enum Unheld {
+pub enum BothSessionsFault {
     /// The first start failed.
     Starting(InitFault),
     /// The platform failed when it was to lose its power.
@@ -51,7 +51,7 @@ pub fn live_on_one_store<M: Module, P: Platform, T: Store, E: Source, S: Source,
     first_input: &mut S,
     second_input: &mut S,
     out: &mut K,
-) -> Result<BothSessions, Unheld>
+) -> Result<BothSessions, BothSessionsFault>
     ensures { IfOk result (λ both. LivesOnOneStore (M.meaning «module».now)
         (devices (P.standing platform.old) (T.kept store.old) (E.left entropy.old)
         (E.faults entropy.old)) (P.standing platform.new) (T.kept store.new)
@@ -63,7 +63,7 @@ pub fn live_on_one_store<M: Module, P: Platform, T: Store, E: Source, S: Source,
     device_calls_are_deeds();
     lives_write_once();
     match init(alloc, Variant::Basic, module, platform, store, entropy) {
-        Err(fault) => Err(Unheld::Starting(fault)),
+        Err(fault) => Err(BothSessionsFault::Starting(fault)),
         Ok(()) => {
             let first = session(
                 alloc,
@@ -75,7 +75,7 @@ pub fn live_on_one_store<M: Module, P: Platform, T: Store, E: Source, S: Source,
                 out,
             );
             match platform.cycle() {
-                Err(fault) => Err(Unheld::LosingPower(fault)),
+                Err(fault) => Err(BothSessionsFault::LosingPower(fault)),
                 Ok(()) => {
                     let second = session(
                         alloc,
@@ -104,7 +104,7 @@ pub fn live_over_checkpoint<M: Module, P: Platform, T: Store, E: Source, S: Sour
     first_input: &mut S,
     second_input: &mut S,
     out: &mut K,
-) -> Result<CheckedSessions, Unheld>
+) -> Result<CheckedSessions, BothSessionsFault>
     ensures { IfOk result (λ held. LivesOverCheckpoint (M.meaning «module».now)
         (devices (P.standing platform.old) (T.kept store.old) (E.left entropy.old)
         (E.faults entropy.old)) (P.standing platform.new) (T.kept store.new)
@@ -116,7 +116,7 @@ pub fn live_over_checkpoint<M: Module, P: Platform, T: Store, E: Source, S: Sour
     device_calls_are_deeds();
     lives_write_once();
     match init(alloc, Variant::Opt, module, platform, store, entropy) {
-        Err(fault) => Err(Unheld::Starting(fault)),
+        Err(fault) => Err(BothSessionsFault::Starting(fault)),
         Ok(()) => {
             let first = session(
                 alloc,
@@ -129,7 +129,7 @@ pub fn live_over_checkpoint<M: Module, P: Platform, T: Store, E: Source, S: Sour
             );
             let said = checkpoint(platform);
             match platform.cycle() {
-                Err(fault) => Err(Unheld::LosingPower(fault)),
+                Err(fault) => Err(BothSessionsFault::LosingPower(fault)),
                 Ok(()) => {
                     let second = session(
                         alloc,

@@ -8,29 +8,29 @@ use Rattle.std.proofs.lemmas.Bool.Decides.{nat_tests}
 use Rattle.std.proofs.lemmas.List.Sums.{sum_by-cons}
 use Rattle.mm_module.specs.TableLaws.{outputs_by, table_outputs}
 use Rattle.mm_module.specs.Words.{words_of}
-use Rattle.mm_limiter.specs.Table.{State, Unset, Guarded, Request, outcome_of, text_of, request_of}
+use Rattle.mm_limiter.specs.Table.{TableState, Unset, Guarded, TableRequest, outcome_of, text_of, request_of}
 use Rattle.mm_limiter.specs.LimiterLaws.{IsLimiterState, limiter_table, limiter_is_table}
-use Rattle.mm_limiter.specs.Guesses.{is_renewal, is_wrong, allowed_by, stretch, GuessesAreLimited}
+use Rattle.mm_limiter.specs.Guesses.{is_renewal, is_wrong, allowed_guesses, stretch, GuessesAreLimited}
 
 -- what a request does at a state, and what is said
-abbrev after : State → List ℕ → State × List ℕ
+abbrev after : TableState → List ℕ → TableState × List ℕ
 after state request = limiter_table.does state request
 
-abbrev outputs_at : State → List (List ℕ) → List (List ℕ)
+abbrev outputs_at : TableState → List (List ℕ) → List (List ℕ)
 outputs_at state requests = outputs_by limiter_table state requests
 
 -- the wrong guesses left
-abbrev left_in : State → ℕ
+abbrev left_in : TableState → ℕ
 left_in Unset = 0
 left_in (Guarded tries left secret) = left
 
 -- a request that renews nothing takes as many of those left as it is told wrong
-costs : (state : State) (request : Option Request) → is_renewal (text_of (outcome_of state request).1) ≡ false
+costs : (state : TableState) (request : Option TableRequest) → is_renewal (text_of (outcome_of state request).1) ≡ false
     → cond (is_wrong (text_of (outcome_of state request).1)) 1 0 + left_in (outcome_of state request).0 ≤ left_in state
 costs state request none = grind (arith, nat_tests)
 
 -- no more are wrong than are left
-few_wrong : (size : ℕ) (state : State) (requests : List (List ℕ)) → list_any is_renewal (take size (outputs_at state requests)) ≡ false
+few_wrong : (size : ℕ) (state : TableState) (requests : List (List ℕ)) → list_any is_renewal (take size (outputs_at state requests)) ≡ false
     → count_by is_wrong (take size (outputs_at state requests)) ≤ left_in state
 few_wrong zero state requests none = omega arith
 few_wrong (suc size) state [] none = omega arith
@@ -46,20 +46,20 @@ few_wrong (suc size) state (request ∷ requests) none =
     )
 
 -- the guesses that are allowed in all, from a state
-abbrev allowed_at : State → List (List ℕ) → ℕ
-allowed_at Unset requests = allowed_by requests (outputs_at Unset requests)
+abbrev allowed_at : TableState → List (List ℕ) → ℕ
+allowed_at Unset requests = allowed_guesses requests (outputs_at Unset requests)
 allowed_at (Guarded tries left secret) requests = tries
 
-left-allowed : (state : State) (requests : List (List ℕ)) → IsLimiterState state → left_in state ≤ allowed_at state requests
+left-allowed : (state : TableState) (requests : List (List ℕ)) → IsLimiterState state → left_in state ≤ allowed_at state requests
 left-allowed state requests good = grind arith
 
 -- it stays along a run
-allowed-same : (state : State) (request : List ℕ) (requests : List (List ℕ))
+allowed-same : (state : TableState) (request : List ℕ) (requests : List (List ℕ))
     → allowed_at (after state request).0 requests ≡ allowed_at state (request ∷ requests)
 allowed-same state request requests = grind (arith, nat_tests)
 
 -- in a stretch that renews nothing no more are wrong than are allowed
-limited_at : (from size : ℕ) (state : State) (requests : List (List ℕ)) → IsLimiterState state
+limited_at : (from size : ℕ) (state : TableState) (requests : List (List ℕ)) → IsLimiterState state
     → list_any is_renewal (stretch from size (outputs_at state requests)) ≡ false
     → count_by is_wrong (stretch from size (outputs_at state requests)) ≤ allowed_at state requests
 limited_at zero size state requests good none = omega (arith, few_wrong size state requests none, left-allowed state requests good)
@@ -77,6 +77,6 @@ pub guesses-limited : GuessesAreLimited
 guesses-limited requests =
     let P : List (List ℕ) → Type 0 = λ outputs. (from size : ℕ)
     → list_any is_renewal (stretch from size outputs) ≡ false
-    → count_by is_wrong (stretch from size outputs) ≤ allowed_by requests outputs in
+    → count_by is_wrong (stretch from size outputs) ≤ allowed_guesses requests outputs in
     subst P (sym (table_outputs limiter_is_table Unset requests tt))
     (λ from size none. limited_at from size Unset requests tt none)

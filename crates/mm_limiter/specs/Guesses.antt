@@ -4,7 +4,7 @@ use Rattle.std.specs.List.{list_any}
 use Rattle.std.specs.Str.{bytes_eq}
 use Rattle.mm_module.specs.Meaning.{outputs_from}
 use Rattle.mm_module.specs.Words.{words_of}
-use Rattle.mm_limiter.specs.Table.{Request, Guard, Guess, Left, request_of, limiter}
+use Rattle.mm_limiter.specs.Table.{TableRequest, Guard, Guess, Left, request_of, limiter}
 
 -- a secret was set, or guessed right: all guesses are left again
 abbrev pub is_renewal : List ℕ → Bool
@@ -15,19 +15,19 @@ abbrev pub is_wrong : List ℕ → Bool
 is_wrong output = bytes_eq (take 6 output) (codes "wrong ")
 
 -- the number of guesses that a request allows
-abbrev pub tries_in : Option Request → ℕ
+abbrev pub tries_in : Option TableRequest → ℕ
 tries_in (Some (Guard secret tries)) = tries
 tries_in (Some (Guess secret)) = 0
 tries_in (Some Left) = 0
 tries_in None = 0
 
 -- the guesses that the request allows that was told `set`; 0 where none was
-abbrev pub allowed_by : List (List ℕ) → List (List ℕ) → ℕ
-allowed_by [] outputs = 0
-allowed_by (request ∷ requests) [] = 0
-allowed_by (request ∷ requests) (output ∷ outputs) =
+abbrev pub allowed_guesses : List (List ℕ) → List (List ℕ) → ℕ
+allowed_guesses [] outputs = 0
+allowed_guesses (request ∷ requests) [] = 0
+allowed_guesses (request ∷ requests) (output ∷ outputs) =
     if bytes_eq output (codes "set") then tries_in (request_of (words_of request))
-    else allowed_by requests outputs
+    else allowed_guesses requests outputs
 
 -- so many outputs from this place on, as far as there are any
 abbrev pub stretch : ℕ → ℕ → List (List ℕ) → List (List ℕ)
@@ -39,7 +39,7 @@ abbrev pub LimitsGuesses : List (List ℕ) → Type 0
 LimitsGuesses requests =
     let outputs = outputs_from limiter limiter.first requests in
     (from size : ℕ) → list_any is_renewal (stretch from size outputs) ≡ false
-    → count_by is_wrong (stretch from size outputs) ≤ allowed_by requests outputs
+    → count_by is_wrong (stretch from size outputs) ≤ allowed_guesses requests outputs
 
 -- so it is in every run
 abbrev pub GuessesAreLimited : Type 0

@@ -10,7 +10,7 @@ use Rattle.mm_module.specs.PartLaws.{are_bytes-visible}
 use Rattle.mm_module.specs.TableLaws.{Table, IsTable, IsOutcome, table_by, table_is_lawful, table_is_short}
 use Rattle.mm_module.specs.Visible.{is_visible}
 use Rattle.mm_module.specs.Words.{words_of}
-use Rattle.mm_limiter.specs.Table.{State, Unset, Guarded, Request, Guard, Says, IsWrong, HasLeft, outcome_of, text_of, is_secret, request_of, is_guard, state_of, spelling_of, IsShortSecret, stepped, is_state, limiter}
+use Rattle.mm_limiter.specs.Table.{TableState, Unset, Guarded, TableRequest, Guard, TableOutput, IsWrong, HasLeft, outcome_of, text_of, is_secret, request_of, is_guard, state_of, spelling_of, IsShortSecret, outcome_of_bytes, is_state, limiter}
 
 -- what a secret and a guarded state keep
 pub record IsSecret (secret : List ℕ) : Type 0 where
@@ -33,12 +33,12 @@ unfolding is_secret
 is_secret-IsSecret secret is = grind (arith, nat_tests)
 
 -- a state that can be spelled
-abbrev pub IsLimiterState : State → Type 0
+abbrev pub IsLimiterState : TableState → Type 0
 IsLimiterState Unset = Unit {0}
 IsLimiterState (Guarded tries left secret) = IsGuard tries left secret
 
 -- a request that can be read
-abbrev IsLimiterRequest : Option Request → Type 0
+abbrev IsLimiterRequest : Option TableRequest → Type 0
 IsLimiterRequest (Some (Guard secret tries)) = IsSecret secret × (1 ≤ tries) × (tries ≤ 100)
 IsLimiterRequest _ = Unit {0}
 
@@ -47,19 +47,19 @@ unfolding request_of
 request_of-IsLimiterRequest words = grind (arith, nat_tests, IsSecret-from)
 
 -- what is said, with a count of guesses
-abbrev SaysGuesses : Says → Type 0
+abbrev SaysGuesses : TableOutput → Type 0
 SaysGuesses (IsWrong left) = left ≤ 100
 SaysGuesses (HasLeft left) = left ≤ 100
 SaysGuesses _ = Unit {0}
 
 -- a state that can be spelled and what can be said
-outcome_of-IsOutcome : (state : State) (request : List ℕ) → IsLimiterState state
+outcome_of-IsOutcome : (state : TableState) (request : List ℕ) → IsLimiterState state
     → IsOutcome IsLimiterState SaysGuesses (outcome_of state (request_of (words_of request)))
 outcome_of-IsOutcome state request is =
     let asked = request_of-IsLimiterRequest (words_of request) in grind (arith, nat_tests)
 
 -- bytes that spell a state are its spelling
-record IsRead (bytes : List ℕ) (state : State) : Type 0 where
+record IsRead (bytes : List ℕ) (state : TableState) : Type 0 where
   good : IsLimiterState state
   spelled : bytes ≡ spelling_of state
 
@@ -68,32 +68,32 @@ unfolding is_state state_of is_guard
 state-IsRead bytes is = grind (arith, nat_tests, IsSecret-from)
 
 -- a spelling is read back
-state_of-spelling_of : (state : State) → IsLimiterState state → state_of (spelling_of state) ≡ Some state
+state_of-spelling_of : (state : TableState) → IsLimiterState state → state_of (spelling_of state) ≡ Some state
 unfolding state_of is_guard
 state_of-spelling_of state is = grind (arith, nat_tests, is_secret-IsSecret)
 
-are_bytes-spelling_of : (state : State) → IsLimiterState state → are_bytes (spelling_of state) ≡ true
+are_bytes-spelling_of : (state : TableState) → IsLimiterState state → are_bytes (spelling_of state) ≡ true
 are_bytes-spelling_of state is = grind (arith, nat_tests, are_bytes-visible)
 
-length-spelling_of : (state : State) → IsLimiterState state → length (spelling_of state) ≤ 68
+length-spelling_of : (state : TableState) → IsLimiterState state → length (spelling_of state) ≤ 68
 length-spelling_of state is = grind arith
 
 -- what is said has at most 26 bytes, with no LF
-text_of-IsText : (says : Says) → SaysGuesses says → IsText 26 (text_of says)
+text_of-IsText : (says : TableOutput) → SaysGuesses says → IsText 26 (text_of says)
 text_of-IsText says is = grind (arith, length-decimal, is_unbroken-decimal)
 
-abbrev pub limiter_table : Table State
+abbrev pub limiter_table : Table TableState
 limiter_table = table_by Unset (λ bytes. unwrap_or (state_of bytes) Unset) spelling_of request_of outcome_of text_of
 
 pub limiter_is_table : IsTable limiter_table limiter IsLimiterState 68 26
-unfolding is_state stepped
+unfolding is_state outcome_of_bytes
 limiter_is_table = record {
   begins = refl;
   first = tt;
   reads = λ bytes is. (state-IsRead bytes is).good;
   spells = λ state is. ap is_some (state_of-spelling_of state is);
   back = λ state is.
-      ap (λ (read : Option State). unwrap_or read Unset) (state_of-spelling_of state is);
+      ap (λ (read : Option TableState). unwrap_or read Unset) (state_of-spelling_of state is);
   next = λ bytes request. refl;
   says = λ bytes request. refl;
   stays = λ state request is. (outcome_of-IsOutcome state request is).state;
@@ -113,12 +113,12 @@ limiter_is_lawful = table_is_lawful limiter_is_table (omega arith) (omega arith)
 pub limiter_is_short : IsShort limiter
 limiter_is_short = table_is_short limiter_is_table (omega arith) (omega arith)
 
-short_secret : (state : State) → IsLimiterState state → IsShortSecret state
+short_secret : (state : TableState) → IsLimiterState state → IsShortSecret state
 short_secret state is = grind arith
 
 -- the secret after a request at a spelled state is short
-pub short_after : (state request : List ℕ) → is_state state ≡ true → (was : State) → was ≡ unwrap_or (state_of state) Unset
-    → (asked : Option Request) → asked ≡ request_of (words_of request) → (after : State × Says) → after ≡ outcome_of was asked
+pub short_after : (state request : List ℕ) → is_state state ≡ true → (was : TableState) → was ≡ unwrap_or (state_of state) Unset
+    → (asked : Option TableRequest) → asked ≡ request_of (words_of request) → (after : TableState × TableOutput) → after ≡ outcome_of was asked
     → IsShortSecret after.0
 short_after state request is was was_is asked asked_is after after_is =
     rw (after_is, asked_is, was_is)

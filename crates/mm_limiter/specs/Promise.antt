@@ -3,7 +3,7 @@ use Rattle.std.specs.Prelude.{◌≡◌, ℕ, ◌≤◌, ◌==◌, ◌&&◌, Boo
 use Rattle.std.specs.List.{list_any, range_with_len}
 use Rattle.mm_module.specs.Meaning.{outputs_from}
 use Rattle.mm_listing.specs.Tellings.{Telling}
-use Rattle.mm_limiter.specs.Guesses.{is_renewal, is_wrong, allowed_by, stretch, LimitsGuesses}
+use Rattle.mm_limiter.specs.Guesses.{is_renewal, is_wrong, allowed_guesses, stretch, LimitsGuesses}
 use Rattle.mm_limiter.specs.Table.{limiter}
 
 -- some line says that the guess with so many requests before it was wrong
@@ -17,7 +17,7 @@ abbrev pub TellsFewWrong : List (List ℕ) → List Telling → Type 0
 TellsFewWrong requests tellings =
     let outputs = outputs_from limiter limiter.first requests in
     (from size : ℕ) → list_any is_renewal (stretch from size outputs) ≡ false
-    → count_by (tells_wrong tellings) (range_with_len from size) ≤ allowed_by requests outputs
+    → count_by (tells_wrong tellings) (range_with_len from size) ≤ allowed_guesses requests outputs
 
 -- What a limiter promises: between two outputs `set` or `open`, and after the last, wrong guesses
 -- run out, whether they were told or not; and so do those that were told, however often.

@@ -10,29 +10,29 @@ use Rattle.mm_module.specs.Words.{words_of}
 use Rattle.mm_module.specs.Meaning.{Meaning}
 
 -- no secret yet; or the wrong guesses that are allowed in a row, those left, and the secret
-pub data State : Type 0 where
-  Unset : State
-  Guarded : (tries left : ℕ) (secret : List ℕ) → State
+pub data TableState : Type 0 where
+  Unset : TableState
+  Guarded : (tries left : ℕ) (secret : List ℕ) → TableState
 
 -- set the secret and the guesses allowed, guess, or ask how many are left
-pub data Request : Type 0 where
-  Guard : (secret : List ℕ) (tries : ℕ) → Request
-  Guess : (secret : List ℕ) → Request
-  Left : Request
+pub data TableRequest : Type 0 where
+  Guard : (secret : List ℕ) (tries : ℕ) → TableRequest
+  Guess : (secret : List ℕ) → TableRequest
+  Left : TableRequest
 
 -- what is said
-pub data Says : Type 0 where
-  IsSet : Says
-  IsTaken : Says
-  IsUnset : Says
-  IsLocked : Says
-  IsOpen : Says
-  IsWrong : (left : ℕ) → Says
-  HasLeft : (left : ℕ) → Says
-  IsBad : Says
+pub data TableOutput : Type 0 where
+  IsSet : TableOutput
+  IsTaken : TableOutput
+  IsUnset : TableOutput
+  IsLocked : TableOutput
+  IsOpen : TableOutput
+  IsWrong : (left : ℕ) → TableOutput
+  HasLeft : (left : ℕ) → TableOutput
+  IsBad : TableOutput
 
 -- what a request does, and what is said
-abbrev pub outcome_of : State → Option Request → State × Says
+abbrev pub outcome_of : TableState → Option TableRequest → TableState × TableOutput
 outcome_of Unset (Some (Guard secret tries)) = (Guarded tries tries secret, IsSet)
 outcome_of (Guarded tries left secret) (Some (Guard other number)) =
     (Guarded tries left secret, IsTaken)
@@ -46,7 +46,7 @@ outcome_of (Guarded tries left secret) (Some Left) = (Guarded tries left secret,
 outcome_of state None = (state, IsBad)
 
 -- the text of what is said
-abbrev pub text_of : Says → List ℕ
+abbrev pub text_of : TableOutput → List ℕ
 text_of IsSet = codes "set"
 text_of IsTaken = codes "taken"
 text_of IsUnset = codes "unset"
@@ -65,11 +65,11 @@ abbrev pub is_tries : ℕ → Bool
 is_tries tries = nat_le 1 tries && nat_le tries 100
 
 -- the secret with its number of guesses, where that is one
-abbrev pub guard_of : List ℕ → ℕ → Option Request
+abbrev pub guard_of : List ℕ → ℕ → Option TableRequest
 guard_of secret tries = if is_tries tries then Some (Guard secret tries) else None
 
 -- the request that these words are: `left`, `guess S` or `set S N`
-unfoldable pub request_of : List (List ℕ) → Option Request
+unfoldable pub request_of : List (List ℕ) → Option TableRequest
 request_of (word ∷ []) = if bytes_eq word (codes "left") then Some Left else None
 request_of (word ∷ secret ∷ []) =
     if bytes_eq word (codes "guess") && is_secret secret then Some (Guess secret) else None
@@ -83,7 +83,7 @@ is_guard tries left count secret =
     is_tries tries && nat_le left tries && count == length secret && is_secret secret
 
 -- the state that these bytes spell
-unfoldable pub state_of : List ℕ → Option State
+unfoldable pub state_of : List ℕ → Option TableState
 state_of (form ∷ []) = if form == 0 then Some Unset else None
 state_of (form ∷ tries ∷ left ∷ count ∷ secret) =
     if form == 1 && is_guard tries left count secret then Some (Guarded tries left secret)
@@ -91,18 +91,18 @@ state_of (form ∷ tries ∷ left ∷ count ∷ secret) =
 state_of _ = None
 
 -- the bytes of a state
-abbrev pub spelling_of : State → List ℕ
+abbrev pub spelling_of : TableState → List ℕ
 spelling_of Unset = 0 ∷ []
 spelling_of (Guarded tries left secret) = 1 ∷ tries ∷ left ∷ length secret ∷ secret
 
 -- the length of the secret is a byte
-abbrev pub IsShortSecret : State → Type 0
+abbrev pub IsShortSecret : TableState → Type 0
 IsShortSecret Unset = Unit {0}
 IsShortSecret (Guarded tries left secret) = length secret ≤ 64
 
 -- what a request does to a spelled state
-unfoldable pub stepped : List ℕ → List ℕ → State × Says
-stepped state request =
+unfoldable pub outcome_of_bytes : List ℕ → List ℕ → TableState × TableOutput
+outcome_of_bytes state request =
     outcome_of (unwrap_or (state_of state) Unset) (request_of (words_of request))
 
 -- the bytes spell a state
@@ -114,7 +114,7 @@ abbrev pub limiter : Meaning
 limiter = record {
   id = 2;
   first = 0 ∷ [];
-  next = λ state request. spelling_of (stepped state request).0;
-  says = λ state request. text_of (stepped state request).1;
+  next = λ state request. spelling_of (outcome_of_bytes state request).0;
+  says = λ state request. text_of (outcome_of_bytes state request).1;
   is_spelled = is_state;
 }

@@ -20,7 +20,7 @@ pub struct Limiter;
 
 /// What a limiter keeps.
 #[derive(Clone, Copy)]
-enum State<'a> {
+enum LimiterState<'a> {
     Unset,
     Guarded {
         tries: u8,
@@ -31,7 +31,7 @@ enum State<'a> {
 
 /// A request to a limiter.
 #[derive(Clone, Copy)]
-enum Request<'a> {
+enum LimiterRequest<'a> {
     Guard { secret: &'a [u8], tries: u8 },
     Guess(&'a [u8]),
     Left,
@@ -39,7 +39,7 @@ enum Request<'a> {
 
 /// What a limiter says.
 #[derive(Clone, Copy, PartialEq, Eq)]
-enum Says {
+enum LimiterOutput {
     Set,
     Taken,
     Unset,
@@ -71,18 +71,18 @@ fn tries_of(number: u64) -> Option<u8>
 
 /// The request that these bytes are, where they are one.
 #[tactic(auto, unfolding(crate::specs::Table::request_of))]
-fn read_request(bytes: &[u8]) -> Option<Request<'_>>
+fn read_request(bytes: &[u8]) -> Option<LimiterRequest<'_>>
     ensures { option_map as_request result ≡ request_of (words_of bytes.now) }
 {
     match Words::of(bytes) {
-        Words::One(word) if word == b"left".as_slice() => Some(Request::Left),
+        Words::One(word) if word == b"left".as_slice() => Some(LimiterRequest::Left),
         Words::Two(word, secret) if word == b"guess".as_slice() && secret_is_formed(secret) => {
-            Some(Request::Guess(secret))
+            Some(LimiterRequest::Guess(secret))
         }
         Words::Three(word, secret, number)
             if word == b"set".as_slice() && secret_is_formed(secret) => {
             let tries = tries_of(read_decimal(number)?)?;
-            Some(Request::Guard { secret, tries })
+            Some(LimiterRequest::Guard { secret, tries })
         }
         _ => None,
     }
@@ -102,13 +102,13 @@ fn guard_is_formed(tries: u8, left: u8, count: u8, secret: &[u8]) -> bool
 
 /// The state that these bytes spell, where they spell one.
 #[tactic(auto, unfolding(crate::specs::Table::state_of))]
-fn read_state(bytes: &[u8]) -> Option<State<'_>>
+fn read_state(bytes: &[u8]) -> Option<LimiterState<'_>>
     ensures { option_map as_state result ≡ state_of bytes.now }
 {
     match bytes {
-        [0] => Some(State::Unset),
+        [0] => Some(LimiterState::Unset),
         [1, tries, left, count, secret @ ..] if guard_is_formed(*tries, *left, *count, secret) => {
-            Some(State::Guarded {
+            Some(LimiterState::Guarded {
                 tries: *tries,
                 left: *left,
                 secret,
@@ -119,78 +119,78 @@ fn read_state(bytes: &[u8]) -> Option<State<'_>>
 }
 
 /// What a request does, and what is said.
-fn outcome<'a>(state: State<'a>, request: Option<Request<'a>>) -> (State<'a>, Says)
+fn outcome<'a>(state: LimiterState<'a>, request: Option<LimiterRequest<'a>>) -> (LimiterState<'a>, LimiterOutput)
     ensures { (as_state result.0, as_says result.1)
         ≡ outcome_of (as_state state.entry) (option_map as_request request.entry) }
 {
     let Some(request) = request else {
-        return (state, Says::Bad);
+        return (state, LimiterOutput::Bad);
     };
     match (state, request) {
-        (State::Unset, Request::Guard { secret, tries }) => {
-            let set = State::Guarded {
+        (LimiterState::Unset, LimiterRequest::Guard { secret, tries }) => {
+            let set = LimiterState::Guarded {
                 tries,
                 left: tries,
                 secret,
             };
-            (set, Says::Set)
+            (set, LimiterOutput::Set)
         }
-        (State::Unset, _) => (state, Says::Unset),
-        (State::Guarded { .. }, Request::Guard { .. }) => (state, Says::Taken),
-        (State::Guarded { left, .. }, Request::Left) => (state, Says::Left(left)),
-        (State::Guarded { left: 0, .. }, Request::Guess(_)) => (state, Says::Locked),
+        (LimiterState::Unset, _) => (state, LimiterOutput::Unset),
+        (LimiterState::Guarded { .. }, LimiterRequest::Guard { .. }) => (state, LimiterOutput::Taken),
+        (LimiterState::Guarded { left, .. }, LimiterRequest::Left) => (state, LimiterOutput::Left(left)),
+        (LimiterState::Guarded { left: 0, .. }, LimiterRequest::Guess(_)) => (state, LimiterOutput::Locked),
         (
-            State::Guarded {
+            LimiterState::Guarded {
                 tries,
                 left,
                 secret,
             },
-            Request::Guess(guess),
+            LimiterRequest::Guess(guess),
         ) => {
             if guess == secret {
-                let open = State::Guarded {
+                let open = LimiterState::Guarded {
                     tries,
                     left: tries,
                     secret,
                 };
-                (open, Says::Open)
+                (open, LimiterOutput::Open)
             } else {
                 let left = left - 1;
-                let wrong = State::Guarded {
+                let wrong = LimiterState::Guarded {
                     tries,
                     left,
                     secret,
                 };
-                (wrong, Says::Wrong(left))
+                (wrong, LimiterOutput::Wrong(left))
             }
         }
     }
 }
 
 /// The text of what is said.
-fn text(alloc: Global, says: Says) -> Result<Bytes, Memory>
+fn text(alloc: Global, says: LimiterOutput) -> Result<Bytes, Memory>
     ensures { IfOk result (λ text. text ≡ text_of (as_says says)) }
 {
     match says {
-        Says::Set => Bytes::copy_of(alloc, b"set"),
-        Says::Taken => Bytes::copy_of(alloc, b"taken"),
-        Says::Unset => Bytes::copy_of(alloc, b"unset"),
-        Says::Locked => Bytes::copy_of(alloc, b"locked"),
-        Says::Open => Bytes::copy_of(alloc, b"open"),
-        Says::Wrong(left) => text_and_number(alloc, b"wrong ", u64::from(left)),
-        Says::Left(left) => text_and_number(alloc, b"left ", u64::from(left)),
-        Says::Bad => Bytes::copy_of(alloc, b"bad"),
+        LimiterOutput::Set => Bytes::copy_of(alloc, b"set"),
+        LimiterOutput::Taken => Bytes::copy_of(alloc, b"taken"),
+        LimiterOutput::Unset => Bytes::copy_of(alloc, b"unset"),
+        LimiterOutput::Locked => Bytes::copy_of(alloc, b"locked"),
+        LimiterOutput::Open => Bytes::copy_of(alloc, b"open"),
+        LimiterOutput::Wrong(left) => text_and_number(alloc, b"wrong ", u64::from(left)),
+        LimiterOutput::Left(left) => text_and_number(alloc, b"left ", u64::from(left)),
+        LimiterOutput::Bad => Bytes::copy_of(alloc, b"bad"),
     }
 }
 
 /// The bytes of a state.
-fn spelled(alloc: Global, state: State<'_>) -> Result<Bytes, Memory>
+fn spelled(alloc: Global, state: LimiterState<'_>) -> Result<Bytes, Memory>
     requires { IsShortSecret (as_state state) }
     ensures { IfOk result (λ bytes. bytes ≡ spelling_of (as_state state.entry)) }
 {
     match state {
-        State::Unset => Bytes::copy_of(alloc, &[0]),
-        State::Guarded {
+        LimiterState::Unset => Bytes::copy_of(alloc, &[0]),
+        LimiterState::Guarded {
             tries,
             left,
             secret,
@@ -202,7 +202,7 @@ fn spelled(alloc: Global, state: State<'_>) -> Result<Bytes, Memory>
     }
 }
 
-#[tactic(auto, unfolding(crate::specs::Table::stepped, crate::specs::Table::is_state))]
+#[tactic(auto, unfolding(crate::specs::Table::outcome_of_bytes, crate::specs::Table::is_state))]
 impl Module for Limiter {
     ghost meaning = { λ _. limiter };
 
@@ -221,7 +221,7 @@ impl Module for Limiter {
     }
 
     fn step(&self, alloc: Global, state: &[u8], request: &[u8]) -> Result<Stepped, Memory> {
-        let state = read_state(state).unwrap_or(State::Unset);
+        let state = read_state(state).unwrap_or(LimiterState::Unset);
         let (state, says) = outcome(state, read_request(request));
         Ok(Stepped {
             state: spelled(alloc, state)?,

@@ -5,7 +5,7 @@ use Rattle.std.specs.Fmt.{decimal}
 use Rattle.mm_module.specs.CounterLaws.{counter_is_lawful}
 use Rattle.mm_module.specs.CounterTable.{counter}
 use Rattle.mm_module.specs.LineLaws.{IsText}
-use Rattle.mm_listing.specs.Listing.{Listing, listing_of, IsListing, promises_nothing}
+use Rattle.mm_listing.specs.Listing.{Listing, listing_of, IsListing, PromisesNothing}
 use Rattle.mm_listing.specs.RequestLaws.{counted, in_both, listed, word}
 
 abbrev pub counter_request : ℕ → List ℕ
@@ -15,7 +15,7 @@ counter_request choice =
 
 abbrev pub counter_listing : Listing
 counter_listing =
-    listing_of (codes "counter") counter counter_request promises_nothing
+    listing_of (codes "counter") counter counter_request PromisesNothing
 
 asks : (choice : ℕ) → IsText 256 (counter_request choice)
 asks choice =

@@ -50,5 +50,5 @@ pub record IsListing (meaning : Meaning) (listing : Listing) : Type 0 where
       → AreSaid listing.meaning requests tellings → listing.promise requests tellings
 
 -- no promise but the laws of the module
-abbrev pub promises_nothing : List (List ℕ) → List Telling → Type 0
-promises_nothing requests tellings = Unit {0}
+abbrev pub PromisesNothing : List (List ℕ) → List Telling → Type 0
+PromisesNothing requests tellings = Unit {0}

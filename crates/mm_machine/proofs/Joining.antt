@@ -2,35 +2,35 @@
 use Rattle.std.specs.Prelude.{◌≡◌, Option, None, Some, Result, Ok, Err, refl}
 use Rattle.std.proofs.Common.{subst}
 use Rattle.mm_platform.specs.Standing.{Standing}
-use Rattle.mm_platform.specs.Steps.{Goes}
+use Rattle.mm_platform.specs.Steps.{StepGoes}
 use Rattle.mm_platform.specs.declared.fault.StepFault.{StepFault}
-use Rattle.mm_machine.specs.Acts.{act_in, acts_left}
-use Rattle.mm_machine.specs.Asked.{Asked}
-use Rattle.mm_machine.specs.Reading.{Looks, FindsRoom, Weighs}
-use Rattle.mm_machine.specs.Stepping.{Steps, SightLeads, step_found, step_made}
-use Rattle.mm_machine.specs.Finishing.{ActsTo, EndsTo, FindsAndEnds, Finishes, goes_on, breaks_off}
-use Rattle.mm_machine.specs.declared.call.Ended.{Ended}
-use Rattle.mm_machine.specs.declared.call.Stage.{Stage}
-use Rattle.mm_machine.specs.declared.call.Stage.TheVariants.{Begun, Seen, Changing}
-use Rattle.mm_machine.specs.declared.call.Step.{Step}
-use Rattle.mm_machine.specs.declared.call.Step.TheVariants.{Going, Over}
+use Rattle.mm_machine.specs.Acts.{act_in, remaining_acts}
+use Rattle.mm_machine.specs.OpMeaning.{OpMeaning}
+use Rattle.mm_machine.specs.OpReads.{OpLooks, FindsRoom, OpWeighs}
+use Rattle.mm_machine.specs.OpSteps.{OpSteps, SightLeads, step_of_finding, step_after_change}
+use Rattle.mm_machine.specs.OpEnds.{OpActs, FindingEnds, FindsAndEnds, OpEnds, goes_on, breaks_off}
+use Rattle.mm_machine.specs.declared.call.OpResult.{OpResult}
+use Rattle.mm_machine.specs.declared.call.OpStage.{OpStage}
+use Rattle.mm_machine.specs.declared.call.OpStage.TheVariants.{Begun, Seen, Changing}
+use Rattle.mm_machine.specs.declared.call.StepResult.{StepResult}
+use Rattle.mm_machine.specs.declared.call.StepResult.TheVariants.{Going, Over}
 use Rattle.mm_machine.specs.declared.change.Change.{Change as Move}
 use Rattle.mm_machine.specs.declared.change.Change.TheVariants.{Extending, Emptying, Placing, Writing}
-use Rattle.mm_machine.specs.declared.operation.Found.{Found}
-use Rattle.mm_machine.specs.declared.operation.Found.TheVariants.{Repeat, Change}
+use Rattle.mm_machine.specs.declared.operation.OpFinding.{OpFinding}
+use Rattle.mm_machine.specs.declared.operation.OpFinding.TheVariants.{Repeat, Change}
 use Rattle.mm_machine.specs.declared.operation.Sight.{Sight}
 use Rattle.mm_machine.specs.declared.operation.Sight.TheVariants as sight
 use Rattle.mm_machine.specs.declared.reading.Halt.{Halt}
 
-module _ {A R : Type 0} (o : Asked A R) where
+module _ {A R : Type 0} (o : OpMeaning A R) where
   -- what comes behind a step
-  abbrev pub StepEnds : Step A R → Standing → Standing → Ended A R → Type 0
-  StepEnds (Going stage) middle new ended = Finishes o stage middle new ended
+  abbrev pub StepEnds : StepResult A R → Standing → Standing → OpResult A R → Type 0
+  StepEnds (Going stage) middle new ended = OpEnds o stage middle new ended
   StepEnds (Over it) middle new ended = (new ≡ middle) × (ended ≡ it)
 
-  made_joins : (change : Move) (answer : A) (fault : Option StepFault) (old middle new : Standing) (ended : Ended A R)
-      → Goes (act_in change) old middle fault → StepEnds (step_made o (record { change = change; answer = answer }) fault) middle new ended
-      → ActsTo o (acts_left change) answer old new ended
+  made_joins : (change : Move) (answer : A) (fault : Option StepFault) (old middle new : Standing) (ended : OpResult A R)
+      → StepGoes (act_in change) old middle fault → StepEnds (step_after_change o (record { change = change; answer = answer }) fault) middle new ended
+      → OpActs o (remaining_acts change) answer old new ended
   made_joins (Extending value) answer None old middle new ended g e = goes_on middle g e
   made_joins (Emptying opening) answer None old middle new ended g e = goes_on middle g e
   made_joins (Placing opening) answer None old middle new ended g e = goes_on middle g e
@@ -40,31 +40,31 @@ module _ {A R : Type 0} (o : Asked A R) where
   made_joins (Placing opening) answer (Some fault) old middle new ended g e = breaks_off fault (rw e.0 g) e.1
   made_joins (Writing next) answer (Some fault) old middle new ended g e = breaks_off fault (rw e.0 g) e.1
 
-  found_joins : (found : Result (Found A) (Halt R)) (middle new : Standing) (ended : Ended A R)
-      → StepEnds (step_found found) middle new ended → EndsTo o found middle new ended
+  found_joins : (found : Result (OpFinding A) (Halt R)) (middle new : Standing) (ended : OpResult A R)
+      → StepEnds (step_of_finding found) middle new ended → FindingEnds o found middle new ended
   found_joins (Err why) middle new ended e = e
   found_joins (Ok (Repeat answer)) middle new ended e = e
   found_joins (Ok (Change ready)) middle new ended e = e
 
-  sight_joins : (seen : Result (Sight A) (Halt R)) (old first middle new : Standing) (step : Step A R) (ended : Ended A R)
-      → Looks o old first seen → SightLeads seen first middle step → StepEnds step middle new ended
-      → Finishes o Begun old new ended
+  sight_joins : (seen : Result (Sight A) (Halt R)) (old first middle new : Standing) (step : StepResult A R) (ended : OpResult A R)
+      → OpLooks o old first seen → SightLeads seen first middle step → StepEnds step middle new ended
+      → OpEnds o Begun old new ended
   sight_joins (Err why) old first middle new step ended l s e = record {
     middle = middle;
     found = Err why;
     finds = record { middle = first; seen = Err why; looks = l; on = (s.0, refl) };
-    ends = subst (λ (x : Step A R). StepEnds x middle new ended) s.1 e;
+    ends = subst (λ (x : StepResult A R). StepEnds x middle new ended) s.1 e;
   }
   sight_joins (Ok (sight.Found found)) old first middle new step ended l s e = record {
     middle = middle;
     found = s.found;
     finds = record { middle = first; seen = Ok (sight.Found found); looks = l; on = s.finds };
-    ends = found_joins s.found middle new ended (subst (λ (x : Step A R). StepEnds x middle new ended) s.gives e);
+    ends = found_joins s.found middle new ended (subst (λ (x : StepResult A R). StepEnds x middle new ended) s.gives e);
   }
   sight_joins (Ok (sight.Cell cell)) old first middle new step ended l s e =
-      let f : FindsAndEnds o (λ m. FindsRoom (Weighs o cell first) m) new ended =
-      subst (λ (x : Standing). Finishes o (Seen cell) x new ended) s.0
-      (subst (λ (x : Step A R). StepEnds x middle new ended) s.1 e) in
+      let f : FindsAndEnds o (λ m. FindsRoom (OpWeighs o cell first) m) new ended =
+      subst (λ (x : Standing). OpEnds o (Seen cell) x new ended) s.0
+      (subst (λ (x : StepResult A R). StepEnds x middle new ended) s.1 e) in
       record {
         middle = f.middle;
         found = f.found;
@@ -72,15 +72,15 @@ module _ {A R : Type 0} (o : Asked A R) where
         ends = f.ends;
       }
 
-  pub joins : (stage : Stage A) (old middle new : Standing) (step : Step A R) (ended : Ended A R)
-      → Steps o stage old middle step → StepEnds step middle new ended → Finishes o stage old new ended
+  pub joins : (stage : OpStage A) (old middle new : Standing) (step : StepResult A R) (ended : OpResult A R)
+      → OpSteps o stage old middle step → StepEnds step middle new ended → OpEnds o stage old new ended
   joins Begun old middle new step ended s e = sight_joins s.seen old s.middle middle new step ended s.looks s.leads e
   joins (Seen cell) old middle new step ended s e = record {
     middle = middle;
     found = s.found;
     finds = s.finds;
-    ends = found_joins s.found middle new ended (subst (λ (x : Step A R). StepEnds x middle new ended) s.gives e);
+    ends = found_joins s.found middle new ended (subst (λ (x : StepResult A R). StepEnds x middle new ended) s.gives e);
   }
   joins (Changing ready) old middle new step ended s e =
       made_joins ready.change ready.answer s.fault old middle new ended s.goes
-      (subst (λ (x : Step A R). StepEnds x middle new ended) s.gives e)
+      (subst (λ (x : StepResult A R). StepEnds x middle new ended) s.gives e)

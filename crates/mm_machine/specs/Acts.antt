@@ -20,12 +20,12 @@ change_after (Placing opening) = Some (Writing opening.next)
 change_after (Writing next) = None
 
 -- it and those behind it
-abbrev pub acts_left : Change → List Act
-acts_left (Extending value) = ExtendRegister value.bytes ∷ []
-acts_left (Emptying opening) =
+abbrev pub remaining_acts : Change → List Act
+remaining_acts (Extending value) = ExtendRegister value.bytes ∷ []
+remaining_acts (Emptying opening) =
     ResetRegister ∷ ExtendRegister opening.value.bytes ∷ WriteCell opening.next ∷ []
-acts_left (Placing opening) = ExtendRegister opening.value.bytes ∷ WriteCell opening.next ∷ []
-acts_left (Writing next) = WriteCell next ∷ []
+remaining_acts (Placing opening) = ExtendRegister opening.value.bytes ∷ WriteCell opening.next ∷ []
+remaining_acts (Writing next) = WriteCell next ∷ []
 
 abbrev pub is_last : Change → Bool
 is_last (Extending value) = true
@@ -34,11 +34,11 @@ is_last (Placing opening) = false
 is_last (Writing next) = true
 
 -- whether the register is still to be extended
-abbrev pub extends_in : Change → Bool
-extends_in (Extending value) = true
-extends_in (Emptying opening) = true
-extends_in (Placing opening) = true
-extends_in (Writing next) = false
+abbrev pub is_extension_left : Change → Bool
+is_extension_left (Extending value) = true
+is_extension_left (Emptying opening) = true
+is_extension_left (Placing opening) = true
+is_extension_left (Writing next) = false
 
 -- the number of the step, where a write of the cell has this one unless it follows an opening
 abbrev pub number_in : ℕ → Change → ℕ

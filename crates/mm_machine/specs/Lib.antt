@@ -1,5 +1,5 @@
 pub mod Acts
-pub mod Asked
-pub mod Reading
-pub mod Stepping
-pub mod Finishing
+pub mod OpMeaning
+pub mod OpReads
+pub mod OpSteps
+pub mod OpEnds

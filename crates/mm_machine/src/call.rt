@@ -2,10 +2,10 @@
 
 ghost use Rattle.std.specs.Prelude.{◌≡◌};
 ghost use Rattle.mm_machine.specs.Acts.{MayChange, change_after};
-ghost use Rattle.mm_machine.specs.Stepping.{MayGoOn, StepMayGoOn, Steps, StepsFirst, StepsOn, position_if_last};
+ghost use Rattle.mm_machine.specs.OpSteps.{MayGoOn, StepMayGoOn, OpSteps, FirstStepGoes, ChangeGoes, position_if_last};
 
 use crate::change::Change;
-use crate::operation::{Found, Operation, Ready, Sight};
+use crate::operation::{OpFinding, Operation, ReadyChange, Sight};
 use crate::reading::{Halt, look, make_room, weigh_with_room};
 use mm_platform::{Platform, StepFault};
 use mm_seal::{Cell, KeptKey};
@@ -13,32 +13,32 @@ use std::marker::Model;
 
 /// Where a call stands between two of its device steps.
 #[derive(Drop)]
-pub enum Stage<A> {
+pub enum OpStage<A> {
     /// Nothing was read.
     Begun,
     /// The cell was read, and the register is wanted.
     Seen(Cell),
     /// It is found what is to be done.
-    Changing(Ready<A>),
+    Changing(ReadyChange<A>),
 }
 
 /// A call between two of its device steps. Contracts see where it stands.
 #[derive(Drop)]
-pub struct Call<A> {
-    stage: Stage<A>,
+pub struct OpCall<A> {
+    stage: OpStage<A>,
 }
 
-impl<A> Model for Call<A> {
-    ghost use Rattle.mm_machine.specs.declared.call.Stage.{Stage};
+impl<A> Model for OpCall<A> {
+    ghost use Rattle.mm_machine.specs.declared.call.OpStage.{OpStage};
 
-    ghost Value = { Stage A };
+    ghost Value = { OpStage A };
 
     ghost view = { λ call. call.stage };
 }
 
 /// How a call ended.
 #[derive(Drop)]
-pub enum Ended<A, R> {
+pub enum OpResult<A, R> {
     /// It was answered.
     Answered(A),
     /// It was refused, and changed nothing.
@@ -54,31 +54,31 @@ pub enum Ended<A, R> {
 
 /// What one step of a call came to.
 #[derive(Drop)]
-pub enum Step<A, R> {
+pub enum StepResult<A, R> {
     /// The call goes on, with its next step.
-    Going(Call<A>),
+    Going(OpCall<A>),
     /// The call is over.
-    Over(Ended<A, R>),
+    Over(OpResult<A, R>),
 }
 
-impl<A> Call<A> {
+impl<A> OpCall<A> {
     ghost use Rattle.std.specs.Prelude.{◌≡◌};
-    ghost use Rattle.mm_machine.specs.Stepping.{number_of};
-    ghost use Rattle.mm_machine.specs.declared.call.Stage.TheVariants.{Begun};
+    ghost use Rattle.mm_machine.specs.OpSteps.{number_of};
+    ghost use Rattle.mm_machine.specs.declared.call.OpStage.TheVariants.{Begun};
 
     /// A call before its first step.
     #[inline(always)]
-    pub fn begin() -> Call<A>
+    pub fn begin() -> OpCall<A>
         ensures { result ≡ Begun }
     {
-        Call {
-            stage: Stage::Begun,
+        OpCall {
+            stage: OpStage::Begun,
         }
     }
 
     // Where it stands.
     #[inline(always)]
-    pub(crate) fn into_stage(self) -> Stage<A>
+    pub(crate) fn into_stage(self) -> OpStage<A>
         ensures { result ≡ self }
     {
         self.stage
@@ -86,7 +86,7 @@ impl<A> Call<A> {
 
     /// Where it stands.
     #[inline(always)]
-    pub fn stage(&self) -> &Stage<A>
+    pub fn stage(&self) -> &OpStage<A>
         ensures { result.now ≡ self.now }
     {
         &self.stage
@@ -97,65 +97,65 @@ impl<A> Call<A> {
         ensures { result ≡ number_of write self.now }
     {
         match &self.stage {
-            Stage::Begun => 1,
-            Stage::Seen(_) => 2,
-            Stage::Changing(ready) => ready.change.number(write),
+            OpStage::Begun => 1,
+            OpStage::Seen(_) => 2,
+            OpStage::Changing(ready) => ready.change.number(write),
         }
     }
 }
 
-impl<A, R> Step<A, R> {
+impl<A, R> StepResult<A, R> {
     ghost use Rattle.std.specs.Prelude.{◌≡◌};
-    ghost use Rattle.mm_machine.specs.Stepping.{step_found, step_to};
-    ghost use Rattle.mm_machine.specs.declared.call.Step.TheVariants.{Going};
+    ghost use Rattle.mm_machine.specs.OpSteps.{step_of_finding, step_to};
+    ghost use Rattle.mm_machine.specs.declared.call.StepResult.TheVariants.{Going};
 
     #[inline(always)]
-    fn at(stage: Stage<A>) -> Step<A, R>
+    fn at(stage: OpStage<A>) -> StepResult<A, R>
         ensures { result ≡ Going stage }
     {
-        Step::Going(Call { stage })
+        StepResult::Going(OpCall { stage })
     }
 
     // Where a call stands that has this before it, or nothing.
     #[inline(always)]
-    fn to(change: Option<Change>, answer: A) -> Step<A, R>
+    fn to(change: Option<Change>, answer: A) -> StepResult<A, R>
         ensures { result ≡ step_to change answer }
     {
         match change {
-            None => Step::Over(Ended::Answered(answer)),
-            Some(change) => Step::at(Stage::Changing(Ready { change, answer })),
+            None => StepResult::Over(OpResult::Answered(answer)),
+            Some(change) => StepResult::at(OpStage::Changing(ReadyChange { change, answer })),
         }
     }
 
     // Where a call stands behind what was found.
     #[inline(always)]
-    fn found(found: Result<Found<A>, Halt<R>>) -> Step<A, R>
-        ensures { result ≡ step_found found }
+    fn found(found: Result<OpFinding<A>, Halt<R>>) -> StepResult<A, R>
+        ensures { result ≡ step_of_finding found }
     {
         match found {
-            Err(halt) => Step::Over(Ended::by(halt)),
-            Ok(Found::Repeat(answer)) => Step::to(None, answer),
-            Ok(Found::Change(ready)) => Step::to(Some(ready.change), ready.answer),
+            Err(halt) => StepResult::Over(OpResult::by(halt)),
+            Ok(OpFinding::Repeat(answer)) => StepResult::to(None, answer),
+            Ok(OpFinding::Change(ready)) => StepResult::to(Some(ready.change), ready.answer),
         }
     }
 }
 
-impl<A, R> Ended<A, R> {
+impl<A, R> OpResult<A, R> {
     ghost use Rattle.std.specs.Prelude.{◌≡◌};
-    ghost use Rattle.mm_machine.specs.Stepping.{ended_by};
+    ghost use Rattle.mm_machine.specs.OpSteps.{ending_by_halt};
 
     // How a call ends whose reading came to nothing.
     #[inline(always)]
-    pub(crate) fn by(halt: Halt<R>) -> Ended<A, R>
-        ensures { result ≡ ended_by halt }
+    pub(crate) fn by(halt: Halt<R>) -> OpResult<A, R>
+        ensures { result ≡ ending_by_halt halt }
     {
         match halt {
-            Halt::Fault(fault) => Ended::Broken {
+            Halt::Fault(fault) => OpResult::Broken {
                 fault,
                 commits: None,
             },
-            Halt::Refused(refusal) => Ended::Refused(refusal),
-            Halt::Lacks => Ended::Lacks,
+            Halt::Refused(refusal) => OpResult::Refused(refusal),
+            Halt::Lacks => OpResult::Lacks,
         }
     }
 }
@@ -166,21 +166,21 @@ fn advance_first<O: Operation, P: Platform>(
     op: &O,
     platform: &mut P,
     keys: &mut KeptKey,
-) -> Step<O::Answer, O::Refusal>
-    ensures steps { StepsFirst (O.asked op.now) (P.standing platform.old) (P.standing platform.new)
+) -> StepResult<O::Answer, O::Refusal>
+    ensures steps { FirstStepGoes (O.asked op.now) (P.standing platform.old) (P.standing platform.new)
         result }
     ensures room { StepMayGoOn result (P.standing platform.new) }
 {
     match look(op, platform, keys) {
-        Err(halt) => Step::Over(Ended::by(halt)),
-        Ok(Sight::Cell(cell)) => Step::at(Stage::Seen(cell)),
-        Ok(Sight::Found(found)) => Step::found(make_room(found, platform)),
+        Err(halt) => StepResult::Over(OpResult::by(halt)),
+        Ok(Sight::Cell(cell)) => StepResult::at(OpStage::Seen(cell)),
+        Ok(Sight::Found(found)) => StepResult::found(make_room(found, platform)),
     }
 }
 
 // The position that a step commits.
 #[inline(always)]
-fn commits<O: Operation>(op: &O, ready: &Ready<O::Answer>) -> Option<u64>
+fn commits<O: Operation>(op: &O, ready: &ReadyChange<O::Answer>) -> Option<u64>
     ensures { result ≡ position_if_last (change_after ready.now.change)
         ((O.asked op.now).position ready.now.answer) }
 {
@@ -195,19 +195,19 @@ fn commits<O: Operation>(op: &O, ready: &Ready<O::Answer>) -> Option<u64>
 #[inline(always)]
 fn advance_change<O: Operation, P: Platform>(
     op: &O,
-    ready: Ready<O::Answer>,
+    ready: ReadyChange<O::Answer>,
     platform: &mut P,
-) -> Step<O::Answer, O::Refusal>
+) -> StepResult<O::Answer, O::Refusal>
     requires { MayChange ready.change (P.standing platform.old) }
-    ensures steps { StepsOn (O.asked op.now) ready (P.standing platform.old)
+    ensures steps { ChangeGoes (O.asked op.now) ready (P.standing platform.old)
         (P.standing platform.new) result }
     ensures room { StepMayGoOn result (P.standing platform.new) }
 {
     let commits = commits(op, &ready);
-    let Ready { change, answer } = ready;
+    let ReadyChange { change, answer } = ready;
     match change.make(platform) {
-        Err(fault) => Step::Over(Ended::Broken { fault, commits }),
-        Ok(next) => Step::to(next, answer),
+        Err(fault) => StepResult::Over(OpResult::Broken { fault, commits }),
+        Ok(next) => StepResult::to(next, answer),
     }
 }
 
@@ -215,18 +215,18 @@ fn advance_change<O: Operation, P: Platform>(
 #[inline(always)]
 pub fn advance<O: Operation, P: Platform>(
     op: &O,
-    call: Call<O::Answer>,
+    call: OpCall<O::Answer>,
     platform: &mut P,
     keys: &mut KeptKey,
-) -> Step<O::Answer, O::Refusal>
+) -> StepResult<O::Answer, O::Refusal>
     requires room { MayGoOn call (P.standing platform.old) }
-    ensures steps { Steps (O.asked op.now) call (P.standing platform.old) (P.standing platform.new)
+    ensures steps { OpSteps (O.asked op.now) call (P.standing platform.old) (P.standing platform.new)
         result }
     ensures room { StepMayGoOn result (P.standing platform.new) }
 {
     match call.stage {
-        Stage::Begun => advance_first(op, platform, keys),
-        Stage::Seen(cell) => Step::found(weigh_with_room(op, &cell, platform, keys)),
-        Stage::Changing(ready) => advance_change(op, ready, platform),
+        OpStage::Begun => advance_first(op, platform, keys),
+        OpStage::Seen(cell) => StepResult::found(weigh_with_room(op, &cell, platform, keys)),
+        OpStage::Changing(ready) => advance_change(op, ready, platform),
     }
 }

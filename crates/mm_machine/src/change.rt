@@ -9,7 +9,7 @@ use mm_platform::{Platform, StepFault};
 
 /// What opens a segment.
 #[derive(Drop)]
-pub struct Opening {
+pub struct SegmentOpening {
     /// The value that extends the register, once it is reset.
     pub value: Digest,
     /// The cell's bytes behind that.
@@ -22,9 +22,9 @@ pub enum Change {
     /// The register is extended by this value, and that is all.
     Extending(Digest),
     /// The register is reset, and then extended and the cell written.
-    Emptying(Opening),
+    Emptying(SegmentOpening),
     /// The register was reset, and is extended; then the cell is written.
-    Placing(Opening),
+    Placing(SegmentOpening),
     /// The cell is written, and that is all.
     Writing([u8; CELL_LENGTH]),
 }
@@ -32,13 +32,13 @@ pub enum Change {
 impl Change {
     ghost use Rattle.std.specs.Prelude.{◌≡◌, ◌≤◌, ◌<◌, ◌^◌, true, IfOk};
     ghost use Rattle.std.specs.Result.{result_err};
-    ghost use Rattle.mm_platform.specs.Steps.{Goes};
-    ghost use Rattle.mm_machine.specs.Acts.{MayChange, act_in, change_after, extends_in, is_last, number_in};
+    ghost use Rattle.mm_platform.specs.Steps.{StepGoes};
+    ghost use Rattle.mm_machine.specs.Acts.{MayChange, act_in, change_after, is_extension_left, is_last, number_in};
 
     /// Whether the register is to be extended.
     #[inline(always)]
     pub fn extends(&self) -> bool
-        ensures { result ≡ extends_in self.now }
+        ensures { result ≡ is_extension_left self.now }
     {
         match self {
             Change::Extending(_) | Change::Emptying(_) | Change::Placing(_) => true,
@@ -72,7 +72,7 @@ impl Change {
     #[inline(always)]
     pub fn make<P: Platform>(self, platform: &mut P) -> Result<Option<Change>, StepFault>
         requires { MayChange self (P.standing platform.old) }
-        ensures goes { Goes (act_in self) (P.standing platform.old) (P.standing platform.new)
+        ensures goes { StepGoes (act_in self) (P.standing platform.old) (P.standing platform.new)
             (result_err result) }
         ensures next { IfOk result (λ next. next ≡ change_after self) }
     {

@@ -2,26 +2,26 @@
 
 ghost use Rattle.std.specs.Prelude.{◌≡◌, ◌≤◌, ◌∷◌, [], None, Some};
 ghost use Rattle.mm_platform.specs.Steps.{ExtendRegister, ResetRegister, WriteCell};
-ghost use Rattle.mm_machine.specs.Acts.{MayChange, acts_left};
-ghost use Rattle.mm_machine.specs.Finishing.{ActsBy, EndsTo, Finishes, ended_last};
-ghost use Rattle.mm_machine.specs.Reading.{LeavesRoom};
-ghost use Rattle.mm_machine.specs.Stepping.{MayGoOn};
+ghost use Rattle.mm_machine.specs.Acts.{MayChange, remaining_acts};
+ghost use Rattle.mm_machine.specs.OpEnds.{ActsEndBy, FindingEnds, OpEnds, ending_at_last};
+ghost use Rattle.mm_machine.specs.OpReads.{LeavesRoom};
+ghost use Rattle.mm_machine.specs.OpSteps.{MayGoOn};
 
-use crate::call::{Call, Ended, Stage, Step, advance};
-use crate::change::{Change, Opening};
-use crate::operation::{Found, Operation, Ready};
+use crate::call::{OpCall, OpResult, OpStage, StepResult, advance};
+use crate::change::{Change, SegmentOpening};
+use crate::operation::{OpFinding, Operation, ReadyChange};
 use crate::reading::{Halt, read, weigh_with_room};
 use mm_platform::{Platform, StepFault};
 use mm_seal::KeptKey;
 
 // How a call ended at its last step.
 #[inline(always)]
-fn ended_last<A: Drop, R>(position: u64, answer: A, made: Result<(), StepFault>) -> Ended<A, R>
-    ensures { result ≡ ended_last position answer made }
+fn ended_last<A: Drop, R>(position: u64, answer: A, made: Result<(), StepFault>) -> OpResult<A, R>
+    ensures { result ≡ ending_at_last position answer made }
 {
     match made {
-        Ok(()) => Ended::Answered(answer),
-        Err(fault) => Ended::Broken {
+        Ok(()) => OpResult::Answered(answer),
+        Err(fault) => OpResult::Broken {
             fault,
             commits: Some(position),
         },
@@ -32,17 +32,17 @@ fn ended_last<A: Drop, R>(position: u64, answer: A, made: Result<(), StepFault>)
 #[inline(always)]
 fn place_and_write<A: Drop, R, P: Platform>(
     position: u64,
-    opening: &Opening,
+    opening: &SegmentOpening,
     answer: A,
     platform: &mut P,
-) -> Ended<A, R>
+) -> OpResult<A, R>
     requires { 1 ≤ (P.standing platform.old).spare }
-    ensures { ActsBy position
+    ensures { ActsEndBy position
         (ExtendRegister opening.now.value.bytes ∷ WriteCell opening.now.next ∷ []) answer
         (P.standing platform.old) (P.standing platform.new) result }
 {
     match platform.reg_extend(&opening.value) {
-        Err(fault) => Ended::Broken {
+        Err(fault) => OpResult::Broken {
             fault,
             commits: None,
         },
@@ -54,17 +54,17 @@ fn place_and_write<A: Drop, R, P: Platform>(
 #[inline(always)]
 fn open<A: Drop, R, P: Platform>(
     position: u64,
-    opening: &Opening,
+    opening: &SegmentOpening,
     answer: A,
     platform: &mut P,
-) -> Ended<A, R>
+) -> OpResult<A, R>
     requires { 1 ≤ (P.standing platform.old).spare }
-    ensures { ActsBy position
+    ensures { ActsEndBy position
         (ResetRegister ∷ ExtendRegister opening.now.value.bytes ∷ WriteCell opening.now.next ∷ [])
         answer (P.standing platform.old) (P.standing platform.new) result }
 {
     match platform.reg_reset() {
-        Err(fault) => Ended::Broken {
+        Err(fault) => OpResult::Broken {
             fault,
             commits: None,
         },
@@ -77,14 +77,14 @@ fn open<A: Drop, R, P: Platform>(
 #[inline(always)]
 pub fn finish_change<A: Drop, R, P: Platform>(
     position: u64,
-    ready: Ready<A>,
+    ready: ReadyChange<A>,
     platform: &mut P,
-) -> Ended<A, R>
+) -> OpResult<A, R>
     requires { MayChange ready.change (P.standing platform.old) }
-    ensures { ActsBy position (acts_left ready.change) ready.answer
+    ensures { ActsEndBy position (remaining_acts ready.change) ready.answer
         (P.standing platform.old) (P.standing platform.new) result }
 {
-    let Ready { change, answer } = ready;
+    let ReadyChange { change, answer } = ready;
     match change {
         Change::Extending(value) => ended_last(position, answer, platform.reg_extend(&value)),
         Change::Emptying(opening) => open(position, &opening, answer, platform),
@@ -97,17 +97,17 @@ pub fn finish_change<A: Drop, R, P: Platform>(
 #[inline(always)]
 fn finish_found<O: Operation, P: Platform>(
     op: &O,
-    found: Result<Found<O::Answer>, Halt<O::Refusal>>,
+    found: Result<OpFinding<O::Answer>, Halt<O::Refusal>>,
     platform: &mut P,
-) -> Ended<O::Answer, O::Refusal>
+) -> OpResult<O::Answer, O::Refusal>
     requires { LeavesRoom found (P.standing platform.old) }
-    ensures { EndsTo (O.asked op.now) found (P.standing platform.old) (P.standing platform.new)
+    ensures { FindingEnds (O.asked op.now) found (P.standing platform.old) (P.standing platform.new)
         result }
 {
     match found {
-        Err(halt) => Ended::by(halt),
-        Ok(Found::Repeat(answer)) => Ended::Answered(answer),
-        Ok(Found::Change(ready)) => finish_change(op.position(&ready.answer), ready, platform),
+        Err(halt) => OpResult::by(halt),
+        Ok(OpFinding::Repeat(answer)) => OpResult::Answered(answer),
+        Ok(OpFinding::Change(ready)) => finish_change(op.position(&ready.answer), ready, platform),
     }
 }
 
@@ -116,40 +116,40 @@ fn finish_found<O: Operation, P: Platform>(
 #[inline(always)]
 pub fn finish<O: Operation, P: Platform>(
     op: &O,
-    call: Call<O::Answer>,
+    call: OpCall<O::Answer>,
     platform: &mut P,
     keys: &mut KeptKey,
-) -> Ended<O::Answer, O::Refusal>
+) -> OpResult<O::Answer, O::Refusal>
     requires room { MayGoOn call (P.standing platform.old) }
-    ensures { Finishes (O.asked op.now) call (P.standing platform.old) (P.standing platform.new)
+    ensures { OpEnds (O.asked op.now) call (P.standing platform.old) (P.standing platform.new)
         result }
 {
     match call.into_stage() {
-        Stage::Begun => {
+        OpStage::Begun => {
             let found = read(op, platform, keys);
             finish_found(op, found, platform)
         }
-        Stage::Seen(cell) => {
+        OpStage::Seen(cell) => {
             let found = weigh_with_room(op, &cell, platform, keys);
             finish_found(op, found, platform)
         }
-        Stage::Changing(ready) => finish_change(op.position(&ready.answer), ready, platform),
+        OpStage::Changing(ready) => finish_change(op.position(&ready.answer), ready, platform),
     }
 }
 
 /// One step, and then the rest: the call comes to the same as by `finish` at once.
 pub fn advance_and_finish<O: Operation, P: Platform>(
     op: &O,
-    call: Call<O::Answer>,
+    call: OpCall<O::Answer>,
     platform: &mut P,
     keys: &mut KeptKey,
-) -> Ended<O::Answer, O::Refusal>
+) -> OpResult<O::Answer, O::Refusal>
     requires room { MayGoOn call (P.standing platform.old) }
-    ensures { Finishes (O.asked op.now) call (P.standing platform.old) (P.standing platform.new)
+    ensures { OpEnds (O.asked op.now) call (P.standing platform.old) (P.standing platform.new)
         result }
 {
     match advance(op, call, platform, keys) {
-        Step::Going(call) => finish(op, call, platform, keys),
-        Step::Over(ended) => ended,
+        StepResult::Going(call) => finish(op, call, platform, keys),
+        StepResult::Over(ended) => ended,
     }
 }

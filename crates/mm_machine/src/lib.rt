@@ -9,8 +9,8 @@ mod finishing;
 mod operation;
 mod reading;
 
-pub use call::{Call, Ended, Stage, Step, advance};
-pub use change::{Change, Opening};
+pub use call::{OpCall, OpResult, OpStage, StepResult, advance};
+pub use change::{Change, SegmentOpening};
 pub use finishing::{advance_and_finish, finish, finish_change};
-pub use operation::{Found, Operation, Ready, Sight};
+pub use operation::{OpFinding, Operation, ReadyChange, Sight};
 pub use reading::{Halt, read};

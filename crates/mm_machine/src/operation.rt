@@ -1,7 +1,7 @@
 //! What an operation sees and finds.
 
 ghost use Rattle.std.specs.Prelude.{◌≡◌, ◌≤◌, ℕ};
-ghost use Rattle.mm_machine.specs.Asked.{Asked};
+ghost use Rattle.mm_machine.specs.OpMeaning.{OpMeaning};
 
 use crate::change::Change;
 use mm_base::CELL_LENGTH;
@@ -10,25 +10,25 @@ use mm_seal::{Cell, KeptKey};
 
 /// What is to be done, from this step on, and the answer that is handed out once it is done.
 #[derive(Drop)]
-pub struct Ready<A> {
+pub struct ReadyChange<A> {
     pub change: Change,
     pub answer: A,
 }
 
 /// What an operation finds.
 #[derive(Drop)]
-pub enum Found<A> {
+pub enum OpFinding<A> {
     /// Nothing is to be done: this is the answer.
     Repeat(A),
     /// Something is.
-    Change(Ready<A>),
+    Change(ReadyChange<A>),
 }
 
 /// What an operation sees in the cell.
 #[derive(Drop)]
 pub enum Sight<A> {
     /// All that it needs.
-    Found(Found<A>),
+    Found(OpFinding<A>),
     /// A cell; it wants the register too.
     Cell(Cell),
 }
@@ -44,7 +44,7 @@ pub trait Operation {
 
     /// What it sees in a cell's bytes; what it finds in a cell, with a value of the register; and the position that an
     /// answer tells.
-    ghost asked: { Self → Asked Self.Answer Self.Refusal };
+    ghost asked: { Self → OpMeaning Self.Answer Self.Refusal };
 
     /// The number of a step that writes the cell.
     ghost writes: { Self → ℕ };
@@ -63,7 +63,7 @@ pub trait Operation {
         cell: &Cell,
         register: &Digest,
         keys: &mut KeptKey,
-    ) -> Result<Found<Self::Answer>, Self::Refusal>
+    ) -> Result<OpFinding<Self::Answer>, Self::Refusal>
         ensures { (asked self.now).finds cell.now register.now.bytes result };
 
     /// The position up to which the last step commits, where this is answered.

@@ -1,9 +1,9 @@
 //! The steps that read, and what they come to.
 
 ghost use Rattle.std.specs.Prelude.{◌≡◌};
-ghost use Rattle.mm_machine.specs.Reading.{FindsOn, FindsRoom, LeavesRoom, Looks, Reads, Rooms, Weighs, extends};
+ghost use Rattle.mm_machine.specs.OpReads.{SightFinds, FindsRoom, LeavesRoom, OpLooks, OpReads, RoomIsMadeFor, OpWeighs, has_extension};
 
-use crate::operation::{Found, Operation, Sight};
+use crate::operation::{OpFinding, Operation, Sight};
 use mm_base::CELL_LENGTH;
 use mm_platform::{Platform, StepFault};
 use mm_seal::{Cell, KeptKey};
@@ -21,12 +21,12 @@ pub enum Halt<R> {
 
 // Whether what was found is still to extend the register.
 #[inline(always)]
-fn extends<A>(found: &Found<A>) -> bool
-    ensures { result ≡ extends found.now }
+fn extends<A>(found: &OpFinding<A>) -> bool
+    ensures { result ≡ has_extension found.now }
 {
     match found {
-        Found::Repeat(_) => false,
-        Found::Change(ready) => ready.change.extends(),
+        OpFinding::Repeat(_) => false,
+        OpFinding::Change(ready) => ready.change.extends(),
     }
 }
 
@@ -37,7 +37,7 @@ pub(crate) fn look<O: Operation, P: Platform>(
     platform: &mut P,
     keys: &mut KeptKey,
 ) -> Result<Sight<O::Answer>, Halt<O::Refusal>>
-    ensures { Looks (O.asked op.now) (P.standing platform.old) (P.standing platform.new) result }
+    ensures { OpLooks (O.asked op.now) (P.standing platform.old) (P.standing platform.new) result }
 {
     let mut bytes = [0; CELL_LENGTH];
     match platform.nv_read(&mut bytes) {
@@ -56,8 +56,8 @@ fn weigh<O: Operation, P: Platform>(
     cell: &Cell,
     platform: &mut P,
     keys: &mut KeptKey,
-) -> Result<Found<O::Answer>, Halt<O::Refusal>>
-    ensures { Weighs (O.asked op.now) cell.now (P.standing platform.old) (P.standing platform.new)
+) -> Result<OpFinding<O::Answer>, Halt<O::Refusal>>
+    ensures { OpWeighs (O.asked op.now) cell.now (P.standing platform.old) (P.standing platform.new)
         result }
 {
     match platform.reg_read() {
@@ -72,10 +72,10 @@ fn weigh<O: Operation, P: Platform>(
 /// Makes room for the own extension that is to come, where one is.
 #[inline(always)]
 pub(crate) fn make_room<A: Drop, R, P: Platform>(
-    found: Found<A>,
+    found: OpFinding<A>,
     platform: &mut P,
-) -> Result<Found<A>, Halt<R>>
-    ensures rooms { Rooms (Ok found) (P.standing platform.old) (P.standing platform.new) result }
+) -> Result<OpFinding<A>, Halt<R>>
+    ensures rooms { RoomIsMadeFor (Ok found) (P.standing platform.old) (P.standing platform.new) result }
     ensures room { LeavesRoom result (P.standing platform.new) }
 {
     if !extends(&found) {
@@ -94,8 +94,8 @@ pub(crate) fn weigh_with_room<O: Operation, P: Platform>(
     cell: &Cell,
     platform: &mut P,
     keys: &mut KeptKey,
-) -> Result<Found<O::Answer>, Halt<O::Refusal>>
-    ensures finds { FindsRoom (Weighs (O.asked op.now) cell.now (P.standing platform.old))
+) -> Result<OpFinding<O::Answer>, Halt<O::Refusal>>
+    ensures finds { FindsRoom (OpWeighs (O.asked op.now) cell.now (P.standing platform.old))
         (P.standing platform.new) result }
     ensures room { LeavesRoom result (P.standing platform.new) }
 {
@@ -111,8 +111,8 @@ pub fn read<O: Operation, P: Platform>(
     op: &O,
     platform: &mut P,
     keys: &mut KeptKey,
-) -> Result<Found<O::Answer>, Halt<O::Refusal>>
-    ensures reads { Reads (O.asked op.now) (P.standing platform.old) (P.standing platform.new)
+) -> Result<OpFinding<O::Answer>, Halt<O::Refusal>>
+    ensures reads { OpReads (O.asked op.now) (P.standing platform.old) (P.standing platform.new)
         result }
     ensures room { LeavesRoom result (P.standing platform.new) }
 {

@@ -8,7 +8,7 @@ pub use Rattle.std.proofs.Common.{get_or, inl, inr, length, length-append, List,
 pub use Rattle.std.proofs.lemmas.Bool.{and_from, and_parts, or_parts}
 pub use Rattle.std.proofs.lemmas.List.{append-nil, append_cancel_right, drop-append-le, drop_at, drop_more, length-drop, length-map}
 pub use Rattle.std.proofs.lemmas.List.{map-append, nil_from_length, take-append-le, take_all, take_at}
-pub use Rattle.mm_digest.specs.Messages.{anchored_message, anchored_of, extended_message, start_message, start_of, zero_bytes}
+pub use Rattle.mm_digest.specs.Messages.{anchored_message, anchored_digest_of, extended_message, start_message, start_digest_of, zero_bytes}
 pub use Rattle.mm_digest.specs.declared.variant.Variant.TheVariants.{Basic, Opt}
 pub use Rattle.mm_seal.specs.Snapshot.{Content}
 pub use Rattle.mm_seal.specs.declared.snapshot.Place.{Place}
@@ -16,34 +16,34 @@ pub use Rattle.mm_seal.specs.declared.snapshot.Place.TheVariants.{Basic as InBas
 pub use Rattle.mm_module.specs.Batch.{Batch, size_of}
 pub use Rattle.mm_module.specs.Meaning.{IsLawful, Meaning, state_after}
 pub use Rattle.mm_model.specs.BasicLaws.{basic_here, basic_stands, verdicts}
-pub use Rattle.mm_model.specs.BatchLaws.{at_the_end, before_the_last, same_batch-Decides, same_tests, total-push}
+pub use Rattle.mm_model.specs.BatchLaws.{at_the_end, before_the_last, is_same_batch-Decides, same_tests, total-push}
 pub use Rattle.mm_model.specs.ChainLaws.{trail_front, trail_push}
 pub use Rattle.mm_model.specs.Chains.{anchor_of, closing_message, guard, guard_message, register_of, summary_of}
 pub use Rattle.mm_model.specs.ChainsWords.{own_values}
 pub use Rattle.mm_model.specs.DigestLaws.{anchor-push, register-push, register_folds, same_own_values, summary-push}
 pub use Rattle.mm_model.specs.EndLaws.{ended}
-pub use Rattle.mm_model.specs.FormLaws.{again_tells, Clears, fresh_tells, Listed, listed_segment, listed_value, point_of, reads_zero}
+pub use Rattle.mm_model.specs.FormLaws.{again_tells, IsClearFromStart, fresh_tells, HasListedMessages, listed_segment, listed_value, point_of, reads_zero}
 pub use Rattle.mm_model.specs.FormLaws.{zero_register}
-pub use Rattle.mm_model.specs.History.{Close, Commit, committed, Entry, Foreign, History, joined, Move, moved, Own, Placed, Power}
-pub use Rattle.mm_model.specs.History.{register_value_of, renamed, Reset, total_of, Value, value_of}
+pub use Rattle.mm_model.specs.History.{Close, Commit, history_after_commit, RegisterEntry, Foreign, History, items_of_all, Move, history_after, Own, Placed, Power}
+pub use Rattle.mm_model.specs.History.{register_value_of, with_last_batch, Reset, total_of, Value, extension_value}
 pub use Rattle.mm_model.specs.HistoryLaws.{batches_in-append, has_value-append, joined-values, length-batches_in, meets, own_values-append}
 pub use Rattle.mm_model.specs.HistoryLaws.{register_more, renamed-push, sooner, values_of-append, values_of-clean, values_of-own}
 pub use Rattle.mm_model.specs.HistoryLaws.{values_renamed}
 pub use Rattle.mm_model.specs.HistoryWords.{cell_digest_of, values_of}
 pub use Rattle.mm_model.specs.Instance.{Instance}
-pub use Rattle.mm_model.specs.InstanceWords.{basic, opt}
-pub use Rattle.mm_model.specs.Judge.{fits_again, fits_fresh, forms_of, is_last, judge, judged, opt_verdict, Point, verdict_by}
-pub use Rattle.mm_model.specs.Judge.{verdict_by_digests}
-pub use Rattle.mm_model.specs.Kept.{kept_batch, kept_batches, kept_entries, kept_entry, kept_segments}
-pub use Rattle.mm_model.specs.Life.{are_own, has_value, is_empty, is_lost as is_lost_life, Life, life_by, life_of, Live, Lost, same_batch}
+pub use Rattle.mm_model.specs.InstanceWords.{basic_instance, opt_instance}
+pub use Rattle.mm_model.specs.Verdicts.{fits_again, fits_fresh, forms_of, is_last, verdict_on, verdict_by_tests, opt_verdict, Point, verdict_by}
+pub use Rattle.mm_model.specs.Verdicts.{verdict_by_digests}
+pub use Rattle.mm_model.specs.KeptHistory.{kept_batch, kept_batches, kept_entries, kept_entry, kept_segments}
+pub use Rattle.mm_model.specs.Life.{are_own, has_value, is_empty, is_lost as is_lost_life, Life, life_by, life_of, Live, Lost, is_same_batch}
 pub use Rattle.mm_model.specs.Life.{Spoiled}
 pub use Rattle.mm_model.specs.ListLaws.{each_append, each_left, each_right}
-pub use Rattle.mm_model.specs.Messages.{AreNoGuards, closed_runs, counting, form_messages, history_messages, IsClear, IsClearFor}
-pub use Rattle.mm_model.specs.Messages.{messages_of, point_messages, register_trail, runs_of, values_in, Within}
-pub use Rattle.mm_model.specs.Moves.{batch_messages, Brings, committing, Digests, digests_of, IsAllowed, IsOpening, IsOutside, made}
+pub use Rattle.mm_model.specs.Messages.{AreNoGuards, closed_runs, counted_entries, form_messages, history_messages, IsClear, IsClearFor}
+pub use Rattle.mm_model.specs.Messages.{messages_of, point_messages, register_trail, runs_of, values_in, AreMessagesIn}
+pub use Rattle.mm_model.specs.Moves.{batch_messages, MoveBrings, digests_after_commit, Digests, digests_of, IsAllowed, IsOpening, IsOutside, digests_after}
 pub use Rattle.mm_model.specs.Moves.{MayMove}
-pub use Rattle.mm_model.specs.Places.{anchor_after, at_anchor, in_closed, in_current, InClosed, InCurrent, IsPlaceOf, IsPoint, issued}
-pub use Rattle.mm_model.specs.Places.{issued_place, Names}
-pub use Rattle.mm_model.specs.SegmentLaws.{Again, again_from, again_joins, AgainSomehow, Fresh, fresh_from, fresh_joins, FreshSomehow}
-pub use Rattle.mm_model.specs.SegmentLaws.{IsHeld, joined-append, joined-push, Reaches, same_halves, taken_in, true_not_false}
+pub use Rattle.mm_model.specs.Places.{anchor_after, at_anchor, in_closed, in_current, IsClosedPoint, IsCurrentPoint, IsPlaceOf, IsPoint, content_of_issue}
+pub use Rattle.mm_model.specs.Places.{issued_place, NamesPosition}
+pub use Rattle.mm_model.specs.SegmentLaws.{IsAgainPath, again_from, again_joins, IsAgainSomehow, IsFreshPath, fresh_from, fresh_joins, IsFreshSomehow}
+pub use Rattle.mm_model.specs.SegmentLaws.{IsHeld, joined-append, joined-push, PathReaches, same_halves, items_taken_in, true_not_false}
 pub use Rattle.mm_model.specs.Sound.{AreItems, batches_in, IsClean, IsMarred, IsSound}

@@ -1,8 +1,8 @@
 -- The messages of a history of Opt, by kind, and what its life tells of its four tests.
 use Rattle.mm_model.proofs.Below.{ℕ, ◌≡◌, Bool, true, false, ◌&&◌, List, [], ◌∷◌, map, refl, sym, ◌⊎◌, inl, inr, AllByRecursion}
 use Rattle.mm_model.proofs.Below.{Contains, flat_map, Opt, start_message, guard_message, own_values}
-use Rattle.mm_model.proofs.Below.{Instance, History, values_of, Live, Spoiled, life_by, is_lost_life, Within, register_trail}
-use Rattle.mm_model.proofs.Below.{messages_of, runs_of, each_left, each_right, true_not_false, Listed}
+use Rattle.mm_model.proofs.Below.{Instance, History, values_of, Live, Spoiled, life_by, is_lost_life, AreMessagesIn, register_trail}
+use Rattle.mm_model.proofs.Below.{messages_of, runs_of, each_left, each_right, true_not_false, HasListedMessages}
 use Rattle.mm_model.proofs.Paths.{RunsListed}
 
 each_flat : {A B : Type 0} (P : B → Type 0) (f : A → List B) (xs : List A) → AllByRecursion P (flat_map f xs)
@@ -18,11 +18,11 @@ each_unmap P Q f g (x ∷ xs) h = (g x h.0, each_unmap P Q f g xs h.1)
 -- the messages of a history of Opt, by kind
 pub record HistoryListed (i : Instance) (y : History) (all : List (List ℕ)) : Type 0 where
   pub starts : Contains all (start_message Opt i.meaning.id)
-  pub guards : Within (map (guard_message i.barrier) y.batches) all
+  pub guards : AreMessagesIn (map (guard_message i.barrier) y.batches) all
   pub runs : AllByRecursion (RunsListed i.barrier all) (runs_of y)
-  pub listed : Listed i.meaning.id all (map (values_of i.barrier) y.closed) (values_of i.barrier y.items)
+  pub listed : HasListedMessages i.meaning.id all (map (values_of i.barrier) y.closed) (values_of i.barrier y.items)
 
-pub history_listed : (i : Instance) (y : History) (all : List (List ℕ)) → Within (messages_of Opt i y) all → HistoryListed i y all
+pub history_listed : (i : Instance) (y : History) (all : List (List ℕ)) → AreMessagesIn (messages_of Opt i y) all → HistoryListed i y all
 history_listed i y all h =
     let C = Contains all in
     let four = each_left C _ _ h.1 in let three = each_left C _ _ four in let two = each_left C _ _ three in
@@ -31,7 +31,7 @@ history_listed i y all h =
       guards = each_left C _ _ two;
       runs = each_flat C (λ run. register_trail (own_values i.barrier run)) (runs_of y) (each_right C _ _ two);
       listed = record {
-        inner = each_unmap (λ vs. Within (register_trail vs) all) (λ s. Within (register_trail (values_of i.barrier s)) all)
+        inner = each_unmap (λ vs. AreMessagesIn (register_trail vs) all) (λ s. AreMessagesIn (register_trail (values_of i.barrier s)) all)
             (values_of i.barrier) (λ s h. h) y.closed
             (each_flat C (λ segment. register_trail (values_of i.barrier segment)) y.closed (each_right C _ _ three));
         outer = each_right C _ _ h.1;

@@ -1,50 +1,50 @@
 -- What each move keeps and does: soundness, the digests, and the values that it leaves that stand for no batch.
 use Rattle.mm_model.proofs.Below.{ℕ, ◌≡◌, Bool, true, false, List, [], ◌∷◌, ◌++◌, refl, sym, ap, ◌∙◌, inl, inr, append_assoc}
 use Rattle.mm_model.proofs.Below.{map, append-nil, map-append, and_from, and_parts, Opt, Batch, Meaning, guard, register_of}
-use Rattle.mm_model.proofs.Below.{anchor_of, Instance, opt, basic, Entry, Own, Value, History, Move, Commit, Foreign, Placed, Reset, Close}
-use Rattle.mm_model.proofs.Below.{Power, joined, renamed, moved, committed, is_empty, has_value, are_own, same_batch}
-use Rattle.mm_model.proofs.Below.{IsSound, AreItems, batches_in, IsOpening, IsAllowed, MayMove, Digests, digests_of, made, committing}
-use Rattle.mm_model.proofs.Below.{IsOutside, Brings, each_append, each_left, same_batch-Decides, total-push, true_not_false, joined-push}
+use Rattle.mm_model.proofs.Below.{anchor_of, Instance, opt_instance, basic_instance, RegisterEntry, Own, Value, History, Move, Commit, Foreign, Placed, Reset, Close}
+use Rattle.mm_model.proofs.Below.{Power, items_of_all, with_last_batch, history_after, history_after_commit, is_empty, has_value, are_own, is_same_batch}
+use Rattle.mm_model.proofs.Below.{IsSound, AreItems, batches_in, IsOpening, IsAllowed, MayMove, Digests, digests_of, digests_after, digests_after_commit}
+use Rattle.mm_model.proofs.Below.{IsOutside, MoveBrings, each_append, each_left, is_same_batch-Decides, total-push, true_not_false, joined-push}
 use Rattle.mm_model.proofs.Below.{has_value-append, batches_in-append, register_more, values_renamed, renamed-push, if◌then◌else◌}
-use Rattle.mm_model.proofs.Below.{AllByRecursion, Contains, zero_bytes, anchored_of, values_of, values_in}
+use Rattle.mm_model.proofs.Below.{AllByRecursion, Contains, zero_bytes, anchored_digest_of, values_of, values_in}
 use Rattle.mm_model.proofs.Below.{summary-push, anchor-push, reads_zero}
 use Rattle.std.proofs.lemmas.Bool.{or_left, or_right}
 use Rattle.mm_model.proofs.Paths.{current_clean, empty_cases, marred_has, shut_current}
-use Rattle.mm_model.specs.Symbolic.{commit_moves, moved_by, with_batch}
+use Rattle.mm_model.specs.CommitMoves.{commit_moves, history_after_moves, with_batch}
 
-has_value-push : (es : List Entry) (d : List ℕ) → has_value (es ++ Value d ∷ []) ≡ true
+has_value-push : (es : List RegisterEntry) (d : List ℕ) → has_value (es ++ Value d ∷ []) ≡ true
 has_value-push es d = has_value-append es (Value d ∷ []) ∙ or_right (has_value es) true refl
 
-has_value-own : (es : List Entry) (b : Batch) → has_value es ≡ true → has_value (es ++ Own b ∷ []) ≡ true
+has_value-own : (es : List RegisterEntry) (b : Batch) → has_value es ≡ true → has_value (es ++ Own b ∷ []) ≡ true
 has_value-own es b h = has_value-append es (Own b ∷ []) ∙ or_left (has_value es) false h
 
-are_own-push : (es : List Entry) (bs : List Batch) (b : Batch) → are_own es bs ≡ true → are_own (es ++ Own b ∷ []) (bs ++ b ∷ []) ≡ true
-are_own-push [] [] b h = and_from (same_batch b b) true ((same_batch-Decides b b).1 refl) refl
+are_own-push : (es : List RegisterEntry) (bs : List Batch) (b : Batch) → are_own es bs ≡ true → are_own (es ++ Own b ∷ []) (bs ++ b ∷ []) ≡ true
+are_own-push [] [] b h = and_from (is_same_batch b b) true ((is_same_batch-Decides b b).1 refl) refl
 are_own-push (Own c ∷ es) (d ∷ bs) b h =
-    let both = and_parts (same_batch c d) (are_own es bs) h in
-    and_from (same_batch c d) (are_own (es ++ Own b ∷ []) (bs ++ b ∷ [])) both.0 (are_own-push es bs b both.1)
+    let both = and_parts (is_same_batch c d) (are_own es bs) h in
+    and_from (is_same_batch c d) (are_own (es ++ Own b ∷ []) (bs ++ b ∷ [])) both.0 (are_own-push es bs b both.1)
 are_own-push _ _ b h = absurd (true_not_false (sym h))
 
-own_clean : (es : List Entry) (bs : List Batch) → are_own es bs ≡ true → has_value es ≡ false
+own_clean : (es : List RegisterEntry) (bs : List Batch) → are_own es bs ≡ true → has_value es ≡ false
 own_clean [] bs h = refl
-own_clean (Own b ∷ es) (c ∷ bs) h = own_clean es bs ((and_parts (same_batch b c) (are_own es bs) h).1)
+own_clean (Own b ∷ es) (c ∷ bs) h = own_clean es bs ((and_parts (is_same_batch b c) (are_own es bs) h).1)
 own_clean _ _ h = absurd (true_not_false (sym h))
 
-own_batches : (es : List Entry) (bs : List Batch) → are_own es bs ≡ true → batches_in es ≡ bs
+own_batches : (es : List RegisterEntry) (bs : List Batch) → are_own es bs ≡ true → batches_in es ≡ bs
 own_batches [] [] h = refl
 own_batches (Own b ∷ es) (c ∷ bs) h =
-    let both = and_parts (same_batch b c) (are_own es bs) h in
-    ap (λ x. x ∷ batches_in es) ((same_batch-Decides b c).0 both.0) ∙ ap (λ x. c ∷ x) (own_batches es bs both.1)
+    let both = and_parts (is_same_batch b c) (are_own es bs) h in
+    ap (λ x. x ∷ batches_in es) ((is_same_batch-Decides b c).0 both.0) ∙ ap (λ x. c ∷ x) (own_batches es bs both.1)
 own_batches _ _ h = absurd (true_not_false (sym h))
 
 longer_some : (bs : List Batch) (b : Batch) → is_empty (bs ++ b ∷ []) ≡ false
 longer_some [] b = refl
 longer_some (c ∷ bs) b = refl
 
-renamed_items : (items : List Entry) (b : Batch) → batches_in items ≡ [] → AreItems (renamed items b) (b ∷ [])
+renamed_items : (items : List RegisterEntry) (b : Batch) → batches_in items ≡ [] → AreItems (with_last_batch items b) (b ∷ [])
 renamed_items (Own c ∷ y ∷ items) b none = absurd (true_not_false (sym (ap is_empty none)))
 renamed_items (Value d ∷ y ∷ items) b none = inr (inr refl)
-renamed_items _ b none = inl (and_from (same_batch b b) true ((same_batch-Decides b b).1 refl) refl)
+renamed_items _ b none = inl (and_from (is_same_batch b b) true ((is_same_batch-Decides b b).1 refl) refl)
 
 opening_bare : (i : Instance) (y : History) (b : Batch) → IsOpening i y b → batches_in y.items ≡ []
 opening_bare i y b o =
@@ -56,7 +56,7 @@ module _ (y : History) where
       elim (empty_cases y.current) [ inl none ↦ absurd (true_not_false (sym f ∙ sound.shut_is (ap is_empty none))) | inr some ↦ some ]
 
   -- the register's items alone change, and hold a value that stands for no batch
-  pub sound_items : (items : List Entry) → IsSound y → (y.is_open ≡ true → AreItems items y.current) → IsSound (record y { items = items })
+  pub sound_items : (items : List RegisterEntry) → IsSound y → (y.is_open ≡ true → AreItems items y.current) → IsSound (record y { items = items })
   sound_items items sound h = record {
     open_is = sound.open_is;
     shut_is = sound.shut_is;
@@ -87,7 +87,7 @@ module _ (y : History) where
         filled = sound.filled;
         history = inl (record {
           clean = clean.clean;
-          batches = ap (λ (v : List Batch). v ++ b ∷ []) clean.batches ∙ append_assoc (batches_in (joined y.closed)) y.current (b ∷ []);
+          batches = ap (λ (v : List Batch). v ++ b ∷ []) clean.batches ∙ append_assoc (batches_in (items_of_all y.closed)) y.current (b ∷ []);
         });
         register = λ _. elim (sound.register f) [
           | inl own ↦ inl (are_own-push y.items y.current b own)
@@ -96,9 +96,9 @@ module _ (y : History) where
         ];
       }
 
-  pub opening_clean : IsSound y → has_value (joined y.closed) ≡ false → y.is_open ≡ false → y.batches ≡ batches_in (joined y.closed)
+  pub opening_clean : IsSound y → has_value (items_of_all y.closed) ≡ false → y.is_open ≡ false → y.batches ≡ batches_in (items_of_all y.closed)
   opening_clean sound clean shut = elim sound.history [
-    | inl c ↦ rw (shut_current y sound shut, append-nil (batches_in (joined y.closed))) at c.batches
+    | inl c ↦ rw (shut_current y sound shut, append-nil (batches_in (items_of_all y.closed))) at c.batches
     | inr m ↦ absurd (true_not_false (sym (marred_has y m) ∙ clean))
   ]
 
@@ -112,10 +112,10 @@ sound_close y sound f some =
       filled = each_append (λ s. is_empty s ≡ false) y.closed (y.items ∷ []) sound.filled (some, tt);
       history = elim (sound.register f) [
         | inl own ↦ inl (record {
-          clean = rw (joined-push y.closed y.items, has_value-append (joined y.closed) y.items, clean.clean)
+          clean = rw (joined-push y.closed y.items, has_value-append (items_of_all y.closed) y.items, clean.clean)
               (own_clean y.items y.current own);
-          batches = rw (append-nil (batches_in (joined (y.closed ++ y.items ∷ []))), joined-push y.closed y.items)
-              (rw (batches_in-append (joined y.closed) y.items, own_batches y.items y.current own) clean.batches);
+          batches = rw (append-nil (batches_in (items_of_all (y.closed ++ y.items ∷ []))), joined-push y.closed y.items)
+              (rw (batches_in-append (items_of_all y.closed) y.items, own_batches y.items y.current own) clean.batches);
         })
         | inr (inl none) ↦ absurd (true_not_false (ap is_empty (sym none) ∙ some))
         | inr (inr has) ↦ inr (record {
@@ -134,7 +134,7 @@ sound_close y sound f some =
 
 module _ (i : Instance) where
   sound_opening : (y : History) (b : Batch) → IsSound y → y.is_open ≡ false → IsOpening i y b
-      → IsSound (record y { batches = y.batches ++ b ∷ []; current = b ∷ []; is_open = true; items = renamed y.items b })
+      → IsSound (record y { batches = y.batches ++ b ∷ []; current = b ∷ []; is_open = true; items = with_last_batch y.items b })
   sound_opening y b sound shut o = record {
     open_is = λ _. refl;
     shut_is = λ e. absurd (true_not_false (sym e));
@@ -149,10 +149,10 @@ flagged y flag = record y { is_open = flag }
 
 module _ (meaning : Meaning) (key barrier : List ℕ) where
   abbrev I : Instance
-  I = opt meaning key barrier
+  I = opt_instance meaning key barrier
 
   sound_at : (y : History) (flag : Bool) (m : Move) → IsSound (flagged y flag) → MayMove I (flagged y flag) m
-      → IsSound (moved I (flagged y flag) m)
+      → IsSound (history_after I (flagged y flag) m)
   sound_at y true (Commit b) sound may = sound_commit (flagged y true) b sound refl may
   sound_at y false (Commit b) sound may = sound_opening I (flagged y false) b sound refl may
   sound_at y flag (Foreign d) sound may =
@@ -164,39 +164,39 @@ module _ (meaning : Meaning) (key barrier : List ℕ) where
   sound_at y false Close sound may = absurd may
   sound_at y flag _ sound may = sound_items (flagged y flag) [] sound (λ _. inr (inl refl))
 
-  pub sound_moved : (y : History) (m : Move) → IsSound y → MayMove I y m → IsSound (moved I y m)
+  pub sound_moved : (y : History) (m : Move) → IsSound y → MayMove I y m → IsSound (history_after I y m)
   sound_moved y m = sound_at y y.is_open m
 
-pub basic_digests : (meaning : Meaning) (key : List ℕ) (y : History) (m : Move) → MayMove (basic meaning key) y m
-    → digests_of (basic meaning key) (moved (basic meaning key) y m) ≡ made (basic meaning key) (digests_of (basic meaning key) y) m
+pub basic_digests : (meaning : Meaning) (key : List ℕ) (y : History) (m : Move) → MayMove (basic_instance meaning key) y m
+    → digests_of (basic_instance meaning key) (history_after (basic_instance meaning key) y m) ≡ digests_after (basic_instance meaning key) (digests_of (basic_instance meaning key) y) m
 basic_digests meaning key y (Commit b) may =
-    λ j. record (digests_of (basic meaning key) y) { digest = summary-push meaning.id y.batches b j; count = total-push y.batches b j }
+    λ j. record (digests_of (basic_instance meaning key) y) { digest = summary-push meaning.id y.batches b j; count = total-push y.batches b j }
 basic_digests meaning key y (Foreign d) may =
-    λ j. record (digests_of (basic meaning key) y) { register = register_more zero_bytes y.items (Value d) j }
-basic_digests meaning key y Power may = λ j. record (digests_of (basic meaning key) y) { register = reads_zero j }
+    λ j. record (digests_of (basic_instance meaning key) y) { register = register_more zero_bytes y.items (Value d) j }
+basic_digests meaning key y Power may = λ j. record (digests_of (basic_instance meaning key) y) { register = reads_zero j }
 basic_digests meaning key y _ may = absurd may
 
 module _ (meaning : Meaning) (key barrier : List ℕ) (y : History) where
   abbrev before : Digests
-  before = digests_of (opt meaning key barrier) y
+  before = digests_of (opt_instance meaning key barrier) y
 
   -- a commit, by whether a segment is open
-  commit_digests : (b : Batch) (flag : Bool) → IsAllowed Opt flag (opt meaning key barrier) y (Commit b)
-      → digests_of (opt meaning key barrier) (committed Opt flag y b) ≡ committing Opt flag (opt meaning key barrier) before b
+  commit_digests : (b : Batch) (flag : Bool) → IsAllowed Opt flag (opt_instance meaning key barrier) y (Commit b)
+      → digests_of (opt_instance meaning key barrier) (history_after_commit Opt flag y b) ≡ digests_after_commit Opt flag (opt_instance meaning key barrier) before b
   commit_digests b true may = λ j. record before { register = register_more barrier y.items (Own b) j; count = total-push y.batches b j }
   commit_digests b false may =
-      let items : register_of (values_of barrier (renamed y.items b)) ≡ register_of (values_of barrier y.items) =
+      let items : register_of (values_of barrier (with_last_batch y.items b)) ≡ register_of (values_of barrier y.items) =
       rw may.items (ap register_of (values_renamed barrier may.front b)) in
       λ j. record before { flag = true; register = items j; count = total-push y.batches b j }
 
   close_digest : anchor_of meaning.id (map (values_of barrier) (y.closed ++ y.items ∷ []))
-      ≡ anchored_of (anchor_of meaning.id (map (values_of barrier) y.closed)) (register_of (values_of barrier y.items))
+      ≡ anchored_digest_of (anchor_of meaning.id (map (values_of barrier) y.closed)) (register_of (values_of barrier y.items))
   close_digest =
       ap (anchor_of meaning.id) (map-append (values_of barrier) y.closed (y.items ∷ []))
       ∙ anchor-push meaning.id (map (values_of barrier) y.closed) (values_of barrier y.items)
 
-  pub opt_digests : (m : Move) → MayMove (opt meaning key barrier) y m
-      → digests_of (opt meaning key barrier) (moved (opt meaning key barrier) y m) ≡ made (opt meaning key barrier) before m
+  pub opt_digests : (m : Move) → MayMove (opt_instance meaning key barrier) y m
+      → digests_of (opt_instance meaning key barrier) (history_after (opt_instance meaning key barrier) y m) ≡ digests_after (opt_instance meaning key barrier) before m
   opt_digests (Commit b) may = commit_digests b y.is_open may
   opt_digests (Foreign d) may = λ j. record before { register = register_more barrier y.items (Value d) j }
   opt_digests (Placed b) may = λ j. record before { register = register_more barrier y.items (Value (guard barrier b)) j }
@@ -204,51 +204,51 @@ module _ (meaning : Meaning) (key barrier : List ℕ) (y : History) where
   opt_digests _ may = λ j. record before { register = reads_zero j }
 
 -- the values that stand for no batch
-values_in-append : (es fs : List Entry) → values_in (es ++ fs) ≡ values_in es ++ values_in fs
+values_in-append : (es fs : List RegisterEntry) → values_in (es ++ fs) ≡ values_in es ++ values_in fs
 values_in-append [] fs = refl
 values_in-append (Own b ∷ es) fs = values_in-append es fs
 values_in-append (Value d ∷ es) fs = ap (λ v. d ∷ v) (values_in-append es fs)
 
 -- outside, by whether a segment is open
-abbrev OutsideAt : List (List ℕ) → Bool → List (List Entry) → List Entry → Type 0
-OutsideAt others flag closed items = AllByRecursion (Contains others) (values_in (joined closed ++ (if flag then items else [])))
+abbrev OutsideAt : List (List ℕ) → Bool → List (List RegisterEntry) → List RegisterEntry → Type 0
+OutsideAt others flag closed items = AllByRecursion (Contains others) (values_in (items_of_all closed ++ (if flag then items else [])))
 
-outside_more : (others : List (List ℕ)) (flag : Bool) (closed : List (List Entry)) (items : List Entry) (e : Entry)
+outside_more : (others : List (List ℕ)) (flag : Bool) (closed : List (List RegisterEntry)) (items : List RegisterEntry) (e : RegisterEntry)
     → OutsideAt others flag closed items → (flag ≡ true → AllByRecursion (Contains others) (values_in (e ∷ [])))
     → OutsideAt others flag closed (items ++ e ∷ [])
 outside_more others true closed items e h new =
-    rw (← append_assoc (joined closed) items (e ∷ []), values_in-append (joined closed ++ items) (e ∷ []))
+    rw (← append_assoc (items_of_all closed) items (e ∷ []), values_in-append (items_of_all closed ++ items) (e ∷ []))
     (each_append (Contains others) _ _ h (new refl))
 outside_more others false closed items e h new = h
 
-outside_less : (others : List (List ℕ)) (flag : Bool) (closed : List (List Entry)) (items : List Entry) → OutsideAt others flag closed items
+outside_less : (others : List (List ℕ)) (flag : Bool) (closed : List (List RegisterEntry)) (items : List RegisterEntry) → OutsideAt others flag closed items
     → OutsideAt others flag closed []
 outside_less others true closed items h =
-    rw (append-nil (joined closed))
-    (each_left (Contains others) (values_in (joined closed)) _ (rw (values_in-append (joined closed) items) at h))
+    rw (append-nil (items_of_all closed))
+    (each_left (Contains others) (values_in (items_of_all closed)) _ (rw (values_in-append (items_of_all closed) items) at h))
 outside_less others false closed items h = h
 
 module _ (meaning : Meaning) (key barrier : List ℕ) (others : List (List ℕ)) where
   outside_at : (y : History) (flag : Bool) (m : Move) → IsOutside others (flagged y flag)
-      → MayMove (opt meaning key barrier) (flagged y flag) m → Brings Opt flag others y m
-      → IsOutside others (moved (opt meaning key barrier) (flagged y flag) m)
+      → MayMove (opt_instance meaning key barrier) (flagged y flag) m → MoveBrings Opt flag others y m
+      → IsOutside others (history_after (opt_instance meaning key barrier) (flagged y flag) m)
   outside_at y flag (Foreign d) h may b = outside_more others flag y.closed y.items (Value d) h (λ _. (b, tt))
   outside_at y true (Commit b) h may k = outside_more others true y.closed y.items (Own b) h (λ _. tt)
   outside_at y false (Commit b) h may k =
-      rw (values_in-append (joined y.closed) (renamed y.items b))
-      (each_append (Contains others) _ _ (rw (append-nil (joined y.closed)) at h) k)
-  outside_at y true Close h may k = rw (append-nil (joined (y.closed ++ y.items ∷ [])), joined-push y.closed y.items) h
+      rw (values_in-append (items_of_all y.closed) (with_last_batch y.items b))
+      (each_append (Contains others) _ _ (rw (append-nil (items_of_all y.closed)) at h) k)
+  outside_at y true Close h may k = rw (append-nil (items_of_all (y.closed ++ y.items ∷ [])), joined-push y.closed y.items) h
   outside_at y flag Power h may k = outside_less others flag y.closed y.items h
   outside_at y false (Placed b) h may k = h
   outside_at y false Reset h may k = h
   outside_at y _ _ h may k = absurd may
 
-  pub outside_moved : (y : History) (m : Move) → IsOutside others y → MayMove (opt meaning key barrier) y m
-      → Brings Opt y.is_open others y m → IsOutside others (moved (opt meaning key barrier) y m)
+  pub outside_moved : (y : History) (m : Move) → IsOutside others y → MayMove (opt_instance meaning key barrier) y m
+      → MoveBrings Opt y.is_open others y m → IsOutside others (history_after (opt_instance meaning key barrier) y m)
   outside_moved y m = outside_at y y.is_open m
 
 whole_at : (meaning : Meaning) (key barrier : List ℕ) (y : History) (flag : Bool) (b : Batch) → with_batch Opt (record y { is_open = flag })
-    b ≡ moved_by (opt meaning key barrier) (record y { is_open = flag }) (commit_moves Opt flag b)
+    b ≡ history_after_moves (opt_instance meaning key barrier) (record y { is_open = flag }) (commit_moves Opt flag b)
 whole_at meaning key barrier y true b = refl
 whole_at meaning key barrier y false b = λ j. record {
   batches = y.batches ++ b ∷ [];
@@ -259,5 +259,5 @@ whole_at meaning key barrier y false b = λ j. record {
 }
 
 pub opt_whole : (meaning : Meaning) (key barrier : List ℕ) (y : History) (b : Batch)
-    → with_batch Opt y b ≡ moved_by (opt meaning key barrier) y (commit_moves Opt y.is_open b)
+    → with_batch Opt y b ≡ history_after_moves (opt_instance meaning key barrier) y (commit_moves Opt y.is_open b)
 opt_whole meaning key barrier y b = whole_at meaning key barrier y y.is_open b

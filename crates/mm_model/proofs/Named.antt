@@ -1,24 +1,24 @@
 -- A snapshot that names a position names it after each move; the snapshot of an answer names the last position.
 use Rattle.mm_model.proofs.Below.{ℕ, ◌≡◌, ◌≤◌, Bool, true, false, List, [], ◌∷◌, ◌++◌, length, refl, sym, ap, ◌∙◌, ◌⊎◌, inl, inr}
 use Rattle.mm_model.proofs.Below.{arith, append_assoc, length-append, append-nil, append_cancel_right, Opt, Batch, Meaning, Place}
-use Rattle.mm_model.proofs.Below.{InBasic, InOpt, Content, guard, Instance, basic, opt, Entry, Own, Value, History, Move, Commit, Foreign}
-use Rattle.mm_model.proofs.Below.{Placed, Close, joined, moved, renamed, has_value, IsSound, IsClean, batches_in}
-use Rattle.mm_model.proofs.Below.{InClosed, InCurrent, IsPoint, at_anchor, in_closed, in_current, IsPlaceOf, Names, issued, issued_place}
+use Rattle.mm_model.proofs.Below.{InBasic, InOpt, Content, guard, Instance, basic_instance, opt_instance, RegisterEntry, Own, Value, History, Move, Commit, Foreign}
+use Rattle.mm_model.proofs.Below.{Placed, Close, items_of_all, history_after, with_last_batch, has_value, IsSound, IsClean, batches_in}
+use Rattle.mm_model.proofs.Below.{IsClosedPoint, IsCurrentPoint, IsPoint, at_anchor, in_closed, in_current, IsPlaceOf, NamesPosition, content_of_issue, issued_place}
 use Rattle.mm_model.proofs.Below.{MayMove, length-batches_in}
 use Rattle.mm_model.proofs.Below.{anchor_after, basic_stands}
 use Rattle.mm_model.proofs.Paths.{clean_size, current_clean, live_clean, shut_current}
 use Rattle.mm_model.proofs.Moves.{flagged, open_current, opening_clean}
 
 -- a place in a history with these closed segments and perhaps more, where a place in the open one is a place there
-module _ (i : Instance) (key : List ℕ) (y z : History) (more : List (List Entry)) (longer : z.closed ≡ y.closed ++ more)
+module _ (i : Instance) (key : List ℕ) (y z : History) (more : List (List RegisterEntry)) (longer : z.closed ≡ y.closed ++ more)
     (named : List Batch) (a e : List ℕ) where
-  point_grown : ((p : InClosed i y named a e) → (length p.taken ≤ length p.segment) ⊎ ((p.later ++ more ≡ []) × (z.current ≡ [])))
-      → (InCurrent i y named a e → IsPoint (record i { key = key }) z named a e) → IsPoint i y named a e
+  point_grown : ((p : IsClosedPoint i y named a e) → (length p.taken ≤ length p.segment) ⊎ ((p.later ++ more ≡ []) × (z.current ≡ [])))
+      → (IsCurrentPoint i y named a e → IsPoint (record i { key = key }) z named a e) → IsPoint i y named a e
       → IsPoint (record i { key = key }) z named a e
   point_grown within inner (at_anchor p) = at_anchor (record {
     before = p.before;
     later = p.later ++ more;
-    split = longer ∙ ap (λ (v : List (List Entry)). v ++ more) p.split ∙ append_assoc p.before p.later more;
+    split = longer ∙ ap (λ (v : List (List RegisterEntry)). v ++ more) p.split ∙ append_assoc p.before p.later more;
     clean = p.clean;
     counted = p.counted;
     anchor_is = p.anchor_is;
@@ -30,7 +30,7 @@ module _ (i : Instance) (key : List ℕ) (y z : History) (more : List (List Entr
     later = p.later ++ more;
     done = p.done;
     taken = p.taken;
-    split = longer ∙ ap (λ (v : List (List Entry)). v ++ more) p.split ∙ append_assoc p.before (p.segment ∷ p.later) more;
+    split = longer ∙ ap (λ (v : List (List RegisterEntry)). v ++ more) p.split ∙ append_assoc p.before (p.segment ∷ p.later) more;
     named_is = p.named_is;
     counted = p.counted;
     begun = p.begun;
@@ -43,7 +43,7 @@ module _ (i : Instance) (key : List ℕ) (y z : History) (more : List (List Entr
 -- a place in a history with the same closed segments, whose open one has perhaps more batches
 point_more : (i : Instance) (key : List ℕ) (y z : History) (more : List Batch) → z.closed ≡ y.closed → z.current ≡ y.current ++ more
     → z.batches ≡ y.batches ++ more → (named : List Batch) (a e : List ℕ)
-    → ((p : InClosed i y named a e) → (length p.taken ≤ length p.segment) ⊎ ((p.later ≡ []) × (z.current ≡ []))) → IsPoint i y named a e
+    → ((p : IsClosedPoint i y named a e) → (length p.taken ≤ length p.segment) ⊎ ((p.later ≡ []) × (z.current ≡ []))) → IsPoint i y named a e
     → IsPoint (record i { key = key }) z named a e
 point_more i key y z more closed current batches named a e within =
     point_grown i key y z [] (closed ∙ sym (append-nil y.closed)) named a e
@@ -62,23 +62,23 @@ point_more i key y z more closed current batches named a e within =
     }))
 
 -- neither the key nor the register's items are part of a place
-pub point_kept : (i : Instance) (key : List ℕ) (y : History) (items : List Entry) (named : List Batch) (a e : List ℕ)
+pub point_kept : (i : Instance) (key : List ℕ) (y : History) (items : List RegisterEntry) (named : List Batch) (a e : List ℕ)
     → IsPoint i y named a e → IsPoint (record i { key = key }) (record y { items = items }) named a e
 point_kept i key y items named a e p =
     point_more i key y (record y { items = items }) [] refl (sym (append-nil y.current)) (sym (append-nil y.batches)) named a e
     (λ q. q.within) p
 
-pub point_items : (i : Instance) (y : History) (items : List Entry) (named : List Batch) (a e : List ℕ) → IsPoint i y named a e
+pub point_items : (i : Instance) (y : History) (items : List RegisterEntry) (named : List Batch) (a e : List ℕ) → IsPoint i y named a e
     → IsPoint i (record y { items = items }) named a e
 point_items i y items named a e p = point_kept i i.key y items named a e p
 
 module _ (i : Instance) (y : History) (named rest : List Batch) (a e : List ℕ) (clean : IsClean y) (first : y.batches ≡ named ++ rest) where
   -- in a clean history a place in a closed segment ends within it
-  ends_within : (p : InClosed i y named a e) → length p.taken ≤ length p.segment
+  ends_within : (p : IsClosedPoint i y named a e) → length p.taken ≤ length p.segment
   ends_within p = elim p.within [
     | inl within ↦ within
     | inr last ↦
-        let none : length (joined p.later) ≡ 0 = ap (λ (v : List (List Entry)). length (joined v)) last.0 in
+        let none : length (items_of_all p.later) ≡ 0 = ap (λ (v : List (List RegisterEntry)). length (items_of_all v)) last.0 in
         let nothing : length y.current ≡ 0 = ap length last.1 in
         let size = clean_size y clean p.before p.segment p.later p.split in let all = ap length first in
         let names = ap length p.named_is in let taken = length-append p.done p.taken in
@@ -86,7 +86,7 @@ module _ (i : Instance) (y : History) (named rest : List Batch) (a e : List ℕ)
   ]
 
   -- a batch more in the open segment, or a new one
-  point_commit : (current : List Batch) (is_open : Bool) (items : List Entry) (b : Batch) → current ≡ y.current ++ b ∷ []
+  point_commit : (current : List Batch) (is_open : Bool) (items : List RegisterEntry) (b : Batch) → current ≡ y.current ++ b ∷ []
       → IsPoint i y named a e
       → IsPoint i (record y { batches = y.batches ++ b ∷ []; current = current; is_open = is_open; items = items }) named a e
   point_commit current is_open items b grown =
@@ -106,8 +106,8 @@ module _ (i : Instance) (y : History) (named rest : List Batch) (a e : List ℕ)
         taken = p.taken;
         split = refl;
         named_is = p.named_is;
-        counted = ap length (append_cancel_right p.done (batches_in (joined y.closed)) y.current (sym p.start ∙ clean.batches))
-            ∙ length-batches_in (joined y.closed) clean.clean;
+        counted = ap length (append_cancel_right p.done (batches_in (items_of_all y.closed)) y.current (sym p.start ∙ clean.batches))
+            ∙ length-batches_in (items_of_all y.closed) clean.clean;
         begun = p.begun;
         within = inr (refl, refl);
         anchor_is = p.anchor_is;
@@ -119,12 +119,12 @@ added : Move → List Batch
 added (Commit b) = b ∷ []
 added _ = []
 
-issued_point : (i : Instance) (y : History) (flag : Bool) → IsSound y → has_value (joined y.closed) ≡ false → y.is_open ≡ flag
+issued_point : (i : Instance) (y : History) (flag : Bool) → IsSound y → has_value (items_of_all y.closed) ≡ false → y.is_open ≡ flag
     → IsPlaceOf Opt i y y.batches (issued_place Opt flag i y)
 issued_point i y true sound clean f =
     let c = live_clean y sound clean in
     in_current (record {
-      done = batches_in (joined y.closed);
+      done = batches_in (items_of_all y.closed);
       taken = y.current;
       more = [];
       split = sym (append-nil y.current);
@@ -141,26 +141,26 @@ issued_point i y false sound clean f =
       later = [];
       split = sym (append-nil y.closed);
       clean = clean;
-      counted = ap length (opening_clean y sound clean f) ∙ length-batches_in (joined y.closed) clean;
+      counted = ap length (opening_clean y sound clean f) ∙ length-batches_in (items_of_all y.closed) clean;
       anchor_is = refl;
       extension_is = refl;
     })
 
 module _ (meaning : Meaning) (key barrier : List ℕ) where
   abbrev I : Instance
-  I = opt meaning key barrier
+  I = opt_instance meaning key barrier
 
   -- by whether a segment is open
   point_at : (y : History) (flag : Bool) (m : Move) (named rest : List Batch) (a e : List ℕ) → IsSound (flagged y flag)
       → MayMove I (flagged y flag) m → y.batches ≡ named ++ rest → IsPoint I (flagged y flag) named a e
-      → IsPoint I (moved I (flagged y flag) m) named a e
+      → IsPoint I (history_after I (flagged y flag) m) named a e
   point_at y true (Commit b) named rest a e sound may first p =
       let z = flagged y true in
       point_commit I z named rest a e (current_clean z sound (open_current z sound refl)) first (y.current ++ b ∷ []) true
       (y.items ++ Own b ∷ []) b refl p
   point_at y false (Commit b) named rest a e sound may first p =
       let z = flagged y false in
-      point_commit I z named rest a e (live_clean z sound may.clean) first (b ∷ []) true (renamed y.items b) b
+      point_commit I z named rest a e (live_clean z sound may.clean) first (b ∷ []) true (with_last_batch y.items b) b
       (ap (λ (v : List Batch). v ++ b ∷ []) (sym (shut_current z sound refl))) p
   point_at y flag (Foreign d) named rest a e sound may first p = point_items I (flagged y flag) (y.items ++ Value d ∷ []) named a e p
   point_at y flag (Placed b) named rest a e sound may first p =
@@ -171,18 +171,18 @@ module _ (meaning : Meaning) (key barrier : List ℕ) where
   point_at y flag _ named rest a e sound may first p = point_items I (flagged y flag) [] named a e p
 
   place_at : (y : History) (m : Move) (named rest : List Batch) (place : Place) → IsSound y → MayMove I y m → y.batches ≡ named ++ rest
-      → IsPlaceOf Opt I y named place → IsPlaceOf Opt I (moved I y m) named place
+      → IsPlaceOf Opt I y named place → IsPlaceOf Opt I (history_after I y m) named place
   place_at y m named rest (InBasic s) sound may first p = absurd p
   place_at y m named rest (InOpt a e) sound may first p = point_at y y.is_open m named rest a.bytes e.bytes sound may first p
 
-  opt_batches : (y : History) (flag : Bool) (m : Move) → (moved I (flagged y flag) m).batches ≡ y.batches ++ added m
+  opt_batches : (y : History) (flag : Bool) (m : Move) → (history_after I (flagged y flag) m).batches ≡ y.batches ++ added m
   unfolding added
   opt_batches y true (Commit b) = refl
   opt_batches y false (Commit b) = refl
   opt_batches y flag _ = sym (append-nil y.batches)
 
-  pub opt_names : (y : History) (m : Move) (offered : Content) → IsSound y → MayMove I y m → Names I y offered
-      → Names I (moved I y m) offered
+  pub opt_names : (y : History) (m : Move) (offered : Content) → IsSound y → MayMove I y m → NamesPosition I y offered
+      → NamesPosition I (history_after I y m) offered
   opt_names y m offered sound may n = record {
     named = n.named;
     rest = n.rest ++ added m;
@@ -192,7 +192,7 @@ module _ (meaning : Meaning) (key barrier : List ℕ) where
     place = place_at y m n.named n.rest offered.place sound may n.first n.place;
   }
 
-  pub opt_issued : (y : History) → IsSound y → has_value (joined y.closed) ≡ false → Names I y (issued I y)
+  pub opt_issued : (y : History) → IsSound y → has_value (items_of_all y.closed) ≡ false → NamesPosition I y (content_of_issue I y)
   opt_issued y sound clean = record {
     named = y.batches;
     rest = [];
@@ -203,13 +203,13 @@ module _ (meaning : Meaning) (key barrier : List ℕ) where
   }
 
 module _ (meaning : Meaning) (key : List ℕ) where
-  basic_batches : (y : History) (m : Move) → (moved (basic meaning key) y m).batches ≡ y.batches ++ added m
+  basic_batches : (y : History) (m : Move) → (history_after (basic_instance meaning key) y m).batches ≡ y.batches ++ added m
   unfolding added
   basic_batches y (Commit b) = refl
   basic_batches y _ = sym (append-nil y.batches)
 
-  pub basic_names : (y : History) (m : Move) (offered : Content) → Names (basic meaning key) y offered
-      → Names (basic meaning key) (moved (basic meaning key) y m) offered
+  pub basic_names : (y : History) (m : Move) (offered : Content) → NamesPosition (basic_instance meaning key) y offered
+      → NamesPosition (basic_instance meaning key) (history_after (basic_instance meaning key) y m) offered
   basic_names y m offered n = record {
     named = n.named;
     rest = n.rest ++ added m;
@@ -219,5 +219,5 @@ module _ (meaning : Meaning) (key : List ℕ) where
     place = let s = basic_stands meaning key y n.named offered.place n.place in rw s.1 s.2;
   }
 
-  pub basic_issued : (y : History) → Names (basic meaning key) y (issued (basic meaning key) y)
+  pub basic_issued : (y : History) → NamesPosition (basic_instance meaning key) y (content_of_issue (basic_instance meaning key) y)
   basic_issued y = record { named = y.batches; rest = []; first = sym (append-nil y.batches); position = refl; state = refl; place = refl }

@@ -1,9 +1,9 @@
 -- Opt: what the tests of the verdict by digests say of both forms of a place.
 use Rattle.mm_model.proofs.Below.{ℕ, ◌≡◌, Bool, true, false, ◌||◌, List, [], ◌∷◌, ◌++◌, refl, sym, ap, ◌∙◌, subst, ◌⊎◌}
-use Rattle.mm_model.proofs.Below.{if◌then◌else◌, Decides, bytes_eq, Contains, list_any, zero_bytes, anchored_message, anchored_of}
-use Rattle.mm_model.proofs.Below.{register_of, anchor_of, is_empty, Point, forms_of, fits_fresh, fits_again, Within, IsClear}
-use Rattle.mm_model.proofs.Below.{register_trail, form_messages, point_messages, anchor-push, same_tests, Fresh, FreshSomehow}
-use Rattle.mm_model.proofs.Below.{Again, AgainSomehow, true_not_false, Listed, Clears, point_of, fresh_tells, again_tells, zero_register}
+use Rattle.mm_model.proofs.Below.{if◌then◌else◌, Decides, bytes_eq, Contains, list_any, zero_bytes, anchored_message, anchored_digest_of}
+use Rattle.mm_model.proofs.Below.{register_of, anchor_of, is_empty, Point, forms_of, fits_fresh, fits_again, AreMessagesIn, IsClear}
+use Rattle.mm_model.proofs.Below.{register_trail, form_messages, point_messages, anchor-push, same_tests, IsFreshPath, IsFreshSomehow}
+use Rattle.mm_model.proofs.Below.{IsAgainPath, IsAgainSomehow, true_not_false, HasListedMessages, IsClearFromStart, point_of, fresh_tells, again_tells, zero_register}
 use Rattle.mm_model.proofs.Below.{listed_segment, reads_zero}
 use Rattle.std.proofs.lemmas.Bool.Decides.{Decides-or}
 
@@ -21,7 +21,7 @@ on_forms A B test first second rest false r da db =
     Decides-or (test first) (test second || false) da (subst (λ x. Decides x ((is_empty rest ≡ false) × B)) (or_nothing (test second))
     (λ t. (sym r, (db (sym r)).0 t), λ q. (db (sym r)).1 q.1))
 
-pub zero_tells : (all : List (List ℕ)) → IsClear all → (rest : List (List ℕ)) → Within (register_trail rest) all
+pub zero_tells : (all : List (List ℕ)) → IsClear all → (rest : List (List ℕ)) → AreMessagesIn (register_trail rest) all
     → bytes_eq (register_of rest) zero_bytes ≡ is_empty rest
 zero_tells all clear [] l = (zero_register all clear [] l).1 refl
 zero_tells all clear (v ∷ rest) l =
@@ -30,7 +30,7 @@ zero_tells all clear (v ∷ rest) l =
 module _ (id : ℕ) where
   -- the second form
   abbrev closed_point : List (List (List ℕ)) → List (List ℕ) → Point
-  closed_point before rest = record { anchor = anchored_of (anchor_of id before) (register_of rest); extension = zero_bytes }
+  closed_point before rest = record { anchor = anchored_digest_of (anchor_of id before) (register_of rest); extension = zero_bytes }
 
   -- it is the point at the anchor after one more segment
   second_is : (before : List (List (List ℕ))) (rest : List (List ℕ)) → point_of id (before ++ rest ∷ []) [] ≡ closed_point before rest
@@ -38,36 +38,36 @@ module _ (id : ℕ) where
 
   -- the messages of its place, where there is one
   pub second_listed : (all : List (List ℕ)) → IsClear all → (before : List (List (List ℕ))) (rest : List (List ℕ)) (v : List ℕ)
-      → Listed id all before rest → Within (point_messages (anchor_of id before) (register_of rest) v) all → is_empty rest ≡ false
+      → HasListedMessages id all before rest → AreMessagesIn (point_messages (anchor_of id before) (register_of rest) v) all → is_empty rest ≡ false
       → Contains all (anchored_message (anchor_of id before) (register_of rest))
-      × Within (form_messages (anchored_of (anchor_of id before) (register_of rest)) zero_bytes v) all
+      × AreMessagesIn (form_messages (anchored_digest_of (anchor_of id before) (register_of rest)) zero_bytes v) all
   second_listed all clear before rest v l m some =
       let there : bytes_eq (register_of rest) zero_bytes ≡ false = zero_tells all clear rest l.last ∙ some in rw there at m.1.1
 
-module _ (id : ℕ) (all : List (List ℕ)) (clears : Clears id all) (flag : Bool) (closed : List (List (List ℕ))) (items : List (List ℕ))
-    (before : List (List (List ℕ))) (rest : List (List ℕ)) (k : Listed id all closed items) (l : Listed id all before rest) where
+module _ (id : ℕ) (all : List (List ℕ)) (clears : IsClearFromStart id all) (flag : Bool) (closed : List (List (List ℕ))) (items : List (List ℕ))
+    (before : List (List (List ℕ))) (rest : List (List ℕ)) (k : HasListedMessages id all closed items) (l : HasListedMessages id all before rest) where
   pub fresh_somehow : (is_empty rest ≡ false → Contains all (anchored_message (anchor_of id before) (register_of rest)))
       → Decides (list_any (fits_fresh flag (anchor_of id closed) (register_of items)) (forms_of (anchor_of id before) (register_of rest)))
-      (FreshSomehow flag closed items before rest)
+      (IsFreshSomehow flag closed items before rest)
   fresh_somehow closes =
       let test = fits_fresh flag (anchor_of id closed) (register_of items) in
-      on_forms (Fresh flag closed items before rest) (Fresh flag closed items (before ++ rest ∷ []) []) test (point_of id before rest)
+      on_forms (IsFreshPath flag closed items before rest) (IsFreshPath flag closed items (before ++ rest ∷ []) []) test (point_of id before rest)
       (closed_point id before rest) rest (bytes_eq (register_of rest) zero_bytes) (zero_tells all clears.clear rest l.last)
       (fresh_tells id all clears flag closed items before rest k l) (λ some.
-      subst (λ (x : Point). Decides (test x) (Fresh flag closed items (before ++ rest ∷ []) [])) (second_is id before rest)
+      subst (λ (x : Point). Decides (test x) (IsFreshPath flag closed items (before ++ rest ∷ []) [])) (second_is id before rest)
       (fresh_tells id all clears flag closed items (before ++ rest ∷ []) [] k
       (listed_segment id all before rest l.inner l.outer l.last (closes some))))
 
-  pub again_somehow : (v : List ℕ) → Within (point_messages (anchor_of id before) (register_of rest) v) all
+  pub again_somehow : (v : List ℕ) → AreMessagesIn (point_messages (anchor_of id before) (register_of rest) v) all
       → Decides (list_any (fits_again flag (anchor_of id closed) (register_of items) v) (forms_of (anchor_of id before) (register_of rest)))
-      (AgainSomehow flag closed items v before rest)
+      (IsAgainSomehow flag closed items v before rest)
   again_somehow v m =
       let test = fits_again flag (anchor_of id closed) (register_of items) v in
-      on_forms (Again flag closed items v before rest) (Again flag closed items v (before ++ rest ∷ []) []) test (point_of id before rest)
+      on_forms (IsAgainPath flag closed items v before rest) (IsAgainPath flag closed items v (before ++ rest ∷ []) []) test (point_of id before rest)
       (closed_point id before rest) rest (bytes_eq (register_of rest) zero_bytes) (zero_tells all clears.clear rest l.last)
       (again_tells id all clears flag closed items v before rest k l (m.0, (m.1.0, tt))) (λ some.
       let second = second_listed id all clears.clear before rest v l m some in
-      subst (λ (x : Point). Within (form_messages x.anchor x.extension v) all → Decides (test x)
-      (Again flag closed items v (before ++ rest ∷ []) [])) (second_is id before rest)
+      subst (λ (x : Point). AreMessagesIn (form_messages x.anchor x.extension v) all → Decides (test x)
+      (IsAgainPath flag closed items v (before ++ rest ∷ []) [])) (second_is id before rest)
       (again_tells id all clears flag closed items v (before ++ rest ∷ []) [] k
       (listed_segment id all before rest l.inner l.outer l.last second.0)) second.1)

@@ -1,15 +1,15 @@
 -- Opt: from a sound history the verdict by digests is the verdict on the history.
 use Rattle.mm_model.proofs.Below.{ℕ, ◌≡◌, ◌+◌, Bool, true, false, ◌&&◌, List, [], ◌∷◌, ◌++◌, length, map, refl, sym, ap, ◌∙◌}
 use Rattle.mm_model.proofs.Below.{subst, inl, inr, nat_eq, if◌then◌else◌, Decides, bytes_eq, AllByRecursion, Contains, list_any}
-use Rattle.mm_model.proofs.Below.{append-nil, map-append, Opt, zero_bytes, start_of, anchored_message, Batch, size_of, guard_message, closing_message}
-use Rattle.mm_model.proofs.Below.{guard, register_of, anchor_of, own_values, Meaning, Place, InBasic, InOpt, Content, Instance, opt, Entry}
-use Rattle.mm_model.proofs.Below.{History, joined, total_of, register_value_of, values_of, cell_digest_of, is_empty, has_value, are_own}
+use Rattle.mm_model.proofs.Below.{append-nil, map-append, Opt, zero_bytes, start_digest_of, anchored_message, Batch, size_of, guard_message, closing_message}
+use Rattle.mm_model.proofs.Below.{guard, register_of, anchor_of, own_values, Meaning, Place, InBasic, InOpt, Content, Instance, opt_instance, RegisterEntry}
+use Rattle.mm_model.proofs.Below.{History, items_of_all, total_of, register_value_of, values_of, cell_digest_of, is_empty, has_value, are_own}
 use Rattle.mm_model.proofs.Below.{Life, Live, Spoiled, Lost, life_by, life_of, is_lost_life, verdict_by_digests, forms_of, fits_fresh}
-use Rattle.mm_model.proofs.Below.{fits_again, is_last, verdict_by, opt_verdict, judge, judged, IsPoint, IsPlaceOf, Names, anchor_after}
-use Rattle.mm_model.proofs.Below.{Within, IsClear, IsClearFor, register_trail, point_messages, messages_of, counting, values_in}
+use Rattle.mm_model.proofs.Below.{fits_again, is_last, verdict_by, opt_verdict, verdict_on, verdict_by_tests, IsPoint, IsPlaceOf, NamesPosition, anchor_after}
+use Rattle.mm_model.proofs.Below.{AreMessagesIn, IsClear, IsClearFor, register_trail, point_messages, messages_of, counted_entries, values_in}
 use Rattle.mm_model.proofs.Below.{AreNoGuards, IsSound, IsClean, batches_in, each_left, each_right, each_append, trail_front}
-use Rattle.mm_model.proofs.Below.{same_own_values, same_tests, at_the_end, before_the_last, verdicts, true_not_false, taken_in}
-use Rattle.mm_model.proofs.Below.{FreshSomehow, AgainSomehow, fresh_joins, again_joins, Reaches, IsHeld, fresh_from, again_from, Listed, Clears}
+use Rattle.mm_model.proofs.Below.{same_own_values, same_tests, at_the_end, before_the_last, verdicts, true_not_false, items_taken_in}
+use Rattle.mm_model.proofs.Below.{IsFreshSomehow, IsAgainSomehow, fresh_joins, again_joins, PathReaches, IsHeld, fresh_from, again_from, HasListedMessages, IsClearFromStart}
 use Rattle.mm_model.proofs.Below.{own_values-append, values_of-append, joined-values, has_value-append, values_of-clean, values_of-own, meets}
 use Rattle.std.proofs.lemmas.Bool.{or_left, or_right, false_from_ne_true}
 use Rattle.mm_digest.specs.declared.digest.Digest.{Digest}
@@ -19,25 +19,25 @@ use Rattle.mm_model.proofs.Opt.{zero_tells, second_listed, fresh_somehow, again_
 use Rattle.mm_model.proofs.HistoryParts.{each_unmap, history_listed, LiveParts, live_parts, spoiled_parts, lost_test}
 
 -- the values that count, with the register's items where a segment is open
-counted_values : (barrier : List ℕ) (flag : Bool) (closed : List (List Entry)) (items : List Entry)
-    → joined (map (values_of barrier) closed) ++ taken_in flag (values_of barrier items) ≡ values_of barrier
-    (joined closed ++ (if flag then items else []))
-counted_values barrier true closed items = rw (joined-values barrier closed, values_of-append barrier (joined closed) items) refl
+counted_values : (barrier : List ℕ) (flag : Bool) (closed : List (List RegisterEntry)) (items : List RegisterEntry)
+    → items_of_all (map (values_of barrier) closed) ++ items_taken_in flag (values_of barrier items) ≡ values_of barrier
+    (items_of_all closed ++ (if flag then items else []))
+counted_values barrier true closed items = rw (joined-values barrier closed, values_of-append barrier (items_of_all closed) items) refl
 counted_values barrier false closed items =
-    rw (append-nil (joined (map (values_of barrier) closed)), append-nil (joined closed)) (joined-values barrier closed)
+    rw (append-nil (items_of_all (map (values_of barrier) closed)), append-nil (items_of_all closed)) (joined-values barrier closed)
 
 pub live_values_at : (barrier : List ℕ) (y : History) (flag : Bool) → IsSound y → y.is_open ≡ flag → IsClean y
-    → LiveParts flag (is_empty y.items) (are_own y.items y.current) (has_value (joined y.closed))
-    → values_of barrier (joined y.closed ++ (if flag then y.items else [])) ≡ own_values barrier y.batches
+    → LiveParts flag (is_empty y.items) (are_own y.items y.current) (has_value (items_of_all y.closed))
+    → values_of barrier (items_of_all y.closed ++ (if flag then y.items else [])) ≡ own_values barrier y.batches
 live_values_at barrier y true sound f h live =
-    rw (values_of-append barrier (joined y.closed) y.items, values_of-clean barrier (joined y.closed) h.clean)
+    rw (values_of-append barrier (items_of_all y.closed) y.items, values_of-clean barrier (items_of_all y.closed) h.clean)
     (rw (values_of-own barrier y.items y.current (live.own refl), h.batches)
-    (sym (own_values-append barrier (batches_in (joined y.closed)) y.current)))
+    (sym (own_values-append barrier (batches_in (items_of_all y.closed)) y.current)))
 live_values_at barrier y false sound f h live =
-    rw (append-nil (joined y.closed), h.batches, shut_current y sound f, append-nil (batches_in (joined y.closed)))
-    (values_of-clean barrier (joined y.closed) h.clean)
+    rw (append-nil (items_of_all y.closed), h.batches, shut_current y sound f, append-nil (batches_in (items_of_all y.closed)))
+    (values_of-clean barrier (items_of_all y.closed) h.clean)
 
-pub held_at : (flag : Bool) (items : List Entry) (barrier : List ℕ) → (flag ≡ true → is_empty items ≡ false)
+pub held_at : (flag : Bool) (items : List RegisterEntry) (barrier : List ℕ) → (flag ≡ true → is_empty items ≡ false)
     → IsHeld flag (values_of barrier items)
 held_at true [] barrier h = absurd (true_not_false (h refl))
 held_at true (x ∷ items) barrier h = refl
@@ -45,22 +45,22 @@ held_at false items barrier h = tt
 
 module _ (y : History) where
   spoiled_has_at : (flag : Bool) → IsSound y → y.is_open ≡ flag → life_by flag (is_empty y.items) (are_own y.items y.current)
-      (has_value (joined y.closed)) ≡ Spoiled → has_value (joined y.closed ++ (if flag then y.items else [])) ≡ true
+      (has_value (items_of_all y.closed)) ≡ Spoiled → has_value (items_of_all y.closed ++ (if flag then y.items else [])) ≡ true
   spoiled_has_at flag sound f e =
-      has_value-append (joined y.closed) (if flag then y.items else []) ∙
-      elim (spoiled_parts flag (is_empty y.items) (are_own y.items y.current) (has_value (joined y.closed)) e) [
-        | inl m ↦ or_left (has_value (joined y.closed)) (has_value (if flag then y.items else [])) m
+      has_value-append (items_of_all y.closed) (if flag then y.items else []) ∙
+      elim (spoiled_parts flag (is_empty y.items) (are_own y.items y.current) (has_value (items_of_all y.closed)) e) [
+        | inl m ↦ or_left (has_value (items_of_all y.closed)) (has_value (if flag then y.items else [])) m
         | inr o ↦
             let is : has_value y.items ≡ true = elim (sound.register (f ∙ o.0)) [
               | inl own ↦ absurd (true_not_false (sym own ∙ o.2))
               | inr (inl none) ↦ absurd (true_not_false (ap is_empty (sym none) ∙ o.1))
               | inr (inr has) ↦ has
             ] in
-            or_right (has_value (joined y.closed)) (has_value (if flag then y.items else []))
+            or_right (has_value (items_of_all y.closed)) (has_value (if flag then y.items else []))
             (ap (λ (b : Bool). has_value (if b then y.items else [])) o.0 ∙ is)
       ]
 
-pub zero_items : (barrier : List ℕ) (items : List Entry) → is_empty (values_of barrier items) ≡ is_empty items
+pub zero_items : (barrier : List ℕ) (items : List RegisterEntry) → is_empty (values_of barrier items) ≡ is_empty items
 zero_items barrier [] = refl
 zero_items barrier (x ∷ items) = refl
 
@@ -73,16 +73,16 @@ pub record Stood (i : Instance) (y : History) (named rest : List Batch) (a e : L
   pub extension_is : e ≡ register_of taken
   pub first : y.batches ≡ named ++ rest
   pub split : map (values_of i.barrier) y.closed ≡ before ++ later
-  pub flat : joined before ++ taken ≡ own_values i.barrier named
-  pub reaches : Reaches y.is_open later (length taken)
+  pub flat : items_of_all before ++ taken ≡ own_values i.barrier named
+  pub reaches : PathReaches y.is_open later (length taken)
   pub filled : AllByRecursion (λ vs. is_empty vs ≡ false) later
-  pub clears : Clears i.meaning.id all
-  pub history : Listed i.meaning.id all (map (values_of i.barrier) y.closed) (values_of i.barrier y.items)
-  pub path : Listed i.meaning.id all before taken
-  pub guards : Within (map (guard_message i.barrier) y.batches) all
+  pub clears : IsClearFromStart i.meaning.id all
+  pub history : HasListedMessages i.meaning.id all (map (values_of i.barrier) y.closed) (values_of i.barrier y.items)
+  pub path : HasListedMessages i.meaning.id all before taken
+  pub guards : AreMessagesIn (map (guard_message i.barrier) y.batches) all
 
 stood_of : (i : Instance) (y : History) (named rest : List Batch) (a e : List ℕ) (all : List (List ℕ)) → IsSound y → IsClear all
-    → Within (messages_of Opt i y) all → y.batches ≡ named ++ rest → IsPoint i y named a e → Stood i y named rest a e all
+    → AreMessagesIn (messages_of Opt i y) all → y.batches ≡ named ++ rest → IsPoint i y named a e → Stood i y named rest a e all
 stood_of i y named rest a e all sound clear history first place =
     let h = history_listed i y all history in let p = path_of i y named rest a e sound first all h.runs place in
     let V = values_of i.barrier in let before = map V p.before in let taken = own_values i.barrier p.taken in
@@ -104,15 +104,15 @@ stood_of i y named rest a e all sound clear history first place =
       clears = record { clear = clear; starts = h.starts };
       history = h.listed;
       path = record {
-        inner = each_left (λ vs. Within (register_trail vs) all) _ _ (rw split at h.listed.inner);
-        outer = trail_front closing_message (start_of Opt id) before (map V p.later) all (rw split at h.listed.outer);
+        inner = each_left (λ vs. AreMessagesIn (register_trail vs) all) _ _ (rw split at h.listed.inner);
+        outer = trail_front closing_message (start_digest_of Opt id) before (map V p.later) all (rw split at h.listed.outer);
         last = p.listed;
       };
       guards = h.guards;
     }
 
 pub stood_at : (i : Instance) (y : History) (named rest : List Batch) (place : Place) (all : List (List ℕ)) → IsSound y → IsClear all
-    → Within (messages_of Opt i y) all → y.batches ≡ named ++ rest → IsPlaceOf Opt i y named place
+    → AreMessagesIn (messages_of Opt i y) all → y.batches ≡ named ++ rest → IsPlaceOf Opt i y named place
     → (a : Digest) × (e : Digest) × (place ≡ InOpt a e) × Stood i y named rest a.bytes e.bytes all
 stood_at i y named rest (InBasic s) all sound clear history first is = absurd is
 stood_at i y named rest (InOpt a e) all sound clear history first is =
@@ -124,18 +124,18 @@ told Live here = here
 told _ here = false
 
 verdict_told : (life : Life) (fresh again here repeat : Bool) → (is_lost_life life ≡ false → fresh ≡ told life here)
-    → (is_lost_life life ≡ false → again ≡ told life repeat) → verdict_by (is_lost_life life) fresh again ≡ judged life here repeat
+    → (is_lost_life life ≡ false → again ≡ told life repeat) → verdict_by (is_lost_life life) fresh again ≡ verdict_by_tests life here repeat
 verdict_told Live fresh again here repeat f g = rw (f refl, g refl) (verdicts here repeat)
 verdict_told Spoiled fresh again here repeat f g = rw (f refl, g refl) refl
 verdict_told Lost fresh again here repeat f g = refl
 
 -- the register reads zero under a set flag exactly where power was lost inside an open segment
 pub zero_is_lost : (i : Instance) (y : History) (all : List (List ℕ)) → IsClear all
-    → Within (register_trail (values_of i.barrier y.items)) all
+    → AreMessagesIn (register_trail (values_of i.barrier y.items)) all
     → (y.is_open && bytes_eq (register_of (values_of i.barrier y.items)) zero_bytes) ≡ is_lost_life (life_of Opt y)
 zero_is_lost i y all clear items =
     ap (λ (x : Bool). y.is_open && x) (zero_tells all clear (values_of i.barrier y.items) items ∙ zero_items i.barrier y.items)
-    ∙ lost_test y.is_open (is_empty y.items) (are_own y.items y.current) (has_value (joined y.closed))
+    ∙ lost_test y.is_open (is_empty y.items) (are_own y.items y.current) (has_value (items_of_all y.closed))
 
 -- all first batches are among those of the history, and with that of a call among those and that one
 pub among_all : (batches named rest : List Batch) → batches ≡ named ++ rest → (c : Batch) → Contains named c → Contains batches c
@@ -162,31 +162,31 @@ module _ (i : Instance) (y : History) (named rest : List Batch) (a e : List ℕ)
   abbrev repeats_here : Batch → Bool
   repeats_here b = nat_eq (total_of named + size_of b) (total_of y.batches) && is_last y.batches b
 
-  flat_here : joined closed_here ++ taken_in y.is_open items_here ≡ values_of i.barrier (counting y)
+  flat_here : items_of_all closed_here ++ items_taken_in y.is_open items_here ≡ values_of i.barrier (counted_entries y)
   flat_here = counted_values i.barrier y.is_open y.closed y.items
 
-  pub fresh_path : IsHeld y.is_open items_here → own_values i.barrier named ≡ values_of i.barrier (counting y)
-      → FreshSomehow y.is_open closed_here items_here q.before q.taken
+  pub fresh_path : IsHeld y.is_open items_here → own_values i.barrier named ≡ values_of i.barrier (counted_entries y)
+      → IsFreshSomehow y.is_open closed_here items_here q.before q.taken
   fresh_path held is = fresh_from y.is_open closed_here q.before q.later items_here q.taken q.split q.filled held q.reaches
       (q.flat ∙ is ∙ sym flat_here)
 
   -- the messages of a call at the path
-  pub path_messages : (v : List ℕ) → Within (point_messages a e v) all
-      → Within (point_messages (anchor_of i.meaning.id q.before) (register_of q.taken) v) all
+  pub path_messages : (v : List ℕ) → AreMessagesIn (point_messages a e v) all
+      → AreMessagesIn (point_messages (anchor_of i.meaning.id q.before) (register_of q.taken) v) all
   path_messages v call = rw (q.anchor_is, q.extension_is) at call
 
-  guards_of_named : Within (map (guard_message i.barrier) named) all
+  guards_of_named : AreMessagesIn (map (guard_message i.barrier) named) all
   guards_of_named = each_left (Contains all) (map (guard_message i.barrier) named) _
       (rw (q.first, map-append (guard_message i.barrier) named rest) at q.guards)
 
   -- A test that holds exactly where the values of these batches are all that count: by the life of the history.
   test_told : IsSound y → (batches : List Batch) (Fits : Type 0) (test here : Bool) → Decides test Fits → Decides here (batches ≡ y.batches)
-      → (Fits → own_values i.barrier batches ≡ values_of i.barrier (counting y))
-      → (IsHeld y.is_open items_here → own_values i.barrier batches ≡ values_of i.barrier (counting y) → Fits)
-      → Within (map (guard_message i.barrier) batches) all → AreNoGuards i.barrier (values_in (counting y)) batches
+      → (Fits → own_values i.barrier batches ≡ values_of i.barrier (counted_entries y))
+      → (IsHeld y.is_open items_here → own_values i.barrier batches ≡ values_of i.barrier (counted_entries y) → Fits)
+      → AreMessagesIn (map (guard_message i.barrier) batches) all → AreNoGuards i.barrier (values_in (counted_entries y)) batches
       → (life : Life) → life_of Opt y ≡ life → is_lost_life life ≡ false → test ≡ told life here
   test_told sound batches Fits test here df dh counts fits listed foreign Live is alive =
-      let parts = live_parts y.is_open (is_empty y.items) (are_own y.items y.current) (has_value (joined y.closed)) is in
+      let parts = live_parts y.is_open (is_empty y.items) (are_own y.items y.current) (has_value (items_of_all y.closed)) is in
       let live = live_values_at i.barrier y y.is_open sound refl (live_clean y sound parts.clean) parts in
       same_tests test here
       (λ t. dh.1 (same_own_values i.barrier all q.clears.clear batches y.batches listed q.guards (counts (df.0 t) ∙ live)))
@@ -194,33 +194,33 @@ module _ (i : Instance) (y : History) (named rest : List Batch) (a e : List ℕ)
   test_told sound batches Fits test here df dh counts fits listed foreign Spoiled is alive =
       let has = spoiled_has_at y y.is_open sound refl is in
       false_from_ne_true test (λ t.
-      let m = meets i.barrier (counting y) batches has (sym (counts (df.0 t))) in foreign m.value m.batch m.among m.asked m.same)
+      let m = meets i.barrier (counted_entries y) batches has (sym (counts (df.0 t))) in foreign m.value m.batch m.among m.asked m.same)
   test_told sound batches Fits test here df dh counts fits listed foreign Lost is alive = absurd (true_not_false alive)
 
-  pub fresh_told : IsSound y → AreNoGuards i.barrier (values_in (counting y)) y.batches
+  pub fresh_told : IsSound y → AreNoGuards i.barrier (values_in (counted_entries y)) y.batches
       → (is_empty q.taken ≡ false → Contains all (anchored_message (anchor_of i.meaning.id q.before) (register_of q.taken)))
       → is_lost_life (life_of Opt y) ≡ false
       → list_any (fits_fresh y.is_open (anchor_of i.meaning.id closed_here) (register_of items_here)) (forms_of a e)
       ≡ told (life_of Opt y) counts_here
   fresh_told sound foreign closes =
-      rw (q.anchor_is, q.extension_is) (test_told sound named (FreshSomehow y.is_open closed_here items_here q.before q.taken) _ counts_here
+      rw (q.anchor_is, q.extension_is) (test_told sound named (IsFreshSomehow y.is_open closed_here items_here q.before q.taken) _ counts_here
       (fresh_somehow i.meaning.id all q.clears y.is_open closed_here items_here q.before q.taken q.history q.path closes)
       (at_the_end y.batches named rest q.first)
       (λ f. sym q.flat ∙ fresh_joins y.is_open closed_here items_here q.before q.taken f ∙ flat_here) fresh_path guards_of_named
       (λ d c among asked. foreign d c among (among_all y.batches named rest q.first c asked)) (life_of Opt y) refl)
 
-  again_told : IsSound y → (b : Batch) → AreNoGuards i.barrier (values_in (counting y)) (b ∷ y.batches)
+  again_told : IsSound y → (b : Batch) → AreNoGuards i.barrier (values_in (counted_entries y)) (b ∷ y.batches)
       → Contains all (guard_message i.barrier b)
-      → Within (point_messages (anchor_of i.meaning.id q.before) (register_of q.taken) (guard i.barrier b)) all
+      → AreMessagesIn (point_messages (anchor_of i.meaning.id q.before) (register_of q.taken) (guard i.barrier b)) all
       → is_lost_life (life_of Opt y) ≡ false
       → list_any (fits_again y.is_open (anchor_of i.meaning.id closed_here) (register_of items_here) (guard i.barrier b)) (forms_of a e)
       ≡ told (life_of Opt y) (repeats_here b)
   again_told sound b foreign called listed =
       let v = guard i.barrier b in
-      let more : own_values i.barrier (named ++ b ∷ []) ≡ (joined q.before ++ q.taken) ++ v ∷ [] =
+      let more : own_values i.barrier (named ++ b ∷ []) ≡ (items_of_all q.before ++ q.taken) ++ v ∷ [] =
       own_values-append i.barrier named (b ∷ []) ∙ ap (λ (w : List (List ℕ)). w ++ v ∷ []) (sym q.flat) in
       rw (q.anchor_is, q.extension_is) (test_told sound (named ++ b ∷ [])
-      (AgainSomehow y.is_open closed_here items_here v q.before q.taken) _ (repeats_here b)
+      (IsAgainSomehow y.is_open closed_here items_here v q.before q.taken) _ (repeats_here b)
       (again_somehow i.meaning.id all q.clears y.is_open closed_here items_here q.before q.taken q.history q.path v listed)
       (before_the_last y.batches named rest b q.first)
       (λ f. more ∙ again_joins y.is_open closed_here items_here v q.before q.taken f ∙ flat_here)
@@ -230,10 +230,10 @@ module _ (i : Instance) (y : History) (named rest : List Batch) (a e : List ℕ)
       (λ d c among asked. foreign d c among (among_asked y.batches named rest b q.first c asked)) (life_of Opt y) refl)
 
   -- the verdict, by the path that the place is
-  opt_on : IsSound y → (b : Batch) → Contains all (guard_message i.barrier b) → Within (point_messages a e (guard i.barrier b)) all
-      → AreNoGuards i.barrier (values_in (counting y)) (b ∷ y.batches)
+  opt_on : IsSound y → (b : Batch) → Contains all (guard_message i.barrier b) → AreMessagesIn (point_messages a e (guard i.barrier b)) all
+      → AreNoGuards i.barrier (values_in (counted_entries y)) (b ∷ y.batches)
       → opt_verdict y.is_open (anchor_after i y.closed) (register_of items_here) (forms_of a e) (guard i.barrier b)
-      ≡ judge Opt y (total_of named) b
+      ≡ verdict_on Opt y (total_of named) b
   opt_on sound b called call foreign =
       let v = guard i.barrier b in let listed = path_messages v call in
       rw (zero_is_lost i y all q.clears.clear q.history.last) (verdict_told (life_of Opt y) _ _ counts_here (repeats_here b)
@@ -242,17 +242,17 @@ module _ (i : Instance) (y : History) (named rest : List Batch) (a e : List ℕ)
       (again_told sound b foreign called listed))
 
 pub opt_is_judged : (meaning : Meaning) (key barrier : List ℕ) (y : History) (offered : Content) (b : Batch) (all : List (List ℕ))
-    → IsSound y → IsClearFor all (opt meaning key barrier) y offered.place b → Names (opt meaning key barrier) y offered
-    → verdict_by_digests barrier y.is_open (cell_digest_of (opt meaning key barrier) Opt y) (register_value_of (opt meaning key barrier) y)
-    offered.place b ≡ judge Opt y offered.position b
+    → IsSound y → IsClearFor all (opt_instance meaning key barrier) y offered.place b → NamesPosition (opt_instance meaning key barrier) y offered
+    → verdict_by_digests barrier y.is_open (cell_digest_of (opt_instance meaning key barrier) Opt y) (register_value_of (opt_instance meaning key barrier) y)
+    offered.place b ≡ verdict_on Opt y offered.position b
 opt_is_judged meaning key barrier y offered b all sound clear names =
-    let i = opt meaning key barrier in
+    let i = opt_instance meaning key barrier in
     let s = stood_at i y names.named names.rest offered.place all sound clear.clear clear.history names.first names.place in
     let call = rw s.2 at clear.call in
     rw (s.2, names.position) (opt_on i y names.named names.rest s.0.bytes s.1.bytes all s.3 sound b call.0 call.1 clear.foreign)
 
 pub lost_is_zero : (meaning : Meaning) (key barrier : List ℕ) (y : History) (all : List (List ℕ)) → IsClear all
-    → Within (messages_of Opt (opt meaning key barrier) y) all
-    → (y.is_open && bytes_eq (register_value_of (opt meaning key barrier) y) zero_bytes) ≡ is_lost_life (life_of Opt y)
+    → AreMessagesIn (messages_of Opt (opt_instance meaning key barrier) y) all
+    → (y.is_open && bytes_eq (register_value_of (opt_instance meaning key barrier) y) zero_bytes) ≡ is_lost_life (life_of Opt y)
 lost_is_zero meaning key barrier y all clear history =
-    let i = opt meaning key barrier in zero_is_lost i y all clear (history_listed i y all history).listed.last
+    let i = opt_instance meaning key barrier in zero_is_lost i y all clear (history_listed i y all history).listed.last

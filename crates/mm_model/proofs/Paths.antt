@@ -2,18 +2,18 @@
 use Rattle.mm_model.proofs.Below.{ℕ, ◌≡◌, ◌+◌, ◌-◌, ◌≤◌, Bool, true, false, List, [], ◌∷◌, ◌++◌, length, map, take, drop, refl}
 use Rattle.mm_model.proofs.Below.{sym, ap, ◌∙◌, subst, ◌⊎◌, inl, inr, arith, append_assoc, length-append, append-nil, append_cancel_right}
 use Rattle.mm_model.proofs.Below.{length-map, length-drop, drop-append-le, or_parts, AllByRecursion, zero_bytes, extended_message, Batch}
-use Rattle.mm_model.proofs.Below.{guard, register_of, own_values, Instance, Entry, History, joined, value_of, values_of, is_empty}
-use Rattle.mm_model.proofs.Below.{has_value, InClosed, IsPoint, at_anchor, in_closed, in_current, anchor_after, Within}
+use Rattle.mm_model.proofs.Below.{guard, register_of, own_values, Instance, RegisterEntry, History, items_of_all, extension_value, values_of, is_empty}
+use Rattle.mm_model.proofs.Below.{has_value, IsClosedPoint, IsPoint, at_anchor, in_closed, in_current, anchor_after, AreMessagesIn}
 use Rattle.mm_model.proofs.Below.{register_trail, closed_runs, runs_of, IsSound, IsClean, IsMarred, batches_in, each_left, each_right}
-use Rattle.mm_model.proofs.Below.{trail_front, same_halves, joined-append, joined-push, true_not_false, nil_from_length, Reaches, reads_zero}
+use Rattle.mm_model.proofs.Below.{trail_front, same_halves, joined-append, joined-push, true_not_false, nil_from_length, PathReaches, reads_zero}
 use Rattle.mm_model.proofs.Below.{own_values-append, has_value-append, batches_in-append, length-batches_in, values_of-clean, sooner}
 use Rattle.std.proofs.Math.Seq.{take-append-add}
 
 -- the batches begin with those of these segments, which hold no value that stands for none
-pub record Begins (y : History) (before : List (List Entry)) : Type 0 where
-  pub clean : has_value (joined before) ≡ false
+pub record Begins (y : History) (before : List (List RegisterEntry)) : Type 0 where
+  pub clean : has_value (items_of_all before) ≡ false
   pub tail : List Batch
-  pub is : y.batches ≡ batches_in (joined before) ++ tail
+  pub is : y.batches ≡ batches_in (items_of_all before) ++ tail
 
 -- a list is empty or it isn't
 pub empty_cases : {A : Type 0} (xs : List A) → (xs ≡ []) ⊎ (is_empty xs ≡ false)
@@ -25,36 +25,36 @@ shut_current y sound shut =
     elim (empty_cases y.current) [ inl none ↦ none | inr some ↦ absurd (true_not_false (sym (sound.open_is some) ∙ shut)) ]
 
 module _ (y : History) where
-  begins_by : (before between whole : List (List Entry)) (rest : List Batch) → whole ≡ before ++ between → has_value (joined whole) ≡ false
-      → y.batches ≡ batches_in (joined whole) ++ rest → Begins y before
+  begins_by : (before between whole : List (List RegisterEntry)) (rest : List Batch) → whole ≡ before ++ between → has_value (items_of_all whole) ≡ false
+      → y.batches ≡ batches_in (items_of_all whole) ++ rest → Begins y before
   begins_by before between whole rest split clean batches =
-      let all : joined whole ≡ joined before ++ joined between = ap joined split ∙ joined-append before between in
-      let tests = or_parts (has_value (joined before)) (has_value (joined between))
-      (sym (has_value-append (joined before) (joined between)) ∙ ap has_value (sym all) ∙ clean) in
+      let all : items_of_all whole ≡ items_of_all before ++ items_of_all between = ap items_of_all split ∙ joined-append before between in
+      let tests = or_parts (has_value (items_of_all before)) (has_value (items_of_all between))
+      (sym (has_value-append (items_of_all before) (items_of_all between)) ∙ ap has_value (sym all) ∙ clean) in
       record {
         clean = tests.0;
-        tail = batches_in (joined between) ++ rest;
-        is = rw (batches, all, batches_in-append (joined before) (joined between))
-            (append_assoc (batches_in (joined before)) (batches_in (joined between)) rest);
+        tail = batches_in (items_of_all between) ++ rest;
+        is = rw (batches, all, batches_in-append (items_of_all before) (items_of_all between))
+            (append_assoc (batches_in (items_of_all before)) (batches_in (items_of_all between)) rest);
       }
 
-  pub begins_clean : (before later : List (List Entry)) → IsClean y → y.closed ≡ before ++ later → Begins y before
+  pub begins_clean : (before later : List (List RegisterEntry)) → IsClean y → y.closed ≡ before ++ later → Begins y before
   begins_clean before later h split = begins_by before later y.closed y.current split h.clean h.batches
 
-  begins_marred : (before later : List (List Entry)) → IsMarred y → y.closed ≡ before ++ later → is_empty later ≡ false → Begins y before
+  begins_marred : (before later : List (List RegisterEntry)) → IsMarred y → y.closed ≡ before ++ later → is_empty later ≡ false → Begins y before
   begins_marred before later h split some =
       let s = sooner before later h.before h.last (sym split ∙ h.split) some in
       begins_by before s.between h.before h.rest s.is h.clean h.batches
 
   -- a marred history's closed segments hold a value that stands for no batch
-  pub marred_has : IsMarred y → has_value (joined y.closed) ≡ true
+  pub marred_has : IsMarred y → has_value (items_of_all y.closed) ≡ true
   marred_has h =
-      rw (h.split, joined-push h.before h.last, has_value-append (joined h.before) h.last, h.clean) h.marred
+      rw (h.split, joined-push h.before h.last, has_value-append (items_of_all h.before) h.last, h.clean) h.marred
 
-  pub live_clean : IsSound y → has_value (joined y.closed) ≡ false → IsClean y
+  pub live_clean : IsSound y → has_value (items_of_all y.closed) ≡ false → IsClean y
   live_clean sound clean = elim sound.history [ inl h ↦ h | inr h ↦ absurd (true_not_false (sym (marred_has h) ∙ clean)) ]
 
-  begins : (before later : List (List Entry)) → IsSound y → y.closed ≡ before ++ later → (has_value (joined before) ≡ false)
+  begins : (before later : List (List RegisterEntry)) → IsSound y → y.closed ≡ before ++ later → (has_value (items_of_all before) ≡ false)
       ⊎ (is_empty later ≡ false) → Begins y before
   begins before later sound split why = elim sound.history [
     | inl h ↦ begins_clean before later h split
@@ -62,7 +62,7 @@ module _ (y : History) where
       | inr some ↦ begins_marred before later h split some
       | inl none ↦ absurd (elim why [
         | inl clean ↦
-            true_not_false (sym (marred_has h) ∙ ap (λ (v : List (List Entry)). has_value (joined v)) (split
+            true_not_false (sym (marred_has h) ∙ ap (λ (v : List (List RegisterEntry)). has_value (items_of_all v)) (split
             ∙ ap (λ v. before ++ v) none ∙ append-nil before) ∙ clean)
         | inr some ↦ true_not_false (ap is_empty (sym none) ∙ some)
       ])
@@ -70,31 +70,31 @@ module _ (y : History) where
   ]
 
   -- first batches as many as the entries of these segments are the segments' batches
-  done_is : (before : List (List Entry)) (done more : List Batch) → Begins y before → y.batches ≡ done ++ more
-      → length done ≡ length (joined before) → done ≡ batches_in (joined before)
+  done_is : (before : List (List RegisterEntry)) (done more : List Batch) → Begins y before → y.batches ≡ done ++ more
+      → length done ≡ length (items_of_all before) → done ≡ batches_in (items_of_all before)
   done_is before done more h e l =
-      (same_halves done (batches_in (joined before)) more h.tail (l ∙ sym (length-batches_in (joined before) h.clean)) (sym e ∙ h.is)).0
+      (same_halves done (batches_in (items_of_all before)) more h.tail (l ∙ sym (length-batches_in (items_of_all before) h.clean)) (sym e ∙ h.is)).0
 
-flat_is : (barrier : List ℕ) (y : History) (before : List (List Entry)) (done taken named : List Batch) → Begins y before
-    → done ≡ batches_in (joined before) → named ≡ done ++ taken → values_of barrier (joined before)
+flat_is : (barrier : List ℕ) (y : History) (before : List (List RegisterEntry)) (done taken named : List Batch) → Begins y before
+    → done ≡ batches_in (items_of_all before) → named ≡ done ++ taken → values_of barrier (items_of_all before)
     ++ own_values barrier taken ≡ own_values barrier named
 flat_is barrier y before done taken named h d n =
-    rw (values_of-clean barrier (joined before) h.clean, n, own_values-append barrier done taken, d) refl
+    rw (values_of-clean barrier (items_of_all before) h.clean, n, own_values-append barrier done taken, d) refl
 
 pub record Path (i : Instance) (y : History) (named : List Batch) (a e : List ℕ) (all : List (List ℕ)) : Type 0 where
-  pub before : List (List Entry)
-  pub later : List (List Entry)
+  pub before : List (List RegisterEntry)
+  pub later : List (List RegisterEntry)
   pub taken : List Batch
   pub split : y.closed ≡ before ++ later
   pub anchor_is : a ≡ anchor_after i before
   pub extension_is : e ≡ register_of (own_values i.barrier taken)
-  pub flat : values_of i.barrier (joined before) ++ own_values i.barrier taken ≡ own_values i.barrier named
-  pub reaches : Reaches y.is_open (map (values_of i.barrier) later) (length (own_values i.barrier taken))
-  pub listed : Within (register_trail (own_values i.barrier taken)) all
+  pub flat : values_of i.barrier (items_of_all before) ++ own_values i.barrier taken ≡ own_values i.barrier named
+  pub reaches : PathReaches y.is_open (map (values_of i.barrier) later) (length (own_values i.barrier taken))
+  pub listed : AreMessagesIn (register_trail (own_values i.barrier taken)) all
 
 -- the messages of the batches of each segment are listed
 abbrev pub RunsListed : List ℕ → List (List ℕ) → List Batch → Type 0
-RunsListed barrier all run = Within (register_trail (own_values barrier run)) all
+RunsListed barrier all run = AreMessagesIn (register_trail (own_values barrier run)) all
 
 pub listed_front : (barrier : List ℕ) (all : List (List ℕ)) (taken more : List Batch) → RunsListed barrier all (taken ++ more)
     → RunsListed barrier all taken
@@ -102,7 +102,7 @@ listed_front barrier all taken more w =
     trail_front extended_message zero_bytes (own_values barrier taken) (own_values barrier more) all
     (rw (own_values-append barrier taken more) at w)
 
-reaches_none : (flag : Bool) (later : List (List (List ℕ))) → Reaches flag later 0
+reaches_none : (flag : Bool) (later : List (List (List ℕ))) → PathReaches flag later 0
 reaches_none flag [] = tt
 reaches_none flag (s ∷ ss) = inl (omega arith)
 
@@ -115,7 +115,7 @@ begun_longer [] more b = absurd (true_not_false b)
 begun_longer (x ∷ xs) more b = refl
 
 -- the batches of a closed segment, by the segments after it and the batches from its start on
-abbrev run_at : List Entry → List (List Entry) → List Batch → List Batch
+abbrev run_at : List RegisterEntry → List (List RegisterEntry) → List Batch → List Batch
 run_at segment [] more = more
 run_at segment (next ∷ later) more = take (length segment) more
 
@@ -126,25 +126,25 @@ runs_parts P y runs =
     let closed = closed_runs y.closed (take (length y.batches - length y.current) y.batches) in
     (each_left P closed (y.current ∷ []) runs, (each_right P closed (y.current ∷ []) runs).0)
 
-run_first : (P : List Batch → Type 0) (segment : List Entry) (later : List (List Entry)) (bs more : List Batch) → bs ≡ more
+run_first : (P : List Batch → Type 0) (segment : List RegisterEntry) (later : List (List RegisterEntry)) (bs more : List Batch) → bs ≡ more
     → AllByRecursion P (closed_runs (segment ∷ later) bs) → P (run_at segment later more)
 run_first P segment [] bs more e h = subst P e h.0
 run_first P segment (next ∷ later) bs more e h = subst (λ (v : List Batch). P (take (length segment) v)) e h.0
 
 -- the segments behind a first one
-runs_behind : (P : List Batch → Type 0) (s : List Entry) (before : List (List Entry)) (segment : List Entry)
-    (later : List (List Entry)) (bs : List Batch) → AllByRecursion P (closed_runs (s ∷ (before ++ segment ∷ later)) bs)
+runs_behind : (P : List Batch → Type 0) (s : List RegisterEntry) (before : List (List RegisterEntry)) (segment : List RegisterEntry)
+    (later : List (List RegisterEntry)) (bs : List Batch) → AllByRecursion P (closed_runs (s ∷ (before ++ segment ∷ later)) bs)
     → AllByRecursion P (closed_runs (before ++ segment ∷ later) (drop (length s) bs))
 runs_behind P s [] segment later bs h = h.1
 runs_behind P s (t ∷ before) segment later bs h = h.1
 
-run_holds : (P : List Batch → Type 0) (before : List (List Entry)) (segment : List Entry) (later : List (List Entry))
-    (bs done more : List Batch) → bs ≡ done ++ more → length done ≡ length (joined before)
+run_holds : (P : List Batch → Type 0) (before : List (List RegisterEntry)) (segment : List RegisterEntry) (later : List (List RegisterEntry))
+    (bs done more : List Batch) → bs ≡ done ++ more → length done ≡ length (items_of_all before)
     → AllByRecursion P (closed_runs (before ++ segment ∷ later) bs) → P (run_at segment later more)
 run_holds P [] segment later bs done more e l h =
     run_first P segment later bs more (e ∙ ap (λ (v : List Batch). v ++ more) (nil_from_length done l)) h
 run_holds P (s ∷ before) segment later bs done more e l h =
-    let whole = length-append s (joined before) in let fits : length s ≤ length done = omega (arith, l, whole) in
+    let whole = length-append s (items_of_all before) in let fits : length s ≤ length done = omega (arith, l, whole) in
     let dropped = length-drop (length s) done in
     let cut : drop (length s) bs ≡ drop (length s) done ++ more = ap (drop (length s)) e ∙ drop-append-le (length s) done more fits in
     run_holds P before segment later (drop (length s) bs) (drop (length s) done) more cut (omega (arith, l, whole, dropped))
@@ -156,7 +156,7 @@ takes_whole n xs ys l =
     let e : n ≡ length xs + (n - length xs) = omega (arith, l) in
     ap (λ (k : ℕ). take k (xs ++ ys)) e ∙ take-append-add xs ys (n - length xs)
 
-run_listed : (barrier : List ℕ) (all : List (List ℕ)) (segment : List Entry) (later : List (List Entry)) (taken more : List Batch)
+run_listed : (barrier : List ℕ) (all : List (List ℕ)) (segment : List RegisterEntry) (later : List (List RegisterEntry)) (taken more : List Batch)
     → (length taken ≤ length segment) ⊎ (later ≡ []) → RunsListed barrier all (run_at segment later (taken ++ more))
     → RunsListed barrier all taken
 run_listed barrier all segment [] taken more fits w = listed_front barrier all taken more w
@@ -175,18 +175,18 @@ module _ (y : History) where
       omega (arith, whole, parts, nothing)
 
   -- how many batches there are, by the closed segments before one, that one and those behind it
-  pub clean_size : IsClean y → (before : List (List Entry)) (segment : List Entry) (later : List (List Entry))
-      → y.closed ≡ before ++ segment ∷ later → length y.batches ≡ length (joined before) + (length segment + length (joined later))
+  pub clean_size : IsClean y → (before : List (List RegisterEntry)) (segment : List RegisterEntry) (later : List (List RegisterEntry))
+      → y.closed ≡ before ++ segment ∷ later → length y.batches ≡ length (items_of_all before) + (length segment + length (items_of_all later))
       + length y.current
   clean_size h before segment later split =
-      let all = ap length h.batches in let cut = length-append (batches_in (joined y.closed)) y.current in
-      let count = length-batches_in (joined y.closed) h.clean in let inner = length-append segment (joined later) in
-      let sizes = ap length (ap joined split ∙ joined-append before (segment ∷ later)) in
-      omega (arith, all, cut, count, inner, sizes, length-append (joined before) (segment ++ joined later))
+      let all = ap length h.batches in let cut = length-append (batches_in (items_of_all y.closed)) y.current in
+      let count = length-batches_in (items_of_all y.closed) h.clean in let inner = length-append segment (items_of_all later) in
+      let sizes = ap length (ap items_of_all split ∙ joined-append before (segment ∷ later)) in
+      omega (arith, all, cut, count, inner, sizes, length-append (items_of_all before) (segment ++ items_of_all later))
 
 module _ (i : Instance) (y : History) (named rest : List Batch) (a e : List ℕ) (sound : IsSound y) (first : y.batches ≡ named ++ rest) where
   -- a path into a closed segment ends before the open one
-  ends_before_current : (p : InClosed i y named a e) → length named ≤ length y.batches - length y.current
+  ends_before_current : (p : IsClosedPoint i y named a e) → length named ≤ length y.batches - length y.current
   ends_before_current p = elim sound.history [
     | inr h ↦ none_longer y named rest first (shut_current y sound h.shut)
     | inl h ↦ elim p.within [
@@ -197,11 +197,11 @@ module _ (i : Instance) (y : History) (named rest : List Batch) (a e : List ℕ)
     ]
   ]
 
-  reaches_closed : (p : InClosed i y named a e)
-      → Reaches y.is_open (map (values_of i.barrier) (p.segment ∷ p.later)) (length (own_values i.barrier p.taken))
+  reaches_closed : (p : IsClosedPoint i y named a e)
+      → PathReaches y.is_open (map (values_of i.barrier) (p.segment ∷ p.later)) (length (own_values i.barrier p.taken))
   reaches_closed p = elim p.within [
     | inl within ↦
-        let taken = length-map p.taken (guard i.barrier) in let segment = length-map p.segment (value_of i.barrier) in
+        let taken = length-map p.taken (guard i.barrier) in let segment = length-map p.segment (extension_value i.barrier) in
         inl (omega (arith, within, taken, segment))
     | inr last ↦ inr (ap (map (values_of i.barrier)) last.0, sound.shut_is (ap is_empty last.1))
   ]
@@ -225,7 +225,7 @@ module _ (i : Instance) (y : History) (named rest : List Batch) (a e : List ℕ)
   path_of all runs (in_current p) =
       let clean = current_clean y sound (ap is_empty p.split ∙ begun_longer p.taken p.more p.begun) in
       let h = begins_clean y y.closed [] clean (sym (append-nil y.closed)) in
-      let d = append_cancel_right p.done (batches_in (joined y.closed)) y.current (sym p.start ∙ clean.batches) in
+      let d = append_cancel_right p.done (batches_in (items_of_all y.closed)) y.current (sym p.start ∙ clean.batches) in
       record {
         before = y.closed;
         later = [];

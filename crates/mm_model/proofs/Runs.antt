@@ -1,7 +1,7 @@
 -- A machine that runs one more request.
 use Rattle.mm_model.proofs.Below.{ℕ, ◌≡◌, List, [], ◌∷◌, ◌++◌, sym, ◌∙◌, subst, IsTrue, Meaning, IsLawful, state_after}
-use Rattle.mm_module.specs.RunLaws.{state_after-push, said_after-push, state_after-is_spelled}
-use Rattle.mm_model.specs.Run.{IsRun}
+use Rattle.mm_module.specs.RunLaws.{state_after-push, last_output_after-push, state_after-is_spelled}
+use Rattle.mm_model.specs.Run.{IsStateOfRun}
 
 -- the state that a machine passes to its module is spelled
 pub spelled_at : (meaning : Meaning) → IsLawful meaning → (requests : List (List ℕ)) (state seen : List ℕ)
@@ -9,11 +9,11 @@ pub spelled_at : (meaning : Meaning) → IsLawful meaning → (requests : List (
 spelled_at meaning lawful requests state seen e f =
     subst (λ (s : List ℕ). IsTrue (meaning.is_spelled s)) (sym (f ∙ e)) (state_after-is_spelled meaning lawful requests)
 
-pub IsRun-push : (meaning : Meaning) (requests items : List (List ℕ)) (request asked state seen output next said : List ℕ)
-    → IsRun meaning requests state output → seen ≡ state → next ≡ meaning.next seen request → said ≡ meaning.says seen request
-    → asked ≡ request → items ≡ requests ++ asked ∷ [] → IsRun meaning items next said
-IsRun-push meaning requests items request asked state seen output next said run s n o a i =
+pub IsStateOfRun-push : (meaning : Meaning) (requests items : List (List ℕ)) (request asked state seen output next said : List ℕ)
+    → IsStateOfRun meaning requests state output → seen ≡ state → next ≡ meaning.next seen request → said ≡ meaning.says seen request
+    → asked ≡ request → items ≡ requests ++ asked ∷ [] → IsStateOfRun meaning items next said
+IsStateOfRun-push meaning requests items request asked state seen output next said run s n o a i =
     record {
       state_is = rw (n, s, run.state_is, i, a) (sym (state_after-push meaning requests request));
-      output_is = rw (o, s, run.state_is, i, a) (sym (said_after-push meaning requests request));
+      output_is = rw (o, s, run.state_is, i, a) (sym (last_output_after-push meaning requests request));
     }

@@ -8,8 +8,8 @@ use Rattle.std.proofs.lemmas.Slice.Eq.{bytes_eq-Decides}
 use Rattle.std.specs.Bool.{Decides}
 use Rattle.mm_model.specs.Below.{Batch, One, Many, members_of, size_of, size_of-pos}
 use Rattle.mm_model.specs.History.{requests_of, total_of}
-use Rattle.mm_model.specs.Life.{same_batch}
-use Rattle.mm_model.specs.Judge.{is_last}
+use Rattle.mm_model.specs.Life.{is_same_batch}
+use Rattle.mm_model.specs.Verdicts.{is_last}
 
 -- two tests that hold together are one
 pub same_tests : (a b : Bool) → (a ≡ true → b ≡ true) → (b ≡ true → a ≡ true) → a ≡ b
@@ -20,24 +20,24 @@ same_tests false false f g = refl
 pub not_both : (b : Bool) → b ≡ true → b ≡ false → ⊥
 not_both b t f = cc
 
-pub same_batch-Decides : (b c : Batch) → Decides (same_batch b c) (b ≡ c)
-same_batch-Decides (One r) (One s) = (λ e. ap One ((bytes_eq-Decides r s).0 e), λ e. (bytes_eq-Decides r s).1 (cc))
-same_batch-Decides (One r) (Many t) = (λ e. absurd (not_both false e refl), λ e. absurd (cc))
-same_batch-Decides (Many t) (One r) = (λ e. absurd (not_both false e refl), λ e. absurd (cc))
-same_batch-Decides (Many t) (Many u) = (λ e. ap Many ((bytes_eq-Decides t u).0 e), λ e. (bytes_eq-Decides t u).1 (cc))
+pub is_same_batch-Decides : (b c : Batch) → Decides (is_same_batch b c) (b ≡ c)
+is_same_batch-Decides (One r) (One s) = (λ e. ap One ((bytes_eq-Decides r s).0 e), λ e. (bytes_eq-Decides r s).1 (cc))
+is_same_batch-Decides (One r) (Many t) = (λ e. absurd (not_both false e refl), λ e. absurd (cc))
+is_same_batch-Decides (Many t) (One r) = (λ e. absurd (not_both false e refl), λ e. absurd (cc))
+is_same_batch-Decides (Many t) (Many u) = (λ e. ap Many ((bytes_eq-Decides t u).0 e), λ e. (bytes_eq-Decides t u).1 (cc))
 
-pub record EndsWith (batches : List Batch) (b : Batch) : Type 0 where
+pub record HasLastBatch (batches : List Batch) (b : Batch) : Type 0 where
   pub front : List Batch
   pub is : batches ≡ front ++ b ∷ []
 
-pub is_last_tells : (batches : List Batch) (b : Batch) → is_last batches b ≡ true → EndsWith batches b
+pub is_last_tells : (batches : List Batch) (b : Batch) → is_last batches b ≡ true → HasLastBatch batches b
 is_last_tells [] b e = absurd (not_both false e refl)
-is_last_tells (c ∷ []) b e = record { front = []; is = ap (λ x. x ∷ []) ((same_batch-Decides c b).0 e) }
+is_last_tells (c ∷ []) b e = record { front = []; is = ap (λ x. x ∷ []) ((is_same_batch-Decides c b).0 e) }
 is_last_tells (c ∷ d ∷ batches) b e = let h = is_last_tells (d ∷ batches) b e in record { front = c ∷ h.front; is = ap (λ xs. c ∷ xs) h.is }
 
 pub is_last_of : (front : List Batch) (b : Batch) → is_last (front ++ b ∷ []) b ≡ true
-is_last_of [] b = (same_batch-Decides b b).1 refl
-is_last_of (c ∷ []) b = (same_batch-Decides b b).1 refl
+is_last_of [] b = (is_same_batch-Decides b b).1 refl
+is_last_of (c ∷ []) b = (is_same_batch-Decides b b).1 refl
 is_last_of (c ∷ d ∷ front) b = is_last_of (d ∷ front) b
 
 pub total-cons : (b : Batch) (bs : List Batch) → total_of (b ∷ bs) ≡ size_of b + total_of bs

@@ -3,14 +3,14 @@ pub use Rattle.sha2.proofs.Facts256.{length-sha256}
 pub use Rattle.sha2.specs.Sha256.{sha256}
 pub use Rattle.mm_base.specs.FieldLaws.{append-injective}
 pub use Rattle.mm_base.specs.Limits.{last_position, limit_of, longest_request, most_members}
-pub use Rattle.mm_digest.specs.LengthLaws.{length-hmac_of, length-start_of, length-zero_bytes}
-pub use Rattle.mm_digest.specs.Messages.{anchored_message, anchored_of, extended_message, extended_of, start_message, start_of, zero_bytes}
+pub use Rattle.mm_digest.specs.LengthLaws.{length-hmac_of, length-start_digest_of, length-zero_bytes}
+pub use Rattle.mm_digest.specs.Messages.{anchored_message, anchored_digest_of, extended_message, extended_digest_of, start_message, start_digest_of, zero_bytes}
 pub use Rattle.mm_digest.specs.declared.digest.Digest.{Digest}
 pub use Rattle.mm_digest.specs.declared.variant.Variant.{Variant}
 pub use Rattle.mm_digest.specs.declared.variant.Variant.TheVariants.{Basic, Opt}
 pub use Rattle.mm_seal.specs.Body.{place_length}
 pub use Rattle.mm_seal.specs.Cell.{IsCell, cell_spelling}
-pub use Rattle.mm_seal.specs.Snapshot.{Content, IsContent, IsPlace, sealed_of, snapshot_front, variant_of}
+pub use Rattle.mm_seal.specs.Snapshot.{Content, IsContent, IsPlace, sealed_snapshot_of, snapshot_front, variant_of}
 pub use Rattle.mm_seal.specs.SnapshotLaws.{length-snapshot_front}
 pub use Rattle.mm_seal.specs.declared.cell.Cell.{Cell}
 pub use Rattle.mm_seal.specs.declared.snapshot.Place.{Place}
@@ -18,6 +18,6 @@ pub use Rattle.mm_seal.specs.declared.snapshot.Place.TheVariants.{Basic as InBas
 pub use Rattle.mm_platform.specs.Standing.{Standing, item_values, register_after}
 pub use Rattle.mm_module.specs.Batch.{Batch, Many, One, batch_text, members_of, size_of}
 pub use Rattle.mm_module.specs.BatchLaws.{size_of-pos, text_of-members_of}
-pub use Rattle.mm_module.specs.Meaning.{IsLawful, IsLine, Meaning, outputs_from, said_after, state_after}
+pub use Rattle.mm_module.specs.Meaning.{IsLawful, IsLine, Meaning, outputs_from, last_output_after, state_after}
 pub use Rattle.mm_module.specs.MeaningWords.{state_from}
 pub use Rattle.mm_module.specs.RunLaws.{length-outputs_from, state_from-is_spelled}

@@ -1,12 +1,12 @@
 -- What the digests stand for: the summary of a list of batches, the value of a register and the
 -- anchor of a list of segments. Each is one chain: every item is hashed with the digest before it.
 use Rattle.std.specs.Prelude.{ℕ, List, [], ◌∷◌, ◌++◌}
-use Rattle.mm_model.specs.Below.{sha256, zero_bytes, start_of, extended_message, anchored_message, Basic, Opt, Batch, One, Many}
+use Rattle.mm_model.specs.Below.{sha256, zero_bytes, start_digest_of, extended_message, anchored_message, Basic, Opt, Batch, One, Many}
 
 -- the digest after these items, from the digest s
-abbrev pub after : {A : Type 0} → (List ℕ → A → List ℕ) → List ℕ → List A → List ℕ
-after message s [] = s
-after message s (x ∷ xs) = after message (sha256 (message s x)) xs
+abbrev pub digest_after : {A : Type 0} → (List ℕ → A → List ℕ) → List ℕ → List A → List ℕ
+digest_after message s [] = s
+digest_after message s (x ∷ xs) = digest_after message (sha256 (message s x)) xs
 
 -- the messages hashed on the way
 abbrev pub trail : {A : Type 0} → (List ℕ → A → List ℕ) → List ℕ → List A → List (List ℕ)
@@ -25,7 +25,7 @@ guard_message barrier (Many text) = 5 ∷ (barrier ++ text)
 
 -- the message by which a segment, its values, follows the anchor a
 abbrev pub closing_message : List ℕ → List (List ℕ) → List ℕ
-closing_message a values = anchored_message a (after extended_message zero_bytes values)
+closing_message a values = anchored_message a (digest_after extended_message zero_bytes values)
 
 -- the summary after one more batch
 unfoldable pub link : List ℕ → Batch → List ℕ
@@ -37,12 +37,12 @@ guard barrier b = sha256 (guard_message barrier b)
 
 -- the summary of the batches
 unfoldable pub summary_of : ℕ → List Batch → List ℕ
-summary_of id batches = after link_message (start_of Basic id) batches
+summary_of id batches = digest_after link_message (start_digest_of Basic id) batches
 
 -- the value of a register that took in these values since it was zero
 unfoldable pub register_of : List (List ℕ) → List ℕ
-register_of values = after extended_message zero_bytes values
+register_of values = digest_after extended_message zero_bytes values
 
 -- the anchor after these segments, each the values that the register had taken in
 unfoldable pub anchor_of : ℕ → List (List (List ℕ)) → List ℕ
-anchor_of id segments = after closing_message (start_of Opt id) segments
+anchor_of id segments = digest_after closing_message (start_digest_of Opt id) segments

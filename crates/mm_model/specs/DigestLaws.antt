@@ -5,14 +5,14 @@ use Rattle.std.proofs.lemmas.Slice.Eq.{bytes_eq-Decides}
 use Rattle.std.specs.Bool.{Decides}
 use Rattle.std.specs.List.{AllByRecursion, Contains, fold}
 use Rattle.std.specs.Str.{bytes_eq}
-use Rattle.mm_model.specs.Below.{sha256, append-injective, length-zero_bytes, length-start_of, zero_bytes, start_message, extended_message}
+use Rattle.mm_model.specs.Below.{sha256, append-injective, length-zero_bytes, length-start_digest_of, zero_bytes, start_message, extended_message}
 use Rattle.mm_model.specs.Below.{Basic, Opt, Batch, One, Many}
-use Rattle.mm_digest.specs.Messages.{start_of, extended_of, anchored_of}
+use Rattle.mm_digest.specs.Messages.{start_digest_of, extended_digest_of, anchored_digest_of}
 use Rattle.mm_platform.specs.Standing as platform
-use Rattle.mm_model.specs.Chains.{after, trail, link_message, guard_message, closing_message, link, guard, summary_of, register_of, anchor_of}
+use Rattle.mm_model.specs.Chains.{digest_after, trail, link_message, guard_message, closing_message, link, guard, summary_of, register_of, anchor_of}
 use Rattle.mm_model.specs.ChainsWords.{own_values}
-use Rattle.mm_model.specs.Messages.{Within, IsClear, register_trail}
-use Rattle.mm_model.specs.ChainLaws.{Telling, same_chains, after-push}
+use Rattle.mm_model.specs.Messages.{AreMessagesIn, IsClear, register_trail}
+use Rattle.mm_model.specs.ChainLaws.{IsTellingChain, same_chains, after-push}
 
 -- a test of equal bytes, of what tells them and they tell
 pub bytes_decide : {P : Type 0} (a b : List ℕ) → (a ≡ b → P) → (P → a ≡ b) → Decides (bytes_eq a b) P
@@ -34,7 +34,7 @@ link_starts_not : (id : ℕ) (s : List ℕ) (b : Batch) → link_message s b ≢
 link_starts_not id s (One x) e = omega (arith, heads_of 1 0 (s ++ x) (1 ∷ id ∷ []) e)
 link_starts_not id s (Many x) e = omega (arith, heads_of 4 0 (s ++ x) (1 ∷ id ∷ []) e)
 
-extended_telling : (all : List (List ℕ)) → IsClear all → Telling extended_message zero_bytes (λ _. Unit {0}) all
+extended_telling : (all : List (List ℕ)) → IsClear all → IsTellingChain extended_message zero_bytes (λ _. Unit {0}) all
 extended_telling all clear = record {
   sized = length-zero_bytes;
   leaves = λ s v c e. clear.nonzero (extended_message s v) c e;
@@ -46,55 +46,55 @@ each_unit [] = tt
 each_unit (x ∷ xs) = (tt, each_unit xs)
 
 -- equal register values, equal lists
-pub same_registers : (all : List (List ℕ)) → IsClear all → (vs ws : List (List ℕ)) → Within (register_trail vs) all
-    → Within (register_trail ws) all → register_of vs ≡ register_of ws → vs ≡ ws
+pub same_registers : (all : List (List ℕ)) → IsClear all → (vs ws : List (List ℕ)) → AreMessagesIn (register_trail vs) all
+    → AreMessagesIn (register_trail ws) all → register_of vs ≡ register_of ws → vs ≡ ws
 unfolding register_of
 same_registers all clear vs ws wv ww e =
     same_chains extended_message zero_bytes (λ _. Unit {0}) all (extended_telling all clear) clear vs ws
     (each_unit vs) (each_unit ws) wv ww e
 
 module _ (id : ℕ) (all : List (List ℕ)) where
-  link_telling : IsClear all → Contains all (start_message Basic id) → Telling link_message (start_of Basic id) (λ _. Unit {0}) all
-  unfolding start_of
+  link_telling : IsClear all → Contains all (start_message Basic id) → IsTellingChain link_message (start_digest_of Basic id) (λ _. Unit {0}) all
+  unfolding start_digest_of
   link_telling clear starts = record {
-    sized = length-start_of Basic id;
+    sized = length-start_digest_of Basic id;
     leaves = λ s b c e. link_starts_not id s b (clear.apart (link_message s b) (start_message Basic id) c starts e);
     tells = λ s t b c ls lt u v e. link_tells s t b c ls lt e;
   }
 
   pub same_summaries : IsClear all → Contains all (start_message Basic id) → (bs cs : List Batch)
-      → Within (trail link_message (start_of Basic id) bs) all → Within (trail link_message (start_of Basic id) cs) all
+      → AreMessagesIn (trail link_message (start_digest_of Basic id) bs) all → AreMessagesIn (trail link_message (start_digest_of Basic id) cs) all
       → summary_of id bs ≡ summary_of id cs → bs ≡ cs
   unfolding summary_of
   same_summaries clear starts bs cs wb wc e =
-      same_chains link_message (start_of Basic id) (λ _. Unit {0}) all (link_telling clear starts) clear bs cs
+      same_chains link_message (start_digest_of Basic id) (λ _. Unit {0}) all (link_telling clear starts) clear bs cs
       (each_unit bs) (each_unit cs) wb wc e
 
-  closing_telling : IsClear all → Contains all (start_message Opt id) → Telling closing_message (start_of Opt id)
-      (λ vs. Within (register_trail vs) all) all
-  unfolding start_of register_of
+  closing_telling : IsClear all → Contains all (start_message Opt id) → IsTellingChain closing_message (start_digest_of Opt id)
+      (λ vs. AreMessagesIn (register_trail vs) all) all
+  unfolding start_digest_of register_of
   closing_telling clear starts = record {
-    sized = length-start_of Opt id;
+    sized = length-start_digest_of Opt id;
     leaves = λ a vs c e.
         let same : closing_message a vs ≡ start_message Opt id = clear.apart (closing_message a vs) (start_message Opt id) c starts e in
-        omega (arith, heads_of 3 0 (a ++ after extended_message zero_bytes vs) (2 ∷ id ∷ []) same);
+        omega (arith, heads_of 3 0 (a ++ digest_after extended_message zero_bytes vs) (2 ∷ id ∷ []) same);
     tells = λ a b vs ws la lb lv lw e.
-        let both = tagged_parts 3 3 a b (after extended_message zero_bytes vs) (after extended_message zero_bytes ws) la lb e in
+        let both = tagged_parts 3 3 a b (digest_after extended_message zero_bytes vs) (digest_after extended_message zero_bytes ws) la lb e in
         (both.0, same_registers all clear vs ws lv lw both.1);
   }
 
   -- equal anchors, equal segments
   pub same_anchors : IsClear all → Contains all (start_message Opt id) → (ls ks : List (List (List ℕ)))
-      → AllByRecursion (λ vs. Within (register_trail vs) all) ls → AllByRecursion (λ vs. Within (register_trail vs) all) ks
-      → Within (trail closing_message (start_of Opt id) ls) all → Within (trail closing_message (start_of Opt id) ks) all
+      → AllByRecursion (λ vs. AreMessagesIn (register_trail vs) all) ls → AllByRecursion (λ vs. AreMessagesIn (register_trail vs) all) ks
+      → AreMessagesIn (trail closing_message (start_digest_of Opt id) ls) all → AreMessagesIn (trail closing_message (start_digest_of Opt id) ks) all
       → anchor_of id ls ≡ anchor_of id ks → ls ≡ ks
   unfolding anchor_of
   same_anchors clear starts ls ks fl fk wl wk e =
-      same_chains closing_message (start_of Opt id) (λ vs. Within (register_trail vs) all) all
+      same_chains closing_message (start_digest_of Opt id) (λ vs. AreMessagesIn (register_trail vs) all) all
       (closing_telling clear starts) clear ls ks fl fk wl wk e
 
 -- a register that took in a value doesn't read zero
-pub register_nonzero : (all : List (List ℕ)) → IsClear all → (vs : List (List ℕ)) → Within (register_trail vs) all
+pub register_nonzero : (all : List (List ℕ)) → IsClear all → (vs : List (List ℕ)) → AreMessagesIn (register_trail vs) all
     → register_of vs ≡ zero_bytes → vs ≡ []
 unfolding register_of
 register_nonzero all clear vs w e = same_registers all clear vs [] w tt e
@@ -112,8 +112,8 @@ module _ (barrier : List ℕ) where
   unfolding guard
   same_guards all clear b c hb hc e = guard_tells b c (clear.apart (guard_message barrier b) (guard_message barrier c) hb hc e)
 
-  pub same_own_values : (all : List (List ℕ)) → IsClear all → (bs cs : List Batch) → Within (map (guard_message barrier) bs) all
-      → Within (map (guard_message barrier) cs) all → own_values barrier bs ≡ own_values barrier cs → bs ≡ cs
+  pub same_own_values : (all : List (List ℕ)) → IsClear all → (bs cs : List Batch) → AreMessagesIn (map (guard_message barrier) bs) all
+      → AreMessagesIn (map (guard_message barrier) cs) all → own_values barrier bs ≡ own_values barrier cs → bs ≡ cs
   same_own_values all clear [] [] wb wc e = refl
   same_own_values all clear (b ∷ bs) (c ∷ cs) wb wc e =
       let heads : guard barrier b ≡ guard barrier c = cc in
@@ -131,19 +131,19 @@ same_links all clear s t b c ls lt hb hc e = (link_tells s t b c ls lt (clear.ap
 
 pub summary-push : (id : ℕ) (bs : List Batch) (b : Batch) → summary_of id (bs ++ b ∷ []) ≡ link (summary_of id bs) b
 unfolding summary_of link
-summary-push id bs b = after-push link_message (start_of Basic id) bs b
+summary-push id bs b = after-push link_message (start_digest_of Basic id) bs b
 
-pub register-push : (vs : List (List ℕ)) (v : List ℕ) → register_of (vs ++ v ∷ []) ≡ extended_of (register_of vs) v
-unfolding register_of extended_of
+pub register-push : (vs : List (List ℕ)) (v : List ℕ) → register_of (vs ++ v ∷ []) ≡ extended_digest_of (register_of vs) v
+unfolding register_of extended_digest_of
 register-push vs v = after-push extended_message zero_bytes vs v
 
 pub anchor-push : (id : ℕ) (ls : List (List (List ℕ))) (vs : List (List ℕ))
-    → anchor_of id (ls ++ vs ∷ []) ≡ anchored_of (anchor_of id ls) (register_of vs)
-unfolding anchor_of register_of anchored_of
-anchor-push id ls vs = after-push closing_message (start_of Opt id) ls vs
+    → anchor_of id (ls ++ vs ∷ []) ≡ anchored_digest_of (anchor_of id ls) (register_of vs)
+unfolding anchor_of register_of anchored_digest_of
+anchor-push id ls vs = after-push closing_message (start_digest_of Opt id) ls vs
 
-folded : (s : List ℕ) (values : List (List ℕ)) → fold extended_of s values ≡ after extended_message s values
-unfolding extended_of
+folded : (s : List ℕ) (values : List (List ℕ)) → fold extended_digest_of s values ≡ digest_after extended_message s values
+unfolding extended_digest_of
 folded s [] = refl
 folded s (v ∷ values) = folded (sha256 (extended_message s v)) values
 

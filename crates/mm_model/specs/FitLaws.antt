@@ -6,7 +6,7 @@ use Rattle.std.proofs.lemmas.List.Elements.{All-nil, All-cons}
 use Rattle.mm_model.specs.Below.{last_position, limit_of, length-hmac_of, Variant, Basic, Opt, place_length, Content, IsPlace, IsContent}
 use Rattle.mm_model.specs.Below.{variant_of, snapshot_front, length-snapshot_front, Place, Batch, members_of, size_of, size_of-pos, Meaning}
 use Rattle.mm_model.specs.Below.{IsLine, IsLawful, outputs_from, state_from, length-outputs_from, state_from-is_spelled}
-use Rattle.mm_seal.specs.Snapshot.{sealed_of}
+use Rattle.mm_seal.specs.Snapshot.{sealed_snapshot_of}
 use Rattle.mm_model.specs.Fit.{IsFit}
 
 lines_from : (meaning : Meaning) → IsLawful meaning → (state : List ℕ) (requests : List (List ℕ)) → IsTrue (meaning.is_spelled state)
@@ -28,9 +28,9 @@ sealed_size : (front state place limit tag : ℕ) → front ≡ 18 + place + sta
 sealed_size front state place limit tag e p s l t = omega arith
 
 -- the longest snapshot
-pub sealed_of-most : (key : List ℕ) (content : Content) → IsContent content → length (sealed_of key content) ≤ 1048690
-unfolding sealed_of
-sealed_of-most key content is =
+pub sealed_snapshot_of-most : (key : List ℕ) (content : Content) → IsContent content → length (sealed_snapshot_of key content) ≤ 1048690
+unfolding sealed_snapshot_of
+sealed_snapshot_of-most key content is =
     rw length-append (sealed_size (length (snapshot_front content)) (length content.state) (place_length (variant_of content.place))
     (limit_of content.id) _ (length-snapshot_front content is) (place_length-most (variant_of content.place)) is.state
     (limit_of-most content.id) (length-hmac_of key (snapshot_front content)))
@@ -42,7 +42,7 @@ pub is_fit : (meaning : Meaning) → IsLawful meaning → (key state : List ℕ)
       position = position + size_of b;
       outputs = outputs_from meaning state (members_of b);
       snapshot =
-          sealed_of key (record
+          sealed_snapshot_of key (record
           { id = meaning.id; place = place; position = position + size_of b; state = state_from meaning state (members_of b) });
     })
 is_fit meaning lawful key state position place b again placed spelled fits = record {
@@ -50,7 +50,7 @@ is_fit meaning lawful key state position place b again placed spelled fits = rec
   most = fits;
   counted = length-outputs_from meaning state (members_of b);
   lines = lines_from meaning lawful state (members_of b) spelled;
-  snapshot = sealed_of-most key _ (record {
+  snapshot = sealed_snapshot_of-most key _ (record {
     place = placed;
     position = fits;
     state = lawful.fits (state_from meaning state (members_of b)) (state_from-is_spelled meaning lawful state (members_of b) spelled);

@@ -6,26 +6,26 @@ use Rattle.mm_model.specs.Chains.{guard, register_of}
 use Rattle.mm_model.specs.Instance.{Instance}
 
 -- what a register took in: the value of a committed batch, or a value that stands for none
-pub data Entry : Type 0 where
-  Own : Batch → Entry
-  Value : List ℕ → Entry
+pub data RegisterEntry : Type 0 where
+  Own : Batch → RegisterEntry
+  Value : List ℕ → RegisterEntry
 
 -- the committed batches; the closed segments; the batches of the open segment; whether one is open;
 -- and what the register took in since it was zero
 pub record History : Type 0 where
   pub batches : List Batch
-  pub closed : List (List Entry)
+  pub closed : List (List RegisterEntry)
   pub current : List Batch
   pub is_open : Bool
-  pub items : List Entry
+  pub items : List RegisterEntry
 
 abbrev pub first_history : History
 first_history = record { batches = []; closed = []; current = []; is_open = false; items = [] }
 
 -- the lists, one after another
-abbrev pub joined : {A : Type 0} → List (List A) → List A
-joined [] = []
-joined (xs ∷ xss) = xs ++ joined xss
+abbrev pub items_of_all : {A : Type 0} → List (List A) → List A
+items_of_all [] = []
+items_of_all (xs ∷ xss) = xs ++ items_of_all xss
 
 -- the committed requests, one by one
 abbrev pub requests_of : List Batch → List (List ℕ)
@@ -36,9 +36,9 @@ abbrev pub total_of : List Batch → ℕ
 total_of batches = length (requests_of batches)
 
 -- the value with which an entry extended the register
-abbrev pub value_of : List ℕ → Entry → List ℕ
-value_of barrier (Own b) = guard barrier b
-value_of barrier (Value d) = d
+abbrev pub extension_value : List ℕ → RegisterEntry → List ℕ
+extension_value barrier (Own b) = guard barrier b
+extension_value barrier (Value d) = d
 
 -- what changes a history: a batch is committed; others extend the register; the core extends it by
 -- the guard of a batch that isn't committed yet; the core empties it; the open segment is closed;
@@ -52,37 +52,37 @@ pub data Move : Type 0 where
   Power : Move
 
 -- the list, with b in place of its last item
-abbrev pub renamed : List Entry → Batch → List Entry
-renamed [] b = Own b ∷ []
-renamed (x ∷ []) b = Own b ∷ []
-renamed (x ∷ y ∷ xs) b = x ∷ renamed (y ∷ xs) b
+abbrev pub with_last_batch : List RegisterEntry → Batch → List RegisterEntry
+with_last_batch [] b = Own b ∷ []
+with_last_batch (x ∷ []) b = Own b ∷ []
+with_last_batch (x ∷ y ∷ xs) b = x ∷ with_last_batch (y ∷ xs) b
 
 -- in Opt a batch enters the register's items too. Where no segment is open it opens one, and the
 -- entry that was placed for it, the last, becomes its own
-abbrev pub committed : Variant → Bool → History → Batch → History
-committed Basic is_open y b = record y { batches = y.batches ++ b ∷ [] }
-committed Opt true y b =
+abbrev pub history_after_commit : Variant → Bool → History → Batch → History
+history_after_commit Basic is_open y b = record y { batches = y.batches ++ b ∷ [] }
+history_after_commit Opt true y b =
     record y {
       batches = y.batches ++ b ∷ [];
       current = y.current ++ b ∷ [];
       items = y.items ++ Own b ∷ [];
     }
-committed Opt false y b =
+history_after_commit Opt false y b =
     record y {
       batches = y.batches ++ b ∷ [];
       current = b ∷ [];
       is_open = true;
-      items = renamed y.items b;
+      items = with_last_batch y.items b;
     }
 
-abbrev pub moved : Instance → History → Move → History
-moved i y (Commit b) = committed i.variant y.is_open y b
-moved i y (Foreign d) = record y { items = y.items ++ Value d ∷ [] }
-moved i y (Placed b) = record y { items = y.items ++ Value (guard i.barrier b) ∷ [] }
-moved i y Reset = record y { items = [] }
-moved i y Close = record y { closed = y.closed ++ y.items ∷ []; current = []; is_open = false }
-moved i y Power = record y { items = [] }
+abbrev pub history_after : Instance → History → Move → History
+history_after i y (Commit b) = history_after_commit i.variant y.is_open y b
+history_after i y (Foreign d) = record y { items = y.items ++ Value d ∷ [] }
+history_after i y (Placed b) = record y { items = y.items ++ Value (guard i.barrier b) ∷ [] }
+history_after i y Reset = record y { items = [] }
+history_after i y Close = record y { closed = y.closed ++ y.items ∷ []; current = []; is_open = false }
+history_after i y Power = record y { items = [] }
 
 -- the register's value for a history
 abbrev pub register_value_of : Instance → History → List ℕ
-register_value_of i y = register_of (map (value_of i.barrier) y.items)
+register_value_of i y = register_of (map (extension_value i.barrier) y.items)

@@ -4,8 +4,8 @@ pub mod Instance
 pub mod History
 pub mod Life
 pub mod Places
-pub mod Judge
-pub mod StandingHere
+pub mod Verdicts
+pub mod PlaceMessages
 pub mod Sound
 pub mod Steps
 pub mod Messages
@@ -15,8 +15,8 @@ pub mod Run
 pub mod Examples
 pub mod Long
 pub mod Moves
-pub mod Kept
-pub mod Symbolic
+pub mod KeptHistory
+pub mod CommitMoves
 pub mod Fit
 pub mod HistoryWords
 pub mod InstanceWords

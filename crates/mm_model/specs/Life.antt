@@ -2,27 +2,27 @@
 use Rattle.std.specs.Prelude.{Bool, true, false, List, [], ◌∷◌, ◌&&◌}
 use Rattle.std.specs.Str.{bytes_eq}
 use Rattle.mm_model.specs.Below.{Variant, Basic, Opt, Batch, One, Many}
-use Rattle.mm_model.specs.History.{Entry, Own, Value, History, joined}
+use Rattle.mm_model.specs.History.{RegisterEntry, Own, Value, History, items_of_all}
 
-abbrev pub same_batch : Batch → Batch → Bool
-same_batch (One r) (One s) = bytes_eq r s
-same_batch (Many t) (Many u) = bytes_eq t u
-same_batch _ _ = false
+abbrev pub is_same_batch : Batch → Batch → Bool
+is_same_batch (One r) (One s) = bytes_eq r s
+is_same_batch (Many t) (Many u) = bytes_eq t u
+is_same_batch _ _ = false
 
 abbrev pub is_empty : {A : Type 0} → List A → Bool
 is_empty [] = true
 is_empty (x ∷ xs) = false
 
 -- some entry is a value that stands for no batch
-abbrev pub has_value : List Entry → Bool
+abbrev pub has_value : List RegisterEntry → Bool
 has_value [] = false
 has_value (Own b ∷ entries) = has_value entries
 has_value (Value d ∷ entries) = true
 
 -- the entries are those of the batches, one by one
-abbrev pub are_own : List Entry → List Batch → Bool
+abbrev pub are_own : List RegisterEntry → List Batch → Bool
 are_own [] [] = true
-are_own (Own b ∷ entries) (c ∷ batches) = same_batch b c && are_own entries batches
+are_own (Own b ∷ entries) (c ∷ batches) = is_same_batch b c && are_own entries batches
 are_own _ _ = false
 
 -- Live goes on. Spoiled accepts no offer any more, as a value that no batch put there counts. Lost:
@@ -44,7 +44,7 @@ life_by _ _ _ _ = Spoiled
 abbrev pub life_of : Variant → History → Life
 life_of Basic y = Live
 life_of Opt y =
-    life_by y.is_open (is_empty y.items) (are_own y.items y.current) (has_value (joined y.closed))
+    life_by y.is_open (is_empty y.items) (are_own y.items y.current) (has_value (items_of_all y.closed))
 
 -- power was lost inside an open segment
 abbrev pub is_lost : Life → Bool

@@ -3,18 +3,18 @@
 use Rattle.std.specs.Prelude.{ℕ, ◌-◌, Bool, true, List, [], ◌∷◌, map, take, drop, if◌then◌else◌, ◌≡◌, ◌≢◌, ◌++◌, length}
 use Rattle.std.specs.List.{flat_map, AllByRecursion, Contains}
 use Rattle.std.specs.Str.{bytes_eq}
-use Rattle.mm_model.specs.Below.{sha256, zero_bytes, start_message, start_of, extended_message, extended_of, anchored_message, anchored_of}
+use Rattle.mm_model.specs.Below.{sha256, zero_bytes, start_message, start_digest_of, extended_message, extended_digest_of, anchored_message, anchored_digest_of}
 use Rattle.mm_model.specs.Below.{Variant, Basic, Opt, Place, InBasic, InOpt, Batch}
 use Rattle.mm_model.specs.Chains.{trail, link_message, guard_message, closing_message, guard}
 use Rattle.mm_model.specs.ChainsWords.{own_values}
 use Rattle.mm_model.specs.Instance.{Instance}
-use Rattle.mm_model.specs.History.{Entry, Own, Value, History, Move, Commit, Foreign, Placed, Close, register_value_of, joined}
+use Rattle.mm_model.specs.History.{RegisterEntry, Own, Value, History, Move, Commit, Foreign, Placed, Close, register_value_of, items_of_all}
 use Rattle.mm_model.specs.HistoryWords.{values_of}
 use Rattle.mm_model.specs.Places.{anchor_after}
 
 -- the batches of each closed segment: a segment runs to the next start, the last one to the end of
 -- these
-abbrev pub closed_runs : List (List Entry) → List Batch → List (List Batch)
+abbrev pub closed_runs : List (List RegisterEntry) → List Batch → List (List Batch)
 closed_runs [] batches = []
 closed_runs (segment ∷ []) batches = batches ∷ []
 closed_runs (segment ∷ next ∷ later) batches =
@@ -35,14 +35,14 @@ register_trail values = trail extended_message zero_bytes values
 -- each closing.
 abbrev pub messages_of : Variant → Instance → History → List (List ℕ)
 messages_of Basic i y =
-    start_message Basic i.meaning.id ∷ trail link_message (start_of Basic i.meaning.id) y.batches
+    start_message Basic i.meaning.id ∷ trail link_message (start_digest_of Basic i.meaning.id) y.batches
 messages_of Opt i y =
     start_message Opt i.meaning.id ∷
     (map (guard_message i.barrier) y.batches
     ++ flat_map (λ run. register_trail (own_values i.barrier run)) (runs_of y)
     ++ flat_map (λ segment. register_trail (values_of i.barrier segment)) y.closed
     ++ register_trail (values_of i.barrier y.items)
-    ++ trail closing_message (start_of Opt i.meaning.id) (map (values_of i.barrier) y.closed))
+    ++ trail closing_message (start_digest_of Opt i.meaning.id) (map (values_of i.barrier) y.closed))
 
 abbrev pub history_messages : Instance → History → List (List ℕ)
 history_messages i y = messages_of i.variant i y
@@ -50,14 +50,14 @@ history_messages i y = messages_of i.variant i y
 -- the messages of one form of an offered place, at which the guard v may come next
 abbrev pub form_messages : List ℕ → List ℕ → List ℕ → List (List ℕ)
 form_messages anchor extension v =
-    extended_message extension v ∷ anchored_message anchor (extended_of extension v) ∷ []
+    extended_message extension v ∷ anchored_message anchor (extended_digest_of extension v) ∷ []
 
 -- the messages of both forms of an offered place of Opt
 abbrev pub point_messages : List ℕ → List ℕ → List ℕ → List (List ℕ)
 point_messages a e v =
     form_messages a e v
     ++ (if bytes_eq e zero_bytes then [] else anchored_message a e
-    ∷ form_messages (anchored_of a e) zero_bytes v)
+    ∷ form_messages (anchored_digest_of a e) zero_bytes v)
 
 -- the messages of a call that offers the place and asks for the batch
 abbrev pub offer_messages : Instance → Place → Batch → List (List ℕ)
@@ -67,20 +67,20 @@ offer_messages i (InOpt a e) b =
 
 -- the messages of one move, made from a history, by whether a segment is open there: what the
 -- register takes in, and what closes a segment
-abbrev pub moving_messages : Variant → Bool → Instance → History → Move → List (List ℕ)
-moving_messages Basic is_open i y m = []
-moving_messages Opt is_open i y (Foreign d) = extended_message (register_value_of i y) d ∷ []
-moving_messages Opt is_open i y (Placed b) =
+abbrev pub messages_for_move : Variant → Bool → Instance → History → Move → List (List ℕ)
+messages_for_move Basic is_open i y m = []
+messages_for_move Opt is_open i y (Foreign d) = extended_message (register_value_of i y) d ∷ []
+messages_for_move Opt is_open i y (Placed b) =
     extended_message (register_value_of i y) (guard i.barrier b) ∷ []
-moving_messages Opt true i y (Commit b) =
+messages_for_move Opt true i y (Commit b) =
     extended_message (register_value_of i y) (guard i.barrier b) ∷ []
-moving_messages Opt is_open i y Close =
+messages_for_move Opt is_open i y Close =
     anchored_message (anchor_after i y.closed) (register_value_of i y) ∷ []
-moving_messages Opt _ i y _ = []
+messages_for_move Opt _ i y _ = []
 
 -- each of the messages is in the list
-abbrev pub Within : List (List ℕ) → List (List ℕ) → Type 0
-Within messages all = AllByRecursion (Contains all) messages
+abbrev pub AreMessagesIn : List (List ℕ) → List (List ℕ) → Type 0
+AreMessagesIn messages all = AllByRecursion (Contains all) messages
 
 -- two messages of the list that have one digest are the same bytes, and no digest is zero
 pub record IsClear (all : List (List ℕ)) : Type 0 where
@@ -88,15 +88,15 @@ pub record IsClear (all : List (List ℕ)) : Type 0 where
   pub nonzero : (m : List ℕ) → Contains all m → sha256 m ≢ zero_bytes
 
 -- the values of these entries that stand for no batch
-abbrev pub values_in : List Entry → List (List ℕ)
+abbrev pub values_in : List RegisterEntry → List (List ℕ)
 values_in [] = []
 values_in (Own b ∷ entries) = values_in entries
 values_in (Value d ∷ entries) = d ∷ values_in entries
 
 -- the entries of a history that count: those of closed segments, and the register's items while a
 -- segment is open
-abbrev pub counting : History → List Entry
-counting y = joined y.closed ++ (if y.is_open then y.items else [])
+abbrev pub counted_entries : History → List RegisterEntry
+counted_entries y = items_of_all y.closed ++ (if y.is_open then y.items else [])
 
 -- none of the values is the guard of one of the batches
 abbrev pub AreNoGuards : List ℕ → List (List ℕ) → List Batch → Type 0
@@ -109,6 +109,6 @@ AreNoGuards barrier values batches =
 pub record IsClearFor (all : List (List ℕ)) (i : Instance) (y : History) (offered : Place)
     (b : Batch) : Type 0 where
   pub clear : IsClear all
-  pub history : Within (history_messages i y) all
-  pub call : Within (offer_messages i offered b) all
-  pub foreign : AreNoGuards i.barrier (values_in (counting y)) (b ∷ y.batches)
+  pub history : AreMessagesIn (history_messages i y) all
+  pub call : AreMessagesIn (offer_messages i offered b) all
+  pub foreign : AreNoGuards i.barrier (values_in (counted_entries y)) (b ∷ y.batches)

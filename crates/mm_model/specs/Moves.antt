@@ -1,22 +1,22 @@
 -- When a move is made, and what it does to the digests.
 use Rattle.std.specs.Prelude.{ℕ, Bool, true, false, List, [], ◌∷◌, ◌≡◌, ◌+◌, ◌++◌}
 use Rattle.std.specs.List.{AllByRecursion, Contains}
-use Rattle.mm_model.specs.Below.{zero_bytes, extended_message, extended_of, anchored_of, Variant, Basic, Opt, Batch, size_of}
+use Rattle.mm_model.specs.Below.{zero_bytes, extended_message, extended_digest_of, anchored_digest_of, Variant, Basic, Opt, Batch, size_of}
 use Rattle.mm_model.specs.Chains.{link, guard, guard_message, register_of}
 use Rattle.mm_model.specs.ChainsWords.{own_values}
 use Rattle.mm_model.specs.Instance.{Instance}
-use Rattle.mm_model.specs.History.{Entry, Value, History, Move, Commit, Foreign, Placed, Reset, Close, Power, joined, total_of, register_value_of, renamed}
+use Rattle.mm_model.specs.History.{RegisterEntry, Value, History, Move, Commit, Foreign, Placed, Reset, Close, Power, items_of_all, total_of, register_value_of, with_last_batch}
 use Rattle.mm_model.specs.HistoryWords.{cell_digest_of}
 use Rattle.mm_model.specs.Life.{is_empty, has_value}
 use Rattle.mm_model.specs.Sound.{batches_in}
-use Rattle.mm_model.specs.Messages.{values_in, counting}
+use Rattle.mm_model.specs.Messages.{values_in, counted_entries}
 use Rattle.mm_model.specs.Standing.{flag_of}
 
 -- A batch may open a segment: no closed one is spoiled, and the register was emptied before, then
 -- took in values that stand for no batch, and last the guard of this one.
 pub record IsOpening (i : Instance) (y : History) (b : Batch) : Type 0 where
-  pub clean : has_value (joined y.closed) ≡ false
-  pub front : List Entry
+  pub clean : has_value (items_of_all y.closed) ≡ false
+  pub front : List RegisterEntry
   pub items : y.items ≡ front ++ Value (guard i.barrier b) ∷ []
   pub others : batches_in front ≡ []
 
@@ -53,32 +53,32 @@ digests_of i y = record {
 
 -- Basic writes the cell; Opt extends the register inside a segment, and sets the cell's flag to
 -- open one
-abbrev pub committing : Variant → Bool → Instance → Digests → Batch → Digests
-committing Basic flag i d b = record d { digest = link d.digest b; count = d.count + size_of b }
-committing Opt true i d b =
-    record d { register = extended_of d.register (guard i.barrier b); count = d.count + size_of b }
-committing Opt false i d b = record d { flag = true; count = d.count + size_of b }
+abbrev pub digests_after_commit : Variant → Bool → Instance → Digests → Batch → Digests
+digests_after_commit Basic flag i d b = record d { digest = link d.digest b; count = d.count + size_of b }
+digests_after_commit Opt true i d b =
+    record d { register = extended_digest_of d.register (guard i.barrier b); count = d.count + size_of b }
+digests_after_commit Opt false i d b = record d { flag = true; count = d.count + size_of b }
 
 -- what a move does to the digests: the effect of the device step that makes it
-abbrev pub made : Instance → Digests → Move → Digests
-made i d (Commit b) = committing i.variant d.flag i d b
-made i d (Foreign v) = record d { register = extended_of d.register v }
-made i d (Placed b) = record d { register = extended_of d.register (guard i.barrier b) }
-made i d Reset = record d { register = zero_bytes }
-made i d Close = record d { digest = anchored_of d.digest d.register; flag = false }
-made i d Power = record d { register = zero_bytes }
+abbrev pub digests_after : Instance → Digests → Move → Digests
+digests_after i d (Commit b) = digests_after_commit i.variant d.flag i d b
+digests_after i d (Foreign v) = record d { register = extended_digest_of d.register v }
+digests_after i d (Placed b) = record d { register = extended_digest_of d.register (guard i.barrier b) }
+digests_after i d Reset = record d { register = zero_bytes }
+digests_after i d Close = record d { digest = anchored_digest_of d.digest d.register; flag = false }
+digests_after i d Power = record d { register = zero_bytes }
 
 -- each value that stands for no batch and counts is among those that others put there
 abbrev pub IsOutside : List (List ℕ) → History → Type 0
-IsOutside others y = AllByRecursion (Contains others) (values_in (counting y))
+IsOutside others y = AllByRecursion (Contains others) (values_in (counted_entries y))
 
 -- what a move takes in from others is among these values: a foreign value, and what the register
 -- took in before a batch that opens a segment
-abbrev pub Brings : Variant → Bool → List (List ℕ) → History → Move → Type 0
-Brings variant is_open others y (Foreign d) = Contains others d
-Brings Opt false others y (Commit b) =
-    AllByRecursion (Contains others) (values_in (renamed y.items b))
-Brings _ _ others y _ = Unit {0}
+abbrev pub MoveBrings : Variant → Bool → List (List ℕ) → History → Move → Type 0
+MoveBrings variant is_open others y (Foreign d) = Contains others d
+MoveBrings Opt false others y (Commit b) =
+    AllByRecursion (Contains others) (values_in (with_last_batch y.items b))
+MoveBrings _ _ others y _ = Unit {0}
 
 -- what the messages of a history gain by a batch, besides those of the move: its guard, and its
 -- extension after the batches of its segment

@@ -4,7 +4,7 @@ use Rattle.std.proofs.Common.{Bool, true, false, List, [], ◌∷◌}
 use Rattle.std.proofs.lemmas.Bool.Decides.{leb_tells}
 use Rattle.std.proofs.lemmas.List.{append-nil, append_cancel_left}
 use Rattle.std.specs.List.{AllByRecursion}
-use Rattle.mm_model.specs.History.{joined}
+use Rattle.mm_model.specs.History.{items_of_all}
 use Rattle.mm_model.specs.Life.{is_empty}
 
 pub true_not_false : true ≡ false → ⊥
@@ -22,73 +22,73 @@ same_halves (a ∷ s) (b ∷ t) x y l e =
     let both = same_halves s t x y shorter tails in
     (let p : s ≡ t = both.0 in cc, both.1)
 
-pub joined-append : {A : Type 0} (xs ys : List (List A)) → joined (xs ++ ys) ≡ joined xs ++ joined ys
+pub joined-append : {A : Type 0} (xs ys : List (List A)) → items_of_all (xs ++ ys) ≡ items_of_all xs ++ items_of_all ys
 joined-append [] ys = refl
-joined-append (x ∷ xs) ys = ap (λ v. x ++ v) (joined-append xs ys) ∙ sym (append_assoc x (joined xs) (joined ys))
+joined-append (x ∷ xs) ys = ap (λ v. x ++ v) (joined-append xs ys) ∙ sym (append_assoc x (items_of_all xs) (items_of_all ys))
 
-pub joined-push : {A : Type 0} (xs : List (List A)) (x : List A) → joined (xs ++ x ∷ []) ≡ joined xs ++ x
-joined-push xs x = joined-append xs (x ∷ []) ∙ ap (λ v. joined xs ++ v) (append-nil x)
+pub joined-push : {A : Type 0} (xs : List (List A)) (x : List A) → items_of_all (xs ++ x ∷ []) ≡ items_of_all xs ++ x
+joined-push xs x = joined-append xs (x ∷ []) ∙ ap (λ v. items_of_all xs ++ v) (append-nil x)
 
 pub not_empty : {A : Type 0} (xs : List A) → is_empty xs ≡ false → 1 ≤ length xs
 not_empty [] e = absurd (cc)
 not_empty (x ∷ xs) e = omega arith
 
 -- segments that are not empty hold nothing only where there is none
-pub no_segments : {A : Type 0} (xs : List (List A)) → AllByRecursion (λ x. is_empty x ≡ false) xs → length (joined xs) ≡ 0 → xs ≡ []
+pub no_segments : {A : Type 0} (xs : List (List A)) → AllByRecursion (λ x. is_empty x ≡ false) xs → length (items_of_all xs) ≡ 0 → xs ≡ []
 no_segments [] filled e = refl
-no_segments (x ∷ xs) filled e = absurd (let l = not_empty x filled.0 in let m = length-append x (joined xs) in omega (arith, l, m, e))
+no_segments (x ∷ xs) filled e = absurd (let l = not_empty x filled.0 in let m = length-append x (items_of_all xs) in omega (arith, l, m, e))
 
 -- what a platform has taken in after its closed segments: the register's items while a segment is open
-abbrev pub taken_in : {A : Type 0} → Bool → List A → List A
-taken_in true items = items
-taken_in false items = []
+abbrev pub items_taken_in : {A : Type 0} → Bool → List A → List A
+items_taken_in true items = items
+items_taken_in false items = []
 
 -- a path to where the platform stands: after all closed segments, and all that was taken in
-abbrev pub Fresh : {A : Type 0} → Bool → List (List A) → List A → List (List A) → List A → Type 0
-Fresh flag closed items before rest = (before ≡ closed) × (rest ≡ taken_in flag items)
+abbrev pub IsFreshPath : {A : Type 0} → Bool → List (List A) → List A → List (List A) → List A → Type 0
+IsFreshPath flag closed items before rest = (before ≡ closed) × (rest ≡ items_taken_in flag items)
 
 -- a path that one more value leads to where the platform stands
-abbrev pub Again : {A : Type 0} → Bool → List (List A) → List A → A → List (List A) → List A → Type 0
-Again true closed items v before rest = (before ≡ closed) × (rest ++ v ∷ [] ≡ items)
-Again false closed items v before rest = before ++ (rest ++ v ∷ []) ∷ [] ≡ closed
+abbrev pub IsAgainPath : {A : Type 0} → Bool → List (List A) → List A → A → List (List A) → List A → Type 0
+IsAgainPath true closed items v before rest = (before ≡ closed) × (rest ++ v ∷ [] ≡ items)
+IsAgainPath false closed items v before rest = before ++ (rest ++ v ∷ []) ∷ [] ≡ closed
 
 -- the path, or the path once its segment is closed
-abbrev pub FreshSomehow : {A : Type 0} → Bool → List (List A) → List A → List (List A) → List A → Type 0
-FreshSomehow flag closed items before rest =
-    Fresh flag closed items before rest ⊎ (is_empty rest ≡ false) × Fresh flag closed items (before ++ rest ∷ []) []
+abbrev pub IsFreshSomehow : {A : Type 0} → Bool → List (List A) → List A → List (List A) → List A → Type 0
+IsFreshSomehow flag closed items before rest =
+    IsFreshPath flag closed items before rest ⊎ (is_empty rest ≡ false) × IsFreshPath flag closed items (before ++ rest ∷ []) []
 
-abbrev pub AgainSomehow : {A : Type 0} → Bool → List (List A) → List A → A → List (List A) → List A → Type 0
-AgainSomehow flag closed items v before rest =
-    Again flag closed items v before rest ⊎ (is_empty rest ≡ false) × Again flag closed items v (before ++ rest ∷ []) []
+abbrev pub IsAgainSomehow : {A : Type 0} → Bool → List (List A) → List A → A → List (List A) → List A → Type 0
+IsAgainSomehow flag closed items v before rest =
+    IsAgainPath flag closed items v before rest ⊎ (is_empty rest ≡ false) × IsAgainPath flag closed items v (before ++ rest ∷ []) []
 
-closed_joins : {A : Type 0} (before : List (List A)) (rest : List A) → joined before ++ rest ≡ joined (before ++ rest ∷ []) ++ []
-closed_joins before rest = sym (append-nil (joined (before ++ rest ∷ [])) ∙ joined-push before rest)
+closed_joins : {A : Type 0} (before : List (List A)) (rest : List A) → items_of_all before ++ rest ≡ items_of_all (before ++ rest ∷ []) ++ []
+closed_joins before rest = sym (append-nil (items_of_all (before ++ rest ∷ [])) ∙ joined-push before rest)
 
 again_here : {A : Type 0} (flag : Bool) (closed : List (List A)) (items : List A) (v : A) (before : List (List A)) (rest : List A)
-    → Again flag closed items v before rest → (joined before ++ rest) ++ v ∷ [] ≡ joined closed ++ taken_in flag items
+    → IsAgainPath flag closed items v before rest → (items_of_all before ++ rest) ++ v ∷ [] ≡ items_of_all closed ++ items_taken_in flag items
 again_here true closed items v before rest f =
-    append_assoc (joined before) rest (v ∷ []) ∙ ap (λ w. joined w ++ (rest ++ v ∷ [])) f.0 ∙ ap (λ w. joined closed ++ w) f.1
+    append_assoc (items_of_all before) rest (v ∷ []) ∙ ap (λ w. items_of_all w ++ (rest ++ v ∷ [])) f.0 ∙ ap (λ w. items_of_all closed ++ w) f.1
 again_here false closed items v before rest f =
-    append_assoc (joined before) rest (v ∷ []) ∙ closed_joins before (rest ++ v ∷ []) ∙ ap (λ w. joined w ++ []) f
+    append_assoc (items_of_all before) rest (v ∷ []) ∙ closed_joins before (rest ++ v ∷ []) ∙ ap (λ w. items_of_all w ++ []) f
 
 -- all that such a path leads through is all that counts
 module _ {A : Type 0} (flag : Bool) (closed : List (List A)) (items : List A) where
-  pub fresh_joins : (before : List (List A)) (rest : List A) → FreshSomehow flag closed items before rest
-      → joined before ++ rest ≡ joined closed ++ taken_in flag items
-  fresh_joins before rest (inl f) = ap (λ v. joined v ++ rest) f.0 ∙ ap (λ v. joined closed ++ v) f.1
-  fresh_joins before rest (inr g) = closed_joins before rest ∙ ap (λ v. joined v ++ []) g.1.0 ∙ ap (λ v. joined closed ++ v) g.1.1
+  pub fresh_joins : (before : List (List A)) (rest : List A) → IsFreshSomehow flag closed items before rest
+      → items_of_all before ++ rest ≡ items_of_all closed ++ items_taken_in flag items
+  fresh_joins before rest (inl f) = ap (λ v. items_of_all v ++ rest) f.0 ∙ ap (λ v. items_of_all closed ++ v) f.1
+  fresh_joins before rest (inr g) = closed_joins before rest ∙ ap (λ v. items_of_all v ++ []) g.1.0 ∙ ap (λ v. items_of_all closed ++ v) g.1.1
 
-  pub again_joins : (v : A) (before : List (List A)) (rest : List A) → AgainSomehow flag closed items v before rest
-      → (joined before ++ rest) ++ v ∷ [] ≡ joined closed ++ taken_in flag items
+  pub again_joins : (v : A) (before : List (List A)) (rest : List A) → IsAgainSomehow flag closed items v before rest
+      → (items_of_all before ++ rest) ++ v ∷ [] ≡ items_of_all closed ++ items_taken_in flag items
   again_joins v before rest (inl f) = again_here flag closed items v before rest f
   again_joins v before rest (inr g) =
       ap (λ w. w ++ v ∷ []) (closed_joins before rest) ∙ again_here flag closed items v (before ++ rest ∷ []) [] g.1
 
 -- how far a path goes into the segments after it: within the next one, or to its end where it is the last and
 -- nothing is open
-abbrev pub Reaches : {A : Type 0} → Bool → List (List A) → ℕ → Type 0
-Reaches flag [] n = Unit {0}
-Reaches flag (segment ∷ later) n = (n ≤ length segment) ⊎ ((later ≡ []) × (flag ≡ false))
+abbrev pub PathReaches : {A : Type 0} → Bool → List (List A) → ℕ → Type 0
+PathReaches flag [] n = Unit {0}
+PathReaches flag (segment ∷ later) n = (n ≤ length segment) ⊎ ((later ≡ []) × (flag ≡ false))
 
 abbrev pub IsHeld : {A : Type 0} → Bool → List A → Type 0
 IsHeld true items = is_empty items ≡ false
@@ -96,52 +96,52 @@ IsHeld false items = Unit {0}
 
 -- a path that reaches the end of the next segment and all after it: then that segment is the last
 only_one : {A : Type 0} (segment : List A) (later : List (List A)) (n : ℕ) → AllByRecursion (λ x. is_empty x ≡ false) later
-    → (n ≤ length segment) ⊎ ((later ≡ []) × (false ≡ false)) → n ≡ length segment + length (joined later) → later ≡ []
+    → (n ≤ length segment) ⊎ ((later ≡ []) × (false ≡ false)) → n ≡ length segment + length (items_of_all later) → later ≡ []
 only_one segment later n filled reach e =
     elim reach [ inl within ↦ no_segments later filled (omega (arith, within, e)) | inr last ↦ last.0 ]
 
 -- Where the values up to the end of the path are all that counts, it is fresh, or it is once its segment is closed.
 -- By the segments after the path.
 fresh_after : {A : Type 0} (flag : Bool) (before : List (List A)) (items rest : List A) (later : List (List A))
-    → AllByRecursion (λ x. is_empty x ≡ false) later → IsHeld flag items → Reaches flag later (length rest)
-    → rest ≡ joined later ++ taken_in flag items → FreshSomehow flag (before ++ later) items before rest
+    → AllByRecursion (λ x. is_empty x ≡ false) later → IsHeld flag items → PathReaches flag later (length rest)
+    → rest ≡ items_of_all later ++ items_taken_in flag items → IsFreshSomehow flag (before ++ later) items before rest
 fresh_after flag before items rest [] filled held reach e = inl (sym (append-nil before), e)
 fresh_after true before items rest (segment ∷ later) filled held reach e = absurd (
     let l = ap length e in
-    let m = length-append (segment ++ joined later) items in
-    let k = length-append segment (joined later) in
+    let m = length-append (segment ++ items_of_all later) items in
+    let k = length-append segment (items_of_all later) in
     let h = not_empty items held in
     elim reach [ inl within ↦ omega (arith, l, m, k, h, within) | inr last ↦ absurd (true_not_false last.1) ])
 fresh_after false before items rest (segment ∷ later) filled held reach e =
-    let whole : rest ≡ segment ++ joined later = e ∙ append-nil (segment ++ joined later) in
-    let none = only_one segment later (length rest) filled.1 reach (ap length whole ∙ length-append segment (joined later)) in
-    let same : rest ≡ segment = whole ∙ ap (λ v. segment ++ joined v) none ∙ append-nil segment in
+    let whole : rest ≡ segment ++ items_of_all later = e ∙ append-nil (segment ++ items_of_all later) in
+    let none = only_one segment later (length rest) filled.1 reach (ap length whole ∙ length-append segment (items_of_all later)) in
+    let same : rest ≡ segment = whole ∙ ap (λ v. segment ++ items_of_all v) none ∙ append-nil segment in
     inr (ap is_empty same ∙ filled.0, (rw (same, none) refl, refl))
 
 -- a path that is fresh with one more value
 again_by : {A : Type 0} (flag : Bool) (closed : List (List A)) (items : List A) (v : A) (before : List (List A)) (rest : List A)
-    → IsHeld flag items → FreshSomehow flag closed items before (rest ++ v ∷ []) → Again flag closed items v before rest
+    → IsHeld flag items → IsFreshSomehow flag closed items before (rest ++ v ∷ []) → IsAgainPath flag closed items v before rest
 again_by true closed items v before rest held (inl f) = f
 again_by true closed items v before rest held (inr g) = absurd (true_not_false (ap is_empty g.1.1 ∙ held))
 again_by false closed items v before rest held (inl f) =
     absurd (let l = ap length f.1 in let m = length-append rest (v ∷ []) in omega (arith, l, m))
 again_by false closed items v before rest held (inr g) = g.1.0
 
-reaches_one : {A : Type 0} (flag : Bool) (later : List (List A)) → AllByRecursion (λ x. is_empty x ≡ false) later → Reaches flag later 1
+reaches_one : {A : Type 0} (flag : Bool) (later : List (List A)) → AllByRecursion (λ x. is_empty x ≡ false) later → PathReaches flag later 1
 reaches_one flag [] filled = tt
 reaches_one flag (next ∷ later) filled = inl (not_empty next filled.0)
 
 again_within : {A : Type 0} (flag : Bool) (before : List (List A)) (items : List A) (v : A) (rest : List A) (later : List (List A))
-    → AllByRecursion (λ x. is_empty x ≡ false) later → IsHeld flag items → Reaches flag later (length (rest ++ v ∷ []))
-    → rest ++ v ∷ [] ≡ joined later ++ taken_in flag items → Again flag (before ++ later) items v before rest
+    → AllByRecursion (λ x. is_empty x ≡ false) later → IsHeld flag items → PathReaches flag later (length (rest ++ v ∷ []))
+    → rest ++ v ∷ [] ≡ items_of_all later ++ items_taken_in flag items → IsAgainPath flag (before ++ later) items v before rest
 again_within flag before items v rest later filled held reach e =
     again_by flag (before ++ later) items v before rest held (fresh_after flag before items (rest ++ v ∷ []) later filled held reach e)
 
 -- Where one more value makes the values up to the end of the path all that counts, it leads there from the path, or
 -- from the path once its segment is closed.
 again_after : {A : Type 0} (flag : Bool) (before : List (List A)) (items : List A) (v : A) (rest : List A) (later : List (List A))
-    → AllByRecursion (λ x. is_empty x ≡ false) later → IsHeld flag items → Reaches flag later (length rest)
-    → rest ++ v ∷ [] ≡ joined later ++ taken_in flag items → AgainSomehow flag (before ++ later) items v before rest
+    → AllByRecursion (λ x. is_empty x ≡ false) later → IsHeld flag items → PathReaches flag later (length rest)
+    → rest ++ v ∷ [] ≡ items_of_all later ++ items_taken_in flag items → IsAgainSomehow flag (before ++ later) items v before rest
 again_after flag before items v rest [] filled held reach e = inl (again_within flag before items v rest [] filled held tt e)
 again_after flag before items v rest (segment ∷ later) filled held (inr last) e =
     inl (again_within flag before items v rest (segment ∷ later) filled held (inr last) e)
@@ -151,8 +151,8 @@ again_after {A} flag before items v rest (segment ∷ later) filled held (inl wi
       | inl fits ↦ inl (again_within flag before items v rest (segment ∷ later) filled held (inl fits.1) e)
       | inr over ↦
           let size : length rest ≡ length segment = omega (arith, more, within, over.1) in
-          let parts = same_halves rest segment (v ∷ []) (joined later ++ taken_in flag items) size
-          (e ∙ append_assoc segment (joined later) (taken_in flag items)) in
+          let parts = same_halves rest segment (v ∷ []) (items_of_all later ++ items_taken_in flag items) size
+          (e ∙ append_assoc segment (items_of_all later) (items_taken_in flag items)) in
           let reach = reaches_one flag later filled.1 in
           let then_on = again_within flag (before ++ segment ∷ []) items v [] later filled.1 held reach parts.1 in
           inr (ap is_empty parts.0 ∙ filled.0, rw parts.0 (rw (append_assoc before (segment ∷ []) later) at then_on))
@@ -160,22 +160,22 @@ again_after {A} flag before items v rest (segment ∷ later) filled held (inl wi
 
 -- what counts behind the segments before the path
 behind : {A : Type 0} (before later closed : List (List A)) (rest more : List A) → closed ≡ before ++ later
-    → joined before ++ rest ≡ joined closed ++ more → rest ≡ joined later ++ more
-behind before later closed rest more split e = append_cancel_left (joined before) rest (joined later ++ more)
-    (e ∙ ap (λ v. v ++ more) (ap joined split ∙ joined-append before later) ∙ append_assoc (joined before) (joined later) more)
+    → items_of_all before ++ rest ≡ items_of_all closed ++ more → rest ≡ items_of_all later ++ more
+behind before later closed rest more split e = append_cancel_left (items_of_all before) rest (items_of_all later ++ more)
+    (e ∙ ap (λ v. v ++ more) (ap items_of_all split ∙ joined-append before later) ∙ append_assoc (items_of_all before) (items_of_all later) more)
 
 module _ {A : Type 0} (flag : Bool) (closed before later : List (List A)) (items : List A) where
   pub fresh_from : (rest : List A) → closed ≡ before ++ later → AllByRecursion (λ x. is_empty x ≡ false) later → IsHeld flag items
-      → Reaches flag later (length rest) → joined before ++ rest ≡ joined closed ++ taken_in flag items
-      → FreshSomehow flag closed items before rest
+      → PathReaches flag later (length rest) → items_of_all before ++ rest ≡ items_of_all closed ++ items_taken_in flag items
+      → IsFreshSomehow flag closed items before rest
   fresh_from rest split filled held reach e =
       rw split
-      (fresh_after flag before items rest later filled held reach (behind before later closed rest (taken_in flag items) split e))
+      (fresh_after flag before items rest later filled held reach (behind before later closed rest (items_taken_in flag items) split e))
 
   pub again_from : (v : A) (rest : List A) → closed ≡ before ++ later → AllByRecursion (λ x. is_empty x ≡ false) later → IsHeld flag items
-      → Reaches flag later (length rest) → (joined before ++ rest) ++ v ∷ [] ≡ joined closed ++ taken_in flag items
-      → AgainSomehow flag closed items v before rest
+      → PathReaches flag later (length rest) → (items_of_all before ++ rest) ++ v ∷ [] ≡ items_of_all closed ++ items_taken_in flag items
+      → IsAgainSomehow flag closed items v before rest
   again_from v rest split filled held reach e =
       rw split
       (again_after flag before items v rest later filled held reach
-      (behind before later closed (rest ++ v ∷ []) (taken_in flag items) split (sym (append_assoc (joined before) rest (v ∷ [])) ∙ e)))
+      (behind before later closed (rest ++ v ∷ []) (items_taken_in flag items) split (sym (append_assoc (items_of_all before) rest (v ∷ [])) ∙ e)))

@@ -1,13 +1,13 @@
 //! Batches and entries of a history, owned.
 
 ghost use Rattle.std.specs.Prelude.{◌≡◌, map, IfOk};
-ghost use Rattle.mm_module.specs.Batch.{normal};
+ghost use Rattle.mm_module.specs.Batch.{normal_batch};
 ghost use Rattle.mm_module.specs.BatchWords.{has_tab};
 ghost use Rattle.mm_module.specs.Batches.{batch_of};
-ghost use Rattle.mm_model.specs.History.{joined};
-ghost use Rattle.mm_model.specs.Life.{same_batch, has_value, are_own};
-ghost use Rattle.mm_model.specs.Judge.{is_last};
-ghost use Rattle.mm_model.specs.Kept.{kept_batch, kept_batches, kept_entry, kept_entries, kept_segments, stands_for};
+ghost use Rattle.mm_model.specs.History.{items_of_all};
+ghost use Rattle.mm_model.specs.Life.{is_same_batch, has_value, are_own};
+ghost use Rattle.mm_model.specs.Verdicts.{is_last};
+ghost use Rattle.mm_model.specs.KeptHistory.{kept_batch, kept_batches, kept_entry, kept_entries, kept_segments, is_entry_of};
 
 use mm_base::{Bytes, Memory};
 use mm_digest::Digest;
@@ -37,7 +37,7 @@ pub fn has_tab(text: &[u8]) -> bool
 
 /// The batch with these members that its members fix: a text with no TAB is one request.
 pub fn normal(batch: Batch<'_>) -> Batch<'_>
-    ensures { batch_of result ≡ normal (batch_of batch.entry) }
+    ensures { batch_of result ≡ normal_batch (batch_of batch.entry) }
 {
     match batch {
         Batch::One(request) => Batch::One(request),
@@ -95,7 +95,7 @@ impl KeptBatch {
 
     /// Whether the two are one batch.
     pub fn is(&self, other: &KeptBatch) -> bool
-        ensures { result ≡ same_batch (kept_batch self.now) (kept_batch other.now) }
+        ensures { result ≡ is_same_batch (kept_batch self.now) (kept_batch other.now) }
     {
         match self {
             KeptBatch::One(request) => match other {
@@ -111,7 +111,7 @@ impl KeptBatch {
 
     /// Whether this is that batch.
     fn is_that(&self, batch: &Batch<'_>) -> bool
-        ensures { result ≡ same_batch (kept_batch self.now) (batch_of batch.now) }
+        ensures { result ≡ is_same_batch (kept_batch self.now) (batch_of batch.now) }
     {
         match self {
             KeptBatch::One(request) => match *batch {
@@ -140,7 +140,7 @@ impl KeptEntry {
     }
 
     fn stands_for(&self, batch: &KeptBatch) -> bool
-        ensures { result ≡ stands_for (kept_entry self.now) (kept_batch batch.now) }
+        ensures { result ≡ is_entry_of (kept_entry self.now) (kept_batch batch.now) }
     {
         match self {
             KeptEntry::Own(own) => own.is(batch),
@@ -175,7 +175,7 @@ pub fn some_value(entries: &[KeptEntry]) -> bool
 
 /// Whether some segment holds a value that stands for no batch.
 pub(crate) fn some_segment_has_value(segments: &[Vec<KeptEntry>]) -> bool
-    ensures { result ≡ has_value (joined (kept_segments segments.now)) }
+    ensures { result ≡ has_value (items_of_all (kept_segments segments.now)) }
 {
     'segments: for segment in segments {
         if some_value(segment.as_slice()) {

@@ -1,7 +1,7 @@
 //! The machine that a protected module stands for: one state, and no snapshots.
 
 ghost use Rattle.std.specs.Prelude.{◌≡◌, [], ◌∷◌, ◌++◌, length, IfOk, OnErr, MatchOption};
-ghost use Rattle.mm_module.specs.Meaning.{IsLine, said_after};
+ghost use Rattle.mm_module.specs.Meaning.{IsLine, last_output_after};
 
 use mm_base::{Bytes, Memory};
 use mm_module::Module;
@@ -19,13 +19,13 @@ pub struct Machine<M: Module + Drop> {
 }
 
 impl<M: Module + Drop> Model for Machine<M> {
-    ghost use Rattle.mm_model.specs.Run.{Run, IsRun};
+    ghost use Rattle.mm_model.specs.Run.{Run, IsStateOfRun};
 
     ghost Value = { Run M };
 
     ghost view = { λ m. record { runner = m.runner; requests = m.requests.items } };
 
-    ghost invariant = { λ m. IsRun (M.meaning m.runner) m.requests.items m.state m.output };
+    ghost invariant = { λ m. IsStateOfRun (M.meaning m.runner) m.requests.items m.state m.output };
 }
 
 impl<M: Module + Drop> Machine<M> {
@@ -51,7 +51,7 @@ impl<M: Module + Drop> Machine<M> {
         ensures requests { IfOk result
             (λ _. self.new.requests ≡ self.old.requests ++ request.now ∷ []) }
         ensures output { IfOk result
-            (λ said. said ≡ said_after (M.meaning self.new.runner) self.new.requests) }
+            (λ said. said ≡ last_output_after (M.meaning self.new.runner) self.new.requests) }
         ensures err { OnErr result (self.new.requests ≡ self.old.requests) }
     {
         let stepped = self
@@ -75,7 +75,7 @@ impl<M: Module + Drop> Machine<M> {
     /// What the module said to the last request, None where there was none.
     pub fn last_output(&self) -> Option<&[u8]>
         ensures { MatchOption result (self.now.requests ≡ [])
-            (λ said. said.now ≡ said_after (M.meaning self.now.runner) self.now.requests) }
+            (λ said. said.now ≡ last_output_after (M.meaning self.now.runner) self.now.requests) }
     {
         if self.requests.is_empty() {
             None

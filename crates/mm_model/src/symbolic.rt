@@ -2,12 +2,12 @@
 
 ghost use Rattle.std.specs.Prelude.{◌≡◌, ◌+◌, true, false, OnOk, OnErr};
 ghost use Rattle.mm_digest.specs.declared.variant.Variant.TheVariants.{Basic, Opt};
-ghost use Rattle.mm_module.specs.Batch.{normal, size_of};
+ghost use Rattle.mm_module.specs.Batch.{normal_batch, size_of};
 ghost use Rattle.mm_module.specs.Batches.{batch_of};
 ghost use Rattle.mm_model.specs.Instance.{Instance};
-ghost use Rattle.mm_model.specs.History.{Foreign, Reset, Close, Power, first_history, moved, total_of};
-ghost use Rattle.mm_model.specs.Judge.{judge};
-ghost use Rattle.mm_model.specs.Symbolic.{with_batch};
+ghost use Rattle.mm_model.specs.History.{Foreign, Reset, Close, Power, first_history, history_after, total_of};
+ghost use Rattle.mm_model.specs.Verdicts.{verdict_on};
+ghost use Rattle.mm_model.specs.CommitMoves.{with_batch};
 
 use crate::kept::{self, KeptBatch, KeptEntry};
 use crate::verdict::Verdict;
@@ -33,9 +33,9 @@ pub struct Symbolic {
 impl Model for Symbolic {
     ghost use Rattle.std.specs.Prelude.{◌≡◌};
     ghost use Rattle.mm_model.specs.History.{total_of};
-    ghost use Rattle.mm_model.specs.Kept.{Kept, kept_batches, kept_entries, kept_segments};
+    ghost use Rattle.mm_model.specs.KeptHistory.{KeptHistory, kept_batches, kept_entries, kept_segments};
 
-    ghost Value = { Kept };
+    ghost Value = { KeptHistory };
 
     ghost view = { λ s. record {
       variant = s.variant;
@@ -74,7 +74,7 @@ impl Symbolic {
     pub fn commit(&mut self, batch: Batch<'_>) -> Result<(), Memory>
         ensures variant { self.new.variant ≡ self.old.variant }
         ensures ok { OnOk result (self.new.history
-            ≡ with_batch self.old.variant self.old.history (normal (batch_of batch.entry))) }
+            ≡ with_batch self.old.variant self.old.history (normal_batch (batch_of batch.entry))) }
         ensures err { OnErr result (self.new.history ≡ self.old.history) }
     {
         let batch = kept::normal(batch);
@@ -131,7 +131,7 @@ impl Symbolic {
     pub fn extend(&mut self, value: &Digest) -> Result<(), Memory>
         ensures variant { self.new.variant ≡ self.old.variant }
         ensures ok { (i : Instance)
-            → OnOk result (self.new.history ≡ moved i self.old.history (Foreign value.now.bytes)) }
+            → OnOk result (self.new.history ≡ history_after i self.old.history (Foreign value.now.bytes)) }
         ensures err { OnErr result (self.new.history ≡ self.old.history) }
     {
         self.items.push(KeptEntry::Value(*value))?;
@@ -149,7 +149,7 @@ impl Symbolic {
     pub fn reset(&mut self)
         requires { self.old.history.is_open ≡ false }
         ensures variant { self.new.variant ≡ self.old.variant }
-        ensures history { (i : Instance) → self.new.history ≡ moved i self.old.history Reset }
+        ensures history { (i : Instance) → self.new.history ≡ history_after i self.old.history Reset }
     {
         self.empty_register();
     }
@@ -160,7 +160,7 @@ impl Symbolic {
         requires { self.old.history.is_open ≡ true }
         ensures variant { self.new.variant ≡ self.old.variant }
         ensures ok { (i : Instance)
-            → OnOk result (self.new.history ≡ moved i self.old.history Close) }
+            → OnOk result (self.new.history ≡ history_after i self.old.history Close) }
         ensures err { OnErr result (self.new.history ≡ self.old.history) }
     {
         let segment = kept::copy_entries(self.alloc, self.items.as_slice())?;
@@ -173,22 +173,22 @@ impl Symbolic {
     /// Loses power: the register is empty afterwards.
     pub fn power(&mut self)
         ensures variant { self.new.variant ≡ self.old.variant }
-        ensures history { (i : Instance) → self.new.history ≡ moved i self.old.history Power }
+        ensures history { (i : Instance) → self.new.history ≡ history_after i self.old.history Power }
     {
         self.empty_register();
     }
 
     fn empty_register(&mut self)
         ensures variant { self.new.variant ≡ self.old.variant }
-        ensures history { (i : Instance) → self.new.history ≡ moved i self.old.history Power }
+        ensures history { (i : Instance) → self.new.history ≡ history_after i self.old.history Power }
     {
         self.items.clear();
     }
 
     /// The verdict on a position and a batch. Takes no memory.
     pub fn judge(&self, position: u64, batch: Batch<'_>) -> Verdict
-        ensures { result ≡ judge self.now.variant self.now.history position
-            (normal (batch_of batch.entry)) }
+        ensures { result ≡ verdict_on self.now.variant self.now.history position
+            (normal_batch (batch_of batch.entry)) }
     {
         let batch = kept::normal(batch);
         match self.variant {
@@ -199,7 +199,7 @@ impl Symbolic {
 
     // Opt: the verdict by the life of the history.
     fn judge_opt(&self, position: u64, batch: &Batch<'_>) -> Verdict
-        ensures { result ≡ judge Opt self.now.history position (batch_of batch.now) }
+        ensures { result ≡ verdict_on Opt self.now.history position (batch_of batch.now) }
     {
         if self.is_open {
             if self.items.is_empty() {
@@ -217,7 +217,7 @@ impl Symbolic {
 
     // The verdict where the history goes on.
     fn judge_live(&self, position: u64, batch: &Batch<'_>) -> Verdict
-        ensures { result ≡ judge Basic self.now.history position (batch_of batch.now) }
+        ensures { result ≡ verdict_on Basic self.now.history position (batch_of batch.now) }
     {
         if position == self.requests {
             return Verdict::Fresh;

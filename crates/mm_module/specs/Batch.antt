@@ -27,6 +27,6 @@ IsBatch (One request) = Unit {0}
 IsBatch (Many text) = IsTrue (list_any (λ byte. byte == 9) text)
 
 -- the same members as such a batch
-abbrev pub normal : Batch → Batch
-normal (One request) = One request
-normal (Many text) = if list_any (λ byte. byte == 9) text then Many text else One text
+abbrev pub normal_batch : Batch → Batch
+normal_batch (One request) = One request
+normal_batch (Many text) = if list_any (λ byte. byte == 9) text then Many text else One text

@@ -2,7 +2,7 @@
 use Rattle.std.proofs.Common.{◌≡◌, ℕ, ◌<◌, List, [], ◌∷◌, Bool, true, false, ◌||◌, cond, refl, ap, sym, arith, if◌then◌else◌}
 use Rattle.std.specs.List.{slice_split, onto_first, join_with_byte}
 use Rattle.std.proofs.lemmas.List.Splits.{join_with_byte-slice_split, length-slice_split}
-use Rattle.mm_module.specs.Batch.{Batch, One, Many, members_of, batch_text, size_of, normal}
+use Rattle.mm_module.specs.Batch.{Batch, One, Many, members_of, batch_text, size_of, normal_batch}
 use Rattle.mm_module.specs.BatchWords.{is_tab, has_tab}
 
 -- the members, joined by TABs, are the text
@@ -31,6 +31,6 @@ normal_members text true is = refl
 normal_members text false is = sym (slice_split-no_tab text is)
 
 -- the normal form has the same members
-pub members_of-normal : (batch : Batch) → members_of (normal batch) ≡ members_of batch
+pub members_of-normal : (batch : Batch) → members_of (normal_batch batch) ≡ members_of batch
 members_of-normal (One request) = refl
 members_of-normal (Many text) = normal_members text (has_tab text) refl

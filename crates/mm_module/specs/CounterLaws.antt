@@ -5,14 +5,14 @@ use Rattle.mm_module.specs.LineLaws.{is_byte-rem, All-are_bytes, IsText, is_unbr
 use Rattle.std.proofs.lemmas.Bool.Decides.{nat_tests}
 use Rattle.mm_base.specs.Fields.{eight_bytes}
 use Rattle.mm_module.specs.Bytes.{are_bytes}
-use Rattle.mm_module.specs.Numbers.{of_eight_bytes}
-use Rattle.mm_module.specs.PartLaws.{of_eight_bytes-eight}
+use Rattle.mm_module.specs.Numbers.{number_of_eight_bytes}
+use Rattle.mm_module.specs.PartLaws.{number_of_eight_bytes-eight}
 use Rattle.mm_module.specs.Words.{words_of}
-use Rattle.mm_module.specs.declared.counter.Says.{Says}
-use Rattle.mm_module.specs.declared.counter.Says.TheVariants.{Value}
+use Rattle.mm_module.specs.declared.counter.CounterOutput.{CounterOutput}
+use Rattle.mm_module.specs.declared.counter.CounterOutput.TheVariants.{Value}
 use Rattle.mm_module.specs.Meaning.{IsLawful, IsShort}
 use Rattle.mm_module.specs.TableLaws.{IsTable, IsOutcome, table_by, table_is_lawful, table_is_short}
-use Rattle.mm_module.specs.CounterTable.{counter, stepped, is_state, request_of, outcome_of, text_of}
+use Rattle.mm_module.specs.CounterTable.{counter, outcome_of_bytes, is_state, request_of, outcome_of, text_of}
 
 -- a state has 8 bytes
 record IsEight (state : List ℕ) : Type 0 where
@@ -24,8 +24,8 @@ unfolding is_state
 state-eight state is = grind (arith, nat_tests)
 
 -- a state's value has 64 bits
-value-lt : (state : List ℕ) → is_state state ≡ true → of_eight_bytes state < 2 ^ 64
-unfolding of_eight_bytes
+value-lt : (state : List ℕ) → is_state state ≡ true → number_of_eight_bytes state < 2 ^ 64
+unfolding number_of_eight_bytes
 value-lt state is =
     let eight = (state-eight state is).long in
     let small = All-are_bytes state (state-eight state is).bytes in
@@ -47,12 +47,12 @@ unfolding is_state eight_bytes
 is_state-eight value = simp is_byte-rem
 
 -- what is said of 64 bits
-abbrev Says64 : Says → Type 0
+abbrev Says64 : CounterOutput → Type 0
 Says64 (Value value) = value < 2 ^ 64
 Says64 _ = Unit {0}
 
 -- its text is at most 20 bytes, with no LF
-text_of-IsText : (says : Says) → Says64 says → IsText 20 (text_of says)
+text_of-IsText : (says : CounterOutput) → Says64 says → IsText 20 (text_of says)
 text_of-IsText says small = grind (arith, length-decimal, is_unbroken-decimal)
 
 outcome_of-64 : (value : ℕ) (request : List ℕ) → value < 2 ^ 64
@@ -60,14 +60,14 @@ outcome_of-64 : (value : ℕ) (request : List ℕ) → value < 2 ^ 64
 outcome_of-64 value request small = grind (arith, nat_tests)
 
 -- the counter is a module
-counter_table : IsTable (table_by 0 of_eight_bytes eight_bytes request_of outcome_of text_of) counter (λ value. value < 2 ^ 64) 8 20
-unfolding stepped
+counter_table : IsTable (table_by 0 number_of_eight_bytes eight_bytes request_of outcome_of text_of) counter (λ value. value < 2 ^ 64) 8 20
+unfolding outcome_of_bytes
 counter_table = record {
   begins = unfold eight_bytes in refl;
   first = omega arith;
   reads = value-lt;
   spells = λ value small. is_state-eight value;
-  back = of_eight_bytes-eight;
+  back = number_of_eight_bytes-eight;
   next = λ state request. refl;
   says = λ state request. refl;
   stays = λ value request small. (outcome_of-64 value request small).state;

@@ -46,11 +46,11 @@ outputs_from meaning state (request ∷ requests) =
     meaning.says state request ∷ outputs_from meaning (meaning.next state request) requests
 
 -- the last output of these requests, from a state and the output before them
-abbrev pub said_from : Meaning → List ℕ → List ℕ → List (List ℕ) → List ℕ
-said_from meaning state said [] = said
-said_from meaning state said (request ∷ requests) =
-    said_from meaning (meaning.next state request) (meaning.says state request) requests
+abbrev pub last_output_from : Meaning → List ℕ → List ℕ → List (List ℕ) → List ℕ
+last_output_from meaning state said [] = said
+last_output_from meaning state said (request ∷ requests) =
+    last_output_from meaning (meaning.next state request) (meaning.says state request) requests
 
 -- the last output of these requests, from the first state; nothing before the first request
-abbrev pub said_after : Meaning → List (List ℕ) → List ℕ
-said_after meaning requests = said_from meaning meaning.first [] requests
+abbrev pub last_output_after : Meaning → List (List ℕ) → List ℕ
+last_output_after meaning requests = last_output_from meaning meaning.first [] requests

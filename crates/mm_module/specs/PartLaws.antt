@@ -11,7 +11,7 @@ use Rattle.std.proofs.lemmas.Nat.{be_bytes_8, from_be_bytes-to_be_bytes_8}
 use Rattle.mm_base.specs.Fields.{eight_bytes}
 use Rattle.mm_module.specs.Bytes.{is_byte, are_bytes}
 use Rattle.mm_module.specs.LineLaws.{and-true, and-both, is_byte-rem, list_all-get_or}
-use Rattle.mm_module.specs.Numbers.{of_eight_bytes}
+use Rattle.mm_module.specs.Numbers.{number_of_eight_bytes}
 use Rattle.mm_module.specs.Visible.{is_visible}
 
 -- the front of a list, and what follows
@@ -61,10 +61,10 @@ pub are_bytes-eight : (n : ℕ) → are_bytes (eight_bytes n) ≡ true
 unfolding eight_bytes
 are_bytes-eight n = simp is_byte-rem
 
-pub of_eight_bytes-eight : (n : ℕ) → n < 2 ^ 64 → of_eight_bytes (eight_bytes n) ≡ n
-unfolding of_eight_bytes eight_bytes
-of_eight_bytes-eight n small = from_be_bytes-to_be_bytes_8 n small
+pub number_of_eight_bytes-eight : (n : ℕ) → n < 2 ^ 64 → number_of_eight_bytes (eight_bytes n) ≡ n
+unfolding number_of_eight_bytes eight_bytes
+number_of_eight_bytes-eight n small = from_be_bytes-to_be_bytes_8 n small
 
-pub eight-of_eight_bytes : (bytes : List ℕ) → length bytes ≡ 8 → are_bytes bytes ≡ true → eight_bytes (of_eight_bytes bytes) ≡ bytes
-unfolding of_eight_bytes eight_bytes
-eight-of_eight_bytes bytes eight is = be_bytes_8 bytes _ eight (get_or-small bytes is) refl
+pub eight-number_of_eight_bytes : (bytes : List ℕ) → length bytes ≡ 8 → are_bytes bytes ≡ true → eight_bytes (number_of_eight_bytes bytes) ≡ bytes
+unfolding number_of_eight_bytes eight_bytes
+eight-number_of_eight_bytes bytes eight is = be_bytes_8 bytes _ eight (get_or-small bytes is) refl

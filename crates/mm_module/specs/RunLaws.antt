@@ -1,6 +1,6 @@
 -- Laws of the runs of a module.
 use Rattle.std.proofs.Common.{◌≡◌, ℕ, suc, List, [], ◌∷◌, ◌++◌, length, IsTrue, refl, ap}
-use Rattle.mm_module.specs.Meaning.{Meaning, IsLawful, state_after, said_from, said_after, outputs_from}
+use Rattle.mm_module.specs.Meaning.{Meaning, IsLawful, state_after, last_output_from, last_output_after, outputs_from}
 use Rattle.mm_module.specs.MeaningWords.{state_from}
 
 -- a run goes on from the state that it came to
@@ -20,17 +20,17 @@ pub state_after-append : (meaning : Meaning) (before after : List (List ℕ))
 state_after-append meaning before after = state_from-append meaning meaning.first before after
 
 -- the last output, of a run that goes on
-pub said_from-append : (meaning : Meaning) (state said : List ℕ) (before after : List (List ℕ))
-    → said_from meaning state said (before ++ after) ≡ said_from meaning (state_from meaning state before)
-    (said_from meaning state said before) after
-said_from-append meaning state said [] after = refl
-said_from-append meaning state said (request ∷ before) after =
-    said_from-append meaning (meaning.next state request) (meaning.says state request) before after
+pub last_output_from-append : (meaning : Meaning) (state said : List ℕ) (before after : List (List ℕ))
+    → last_output_from meaning state said (before ++ after) ≡ last_output_from meaning (state_from meaning state before)
+    (last_output_from meaning state said before) after
+last_output_from-append meaning state said [] after = refl
+last_output_from-append meaning state said (request ∷ before) after =
+    last_output_from-append meaning (meaning.next state request) (meaning.says state request) before after
 
 -- the last output is that of the last request, at the state before it
-pub said_after-push : (meaning : Meaning) (requests : List (List ℕ)) (request : List ℕ)
-    → said_after meaning (requests ++ request ∷ []) ≡ meaning.says (state_after meaning requests) request
-said_after-push meaning requests request = said_from-append meaning meaning.first [] requests (request ∷ [])
+pub last_output_after-push : (meaning : Meaning) (requests : List (List ℕ)) (request : List ℕ)
+    → last_output_after meaning (requests ++ request ∷ []) ≡ meaning.says (state_after meaning requests) request
+last_output_after-push meaning requests request = last_output_from-append meaning meaning.first [] requests (request ∷ [])
 
 -- the outputs of a run that goes on
 pub outputs_from-append : (meaning : Meaning) (state : List ℕ) (before after : List (List ℕ))

@@ -20,62 +20,62 @@ pub struct Counter;
 
 /// A request to a counter.
 #[derive(Clone, Copy, Debug, PartialEq, Eq)]
-enum Request {
+enum CounterRequest {
     Read,
     Add(u64),
 }
 
 /// What a counter says.
 #[derive(Clone, Copy, Debug, PartialEq, Eq)]
-enum Says {
+enum CounterOutput {
     Value(u64),
     Full,
     Bad,
 }
 
 /// The request that these bytes are, where they are one.
-fn read_request(bytes: &[u8]) -> Option<Request>
+fn read_request(bytes: &[u8]) -> Option<CounterRequest>
     ensures { result ≡ request_of (words_of bytes.now) }
 {
     match Words::of(bytes) {
-        Words::One(word) if word == b"read".as_slice() => Some(Request::Read),
+        Words::One(word) if word == b"read".as_slice() => Some(CounterRequest::Read),
         Words::Two(word, number) if word == b"add".as_slice() => read_decimal(number).map(
-            Request::Add,
+            CounterRequest::Add,
         ),
         _ => None,
     }
 }
 
 /// The value after a request, and what the counter says.
-fn outcome(value: u64, request: Option<Request>) -> (u64, Says)
+fn outcome(value: u64, request: Option<CounterRequest>) -> (u64, CounterOutput)
     ensures { result ≡ outcome_of value request }
 {
     match request {
-        Some(Request::Read) => (value, Says::Value(value)),
-        Some(Request::Add(number)) => match value.checked_add(number) {
-            Some(sum) => (sum, Says::Value(sum)),
-            None => (value, Says::Full),
+        Some(CounterRequest::Read) => (value, CounterOutput::Value(value)),
+        Some(CounterRequest::Add(number)) => match value.checked_add(number) {
+            Some(sum) => (sum, CounterOutput::Value(sum)),
+            None => (value, CounterOutput::Full),
         },
-        None => (value, Says::Bad),
+        None => (value, CounterOutput::Bad),
     }
 }
 
 /// The text of what is said.
-fn text(alloc: Global, says: Says) -> Result<Bytes, Memory>
+fn text(alloc: Global, says: CounterOutput) -> Result<Bytes, Memory>
     ensures { IfOk result (λ text. text ≡ text_of says) }
 {
     match says {
-        Says::Value(value) => {
+        CounterOutput::Value(value) => {
             let mut text = Bytes::new(alloc);
             put_decimal(&mut text, value)?;
             Ok(text)
         }
-        Says::Full => Bytes::copy_of(alloc, b"full"),
-        Says::Bad => Bytes::copy_of(alloc, b"bad"),
+        CounterOutput::Full => Bytes::copy_of(alloc, b"full"),
+        CounterOutput::Bad => Bytes::copy_of(alloc, b"bad"),
     }
 }
 
-#[tactic(auto, unfolding(crate::specs::CounterTable::stepped, crate::specs::CounterTable::is_state))]
+#[tactic(auto, unfolding(crate::specs::CounterTable::outcome_of_bytes, crate::specs::CounterTable::is_state))]
 impl Module for Counter {
     ghost meaning = { λ _. counter };
 

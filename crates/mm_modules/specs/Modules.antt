@@ -44,23 +44,23 @@ abbrev pub name_of : AnyModule → List ℕ
 name_of it = (listing_of it).name
 
 -- the module of a name
-abbrev pub module_named : List ℕ → Option AnyModule
-module_named name = find (λ it. bytes_eq name (name_of it)) all_modules
+abbrev pub module_of_name : List ℕ → Option AnyModule
+module_of_name name = find (λ it. bytes_eq name (name_of it)) all_modules
 
 -- the module of an id
-abbrev pub module_with : ℕ → Option AnyModule
-module_with id = find (λ it. (meaning_of it).id == id) all_modules
+abbrev pub module_of_id : ℕ → Option AnyModule
+module_of_id id = find (λ it. (meaning_of it).id == id) all_modules
 
 -- names as a text lists them: `a, b or c`
-abbrev pub as_choice : List (List ℕ) → List ℕ
-as_choice [] = []
-as_choice (name ∷ []) = name
-as_choice (name ∷ last ∷ []) = name ++ codes " or " ++ last
-as_choice (name ∷ next ∷ after ∷ names) = name ++ codes ", " ++ as_choice (next ∷ after ∷ names)
+abbrev pub choice_text : List (List ℕ) → List ℕ
+choice_text [] = []
+choice_text (name ∷ []) = name
+choice_text (name ∷ last ∷ []) = name ++ codes " or " ++ last
+choice_text (name ∷ next ∷ after ∷ names) = name ++ codes ", " ++ choice_text (next ∷ after ∷ names)
 
 -- the names of all modules
 abbrev pub names_text : List ℕ
-names_text = as_choice (map name_of all_modules)
+names_text = choice_text (map name_of all_modules)
 
 -- each listing has its laws
 pub any_is_listed : (it : AnyModule) → IsListing (meaning_of it) (listing_of it)
@@ -78,8 +78,8 @@ any_is_listed ReceiptQuota =
 
 -- a module is found by its id, and by its name, which has at most 32 bytes
 pub record IsFound (it : AnyModule) : Type 0 where
-  pub by_id : module_with (meaning_of it).id ≡ Some it
-  pub by_name : module_named (name_of it) ≡ Some it
+  pub by_id : module_of_id (meaning_of it).id ≡ Some it
+  pub by_name : module_of_name (name_of it) ≡ Some it
   pub short : length (name_of it) ≤ 32
 
 pub any_is_found : (it : AnyModule) → IsFound it

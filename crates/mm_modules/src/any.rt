@@ -3,7 +3,7 @@
 ghost use Rattle.std.specs.Prelude.{◌≡◌, ◌==◌, Some, IfSome, option_map};
 ghost use Rattle.std.specs.List.{find};
 ghost use Rattle.std.specs.Str.{bytes_eq};
-ghost use Rattle.mm_modules.specs.Modules.{any_is_listed, listing_of, meaning_of, module_named, module_with, name_of, names_text};
+ghost use Rattle.mm_modules.specs.Modules.{any_is_listed, listing_of, meaning_of, module_of_name, module_of_id, name_of, names_text};
 ghost use Rattle.mm_modules.specs.ModulesLaws.{any_is_lawful};
 
 use mm_base::{Bytes, Memory};
@@ -57,7 +57,7 @@ pub fn module_names() -> &'static [u8]
 
 /// The module of this name, None where no module has it.
 pub fn by_name(name: &[u8]) -> Option<AnyModule>
-    ensures module { result ≡ module_named name.now }
+    ensures module { result ≡ module_of_name name.now }
     ensures named { IfSome result (λ found. name.now ≡ name_of found) }
     ensures each { (it : AnyModule) → name.now ≡ name_of it → result ≡ Some it }
 {
@@ -65,7 +65,7 @@ pub fn by_name(name: &[u8]) -> Option<AnyModule>
 }
 
 fn module_named(name: &[u8]) -> Option<AnyModule>
-    ensures { result ≡ module_named name.now }
+    ensures { result ≡ module_of_name name.now }
 {
     named_among(&MODULES, name).copied()
 }
@@ -80,7 +80,7 @@ fn named_among<'a>(modules: &'a [AnyModule], name: &[u8]) -> Option<&'a AnyModul
 
 /// The module with this id, None where no module has it.
 pub fn by_id(id: u8) -> Option<AnyModule>
-    ensures module { result ≡ module_with id }
+    ensures module { result ≡ module_of_id id }
     ensures id { IfSome result (λ found. (meaning_of found).id ≡ id) }
     ensures each { (it : AnyModule) → (meaning_of it).id ≡ id → result ≡ Some it }
 {
@@ -88,7 +88,7 @@ pub fn by_id(id: u8) -> Option<AnyModule>
 }
 
 fn module_with(id: u8) -> Option<AnyModule>
-    ensures { result ≡ module_with id }
+    ensures { result ≡ module_of_id id }
 {
     with_id_among(&MODULES, id).copied()
 }

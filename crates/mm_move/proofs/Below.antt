@@ -17,16 +17,16 @@ pub use Rattle.mm_seal.specs.declared.cell.CellFault.{CellFault}
 pub use Rattle.mm_seal.specs.declared.cell.CellFault.TheVariants.{Blank, Cell as Unspelled}
 pub use Rattle.mm_seal.specs.declared.snapshot.PartsFault.{PartsFault}
 pub use Rattle.mm_seal.specs.declared.snapshot.PartsFault.TheVariants.{Form, Kind}
-pub use Rattle.mm_move.specs.Cells.{CellsAreRead, fits, fits_variant, IsMoved, IsRetired, IsWaiting, live_in, moved_by, moved_in, moved_of}
-pub use Rattle.mm_move.specs.Cells.{moved_spelling, retired_in, retired_spelling, SpellsMoved, waiting_in}
+pub use Rattle.mm_move.specs.Cells.{CellsAreRead, is_fit_for_variant, fits_variant, IsMoved, IsRetired, IsWaiting, live_cell_in, moved_cell_by, moved_cell_in, moved_cell_of}
+pub use Rattle.mm_move.specs.Cells.{moved_spelling, retired_cell_in, retired_spelling, SpellsMoved, waiting_cell_in}
 pub use Rattle.mm_move.specs.Fields.{digest_at, number_at, part, variant_in}
-pub use Rattle.mm_move.specs.Orders.{accepts_in, arrives_by, has_arrived_by, is_barred, is_other, leaves_by, offer_by, retired_from}
-pub use Rattle.mm_move.specs.Orders.{retires_in, right_offer, right_ticket, stands_at, ticket_by}
-pub use Rattle.mm_move.specs.Refusals.{move_fault_in, move_fault_of, OrNoMemory}
-pub use Rattle.mm_move.specs.Tickets.{is_for, is_spelled_by, IsAtAnchor, IsTagged, IsTicket, place_at, SpellsTicket, summary_in, tagged_in}
-pub use Rattle.mm_move.specs.Tickets.{TaggedTicket, ticket_content, ticket_front, ticket_of, ticket_signed, ticket_spelling, ticket_tag}
+pub use Rattle.mm_move.specs.Orders.{acceptance_in, acceptance_by, acceptance_again_by, is_barred, is_other, retirement_by, offer_by, retired_cell_from}
+pub use Rattle.mm_move.specs.Orders.{retirement_in, right_offer, right_ticket, is_place_at, ticket_by}
+pub use Rattle.mm_move.specs.Refusals.{move_fault_in, move_fault_of, IsOrNoMemory}
+pub use Rattle.mm_move.specs.Tickets.{is_for, is_spelled_by, IsAtAnchor, IsTagged, IsTicket, place_at, SpellsTicket, summary_in, tagged_ticket_in}
+pub use Rattle.mm_move.specs.Tickets.{TaggedTicket, ticket_content, ticket_front, ticket_of, signed_bytes, ticket_spelling, ticket_tag}
 pub use Rattle.mm_move.specs.Tickets.{TicketContent, TicketsAreRead}
 pub use Rattle.mm_move.specs.declared.cell.MovedCell.{MovedCell}
-pub use Rattle.mm_move.specs.declared.cell.Waiting.{Waiting}
-pub use Rattle.mm_move.specs.declared.ready.Ready.{Ready}
+pub use Rattle.mm_move.specs.declared.cell.WaitingCell.{WaitingCell}
+pub use Rattle.mm_move.specs.declared.ready.ReadyMove.{ReadyMove}
 pub use Rattle.mm_move.specs.declared.refusal.MoveRefusal.{MoveRefusal}

@@ -1,12 +1,12 @@
 -- A cell is read exactly where its bytes are spelled.
 use Rattle.mm_move.proofs.Below.{◌≡◌, ℕ, ◌++◌, Bool, true, false, List, length, get_or, Result, Ok, Err, refl, sym, ap, ◌∙◌, subst, arith}
 use Rattle.mm_move.proofs.Below.{◌==◌, slice_index, if◌then◌else◌, bytes_eq, cell_length, Variant, Basic, Opt, variant_byte, Cell}
-use Rattle.mm_move.proofs.Below.{CellFault, Blank, Unspelled, IsCell, flag_byte, Waiting, MovedCell, variant_in, moved_spelling, IsWaiting}
-use Rattle.mm_move.proofs.Below.{IsRetired, IsMoved, SpellsMoved, waiting_in, retired_in, live_in, moved_in, fits, moved_by, CellsAreRead}
+use Rattle.mm_move.proofs.Below.{CellFault, Blank, Unspelled, IsCell, flag_byte, WaitingCell, MovedCell, variant_in, moved_spelling, IsWaiting}
+use Rattle.mm_move.proofs.Below.{IsRetired, IsMoved, SpellsMoved, waiting_cell_in, retired_cell_in, live_cell_in, moved_cell_in, is_fit_for_variant, moved_cell_by, CellsAreRead}
 use Rattle.mm_seal.specs.Cell.{cell_spelling, blank_cell}
-use Rattle.mm_move.specs.declared.cell.Retired.{Retired}
+use Rattle.mm_move.specs.declared.cell.RetiredCell.{RetiredCell}
 use Rattle.mm_move.specs.declared.cell.MovedCell.TheVariants as moved
-use Rattle.mm_move.specs.Cells.{waiting_spelling, retired_spelling, is_spelled_by, moved_of}
+use Rattle.mm_move.specs.Cells.{waiting_spelling, retired_spelling, is_spelled_by, moved_cell_of}
 use Rattle.mm_move.proofs.Parts.{AreThree, three, length-part, both_true, and_parts, is_false, bytes_tell, bytes_are, fits_tell, fits_are}
 
 -- the variant of its own byte
@@ -18,13 +18,13 @@ flag_back : (f : Bool) → (flag_byte f == 1) ≡ f
 flag_back true = refl
 flag_back false = refl
 
-waiting_back : (cell : Waiting) → IsWaiting cell → moved_in (waiting_spelling cell) ≡ moved.Waiting cell
+waiting_back : (cell : WaitingCell) → IsWaiting cell → moved_cell_in (waiting_spelling cell) ≡ moved.Waiting cell
 unfolding waiting_spelling
 waiting_back cell is =
     let t = three cell.nonce cell.key cell.barrier is.nonce is.key is.barrier in let v = variant_back cell.variant in
     λ i. moved.Waiting (record { variant = v i; «module» = cell.module; nonce = t.first i; key = t.second i; barrier = t.third i })
 
-retired_back : (cell : Retired) → IsRetired cell → moved_in (retired_spelling cell) ≡ moved.Retired cell
+retired_back : (cell : RetiredCell) → IsRetired cell → moved_cell_in (retired_spelling cell) ≡ moved.Retired cell
 unfolding retired_spelling
 retired_back cell is =
     let t = three cell.summary.bytes cell.key cell.nonce is.summary is.key is.nonce in
@@ -37,7 +37,7 @@ retired_back cell is =
       nonce = t.third i;
     })
 
-live_back : (cell : Cell) → IsCell cell → moved_in (cell_spelling cell) ≡ moved.Live cell
+live_back : (cell : Cell) → IsCell cell → moved_cell_in (cell_spelling cell) ≡ moved.Live cell
 unfolding cell_spelling
 live_back cell is =
     let t = three cell.summary.bytes cell.key cell.barrier is.summary is.key is.barrier in
@@ -51,7 +51,7 @@ live_back cell is =
       barrier = t.third i;
     })
 
-back : (cell : MovedCell) → IsMoved cell → moved_in (moved_spelling cell) ≡ cell
+back : (cell : MovedCell) → IsMoved cell → moved_cell_in (moved_spelling cell) ≡ cell
 back (moved.Live cell) is = live_back cell is
 back (moved.Waiting cell) is = waiting_back cell is
 back (moved.Retired cell) is = retired_back cell is
@@ -73,48 +73,48 @@ not_blank cell =
     is_false (bytes_eq (moved_spelling cell) blank_cell) (λ e. zero_unlike_letter (get_or blank_cell 0 0) (get_or (moved_spelling cell) 0 0)
     begins_blank (begins cell) (ap (λ (x : List ℕ). get_or x 0 0) (sym (bytes_tell (moved_spelling cell) blank_cell e))))
 
-fitting : (cell : MovedCell) → IsMoved cell → fits cell ≡ true
+fitting : (cell : MovedCell) → IsMoved cell → is_fit_for_variant cell ≡ true
 fitting (moved.Live cell) is = fits_are cell.variant cell.flag cell.barrier is.variant
 fitting (moved.Waiting cell) is = fits_are cell.variant false cell.barrier is.variant
 fitting (moved.Retired cell) is = refl
 
 -- a spelled cell is read
-pub moved_back : (cell : MovedCell) → IsMoved cell → moved_of (moved_spelling cell) ≡ Ok cell
-unfolding moved_of
+pub moved_back : (cell : MovedCell) → IsMoved cell → moved_cell_of (moved_spelling cell) ≡ Ok cell
+unfolding moved_cell_of
 moved_back cell is =
     let bytes : List ℕ = moved_spelling cell in
     let spelled : is_spelled_by bytes cell ≡ true =
-    both_true (fits cell) (bytes_eq bytes bytes) (fitting cell is) (bytes_are bytes bytes refl) in
-    ap (λ (b : Bool). if b then Err Blank else moved_by bytes (moved_in bytes)) (not_blank cell) ∙ ap (moved_by bytes) (back cell is)
+    both_true (is_fit_for_variant cell) (bytes_eq bytes bytes) (fitting cell is) (bytes_are bytes bytes refl) in
+    ap (λ (b : Bool). if b then Err Blank else moved_cell_by bytes (moved_cell_in bytes)) (not_blank cell) ∙ ap (moved_cell_by bytes) (back cell is)
     ∙ ap (λ (b : Bool). if b then Ok cell else Err Unspelled) spelled
 
 -- what a reading that succeeds has found
 record IsRead (bytes : List ℕ) (cell : MovedCell) : Type 0 where
-  pub spelled : is_spelled_by bytes (moved_in bytes) ≡ true
-  pub found : moved_in bytes ≡ cell
+  pub spelled : is_spelled_by bytes (moved_cell_in bytes) ≡ true
+  pub found : moved_cell_in bytes ≡ cell
 
 read_by : (blank spelled : Bool) (one cell : MovedCell)
     → (if blank then Err Blank else (if spelled then Ok one else Err Unspelled)) ≡ Ok cell → (spelled ≡ true) × (one ≡ cell)
 read_by false true one cell e = (refl, cc)
 read_by _ _ one cell e = cc
 
-is_read : (bytes : List ℕ) (cell : MovedCell) → moved_of bytes ≡ Ok cell → IsRead bytes cell
-unfolding moved_of
+is_read : (bytes : List ℕ) (cell : MovedCell) → moved_cell_of bytes ≡ Ok cell → IsRead bytes cell
+unfolding moved_cell_of
 is_read bytes cell e =
-    let both = read_by (bytes_eq bytes blank_cell) (is_spelled_by bytes (moved_in bytes)) (moved_in bytes) cell e in
+    let both = read_by (bytes_eq bytes blank_cell) (is_spelled_by bytes (moved_cell_in bytes)) (moved_cell_in bytes) cell e in
     record { spelled = both.0; found = both.1 }
 
 abbrev formed_as : Bool → Bool → List ℕ → MovedCell
 formed_as waits left bytes =
-    if waits then moved.Waiting (waiting_in bytes) else (if left then moved.Retired (retired_in bytes) else moved.Live (live_in bytes))
+    if waits then moved.Waiting (waiting_cell_in bytes) else (if left then moved.Retired (retired_cell_in bytes) else moved.Live (live_cell_in bytes))
 
-formed : (waits left : Bool) (bytes : List ℕ) → length bytes ≡ cell_length → fits (formed_as waits left bytes) ≡ true
+formed : (waits left : Bool) (bytes : List ℕ) → length bytes ≡ cell_length → is_fit_for_variant (formed_as waits left bytes) ≡ true
     → IsMoved (formed_as waits left bytes)
 formed true left bytes size e = record {
   nonce = length-part 8 bytes (omega arith);
   key = length-part 40 bytes (omega arith);
   barrier = length-part 72 bytes (omega arith);
-  variant = fits_tell (waiting_in bytes).variant false (waiting_in bytes).barrier e;
+  variant = fits_tell (waiting_cell_in bytes).variant false (waiting_cell_in bytes).barrier e;
 }
 formed false true bytes size e = record {
   summary = length-part 8 bytes (omega arith);
@@ -125,39 +125,39 @@ formed false false bytes size e = record {
   summary = length-part 8 bytes (omega arith);
   key = length-part 40 bytes (omega arith);
   barrier = length-part 72 bytes (omega arith);
-  variant = fits_tell (live_in bytes).variant (live_in bytes).flag (live_in bytes).barrier e;
+  variant = fits_tell (live_cell_in bytes).variant (live_cell_in bytes).flag (live_cell_in bytes).barrier e;
 }
 
 -- what is read is spelled
-pub moved_spells : (bytes : List ℕ) (cell : MovedCell) → length bytes ≡ cell_length → moved_of bytes ≡ Ok cell → SpellsMoved bytes cell
+pub moved_spells : (bytes : List ℕ) (cell : MovedCell) → length bytes ≡ cell_length → moved_cell_of bytes ≡ Ok cell → SpellsMoved bytes cell
 moved_spells bytes cell size e =
     let r = is_read bytes cell e in
-    let parts = and_parts (fits (moved_in bytes)) (bytes_eq (moved_spelling (moved_in bytes)) bytes) r.spelled in
+    let parts = and_parts (is_fit_for_variant (moved_cell_in bytes)) (bytes_eq (moved_spelling (moved_cell_in bytes)) bytes) r.spelled in
     let is = formed (slice_index bytes 2 == 0x57) (slice_index bytes 2 == 0x58) bytes size parts.0 in
-    subst (λ (c : MovedCell). SpellsMoved bytes c) r.found (is, sym (bytes_tell (moved_spelling (moved_in bytes)) bytes parts.1))
+    subst (λ (c : MovedCell). SpellsMoved bytes c) r.found (is, sym (bytes_tell (moved_spelling (moved_cell_in bytes)) bytes parts.1))
 
 pub cells_are_read : CellsAreRead
 cells_are_read bytes cell size = (
   moved_spells bytes cell size,
-  λ (spells : SpellsMoved bytes cell). ap moved_of spells.1
+  λ (spells : SpellsMoved bytes cell). ap moved_cell_of spells.1
       ∙ moved_back cell spells.0,
 )
 
 -- how a reading goes on, test by test
-pub blank_read : (bytes : List ℕ) → bytes_eq bytes blank_cell ≡ true → Err Blank ≡ moved_of bytes
-unfolding moved_of
-blank_read bytes e = sym (ap (λ (b : Bool). if b then Err Blank else moved_by bytes (moved_in bytes)) e)
+pub blank_read : (bytes : List ℕ) → bytes_eq bytes blank_cell ≡ true → Err Blank ≡ moved_cell_of bytes
+unfolding moved_cell_of
+blank_read bytes e = sym (ap (λ (b : Bool). if b then Err Blank else moved_cell_by bytes (moved_cell_in bytes)) e)
 
-pub cell_read : (bytes : List ℕ) (cell : MovedCell) → bytes_eq bytes blank_cell ≡ false → cell ≡ moved_in bytes
-    → is_spelled_by bytes cell ≡ true → Ok cell ≡ moved_of bytes
-unfolding moved_of
+pub cell_read : (bytes : List ℕ) (cell : MovedCell) → bytes_eq bytes blank_cell ≡ false → cell ≡ moved_cell_in bytes
+    → is_spelled_by bytes cell ≡ true → Ok cell ≡ moved_cell_of bytes
+unfolding moved_cell_of
 cell_read bytes cell blank e spelled =
-    sym (ap (λ (b : Bool). if b then Err Blank else moved_by bytes (moved_in bytes)) blank ∙ ap (moved_by bytes) (sym e)
+    sym (ap (λ (b : Bool). if b then Err Blank else moved_cell_by bytes (moved_cell_in bytes)) blank ∙ ap (moved_cell_by bytes) (sym e)
     ∙ ap (λ (b : Bool). if b then Ok cell else Err Unspelled) spelled)
 
-pub none_read : (bytes : List ℕ) (cell : MovedCell) → bytes_eq bytes blank_cell ≡ false → cell ≡ moved_in bytes
-    → is_spelled_by bytes cell ≡ false → Err Unspelled ≡ moved_of bytes
-unfolding moved_of
+pub none_read : (bytes : List ℕ) (cell : MovedCell) → bytes_eq bytes blank_cell ≡ false → cell ≡ moved_cell_in bytes
+    → is_spelled_by bytes cell ≡ false → Err Unspelled ≡ moved_cell_of bytes
+unfolding moved_cell_of
 none_read bytes cell blank e spelled =
-    sym (ap (λ (b : Bool). if b then Err Blank else moved_by bytes (moved_in bytes)) blank ∙ ap (moved_by bytes) (sym e)
+    sym (ap (λ (b : Bool). if b then Err Blank else moved_cell_by bytes (moved_cell_in bytes)) blank ∙ ap (moved_cell_by bytes) (sym e)
     ∙ ap (λ (b : Bool). if b then Ok cell else Err Unspelled) spelled)

@@ -3,7 +3,7 @@ use Rattle.mm_move.proofs.Below.{◌≡◌, ℕ, ◌+◌, ◌-◌, ◌≤◌, �
 use Rattle.mm_move.proofs.Below.{Err, refl, sym, ap, ◌∙◌, subst, arith, length-append, length-drop, append_assoc, ◌==◌, nat_le, slice_index}
 use Rattle.mm_move.proofs.Below.{slice_range, if◌then◌else◌, bytes_eq, take-append-drop, last_position, limit_of, Digest, Variant}
 use Rattle.mm_move.proofs.Below.{variant_byte, PartsFault, Form, Kind, Content, IsContent, IsPlace, variant_of, part, digest_at, number_at}
-use Rattle.mm_move.proofs.Below.{variant_in, summary_in, place_at, IsAtAnchor, TicketContent, IsTicket, ticket_signed, TaggedTicket}
+use Rattle.mm_move.proofs.Below.{variant_in, summary_in, place_at, IsAtAnchor, TicketContent, IsTicket, signed_bytes, TaggedTicket}
 use Rattle.mm_move.proofs.Below.{IsTagged, ticket_spelling, is_for, is_spelled_by, SpellsTicket, TicketsAreRead}
 use Rattle.std.specs.Int.{w64, from_be_bytes, to_be_bytes}
 use Rattle.std.proofs.lemmas.List.Folds.{drop_split}
@@ -14,9 +14,9 @@ use Rattle.mm_digest.specs.declared.variant.Variant.TheVariants as variants
 use Rattle.mm_digest.specs.Messages.{zero_bytes}
 use Rattle.mm_seal.specs.declared.snapshot.Place.{Place}
 use Rattle.mm_seal.specs.declared.snapshot.Place.TheVariants.{Basic, Opt}
-use Rattle.mm_seal.specs.PartsWords.{is_bounded, same_variant}
-use Rattle.mm_move.specs.Tickets.{ticket_front, tagged_in, ticket_by, ticket_of}
-use Rattle.mm_move.specs.Read.{IsBounded}
+use Rattle.mm_seal.specs.PartsWords.{is_bounded, is_same_variant}
+use Rattle.mm_move.specs.Tickets.{ticket_front, tagged_ticket_in, ticket_by, ticket_of}
+use Rattle.mm_move.specs.Readings.{IsBounded}
 use Rattle.mm_move.proofs.Parts.{take_front, drop_front, drop_past, length-part, both_true, and_parts, is_false, le_is, le_tells, eq_is, eq_tells, bytes_tell, bytes_are}
 use Rattle.mm_move.proofs.CellLaws.{variant_back}
 
@@ -62,8 +62,8 @@ same_test false true f g = g refl
 same_test false false f g = refl
 
 module _ (bytes : List ℕ) where
-  whole : 114 ≤ length bytes → AreWhole (tagged_in bytes)
-  unfolding tagged_in
+  whole : 114 ≤ length bytes → AreWhole (tagged_ticket_in bytes)
+  unfolding tagged_ticket_in
   whole h = record {
     nonce = length-part 6 bytes (omega arith);
     place = place_formed (variant_in bytes) (digest_at 38 bytes) (length-part 38 bytes (omega arith));
@@ -72,11 +72,11 @@ module _ (bytes : List ℕ) where
   }
 
   -- they spell the ticket exactly where its front stands in front
-  spelled_by_front : 114 ≤ length bytes → bytes_eq (take 82 bytes) (ticket_front (tagged_in bytes).ticket) ≡ bytes_eq
-      (ticket_spelling (tagged_in bytes)) bytes
-  unfolding tagged_in
+  spelled_by_front : 114 ≤ length bytes → bytes_eq (take 82 bytes) (ticket_front (tagged_ticket_in bytes).ticket) ≡ bytes_eq
+      (ticket_spelling (tagged_ticket_in bytes)) bytes
+  unfolding tagged_ticket_in
   spelled_by_front h =
-      let tagged : TaggedTicket = tagged_in bytes in let w = whole h in
+      let tagged : TaggedTicket = tagged_ticket_in bytes in let w = whole h in
       let front : List ℕ = ticket_front tagged.ticket in
       let size : length front ≡ 82 = length-front tagged.ticket w.nonce (summary_formed tagged.ticket.content.place w.place) in
       same_test (bytes_eq (take 82 bytes) front) (bytes_eq (ticket_spelling tagged) bytes) (λ e. bytes_are (ticket_spelling tagged) bytes
@@ -84,21 +84,21 @@ module _ (bytes : List ℕ) where
       (λ e. bytes_are (take 82 bytes) front (ap (take 82) (sym (bytes_tell (ticket_spelling tagged) bytes e) ∙ append_assoc front
       tagged.ticket.content.state tagged.tag) ∙ take_front 82 front (tagged.ticket.content.state ++ tagged.tag) size))
 
-  pub front_tells : (front : List ℕ) (t : TicketContent) (r : Bool) → 114 ≤ length bytes → t ≡ (tagged_in bytes).ticket
+  pub front_tells : (front : List ℕ) (t : TicketContent) (r : Bool) → 114 ≤ length bytes → t ≡ (tagged_ticket_in bytes).ticket
       → front ≡ take 82 bytes → r ≡ bytes_eq front (ticket_front t) → is_bounded t.content ≡ true
-      → r ≡ is_spelled_by bytes (tagged_in bytes)
+      → r ≡ is_spelled_by bytes (tagged_ticket_in bytes)
   front_tells front t r h e f is bounded =
-      let tagged : TaggedTicket = tagged_in bytes in
+      let tagged : TaggedTicket = tagged_ticket_in bytes in
       let inside : is_bounded tagged.ticket.content ≡ true = ap (λ (x : TicketContent). is_bounded x.content) (sym e) ∙ bounded in
       let here : r ≡ bytes_eq (ticket_spelling tagged) bytes = is ∙ ap (λ (x : List ℕ). bytes_eq x (ticket_front t)) f
       ∙ ap (λ (x : TicketContent). bytes_eq (take 82 bytes) (ticket_front x)) e ∙ spelled_by_front h in
       here ∙ sym (ap (λ (b : Bool). b && bytes_eq (ticket_spelling tagged) bytes)
       (both_true (nat_le 114 (length bytes)) (is_bounded tagged.ticket.content) (le_is 114 (length bytes) h) inside))
 
-  pub unbounded : (t : TicketContent) → 114 ≤ length bytes → t ≡ (tagged_in bytes).ticket → is_bounded t.content ≡ false
-      → false ≡ is_spelled_by bytes (tagged_in bytes)
+  pub unbounded : (t : TicketContent) → 114 ≤ length bytes → t ≡ (tagged_ticket_in bytes).ticket → is_bounded t.content ≡ false
+      → false ≡ is_spelled_by bytes (tagged_ticket_in bytes)
   unbounded t h e bounded =
-      let tagged : TaggedTicket = tagged_in bytes in
+      let tagged : TaggedTicket = tagged_ticket_in bytes in
       let outside : is_bounded tagged.ticket.content ≡ false = ap (λ (x : TicketContent). is_bounded x.content) (sym e) ∙ bounded in
       sym (ap (λ (b : Bool). nat_le 114 (length bytes) && b && bytes_eq (ticket_spelling tagged) bytes) outside
       ∙ ap (λ (b : Bool). b && false && bytes_eq (ticket_spelling tagged) bytes) (le_is 114 (length bytes) h))
@@ -124,15 +124,15 @@ module _ (bytes : List ℕ) where
       }
 
   -- what is signed stands before the tag
-  pub signed_in : is_spelled_by bytes (tagged_in bytes) ≡ true → take (length bytes - 32) bytes ≡ ticket_signed (tagged_in bytes).ticket
+  pub signed_in : is_spelled_by bytes (tagged_ticket_in bytes) ≡ true → take (length bytes - 32) bytes ≡ signed_bytes (tagged_ticket_in bytes).ticket
   signed_in e =
-      let tagged : TaggedTicket = tagged_in bytes in let f = is_found tagged e in let w = whole f.long in
-      let signed : List ℕ = ticket_signed tagged.ticket in
+      let tagged : TaggedTicket = tagged_ticket_in bytes in let f = is_found tagged e in let w = whole f.long in
+      let signed : List ℕ = signed_bytes tagged.ticket in
       let size : length signed ≡ length bytes - 32 = omega (arith, ap length f.spelled, length-append signed tagged.tag, w.tag) in
       ap (take (length bytes - 32)) (sym f.spelled) ∙ take_front (length bytes - 32) signed tagged.tag size
 
-  pub tag_in : (tagged_in bytes).tag ≡ drop (length bytes - 32) bytes
-  unfolding tagged_in
+  pub tag_in : (tagged_ticket_in bytes).tag ≡ drop (length bytes - 32) bytes
+  unfolding tagged_ticket_in
   tag_in = refl
 
 -- two tagged tickets of the same parts
@@ -140,7 +140,7 @@ pub same_tagged : (t : TaggedTicket) (ticket : TicketContent) (tag : List ℕ) �
     → record { ticket = ticket; tag = tag } ≡ t
 same_tagged t ticket tag e f = λ i. record { ticket = e i; tag = f i }
 
-variant_tells : (v w : Variant) → same_variant v w ≡ true → v ≡ w
+variant_tells : (v w : Variant) → is_same_variant v w ≡ true → v ≡ w
 variant_tells variants.Basic variants.Opt e = cc
 variant_tells variants.Opt variants.Basic e = cc
 variant_tells _ _ e = refl
@@ -151,18 +151,18 @@ read_by true true one tagged e = (refl, refl, cc)
 read_by _ _ one tagged e = cc
 
 ticket_tells : (variant : Variant) (id : ℕ) (bytes : List ℕ) (tagged : TaggedTicket) → ticket_of variant id bytes ≡ Ok tagged
-    → (is_spelled_by bytes (tagged_in bytes) ≡ true) × (is_for variant id (tagged_in bytes) ≡ true) × (tagged_in bytes ≡ tagged)
+    → (is_spelled_by bytes (tagged_ticket_in bytes) ≡ true) × (is_for variant id (tagged_ticket_in bytes) ≡ true) × (tagged_ticket_in bytes ≡ tagged)
 unfolding ticket_of
 ticket_tells variant id bytes tagged e =
-    read_by (is_spelled_by bytes (tagged_in bytes)) (is_for variant id (tagged_in bytes)) (tagged_in bytes) tagged e
+    read_by (is_spelled_by bytes (tagged_ticket_in bytes)) (is_for variant id (tagged_ticket_in bytes)) (tagged_ticket_in bytes) tagged e
 
 -- what is read is spelled
 pub ticket_spells : (variant : Variant) (id : ℕ) (bytes : List ℕ) (tagged : TaggedTicket) → ticket_of variant id bytes ≡ Ok tagged
     → SpellsTicket variant id bytes tagged
 ticket_spells variant id bytes tagged e =
-    let t = ticket_tells variant id bytes tagged e in let found : TaggedTicket = tagged_in bytes in
+    let t = ticket_tells variant id bytes tagged e in let found : TaggedTicket = tagged_ticket_in bytes in
     let f = is_found bytes found t.0 in let w = whole bytes f.long in
-    let kinds = and_parts (same_variant (variant_of found.ticket.content.place) variant) (found.ticket.content.id == id) t.1 in
+    let kinds = and_parts (is_same_variant (variant_of found.ticket.content.place) variant) (found.ticket.content.id == id) t.1 in
     subst (λ (x : TaggedTicket). SpellsTicket variant id bytes x) t.2 (record {
       is = record {
         ticket = record { nonce = w.nonce; content = record { place = w.place; position = f.position; state = f.state }; place = w.anchor };
@@ -238,8 +238,8 @@ module _ (x : TaggedTicket) where
         tag = ap (λ (k : ℕ). drop k bytes) m ∙ past (length state) ∙ drop_front (length state) state x.tag refl;
       }
 
-  fields_back : (bytes : List ℕ) → IsTagged x → HasFields x bytes → tagged_in bytes ≡ x
-  unfolding tagged_in
+  fields_back : (bytes : List ℕ) → IsTagged x → HasFields x bytes → tagged_ticket_in bytes ≡ x
+  unfolding tagged_ticket_in
   fields_back bytes is h =
       let place : Place = x.ticket.content.place in
       let at : place_at (variant_in bytes) (digest_at 38 bytes) ≡ place = ap (λ (v : Variant). place_at v (digest_at 38 bytes)) h.variant
@@ -262,7 +262,7 @@ ticket_back variant id bytes tagged s =
     (both_true (nat_le content.position last_position) (nat_le (length content.state) (limit_of content.id)) (le_is content.position
     last_position s.is.ticket.content.position) (le_is (length content.state) (limit_of content.id) s.is.ticket.content.state)))
     (bytes_are (ticket_spelling tagged) bytes (sym s.bytes_are)) in
-    let kind : is_for variant id tagged ≡ true = both_true (same_variant (variant_of content.place) variant) (content.id == id)
+    let kind : is_for variant id tagged ≡ true = both_true (is_same_variant (variant_of content.place) variant) (content.id == id)
     (eq_is (variant_byte (variant_of content.place)) (variant_byte variant) (ap variant_byte s.variant_is)) (eq_is content.id id s.id_is) in
     ap (ticket_by variant id bytes) (fields_back tagged bytes s.is h) ∙ ap (λ (b : Bool). if b then (if is_for variant id tagged then Ok
     tagged else Err Kind) else Err Form) spelled ∙ ap (λ (b : Bool). if b then Ok tagged else Err Kind) kind

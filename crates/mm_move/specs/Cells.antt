@@ -9,8 +9,8 @@ use Rattle.mm_seal.specs.declared.cell.Cell.{Cell}
 use Rattle.mm_seal.specs.declared.cell.CellFault.{CellFault}
 use Rattle.mm_seal.specs.declared.cell.CellFault.TheVariants.{Blank, Cell as Unspelled}
 use Rattle.mm_seal.specs.Cell.{FitsVariant, IsCell, cell_spelling, blank_cell}
-use Rattle.mm_move.specs.declared.cell.Waiting.{Waiting}
-use Rattle.mm_move.specs.declared.cell.Retired.{Retired}
+use Rattle.mm_move.specs.declared.cell.WaitingCell.{WaitingCell}
+use Rattle.mm_move.specs.declared.cell.RetiredCell.{RetiredCell}
 use Rattle.mm_move.specs.declared.cell.MovedCell.{MovedCell}
 use Rattle.mm_move.specs.declared.cell.MovedCell.TheVariants as moved
 use Rattle.mm_move.specs.Fields.{part, digest_at, variant_in}
@@ -21,12 +21,12 @@ head_of letter variant id rest =
     0x4d ∷ 0x4d ∷ letter ∷ 0x31 ∷ variant_byte variant ∷ id ∷ 0 ∷ 0 ∷ rest
 
 -- behind `MMW1`: the nonce, the key and the barrier; 104 bytes in all
-unfoldable pub waiting_spelling : Waiting → List ℕ
+unfoldable pub waiting_spelling : WaitingCell → List ℕ
 waiting_spelling cell =
     head_of 0x57 cell.variant cell.module (cell.nonce ++ (cell.key ++ cell.barrier))
 
 -- behind `MMX1`: the summary or anchor, the key and the nonce; 104 bytes in all
-unfoldable pub retired_spelling : Retired → List ℕ
+unfoldable pub retired_spelling : RetiredCell → List ℕ
 retired_spelling cell =
     head_of 0x58 cell.variant cell.module (cell.summary.bytes ++ (cell.key ++ cell.nonce))
 
@@ -41,13 +41,13 @@ FitsMoved (moved.Live cell) = FitsVariant cell.variant cell.flag cell.barrier
 FitsMoved (moved.Waiting cell) = FitsVariant cell.variant false cell.barrier
 FitsMoved (moved.Retired cell) = Unit {0}
 
-pub record IsWaiting (cell : Waiting) : Type 0 where
+pub record IsWaiting (cell : WaitingCell) : Type 0 where
   pub nonce : length cell.nonce ≡ 32
   pub key : length cell.key ≡ 32
   pub barrier : length cell.barrier ≡ 32
   pub variant : FitsVariant cell.variant false cell.barrier
 
-pub record IsRetired (cell : Retired) : Type 0 where
+pub record IsRetired (cell : RetiredCell) : Type 0 where
   pub summary : length cell.summary.bytes ≡ 32
   pub key : length cell.key ≡ 32
   pub nonce : length cell.nonce ≡ 32
@@ -63,8 +63,8 @@ SpellsMoved bytes cell = IsMoved cell × (bytes ≡ moved_spelling cell)
 
 -- The only cell that the bytes may spell: the third byte tells the form, and the fields stand at
 -- fixed places.
-abbrev pub waiting_in : List ℕ → Waiting
-waiting_in bytes = record {
+abbrev pub waiting_cell_in : List ℕ → WaitingCell
+waiting_cell_in bytes = record {
   variant = variant_in bytes;
   «module» = slice_index bytes 5;
   nonce = part 8 bytes;
@@ -72,8 +72,8 @@ waiting_in bytes = record {
   barrier = part 72 bytes;
 }
 
-abbrev pub retired_in : List ℕ → Retired
-retired_in bytes = record {
+abbrev pub retired_cell_in : List ℕ → RetiredCell
+retired_cell_in bytes = record {
   variant = variant_in bytes;
   «module» = slice_index bytes 5;
   summary = digest_at 8 bytes;
@@ -81,8 +81,8 @@ retired_in bytes = record {
   nonce = part 72 bytes;
 }
 
-abbrev pub live_in : List ℕ → Cell
-live_in bytes = record {
+abbrev pub live_cell_in : List ℕ → Cell
+live_cell_in bytes = record {
   variant = variant_in bytes;
   «module» = slice_index bytes 5;
   flag = slice_index bytes 6 == 1;
@@ -91,33 +91,33 @@ live_in bytes = record {
   barrier = part 72 bytes;
 }
 
-abbrev pub moved_in : List ℕ → MovedCell
-moved_in bytes =
-    if slice_index bytes 2 == 0x57 then moved.Waiting (waiting_in bytes)
-    else (if slice_index bytes 2 == 0x58 then moved.Retired (retired_in bytes)
-    else moved.Live (live_in bytes))
+abbrev pub moved_cell_in : List ℕ → MovedCell
+moved_cell_in bytes =
+    if slice_index bytes 2 == 0x57 then moved.Waiting (waiting_cell_in bytes)
+    else (if slice_index bytes 2 == 0x58 then moved.Retired (retired_cell_in bytes)
+    else moved.Live (live_cell_in bytes))
 
 abbrev pub fits_variant : Variant → Bool → List ℕ → Bool
 fits_variant Basic flag barrier = not flag && bytes_eq barrier zero_bytes
 fits_variant Opt flag barrier = true
 
-abbrev pub fits : MovedCell → Bool
-fits (moved.Live cell) = fits_variant cell.variant cell.flag cell.barrier
-fits (moved.Waiting cell) = fits_variant cell.variant false cell.barrier
-fits (moved.Retired cell) = true
+abbrev pub is_fit_for_variant : MovedCell → Bool
+is_fit_for_variant (moved.Live cell) = fits_variant cell.variant cell.flag cell.barrier
+is_fit_for_variant (moved.Waiting cell) = fits_variant cell.variant false cell.barrier
+is_fit_for_variant (moved.Retired cell) = true
 
 -- whether the cell fits its variant, and the bytes are its own
 abbrev pub is_spelled_by : List ℕ → MovedCell → Bool
-is_spelled_by bytes cell = fits cell && bytes_eq (moved_spelling cell) bytes
+is_spelled_by bytes cell = is_fit_for_variant cell && bytes_eq (moved_spelling cell) bytes
 
-abbrev pub moved_by : List ℕ → MovedCell → Result MovedCell CellFault
-moved_by bytes cell = if is_spelled_by bytes cell then Ok cell else Err Unspelled
+abbrev pub moved_cell_by : List ℕ → MovedCell → Result MovedCell CellFault
+moved_cell_by bytes cell = if is_spelled_by bytes cell then Ok cell else Err Unspelled
 
 -- what these 104 bytes are, as a cell
-unfoldable pub moved_of : List ℕ → Result MovedCell CellFault
-moved_of bytes = if bytes_eq bytes blank_cell then Err Blank else moved_by bytes (moved_in bytes)
+unfoldable pub moved_cell_of : List ℕ → Result MovedCell CellFault
+moved_cell_of bytes = if bytes_eq bytes blank_cell then Err Blank else moved_cell_by bytes (moved_cell_in bytes)
 
 -- A cell is read exactly where 104 bytes spell it.
 abbrev pub CellsAreRead : Type 0
 CellsAreRead = (bytes : List ℕ) (cell : MovedCell) → length bytes ≡ cell_length →
-    (moved_of bytes ≡ Ok cell) ↔ SpellsMoved bytes cell
+    (moved_cell_of bytes ≡ Ok cell) ↔ SpellsMoved bytes cell

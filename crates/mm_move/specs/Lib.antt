@@ -4,4 +4,4 @@ pub mod Tickets
 pub mod Refusals
 pub mod Moves
 pub mod Orders
-pub mod Read
+pub mod Readings

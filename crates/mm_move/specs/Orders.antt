@@ -16,23 +16,23 @@ use Rattle.mm_seal.specs.declared.snapshot.PartsFault.{PartsFault}
 use Rattle.mm_seal.specs.declared.snapshot.PartsFault.TheVariants.{Form, Kind}
 use Rattle.mm_seal.specs.Cell.{cell_spelling}
 use Rattle.mm_seal.specs.Parts.{parts_of}
-use Rattle.mm_seal.specs.PartsWords.{same_variant}
-use Rattle.mm_seal.specs.Snapshot.{Content, Snapshot, tag_of, sealed_of}
+use Rattle.mm_seal.specs.PartsWords.{is_same_variant}
+use Rattle.mm_seal.specs.Snapshot.{Content, Snapshot, tag_of, sealed_snapshot_of}
 use Rattle.mm_model.specs.declared.refusal.Refusal.TheVariants as core
-use Rattle.mm_model.specs.Judge.{forms_of, fits_fresh}
+use Rattle.mm_model.specs.Verdicts.{forms_of, fits_fresh}
 use Rattle.mm_move.specs.declared.accepting.Accepted.{Accepted}
 use Rattle.mm_move.specs.declared.cell.MovedCell.{MovedCell}
 use Rattle.mm_move.specs.declared.cell.MovedCell.TheVariants.{Live, Waiting as Waits, Retired as Left}
-use Rattle.mm_move.specs.declared.cell.Retired.{Retired}
-use Rattle.mm_move.specs.declared.cell.Waiting.{Waiting}
+use Rattle.mm_move.specs.declared.cell.RetiredCell.{RetiredCell}
+use Rattle.mm_move.specs.declared.cell.WaitingCell.{WaitingCell}
 use Rattle.mm_move.specs.declared.inviting.Invited.{Invited}
 use Rattle.mm_move.specs.declared.inviting.Invited.TheVariants.{Done, Again}
 use Rattle.mm_move.specs.declared.link.Link.{Link}
-use Rattle.mm_move.specs.declared.ready.Ready.{Ready}
+use Rattle.mm_move.specs.declared.ready.ReadyMove.{ReadyMove}
 use Rattle.mm_move.specs.declared.refusal.MoveRefusal.{MoveRefusal}
 use Rattle.mm_move.specs.declared.refusal.MoveRefusal.TheVariants.{Core, Already, Open, Gone, Nonce, Barrier}
 use Rattle.mm_move.specs.Cells.{waiting_spelling, retired_spelling}
-use Rattle.mm_move.specs.Refusals.{refuse_if}
+use Rattle.mm_move.specs.Refusals.{refusal_if}
 use Rattle.mm_move.specs.Tickets.{summary_in, place_at, TicketContent, TaggedTicket, ticket_tag, sealed_ticket, ticket_of}
 
 -- the barrier of a module that moves over the link: Basic has none
@@ -47,10 +47,10 @@ is_barred variants.Opt barrier link = not (bytes_eq barrier link.barrier)
 
 -- whether a cell with this variant and module is another's
 abbrev pub is_other : Variant → ℕ → Variant → ℕ → Bool
-is_other variant id its_variant its_id = not (same_variant its_variant variant && (its_id == id))
+is_other variant id its_variant its_id = not (is_same_variant its_variant variant && (its_id == id))
 
 -- Invitation. The cell that it writes:
-abbrev pub waiting_for : Link → Variant → ℕ → List ℕ → List ℕ → Waiting
+abbrev pub waiting_for : Link → Variant → ℕ → List ℕ → List ℕ → WaitingCell
 waiting_for link variant id nonce key = record {
   variant = variant;
   «module» = id;
@@ -59,20 +59,20 @@ waiting_for link variant id nonce key = record {
   barrier = barrier_of variant link;
 }
 
-abbrev pub same_waiting : Waiting → Waiting → Bool
-same_waiting one other = bytes_eq (waiting_spelling one) (waiting_spelling other)
+abbrev pub is_same_waiting : WaitingCell → WaitingCell → Bool
+is_same_waiting one other = bytes_eq (waiting_spelling one) (waiting_spelling other)
 
-abbrev pub invited_by : Waiting → Result (Ready Invited) MoveRefusal
-invited_by next = Ok (record { next = Some (waiting_spelling next); answer = Done })
+abbrev pub invitation_by : WaitingCell → Result (ReadyMove Invited) MoveRefusal
+invitation_by next = Ok (record { next = Some (waiting_spelling next); answer = Done })
 
 -- a blank or a retired cell is free, and the cell that would be written has been
-abbrev pub invites_in : Waiting → Result MovedCell CellFault → Result (Ready Invited) MoveRefusal
-invites_in next (Err Blank) = invited_by next
-invites_in next (Ok (Left cell)) = invited_by next
-invites_in next (Ok (Waits cell)) =
-    refuse_if (not (same_waiting cell next)) Already (Ok (record { next = None; answer = Again }))
-invites_in next (Ok (Live cell)) = Err Already
-invites_in next (Err Unspelled) = Err Already
+abbrev pub invitation_in : WaitingCell → Result MovedCell CellFault → Result (ReadyMove Invited) MoveRefusal
+invitation_in next (Err Blank) = invitation_by next
+invitation_in next (Ok (Left cell)) = invitation_by next
+invitation_in next (Ok (Waits cell)) =
+    refuse_if (not (is_same_waiting cell next)) Already (Ok (record { next = None; answer = Again }))
+invitation_in next (Ok (Live cell)) = Err Already
+invitation_in next (Err Unspelled) = Err Already
 
 -- Retirement. The offer is read, its state is one of the module's, and its tag is right under the
 -- cell's key:
@@ -88,9 +88,9 @@ abbrev pub right_offer : Meaning → Variant → List ℕ → List ℕ → Resul
 right_offer meaning variant key offer = offer_by meaning key (parts_of variant meaning.id offer)
 
 -- whether a form of the offered place is this summary, or this anchor with a zero extension
-abbrev pub stands_at : Digest → Place → Bool
-stands_at summary (Basic offered) = bytes_eq offered.bytes summary.bytes
-stands_at summary (Opt anchor extension) =
+abbrev pub is_place_at : Digest → Place → Bool
+is_place_at summary (Basic offered) = bytes_eq offered.bytes summary.bytes
+is_place_at summary (Opt anchor extension) =
     list_any (fits_fresh false summary.bytes zero_bytes) (forms_of anchor.bytes extension.bytes)
 
 -- what the ticket says: the offer's position and state, at the cell's summary or anchor
@@ -100,20 +100,20 @@ ticket_for variant nonce summary offered = record {
   content = record offered { place = place_at variant summary };
 }
 
-abbrev pub leaves_by : Variant → Link → List ℕ → Digest → Option (List ℕ)
+abbrev pub retirement_by : Variant → Link → List ℕ → Digest → Option (List ℕ)
     → Result Content MoveRefusal
-    → Result (Ready (List ℕ)) MoveRefusal
-leaves_by variant link nonce summary next (Err why) = Err why
-leaves_by variant link nonce summary next (Ok offered) =
-    refuse_if (not (stands_at summary offered.place)) (Core core.Stale)
+    → Result (ReadyMove (List ℕ)) MoveRefusal
+retirement_by variant link nonce summary next (Err why) = Err why
+retirement_by variant link nonce summary next (Ok offered) =
+    refuse_if (not (is_place_at summary offered.place)) (Core core.Stale)
     (Ok (record {
       next = next;
       answer = sealed_ticket link.key (ticket_for variant nonce summary offered);
     }))
 
 -- the cell that a retirement writes
-abbrev pub retired_from : Cell → List ℕ → Retired
-retired_from cell nonce = record {
+abbrev pub retired_cell_from : Cell → List ℕ → RetiredCell
+retired_cell_from cell nonce = record {
   variant = cell.variant;
   «module» = cell.module;
   summary = cell.summary;
@@ -122,21 +122,21 @@ retired_from cell nonce = record {
 }
 
 -- from a live cell, or once more from the cell that it wrote
-abbrev pub retires_in : Meaning → Variant → Link → List ℕ → List ℕ → Result MovedCell CellFault
-    → Result (Ready (List ℕ)) MoveRefusal
-retires_in meaning variant link nonce offer (Err Blank) = Err (Core core.Blank)
-retires_in meaning variant link nonce offer (Err Unspelled) = Err (Core core.Cell)
-retires_in meaning variant link nonce offer (Ok (Waits cell)) = Err (Core core.Cell)
-retires_in meaning variant link nonce offer (Ok (Live cell)) =
+abbrev pub retirement_in : Meaning → Variant → Link → List ℕ → List ℕ → Result MovedCell CellFault
+    → Result (ReadyMove (List ℕ)) MoveRefusal
+retirement_in meaning variant link nonce offer (Err Blank) = Err (Core core.Blank)
+retirement_in meaning variant link nonce offer (Err Unspelled) = Err (Core core.Cell)
+retirement_in meaning variant link nonce offer (Ok (Waits cell)) = Err (Core core.Cell)
+retirement_in meaning variant link nonce offer (Ok (Live cell)) =
     refuse_if (is_other variant meaning.id cell.variant cell.module) (Core core.Cell)
     (refuse_if (is_barred variant cell.barrier link) Barrier
     (refuse_if cell.flag Open
-    (leaves_by variant link nonce cell.summary (Some (retired_spelling (retired_from cell nonce)))
+    (retirement_by variant link nonce cell.summary (Some (retired_spelling (retired_cell_from cell nonce)))
     (right_offer meaning variant cell.key offer))))
-retires_in meaning variant link nonce offer (Ok (Left cell)) =
+retirement_in meaning variant link nonce offer (Ok (Left cell)) =
     refuse_if (is_other variant meaning.id cell.variant cell.module) (Core core.Cell)
     (refuse_if (not (bytes_eq cell.nonce nonce)) Gone
-    (leaves_by variant link nonce cell.summary None (right_offer meaning variant cell.key offer)))
+    (retirement_by variant link nonce cell.summary None (right_offer meaning variant cell.key offer)))
 
 -- Acceptance. The ticket is read, its state is one of the module's, and its tag is right under the
 -- link's key:
@@ -153,12 +153,12 @@ abbrev pub right_ticket : Meaning → Variant → List ℕ → List ℕ → Resu
 right_ticket meaning variant key bytes = ticket_by meaning key (ticket_of variant meaning.id bytes)
 
 -- the answer: the ticket's position, and its content sealed under the cell's key
-abbrev pub accepted_as : List ℕ → Content → Accepted
-accepted_as key content = record { position = content.position; snapshot = sealed_of key content }
+abbrev pub acceptance_of : List ℕ → Content → Accepted
+acceptance_of key content = record { position = content.position; snapshot = sealed_snapshot_of key content }
 
 -- the cell that an acceptance writes
-abbrev pub lives_from : Waiting → Content → Cell
-lives_from cell content = record {
+abbrev pub live_cell_from : WaitingCell → Content → Cell
+live_cell_from cell content = record {
   variant = cell.variant;
   «module» = cell.module;
   flag = false;
@@ -167,36 +167,36 @@ lives_from cell content = record {
   barrier = cell.barrier;
 }
 
-abbrev pub arrives_by : Waiting → Result TicketContent MoveRefusal
-    → Result (Ready Accepted) MoveRefusal
-arrives_by cell (Err why) = Err why
-arrives_by cell (Ok ticket) =
+abbrev pub acceptance_by : WaitingCell → Result TicketContent MoveRefusal
+    → Result (ReadyMove Accepted) MoveRefusal
+acceptance_by cell (Err why) = Err why
+acceptance_by cell (Ok ticket) =
     refuse_if (not (bytes_eq ticket.nonce cell.nonce)) Nonce
     (Ok (record {
-      next = Some (cell_spelling (lives_from cell ticket.content));
-      answer = accepted_as cell.key ticket.content;
+      next = Some (cell_spelling (live_cell_from cell ticket.content));
+      answer = acceptance_of cell.key ticket.content;
     }))
 
-abbrev pub has_arrived_by : Cell → Result TicketContent MoveRefusal
-    → Result (Ready Accepted) MoveRefusal
-has_arrived_by cell (Err why) = Err why
-has_arrived_by cell (Ok ticket) =
+abbrev pub acceptance_again_by : Cell → Result TicketContent MoveRefusal
+    → Result (ReadyMove Accepted) MoveRefusal
+acceptance_again_by cell (Err why) = Err why
+acceptance_again_by cell (Ok ticket) =
     refuse_if (cell.flag
     || not (bytes_eq (summary_in ticket.content.place).bytes cell.summary.bytes))
     (Core core.Stale)
-    (Ok (record { next = None; answer = accepted_as cell.key ticket.content }))
+    (Ok (record { next = None; answer = acceptance_of cell.key ticket.content }))
 
 -- at a waiting cell, or once more at the cell that it wrote
-abbrev pub accepts_in : Meaning → Variant → Link → List ℕ → Result MovedCell CellFault
-    → Result (Ready Accepted) MoveRefusal
-accepts_in meaning variant link ticket (Err Blank) = Err (Core core.Blank)
-accepts_in meaning variant link ticket (Ok (Left cell)) = Err Gone
-accepts_in meaning variant link ticket (Err Unspelled) = Err (Core core.Cell)
-accepts_in meaning variant link ticket (Ok (Waits cell)) =
+abbrev pub acceptance_in : Meaning → Variant → Link → List ℕ → Result MovedCell CellFault
+    → Result (ReadyMove Accepted) MoveRefusal
+acceptance_in meaning variant link ticket (Err Blank) = Err (Core core.Blank)
+acceptance_in meaning variant link ticket (Ok (Left cell)) = Err Gone
+acceptance_in meaning variant link ticket (Err Unspelled) = Err (Core core.Cell)
+acceptance_in meaning variant link ticket (Ok (Waits cell)) =
     refuse_if (is_other variant meaning.id cell.variant cell.module) (Core core.Cell)
     (refuse_if (is_barred variant cell.barrier link) Barrier
-    (arrives_by cell (right_ticket meaning variant link.key ticket)))
-accepts_in meaning variant link ticket (Ok (Live cell)) =
+    (acceptance_by cell (right_ticket meaning variant link.key ticket)))
+acceptance_in meaning variant link ticket (Ok (Live cell)) =
     refuse_if (is_other variant meaning.id cell.variant cell.module) (Core core.Cell)
     (refuse_if (is_barred variant cell.barrier link) Barrier
-    (has_arrived_by cell (right_ticket meaning variant link.key ticket)))
+    (acceptance_again_by cell (right_ticket meaning variant link.key ticket)))

@@ -30,11 +30,11 @@ move_fault_in (Ok answer) = None
 move_fault_in (Err why) = move_fault_of why
 
 -- refused where the test holds, and otherwise the rest
-abbrev pub refuse_if : {A : Type 0} → Bool → MoveRefusal → Result A MoveRefusal
+abbrev pub refusal_if : {A : Type 0} → Bool → MoveRefusal → Result A MoveRefusal
     → Result A MoveRefusal
-refuse_if test why rest = if test then Err why else rest
+refusal_if test why rest = if test then Err why else rest
 
 -- Want of memory may come in place of what is not refused.
-abbrev pub OrNoMemory : {A : Type 0} → Result A MoveRefusal → Result A MoveRefusal → Type 0
-OrNoMemory (Err why) found = found ≡ Err why
-OrNoMemory (Ok it) found = (found ≡ Ok it) ⊎ (found ≡ Err (Core Memory))
+abbrev pub IsOrNoMemory : {A : Type 0} → Result A MoveRefusal → Result A MoveRefusal → Type 0
+IsOrNoMemory (Err why) found = found ≡ Err why
+IsOrNoMemory (Ok it) found = (found ≡ Ok it) ⊎ (found ≡ Err (Core Memory))

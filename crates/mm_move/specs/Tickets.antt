@@ -13,7 +13,7 @@ use Rattle.mm_seal.specs.declared.snapshot.PartsFault.{PartsFault}
 use Rattle.mm_seal.specs.declared.snapshot.PartsFault.TheVariants.{Form, Kind}
 use Rattle.mm_seal.specs.Body.{content_of}
 use Rattle.mm_seal.specs.Parts.{is_of_kind}
-use Rattle.mm_seal.specs.PartsWords.{is_bounded, same_variant}
+use Rattle.mm_seal.specs.PartsWords.{is_bounded, is_same_variant}
 use Rattle.mm_seal.specs.Snapshot.{Content, Snapshot, IsContent, variant_of}
 use Rattle.mm_move.specs.declared.ticket.Ticket.{Ticket}
 use Rattle.mm_move.specs.Fields.{part, digest_at, number_at, variant_in}
@@ -54,16 +54,16 @@ ticket_front ticket =
     ++ (eight_bytes ticket.content.position ++ four_bytes (length ticket.content.state))))
 
 -- what is signed: the front and the state
-abbrev pub ticket_signed : TicketContent → List ℕ
-ticket_signed ticket = ticket_front ticket ++ ticket.content.state
+abbrev pub signed_bytes : TicketContent → List ℕ
+signed_bytes ticket = ticket_front ticket ++ ticket.content.state
 
 -- the tag of the ticket under the key
 abbrev pub ticket_tag : List ℕ → TicketContent → List ℕ
-ticket_tag key ticket = hmac_of key (ticket_signed ticket)
+ticket_tag key ticket = hmac_of key (signed_bytes ticket)
 
 -- the ticket's bytes under the key
 unfoldable pub sealed_ticket : List ℕ → TicketContent → List ℕ
-sealed_ticket key ticket = ticket_signed ticket ++ ticket_tag key ticket
+sealed_ticket key ticket = signed_bytes ticket ++ ticket_tag key ticket
 
 -- a ticket and a tag
 pub record TaggedTicket : Type 0 where
@@ -75,12 +75,12 @@ pub record IsTagged (tagged : TaggedTicket) : Type 0 where
   pub tag : length tagged.tag ≡ 32
 
 abbrev pub ticket_spelling : TaggedTicket → List ℕ
-ticket_spelling tagged = ticket_signed tagged.ticket ++ tagged.tag
+ticket_spelling tagged = signed_bytes tagged.ticket ++ tagged.tag
 
 -- The only ticket that the bytes may spell: its fields stand at fixed places, and the state in
 -- front of the tag.
-unfoldable pub tagged_in : List ℕ → TaggedTicket
-tagged_in bytes = record {
+unfoldable pub tagged_ticket_in : List ℕ → TaggedTicket
+tagged_ticket_in bytes = record {
   ticket = record {
     nonce = part 6 bytes;
     content = record {
@@ -111,7 +111,7 @@ ticket_by variant id bytes tagged =
 
 -- What the bytes say, as a ticket for this variant and module.
 unfoldable pub ticket_of : Variant → ℕ → List ℕ → Result TaggedTicket PartsFault
-ticket_of variant id bytes = ticket_by variant id bytes (tagged_in bytes)
+ticket_of variant id bytes = ticket_by variant id bytes (tagged_ticket_in bytes)
 
 -- the bytes are this ticket's, which is for this variant and module
 pub record SpellsTicket (variant : Variant) (id : ℕ) (bytes : List ℕ)

@@ -4,18 +4,18 @@ ghost use Rattle.std.specs.Prelude.{◌≡◌, ◌≤◌, IfOk, Ok, false, lengt
 ghost use Rattle.mm_base.specs.Limits.{last_position, limit_of};
 ghost use Rattle.mm_seal.specs.Body.{content_of};
 ghost use Rattle.mm_seal.specs.Cell.{FitsVariant};
-ghost use Rattle.mm_move.specs.Cells.{FitsMoved, moved_of};
-ghost use Rattle.mm_move.specs.Moves.{MovedAs, Moves};
-ghost use Rattle.mm_move.specs.Orders.{accepted_as, right_ticket, arrives_by, has_arrived_by, accepts_in};
-ghost use Rattle.mm_move.specs.Read.{ticket_read, IsBounded};
-ghost use Rattle.mm_move.specs.Refusals.{OrNoMemory};
+ghost use Rattle.mm_move.specs.Cells.{FitsMoved, moved_cell_of};
+ghost use Rattle.mm_move.specs.Moves.{MovePromise, AreMoveSteps};
+ghost use Rattle.mm_move.specs.Orders.{acceptance_of, right_ticket, acceptance_by, acceptance_again_by, acceptance_in};
+ghost use Rattle.mm_move.specs.Readings.{ticket_reading, IsBounded};
+ghost use Rattle.mm_move.specs.Refusals.{IsOrNoMemory};
 ghost use Rattle.mm_move.specs.Tickets.{ticket_content};
 ghost use Rattle.mm_move.specs.declared.cell.MovedCell.TheVariants.{Live, Waiting as Waits};
 
-use crate::cell::{MovedCell, Waiting, read_moved};
+use crate::cell::{MovedCell, WaitingCell, read_moved};
 use crate::link::Link;
 use crate::owner::{is_barred, is_other};
-use crate::ready::{Ready, go_on, read};
+use crate::ready::{ReadyMove, go_on, read};
 use crate::refusal::MoveRefusal;
 use crate::ticket::{Ticket, read_ticket, summary_of};
 use mm_base::{Bytes, Memory};
@@ -50,8 +50,8 @@ pub fn accept<M: Module, P: Platform>(
     link: &Link,
     ticket: &[u8],
 ) -> Result<Accepted, MoveRefusal>
-    ensures { MovedAs (λ bytes.
-        accepts_in (M.meaning «module».now) variant link.now ticket.now (moved_of bytes))
+    ensures { MovePromise (λ bytes.
+        acceptance_in (M.meaning «module».now) variant link.now ticket.now (moved_cell_of bytes))
         (P.standing platform.old) (P.standing platform.new) result }
 {
     accept_by(alloc, module, variant, platform, link, ticket)
@@ -65,8 +65,8 @@ fn accept_by<M: Module, P: Platform>(
     link: &Link,
     ticket: &[u8],
 ) -> Result<Accepted, MoveRefusal>
-    ensures { Moves (λ bytes.
-        accepts_in (M.meaning «module».now) variant link.now ticket.now (moved_of bytes))
+    ensures { AreMoveSteps (λ bytes.
+        acceptance_in (M.meaning «module».now) variant link.now ticket.now (moved_cell_of bytes))
         (P.standing platform.old) (P.standing platform.new) result }
 {
     match read(platform) {
@@ -86,10 +86,10 @@ fn arrive<M: Module>(
     link: &Link,
     ticket: &[u8],
     cell: Result<MovedCell, CellFault>,
-) -> Result<Ready<Accepted>, MoveRefusal>
+) -> Result<ReadyMove<Accepted>, MoveRefusal>
     requires { IfOk cell FitsMoved }
-    ensures { OrNoMemory
-        (accepts_in (M.meaning «module».now) variant link.now ticket.now cell) result }
+    ensures { IsOrNoMemory
+        (acceptance_in (M.meaning «module».now) variant link.now ticket.now cell) result }
 {
     match cell {
         Err(CellFault::Blank) => Err(MoveRefusal::Core(Refusal::Blank)),
@@ -109,10 +109,10 @@ fn arrive_waited<M: Module>(
     variant: Variant,
     link: &Link,
     ticket: &[u8],
-    cell: &Waiting,
-) -> Result<Ready<Accepted>, MoveRefusal>
+    cell: &WaitingCell,
+) -> Result<ReadyMove<Accepted>, MoveRefusal>
     requires { FitsVariant cell.now.variant false cell.now.barrier }
-    ensures { OrNoMemory (accepts_in (M.meaning «module».now) variant link.now ticket.now
+    ensures { IsOrNoMemory (acceptance_in (M.meaning «module».now) variant link.now ticket.now
         (Ok (Waits cell.now))) result }
 {
     if is_other(variant, module.id(), cell.variant, cell.module) {
@@ -135,8 +135,8 @@ fn arrive_again<M: Module>(
     link: &Link,
     ticket: &[u8],
     cell: &Cell,
-) -> Result<Ready<Accepted>, MoveRefusal>
-    ensures { OrNoMemory (accepts_in (M.meaning «module».now) variant link.now ticket.now
+) -> Result<ReadyMove<Accepted>, MoveRefusal>
+    ensures { IsOrNoMemory (acceptance_in (M.meaning «module».now) variant link.now ticket.now
         (Ok (Live cell.now))) result }
 {
     if is_other(variant, module.id(), cell.variant, cell.module) {
@@ -158,7 +158,7 @@ fn right_ticket<'a, M: Module>(
     key: &[u8; 32],
     ticket: &'a [u8],
 ) -> Result<Ticket<'a>, MoveRefusal>
-    ensures ticket { ticket_read result
+    ensures ticket { ticket_reading result
         ≡ right_ticket (M.meaning «module».now) variant key.now ticket.now }
     ensures bounded { IfOk result (λ ticket. IsBounded variant (content_of ticket.body)) }
 {
@@ -181,13 +181,13 @@ fn right_ticket<'a, M: Module>(
 // The module arrives at a waiting cell by its ticket.
 fn arrive_by(
     alloc: Global,
-    cell: &Waiting,
+    cell: &WaitingCell,
     ticket: &Ticket<'_>,
-) -> Result<Ready<Accepted>, MoveRefusal>
+) -> Result<ReadyMove<Accepted>, MoveRefusal>
     requires fits { FitsVariant cell.now.variant false cell.now.barrier }
     requires position { ticket.now.body.position ≤ last_position }
     requires state { length ticket.now.body.state.now ≤ limit_of ticket.now.body.module }
-    ensures { OrNoMemory (arrives_by cell.now (Ok (ticket_content ticket.now))) result }
+    ensures { IsOrNoMemory (acceptance_by cell.now (Ok (ticket_content ticket.now))) result }
 {
     if ticket.nonce != cell.nonce {
         return Err(MoveRefusal::Nonce);
@@ -202,7 +202,7 @@ fn arrive_by(
     });
     match answer(alloc, &cell.key, &ticket.body) {
         Err(_) => Err(MoveRefusal::Core(Refusal::Memory)),
-        Ok(answer) => Ok(Ready {
+        Ok(answer) => Ok(ReadyMove {
             next: Some(next),
             answer,
         }),
@@ -214,17 +214,17 @@ fn has_arrived_by(
     alloc: Global,
     cell: &Cell,
     ticket: &Ticket<'_>,
-) -> Result<Ready<Accepted>, MoveRefusal>
+) -> Result<ReadyMove<Accepted>, MoveRefusal>
     requires position { ticket.now.body.position ≤ last_position }
     requires state { length ticket.now.body.state.now ≤ limit_of ticket.now.body.module }
-    ensures { OrNoMemory (has_arrived_by cell.now (Ok (ticket_content ticket.now))) result }
+    ensures { IsOrNoMemory (acceptance_again_by cell.now (Ok (ticket_content ticket.now))) result }
 {
     if cell.flag || summary_of(&ticket.body.place) != cell.summary {
         return Err(MoveRefusal::Core(Refusal::Stale));
     }
     match answer(alloc, &cell.key, &ticket.body) {
         Err(_) => Err(MoveRefusal::Core(Refusal::Memory)),
-        Ok(answer) => Ok(Ready { next: None, answer }),
+        Ok(answer) => Ok(ReadyMove { next: None, answer }),
     }
 }
 
@@ -232,7 +232,7 @@ fn has_arrived_by(
 fn answer(alloc: Global, key: &[u8; 32], body: &Body<'_>) -> Result<Accepted, Memory>
     requires position { body.now.position ≤ last_position }
     requires state { length body.now.state.now ≤ limit_of body.now.module }
-    ensures { IfOk result (λ accepted. accepted ≡ accepted_as key.now (content_of body.now)) }
+    ensures { IfOk result (λ accepted. accepted ≡ acceptance_of key.now (content_of body.now)) }
 {
     let snapshot = seal(alloc, key, body)?;
     Ok(Accepted {

@@ -3,7 +3,7 @@
 ghost use Rattle.std.specs.Prelude.{◌≡◌, IfOk};
 ghost use Rattle.std.specs.Str.{bytes_eq};
 ghost use Rattle.mm_seal.specs.Cell.{blank_cell};
-ghost use Rattle.mm_move.specs.Cells.{FitsMoved, fits, fits_variant, waiting_spelling, retired_spelling, moved_spelling, waiting_in, retired_in, live_in, moved_in, is_spelled_by, moved_of};
+ghost use Rattle.mm_move.specs.Cells.{FitsMoved, is_fit_for_variant, fits_variant, waiting_spelling, retired_spelling, moved_spelling, waiting_cell_in, retired_cell_in, live_cell_in, moved_cell_in, is_spelled_by, moved_cell_of};
 
 use crate::fields::{part, variant_in};
 use mm_base::CELL_LENGTH;
@@ -12,7 +12,7 @@ use mm_seal::{Cell, CellFault, cell_bytes};
 
 /// A platform that was invited: it waits for the ticket with its nonce.
 #[derive(Clone, Copy, Debug, PartialEq, Eq)]
-pub struct Waiting {
+pub struct WaitingCell {
     pub variant: Variant,
     /// The module's id.
     pub module: u8,
@@ -25,7 +25,7 @@ pub struct Waiting {
 
 /// A platform that was retired: its module has left it, for the one that waits for this nonce.
 #[derive(Clone, Copy, Debug, PartialEq, Eq)]
-pub struct Retired {
+pub struct RetiredCell {
     pub variant: Variant,
     /// The module's id.
     pub module: u8,
@@ -40,8 +40,8 @@ pub struct Retired {
 #[derive(Clone, Copy, Debug, PartialEq, Eq)]
 pub enum MovedCell {
     Live(Cell),
-    Waiting(Waiting),
-    Retired(Retired),
+    Waiting(WaitingCell),
+    Retired(RetiredCell),
 }
 
 /// The cell's 104 bytes. In Basic a live cell has a clear flag, and a live or waiting one a zero barrier.
@@ -58,7 +58,7 @@ pub fn moved_bytes(cell: &MovedCell) -> [u8; CELL_LENGTH]
 
 /// The bytes of a waiting cell.
 #[tactic(auto, unfolding(crate::specs::Cells::waiting_spelling))]
-pub fn waiting_bytes(cell: &Waiting) -> [u8; CELL_LENGTH]
+pub fn waiting_bytes(cell: &WaitingCell) -> [u8; CELL_LENGTH]
     ensures { result ≡ waiting_spelling cell.now }
 {
     let mut bytes = [0; CELL_LENGTH];
@@ -84,7 +84,7 @@ pub fn waiting_bytes(cell: &Waiting) -> [u8; CELL_LENGTH]
 
 /// The bytes of a retired cell.
 #[tactic(auto, unfolding(crate::specs::Cells::retired_spelling))]
-pub fn retired_bytes(cell: &Retired) -> [u8; CELL_LENGTH]
+pub fn retired_bytes(cell: &RetiredCell) -> [u8; CELL_LENGTH]
     ensures { result ≡ retired_spelling cell.now }
 {
     let mut bytes = [0; CELL_LENGTH];
@@ -111,7 +111,7 @@ pub fn retired_bytes(cell: &Retired) -> [u8; CELL_LENGTH]
 /// The cell that these bytes are. Blank exactly on 104 zero bytes, Cell exactly on bytes that are neither blank nor a
 /// live, a waiting or a retired cell's.
 pub fn read_moved(bytes: &[u8; CELL_LENGTH]) -> Result<MovedCell, CellFault>
-    ensures cell { result ≡ moved_of bytes.now }
+    ensures cell { result ≡ moved_cell_of bytes.now }
     ensures fits { IfOk result FitsMoved }
 {
     if is_blank(bytes) {
@@ -135,7 +135,7 @@ fn is_blank(bytes: &[u8; CELL_LENGTH]) -> bool
 
 // The only cell that the bytes may spell.
 fn moved_in(bytes: &[u8; CELL_LENGTH]) -> MovedCell
-    ensures { result ≡ moved_in bytes.now }
+    ensures { result ≡ moved_cell_in bytes.now }
 {
     match bytes[2] {
         b'W' => MovedCell::Waiting(waiting_in(bytes)),
@@ -144,10 +144,10 @@ fn moved_in(bytes: &[u8; CELL_LENGTH]) -> MovedCell
     }
 }
 
-fn waiting_in(bytes: &[u8; CELL_LENGTH]) -> Waiting
-    ensures { result ≡ waiting_in bytes.now }
+fn waiting_in(bytes: &[u8; CELL_LENGTH]) -> WaitingCell
+    ensures { result ≡ waiting_cell_in bytes.now }
 {
-    Waiting {
+    WaitingCell {
         variant: variant_in(bytes),
         module: bytes[5],
         nonce: part(bytes, 8),
@@ -156,10 +156,10 @@ fn waiting_in(bytes: &[u8; CELL_LENGTH]) -> Waiting
     }
 }
 
-fn retired_in(bytes: &[u8; CELL_LENGTH]) -> Retired
-    ensures { result ≡ retired_in bytes.now }
+fn retired_in(bytes: &[u8; CELL_LENGTH]) -> RetiredCell
+    ensures { result ≡ retired_cell_in bytes.now }
 {
-    Retired {
+    RetiredCell {
         variant: variant_in(bytes),
         module: bytes[5],
         summary: Digest {
@@ -171,7 +171,7 @@ fn retired_in(bytes: &[u8; CELL_LENGTH]) -> Retired
 }
 
 fn live_in(bytes: &[u8; CELL_LENGTH]) -> Cell
-    ensures { result ≡ live_in bytes.now }
+    ensures { result ≡ live_cell_in bytes.now }
 {
     Cell {
         variant: variant_in(bytes),
@@ -194,7 +194,7 @@ fn is_spelled_by(bytes: &[u8; CELL_LENGTH], cell: &MovedCell) -> bool
 
 // Whether the cell fits its variant.
 fn fits(cell: &MovedCell) -> bool
-    ensures { result ≡ fits cell.now }
+    ensures { result ≡ is_fit_for_variant cell.now }
 {
     match cell {
         MovedCell::Live(cell) => fits_variant(cell.variant, cell.flag, &cell.barrier),

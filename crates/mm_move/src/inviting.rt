@@ -2,14 +2,14 @@
 
 ghost use Rattle.std.specs.Prelude.{◌≡◌, ◌≢◌, Err, false};
 ghost use Rattle.mm_seal.specs.Cell.{FitsVariant};
-ghost use Rattle.mm_move.specs.Cells.{moved_of};
-ghost use Rattle.mm_move.specs.Moves.{MovedAs, Moves};
-ghost use Rattle.mm_move.specs.Orders.{waiting_for, same_waiting, invites_in};
+ghost use Rattle.mm_move.specs.Cells.{moved_cell_of};
+ghost use Rattle.mm_move.specs.Moves.{MovePromise, AreMoveSteps};
+ghost use Rattle.mm_move.specs.Orders.{waiting_for, is_same_waiting, invitation_in};
 
-use crate::cell::{MovedCell, Waiting, read_moved, waiting_bytes};
+use crate::cell::{MovedCell, WaitingCell, read_moved, waiting_bytes};
 use crate::link::Link;
 use crate::owner::barrier_of;
-use crate::ready::{Ready, go_on, read};
+use crate::ready::{ReadyMove, go_on, read};
 use crate::refusal::MoveRefusal;
 use mm_digest::Variant;
 use mm_model::Refusal;
@@ -37,12 +37,12 @@ pub fn invite<P: Platform>(
     nonce: &[u8; 32],
     key: &[u8; 32],
 ) -> Result<Invited, MoveRefusal>
-    ensures moved { MovedAs (λ bytes.
-        invites_in (waiting_for link.now variant «module» nonce.now key.now) (moved_of bytes))
+    ensures moved { MovePromise (λ bytes.
+        invitation_in (waiting_for link.now variant «module» nonce.now key.now) (moved_cell_of bytes))
         (P.standing platform.old) (P.standing platform.new) result }
     ensures memory { result ≢ Err (MoveRefusal.Core Refusal.Memory) }
 {
-    let next = Waiting {
+    let next = WaitingCell {
         variant,
         module,
         nonce: *nonce,
@@ -53,8 +53,8 @@ pub fn invite<P: Platform>(
 }
 
 // Invites a platform by this cell.
-fn invite_by<P: Platform>(platform: &mut P, next: &Waiting) -> Result<Invited, MoveRefusal>
-    ensures moves { Moves (λ bytes. invites_in next.now (moved_of bytes))
+fn invite_by<P: Platform>(platform: &mut P, next: &WaitingCell) -> Result<Invited, MoveRefusal>
+    ensures moves { AreMoveSteps (λ bytes. invitation_in next.now (moved_cell_of bytes))
         (P.standing platform.old) (P.standing platform.new) result }
     ensures memory { result ≢ Err (MoveRefusal.Core Refusal.Memory) }
 {
@@ -65,15 +65,15 @@ fn invite_by<P: Platform>(platform: &mut P, next: &Waiting) -> Result<Invited, M
 }
 
 // What is found in a cell that was read.
-fn find(cell: Result<MovedCell, CellFault>, next: &Waiting) -> Result<Ready<Invited>, MoveRefusal>
-    ensures { result ≡ invites_in next.now cell }
+fn find(cell: Result<MovedCell, CellFault>, next: &WaitingCell) -> Result<ReadyMove<Invited>, MoveRefusal>
+    ensures { result ≡ invitation_in next.now cell }
 {
     match cell {
-        Err(CellFault::Blank) | Ok(MovedCell::Retired(_)) => Ok(Ready {
+        Err(CellFault::Blank) | Ok(MovedCell::Retired(_)) => Ok(ReadyMove {
             next: Some(waiting_bytes(next)),
             answer: Invited::Done,
         }),
-        Ok(MovedCell::Waiting(cell)) if is_same(&cell, next) => Ok(Ready {
+        Ok(MovedCell::Waiting(cell)) if is_same(&cell, next) => Ok(ReadyMove {
             next: None,
             answer: Invited::Again,
         }),
@@ -82,8 +82,8 @@ fn find(cell: Result<MovedCell, CellFault>, next: &Waiting) -> Result<Ready<Invi
 }
 
 // Whether both cells are the same.
-fn is_same(one: &Waiting, other: &Waiting) -> bool
-    ensures { result ≡ same_waiting one.now other.now }
+fn is_same(one: &WaitingCell, other: &WaitingCell) -> bool
+    ensures { result ≡ is_same_waiting one.now other.now }
 {
     waiting_bytes(one) == waiting_bytes(other)
 }

@@ -18,7 +18,7 @@ mod retiring;
 mod ticket;
 
 pub use accepting::{Accepted, accept};
-pub use cell::{MovedCell, Retired, Waiting, moved_bytes, read_moved};
+pub use cell::{MovedCell, RetiredCell, WaitingCell, moved_bytes, read_moved};
 pub use inviting::{Invited, invite};
 pub use laws::{cells_are_read, tickets_are_read};
 pub use link::Link;

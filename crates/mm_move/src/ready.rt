@@ -1,6 +1,6 @@
 //! The device steps of a move.
 
-ghost use Rattle.mm_move.specs.Moves.{GoesOn, Makes, ReadsBytes};
+ghost use Rattle.mm_move.specs.Moves.{MoveGoesOn, MakesMoveStep, ReadsBytes};
 
 use crate::refusal::MoveRefusal;
 use mm_base::CELL_LENGTH;
@@ -9,7 +9,7 @@ use mm_platform::Platform;
 
 /// A move that isn't refused, before its last step.
 #[derive(Drop)]
-pub struct Ready<A> {
+pub struct ReadyMove<A> {
     /// The cell's bytes that make the move; none where it was made before.
     pub next: Option<[u8; CELL_LENGTH]>,
     /// The answer, which is handed out once the cell is written.
@@ -29,10 +29,10 @@ pub fn read<P: Platform>(platform: &mut P) -> Result<[u8; CELL_LENGTH], MoveRefu
 
 /// The rest of a move, by what it found. It has no allocator, so it takes no memory.
 pub fn go_on<A: Drop, P: Platform>(
-    found: Result<Ready<A>, MoveRefusal>,
+    found: Result<ReadyMove<A>, MoveRefusal>,
     platform: &mut P,
 ) -> Result<A, MoveRefusal>
-    ensures { GoesOn found (P.standing platform.old) (P.standing platform.new) result }
+    ensures { MoveGoesOn found (P.standing platform.old) (P.standing platform.new) result }
 {
     match found {
         Err(refusal) => Err(refusal),
@@ -41,11 +41,11 @@ pub fn go_on<A: Drop, P: Platform>(
 }
 
 // The last step, which writes the cell: there is none where the move was made before.
-fn make<A: Drop, P: Platform>(ready: Ready<A>, platform: &mut P) -> Result<A, MoveRefusal>
-    ensures { Makes ready.next ready.answer (P.standing platform.old) (P.standing platform.new)
+fn make<A: Drop, P: Platform>(ready: ReadyMove<A>, platform: &mut P) -> Result<A, MoveRefusal>
+    ensures { MakesMoveStep ready.next ready.answer (P.standing platform.old) (P.standing platform.new)
         result }
 {
-    let Ready { next, answer } = ready;
+    let ReadyMove { next, answer } = ready;
     match next {
         None => Ok(answer),
         Some(bytes) => match platform.nv_write(&bytes) {

@@ -4,20 +4,20 @@ ghost use Rattle.std.specs.Prelude.{◌≡◌, ◌≤◌, IfOk, Ok, false, lengt
 ghost use Rattle.std.specs.List.{list_any};
 ghost use Rattle.mm_base.specs.Limits.{last_position, limit_of};
 ghost use Rattle.mm_digest.specs.Messages.{zero_bytes};
-ghost use Rattle.mm_model.specs.Judge.{forms_of, fits_fresh};
+ghost use Rattle.mm_model.specs.Verdicts.{forms_of, fits_fresh};
 ghost use Rattle.mm_seal.specs.Body.{content_of};
 ghost use Rattle.mm_seal.specs.Snapshot.{variant_of};
-ghost use Rattle.mm_move.specs.Cells.{moved_of};
-ghost use Rattle.mm_move.specs.Moves.{MovedAs, Moves};
-ghost use Rattle.mm_move.specs.Orders.{right_offer, stands_at, leaves_by, retires_in};
-ghost use Rattle.mm_move.specs.Read.{offer_read, IsBounded};
-ghost use Rattle.mm_move.specs.Refusals.{OrNoMemory};
+ghost use Rattle.mm_move.specs.Cells.{moved_cell_of};
+ghost use Rattle.mm_move.specs.Moves.{MovePromise, AreMoveSteps};
+ghost use Rattle.mm_move.specs.Orders.{right_offer, is_place_at, retirement_by, retirement_in};
+ghost use Rattle.mm_move.specs.Readings.{offer_reading, IsBounded};
+ghost use Rattle.mm_move.specs.Refusals.{IsOrNoMemory};
 ghost use Rattle.mm_move.specs.declared.cell.MovedCell.TheVariants.{Live, Retired as Left};
 
-use crate::cell::{MovedCell, Retired, read_moved, retired_bytes};
+use crate::cell::{MovedCell, RetiredCell, read_moved, retired_bytes};
 use crate::link::Link;
 use crate::owner::{is_barred, is_other};
-use crate::ready::{Ready, go_on, read};
+use crate::ready::{ReadyMove, go_on, read};
 use crate::refusal::MoveRefusal;
 use crate::ticket::{Ticket, place_at, ticket_bytes};
 use mm_base::{Bytes, CELL_LENGTH};
@@ -45,8 +45,8 @@ pub fn retire<M: Module, P: Platform>(
     nonce: &[u8; 32],
     offer: &[u8],
 ) -> Result<Bytes, MoveRefusal>
-    ensures { MovedAs (λ bytes.
-        retires_in (M.meaning «module».now) variant link.now nonce.now offer.now (moved_of bytes))
+    ensures { MovePromise (λ bytes.
+        retirement_in (M.meaning «module».now) variant link.now nonce.now offer.now (moved_cell_of bytes))
         (P.standing platform.old) (P.standing platform.new) result }
 {
     retire_by(alloc, module, variant, platform, link, nonce, offer)
@@ -61,8 +61,8 @@ fn retire_by<M: Module, P: Platform>(
     nonce: &[u8; 32],
     offer: &[u8],
 ) -> Result<Bytes, MoveRefusal>
-    ensures { Moves (λ bytes.
-        retires_in (M.meaning «module».now) variant link.now nonce.now offer.now (moved_of bytes))
+    ensures { AreMoveSteps (λ bytes.
+        retirement_in (M.meaning «module».now) variant link.now nonce.now offer.now (moved_cell_of bytes))
         (P.standing platform.old) (P.standing platform.new) result }
 {
     match read(platform) {
@@ -86,9 +86,9 @@ fn leave<M: Module>(
     nonce: &[u8; 32],
     offer: &[u8],
     cell: Result<MovedCell, CellFault>,
-) -> Result<Ready<Bytes>, MoveRefusal>
-    ensures { OrNoMemory
-        (retires_in (M.meaning «module».now) variant link.now nonce.now offer.now cell) result }
+) -> Result<ReadyMove<Bytes>, MoveRefusal>
+    ensures { IsOrNoMemory
+        (retirement_in (M.meaning «module».now) variant link.now nonce.now offer.now cell) result }
 {
     match cell {
         Err(CellFault::Blank) => Err(MoveRefusal::Core(Refusal::Blank)),
@@ -112,8 +112,8 @@ fn leave_live<M: Module>(
     nonce: &[u8; 32],
     offer: &[u8],
     cell: &Cell,
-) -> Result<Ready<Bytes>, MoveRefusal>
-    ensures { OrNoMemory (retires_in (M.meaning «module».now) variant link.now nonce.now offer.now
+) -> Result<ReadyMove<Bytes>, MoveRefusal>
+    ensures { IsOrNoMemory (retirement_in (M.meaning «module».now) variant link.now nonce.now offer.now
         (Ok (Live cell.now))) result }
 {
     if is_other(variant, module.id(), cell.variant, cell.module) {
@@ -125,7 +125,7 @@ fn leave_live<M: Module>(
     if cell.flag {
         return Err(MoveRefusal::Open);
     }
-    let next = retired_bytes(&Retired {
+    let next = retired_bytes(&RetiredCell {
         variant: cell.variant,
         module: cell.module,
         summary: cell.summary,
@@ -146,9 +146,9 @@ fn leave_again<M: Module>(
     link: &Link,
     nonce: &[u8; 32],
     offer: &[u8],
-    cell: &Retired,
-) -> Result<Ready<Bytes>, MoveRefusal>
-    ensures { OrNoMemory (retires_in (M.meaning «module».now) variant link.now nonce.now offer.now
+    cell: &RetiredCell,
+) -> Result<ReadyMove<Bytes>, MoveRefusal>
+    ensures { IsOrNoMemory (retirement_in (M.meaning «module».now) variant link.now nonce.now offer.now
         (Ok (Left cell.now))) result }
 {
     if is_other(variant, module.id(), cell.variant, cell.module) {
@@ -170,7 +170,7 @@ fn right_offer<'a, M: Module>(
     key: &[u8; 32],
     offer: &'a [u8],
 ) -> Result<Body<'a>, MoveRefusal>
-    ensures offer { offer_read result
+    ensures offer { offer_reading result
         ≡ right_offer (M.meaning «module».now) variant key.now offer.now }
     ensures bounded { IfOk result (λ body. IsBounded variant (content_of body)) }
 {
@@ -198,11 +198,11 @@ fn leave_at(
     summary: &Digest,
     next: Option<[u8; CELL_LENGTH]>,
     body: &Body<'_>,
-) -> Result<Ready<Bytes>, MoveRefusal>
+) -> Result<ReadyMove<Bytes>, MoveRefusal>
     requires position { body.now.position ≤ last_position }
     requires state { length body.now.state.now ≤ limit_of body.now.module }
-    ensures { OrNoMemory
-        (leaves_by (variant_of body.now.place) link.now nonce.now summary.now next
+    ensures { IsOrNoMemory
+        (retirement_by (variant_of body.now.place) link.now nonce.now summary.now next
         (Ok (content_of body.now))) result }
 {
     if !stands_at(&body.place, summary) {
@@ -215,13 +215,13 @@ fn leave_at(
     };
     match ticket_bytes(alloc, &link.key, &ticket) {
         Err(_) => Err(MoveRefusal::Core(Refusal::Memory)),
-        Ok(answer) => Ok(Ready { next, answer }),
+        Ok(answer) => Ok(ReadyMove { next, answer }),
     }
 }
 
 // Whether a form of the place is this summary, or this anchor with a zero extension.
 fn stands_at(place: &Place, summary: &Digest) -> bool
-    ensures { result ≡ stands_at summary.now place.now }
+    ensures { result ≡ is_place_at summary.now place.now }
 {
     match place {
         Place::Basic(offered) => offered == summary,

@@ -4,7 +4,7 @@ ghost use Rattle.std.specs.Prelude.{◌≡◌, ◌≤◌, IfOk, MatchOption, tru
 ghost use Rattle.mm_base.specs.Limits.{last_position, limit_of};
 ghost use Rattle.mm_seal.specs.Body.{content_of};
 ghost use Rattle.mm_seal.specs.PartsWords.{is_bounded};
-ghost use Rattle.mm_move.specs.Tickets.{IsAtAnchor, summary_in, place_at, ticket_content, ticket_front, sealed_ticket, tagged_in, is_for, is_spelled_by, ticket_of};
+ghost use Rattle.mm_move.specs.Tickets.{IsAtAnchor, summary_in, place_at, ticket_content, ticket_front, sealed_ticket, tagged_ticket_in, is_for, is_spelled_by, ticket_of};
 
 use crate::fields::{number_at, part, variant_in};
 use mm_base::{Bytes, LAST_POSITION, Memory, bytes_of_u32, bytes_of_u64};
@@ -36,13 +36,13 @@ pub struct OfferedTicket<'a> {
 
 impl<'a> Model for OfferedTicket<'a> {
     ghost use Rattle.std.specs.Prelude.{◌≡◌};
-    ghost use Rattle.mm_move.specs.Tickets.{TaggedTicket, ticket_content, ticket_signed};
+    ghost use Rattle.mm_move.specs.Tickets.{TaggedTicket, ticket_content, signed_bytes};
 
     ghost Value = { TaggedTicket };
 
     ghost view = { λ o. record { ticket = ticket_content o.ticket; tag = o.tag } };
 
-    ghost invariant = { λ o. o.signed.now ≡ ticket_signed (ticket_content o.ticket) };
+    ghost invariant = { λ o. o.signed.now ≡ signed_bytes (ticket_content o.ticket) };
 }
 
 impl<'a> OfferedTicket<'a> {
@@ -158,9 +158,9 @@ fn is_for(offered: &OfferedTicket<'_>, variant: Variant, id: u8) -> bool
 
 // The ticket that these bytes spell.
 fn offered_in(bytes: &[u8]) -> Option<OfferedTicket<'_>>
-    ensures { MatchOption result (is_spelled_by bytes.now (tagged_in bytes.now) ≡ false)
-        (λ offered. (offered ≡ tagged_in bytes.now)
-        × (is_spelled_by bytes.now (tagged_in bytes.now) ≡ true)) }
+    ensures { MatchOption result (is_spelled_by bytes.now (tagged_ticket_in bytes.now) ≡ false)
+        (λ offered. (offered ≡ tagged_ticket_in bytes.now)
+        × (is_spelled_by bytes.now (tagged_ticket_in bytes.now) ≡ true)) }
 {
     if bytes.len() < FRONT_LENGTH + TAG_LENGTH {
         return None;
@@ -178,10 +178,10 @@ fn offered_in(bytes: &[u8]) -> Option<OfferedTicket<'_>>
 }
 
 // The only ticket that the bytes may spell.
-#[tactic(auto, unfolding(crate::specs::Tickets::tagged_in))]
+#[tactic(auto, unfolding(crate::specs::Tickets::tagged_ticket_in))]
 fn ticket_in(bytes: &[u8]) -> Ticket<'_>
     requires { 114 ≤ length bytes.now }
-    ensures { ticket_content result ≡ (tagged_in bytes.now).ticket }
+    ensures { ticket_content result ≡ (tagged_ticket_in bytes.now).ticket }
 {
     let summary = Digest {
         bytes: part(bytes, 38),
@@ -200,8 +200,8 @@ fn ticket_in(bytes: &[u8]) -> Ticket<'_>
 // Whether the ticket is within its bounds, and these bytes are its own, with their tag.
 fn is_spelled_by(bytes: &[u8], ticket: &Ticket<'_>) -> bool
     requires long { 114 ≤ length bytes.now }
-    requires ticket { ticket_content ticket.now ≡ (tagged_in bytes.now).ticket }
-    ensures { result ≡ is_spelled_by bytes.now (tagged_in bytes.now) }
+    requires ticket { ticket_content ticket.now ≡ (tagged_ticket_in bytes.now).ticket }
+    ensures { result ≡ is_spelled_by bytes.now (tagged_ticket_in bytes.now) }
 {
     if !is_bounded(ticket) {
         return false;

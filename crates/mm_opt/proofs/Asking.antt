@@ -1,18 +1,18 @@
 -- The ends of a call: what holds of each holds of every call; so that each answer is fit.
 use Rattle.mm_opt.proofs.Below.{◌≡◌, ℕ, List, Result, Ok, Err, sym, ◌∙◌, subst, refl, IfOk, Standing, Meaning, IsLawful, Batch, Cell}
-use Rattle.mm_opt.proofs.Below.{CellFault, Blank, Unspelled, IsCell, ReadsCell, BatchAnswer, Refusal, Long, Ended, StepsTo, EndsTo, AsksTo}
-use Rattle.mm_opt.proofs.Below.{Calls, result_of, refused_as, each_call, ends_result, steps_give, given_all, Found, acts_for, answer_in}
+use Rattle.mm_opt.proofs.Below.{CellFault, Blank, Unspelled, IsCell, ReadsCell, BatchAnswer, Refusal, Long, AskResult, AreStepsToEnd, EndsByFinding, IsCallToEnd}
+use Rattle.mm_opt.proofs.Below.{IsWholeCall, result_of, end_of_refusal, each_call, ends_result, steps_give, given_all, BatchFinding, acts_for, answer_in}
 use Rattle.mm_opt.proofs.Below.{is_cell_of, cell_in, opt_call}
 use Rattle.mm_model.specs.Fit.{IsFit}
 use Rattle.mm_opt.proofs.Reading.{ReadsOn, ReadsOwnCell, ReadsRegister, reads_told}
 use Rattle.mm_opt.proofs.Findings.{own_is, made}
 
 -- where the first step refuses, that ends the call
-pub refused_first : (why : Refusal) (found : Result Found Refusal) (meaning : Meaning) (first second new : Standing) (offer : List ℕ)
-    (b : Batch) (ended : Ended) → ReadsOn meaning offer b (Err why) first second found → EndsTo opt_call found second new ended
-    → (new ≡ first) × (ended ≡ refused_as why)
+pub refused_first : (why : Refusal) (found : Result BatchFinding Refusal) (meaning : Meaning) (first second new : Standing) (offer : List ℕ)
+    (b : Batch) (ended : AskResult) → ReadsOn meaning offer b (Err why) first second found → EndsByFinding opt_call found second new ended
+    → (new ≡ first) × (ended ≡ end_of_refusal why)
 refused_first why found meaning first second new offer b ended on e =
-    let x : (new ≡ second) × (ended ≡ refused_as why) = subst (λ (f : Result Found Refusal). EndsTo opt_call f second new ended) on.1 e in
+    let x : (new ≡ second) × (ended ≡ end_of_refusal why) = subst (λ (f : Result BatchFinding Refusal). EndsByFinding opt_call f second new ended) on.1 e in
     (x.0 ∙ on.0, x.1)
 
 module _ (meaning : Meaning) (offer : List ℕ) (b : Batch) (old : Standing) (P : Standing → Result BatchAnswer Refusal → Type 0) where
@@ -22,28 +22,28 @@ module _ (meaning : Meaning) (offer : List ℕ) (b : Batch) (old : Standing) (P 
     pub refuses : (why : Refusal) (one : Standing) → ReadsOwnCell meaning.id old one (Err why) → P one (Err why)
     pub later_refuses : (why : Refusal) (cell : Cell) (one two : Standing) → ReadsOwnCell meaning.id old one (Ok cell)
         → ReadsRegister meaning offer b cell one two (Err why) → P two (Err why)
-    pub commits : (found : Found) (cell : Cell) (one two new : Standing) (ended : Ended) → ReadsOwnCell meaning.id old one (Ok cell)
-        → ReadsRegister meaning offer b cell one two (Ok found) → StepsTo (acts_for found) (answer_in found) two new ended
+    pub commits : (found : BatchFinding) (cell : Cell) (one two new : Standing) (ended : AskResult) → ReadsOwnCell meaning.id old one (Ok cell)
+        → ReadsRegister meaning offer b cell one two (Ok found) → AreStepsToEnd (acts_for found) (answer_in found) two new ended
         → P new (result_of ended)
 
-  pub each_ask : Each → (new : Standing) (ended : Ended) → AsksTo opt_call meaning old new offer b ended → P new (result_of ended)
+  pub each_ask : Each → (new : Standing) (ended : AskResult) → IsCallToEnd opt_call meaning old new offer b ended → P new (result_of ended)
   each_ask each new ended a =
       let r = reads_told meaning offer b old a.middle a.found a.reads in
       seen r.cell a.found r.middle a.middle r.reads r.on a.ends
     where
-      ends : (found : Result Found Refusal) (cell : Cell) (one two : Standing) → ReadsOwnCell meaning.id old one (Ok cell)
-          → ReadsRegister meaning offer b cell one two found → EndsTo opt_call found two new ended → P new (result_of ended)
+      ends : (found : Result BatchFinding Refusal) (cell : Cell) (one two : Standing) → ReadsOwnCell meaning.id old one (Ok cell)
+          → ReadsRegister meaning offer b cell one two found → EndsByFinding opt_call found two new ended → P new (result_of ended)
       ends (Err why) cell one two r on e = ends_result opt_call P why two new ended e (each.later_refuses why cell one two r on)
       ends (Ok found) cell one two r on e = each.commits found cell one two new ended r on e
 
-      seen : (cell : Result Cell Refusal) (found : Result Found Refusal) (one two : Standing) → ReadsOwnCell meaning.id old one cell
-          → ReadsOn meaning offer b cell one two found → EndsTo opt_call found two new ended → P new (result_of ended)
+      seen : (cell : Result Cell Refusal) (found : Result BatchFinding Refusal) (one two : Standing) → ReadsOwnCell meaning.id old one cell
+          → ReadsOn meaning offer b cell one two found → EndsByFinding opt_call found two new ended → P new (result_of ended)
       seen (Err why) found one two r on e =
           ends_result opt_call P why one new ended (refused_first why found meaning one two new offer b ended on e) (each.refuses why one r)
       seen (Ok cell) found one two r on e = ends found cell one two r on e
 
   pub each_asked : P old (Err Long) → Each → (new : Standing) (result : Result BatchAnswer Refusal)
-      → Calls opt_call meaning old new offer b result → P new result
+      → IsWholeCall opt_call meaning old new offer b result → P new result
   each_asked long each new result = each_call opt_call meaning old new offer b P result long (each_ask each new)
 
 -- each answer is fit
@@ -60,7 +60,7 @@ abbrev IsFitIn : Batch → Result BatchAnswer Refusal → Type 0
 IsFitIn b result = IfOk result (λ answer. IsFit b answer)
 
 pub fits : (meaning : Meaning) → IsLawful meaning → (old new : Standing) (offer : List ℕ) (b : Batch) (result : Result BatchAnswer Refusal)
-    → Calls opt_call meaning old new offer b result → IsFitIn b result
+    → IsWholeCall opt_call meaning old new offer b result → IsFitIn b result
 fits meaning lawful old new offer b =
     each_asked meaning offer b old (λ (s : Standing) (r : Result BatchAnswer Refusal). IsFitIn b r) tt (record {
       refuses = λ why one r. tt;

@@ -1,12 +1,12 @@
 -- The ends of a checkpoint, and what it leaves and counts.
-use Rattle.mm_opt.proofs.Below.{◌≡◌, ℕ, Bool, true, false, List, Option, None, Some, Result, Ok, Err, refl, ap, ◌∙◌, sym, subst, counted}
+use Rattle.mm_opt.proofs.Below.{◌≡◌, ℕ, Bool, true, false, List, Option, None, Some, Result, Ok, Err, refl, ap, ◌∙◌, sym, subst, next_count}
 use Rattle.mm_opt.proofs.Below.{bytes_eq}
-use Rattle.mm_opt.proofs.Below.{Variant, Basic, Opt, zero_bytes, StepFault, Standing, ReadCell, WriteCell, ReadRegister, Goes, Cell}
+use Rattle.mm_opt.proofs.Below.{Variant, Basic, Opt, zero_bytes, StepFault, Standing, ReadCell, WriteCell, ReadRegister, StepGoes, Cell}
 use Rattle.mm_opt.proofs.Below.{CellFault}
-use Rattle.mm_opt.proofs.Below.{Blames, blamed, blamed_later, read_untouched, register_untouched, then_untouched, Checkpointed, CheckpointRefusal, Segment, Open, Shut, StepsAre}
-use Rattle.mm_opt.proofs.Below.{closing_fault_of, closing_fault_in, segment_by, segment_in, closed_cell, closing_by, Looks}
-use Rattle.mm_opt.proofs.Below.{FindsSegment, Weighs}
-use Rattle.mm_opt.proofs.Below.{Closes, closing_handed_on, EndsClosing, EndsLooking, ClosesSegment, LeavesStill, ClosingStepsRefused}
+use Rattle.mm_opt.proofs.Below.{CountsHandedFault, blamed, blamed_later, read_untouched, register_untouched, then_untouched, Checkpointed, CheckpointRefusal, Segment, Open, Shut, StepsAre}
+use Rattle.mm_opt.proofs.Below.{closing_fault_of, closing_fault_in, segment_by, segment_in, closed_cell, closing_by, LooksAtSegment}
+use Rattle.mm_opt.proofs.Below.{FindsSegment, WeighsRegister}
+use Rattle.mm_opt.proofs.Below.{WritesClosing, result_of_closing_write, EndsClosing, EndsLooking, ClosesSegment, LeavesStill, ClosingStepsRefused}
 use Rattle.mm_opt.proofs.Below.{ClosingStepsBy}
 use Rattle.mm_seal.specs.declared.cell.CellFault.TheVariants as fault
 use Rattle.mm_opt.specs.declared.segment.Checkpointed.TheVariants.{Done, NoSegment}
@@ -26,26 +26,26 @@ module _ (old : Standing) (P : Standing → Result Checkpointed CheckpointRefusa
   -- What holds at each end: the first step fails or is refused, or finds no segment; the second fails or is refused; the last is done or
   -- fails. What holds of each holds of every checkpoint.
   pub record Each : Type 0 where
-    pub refuses : (why : CheckpointRefusal) (one : Standing) → Looks old one (Err why) → P one (Err why)
-    pub shut : (one : Standing) → Looks old one (Ok Shut) → P one (Ok NoSegment)
-    pub later_refuses : (why : CheckpointRefusal) (cell : Cell) (one two : Standing) → Looks old one (Ok (Open cell))
-        → Weighs cell one two (Err why) → P two (Err why)
-    pub closes : (fault : Option StepFault) (cell : Cell) (next : List ℕ) (one two new : Standing) → Looks old one (Ok (Open cell))
-        → Weighs cell one two (Ok next) → Goes (WriteCell next) two new fault → P new (closed_or fault)
+    pub refuses : (why : CheckpointRefusal) (one : Standing) → LooksAtSegment old one (Err why) → P one (Err why)
+    pub shut : (one : Standing) → LooksAtSegment old one (Ok Shut) → P one (Ok NoSegment)
+    pub later_refuses : (why : CheckpointRefusal) (cell : Cell) (one two : Standing) → LooksAtSegment old one (Ok (Open cell))
+        → WeighsRegister cell one two (Err why) → P two (Err why)
+    pub closes : (fault : Option StepFault) (cell : Cell) (next : List ℕ) (one two new : Standing) → LooksAtSegment old one (Ok (Open cell))
+        → WeighsRegister cell one two (Ok next) → StepGoes (WriteCell next) two new fault → P new (closed_or fault)
 
   module _ (each : Each) where
     closed : (written : Result Checkpointed StepFault) (cell : Cell) (next : List ℕ) (one two new : Standing)
-        → Looks old one (Ok (Open cell)) → Weighs cell one two (Ok next) → Closes next two new written → P new (closing_handed_on written)
+        → LooksAtSegment old one (Ok (Open cell)) → WeighsRegister cell one two (Ok next) → WritesClosing next two new written → P new (result_of_closing_write written)
     closed (Ok it) cell next one two new l w c = rw c.gives (each.closes None cell next one two new l w c.goes)
     closed (Err fault) cell next one two new l w c = each.closes (Some fault) cell next one two new l w c.goes
 
     weighed : (found : Result (List ℕ) CheckpointRefusal) (cell : Cell) (one two new : Standing)
-        (result : Result Checkpointed CheckpointRefusal) → Looks old one (Ok (Open cell)) → Weighs cell one two found → EndsClosing found two new result → P new result
+        (result : Result Checkpointed CheckpointRefusal) → LooksAtSegment old one (Ok (Open cell)) → WeighsRegister cell one two found → EndsClosing found two new result → P new result
     weighed (Err why) cell one two new result l w e = rw (e.0, e.1) (each.later_refuses why cell one two l w)
     weighed (Ok next) cell one two new result l w e = rw e.gives (closed e.written cell next one two new l w e.closes)
 
     looked : (found : Result Segment CheckpointRefusal) (one new : Standing) (result : Result Checkpointed CheckpointRefusal)
-        → Looks old one found → EndsLooking found one new result → P new result
+        → LooksAtSegment old one found → EndsLooking found one new result → P new result
     looked (Err why) one new result l e = rw (e.0, e.1) (each.refuses why one l)
     looked (Ok Shut) one new result l e = rw (e.0, e.1) (each.shut one l)
     looked (Ok (Open cell)) one new result l e = weighed e.found cell one e.middle new result l e.weighs e.ends
@@ -62,19 +62,19 @@ still_closed (Some fault) old new = λ (none : Some fault ≡ None). absurd (cc)
 pub leaves_still : (old new : Standing) (result : Result Checkpointed CheckpointRefusal) → ClosesSegment old new result
     → LeavesStill result old new
 leaves_still old = each_closing old (λ (n : Standing) (r : Result Checkpointed CheckpointRefusal). LeavesStill r old n) (record {
-  refuses = λ why one l quiet. read_untouched old one (subst (Goes ReadCell old one) quiet l.goes);
+  refuses = λ why one l quiet. read_untouched old one (subst (StepGoes ReadCell old one) quiet l.goes);
   shut = λ one l. read_untouched old one l.goes;
   later_refuses = λ why cell one two l w quiet.
       then_untouched old one two (read_untouched old one l.goes)
-      (register_untouched one two (subst (Goes ReadRegister one two) quiet w.goes));
+      (register_untouched one two (subst (StepGoes ReadRegister one two) quiet w.goes));
   closes = λ fault cell next one two new l w g. still_closed fault old new;
 })
 
 -- whom a checkpoint blames
 pub closing_blamed : (old new : Standing) (result : Result Checkpointed CheckpointRefusal) → ClosesSegment old new result
-    → Blames (closing_fault_in result) old.faults new.faults
+    → CountsHandedFault (closing_fault_in result) old.faults new.faults
 closing_blamed old = each_closing old
-    (λ (n : Standing) (r : Result Checkpointed CheckpointRefusal). Blames (closing_fault_in r) old.faults n.faults) (record {
+    (λ (n : Standing) (r : Result Checkpointed CheckpointRefusal). CountsHandedFault (closing_fault_in r) old.faults n.faults) (record {
       refuses = λ why one l. blamed (closing_fault_of why) old one l.goes.is_made l.goes.ends;
       shut = λ one l. l.goes.ends.faults;
       later_refuses = λ why cell one two l w.
@@ -131,9 +131,9 @@ closing_steps old = each_closing old (λ (n : Standing) (r : Result Checkpointed
   refuses = λ why one l. first_steps why old one (l.goes.steps, l.goes.writes) l.finds;
   shut = λ one l. (l.goes.steps, l.goes.writes);
   later_refuses = λ why cell one two l w.
-      later_steps why cell old two (w.goes.steps ∙ ap counted l.goes.steps, w.goes.writes ∙ l.goes.writes) w.finds;
+      later_steps why cell old two (w.goes.steps ∙ ap next_count l.goes.steps, w.goes.writes ∙ l.goes.writes) w.finds;
   closes = λ fault cell next one two new l w g. last_steps fault old new (
-    g.steps ∙ ap counted (w.goes.steps ∙ ap counted l.goes.steps),
-    g.writes ∙ ap counted (w.goes.writes ∙ l.goes.writes),
+    g.steps ∙ ap next_count (w.goes.steps ∙ ap next_count l.goes.steps),
+    g.writes ∙ ap next_count (w.goes.writes ∙ l.goes.writes),
   );
 })

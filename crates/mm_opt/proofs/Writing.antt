@@ -1,9 +1,9 @@
 -- What a call counts: its steps, and how often it writes the cell, by the flag that the platform tells.
-use Rattle.mm_opt.proofs.Below.{◌≡◌, ℕ, true, false, List, Some, Result, Ok, Err, refl, sym, ap, ◌∙◌, inl, inr, counted, Standing}
+use Rattle.mm_opt.proofs.Below.{◌≡◌, ℕ, true, false, List, Some, Result, Ok, Err, refl, sym, ap, ◌∙◌, inl, inr, next_count, Standing}
 use Rattle.mm_opt.proofs.Below.{Meaning, Batch, Cell, CellFault, IsCell, cell_spelling, reads_cell-same, is_long, BatchAnswer, Refusal}
 use Rattle.mm_opt.proofs.Below.{Long}
-use Rattle.mm_opt.proofs.Below.{Ended, goes_on, breaks_off, StepsTo, AsksTo, Calls, result_of, each_call, answered_result, Found, Repeat, Change, Extending, Emptying}
-use Rattle.mm_opt.proofs.Below.{acts_left, is_cell_of, cell_in, acts_for, answer_in, opt_call, Opt, StepsAre}
+use Rattle.mm_opt.proofs.Below.{AskResult, goes_on, breaks_off, AreStepsToEnd, IsCallToEnd, IsWholeCall, result_of, each_call, answered_result, BatchFinding, Repeat, Change, Extending, Emptying}
+use Rattle.mm_opt.proofs.Below.{remaining_acts, is_cell_of, cell_in, acts_for, answer_in, opt_call, Opt, StepsAre}
 use Rattle.mm_opt.proofs.Below.{three_steps, four_steps, five_steps, StepsRefused, StepsBy, WritesByFlag}
 use Rattle.mm_machine.specs.declared.change.Change as change
 use Rattle.mm_model.specs.declared.refusal.Refusal.TheVariants.{Device}
@@ -21,11 +21,11 @@ told_cell id old one cell seen r is told =
     own_is (is_cell_of id cell) cell seen (sym (f.said.found_is ∙ ap (λ (x : Result Cell CellFault). cell_in id x) same))
 
 -- the reading steps
-two_made : (meaning : Meaning) (cell : Cell) (offer : List ℕ) (b : Batch) (found : Result Found Refusal) (old one two : Standing)
+two_made : (meaning : Meaning) (cell : Cell) (offer : List ℕ) (b : Batch) (found : Result BatchFinding Refusal) (old one two : Standing)
     → ReadsOwnCell meaning.id old one (Ok cell) → ReadsRegister meaning offer b cell one two found → StepsAre 2 0 old two
 two_made meaning cell offer b found old one two r on =
     let room = room_only found on.middle two on.room in (
-      ap (λ (s : Standing). s.steps) room ∙ on.goes.steps ∙ ap counted r.goes.steps,
+      ap (λ (s : Standing). s.steps) room ∙ on.goes.steps ∙ ap next_count r.goes.steps,
       ap (λ (s : Standing). s.writes) room ∙ on.goes.writes ∙ r.goes.writes,
     )
 
@@ -40,7 +40,7 @@ quiet : (why : Refusal) (old new : Standing) → StepsRefused Opt why old new �
 quiet why old new s w = (s, quiet_writes why old new w)
 
 -- the changing steps
-module _ (meaning : Meaning) (b : Batch) (old two new : Standing) (cell : Cell) (ended : Ended) (t : StepsAre 2 0 old two)
+module _ (meaning : Meaning) (b : Batch) (old two new : Standing) (cell : Cell) (ended : AskResult) (t : StepsAre 2 0 old two)
     (told : (c : Cell) → IsCell c → old.cell ≡ Some (cell_spelling c) → cell ≡ c) where
   -- a segment was opened, so the flag is clear
   shut : cell.flag ≡ false → (c : Cell) → IsCell c → old.cell ≡ Some (cell_spelling c) → c.flag ≡ true → ⊥
@@ -48,12 +48,12 @@ module _ (meaning : Meaning) (b : Batch) (old two new : Standing) (cell : Cell) 
       let clash : false ≡ true = sym clear ∙ ap (λ (x : Cell). x.flag) (told c is at) ∙ set in cc
 
   change_counted : (change : change.Change) (answer : BatchAnswer)
-      → Made meaning cell b (Change (record { change = change; answer = answer })) → StepsTo (acts_left change) answer two new ended
+      → Made meaning cell b (Change (record { change = change; answer = answer })) → AreStepsToEnd (remaining_acts change) answer two new ended
       → Counted old new (result_of ended)
   change_counted (Extending value) answer m (breaks_off fault g e) =
-      rw e (quiet (Device fault) old new (three_steps (g.steps ∙ ap counted t.0, g.writes ∙ t.1)) (g.writes ∙ t.1))
+      rw e (quiet (Device fault) old new (three_steps (g.steps ∙ ap next_count t.0, g.writes ∙ t.1)) (g.writes ∙ t.1))
   change_counted (Extending value) answer m (goes_on last g s) =
-      let three : StepsAre 3 0 old last = (g.steps ∙ ap counted t.0, g.writes ∙ t.1) in
+      let three : StepsAre 3 0 old last = (g.steps ∙ ap next_count t.0, g.writes ∙ t.1) in
       answered_result (Counted old) answer last new ended s (
         rw m.shape (inl three),
         record {
@@ -63,13 +63,13 @@ module _ (meaning : Meaning) (b : Batch) (old two new : Standing) (cell : Cell) 
         },
       )
   change_counted (Emptying opening) answer m (breaks_off fault g e) =
-      rw e (quiet (Device fault) old new (three_steps (g.steps ∙ ap counted t.0, g.writes ∙ t.1)) (g.writes ∙ t.1))
+      rw e (quiet (Device fault) old new (three_steps (g.steps ∙ ap next_count t.0, g.writes ∙ t.1)) (g.writes ∙ t.1))
   change_counted (Emptying opening) answer m (goes_on third g (breaks_off fault h e)) =
-      rw e (quiet (Device fault) old new (four_steps (h.steps ∙ ap counted (g.steps ∙ ap counted t.0), h.writes ∙ g.writes ∙ t.1))
+      rw e (quiet (Device fault) old new (four_steps (h.steps ∙ ap next_count (g.steps ∙ ap next_count t.0), h.writes ∙ g.writes ∙ t.1))
       (h.writes ∙ g.writes ∙ t.1))
   change_counted (Emptying opening) answer m (goes_on third g (goes_on fourth h (breaks_off fault k e))) =
       let five : StepsAre 5 1 old new =
-      (k.steps ∙ ap counted (h.steps ∙ ap counted (g.steps ∙ ap counted t.0)), k.writes ∙ ap counted (h.writes ∙ g.writes ∙ t.1)) in
+      (k.steps ∙ ap next_count (h.steps ∙ ap next_count (g.steps ∙ ap next_count t.0)), k.writes ∙ ap next_count (h.writes ∙ g.writes ∙ t.1)) in
       rw e (
         five_steps five,
         record {
@@ -80,7 +80,7 @@ module _ (meaning : Meaning) (b : Batch) (old two new : Standing) (cell : Cell) 
       )
   change_counted (Emptying opening) answer m (goes_on third g (goes_on fourth h (goes_on last k s))) =
       let five : StepsAre 5 1 old last =
-      (k.steps ∙ ap counted (h.steps ∙ ap counted (g.steps ∙ ap counted t.0)), k.writes ∙ ap counted (h.writes ∙ g.writes ∙ t.1)) in
+      (k.steps ∙ ap next_count (h.steps ∙ ap next_count (g.steps ∙ ap next_count t.0)), k.writes ∙ ap next_count (h.writes ∙ g.writes ∙ t.1)) in
       answered_result (Counted old) answer last new ended s (
         rw m.shape (inr five),
         record {
@@ -91,7 +91,7 @@ module _ (meaning : Meaning) (b : Batch) (old two new : Standing) (cell : Cell) 
       )
   change_counted _ answer m s = absurd m.by_flag
 
-  commits_counted : (found : Found) → Made meaning cell b found → StepsTo (acts_for found) (answer_in found) two new ended
+  commits_counted : (found : BatchFinding) → Made meaning cell b found → AreStepsToEnd (acts_for found) (answer_in found) two new ended
       → Counted old new (result_of ended)
   commits_counted (Repeat answer) m s = answered_result (Counted old) answer two new ended s
       (rw m.shape t, record { once = inl t.1; inside = λ c is at set. t.1; answers = λ c is at. rw m.shape t })
@@ -110,15 +110,15 @@ each_counted meaning offer b old = record {
 }
 
 pub steps : (meaning : Meaning) (old new : Standing) (offer : List ℕ) (b : Batch) (result : Result BatchAnswer Refusal)
-    → Calls opt_call meaning old new offer b result → is_long b ≡ false → StepsBy Opt result old new
+    → IsWholeCall opt_call meaning old new offer b result → is_long b ≡ false → StepsBy Opt result old new
 steps meaning old new offer b result c short =
     let k = c.asks short in
     rw k.gives (each_ask meaning offer b old (Counted old) (each_counted meaning offer b old) new k.ended k.asks).0
 
 pub writes : (meaning : Meaning) (old new : Standing) (offer : List ℕ) (b : Batch) (result : Result BatchAnswer Refusal)
-    → Calls opt_call meaning old new offer b result → WritesByFlag result old new
+    → IsWholeCall opt_call meaning old new offer b result → WritesByFlag result old new
 writes meaning old new offer b result =
     each_call opt_call meaning old new offer b (λ (s : Standing) (r : Result BatchAnswer Refusal). WritesByFlag r old s) result
     (quiet_writes Long old old refl)
-    (λ (ended : Ended) (a : AsksTo opt_call meaning old new offer b ended).
+    (λ (ended : AskResult) (a : IsCallToEnd opt_call meaning old new offer b ended).
     (each_ask meaning offer b old (Counted old) (each_counted meaning offer b old) new ended a).1)

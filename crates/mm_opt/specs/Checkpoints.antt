@@ -2,8 +2,8 @@
 use Rattle.std.specs.Prelude.{◌≡◌, ℕ, Bool, true, false, List, Option, None, Some, Result, Ok, Err, IfOk}
 use Rattle.std.specs.Result.{result_err}
 use Rattle.std.specs.Str.{bytes_eq}
-use Rattle.mm_opt.specs.Below.{zero_bytes, anchored_of, Variant, Basic, Opt, ReadsCell, cell_spelling, Cell, CellFault, Item}
-use Rattle.mm_opt.specs.Below.{Standing, item_values, register_after, ReadCell, WriteCell, ReadRegister, Goes, StepFault, digest_of}
+use Rattle.mm_opt.specs.Below.{zero_bytes, anchored_digest_of, Variant, Basic, Opt, ReadsCell, cell_spelling, Cell, CellFault, Item}
+use Rattle.mm_opt.specs.Below.{Standing, item_values, register_after, ReadCell, WriteCell, ReadRegister, StepGoes, StepFault, digest_of}
 use Rattle.mm_opt.specs.Below.{IsUntouched}
 use Rattle.mm_seal.specs.declared.cell.CellFault.TheVariants as fault
 use Rattle.mm_call.specs.Counts.{StepsAre}
@@ -48,8 +48,8 @@ pub record FindsSegment (old : Standing) (found : Result Segment CheckpointRefus
   pub sees : SeesSegment bytes found
 
 -- The first step, and what is found where it doesn't fail.
-pub record Looks (old new : Standing) (found : Result Segment CheckpointRefusal) : Type 0 where
-  pub goes : Goes ReadCell old new (closing_fault_in found)
+pub record LooksAtSegment (old new : Standing) (found : Result Segment CheckpointRefusal) : Type 0 where
+  pub goes : StepGoes ReadCell old new (closing_fault_in found)
   pub finds : closing_fault_in found ≡ None → FindsSegment old found
 
 -- the cell once its segment is closed, where the register has this value
@@ -58,7 +58,7 @@ closed_cell cell register =
     cell_spelling (record cell {
       variant = Opt;
       flag = false;
-      summary = digest_of (anchored_of cell.summary.bytes register);
+      summary = digest_of (anchored_digest_of cell.summary.bytes register);
     })
 
 -- the bytes that close the segment, by whether the register reads zero
@@ -79,27 +79,27 @@ pub record FindsClosing (cell : Cell) (new : Standing)
   pub found_is : found ≡ closing_in cell register
 
 -- The second step, and what is found where it doesn't fail.
-pub record Weighs (cell : Cell) (old new : Standing)
+pub record WeighsRegister (cell : Cell) (old new : Standing)
     (found : Result (List ℕ) CheckpointRefusal) : Type 0 where
-  pub goes : Goes ReadRegister old new (closing_fault_in found)
+  pub goes : StepGoes ReadRegister old new (closing_fault_in found)
   pub finds : closing_fault_in found ≡ None → FindsClosing cell new found
 
 -- The last step, which closes the segment where it doesn't fail.
-pub record Closes (next : List ℕ) (old new : Standing)
+pub record WritesClosing (next : List ℕ) (old new : Standing)
     (written : Result Checkpointed StepFault) : Type 0 where
-  pub goes : Goes (WriteCell next) old new (result_err written)
+  pub goes : StepGoes (WriteCell next) old new (result_err written)
   pub gives : IfOk written (λ it. it ≡ Done)
 
 -- a device's fault is handed on as it is
-abbrev pub closing_handed_on : Result Checkpointed StepFault → Result Checkpointed CheckpointRefusal
-closing_handed_on (Ok it) = Ok it
-closing_handed_on (Err fault) = Err (refusal.Device fault)
+abbrev pub result_of_closing_write : Result Checkpointed StepFault → Result Checkpointed CheckpointRefusal
+result_of_closing_write (Ok it) = Ok it
+result_of_closing_write (Err fault) = Err (refusal.Device fault)
 
 pub record ClosesBy (next : List ℕ) (old new : Standing)
     (result : Result Checkpointed CheckpointRefusal) : Type 0 where
   pub written : Result Checkpointed StepFault
-  pub closes : Closes next old new written
-  pub gives : result ≡ closing_handed_on written
+  pub closes : WritesClosing next old new written
+  pub gives : result ≡ result_of_closing_write written
 
 -- The rest of a checkpoint, by what was found.
 abbrev pub EndsClosing : Result (List ℕ) CheckpointRefusal → Standing → Standing
@@ -111,7 +111,7 @@ pub record WeighsAndCloses (cell : Cell) (old new : Standing)
     (result : Result Checkpointed CheckpointRefusal) : Type 0 where
   pub middle : Standing
   pub found : Result (List ℕ) CheckpointRefusal
-  pub weighs : Weighs cell old middle found
+  pub weighs : WeighsRegister cell old middle found
   pub ends : EndsClosing found middle new result
 
 abbrev pub EndsLooking : Result Segment CheckpointRefusal → Standing → Standing
@@ -125,7 +125,7 @@ pub record ClosesSegment (old new : Standing)
     (result : Result Checkpointed CheckpointRefusal) : Type 0 where
   pub middle : Standing
   pub found : Result Segment CheckpointRefusal
-  pub looks : Looks old middle found
+  pub looks : LooksAtSegment old middle found
   pub ends : EndsLooking found middle new result
 
 -- what a refused checkpoint leaves, unless it hands on a device's fault; and one that found no

@@ -1,7 +1,7 @@
 -- What an offered place is compared with, and the verdict by digests on it.
 use Rattle.std.specs.Prelude.{ℕ, Bool, ◌&&◌, List}
 use Rattle.std.specs.Str.{bytes_eq}
-use Rattle.mm_opt.specs.Below.{zero_bytes, Snapshot, Cell, Place, Batch, normal, guard, Point, forms_of, opt_verdict, Verdict}
+use Rattle.mm_opt.specs.Below.{zero_bytes, Snapshot, Cell, Place, Batch, normal_batch, guard, Point, forms_of, opt_verdict, Verdict}
 use Rattle.mm_seal.specs.declared.snapshot.Place.TheVariants.{Basic, Opt}
 
 -- the anchor and the extension of an offered place; no offer to Opt has a place of Basic
@@ -18,7 +18,7 @@ point anchor extension = record { anchor = anchor; extension = extension }
 
 -- the value by which the batch extends the register
 abbrev pub batch_value : Cell → Batch → List ℕ
-batch_value cell b = guard cell.barrier (normal b)
+batch_value cell b = guard cell.barrier (normal_batch b)
 
 -- power was lost inside an open segment
 abbrev pub has_lost_power : Cell → List ℕ → Bool

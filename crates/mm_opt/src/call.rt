@@ -3,12 +3,12 @@
 ghost use Rattle.std.specs.Prelude.{◌≡◌, true, false, IfOk, IfErr};
 ghost use Rattle.mm_module.specs.Batches.{batch_of};
 ghost use Rattle.mm_model.specs.Long.{is_long};
-ghost use Rattle.mm_machine.specs.declared.call.Stage.TheVariants.{Begun};
-ghost use Rattle.mm_call.specs.Turns.{turn_of};
+ghost use Rattle.mm_machine.specs.declared.call.OpStage.TheVariants.{Begun};
+ghost use Rattle.mm_call.specs.CallTurn.{turn_of};
 
 use crate::operation::OptAsk;
-use mm_call::{Ended, KeptKey};
-use mm_machine::{Step, advance};
+use mm_call::{AskResult, KeptKey};
+use mm_machine::{StepResult, advance};
 use mm_model::{BatchAnswer, Refusal};
 use mm_module::{Batch, Module};
 use mm_platform::Platform;
@@ -18,13 +18,13 @@ use std::marker::Model;
 /// A call between two of its device steps. Contracts see where it stands.
 #[derive(Drop)]
 pub struct Call {
-    at: mm_machine::Call<BatchAnswer>,
+    at: mm_machine::OpCall<BatchAnswer>,
 }
 
 impl Model for Call {
-    ghost use Rattle.mm_opt.specs.Found.{Stage};
+    ghost use Rattle.mm_opt.specs.BatchFinding.{BatchStage};
 
-    ghost Value = { Stage };
+    ghost Value = { BatchStage };
 
     ghost view = { λ call. call.at };
 }
@@ -43,7 +43,7 @@ pub fn begin(batch: Batch<'_>) -> Result<Call, Refusal>
         return Err(Refusal::Long);
     }
     Ok(Call {
-        at: mm_machine::Call::begin(),
+        at: mm_machine::OpCall::begin(),
     })
 }
 
@@ -51,8 +51,8 @@ impl Call {
     ghost use Rattle.std.specs.Prelude.{◌≡◌, false};
     ghost use Rattle.mm_module.specs.Batches.{batch_of};
     ghost use Rattle.mm_model.specs.Long.{is_long};
-    ghost use Rattle.mm_machine.specs.Stepping.{MayGoOn, number_of};
-    ghost use Rattle.mm_opt.specs.Moved.{AdvancedInOpt};
+    ghost use Rattle.mm_machine.specs.OpSteps.{MayGoOn, number_of};
+    ghost use Rattle.mm_opt.specs.TurnPromise.{OptTurnPromise};
 
     /// The number of the next device step, from 1.
     pub fn next_step(&self) -> u8
@@ -75,7 +75,7 @@ impl Call {
     ) -> Turn
         requires short { is_long (batch_of batch) ≡ false }
         requires room { MayGoOn self (P.standing platform.old) }
-        ensures { AdvancedInOpt (M.meaning «module».now) self (P.standing platform.old)
+        ensures { OptTurnPromise (M.meaning «module».now) self (P.standing platform.old)
             (P.standing platform.new) offer.now (batch_of batch.entry) result }
     {
         let ask = OptAsk {
@@ -90,11 +90,11 @@ impl Call {
 
 // A turn of the machine's.
 #[inline(always)]
-fn turn_of(step: Step<BatchAnswer, Refusal>) -> Turn
+fn turn_of(step: StepResult<BatchAnswer, Refusal>) -> Turn
     ensures { result ≡ turn_of step }
 {
     match step {
-        Step::Going(at) => Turn::Going(Call { at }),
-        Step::Over(ended) => Turn::over(Ended::of(ended).result()),
+        StepResult::Going(at) => Turn::Going(Call { at }),
+        StepResult::Over(ended) => Turn::over(AskResult::of(ended).result()),
     }
 }

@@ -2,24 +2,24 @@
 
 ghost use Rattle.std.specs.Prelude.{◌≡◌, ℕ, None};
 ghost use Rattle.mm_opt.specs.Checkpoints.{SeesSegment, closing_fault_in, closing_in};
-ghost use Rattle.mm_opt.specs.Closing.{closing};
+ghost use Rattle.mm_opt.specs.ClosingOperation.{closing_operation};
 
 use crate::segment::{CheckpointRefusal, Checkpointed, Segment};
 use crate::verdicts::is_zero;
 use mm_base::CELL_LENGTH;
 use mm_digest::{Digest, Variant, anchored};
-use mm_machine::{Change, Found, Operation, Ready, Sight};
+use mm_machine::{Change, OpFinding, Operation, ReadyChange, Sight};
 use mm_seal::{Cell, CellFault, KeptKey, cell_bytes, read_cell};
 
 /// A checkpoint, as the machine is asked it.
-pub struct Close;
+pub struct OptCheckpoint;
 
-impl Operation for Close {
+impl Operation for OptCheckpoint {
     type Answer = Checkpointed;
 
     type Refusal = CheckpointRefusal;
 
-    ghost asked = { λ close. closing };
+    ghost asked = { λ close. closing_operation };
 
     ghost writes = { λ close. 3 };
 
@@ -30,7 +30,7 @@ impl Operation for Close {
     ) -> Result<Sight<Checkpointed>, CheckpointRefusal> {
         match find_segment(bytes) {
             Err(refusal) => Err(refusal),
-            Ok(Segment::Shut) => Ok(Sight::Found(Found::Repeat(Checkpointed::NoSegment))),
+            Ok(Segment::Shut) => Ok(Sight::Found(OpFinding::Repeat(Checkpointed::NoSegment))),
             Ok(Segment::Open(cell)) => Ok(Sight::Cell(cell)),
         }
     }
@@ -40,10 +40,10 @@ impl Operation for Close {
         cell: &Cell,
         register: &Digest,
         _keys: &mut KeptKey,
-    ) -> Result<Found<Checkpointed>, CheckpointRefusal> {
+    ) -> Result<OpFinding<Checkpointed>, CheckpointRefusal> {
         match closed_cell(cell, register) {
             Err(refusal) => Err(refusal),
-            Ok(next) => Ok(Found::Change(Ready {
+            Ok(next) => Ok(OpFinding::Change(ReadyChange {
                 change: Change::Writing(next),
                 answer: Checkpointed::Done,
             })),

@@ -3,23 +3,23 @@
 ghost use Rattle.std.specs.Prelude.{◌≡◌, ◌+◌, ◌≤◌, IfOk, IsTrue, None, Ok};
 ghost use Rattle.mm_base.specs.Limits.{last_position};
 ghost use Rattle.mm_digest.specs.declared.variant.Variant.TheVariants.{Opt};
-ghost use Rattle.mm_module.specs.Batch.{normal};
+ghost use Rattle.mm_module.specs.Batch.{normal_batch};
 ghost use Rattle.mm_module.specs.Batches.{batch_of};
 ghost use Rattle.mm_seal.specs.Snapshot.{variant_of};
 ghost use Rattle.mm_model.specs.Chains.{guard};
-ghost use Rattle.mm_model.specs.Judge.{forms_of, opt_verdict};
-ghost use Rattle.mm_opt.specs.Seen.{SeesCell};
+ghost use Rattle.mm_model.specs.Verdicts.{forms_of, opt_verdict};
+ghost use Rattle.mm_opt.specs.CellSight.{SeesCell};
 ghost use Rattle.mm_opt.specs.Order.{anchor_in, extension_in};
-ghost use Rattle.mm_opt.specs.Operating.{FindsIn};
-ghost use Rattle.mm_opt.specs.Answers.{place_after, change_of, found_in_offer};
-ghost use Rattle.mm_call.specs.Refusals.{OrMemory, fault_in};
+ghost use Rattle.mm_opt.specs.Operation.{FindsIn};
+ghost use Rattle.mm_opt.specs.Answers.{place_after, change_of, finding_in_offer};
+ghost use Rattle.mm_call.specs.Refusals.{IsOrMemory, fault_in};
 
 use crate::operation::OptAsk;
 use crate::verdicts::{has_lost_power, verdict};
 use mm_base::CELL_LENGTH;
 use mm_call::{KeptKey, answer, examine};
 use mm_digest::{Digest, Variant, extended, secured, secured_batch, zero};
-use mm_machine::{Change, Found, Opening, Ready};
+use mm_machine::{Change, OpFinding, SegmentOpening, ReadyChange};
 use mm_model::{BatchAnswer, Refusal, Verdict, has_tab};
 use mm_module::{Batch, Module};
 use mm_seal::{Cell, CellFault, Offered, PartsFault, Place, cell_bytes, parts, read_cell};
@@ -46,7 +46,7 @@ pub fn find_in<M: Module>(
     cell: &Cell,
     register: &Digest,
     keys: &mut KeptKey,
-) -> Result<Found<BatchAnswer>, Refusal>
+) -> Result<OpFinding<BatchAnswer>, Refusal>
     ensures finds { FindsIn (M.meaning ask.now.«module».now) cell.now register.now.bytes
         ask.now.offer.now (batch_of ask.now.batch) result }
     ensures no_fault { fault_in result ≡ None }
@@ -69,11 +69,11 @@ fn weigh<M: Module>(
     register: &Digest,
     offered: &Offered<'_>,
     keys: &mut KeptKey,
-) -> Result<Found<BatchAnswer>, Refusal>
+) -> Result<OpFinding<BatchAnswer>, Refusal>
     requires variant { variant_of offered.now.content.place ≡ Opt }
     requires position { offered.now.content.position ≤ last_position }
-    ensures { OrMemory
-        (found_in_offer (M.meaning ask.now.«module».now) cell.now register.now.bytes
+    ensures { IsOrMemory
+        (finding_in_offer (M.meaning ask.now.«module».now) cell.now register.now.bytes
         (Ok offered.now) (batch_of ask.now.batch)) result }
 {
     let body = offered.body();
@@ -84,7 +84,7 @@ fn weigh<M: Module>(
     let place = place_after(cell, register, &value, again);
     match answer(ask.alloc, ask.module, key, &body, place, ask.batch, again) {
         Err(_) => Err(Refusal::Memory),
-        Ok(answer) if again => Ok(Found::Repeat(answer)),
+        Ok(answer) if again => Ok(OpFinding::Repeat(answer)),
         Ok(answer) => Ok(change(cell, value, answer)),
     }
 }
@@ -104,7 +104,7 @@ fn verdict_on(cell: &Cell, register: &Digest, place: &Place, value: &Digest) -> 
 // The value by which the batch extends the register.
 #[tactic(auto, using(crate::proofs::Guards::guards))]
 fn guard(barrier: &[u8; 32], batch: Batch<'_>) -> Digest
-    ensures { result.bytes ≡ guard barrier.now (normal (batch_of batch.entry)) }
+    ensures { result.bytes ≡ guard barrier.now (normal_batch (batch_of batch.entry)) }
 {
     match batch {
         Batch::Many(text) if has_tab(text) => secured_batch(barrier, text),
@@ -128,7 +128,7 @@ fn place_after(cell: &Cell, register: &Digest, value: &Digest, again: bool) -> P
 }
 
 // A new batch, ready to be committed.
-fn change(cell: &Cell, value: Digest, answer: BatchAnswer) -> Found<BatchAnswer>
+fn change(cell: &Cell, value: Digest, answer: BatchAnswer) -> OpFinding<BatchAnswer>
     ensures { result ≡ change_of cell.now value.bytes answer }
 {
     let change = if cell.flag {
@@ -139,7 +139,7 @@ fn change(cell: &Cell, value: Digest, answer: BatchAnswer) -> Found<BatchAnswer>
             flag: true,
             ..*cell
         });
-        Change::Emptying(Opening { value, next })
+        Change::Emptying(SegmentOpening { value, next })
     };
-    Found::Change(Ready { change, answer })
+    OpFinding::Change(ReadyChange { change, answer })
 }

@@ -3,7 +3,7 @@
 ghost use Rattle.std.specs.Prelude.{◌≡◌, IfOk};
 ghost use Rattle.mm_seal.specs.Cell.{cell_spelling};
 ghost use Rattle.mm_model.specs.History.{first_history};
-ghost use Rattle.mm_model.specs.InstanceWords.{opt};
+ghost use Rattle.mm_model.specs.InstanceWords.{opt_instance};
 ghost use Rattle.mm_model.specs.Standing.{cell_of, issued_bytes};
 
 use mm_base::Memory;
@@ -22,9 +22,9 @@ pub fn provision<M: Module>(
 ) -> Result<Provisioned, Memory>
     ensures cell { IfOk result (λ made.
         made.cell ≡ cell_spelling
-        (cell_of (opt (M.meaning «module».now) key.now barrier.now) first_history)) }
+        (cell_of (opt_instance (M.meaning «module».now) key.now barrier.now) first_history)) }
     ensures snapshot { IfOk result (λ made.
-        made.snapshot ≡ issued_bytes (opt (M.meaning «module».now) key.now barrier.now)
+        made.snapshot ≡ issued_bytes (opt_instance (M.meaning «module».now) key.now barrier.now)
         first_history) }
 {
     let id = module.id();

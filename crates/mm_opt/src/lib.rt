@@ -13,7 +13,7 @@ mod verdicts;
 mod whole;
 
 pub use call::{Call, Turn, begin};
-pub use close::Close;
+pub use close::OptCheckpoint;
 pub use closing::{CheckpointCall, CheckpointTurn, begin_checkpoint, checkpoint, closing_result};
 pub use first::provision;
 pub use mm_call::{Committed, Provisioned};

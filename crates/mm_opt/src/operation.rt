@@ -3,13 +3,13 @@
 ghost use Rattle.std.specs.Prelude.{◌≡◌, false};
 ghost use Rattle.mm_module.specs.Batches.{batch_of};
 ghost use Rattle.mm_model.specs.Long.{is_long};
-ghost use Rattle.mm_opt.specs.Operating.{opt_asked};
+ghost use Rattle.mm_opt.specs.Operation.{opt_operation};
 
 use crate::find::{find_cell, find_in};
 use mm_base::CELL_LENGTH;
 use mm_call::KeptKey;
 use mm_digest::Digest;
-use mm_machine::{Found, Operation, Sight};
+use mm_machine::{OpFinding, Operation, Sight};
 use mm_model::{BatchAnswer, Refusal};
 use mm_module::{Batch, Module};
 use mm_seal::Cell;
@@ -30,7 +30,7 @@ impl<M: Module> Operation for OptAsk<'_, M> {
 
     type Refusal = Refusal;
 
-    ghost asked = { λ ask. opt_asked (M.meaning ask.«module».now) ask.offer.now (batch_of ask.batch) };
+    ghost asked = { λ ask. opt_operation (M.meaning ask.«module».now) ask.offer.now (batch_of ask.batch) };
 
     ghost writes = { λ ask. 5 };
 
@@ -52,7 +52,7 @@ impl<M: Module> Operation for OptAsk<'_, M> {
         cell: &Cell,
         register: &Digest,
         keys: &mut KeptKey,
-    ) -> Result<Found<BatchAnswer>, Refusal> {
+    ) -> Result<OpFinding<BatchAnswer>, Refusal> {
         find_in(self, cell, register, keys)
     }
 

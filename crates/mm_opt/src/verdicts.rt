@@ -4,7 +4,7 @@ ghost use Rattle.std.specs.Prelude.{◌≡◌};
 ghost use Rattle.std.specs.List.{list_any};
 ghost use Rattle.std.specs.Str.{bytes_eq};
 ghost use Rattle.mm_digest.specs.Messages.{zero_bytes};
-ghost use Rattle.mm_model.specs.Judge.{forms_of, fits_fresh, fits_again, opt_verdict};
+ghost use Rattle.mm_model.specs.Verdicts.{forms_of, fits_fresh, fits_again, opt_verdict};
 ghost use Rattle.mm_opt.specs.Order.{point, has_lost_power};
 
 use mm_digest::{Digest, anchored, extended, zero};

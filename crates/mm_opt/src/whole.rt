@@ -2,21 +2,21 @@
 
 ghost use Rattle.std.specs.Prelude.{◌≡◌, true, false, Err};
 ghost use Rattle.std.specs.Result.{result_err};
-ghost use Rattle.mm_machine.specs.Finishing.{acts_for, answer_in};
+ghost use Rattle.mm_machine.specs.OpEnds.{acts_for, answer_in};
 ghost use Rattle.mm_module.specs.Batch.{One};
 ghost use Rattle.mm_module.specs.Batches.{batch_of};
 ghost use Rattle.mm_model.specs.Long.{is_long};
-ghost use Rattle.mm_call.specs.Calls.{Commits, IsCallSoFar};
-ghost use Rattle.mm_call.specs.Leaving.{Blames, whole_in};
+ghost use Rattle.mm_call.specs.CallKind.{CommitsFinding, IsCallSoFar};
+ghost use Rattle.mm_call.specs.Untouched.{CountsHandedFault, batch_result_of};
 ghost use Rattle.mm_call.specs.Machine.{CallReads, LeavesRoom, MayCommit};
 ghost use Rattle.mm_call.specs.Refusals.{fault_in};
-ghost use Rattle.mm_opt.specs.Asked.{AskedInOpt};
-ghost use Rattle.mm_opt.specs.Asks.{opt_call};
-ghost use Rattle.mm_opt.specs.Operating.{opt_asked};
+ghost use Rattle.mm_opt.specs.AskPromise.{OptAskPromise};
+ghost use Rattle.mm_opt.specs.OptCall.{opt_call};
+ghost use Rattle.mm_opt.specs.Operation.{opt_operation};
 
 use crate::operation::OptAsk;
 use mm_call::{Committed, KeptKey, commit, finish_call, read_call};
-use mm_machine::Found;
+use mm_machine::OpFinding;
 use mm_model::{Answer, BatchAnswer, Refusal};
 use mm_module::{Batch, Module};
 use mm_platform::{Platform, StepFault};
@@ -27,13 +27,13 @@ use std::marker::Model;
 /// see what was found.
 #[derive(Drop)]
 pub struct Prepared {
-    found: Found<BatchAnswer>,
+    found: OpFinding<BatchAnswer>,
 }
 
 impl Model for Prepared {
-    ghost use Rattle.mm_opt.specs.Found.{Found};
+    ghost use Rattle.mm_opt.specs.BatchFinding.{BatchFinding};
 
-    ghost Value = { Found };
+    ghost Value = { BatchFinding };
 
     ghost view = { λ prepared. prepared.found };
 }
@@ -49,13 +49,13 @@ pub fn prepare<M: Module, P: Platform>(
     ensures long { is_long (One request.now) ≡ true →
         (result ≡ Err Refusal.Long) × (P.standing platform.new ≡ P.standing platform.old) }
     ensures reads { is_long (One request.now) ≡ false →
-        CallReads (opt_asked (M.meaning «module».now) offer.now (One request.now))
+        CallReads (opt_operation (M.meaning «module».now) offer.now (One request.now))
         (P.standing platform.old) (P.standing platform.new) result }
     ensures goes { is_long (One request.now) ≡ false →
         IsCallSoFar opt_call (M.meaning «module».now) (P.standing platform.old) (P.standing platform.new)
         offer.now (One request.now) result }
     ensures room { LeavesRoom result (P.standing platform.new) }
-    ensures faults { Blames (fault_in result)
+    ensures faults { CountsHandedFault (fault_in result)
         (P.standing platform.old).faults (P.standing platform.new).faults }
 {
     let batch = Batch::One(request);
@@ -80,9 +80,9 @@ impl Prepared {
     /// `prepare` left.
     pub fn commit<P: Platform>(self, platform: &mut P) -> Result<Committed, StepFault>
         requires { MayCommit self (P.standing platform.old) }
-        ensures commits { Commits (acts_for self) (answer_in self)
+        ensures commits { CommitsFinding (acts_for self) (answer_in self)
             (P.standing platform.old) (P.standing platform.new) result }
-        ensures faults { Blames (result_err result)
+        ensures faults { CountsHandedFault (result_err result)
             (P.standing platform.old).faults (P.standing platform.new).faults }
     {
         commit(self.found, platform)
@@ -99,7 +99,7 @@ fn ask_batch_keeping<M: Module, P: Platform>(
     batch: Batch<'_>,
     keys: &mut KeptKey,
 ) -> Result<BatchAnswer, Refusal>
-    ensures { AskedInOpt (M.meaning «module».now) (P.standing platform.old)
+    ensures { OptAskPromise (M.meaning «module».now) (P.standing platform.old)
         (P.standing platform.new) offer.now (batch_of batch.entry) result }
 {
     if mm_model::is_long(&batch) {
@@ -124,7 +124,7 @@ pub fn ask_batch<M: Module, P: Platform>(
     offer: &[u8],
     batch: Batch<'_>,
 ) -> Result<BatchAnswer, Refusal>
-    ensures { AskedInOpt (M.meaning «module».now) (P.standing platform.old)
+    ensures { OptAskPromise (M.meaning «module».now) (P.standing platform.old)
         (P.standing platform.new) offer.now (batch_of batch.entry) result }
 {
     ask_batch_keeping(alloc, module, platform, offer, batch, &mut KeptKey::new())
@@ -138,8 +138,8 @@ pub fn ask<M: Module, P: Platform>(
     offer: &[u8],
     request: &[u8],
 ) -> Result<Answer, Refusal>
-    ensures { AskedInOpt (M.meaning «module».now) (P.standing platform.old)
-        (P.standing platform.new) offer.now (One request.now) (whole_in result) }
+    ensures { OptAskPromise (M.meaning «module».now) (P.standing platform.old)
+        (P.standing platform.new) offer.now (One request.now) (batch_result_of result) }
 {
     ask_keeping(alloc, module, platform, offer, request, &mut KeptKey::new())
 }
@@ -153,8 +153,8 @@ pub fn ask_keeping<M: Module, P: Platform>(
     request: &[u8],
     keys: &mut KeptKey,
 ) -> Result<Answer, Refusal>
-    ensures { AskedInOpt (M.meaning «module».now) (P.standing platform.old)
-        (P.standing platform.new) offer.now (One request.now) (whole_in result) }
+    ensures { OptAskPromise (M.meaning «module».now) (P.standing platform.old)
+        (P.standing platform.new) offer.now (One request.now) (batch_result_of result) }
 {
     match ask_batch_keeping(alloc, module, platform, offer, Batch::One(request), keys) {
         Err(refusal) => Err(refusal),

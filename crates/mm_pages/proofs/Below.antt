@@ -12,18 +12,18 @@ pub use Rattle.std.proofs.lemmas.List.{append-nil, drop-drop, drop-replicate, dr
 pub use Rattle.std.proofs.lemmas.List.{get_or-take, get_or_append_left, get_or_past, length-replicate, length-take, length-take-le}
 pub use Rattle.std.proofs.lemmas.List.{set_split}
 pub use Rattle.std.proofs.lemmas.Result.{err_from_is_err_and}
-pub use Rattle.mm_base.specs.Faults.{counted, Rose}
+pub use Rattle.mm_base.specs.Faults.{next_count, CountRose}
 pub use Rattle.mm_base.specs.declared.fault.Failed.{Failed}
 pub use Rattle.mm_digest.specs.declared.digest.Digest.{Digest}
-pub use Rattle.mm_store.specs.Calls.{putting}
-pub use Rattle.mm_store.specs.Slots.{longest_slot, slot_in, Slots, with_slot}
-pub use Rattle.mm_store.specs.Unsynced.{marking}
+pub use Rattle.mm_store.specs.Calls.{slots_with_bytes}
+pub use Rattle.mm_store.specs.Slots.{longest_slot, slot_in, Slots, slots_with}
+pub use Rattle.mm_store.specs.UnsyncedSlots.{unsynced_with_mark}
 pub use Rattle.mm_store.proofs.Above.{longest_slot-is, marked_last, marks_alone, putting-twice, slot_in-with_slot, take-min, with_slot-same}
-pub use Rattle.mm_pages.specs.Bytes.{page_count, page_of, resized, with_page}
-pub use Rattle.mm_pages.specs.Cached.{AreInStep, Cached, KeepsStep}
-pub use Rattle.mm_pages.specs.Calls.{changing, ReadsLength, ReadsPage, Syncs, WritesPage}
-pub use Rattle.mm_pages.specs.Counts.{change_count, changes_of, counted_by, look_at, looks_at, may_be, one_if}
-pub use Rattle.mm_pages.specs.Paged.{Paged}
-pub use Rattle.mm_pages.specs.Puts.{AreOf, ChangesSlot, EndsInSync, Fails, FailsIn, Fits, FitsAndSyncs, HoldsPage, IsFilled, IsInStep}
-pub use Rattle.mm_pages.specs.Puts.{IsPutAt, PutsBytes, PutsFirst, PutsOne, PutsWhole}
-pub use Rattle.mm_pages.specs.Rows.{DropsPage, keeping, kept_digest, page_digest, page_digests, row_in, Rows, with_row}
+pub use Rattle.mm_pages.specs.Bytes.{page_count, page_of, resized_bytes, bytes_with_page}
+pub use Rattle.mm_pages.specs.CachedDevice.{AreInStep, CachedDevice, KeepsStep}
+pub use Rattle.mm_pages.specs.Calls.{slots_with_change, ReadsLength, ReadsPage, SyncsPages, WritesPage}
+pub use Rattle.mm_pages.specs.Counts.{change_count, changes_of, count_after_so_many, look_count, total_of_looks, may_be_same, one_if}
+pub use Rattle.mm_pages.specs.PageStanding.{PageStanding}
+pub use Rattle.mm_pages.specs.SlotWrites.{AreDigestsOf, ChangesSlot, EndsInSync, WriteFails, SlotFails, FitsSlot, FitsAndSyncs, HoldsPage, IsFilled, IsInStep}
+pub use Rattle.mm_pages.specs.SlotWrites.{IsPutAt, PutsBytes, PutsFirstPages, PutsOnePage, PutsWholeSlot}
+pub use Rattle.mm_pages.specs.Rows.{DropsPage, row_with_digest, kept_digest, page_digest, digests_of_pages, row_in, Rows, rows_with}

@@ -3,8 +3,8 @@ use Rattle.mm_pages.proofs.Below.{ℕ, ◌≡◌, ◌+◌, ◌-◌, ◌*◌, ◌
 use Rattle.mm_pages.proofs.Below.{ap, sym, ◌∙◌, inl, inr, arith, length-append, cases_lt, drop_min, drop-replicate, length-take}
 use Rattle.mm_pages.proofs.Below.{length-replicate, get_or_append_left, get_or-append_right, get_or-take, get_or-drop, get_or_past}
 use Rattle.mm_pages.proofs.Below.{append-nil, drop_all, drop-drop, take-min, same_number_lists}
-use Rattle.mm_pages.specs.Bytes.{resized, page_of, with_page}
-use Rattle.mm_pages.specs.Puts.{IsPutIn, IsPutAt}
+use Rattle.mm_pages.specs.Bytes.{resized_bytes, page_of, bytes_with_page}
+use Rattle.mm_pages.specs.SlotWrites.{IsPutIn, IsPutAt}
 
 pub length-resized : (n : ℕ) (bytes : List ℕ) → length (resized n bytes) ≡ n
 unfolding resized
@@ -70,8 +70,8 @@ placed_is at size part bytes l =
           ∙ get_or-drop (at + size) bytes (i - at - size) 0 ∙ ap (λ n. get_or bytes n 0) k;
     }
 
-pub put_at : (page : ℕ) (part was : List ℕ) → length part ≡ 256 → IsPutAt page part was (with_page page part was)
-unfolding with_page placed
+pub put_at : (page : ℕ) (part was : List ℕ) → length part ≡ 256 → IsPutAt page part was (bytes_with_page page part was)
+unfolding bytes_with_page placed
 put_at page part was l = placed_is (256 * page) 256 part was l
 
 -- bytes of this length that agree up to there
@@ -124,16 +124,16 @@ placed-amid at size part bytes h =
     (sym (append-nil (take at bytes)) ∙ ap (λ n. take at bytes ++ replicate n 0) (sym none))
     ∙ ap (λ (x : List ℕ). (take at bytes ++ replicate (at - length bytes) 0) ++ (part ++ x)) (drop-drop size at bytes)
 
-pub with_page-end : (page : ℕ) (part bytes : List ℕ) → length bytes ≤ 256 * page + 256 →
-    resized (256 * page) bytes ++ part ≡ with_page page part bytes
-unfolding with_page placed
-with_page-end page part bytes h = placed-end (256 * page) 256 part bytes h
+pub bytes_with_page-end : (page : ℕ) (part bytes : List ℕ) → length bytes ≤ 256 * page + 256 →
+    resized (256 * page) bytes ++ part ≡ bytes_with_page page part bytes
+unfolding bytes_with_page placed
+bytes_with_page-end page part bytes h = placed-end (256 * page) 256 part bytes h
 
-pub with_page-amid : (page at : ℕ) (part bytes front rest after : List ℕ) → at ≡ 256 * page → at ≤ length bytes →
+pub bytes_with_page-amid : (page at : ℕ) (part bytes front rest after : List ℕ) → at ≡ 256 * page → at ≤ length bytes →
     front ≡ take at bytes → rest ≡ drop at bytes → after ≡ drop 256 rest →
-    front ++ (part ++ after) ≡ with_page page part bytes
-unfolding with_page placed
-with_page-amid page at part bytes front rest after e h f g k =
+    front ++ (part ++ after) ≡ bytes_with_page page part bytes
+unfolding bytes_with_page placed
+bytes_with_page-amid page at part bytes front rest after e h f g k =
     let back : after ≡ drop 256 (drop at bytes) = k ∙ ap (λ (x : List ℕ). drop 256 x) g in
     ap (λ (x : List ℕ). x ++ (part ++ after)) f ∙ ap (λ (x : List ℕ). take at bytes ++ (part ++ x)) back
     ∙ placed-amid at 256 part bytes h ∙ ap (λ n. placed n part 256 bytes) e

@@ -1,15 +1,15 @@
 -- Laws of counts, and of what tests of bytes and of digests tell.
 use Rattle.mm_pages.proofs.Below.{ℕ, ◌≡◌, ◌+◌, zero, suc, Bool, true, false, Option, Some, None, List, refl, ap, ◌∙◌, subst, arith}
 use Rattle.mm_pages.proofs.Below.{zero-add}
-use Rattle.mm_pages.proofs.Below.{◌&&◌, bytes_eq, counted, Digest, page_of, counted_by, may_be, change_count, changes_of, page_digest}
+use Rattle.mm_pages.proofs.Below.{◌&&◌, bytes_eq, next_count, Digest, page_of, count_after_so_many, may_be_same, change_count, changes_of, page_digest}
 use Rattle.std.proofs.lemmas.Slice.Eq.{bytes_eq-Decides}
 use Rattle.sha2.specs.Sha256.{sha256}
 
-pub counted_by-add : (m n count : ℕ) → counted_by (m + n) count ≡ counted_by m (counted_by n count)
-counted_by-add zero n count = ap (λ k. counted_by k count) (zero-add n)
-counted_by-add (suc m) n count =
+pub count_after_so_many-add : (m n count : ℕ) → count_after_so_many (m + n) count ≡ count_after_so_many m (count_after_so_many n count)
+count_after_so_many-add zero n count = ap (λ k. count_after_so_many k count) (zero-add n)
+count_after_so_many-add (suc m) n count =
     let more : suc m + n ≡ suc (m + n) = omega arith in
-    ap (λ k. counted_by k count) more ∙ ap counted (counted_by-add m n count)
+    ap (λ k. count_after_so_many k count) more ∙ ap next_count (count_after_so_many-add m n count)
 
 -- bytes that pass the test are the same
 pub same_bytes : (one other : List ℕ) → bytes_eq one other ≡ true → one ≡ other
@@ -24,14 +24,14 @@ no_change a was part e = grind (arith, e)
 
 -- a page with the digest that is kept, if any, may be there
 alike : (kept : Option Digest) (part : List ℕ) → ((digest : Digest) → kept ≡ Some digest → digest ≡ page_digest part) →
-    may_be kept (page_digest part) ≡ true
+    may_be_same kept (page_digest part) ≡ true
 alike None part step = refl
 alike (Some kept) part step = (bytes_eq-Decides kept.bytes (sha256 part)).1 (ap (λ (d : Digest). d.bytes) (step kept refl))
 
 -- so a page that wasn't found there, by its bytes or by the digest of what is there, changes
 pub a_change : (kept : Option Digest) (was part : List ℕ) →
     ((digest : Digest) → kept ≡ Some digest → digest ≡ page_digest was) →
-    false ≡ (may_be kept (page_digest part) && bytes_eq was part) → change_count was part ≡ 1
+    false ≡ (may_be_same kept (page_digest part) && bytes_eq was part) → change_count was part ≡ 1
 a_change kept was part step e = by_test (bytes_eq was part) refl
   where
     by_test : (b : Bool) → bytes_eq was part ≡ b → change_count was part ≡ 1

@@ -2,12 +2,12 @@
 use Rattle.mm_pages.proofs.Below.{ℕ, ◌≡◌, ◌+◌, ◌-◌, ◌*◌, ◌<◌, ◌≤◌, min, Some, Ok, List, ◌++◌, length, get_or, take, refl, ap, sym, ◌∙◌, inl}
 use Rattle.mm_pages.proofs.Below.{inr, arith, length-append, cases_lt, length-take, length-take-le, get_or_append_left, get_or-append_right}
 use Rattle.mm_pages.proofs.Below.{get_or-take, same_number_lists, Slots, slot_in, longest_slot, longest_slot-is, page_of}
-use Rattle.mm_pages.proofs.Below.{page_count, Paged, ReadsLength, ReadsPage}
-use Rattle.mm_pages.specs.Gives.{GivesSize, GivesPages}
+use Rattle.mm_pages.proofs.Below.{page_count, PageStanding, ReadsLength, ReadsPage}
+use Rattle.mm_pages.specs.SlotReads.{GivesSize, GivesPages}
 use Rattle.mm_pages.proofs.BytesLaws.{get_or-page_of}
 
 -- the pages so far gave these bytes
-pub record GivesFirst (slot size count : ℕ) (old new : Paged) (bytes : List ℕ) : Type 0 where
+pub record GivesFirst (slot size count : ℕ) (old new : PageStanding) (bytes : List ℕ) : Type 0 where
   pub same : new ≡ record old { page_reads = new.page_reads }
   pub len : length bytes ≡ min (256 * count) size
   pub gives : (slots : Slots) → old.slots ≡ Some slots → size ≤ length (slot_in slots slot) → (i : ℕ) → i < length bytes
@@ -24,7 +24,7 @@ part_at page at i left there part was e f a low high =
     ∙ get_or-page_of was page (i - at) (omega arith)
     ∙ ap (λ n. get_or was n 0) k
 
-pub gives_more : {slot size page : ℕ} {old mid new : Paged} {bytes there part : List ℕ} {done : Unit} →
+pub gives_more : {slot size page : ℕ} {old mid new : PageStanding} {bytes there part : List ℕ} {done : Unit} →
     256 * page < size → GivesFirst slot size page old mid bytes → ReadsPage slot page mid new there (Ok done) →
     part ≡ take (min (size - 256 * page) 256) there → length part ≡ min (size - 256 * page) 256 →
     GivesFirst slot size (page + 1) old new (bytes ++ part)
@@ -33,8 +33,8 @@ gives_more {slot} {size} {page} {old} {bytes = bytes} {there = there} {part = pa
     let size_is : length (bytes ++ part) ≡ length bytes + length part = length-append bytes part in
     record {
       same = r.same ∙ (λ i. record (g.same i) {
-        faults = (r.counted_faults.kept ∙ ap (λ (x : Paged). x.faults) g.same) i;
-        page_reads = sym (ap (λ (x : Paged). x.page_reads) r.same) i;
+        faults = (r.counted_faults.kept ∙ ap (λ (x : PageStanding). x.faults) g.same) i;
+        page_reads = sym (ap (λ (x : PageStanding). x.page_reads) r.same) i;
       });
       len = omega (arith, size_is, g.len, l);
       gives =
@@ -44,18 +44,18 @@ gives_more {slot} {size} {page} {old} {bytes = bytes} {there = there} {part = pa
             | inr here ↦
                 (get_or-append_right bytes part (length bytes) i 0 refl here
                 ∙ part_at page (length bytes) i (size - 256 * page) there part (slot_in slots slot)
-                (r.gives slots (ap (λ (x : Paged). x.slots) g.same ∙ e)) p at here (omega (arith, size_is, l)))
+                (r.gives slots (ap (λ (x : PageStanding). x.slots) g.same ∙ e)) p at here (omega (arith, size_is, l)))
           ];
     }
 
-pub gives_all : {slot size : ℕ} {old new : Paged} {bytes : List ℕ} {done : Unit} →
+pub gives_all : {slot size : ℕ} {old new : PageStanding} {bytes : List ℕ} {done : Unit} →
     GivesFirst slot size (page_count size) old new bytes → GivesPages slot size old new bytes (Ok done)
 gives_all {slot} {size} {old} {new} {bytes} g =
     let size_is : length bytes ≡ size = omega (arith, g.len) in
     record {
       same = g.same
-          ∙ (λ i. record old { faults = sym (ap (λ (x : Paged). x.faults) g.same) i; page_reads = new.page_reads });
-      counted_faults = ap (λ (x : Paged). x.faults) g.same;
+          ∙ (λ i. record old { faults = sym (ap (λ (x : PageStanding). x.faults) g.same) i; page_reads = new.page_reads });
+      counted_faults = ap (λ (x : PageStanding). x.faults) g.same;
       len = size_is;
       gives =
           λ slots e most.
@@ -69,7 +69,7 @@ size_of_seen : (n size : ℕ) (bytes : List ℕ) → n ≡ 1100000 → size ≡ 
     size ≡ length (take n bytes)
 size_of_seen n size bytes e f = omega (arith, length-take n bytes)
 
-pub gives_size : {slot seen size : ℕ} {old new : Paged} → ReadsLength slot old new (Ok seen) →
+pub gives_size : {slot seen size : ℕ} {old new : PageStanding} → ReadsLength slot old new (Ok seen) →
     size ≡ min seen 1100000 → GivesSize slot old new (Ok size)
 gives_size {slot} {size = size} r e = record {
   same = r.same;

@@ -3,7 +3,7 @@ use Rattle.std.proofs.lemmas.Bool.Decides.{nat_tests}
 use Rattle.mm_pages.proofs.Below.{ℕ, ◌≡◌, ◌+◌, ◌-◌, zero, suc, Option, Some, None, List, [], ◌∷◌, ◌++◌, length, get_or}
 use Rattle.mm_pages.proofs.Below.{take, drop, refl, ap, sym, ◌∙◌, arith, length-append, append_assoc, add-one, subst}
 use Rattle.mm_pages.proofs.Below.{get_or-append_right, get_or-drop, drop-drop, drop_at, take-append_seam, Digest, page_of, Rows, row_in}
-use Rattle.mm_pages.proofs.Below.{with_row, kept_digest, page_digest, keeping, page_digests}
+use Rattle.mm_pages.proofs.Below.{rows_with, kept_digest, page_digest, row_with_digest, digests_of_pages}
 
 pub row_in-with_row : (rows : Rows) (n : ℕ) (row : List (Option Digest)) → row_in (with_row rows n row) n ≡ row
 row_in-with_row rows n row = grind (arith, nat_tests)
@@ -50,14 +50,14 @@ kept_of-next page firsts row e =
     ∙ get_or-drop page row (page - page) None
     ∙ ap (λ n. get_or row n None) (omega arith)
 
-pub length-digests_of : (bytes : List ℕ) (count : ℕ) → length (page_digests bytes count) ≡ count
+pub length-digests_of : (bytes : List ℕ) (count : ℕ) → length (digests_of_pages bytes count) ≡ count
 length-digests_of bytes zero = refl
 length-digests_of bytes (suc count) =
-    length-append (page_digests bytes count) (Some (page_digest (page_of bytes count)) ∷ [])
+    length-append (digests_of_pages bytes count) (Some (page_digest (page_of bytes count)) ∷ [])
     ∙ omega (arith, length-digests_of bytes count)
 
 pub take-digests_of : (bytes : List ℕ) (count : ℕ) (rest : List (Option Digest)) →
-    take count (page_digests bytes count ++ rest) ≡ page_digests bytes count
+    take count (digests_of_pages bytes count ++ rest) ≡ digests_of_pages bytes count
 take-digests_of bytes count rest =
-    let firsts : List (Option Digest) = page_digests bytes count in
+    let firsts : List (Option Digest) = digests_of_pages bytes count in
     subst (λ n. take n (firsts ++ rest) ≡ firsts) (length-digests_of bytes count) (take-append_seam firsts rest)

@@ -2,18 +2,18 @@
 use Rattle.std.proofs.lemmas.Bool.Decides.{nat_tests}
 use Rattle.mm_pages.proofs.Below.{ℕ, ◌≡◌, ◌-◌, zero, suc, Option, Some, None, List, [], ◌∷◌, length, get_or, ap}
 use Rattle.mm_pages.proofs.Below.{sym, ◌∙◌, subst, inl, inr, arith, cases_lt, get_or_append_left, get_or-append_right}
-use Rattle.mm_pages.proofs.Below.{Digest, Slots, with_slot, putting, page_of, page_count, Paged, Rows, with_row, page_digest, page_digests}
-use Rattle.mm_pages.proofs.Below.{PutsWhole, AreOf, AreInStep, KeepsStep}
+use Rattle.mm_pages.proofs.Below.{Digest, Slots, slots_with, slots_with_bytes, page_of, page_count, PageStanding, Rows, rows_with, page_digest, digests_of_pages}
+use Rattle.mm_pages.proofs.Below.{PutsWholeSlot, AreDigestsOf, AreInStep, KeepsStep}
 use Rattle.mm_pages.proofs.RowLaws.{length-digests_of}
 
 last_of : (n : ℕ) (digest other : Digest) → get_or (Some digest ∷ []) n None ≡ Some other → (n ≡ 0) × (digest ≡ other)
 last_of n digest other e = grind (arith, e)
 
 -- the digests of bytes are those of their own pages
-are_of_own : (bytes : List ℕ) (count : ℕ) → AreOf (page_digests bytes count) bytes
+are_of_own : (bytes : List ℕ) (count : ℕ) → AreDigestsOf (digests_of_pages bytes count) bytes
 are_of_own bytes zero page digest e = absurd (cc)
 are_of_own bytes (suc count) page digest e =
-    let firsts : List (Option Digest) = page_digests bytes count in
+    let firsts : List (Option Digest) = digests_of_pages bytes count in
     let last : Digest = page_digest (page_of bytes count) in
     elim (cases_lt page count) [
       | inl before ↦
@@ -27,22 +27,22 @@ are_of_own bytes (suc count) page digest e =
     ]
 
 step_with : (slot : ℕ) (rows : Rows) (slots : Slots) (row : List (Option Digest)) (bytes : List ℕ) →
-    AreInStep rows slots → AreOf row bytes → AreInStep (with_row rows slot row) (with_slot slots slot bytes)
+    AreInStep rows slots → AreDigestsOf row bytes → AreInStep (rows_with rows slot row) (slots_with slots slot bytes)
 step_with slot rows slots row bytes h k = grind (arith, nat_tests, h, k)
 
 -- one slot and its digests changed
 step_after : (slot : ℕ) {rows after : Rows} (row : List (Option Digest)) (bytes : List ℕ) {old new : Option Slots} {was now : Slots} →
-    after ≡ with_row rows slot row → new ≡ putting slot bytes old → old ≡ Some was → new ≡ Some now → AreOf row bytes →
+    after ≡ rows_with rows slot row → new ≡ slots_with_bytes slot bytes old → old ≡ Some was → new ≡ Some now → AreDigestsOf row bytes →
     AreInStep rows was → AreInStep after now
 step_after slot {rows} {after} row bytes {was = was} {now = now} r s e f k h =
-    let told : Some (with_slot was slot bytes) ≡ Some now =
-    sym (s ∙ ap (λ (x : Option Slots). putting slot bytes x) e) ∙ f in
-    let same : with_slot was slot bytes ≡ now = cc in
+    let told : Some (slots_with was slot bytes) ≡ Some now =
+    sym (s ∙ ap (λ (x : Option Slots). slots_with_bytes slot bytes x) e) ∙ f in
+    let same : slots_with was slot bytes ≡ now = cc in
     subst (λ (x : Rows). AreInStep x now) (sym r)
-    (subst (λ (x : Slots). AreInStep (with_row rows slot row) x) same (step_with slot rows was row bytes h k))
+    (subst (λ (x : Slots). AreInStep (rows_with rows slot row) x) same (step_with slot rows was row bytes h k))
 
-pub step_written : {slot : ℕ} {bytes : List ℕ} {old new : Paged} {rows after : Rows} → PutsWhole slot bytes old new rows after →
+pub step_written : {slot : ℕ} {bytes : List ℕ} {old new : PageStanding} {rows after : Rows} → PutsWholeSlot slot bytes old new rows after →
     KeepsStep old new rows after
 step_written {slot} {bytes} p honest was now e f h =
-    step_after slot (page_digests bytes (page_count (length bytes))) bytes p.rows_are (p.slots honest) e f
+    step_after slot (digests_of_pages bytes (page_count (length bytes))) bytes p.rows_are (p.slots honest) e f
     (are_of_own bytes (page_count (length bytes))) h

@@ -1,9 +1,9 @@
 pub mod Bytes
-pub mod Paged
+pub mod PageStanding
 pub mod Calls
 pub mod Counts
 pub mod Rows
-pub mod Puts
-pub mod Gives
-pub mod Cached
+pub mod SlotWrites
+pub mod SlotReads
+pub mod CachedDevice
 pub mod Sheets

@@ -22,8 +22,8 @@ row_in rows slot =
     else rows.three
 
 -- the digests, with these in place of one slot's
-abbrev pub with_row : Rows → ℕ → List (Option Digest) → Rows
-with_row rows slot row =
+abbrev pub rows_with : Rows → ℕ → List (Option Digest) → Rows
+rows_with rows slot row =
     if slot == 0 then record rows { zero = row } else if slot == 1 then record rows { one = row }
     else if slot == 2 then record rows { two = row } else record rows { three = row }
 
@@ -36,19 +36,19 @@ abbrev pub page_digest : List ℕ → Digest
 page_digest part = record { bytes = sha256 part }
 
 -- a row with this digest in place of a page's, which follows those of the pages before it
-abbrev pub keeping : ℕ → Digest → List (Option Digest) → List (Option Digest)
-keeping page digest row = take page row ++ (Some digest ∷ drop (page + 1) row)
+abbrev pub row_with_digest : ℕ → Digest → List (Option Digest) → List (Option Digest)
+row_with_digest page digest row = take page row ++ (Some digest ∷ drop (page + 1) row)
 
 -- the digests of the first pages of these bytes
-abbrev pub page_digests : List ℕ → ℕ → List (Option Digest)
-page_digests bytes zero = []
-page_digests bytes (suc count) =
-    page_digests bytes count ++ (Some (page_digest (page_of bytes count)) ∷ [])
+abbrev pub digests_of_pages : List ℕ → ℕ → List (Option Digest)
+digests_of_pages bytes zero = []
+digests_of_pages bytes (suc count) =
+    digests_of_pages bytes count ++ (Some (page_digest (page_of bytes count)) ∷ [])
 
 -- one row changed but for its digests before and after a page
 pub record DropsPage (slot page : ℕ) (old new : Rows) : Type 0 where
   pub row : List (Option Digest)
-  pub rows : new ≡ with_row old slot row
+  pub rows : new ≡ rows_with old slot row
   pub len : length row ≡ length (row_in old slot)
   pub before : take page row ≡ take page (row_in old slot)
   pub after : drop (page + 1) row ≡ drop (page + 1) (row_in old slot)

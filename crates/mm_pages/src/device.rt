@@ -1,8 +1,8 @@
 //! A device of pages.
 
 ghost use Rattle.std.specs.Prelude.{◌<◌, ◌≤◌};
-ghost use Rattle.mm_pages.specs.Paged.{Paged};
-ghost use Rattle.mm_pages.specs.Calls.{ReadsLength, ReadsPage, WritesPage, SetsLength, Syncs};
+ghost use Rattle.mm_pages.specs.PageStanding.{PageStanding};
+ghost use Rattle.mm_pages.specs.Calls.{ReadsLength, ReadsPage, WritesPage, SetsLength, SyncsPages};
 
 use mm_base::Failed;
 
@@ -13,7 +13,7 @@ use mm_base::Failed;
 /// `pages` is what the device holds: the slots where it tells them, whether it is honest, its counts of faults
 /// and of calls, and, where it is told, which slots have changes that were not synced.
 pub trait PageDevice {
-    ghost pages: { Self → Paged };
+    ghost pages: { Self → PageStanding };
 
     /// How many bytes the slot has.
     fn length(&mut self, slot: u8) -> Result<u32, Failed>
@@ -43,5 +43,5 @@ pub trait PageDevice {
     /// Lets what was written to the slot be on the disk. After `Failed` the slot may have any bytes.
     fn sync(&mut self, slot: u8) -> Result<(), Failed>
         requires { slot < 4 }
-        ensures syncs { Syncs slot (pages self.old) (pages self.new) result };
+        ensures syncs { SyncsPages slot (pages self.old) (pages self.new) result };
 }

@@ -1,7 +1,7 @@
 //! The digests that are kept of pages.
 
 ghost use Rattle.std.specs.Prelude.{◌≡◌, ◌<◌, ◌≤◌, ◌+◌, [], take, drop, length, Some, None, IfOk};
-ghost use Rattle.mm_pages.specs.Rows.{no_rows, row_in, with_row, kept_digest, keeping, DropsPage};
+ghost use Rattle.mm_pages.specs.Rows.{no_rows, row_in, rows_with, kept_digest, row_with_digest, DropsPage};
 
 use mm_base::Memory;
 use mm_digest::Digest;
@@ -13,11 +13,11 @@ const MOST_PAGES: usize = 4297;
 
 // The digests of the first pages of one slot, each kept or not. There is room for those of all pages.
 #[derive(Drop)]
-pub struct Row {
+pub struct DigestRow {
     digests: Vec<Option<Digest>>,
 }
 
-impl Model for Row {
+impl Model for DigestRow {
     ghost use Rattle.std.specs.Prelude.{List, Option, ◌≤◌, vec_capacity};
     ghost use Rattle.mm_digest.specs.declared.digest.Digest.{Digest};
 
@@ -28,13 +28,13 @@ impl Model for Row {
     ghost invariant = { λ r. 4297 ≤ vec_capacity r.digests };
 }
 
-impl Row {
+impl DigestRow {
     // No digests.
-    fn new(alloc: Global) -> Result<Row, Memory>
+    fn new(alloc: Global) -> Result<DigestRow, Memory>
         ensures { IfOk result (λ row. row ≡ []) }
     {
         let digests = Vec::with_capacity(alloc, MOST_PAGES)?;
-        Ok(Row { digests })
+        Ok(DigestRow { digests })
     }
 
     // The digest that is kept of a page.
@@ -51,7 +51,7 @@ impl Row {
     fn keep(&mut self, page: u16, digest: Digest)
         requires page { page < 4297 }
         requires reached { page ≤ length self.old }
-        ensures { self.new ≡ keeping page digest self.old }
+        ensures { self.new ≡ row_with_digest page digest self.old }
     {
         let page = usize::from(page);
         if page < self.digests.len() {
@@ -83,14 +83,14 @@ impl Row {
 
 // The digests of all slots.
 #[derive(Drop)]
-pub struct Digests {
-    zero: Row,
-    one: Row,
-    two: Row,
-    three: Row,
+pub struct SlotDigests {
+    zero: DigestRow,
+    one: DigestRow,
+    two: DigestRow,
+    three: DigestRow,
 }
 
-impl Model for Digests {
+impl Model for SlotDigests {
     ghost use Rattle.mm_pages.specs.Rows.{Rows};
 
     ghost Value = { Rows };
@@ -98,16 +98,16 @@ impl Model for Digests {
     ghost view = { λ d. record { zero = d.zero; one = d.one; two = d.two; three = d.three } };
 }
 
-impl Digests {
+impl SlotDigests {
     /// No digests, with room for all of them.
-    pub fn new(alloc: Global) -> Result<Digests, Memory>
+    pub fn new(alloc: Global) -> Result<SlotDigests, Memory>
         ensures { IfOk result (λ digests. digests ≡ no_rows) }
     {
-        let zero = Row::new(alloc)?;
-        let one = Row::new(alloc)?;
-        let two = Row::new(alloc)?;
-        let three = Row::new(alloc)?;
-        Ok(Digests {
+        let zero = DigestRow::new(alloc)?;
+        let one = DigestRow::new(alloc)?;
+        let two = DigestRow::new(alloc)?;
+        let three = DigestRow::new(alloc)?;
+        Ok(SlotDigests {
             zero,
             one,
             two,
@@ -133,7 +133,7 @@ impl Digests {
         requires slot { slot < 4 }
         requires page { page < 4297 }
         requires reached { page ≤ length (row_in self.old slot) }
-        ensures { self.new ≡ with_row self.old slot (keeping page digest (row_in self.old slot)) }
+        ensures { self.new ≡ rows_with self.old slot (row_with_digest page digest (row_in self.old slot)) }
     {
         match slot {
             0 => self.zero.keep(page, digest),
@@ -159,7 +159,7 @@ impl Digests {
     /// Drops the digests of a slot's pages from this one on.
     pub fn cut(&mut self, slot: u8, page: u16)
         requires { slot < 4 }
-        ensures { self.new ≡ with_row self.old slot (take page (row_in self.old slot)) }
+        ensures { self.new ≡ rows_with self.old slot (take page (row_in self.old slot)) }
     {
         match slot {
             0 => self.zero.cut(page),

@@ -1,33 +1,33 @@
 //! Which slots have changes that were not synced.
 
 ghost use Rattle.std.specs.Prelude.{◌≡◌, ◌<◌};
-ghost use Rattle.mm_store.specs.Unsynced.{unsynced_in, with_unsynced, all_synced};
+ghost use Rattle.mm_store.specs.UnsyncedSlots.{is_unsynced_in, unsynced_with, synced_slots};
 
 use std::marker::Model;
 
 /// Of each slot, whether it has changes that were not synced.
 #[derive(Drop)]
-pub struct Marks {
+pub struct SlotMarks {
     zero: bool,
     one: bool,
     two: bool,
     three: bool,
 }
 
-impl Model for Marks {
-    ghost use Rattle.mm_store.specs.Unsynced.{Unsynced};
+impl Model for SlotMarks {
+    ghost use Rattle.mm_store.specs.UnsyncedSlots.{UnsyncedSlots};
 
-    ghost Value = { Unsynced };
+    ghost Value = { UnsyncedSlots };
 
     ghost view = { λ m. record { zero = m.zero; one = m.one; two = m.two; three = m.three } };
 }
 
-impl Marks {
+impl SlotMarks {
     /// No slot has.
-    pub fn new() -> Marks
-        ensures { result ≡ all_synced }
+    pub fn new() -> SlotMarks
+        ensures { result ≡ synced_slots }
     {
-        Marks {
+        SlotMarks {
             zero: false,
             one: false,
             two: false,
@@ -38,7 +38,7 @@ impl Marks {
     /// Whether a slot has.
     pub fn get(&self, slot: u8) -> bool
         requires { slot < 4 }
-        ensures { result ≡ unsynced_in self.now slot }
+        ensures { result ≡ is_unsynced_in self.now slot }
     {
         match slot {
             0 => self.zero,
@@ -51,7 +51,7 @@ impl Marks {
     /// Keeps of a slot whether it has.
     pub fn set(&mut self, slot: u8, mark: bool)
         requires { slot < 4 }
-        ensures { self.new ≡ with_unsynced self.old slot mark }
+        ensures { self.new ≡ unsynced_with self.old slot mark }
     {
         match slot {
             0 => self.zero = mark,

@@ -1,15 +1,15 @@
 //! A device of pages in memory, which fails as it is told to and not otherwise.
 
 ghost use Rattle.std.specs.Prelude.{◌≡◌, ◌↔◌, ◌<◌, ◌≤◌, ◌+◌, ◌++◌, IsTrue, IsErr, [], OnOk, OnErr, IfOk, length, take, drop, if◌then◌else◌};
-ghost use Rattle.mm_base.specs.Faults.{counted};
-ghost use Rattle.mm_store.specs.Slots.{slot_in, with_slot};
-ghost use Rattle.mm_store.specs.Unsynced.{unsynced_in};
-ghost use Rattle.mm_pages.specs.Bytes.{resized, with_page};
-ghost use Rattle.mm_pages.specs.Calls.{ReadsLength, ReadsPage, WritesPage, SetsLength, Syncs};
-ghost use Rattle.mm_pages.specs.Sheets.{blank, paged_by, call_made, failed, failed_in, after_reading, after_changing, after_syncing};
+ghost use Rattle.mm_base.specs.Faults.{next_count};
+ghost use Rattle.mm_store.specs.Slots.{slot_in, slots_with};
+ghost use Rattle.mm_store.specs.UnsyncedSlots.{is_unsynced_in};
+ghost use Rattle.mm_pages.specs.Bytes.{resized_bytes, bytes_with_page};
+ghost use Rattle.mm_pages.specs.Calls.{ReadsLength, ReadsPage, WritesPage, SetsLength, SyncsPages};
+ghost use Rattle.mm_pages.specs.Sheets.{blank_sheets, standing_of_sheets, sheets_after_call, sheets_after_fault, sheets_after_slot_fault, sheets_after_read, sheets_after_change, sheets_after_sync};
 
 use crate::device::PageDevice;
-use crate::marks::Marks;
+use crate::marks::SlotMarks;
 use crate::page::{PAGE, page_of};
 use mm_base::{Failed, Memory};
 use std::alloc::Global;
@@ -61,10 +61,10 @@ impl Sheet {
     }
 
     // Cuts the bytes to this length, or fills them up to there with zero bytes.
-    #[tactic(auto, unfolding(crate::specs::Bytes::resized))]
+    #[tactic(auto, unfolding(crate::specs::Bytes::resized_bytes))]
     fn resize(&mut self, size: usize)
         requires { size ≤ 1100032 }
-        ensures { self.new ≡ resized size self.old }
+        ensures { self.new ≡ resized_bytes size self.old }
     {
         self.bytes.resize(size, 0).unwrap();
     }
@@ -72,7 +72,7 @@ impl Sheet {
     // Puts a page in place.
     fn put_page(&mut self, page: u16, part: &[u8; 256])
         requires { page < 4297 }
-        ensures { self.new ≡ with_page page part.now self.old }
+        ensures { self.new ≡ bytes_with_page page part.now self.old }
     {
         let start = PAGE * usize::from(page);
         if start + PAGE < self.bytes.len() {
@@ -114,7 +114,7 @@ impl Model for FourSheets {
 impl FourSheets {
     // Four empty slots.
     fn new(alloc: Global) -> Result<FourSheets, Memory>
-        ensures { IfOk result (λ sheets. sheets ≡ blank.slots) }
+        ensures { IfOk result (λ sheets. sheets ≡ blank_sheets.slots) }
     {
         let zero = Sheet::new(alloc)?;
         let one = Sheet::new(alloc)?;
@@ -146,7 +146,7 @@ impl FourSheets {
     fn set(&mut self, slot: u8, bytes: &[u8])
         requires slot { slot < 4 }
         requires most { length bytes.now ≤ 1100032 }
-        ensures { self.new ≡ with_slot self.old slot bytes.now }
+        ensures { self.new ≡ slots_with self.old slot bytes.now }
     {
         match slot {
             0 => self.zero.set(bytes),
@@ -160,7 +160,7 @@ impl FourSheets {
     fn resize(&mut self, slot: u8, size: usize)
         requires slot { slot < 4 }
         requires most { size ≤ 1100032 }
-        ensures { self.new ≡ with_slot self.old slot (resized size (slot_in self.old slot)) }
+        ensures { self.new ≡ slots_with self.old slot (resized_bytes size (slot_in self.old slot)) }
     {
         match slot {
             0 => self.zero.resize(size),
@@ -174,8 +174,8 @@ impl FourSheets {
     fn put_page(&mut self, slot: u8, page: u16, part: &[u8; 256])
         requires slot { slot < 4 }
         requires page { page < 4297 }
-        ensures { self.new ≡ with_slot self.old slot
-            (with_page page part.now (slot_in self.old slot)) }
+        ensures { self.new ≡ slots_with self.old slot
+            (bytes_with_page page part.now (slot_in self.old slot)) }
     {
         match slot {
             0 => self.zero.put_page(page, part),
@@ -195,7 +195,7 @@ pub struct MemPages {
     page_reads: u64,
     page_writes: u64,
     length_writes: u64,
-    unsynced: Marks,
+    unsynced: SlotMarks,
     ahead: u64,
     leaves: Vec<u8>,
 }
@@ -223,7 +223,7 @@ impl Model for MemPages {
 impl MemPages {
     /// A device with four empty slots, each with room for 1,100,032 bytes, so that no call takes memory.
     pub fn new(alloc: Global) -> Result<MemPages, Memory>
-        ensures { IfOk result (λ pages. pages ≡ blank) }
+        ensures { IfOk result (λ pages. pages ≡ blank_sheets) }
     {
         let slots = FourSheets::new(alloc)?;
         Ok(MemPages {
@@ -233,7 +233,7 @@ impl MemPages {
             page_reads: 0,
             page_writes: 0,
             length_writes: 0,
-            unsynced: Marks::new(),
+            unsynced: SlotMarks::new(),
             ahead: 0,
             leaves: Vec::new(alloc),
         })
@@ -277,7 +277,7 @@ impl MemPages {
     /// Whether a slot has changes that were not synced.
     pub fn is_unsynced(&self, slot: u8) -> bool
         requires { slot < 4 }
-        ensures { result ≡ unsynced_in self.now.unsynced slot }
+        ensures { result ≡ is_unsynced_in self.now.unsynced slot }
     {
         self.unsynced.get(slot)
     }
@@ -285,7 +285,7 @@ impl MemPages {
     // Begins a call, and tells whether it is the one that is to fail.
     fn is_to_fail(&mut self) -> bool
         ensures fails { IsTrue result ↔ (self.old.ahead ≡ 1) }
-        ensures after { self.new ≡ (if result then failed self.old else call_made self.old) }
+        ensures after { self.new ≡ (if result then sheets_after_fault self.old else sheets_after_call self.old) }
         ensures later { self.old.faults ≤ self.new.faults }
     {
         let fails = self.ahead == 1;
@@ -301,7 +301,7 @@ impl MemPages {
         requires { slot < 4 }
         ensures fails { IsTrue result ↔ (self.old.ahead ≡ 1) }
         ensures after { self.new
-            ≡ (if result then failed_in slot self.old else call_made self.old) }
+            ≡ (if result then sheets_after_slot_fault slot self.old else sheets_after_call self.old) }
         ensures later { self.old.faults ≤ self.new.faults }
     {
         if !self.is_to_fail() {
@@ -314,13 +314,13 @@ impl MemPages {
 }
 
 impl PageDevice for MemPages {
-    ghost pages = { paged_by };
+    ghost pages = { standing_of_sheets };
 
     fn length(&mut self, slot: u8) -> Result<u32, Failed>
         requires { slot < 4 }
-        ensures reads { ReadsLength slot (paged_by self.old) (paged_by self.new) result }
+        ensures reads { ReadsLength slot (standing_of_sheets self.old) (standing_of_sheets self.new) result }
         ensures failing { IsErr result ↔ (self.old.ahead ≡ 1) }
-        ensures after { self.new ≡ after_reading self.old result }
+        ensures after { self.new ≡ sheets_after_read self.old result }
     {
         if self.is_to_fail() {
             return Err(Failed);
@@ -331,11 +331,11 @@ impl PageDevice for MemPages {
     fn read_page(&mut self, slot: u8, page: u16, into: &mut [u8; 256]) -> Result<(), Failed>
         requires slot { slot < 4 }
         requires page { page < 4297 }
-        ensures reads { ReadsPage slot page (paged_by self.old) (paged_by self.new) into.new
+        ensures reads { ReadsPage slot page (standing_of_sheets self.old) (standing_of_sheets self.new) into.new
             result }
         ensures failing { IsErr result ↔ (self.old.ahead ≡ 1) }
-        ensures after { self.new ≡ record (after_reading self.old result) {
-          page_reads = counted self.old.page_reads;
+        ensures after { self.new ≡ record (sheets_after_read self.old result) {
+          page_reads = next_count self.old.page_reads;
         } }
     {
         self.page_reads = self.page_reads.saturating_add(1);
@@ -349,12 +349,12 @@ impl PageDevice for MemPages {
     fn write_page(&mut self, slot: u8, page: u16, bytes: &[u8; 256]) -> Result<(), Failed>
         requires slot { slot < 4 }
         requires page { page < 4297 }
-        ensures writes { WritesPage slot page bytes.now (paged_by self.old) (paged_by self.new)
+        ensures writes { WritesPage slot page bytes.now (standing_of_sheets self.old) (standing_of_sheets self.new)
             result }
         ensures failing { IsErr result ↔ (self.old.ahead ≡ 1) }
         ensures after { self.new
-            ≡ record (after_changing slot (with_page page bytes.now) self.old result) {
-              page_writes = counted self.old.page_writes;
+            ≡ record (sheets_after_change slot (bytes_with_page page bytes.now) self.old result) {
+              page_writes = next_count self.old.page_writes;
             } }
     {
         self.page_writes = self.page_writes.saturating_add(1);
@@ -369,10 +369,10 @@ impl PageDevice for MemPages {
     fn set_length(&mut self, slot: u8, length: u32) -> Result<(), Failed>
         requires slot { slot < 4 }
         requires most { length ≤ 1100032 }
-        ensures sets { SetsLength slot length (paged_by self.old) (paged_by self.new) result }
+        ensures sets { SetsLength slot length (standing_of_sheets self.old) (standing_of_sheets self.new) result }
         ensures failing { IsErr result ↔ (self.old.ahead ≡ 1) }
-        ensures after { self.new ≡ record (after_changing slot (resized length) self.old result) {
-          length_writes = counted self.old.length_writes;
+        ensures after { self.new ≡ record (sheets_after_change slot (resized_bytes length) self.old result) {
+          length_writes = next_count self.old.length_writes;
         } }
     {
         self.length_writes = self.length_writes.saturating_add(1);
@@ -386,9 +386,9 @@ impl PageDevice for MemPages {
 
     fn sync(&mut self, slot: u8) -> Result<(), Failed>
         requires { slot < 4 }
-        ensures syncs { Syncs slot (paged_by self.old) (paged_by self.new) result }
+        ensures syncs { SyncsPages slot (standing_of_sheets self.old) (standing_of_sheets self.new) result }
         ensures failing { IsErr result ↔ (self.old.ahead ≡ 1) }
-        ensures after { self.new ≡ after_syncing slot self.old result }
+        ensures after { self.new ≡ sheets_after_sync slot self.old result }
     {
         if self.is_to_fail_in(slot) {
             return Err(Failed);

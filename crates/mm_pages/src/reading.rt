@@ -2,7 +2,7 @@
 
 ghost use Rattle.std.specs.Prelude.{◌≡◌, ◌<◌, ◌≤◌, []};
 ghost use Rattle.mm_store.specs.declared.store.TheConstants.{LONGEST_SLOT};
-ghost use Rattle.mm_pages.specs.Gives.{GivesBytes, GivesPages, GivesSize};
+ghost use Rattle.mm_pages.specs.SlotReads.{GivesBytes, GivesPages, GivesSize};
 
 use crate::device::PageDevice;
 use crate::page::{PAGE, page_count};

@@ -6,14 +6,14 @@ ghost use Rattle.mm_store.specs.Slots.{Slots, slot_in};
 ghost use Rattle.mm_store.specs.Calls.{ReadsSlot, WritesSlot};
 ghost use Rattle.mm_store.specs.declared.store.TheConstants.{LONGEST_SLOT};
 ghost use Rattle.mm_pages.specs.Bytes.{page_count};
-ghost use Rattle.mm_pages.specs.Paged.{kept_on};
+ghost use Rattle.mm_pages.specs.PageStanding.{store_standing_on};
 ghost use Rattle.mm_pages.specs.Rows.{no_rows, row_in};
-ghost use Rattle.mm_pages.specs.Counts.{counted_by, looks_at, changes_of};
-ghost use Rattle.mm_pages.specs.Puts.{AreOf, IsOneMoreAtMost};
-ghost use Rattle.mm_pages.specs.Cached.{rows_after_read, rows_after_write, KeepsStep};
+ghost use Rattle.mm_pages.specs.Counts.{count_after_so_many, total_of_looks, changes_of};
+ghost use Rattle.mm_pages.specs.SlotWrites.{AreDigestsOf, IsOneMoreAtMost};
+ghost use Rattle.mm_pages.specs.CachedDevice.{rows_after_read, rows_after_write, KeepsStep};
 
 use crate::device::PageDevice;
-use crate::digests::Digests;
+use crate::digests::SlotDigests;
 use crate::reading::read_bytes;
 use crate::writing::put_bytes;
 use mm_base::{Bytes, Memory};
@@ -26,13 +26,13 @@ use std::marker::Model;
 #[derive(Drop)]
 pub struct PageStore<D: PageDevice + Drop> {
     device: D,
-    digests: Digests,
+    digests: SlotDigests,
 }
 
 impl<D: PageDevice + Drop> Model for PageStore<D> {
-    ghost use Rattle.mm_pages.specs.Cached.{Cached};
+    ghost use Rattle.mm_pages.specs.CachedDevice.{CachedDevice};
 
-    ghost Value = { Cached D };
+    ghost Value = { CachedDevice D };
 
     ghost view = { λ s. record { device = s.device; rows = s.digests } };
 }
@@ -45,7 +45,7 @@ impl<D: PageDevice + Drop> PageStore<D> {
         ensures device { IfOk result (λ store. store.device ≡ device) }
         ensures rows { IfOk result (λ store. store.rows ≡ no_rows) }
     {
-        let digests = Digests::new(alloc)?;
+        let digests = SlotDigests::new(alloc)?;
         Ok(PageStore { device, digests })
     }
 
@@ -61,12 +61,12 @@ impl<D: PageDevice + Drop> PageStore<D> {
 }
 
 impl<D: PageDevice + Drop> Store for PageStore<D> {
-    ghost kept = { λ store. kept_on (D.pages store.device) };
+    ghost kept = { λ store. store_standing_on (D.pages store.device) };
 
     fn read(&mut self, alloc: Global, slot: u8) -> Result<Bytes, StoreFault>
         requires { slot < 4 }
-        ensures reads { ReadsSlot slot (kept_on (D.pages self.old.device))
-            (kept_on (D.pages self.new.device)) result }
+        ensures reads { ReadsSlot slot (store_standing_on (D.pages self.old.device))
+            (store_standing_on (D.pages self.new.device)) result }
         ensures rows { self.new.rows ≡ rows_after_read slot self.old.rows result }
         ensures step { KeepsStep (D.pages self.old.device) (D.pages self.new.device) self.old.rows
             self.new.rows }
@@ -81,24 +81,24 @@ impl<D: PageDevice + Drop> Store for PageStore<D> {
     fn write(&mut self, slot: u8, bytes: &[u8]) -> Result<(), StoreFault>
         requires slot { slot < 4 }
         requires short { length bytes.now ≤ LONGEST_SLOT }
-        ensures writes { WritesSlot slot bytes.now (kept_on (D.pages self.old.device))
-            (kept_on (D.pages self.new.device)) result }
+        ensures writes { WritesSlot slot bytes.now (store_standing_on (D.pages self.old.device))
+            (store_standing_on (D.pages self.new.device)) result }
         ensures no_want { result ≢ Err StoreFault.Memory }
         ensures rows { self.new.rows ≡ rows_after_write slot bytes.now self.old.rows result }
 
         // Of the pages of the new bytes those are read back of which no digest is kept, or that of the new page.
         ensures looks { OnOk result ((D.pages self.new.device).page_reads
-            ≡ counted_by
-            (looks_at (row_in self.old.rows slot) bytes.now (page_count (length bytes.now)))
+            ≡ count_after_so_many
+            (total_of_looks (row_in self.old.rows slot) bytes.now (page_count (length bytes.now)))
             (D.pages self.old.device).page_reads) }
 
         // Where the digests kept are those of what an honest device has there, as they are while this store
         // alone writes to it, the pages that differ are written.
         ensures changes { OnOk result ((D.pages self.old.device).is_honest ≡ true
             → (told : Slots) → (D.pages self.old.device).slots ≡ Some told
-            → AreOf (row_in self.old.rows slot) (slot_in told slot)
+            → AreDigestsOf (row_in self.old.rows slot) (slot_in told slot)
             → (D.pages self.new.device).page_writes
-            ≡ counted_by (changes_of (slot_in told slot) bytes.now (page_count (length bytes.now)))
+            ≡ count_after_so_many (changes_of (slot_in told slot) bytes.now (page_count (length bytes.now)))
             (D.pages self.old.device).page_writes) }
         ensures step { KeepsStep (D.pages self.old.device) (D.pages self.new.device) self.old.rows
             self.new.rows }
@@ -106,7 +106,7 @@ impl<D: PageDevice + Drop> Store for PageStore<D> {
         // A length is set once at most, and not at all where the bytes are there already.
         ensures settled { OnOk result ((D.pages self.old.device).is_honest ≡ true
             → (told : Slots) → (D.pages self.old.device).slots ≡ Some told
-            → AreOf (row_in self.old.rows slot) (slot_in told slot) → slot_in told slot ≡ bytes.now
+            → AreDigestsOf (row_in self.old.rows slot) (slot_in told slot) → slot_in told slot ≡ bytes.now
             → (D.pages self.new.device).length_writes ≡ (D.pages self.old.device).length_writes) }
         ensures lengths { OnOk result (IsOneMoreAtMost (D.pages self.old.device).length_writes
             (D.pages self.new.device).length_writes) }

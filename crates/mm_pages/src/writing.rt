@@ -2,12 +2,12 @@
 
 ghost use Rattle.std.specs.Prelude.{◌≡◌, ◌<◌, ◌≤◌, length};
 ghost use Rattle.mm_store.specs.declared.store.TheConstants.{LONGEST_SLOT};
-ghost use Rattle.mm_pages.specs.Counts.{may_be};
+ghost use Rattle.mm_pages.specs.Counts.{may_be_same};
 ghost use Rattle.mm_pages.specs.Rows.{row_in};
-ghost use Rattle.mm_pages.specs.Puts.{HoldsPage, PutsPage, PutsPages, FitsLength, EndsInSync, PutsBytes};
+ghost use Rattle.mm_pages.specs.SlotWrites.{HoldsPage, PutsPage, PutsAllPages, FitsLength, EndsInSync, PutsBytes};
 
 use crate::device::PageDevice;
-use crate::digests::Digests;
+use crate::digests::SlotDigests;
 use crate::page::{page_count, page_of};
 use mm_base::Failed;
 use mm_digest::Digest;
@@ -16,7 +16,7 @@ use sha2::{Digest as _, Sha256};
 // Puts these bytes in place of a slot's, page by page. After `Failed` its digests are not to be used.
 pub fn put_bytes<D: PageDevice>(
     device: &mut D,
-    digests: &mut Digests,
+    digests: &mut SlotDigests,
     slot: u8,
     bytes: &[u8],
 ) -> Result<(), Failed>
@@ -33,13 +33,13 @@ pub fn put_bytes<D: PageDevice>(
 // Puts the pages of these bytes, one after another.
 fn put_pages<D: PageDevice>(
     device: &mut D,
-    digests: &mut Digests,
+    digests: &mut SlotDigests,
     slot: u8,
     bytes: &[u8],
 ) -> Result<(), Failed>
     requires slot { slot < 4 }
     requires short { length bytes.now ≤ LONGEST_SLOT }
-    ensures { PutsPages slot bytes.now (D.pages device.old) (D.pages device.new) digests.old
+    ensures { PutsAllPages slot bytes.now (D.pages device.old) (D.pages device.new) digests.old
         digests.new result }
 {
     for page in 0..page_count(bytes.len()) {
@@ -51,7 +51,7 @@ fn put_pages<D: PageDevice>(
 // Puts one page: writes it where it isn't there already.
 fn put_page<D: PageDevice>(
     device: &mut D,
-    digests: &mut Digests,
+    digests: &mut SlotDigests,
     slot: u8,
     page: u16,
     bytes: &[u8; 256],
@@ -100,7 +100,7 @@ fn holds_page<D: PageDevice>(
 
 // Whether the digest kept of a page, if any, doesn't tell it from a page with this digest.
 fn may_be(kept: Option<Digest>, digest: &Digest) -> bool
-    ensures { result ≡ may_be kept digest.now }
+    ensures { result ≡ may_be_same kept digest.now }
 {
     match kept {
         None => true,

@@ -1,26 +1,26 @@
 -- What a caller of a read, an extension and a write knows afterwards.
 use Rattle.std.proofs.Common.{◌≡◌, ℕ, Bool, true, false, List, [], ◌++◌, Option, None, Some, map, refl, sym, ◌∙◌, ap, arith, append_assoc}
 use Rattle.std.proofs.lemmas.List.{append-nil, map-append}
-use Rattle.mm_base.specs.Faults.{Rose}
+use Rattle.mm_base.specs.Faults.{CountRose}
 use Rattle.mm_platform.specs.declared.fault.StepFault.{StepFault}
 use Rattle.mm_platform.specs.Standing.{Item, foreign_item, Standing}
-use Rattle.mm_platform.specs.Steps.{ReadCell, WriteCell, ExtendRegister, beside, cell_after, items_after, EndsBy, Goes}
+use Rattle.mm_platform.specs.Steps.{ReadCell, WriteCell, ExtendRegister, items_beside, cell_after, items_after, DeviceStepEnds, StepGoes}
 use Rattle.mm_platform.specs.Calls.{EndsCalls, ActsUntold}
 
-pub beside-none : (items : Option (List Item)) → beside [] items ≡ items
+pub beside-none : (items : Option (List Item)) → items_beside [] items ≡ items
 beside-none items = grind (arith, append-nil)
 
 pub beside-beside : (first second : List (List ℕ)) (items : Option (List Item))
-    → beside second (beside first items) ≡ beside (first ++ second) items
+    → items_beside second (items_beside first items) ≡ items_beside (first ++ second) items
 beside-beside first second None = refl
 beside-beside first second (Some xs) =
     ap Some (append_assoc xs (map foreign_item first) (map foreign_item second)
     ∙ ap (λ ys. xs ++ ys) (sym (map-append foreign_item first second)))
 
-pub rose_by : (fault : StepFault) (old new : Standing) (made : Bool) → EndsBy (Some fault) old new made → Rose old.faults new.faults
+pub rose_by : (fault : StepFault) (old new : Standing) (made : Bool) → DeviceStepEnds (Some fault) old new made → CountRose old.faults new.faults
 rose_by fault old new made e = grind (arith, e)
 
-pub first_failed : (value bytes : List ℕ) (old one : Standing) (fault : StepFault) → Goes ReadCell old one (Some fault)
+pub first_failed : (value bytes : List ℕ) (old one : Standing) (fault : StepFault) → StepGoes ReadCell old one (Some fault)
     → ActsUntold value bytes old one (Some fault)
 first_failed value bytes old one fault a = record {
   acts = record {
@@ -29,13 +29,13 @@ first_failed value bytes old one fault a = record {
     before = a.others;
     after = [];
     cell = a.cell;
-    items = a.items ∙ sym (beside-none (beside a.others old.items));
+    items = a.items ∙ sym (beside-none (items_beside a.others old.items));
   };
   ends = rose_by fault old one a.is_made a.ends;
 }
 
-pub second_failed : (value bytes : List ℕ) (old one two : Standing) (fault : StepFault) → Goes ReadCell old one None
-    → Goes (ExtendRegister value) one two (Some fault) → ActsUntold value bytes old two (Some fault)
+pub second_failed : (value bytes : List ℕ) (old one two : Standing) (fault : StepFault) → StepGoes ReadCell old one None
+    → StepGoes (ExtendRegister value) one two (Some fault) → ActsUntold value bytes old two (Some fault)
 second_failed value bytes old one two fault a b =
     let rose = rose_by fault one two b.is_made b.ends in
     record {
@@ -45,7 +45,7 @@ second_failed value bytes old one two fault a b =
         before = a.others ++ b.others;
         after = [];
         cell = b.cell ∙ a.cell;
-        items = b.items ∙ ap (λ i. items_after (ExtendRegister value) b.is_made (beside b.others i)) a.items
+        items = b.items ∙ ap (λ i. items_after (ExtendRegister value) b.is_made (items_beside b.others i)) a.items
             ∙ ap (λ i. items_after (ExtendRegister value) b.is_made i) (beside-beside a.others b.others old.items)
             ∙ sym (beside-none _);
       };
@@ -54,11 +54,11 @@ second_failed value bytes old one two fault a b =
 
 ends_calls : (fault : Option StepFault) (old one two three : Standing) (extended written : Bool)
     → extended ≡ true → one.faults ≡ old.faults → two.faults ≡ one.faults
-    → EndsBy fault two three written → EndsCalls fault old three extended written
+    → DeviceStepEnds fault two three written → EndsCalls fault old three extended written
 ends_calls fault old one two three extended written e a b c = grind (arith, e, a, b, c)
 
-pub all_called : (value bytes : List ℕ) (old one two three : Standing) (fault : Option StepFault) → Goes ReadCell old one None
-    → Goes (ExtendRegister value) one two None → Goes (WriteCell bytes) two three fault → ActsUntold value bytes old three fault
+pub all_called : (value bytes : List ℕ) (old one two three : Standing) (fault : Option StepFault) → StepGoes ReadCell old one None
+    → StepGoes (ExtendRegister value) one two None → StepGoes (WriteCell bytes) two three fault → ActsUntold value bytes old three fault
 all_called value bytes old one two three fault a b c = record {
   acts = record {
     extended = b.is_made;
@@ -66,7 +66,7 @@ all_called value bytes old one two three fault a b c = record {
     before = a.others ++ b.others;
     after = c.others;
     cell = c.cell ∙ ap (cell_after (WriteCell bytes) c.is_made) (b.cell ∙ a.cell);
-    items = c.items ∙ ap (beside c.others) (b.items ∙ ap (λ i. items_after (ExtendRegister value) b.is_made (beside b.others i)) a.items
+    items = c.items ∙ ap (items_beside c.others) (b.items ∙ ap (λ i. items_after (ExtendRegister value) b.is_made (items_beside b.others i)) a.items
         ∙ ap (λ i. items_after (ExtendRegister value) b.is_made i) (beside-beside a.others b.others old.items));
   };
   ends = ends_calls fault old one two three b.is_made c.is_made b.ends.made a.ends.faults b.ends.faults c.ends;

@@ -1,13 +1,13 @@
 -- A platform in memory.
 use Rattle.std.specs.Prelude.{ℕ, Bool, true, List, [], ◌∷◌, ◌++◌, Some, count_by, nat_lt}
 use Rattle.std.specs.Option.{option_map}
-use Rattle.mm_base.specs.Faults.{counted}
+use Rattle.mm_base.specs.Faults.{next_count}
 use Rattle.mm_digest.specs.declared.digest.Digest.{Digest}
 use Rattle.mm_platform.specs.declared.plan.Meddle.{Meddle}
 use Rattle.mm_platform.specs.declared.plan.Stop.{Stop}
 use Rattle.mm_platform.specs.declared.plan.Stop.TheVariants.{Fail}
 use Rattle.mm_platform.specs.Standing.{Standing, Plan, next_step}
-use Rattle.mm_platform.specs.Told.{quiet_plan}
+use Rattle.mm_platform.specs.PlannedSteps.{quiet_plan}
 
 -- a new platform with this cell
 abbrev pub new_platform : List ℕ → Standing
@@ -24,16 +24,16 @@ new_platform cell = record {
 }
 
 -- the meddles whose step is still to come
-abbrev pub ahead : ℕ → List Meddle → ℕ
-ahead at meddles = count_by (λ m. nat_lt at m.step) meddles
+abbrev pub count_ahead : ℕ → List Meddle → ℕ
+count_ahead at meddles = count_by (λ m. nat_lt at m.step) meddles
 
 -- the plan with this stop in place of its own
-abbrev pub stopping : Stop → Plan → Plan
-stopping stop plan = record plan { stop = stop }
+abbrev pub plan_with_stop : Stop → Plan → Plan
+plan_with_stop stop plan = record plan { stop = stop }
 
 -- the plan where others besides bring this value just before its next step
-abbrev pub meddling : Digest → Plan → Plan
-meddling value plan =
+abbrev pub plan_with_meddle : Digest → Plan → Plan
+plan_with_meddle value plan =
     record plan { meddles = plan.meddles ++ record { step = next_step plan; value = value } ∷ [] }
 
 -- the next step fails, and nothing else goes wrong
@@ -41,6 +41,6 @@ abbrev pub failing_plan : Bool → Plan
 failing_plan done = record { stop = Fail 1 done; meddles = []; at = 0 }
 
 -- what stands once power was lost and came back, which is counted
-abbrev pub cycled : Standing → Standing
-cycled old =
-    record old { items = option_map (λ _. []) old.items; is_on = true; cycles = counted old.cycles }
+abbrev pub standing_after_cycle : Standing → Standing
+standing_after_cycle old =
+    record old { items = option_map (λ _. []) old.items; is_on = true; cycles = next_count old.cycles }

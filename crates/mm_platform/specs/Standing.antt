@@ -1,8 +1,8 @@
 -- What stands on a platform.
 use Rattle.std.specs.Prelude.{ℕ, Bool, true, false, List, Option, map}
 use Rattle.std.specs.List.{fold}
-use Rattle.mm_base.specs.Faults.{counted}
-use Rattle.mm_digest.specs.Messages.{zero_bytes, extended_of}
+use Rattle.mm_base.specs.Faults.{next_count}
+use Rattle.mm_digest.specs.Messages.{zero_bytes, extended_digest_of}
 use Rattle.mm_platform.specs.declared.plan.Meddle.{Meddle}
 use Rattle.mm_platform.specs.declared.plan.Stop.{Stop}
 
@@ -23,7 +23,7 @@ item_values items = map (λ item. item.value) items
 
 -- the register's value after extensions by these values, from zero
 abbrev pub register_after : List (List ℕ) → List ℕ
-register_after values = fold extended_of zero_bytes values
+register_after values = fold extended_digest_of zero_bytes values
 
 -- what the coming steps will meet: a stop, the values by which others extend the register just
 -- before certain steps, and the number of steps since the plan was made
@@ -50,7 +50,7 @@ pub record Standing : Type 0 where
 
 -- the number of the next step, counted from 1 since the plan was made
 abbrev pub next_step : Plan → ℕ
-next_step plan = counted plan.at
+next_step plan = next_count plan.at
 
 -- the plan once the next step is over
 abbrev pub plan_after : Plan → Plan

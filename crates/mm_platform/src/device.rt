@@ -3,7 +3,7 @@
 ghost use Rattle.std.specs.Prelude.{◌≡◌, ◌≤◌, ℕ, List, Some, OnOk, OnErr, IfOk};
 ghost use Rattle.std.specs.Result.{result_err};
 ghost use Rattle.mm_platform.specs.Standing.{Item, Standing, item_values, register_after};
-ghost use Rattle.mm_platform.specs.Steps.{ReadCell, WriteCell, ReadRegister, ResetRegister, ExtendRegister, Goes, Readies, Cycles};
+ghost use Rattle.mm_platform.specs.Steps.{ReadCell, WriteCell, ReadRegister, ResetRegister, ExtendRegister, StepGoes, RoomGrows, PowerCycles};
 
 use crate::fault::StepFault;
 use mm_base::{CELL_LENGTH, Memory};
@@ -21,7 +21,7 @@ pub trait Device {
 pub trait Nv: Device {
     /// Reads the cell. After a fault `into` is as before.
     fn nv_read(&mut self, into: &mut [u8; CELL_LENGTH]) -> Result<(), StepFault>
-        ensures goes { Goes ReadCell (Self.standing self.old) (Self.standing self.new)
+        ensures goes { StepGoes ReadCell (Self.standing self.old) (Self.standing self.new)
             (result_err result) }
         ensures read { OnOk result ((cell : List ℕ) → (Self.standing self.old).cell ≡ Some cell
             → into.new ≡ cell) }
@@ -29,7 +29,7 @@ pub trait Nv: Device {
 
     /// Writes the cell.
     fn nv_write(&mut self, bytes: &[u8; CELL_LENGTH]) -> Result<(), StepFault>
-        ensures { Goes (WriteCell bytes.now) (Self.standing self.old) (Self.standing self.new)
+        ensures { StepGoes (WriteCell bytes.now) (Self.standing self.old) (Self.standing self.new)
             (result_err result) };
 }
 
@@ -38,12 +38,12 @@ pub trait Nv: Device {
 pub trait Register: Device {
     /// Makes room to record one own extension, so that the extension itself takes no memory.
     fn reg_ready(&mut self) -> Result<(), Memory>
-        ensures ok { OnOk result (Readies (Self.standing self.old) (Self.standing self.new)) }
+        ensures ok { OnOk result (RoomGrows (Self.standing self.old) (Self.standing self.new)) }
         ensures err { OnErr result (Self.standing self.new ≡ Self.standing self.old) };
 
     /// Reads the register's value.
     fn reg_read(&mut self) -> Result<Digest, StepFault>
-        ensures goes { Goes ReadRegister (Self.standing self.old) (Self.standing self.new)
+        ensures goes { StepGoes ReadRegister (Self.standing self.old) (Self.standing self.new)
             (result_err result) }
         ensures read { IfOk result (λ value. (items : List Item)
             → (Self.standing self.new).items ≡ Some items
@@ -51,13 +51,13 @@ pub trait Register: Device {
 
     /// Sets the register to zero.
     fn reg_reset(&mut self) -> Result<(), StepFault>
-        ensures { Goes ResetRegister (Self.standing self.old) (Self.standing self.new)
+        ensures { StepGoes ResetRegister (Self.standing self.old) (Self.standing self.new)
             (result_err result) };
 
     /// Extends the register by a value.
     fn reg_extend(&mut self, value: &Digest) -> Result<(), StepFault>
         requires { 1 ≤ (Self.standing self.old).spare }
-        ensures { Goes (ExtendRegister value.now.bytes) (Self.standing self.old)
+        ensures { StepGoes (ExtendRegister value.now.bytes) (Self.standing self.old)
             (Self.standing self.new) (result_err result) };
 }
 
@@ -65,5 +65,5 @@ pub trait Register: Device {
 pub trait Platform: Nv + Register {
     /// Loses power and gets it back: the register is zero afterwards, and the cell stays.
     fn cycle(&mut self) -> Result<(), StepFault>
-        ensures { Cycles (Self.standing self.old) (Self.standing self.new) (result_err result) };
+        ensures { PowerCycles (Self.standing self.old) (Self.standing self.new) (result_err result) };
 }

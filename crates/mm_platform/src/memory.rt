@@ -2,13 +2,13 @@
 
 ghost use Rattle.std.specs.Prelude.{◌≡◌, ◌+◌, ◌<◌, ◌≤◌, Some, None, [], ◌∷◌, ◌++◌, map, OnOk, OnErr, IfOk, Ok, count_by, vec_len, vec_capacity};
 ghost use Rattle.std.specs.Option.{option_map};
-ghost use Rattle.mm_base.specs.Faults.{counted};
-ghost use Rattle.mm_platform.specs.Steps.{beside, will_bring};
+ghost use Rattle.mm_base.specs.Faults.{next_count};
+ghost use Rattle.mm_platform.specs.Steps.{items_beside, values_by_plan};
 ghost use Rattle.mm_platform.specs.Standing.{Standing, Plan, foreign_item, next_step, plan_after, item_values, register_after};
-ghost use Rattle.mm_platform.specs.StandingWords.{due};
+ghost use Rattle.mm_platform.specs.StandingWords.{due_values};
 ghost use Rattle.mm_platform.specs.Entries.{items_of, is_own};
-ghost use Rattle.mm_platform.specs.Told.{quiet_plan, next_plan, step_begun, makes, next_answer};
-ghost use Rattle.mm_platform.specs.Memory.{new_platform, ahead, stopping, meddling, failing_plan, cycled};
+ghost use Rattle.mm_platform.specs.PlannedSteps.{quiet_plan, next_plan, standing_in_step, is_next_made, next_answer};
+ghost use Rattle.mm_platform.specs.Memory.{new_platform, count_ahead, plan_with_stop, plan_with_meddle, failing_plan, standing_after_cycle};
 
 use crate::device::{Device, Nv, Platform, Register};
 use crate::extensions::{Entry, Extensions};
@@ -51,7 +51,7 @@ impl Model for MemPlatform {
       plan = Some (record { stop = p.stop; meddles = p.meddles.items; at = p.at });
     } };
 
-    ghost invariant = { λ p. vec_len p.register.entries + p.spare + ahead p.at p.meddles.items
+    ghost invariant = { λ p. vec_len p.register.entries + p.spare + count_ahead p.at p.meddles.items
         ≤ vec_capacity p.register.entries };
 }
 
@@ -105,7 +105,7 @@ impl MemPlatform {
     /// Puts this stop in place of the one that is planned. Its steps are counted from where the plan was made,
     /// and what others bring stays planned.
     pub fn stop_with(&mut self, stop: Stop)
-        ensures { self.new ≡ record self.old { plan = option_map (stopping stop) self.old.plan } }
+        ensures { self.new ≡ record self.old { plan = option_map (plan_with_stop stop) self.old.plan } }
     {
         self.stop = stop;
     }
@@ -115,7 +115,7 @@ impl MemPlatform {
     pub fn meddle_next(&mut self, value: &Digest) -> Result<(), Memory>
         requires { (next_plan self.old).at < 255 }
         ensures ok { OnOk result (self.new ≡ record self.old {
-          plan = option_map (meddling value.now) self.old.plan;
+          plan = option_map (plan_with_meddle value.now) self.old.plan;
         }) }
         ensures err { OnErr result (self.new ≡ self.old) }
     {
@@ -139,7 +139,7 @@ impl MemPlatform {
 
     /// Loses power and gets it back, which is counted: the register is zero, the platform on, and all else as it was.
     pub fn lose_power(&mut self)
-        ensures { self.new ≡ cycled self.old }
+        ensures { self.new ≡ standing_after_cycle self.old }
     {
         self.cycles = self.cycles.saturating_add(1);
         self.register.clear();
@@ -149,7 +149,7 @@ impl MemPlatform {
     /// Others extend the register by this value, now. After want of memory nothing has changed.
     pub fn foreign(&mut self, value: &Digest) -> Result<(), Memory>
         ensures ok { OnOk result
-            (self.new ≡ record self.old { items = beside (value.now.bytes ∷ []) self.old.items }) }
+            (self.new ≡ record self.old { items = items_beside (value.now.bytes ∷ []) self.old.items }) }
         ensures err { OnErr result (self.new ≡ self.old) }
     {
         self.register.reserve(self.spare + self.meddles.len() + 1)?;
@@ -199,8 +199,8 @@ impl MemPlatform {
     // Calls a step: counts it, and lets in what is due before it.
     #[inline(always)]
     fn begin_step(&mut self) -> Fate
-        ensures after { self.new ≡ step_begun self.old }
-        ensures made { result.is_made ≡ makes self.old }
+        ensures after { self.new ≡ standing_in_step self.old }
+        ensures made { result.is_made ≡ is_next_made self.old }
         ensures fault { result.fault ≡ next_answer self.old }
     {
         let step = self.at.saturating_add(1);
@@ -217,7 +217,7 @@ impl MemPlatform {
     fn let_in(&mut self, step: u64)
         requires { option_map next_step self.old.plan ≡ Some step }
         ensures { self.new ≡ record self.old {
-          items = beside (will_bring self.old.is_on (next_plan self.old)) self.old.items;
+          items = items_beside (values_by_plan self.old.is_on (next_plan self.old)) self.old.items;
           plan = option_map plan_after self.old.plan;
         } }
     {
@@ -232,13 +232,13 @@ impl MemPlatform {
 // Lets in those of the meddles that are due at this step, where `before` steps are over.
 #[inline(always)]
 fn let_in_due(register: &mut Extensions, meddles: &[Meddle], before: u64, step: u64)
-    requires next { step ≡ counted before }
-    requires room { vec_len register.old.entries + ahead before meddles.now
+    requires next { step ≡ next_count before }
+    requires room { vec_len register.old.entries + count_ahead before meddles.now
         ≤ vec_capacity register.old.entries }
     ensures items { items_of register.new.entries.items
-        ≡ items_of register.old.entries.items ++ map foreign_item (due step meddles.now) }
-    ensures room { vec_len register.new.entries + ahead step meddles.now
-        ≤ vec_len register.old.entries + ahead before meddles.now }
+        ≡ items_of register.old.entries.items ++ map foreign_item (due_values step meddles.now) }
+    ensures room { vec_len register.new.entries + count_ahead step meddles.now
+        ≤ vec_len register.old.entries + count_ahead before meddles.now }
     ensures kept { vec_capacity register.new.entries ≡ vec_capacity register.old.entries }
 {
     for meddle in meddles {

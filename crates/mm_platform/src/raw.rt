@@ -2,7 +2,7 @@
 
 ghost use Rattle.std.specs.Prelude.{◌≡◌, ◌≤◌, ◌+◌, ℕ, List, Some, OnOk, OnErr, length};
 ghost use Rattle.std.specs.Result.{result_err};
-ghost use Rattle.mm_platform.specs.Steps.{Cycles};
+ghost use Rattle.mm_platform.specs.Steps.{PowerCycles};
 ghost use Rattle.mm_platform.specs.Raw.{range_of, ReadsRaw, WritesRaw};
 
 use crate::device::Device;
@@ -28,7 +28,7 @@ pub trait RawNv: Device {
 
     /// Loses power and gets it back: the register is zero afterwards, and the bytes stay.
     fn raw_cycle(&mut self) -> Result<(), StepFault>
-        ensures { Cycles (Self.standing self.old) (Self.standing self.new) (result_err result) };
+        ensures { PowerCycles (Self.standing self.old) (Self.standing self.new) (result_err result) };
 
     /// A platform that tells its bytes has 209.
     ghost is_whole: { (it : Self) (bytes : List ℕ) → (Self.standing it).cell ≡ Some bytes

@@ -1,21 +1,21 @@
 -- The headline of a command over events, from the run of its lines.
 use Rattle.mm_play.proofs.Below.{◌≡◌, ◌∙◌, ◌+◌, ◌≤◌, ◌<◌, ℕ, List, [], ◌∷◌, ◌++◌, length, map, Result, Ok, Err, Option, None, Some}
 use Rattle.mm_play.proofs.Below.{refl, sym, ap, subst, append-nil, append_assoc, arith, inl, inr, ◌⊎◌, AllByRecursion, IsUnbroken, lines_of}
-use Rattle.mm_play.proofs.Below.{tail_of, lines_joined, ReplayFault, Memory, ReadFault, WriteFault, BadLine, LineLong, TooMuch, longest_line}
-use Rattle.mm_play.proofs.Below.{Refused, Bad, Much, told, run, run_of, ForWhole, Settles, IsFrontOf}
+use Rattle.mm_play.proofs.Below.{tail_of, joined_lines, ReplayFault, Memory, ReadFault, WriteFault, BadLine, LineLong, TooMuch, longest_line}
+use Rattle.mm_play.proofs.Below.{LineRefusal, Bad, Much, play_outcome, outcome_of_lines, outcome_of_input, HoldsOfWhole, AnswerFits, IsFrontOf}
 use Rattle.mm_base.specs.InputLaws.{joined-append}
 use Rattle.mm_play.specs.Counting.{same_answer, no_answer}
-use Rattle.mm_play.specs.Headed.{Headed, More, Begins}
-use Rattle.mm_play.specs.Headline.{EventPlayer, Lead, IsNextLine, IsOver, IsLeft, WentOut, AreAnswered}
-use Rattle.mm_play.specs.Stage.{EventStage, EventSteps, HeadStage, running, LineStage, AtHeading, InEvents, head_answer, line_answer, line_closing}
-use Rattle.mm_play.specs.Shown.{begun_by, Shows}
+use Rattle.mm_play.specs.HeadingStep.{HeadingStep, More, Begins}
+use Rattle.mm_play.specs.Headline.{EventPlayer, HeadingLeads, IsNextLine, IsOver, IsLeft, TextWentOut, AreAnswered}
+use Rattle.mm_play.specs.Stage.{EventStage, EventSteps, HeadStage, play_state, LineStage, AtHeading, InEvents, head_answer, line_answer, closing_lines}
+use Rattle.mm_play.specs.StageShows.{heading_step_by, StageShows}
 use Rattle.mm_play.proofs.Eventing.{AreShort, AnsweredEvents, IsOverIn, is_short, answered_events, much_over, bad_none}
 use Rattle.mm_play.proofs.Halting.{ComesTo, comes, comes_so, bad_at}
 use Rattle.mm_play.proofs.Runs.{first_answered, FirstAnswered, none_answered}
 use Rattle.mm_play.proofs.Splitting.{whole_input, unbroken_lines, unbroken_tail}
 
-lead_more : {G H : Type 0} (head : G → List ℕ → Option (Headed G H)) (at next : G) (line : List ℕ) (lines : List (List ℕ)) (to : Headed G H)
-    → head at line ≡ Some (More next) → Lead head next lines to → Lead head at (line ∷ lines) to
+lead_more : {G H : Type 0} (head : G → List ℕ → Option (HeadingStep G H)) (at next : G) (line : List ℕ) (lines : List (List ℕ)) (to : HeadingStep G H)
+    → head at line ≡ Some (More next) → HeadingLeads head next lines to → HeadingLeads head at (line ∷ lines) to
 lead_more head at next line [] to is lead = is ∙ ap Some (sym lead)
 lead_more head at next line (more ∷ lines) to is lead = (next, is, lead)
 
@@ -35,15 +35,15 @@ short_append (line ∷ front) rest a b = (a.0, short_append front rest a.1 b)
 
 -- a line that comes first of those that are left
 next_line : (line : List ℕ) (rest : List (List ℕ)) (tail : List ℕ) → IsUnbroken line
-    → IsNextLine line (lines_joined (line ∷ rest) ++ tail)
-next_line line rest tail unbroken = (unbroken, lines_joined rest ++ tail, append_assoc line (10 ∷ lines_joined rest) tail)
+    → IsNextLine line (joined_lines (line ∷ rest) ++ tail)
+next_line line rest tail unbroken = (unbroken, joined_lines rest ++ tail, append_assoc line (10 ∷ joined_lines rest) tail)
 
 -- the bytes behind the first lines
 parts : (taken : List ℕ) (done rest : List (List ℕ)) → lines_of taken ≡ done ++ rest
-    → taken ≡ lines_joined done ++ (lines_joined rest ++ tail_of taken)
+    → taken ≡ joined_lines done ++ (joined_lines rest ++ tail_of taken)
 parts taken done rest split =
-    whole_input taken ∙ ap (λ (ls : List (List ℕ)). lines_joined ls ++ tail_of taken) split
-    ∙ ap (λ (l : List ℕ). l ++ tail_of taken) (joined-append done rest) ∙ append_assoc (lines_joined done) (lines_joined rest) (tail_of taken)
+    whole_input taken ∙ ap (λ (ls : List (List ℕ)). joined_lines ls ++ tail_of taken) split
+    ∙ ap (λ (l : List ℕ). l ++ tail_of taken) (joined-append done rest) ∙ append_assoc (joined_lines done) (joined_lines rest) (tail_of taken)
 
 -- the line of this number is too long, or the bytes behind the last
 abbrev IsLongAt : ℕ → ℕ → List ℕ → Type 0
@@ -51,29 +51,29 @@ IsLongAt number answered after =
     (number ≡ answered + 1) × (long : List ℕ) × (more : List ℕ) × (after ≡ long ++ more) × IsUnbroken long × (longest_line < length long)
 
 long_line : (number answered : ℕ) (line : List ℕ) (rest : List (List ℕ)) (tail : List ℕ) → number ≡ 1 + answered → IsUnbroken line
-    → longest_line < length line → IsLongAt number answered (lines_joined (line ∷ rest) ++ tail)
+    → longest_line < length line → IsLongAt number answered (joined_lines (line ∷ rest) ++ tail)
 long_line number answered line rest tail is unbroken long =
-    (omega (arith, is), line, 10 ∷ (lines_joined rest ++ tail), append_assoc line (10 ∷ lines_joined rest) tail, unbroken, long)
+    (omega (arith, is), line, 10 ∷ (joined_lines rest ++ tail), append_assoc line (10 ∷ joined_lines rest) tail, unbroken, long)
 
 long_tail : (number answered : ℕ) (tail : List ℕ) → number ≡ 1 + answered → IsUnbroken tail → longest_line < length tail
     → IsLongAt number answered tail
 long_tail number answered tail is unbroken long = (omega (arith, is), tail, [], sym (append-nil tail), unbroken, long)
 
 module _ {G H E S R : Type 0} (p : EventPlayer G H E S) (heads : HeadStage G R) (s : EventStage R) (steps : EventSteps E R) (begun : H → R)
-    (shown : H → List E → S) (shows : Shows p heads s steps begun shown) where
+    (shown : H → List E → S) (shows : StageShows p heads s steps begun shown) where
   abbrev P : Type 0
   P = LineStage G R
 
-  abbrev answer : P → List ℕ → Result (List ℕ × P) Refused
+  abbrev answer : P → List ℕ → Result (List ℕ × P) LineRefusal
   answer = line_answer heads s
 
   abbrev closing : P → Option (List ℕ)
-  closing = line_closing heads s
+  closing = closing_lines heads s
 
   -- All lines were answered, and are some of a heading; or a heading, and events behind it.
   record StillHeading (at : G) (lines : List (List ℕ)) (written : List ℕ) (last : P) : Type 0 where
     to : G
-    leads : Lead p.head at lines (More to)
+    leads : HeadingLeads p.head at lines (More to)
     stands : last ≡ AtHeading to
     silent : written ≡ []
     short : AreShort lines
@@ -83,9 +83,9 @@ module _ {G H E S R : Type 0} (p : EventPlayer G H E S) (heads : HeadStage G R) 
     others : List (List ℕ)
     header : H
     split : lines ≡ front ++ others
-    leads : Lead p.head at front (Begins header)
+    leads : HeadingLeads p.head at front (Begins header)
     short : AreShort front
-    answers : AnsweredEvents heads s steps shows.takes (running (begun header) 0) others written last
+    answers : AnsweredEvents heads s steps shows.takes (play_state (begun header) 0) others written last
 
   abbrev Opened : G → List (List ℕ) → List ℕ → P → Type 0
   Opened at lines written last = StillHeading at lines written last ⊎ BegunEvents at lines written last
@@ -110,23 +110,23 @@ module _ {G H E S R : Type 0} (p : EventPlayer G H E S) (heads : HeadStage G R) 
   })
 
   opened : (lines : List (List ℕ)) (number : ℕ) (at : G) (written : List ℕ) (last : P)
-      → run answer number (AtHeading at) lines ≡ told written (Ok last) → Opened at lines written last
+      → outcome_of_lines answer number (AtHeading at) lines ≡ play_outcome written (Ok last) → Opened at lines written last
   opened [] number at written last h =
       let none = none_answered answer number (AtHeading at) written last h in
       inl (record { to = at; leads = refl; stands = none.1; silent = none.0; short = tt })
   opened (line ∷ lines) number at written last h =
       let f = first_answered answer number (AtHeading at) line lines written last h in
-      by (λ to ran. opened lines (number + 1) to written last ran) f (p.head at line) refl (ap (λ (x : Option (Headed G R)). head_answer x) (sym (shows.leads at line)) ∙ f.replied)
+      by (λ to ran. opened lines (number + 1) to written last ran) f (p.head at line) refl (ap (λ (x : Option (HeadingStep G R)). head_answer x) (sym (shows.leads at line)) ∙ f.replied)
     where
       ran_from : (f : FirstAnswered answer number (AtHeading at) line lines written last) (to : P)
-          → (let x : List ℕ × P = ([], to) in x ≡ f.reply) → run answer (number + 1) to lines ≡ told written (Ok last)
+          → (let x : List ℕ × P = ([], to) in x ≡ f.reply) → outcome_of_lines answer (number + 1) to lines ≡ play_outcome written (Ok last)
       ran_from f to said =
-          ap (λ (x : List ℕ × P). run answer (number + 1) x.1 lines) said ∙ f.ran
-          ∙ ap (λ (w : List ℕ). told w (Ok last)) (ap (λ (x : List ℕ × P). x.0 ++ f.more) said ∙ sym f.whole)
+          ap (λ (x : List ℕ × P). outcome_of_lines answer (number + 1) x.1 lines) said ∙ f.ran
+          ∙ ap (λ (w : List ℕ). play_outcome w (Ok last)) (ap (λ (x : List ℕ × P). x.0 ++ f.more) said ∙ sym f.whole)
 
-      by : ((to : G) → run answer (number + 1) (AtHeading to) lines ≡ told written (Ok last) → Opened to lines written last)
-          → (f : FirstAnswered answer number (AtHeading at) line lines written last) (found : Option (Headed G H)) → p.head at line ≡ found
-          → head_answer (begun_by begun found) ≡ Ok f.reply → Opened at (line ∷ lines) written last
+      by : ((to : G) → outcome_of_lines answer (number + 1) (AtHeading to) lines ≡ play_outcome written (Ok last) → Opened to lines written last)
+          → (f : FirstAnswered answer number (AtHeading at) line lines written last) (found : Option (HeadingStep G H)) → p.head at line ≡ found
+          → head_answer (heading_step_by begun found) ≡ Ok f.reply → Opened at (line ∷ lines) written last
       by on f None is h = absurd (no_answer Bad f.reply.0 f.reply.1 h)
       by on f (Some (More next)) is h =
           opened_on at next line lines written last is (is_short (length line) f.short)
@@ -138,8 +138,8 @@ module _ {G H E S R : Type 0} (p : EventPlayer G H E S) (heads : HeadStage G R) 
         split = refl;
         leads = is;
         short = (is_short (length line) f.short, tt);
-        answers = answered_events heads s steps shows.takes lines (number + 1) (running (begun header) 0) written last
-            (ran_from f (InEvents (running (begun header) 0)) (same_answer _ f.reply h));
+        answers = answered_events heads s steps shows.takes lines (number + 1) (play_state (begun header) 0) written last
+            (ran_from f (InEvents (play_state (begun header) 0)) (same_answer _ f.reply h));
       })
 
   all_short : (at : G) (lines : List (List ℕ)) (written : List ℕ) (last : P) → Opened at lines written last → AreShort lines
@@ -150,14 +150,14 @@ module _ {G H E S R : Type 0} (p : EventPlayer G H E S) (heads : HeadStage G R) 
     -- one too many behind the first events, in numbers
     over_shown : (header : H) (before : List (List ℕ)) (events : List E) (line : List ℕ)
         → IsOver before (p.kept (shown header events)) line
-        → IsOverIn heads s steps shows.takes (running (begun header) 0) before events line
+        → IsOverIn heads s steps shows.takes (play_state (begun header) 0) before events line
     over_shown header before events line over = elim over [
       | inl many ↦ inl (omega (arith, many))
       | inr large ↦ inr (omega (arith, large, shows.kept header events))
     ]
 
     shown_over : (header : H) (before : List (List ℕ)) (events : List E) (line : List ℕ)
-        → IsOverIn heads s steps shows.takes (running (begun header) 0) before events line
+        → IsOverIn heads s steps shows.takes (play_state (begun header) 0) before events line
         → IsOver before (p.kept (shown header events)) line
     shown_over header before events line over = elim over [
       | inl many ↦ inl (omega (arith, many, shows.first header))
@@ -191,13 +191,13 @@ module _ {G H E S R : Type 0} (p : EventPlayer G H E S) (heads : HeadStage G R) 
     -- how it ended, where these lines were answered
     module _ (left : Option (List ℕ)) (after stop sent : List ℕ) {T : Type 0} (result : Result T ReplayFault) (done : List (List ℕ)) where
       abbrev Continues : Type 0
-      Continues = ((at : G) × Lead p.head p.start done (More at)
+      Continues = ((at : G) × HeadingLeads p.head p.start done (More at)
           × IsLeft left after (length done) (λ line. p.head at line ≡ None) (λ line. ⊥) result
-          × WentOut after [] None stop sent result)
+          × TextWentOut after [] None stop sent result)
           ⊎ ((it : AreAnswered p Holds done)
           × IsLeft left after (length done) (λ line. p.event_in it.header line ≡ None)
           (λ line. IsOver it.others (p.kept (it.shown it.events)) line) result
-          × WentOut after (p.text it.events (it.shown it.events)) (Some (p.last (it.shown it.events))) stop sent result)
+          × TextWentOut after (p.text it.events (it.shown it.events)) (Some (p.last (it.shown it.events))) stop sent result)
 
       -- by what holds of each
       continues : (written : List ℕ) (last : P) → Opened p.start done written last
@@ -206,7 +206,7 @@ module _ {G H E S R : Type 0} (p : EventPlayer G H E S) (heads : HeadStage G R) 
           → ((e : BegunEvents p.start done written last)
           → IsLeft left after (length done) (λ line. p.event_in e.header line ≡ None)
           (λ line. IsOver e.others (p.kept (shown e.header e.answers.events)) line) result)
-          → ((text : List ℕ) (end : Option (List ℕ)) → written ≡ text → closing last ≡ end → WentOut after text end stop sent result)
+          → ((text : List ℕ) (end : Option (List ℕ)) → written ≡ text → closing last ≡ end → TextWentOut after text end stop sent result)
           → Continues
       continues written last (inl h) at_head at_events went =
           inl (h.to, h.leads, at_head h, went [] None h.silent (ap closing h.stands))
@@ -220,17 +220,17 @@ module _ {G H E S R : Type 0} (p : EventPlayer G H E S) (heads : HeadStage G R) 
 
     -- what was answered of the bytes taken
     abbrev pub ToldOf : {T : Type 0} → Option (List ℕ) → List ℕ → List ℕ → List ℕ → Result T ReplayFault → Type 0
-    ToldOf left taken stop sent result = (done : List (List ℕ)) × (after : List ℕ) × (taken ≡ lines_joined done ++ after)
+    ToldOf left taken stop sent result = (done : List (List ℕ)) × (after : List ℕ) × (taken ≡ joined_lines done ++ after)
         × AllByRecursion (λ line. IsUnbroken line × (length line ≤ longest_line)) done × Continues left after stop sent result done
 
     -- a line of the heading is refused as none, and never as one too many
-    head_bad : (found : Option (Headed G H)) → (let x : Result (List ℕ × P) Refused = head_answer (begun_by begun found) in x ≡ Err Bad)
+    head_bad : (found : Option (HeadingStep G H)) → (let x : Result (List ℕ × P) LineRefusal = head_answer (heading_step_by begun found) in x ≡ Err Bad)
         → found ≡ None
     head_bad None h = refl
     head_bad (Some (More to)) h = cc
     head_bad (Some (Begins header)) h = cc
 
-    head_much : (found : Option (Headed G H)) → (let x : Result (List ℕ × P) Refused = head_answer (begun_by begun found) in x ≡ Err Much)
+    head_much : (found : Option (HeadingStep G H)) → (let x : Result (List ℕ × P) LineRefusal = head_answer (heading_step_by begun found) in x ≡ Err Much)
         → ⊥
     head_much None h = cc
     head_much (Some (More to)) h = cc
@@ -242,23 +242,23 @@ module _ {G H E S R : Type 0} (p : EventPlayer G H E S) (heads : HeadStage G R) 
 
       -- these first lines of what was taken were answered
       told_at : (done rest : List (List ℕ)) (written : List ℕ) (next : P) → lines_of taken ≡ done ++ rest
-          → run answer 1 first done ≡ told written (Ok next)
+          → outcome_of_lines answer 1 first done ≡ play_outcome written (Ok next)
           → ((h : StillHeading p.start done written next) → AllByRecursion IsUnbroken rest
-          → IsLeft left (lines_joined rest ++ tail_of taken) (length done) (λ line. p.head h.to line ≡ None) (λ line. ⊥) result)
+          → IsLeft left (joined_lines rest ++ tail_of taken) (length done) (λ line. p.head h.to line ≡ None) (λ line. ⊥) result)
           → ((e : BegunEvents p.start done written next) → AllByRecursion IsUnbroken rest
-          → IsLeft left (lines_joined rest ++ tail_of taken) (length done) (λ line. p.event_in e.header line ≡ None)
+          → IsLeft left (joined_lines rest ++ tail_of taken) (length done) (λ line. p.event_in e.header line ≡ None)
           (λ line. IsOver e.others (p.kept (shown e.header e.answers.events)) line) result)
           → ((text : List ℕ) (end : Option (List ℕ)) → written ≡ text → closing next ≡ end
-          → WentOut (lines_joined rest ++ tail_of taken) text end [] sent result)
+          → TextWentOut (joined_lines rest ++ tail_of taken) text end [] sent result)
           → ToldOf left taken [] sent result
       told_at done rest written next split ran at_head at_events went =
           let o = opened done 1 p.start written next ran in
           let u = front_unbroken done rest (subst (AllByRecursion IsUnbroken) split (unbroken_lines taken)) in (
             done,
-            lines_joined rest ++ tail_of taken,
+            joined_lines rest ++ tail_of taken,
             parts taken done rest split,
             both_short done u.0 (all_short p.start done written next o),
-            continues left (lines_joined rest ++ tail_of taken) [] sent result done written next o (λ h. at_head h u.1) (λ e. at_events e u.1)
+            continues left (joined_lines rest ++ tail_of taken) [] sent result done written next o (λ h. at_head h u.1) (λ e. at_events e u.1)
                 went,
           )
 
@@ -272,13 +272,13 @@ module _ {G H E S R : Type 0} (p : EventPlayer G H E S) (heads : HeadStage G R) 
     front_text : (sent written text : List ℕ) → written ≡ text → IsFrontOf sent written → IsFrontOf sent text
     front_text sent written text is (rest, so) = (rest, so ∙ is)
 
-    for_these : (left : Option (List ℕ)) (taken : List ℕ) (holds : List ℕ → Type 0) → ForWhole left taken holds → holds taken
+    for_these : (left : Option (List ℕ)) (taken : List ℕ) (holds : List ℕ → Type 0) → HoldsOfWhole left taken holds → holds taken
     for_these left taken holds (inl each) = subst holds (append-nil taken) (each [])
     for_these left taken holds (inr ended) = ended.1
 
     -- by how it ended
     pub tells : {T : Type 0} (next : P) (left : Option (List ℕ)) (taken sent : List ℕ) (result : Result T ReplayFault)
-        → Settles (run answer 1 (AtHeading p.start)) (run_of answer closing (AtHeading p.start)) next left taken sent result
+        → AnswerFits (outcome_of_lines answer 1 (AtHeading p.start)) (outcome_of_input answer closing (AtHeading p.start)) next left taken sent result
         → ToldOf left taken [] sent result
     tells {T} next left taken sent (Ok r) settled =
         let c = comes_so answer closing (AtHeading p.start) taken sent (Ok next) settled.1 in
@@ -288,8 +288,8 @@ module _ {G H E S R : Type 0} (p : EventPlayer G H E S) (heads : HeadStage G R) 
         told_at left taken sent T (Err ReadFault) (lines_of taken) [] sent settled.1.0 (whole_lines taken) settled.1.1 (λ h u. (unbroken_tail taken, settled.0))
         (λ e u. (unbroken_tail taken, settled.0)) (λ text end w e. all_text sent text w)
     tells {T} next left taken sent (Err WriteFault) settled =
-        by (run_of answer closing (AtHeading p.start) taken).written (run_of answer closing (AtHeading p.start) taken).outcome
-        (for_these left taken (λ input. IsFrontOf sent (run_of answer closing (AtHeading p.start) input).written) settled)
+        by (outcome_of_input answer closing (AtHeading p.start) taken).written (outcome_of_input answer closing (AtHeading p.start) taken).outcome
+        (for_these left taken (λ input. IsFrontOf sent (outcome_of_input answer closing (AtHeading p.start) input).written) settled)
         (comes answer closing (AtHeading p.start) taken)
       where
         by : (written : List ℕ) (outcome : Result P ReplayFault) → IsFrontOf sent written
@@ -309,7 +309,7 @@ module _ {G H E S R : Type 0} (p : EventPlayer G H E S) (heads : HeadStage G R) 
         (λ text end w e. all_text sent text w) in (
           it.0,
           it.1 ++ settled.1.0,
-          sym settled.1.1 ∙ ap (λ (l : List ℕ). l ++ settled.1.0) it.2 ∙ append_assoc (lines_joined it.0) it.1 settled.1.0,
+          sym settled.1.1 ∙ ap (λ (l : List ℕ). l ++ settled.1.0) it.2 ∙ append_assoc (joined_lines it.0) it.1 settled.1.0,
           it.3,
           it.4,
         )
@@ -322,7 +322,7 @@ module _ {G H E S R : Type 0} (p : EventPlayer G H E S) (heads : HeadStage G R) 
                   h.line,
                   next_line h.line h.rest (tail_of taken) u.0,
                   head_bad (p.head at.to h.line)
-                      (ap (λ (x : Option (Headed G R)). head_answer x) (sym (shows.leads at.to h.line))
+                      (ap (λ (x : Option (HeadingStep G R)). head_answer x) (sym (shows.leads at.to h.line))
                       ∙ ap (λ (x : P). answer x h.line) (sym at.stands) ∙ h.stops.1),
                 ),
               )) (λ e u. (
@@ -331,7 +331,7 @@ module _ {G H E S R : Type 0} (p : EventPlayer G H E S) (heads : HeadStage G R) 
                   h.line,
                   next_line h.line h.rest (tail_of taken) u.0,
                   ap (λ (f : List ℕ → Option E). f h.line) (sym (shows.reads e.header))
-                      ∙ bad_none heads s steps shows.takes (running (begun e.header) 0) e.others sent h.next h.line e.answers h.stops.1,
+                      ∙ bad_none heads s steps shows.takes (play_state (begun e.header) 0) e.others sent h.next h.line e.answers h.stops.1,
                 ),
               )) (λ text end w e. all_text sent text w)
           | inr t ↦ told_at left taken sent T (Err (BadLine number)) (lines_of taken) [] sent t.1.0 (whole_lines taken) t.1.1
@@ -340,7 +340,7 @@ module _ {G H E S R : Type 0} (p : EventPlayer G H E S) (heads : HeadStage G R) 
         ]
     tells {T} next left taken sent (Err (LineLong number)) settled =
         elim (comes_so answer closing (AtHeading p.start) taken sent (Err (LineLong number))
-        (for_these left taken (λ input. run_of answer closing (AtHeading p.start) input ≡ told sent (Err (LineLong number))) settled)) [
+        (for_these left taken (λ input. outcome_of_input answer closing (AtHeading p.start) input ≡ play_outcome sent (Err (LineLong number))) settled)) [
           | inl h ↦ told_at left taken sent T (Err (LineLong number)) h.done (h.line ∷ h.rest) sent h.next h.split h.ran
               (λ at u. long_line number (length h.done) h.line h.rest (tail_of taken) h.stops.0 u.0 h.stops.1)
               (λ e u. long_line number (length h.done) h.line h.rest (tail_of taken) h.stops.0 u.0 h.stops.1)
@@ -352,15 +352,15 @@ module _ {G H E S R : Type 0} (p : EventPlayer G H E S) (heads : HeadStage G R) 
         ]
     tells {T} next left taken sent (Err TooMuch) settled =
         elim (comes_so answer closing (AtHeading p.start) taken sent (Err TooMuch)
-        (for_these left taken (λ input. run_of answer closing (AtHeading p.start) input ≡ told sent (Err TooMuch)) settled)) [
+        (for_these left taken (λ input. outcome_of_input answer closing (AtHeading p.start) input ≡ play_outcome sent (Err TooMuch)) settled)) [
           | inl h ↦ told_at left taken sent T (Err TooMuch) h.done (h.line ∷ h.rest) sent h.next h.split h.ran
-              (λ at u. absurd (head_much (p.head at.to h.line) (ap (λ (x : Option (Headed G R)). head_answer x) (sym (shows.leads at.to h.line))
+              (λ at u. absurd (head_much (p.head at.to h.line) (ap (λ (x : Option (HeadingStep G R)). head_answer x) (sym (shows.leads at.to h.line))
               ∙ ap (λ (x : P). answer x h.line) (sym at.stands) ∙ h.stops)))
               (λ e u. (
                 h.line,
                 next_line h.line h.rest (tail_of taken) u.0,
                 shown_over e.header e.others e.answers.events h.line
-                    (much_over heads s steps shows.takes (running (begun e.header) 0) e.others sent h.next h.line e.answers h.stops),
+                    (much_over heads s steps shows.takes (play_state (begun e.header) 0) e.others sent h.next h.line e.answers h.stops),
               ))
               (λ text end w e. all_text sent text w)
           | inr t ↦ absurd t.2

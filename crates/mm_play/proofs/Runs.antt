@@ -1,10 +1,10 @@
 -- How a run goes on over more lines, and where it stops.
 use Rattle.mm_play.proofs.Below.{◌≡◌, ◌∙◌, ◌<◌, ◌≤◌, ◌+◌, ℕ, Bool, true, false, cond, List, [], ◌∷◌, ◌++◌, length, Result, Ok, Err, Option}
 use Rattle.mm_play.proofs.Below.{refl, sym, ap, append_assoc, append-nil, arith, nat_lt, length-append, nat_tests, AllByRecursion}
-use Rattle.mm_play.proofs.Below.{IsUnbroken, lines_of, tail_of, lines_joined, onto_first, onto_tail, lines_of-append, tail_of-append}
+use Rattle.mm_play.proofs.Below.{IsUnbroken, lines_of, tail_of, joined_lines, lines_with_front, tail_with_front, lines_of-append, tail_of-append}
 use Rattle.mm_play.proofs.Below.{lines_of-line, tail_of-line, lines_of-joined, tail_of-joined, lines_of-unbroken, tail_of-unbroken}
-use Rattle.mm_play.proofs.Below.{ReplayFault, BadLine, LineLong, longest_line, Refused, Told, told, stopped, after_writing, refusal_at}
-use Rattle.mm_play.proofs.Below.{answered, run, ended, goes_on, and_then, run_from, run_of}
+use Rattle.mm_play.proofs.Below.{ReplayFault, BadLine, LineLong, longest_line, LineRefusal, PlayOutcome, play_outcome, stopped_outcome, outcome_after_bytes, refusal_at}
+use Rattle.mm_play.proofs.Below.{outcome_of_answer, outcome_of_lines, outcome_of_tail, outcome_then, outcome_of_both, outcome_of_rest, outcome_of_input}
 
 is_long : {n : ℕ} → longest_line < n → nat_lt longest_line n ≡ true
 is_long h = grind (arith, nat_tests)
@@ -21,34 +21,34 @@ not_ok fault player clash = cc
 pub ok_same : {P : Type 0} (a b : P) → (let r : Result P ReplayFault = Ok a in r ≡ Ok b) → a ≡ b
 ok_same a b same = cc
 
-pub written_of : {P : Type 0} {t u : Told P} → t ≡ u → t.written ≡ u.written
-written_of h = ap (λ (x : Told _). x.written) h
+pub written_of : {P : Type 0} {t u : PlayOutcome P} → t ≡ u → t.written ≡ u.written
+written_of h = ap (λ (x : PlayOutcome _). x.written) h
 
-pub outcome_of : {P : Type 0} {t u : Told P} → t ≡ u → t.outcome ≡ u.outcome
-outcome_of h = ap (λ (x : Told _). x.outcome) h
+pub outcome_of : {P : Type 0} {t u : PlayOutcome P} → t ≡ u → t.outcome ≡ u.outcome
+outcome_of h = ap (λ (x : PlayOutcome _). x.outcome) h
 
-pub told_is : {P : Type 0} (t : Told P) (written : List ℕ) (outcome : Result P ReplayFault) → t.written ≡ written → t.outcome ≡ outcome
-    → t ≡ told written outcome
-told_is t written outcome w o = λ i. told (w i) (o i)
+pub told_is : {P : Type 0} (t : PlayOutcome P) (written : List ℕ) (outcome : Result P ReplayFault) → t.written ≡ written → t.outcome ≡ outcome
+    → t ≡ play_outcome written outcome
+told_is t written outcome w o = λ i. play_outcome (w i) (o i)
 
-after_writing-twice : {P : Type 0} (first second : List ℕ) (t : Told P)
-    → after_writing first (after_writing second t) ≡ after_writing (first ++ second) t
-after_writing-twice first second t = ap (λ bytes. told bytes t.outcome) (sym (append_assoc first second t.written))
+outcome_after_bytes-twice : {P : Type 0} (first second : List ℕ) (t : PlayOutcome P)
+    → outcome_after_bytes first (outcome_after_bytes second t) ≡ outcome_after_bytes (first ++ second) t
+outcome_after_bytes-twice first second t = ap (λ bytes. play_outcome bytes t.outcome) (sym (append_assoc first second t.written))
 
-module _ {P : Type 0} (answer : P → List ℕ → Result (List ℕ × P) Refused) (number : ℕ) (player : P) (line : List ℕ)
+module _ {P : Type 0} (answer : P → List ℕ → Result (List ℕ × P) LineRefusal) (number : ℕ) (player : P) (line : List ℕ)
     (lines : List (List ℕ)) where
   -- what the first of some lines comes to
-  pub data Turned (t : Told P) : Type 0 where
-    Long : longest_line < length line → t ≡ stopped (LineLong number) → Turned t
-    Refuses : (why : Refused) → answer player line ≡ Err why → t ≡ stopped (refusal_at number why) → Turned t
+  pub data Turned (t : PlayOutcome P) : Type 0 where
+    Long : longest_line < length line → t ≡ stopped_outcome (LineLong number) → Turned t
+    Refuses : (why : LineRefusal) → answer player line ≡ Err why → t ≡ stopped_outcome (refusal_at number why) → Turned t
     Replies : (reply : List ℕ × P) → nat_lt longest_line (length line) ≡ false → answer player line ≡ Ok reply
-        → t ≡ after_writing reply.0 (run answer (number + 1) reply.1 lines) → Turned t
+        → t ≡ outcome_after_bytes reply.0 (outcome_of_lines answer (number + 1) reply.1 lines) → Turned t
 
-  pub turned : Turned (run answer number player (line ∷ lines))
+  pub turned : Turned (outcome_of_lines answer number player (line ∷ lines))
   turned = by (nat_lt longest_line (length line)) refl (answer player line) refl
     where
-      by : (long : Bool) → nat_lt longest_line (length line) ≡ long → (said : Result (List ℕ × P) Refused) → answer player line ≡ said
-          → Turned (cond long (stopped (LineLong number)) (answered (λ next. run answer (number + 1) next lines) number said))
+      by : (long : Bool) → nat_lt longest_line (length line) ≡ long → (said : Result (List ℕ × P) LineRefusal) → answer player line ≡ said
+          → Turned (cond long (stopped_outcome (LineLong number)) (outcome_of_answer (λ next. outcome_of_lines answer (number + 1) next lines) number said))
       by true long said is = Long (is_longer (length line) long) refl
       by false short (Err why) is = Refuses why is refl
       by false short (Ok reply) is = Replies reply short is refl
@@ -59,18 +59,18 @@ module _ {P : Type 0} (answer : P → List ℕ → Result (List ℕ × P) Refuse
     pub more : List ℕ
     pub short : nat_lt longest_line (length line) ≡ false
     pub replied : answer player line ≡ Ok reply
-    pub ran : run answer (number + 1) reply.1 lines ≡ told more (Ok last)
+    pub ran : outcome_of_lines answer (number + 1) reply.1 lines ≡ play_outcome more (Ok last)
     pub whole : written ≡ reply.0 ++ more
 
-  pub first_answered : (written : List ℕ) (last : P) → run answer number player (line ∷ lines) ≡ told written (Ok last)
+  pub first_answered : (written : List ℕ) (last : P) → outcome_of_lines answer number player (line ∷ lines) ≡ play_outcome written (Ok last)
       → FirstAnswered written last
   first_answered written last h = by turned
     where
-      by : Turned (run answer number player (line ∷ lines)) → FirstAnswered written last
+      by : Turned (outcome_of_lines answer number player (line ∷ lines)) → FirstAnswered written last
       by (Long _ is) = cc (outcome_of (sym is ∙ h))
       by (Refuses why _ is) = cc (outcome_of (sym is ∙ h))
       by (Replies reply short replied is) =
-          let t = run answer (number + 1) reply.1 lines in
+          let t = outcome_of_lines answer (number + 1) reply.1 lines in
           record {
             reply = reply;
             more = t.written;
@@ -81,39 +81,39 @@ module _ {P : Type 0} (answer : P → List ℕ → Result (List ℕ × P) Refuse
           }
 
 -- there is no line
-pub none_answered : {P : Type 0} (answer : P → List ℕ → Result (List ℕ × P) Refused) (number : ℕ) (player : P) (written : List ℕ) (last : P)
-    → run answer number player [] ≡ told written (Ok last) → (written ≡ []) × (last ≡ player)
+pub none_answered : {P : Type 0} (answer : P → List ℕ → Result (List ℕ × P) LineRefusal) (number : ℕ) (player : P) (written : List ℕ) (last : P)
+    → outcome_of_lines answer number player [] ≡ play_outcome written (Ok last) → (written ≡ []) × (last ≡ player)
 none_answered answer number player written last h = (sym (written_of h), sym (ok_same player last (outcome_of h)))
 
 -- the run over these lines, and then over more
-pub run-append : {P : Type 0} (answer : P → List ℕ → Result (List ℕ × P) Refused) (number : ℕ) (player : P) (lines more : List (List ℕ))
-    (sent : List ℕ) (last : P) → run answer number player lines ≡ told sent (Ok last)
-    → run answer number player (lines ++ more) ≡ after_writing sent (run answer (number + length lines) last more)
+pub run-append : {P : Type 0} (answer : P → List ℕ → Result (List ℕ × P) LineRefusal) (number : ℕ) (player : P) (lines more : List (List ℕ))
+    (sent : List ℕ) (last : P) → outcome_of_lines answer number player lines ≡ play_outcome sent (Ok last)
+    → outcome_of_lines answer number player (lines ++ more) ≡ outcome_after_bytes sent (outcome_of_lines answer (number + length lines) last more)
 run-append answer number player [] more sent last h =
     let at_last = ok_same player last (outcome_of h) in
-    rw (at_last, ← written_of h) (ap (λ n. run answer n last more) (omega arith))
+    rw (at_last, ← written_of h) (ap (λ n. outcome_of_lines answer n last more) (omega arith))
 run-append answer number player (line ∷ lines) more sent last h =
     let f = first_answered answer number player line lines sent last h in
     rw (f.short, f.replied, run-append answer (number + 1) f.reply.1 lines more f.more last f.ran)
-    (after_writing-twice f.reply.0 f.more _ ∙ ap (λ n. after_writing (f.reply.0 ++ f.more) (run answer n last more)) (omega arith)
-    ∙ ap (λ bytes. after_writing bytes (run answer (number + length (line ∷ lines)) last more)) (sym f.whole))
+    (outcome_after_bytes-twice f.reply.0 f.more _ ∙ ap (λ n. outcome_after_bytes (f.reply.0 ++ f.more) (outcome_of_lines answer n last more)) (omega arith)
+    ∙ ap (λ bytes. outcome_after_bytes bytes (outcome_of_lines answer (number + length (line ∷ lines)) last more)) (sym f.whole))
 
 -- what comes after lines that were all answered goes after what they wrote
-and_then-after : {P : Type 0} (sent : List ℕ) (t : Told P) (on : P → Told P)
-    → and_then (after_writing sent t) on ≡ after_writing sent (and_then t on)
-and_then-after {P} sent t on = by_outcome t.written t.outcome
+outcome_of_both-after : {P : Type 0} (sent : List ℕ) (t : PlayOutcome P) (on : P → PlayOutcome P)
+    → outcome_of_both (outcome_after_bytes sent t) on ≡ outcome_after_bytes sent (outcome_of_both t on)
+outcome_of_both-after {P} sent t on = by_outcome t.written t.outcome
   where
     by_outcome : (written : List ℕ) (outcome : Result P ReplayFault)
-        → goes_on on (sent ++ written) outcome ≡ after_writing sent (goes_on on written outcome)
-    by_outcome written (Ok player) = sym (after_writing-twice sent written (on player))
+        → outcome_then on (sent ++ written) outcome ≡ outcome_after_bytes sent (outcome_then on written outcome)
+    by_outcome written (Ok player) = sym (outcome_after_bytes-twice sent written (on player))
     by_outcome written (Err fault) = refl
 
-module _ {P : Type 0} (answer : P → List ℕ → Result (List ℕ × P) Refused) (closing : P → Option (List ℕ)) where
+module _ {P : Type 0} (answer : P → List ℕ → Result (List ℕ × P) LineRefusal) (closing : P → Option (List ℕ)) where
   -- A run that answered these lines goes on with the rest of the input.
-  pub run_from-joined : (player : P) (lines : List (List ℕ)) (rest sent : List ℕ) (last : P) → AllByRecursion IsUnbroken lines
-      → run answer 1 player lines ≡ told sent (Ok last)
-      → run_of answer closing player (lines_joined lines ++ rest) ≡ after_writing sent (run_from answer closing (1 + length lines) last rest)
-  run_from-joined player lines rest sent last each went =
+  pub outcome_of_rest-joined : (player : P) (lines : List (List ℕ)) (rest sent : List ℕ) (last : P) → AllByRecursion IsUnbroken lines
+      → outcome_of_lines answer 1 player lines ≡ play_outcome sent (Ok last)
+      → outcome_of_input answer closing player (joined_lines lines ++ rest) ≡ outcome_after_bytes sent (outcome_of_rest answer closing (1 + length lines) last rest)
+  outcome_of_rest-joined player lines rest sent last each went =
       let behind : 1 + length (lines ++ lines_of rest) ≡ 1 + length lines + length (lines_of rest) =
       omega (arith, length-append lines (lines_of rest)) in
       rw (
@@ -121,57 +121,57 @@ module _ {P : Type 0} (answer : P → List ℕ → Result (List ℕ × P) Refuse
         tail_of-joined lines rest each,
         behind,
         run-append answer 1 player lines (lines_of rest) sent last went,
-      ) (and_then-after sent _ _)
+      ) (outcome_of_both-after sent _ _)
 
   module _ (number : ℕ) (player : P) where
     -- The first line is refused, whatever follows it.
-    pub run_from-refused : (line rest : List ℕ) (refused : Refused) → IsUnbroken line → length line ≤ longest_line
+    pub outcome_of_rest-refused : (line rest : List ℕ) (refused : LineRefusal) → IsUnbroken line → length line ≤ longest_line
         → answer player line ≡ Err refused
-        → run_from answer closing number player (line ++ 10 ∷ rest) ≡ stopped (refusal_at number refused)
-    run_from-refused line rest refused unbroken short h = rw (lines_of-line line rest unbroken, is_short short, h) refl
+        → outcome_of_rest answer closing number player (line ++ 10 ∷ rest) ≡ stopped_outcome (refusal_at number refused)
+    outcome_of_rest-refused line rest refused unbroken short h = rw (lines_of-line line rest unbroken, is_short short, h) refl
 
     -- The first line is answered, and the run goes on.
-    pub run_from-answered : (line rest reply : List ℕ) (next : P) → IsUnbroken line → length line ≤ longest_line
+    pub outcome_of_rest-answered : (line rest reply : List ℕ) (next : P) → IsUnbroken line → length line ≤ longest_line
         → answer player line ≡ Ok (reply, next)
-        → run_from answer closing number player (line ++ 10 ∷ rest) ≡ after_writing reply (run_from answer closing (number + 1) next rest)
-    run_from-answered line rest reply next unbroken short h =
+        → outcome_of_rest answer closing number player (line ++ 10 ∷ rest) ≡ outcome_after_bytes reply (outcome_of_rest answer closing (number + 1) next rest)
+    outcome_of_rest-answered line rest reply next unbroken short h =
         let behind : number + length (line ∷ lines_of rest) ≡ number + 1 + length (lines_of rest) = omega arith in
         rw (lines_of-line line rest unbroken, tail_of-line line rest unbroken, behind, is_short short, h)
-        (and_then-after reply (run answer (number + 1) next (lines_of rest)) _)
+        (outcome_of_both-after reply (outcome_of_lines answer (number + 1) next (lines_of rest)) _)
 
     -- Too many bytes with no LF, whatever follows them.
-    pub run_from-long : (bytes rest : List ℕ) → IsUnbroken bytes → longest_line < length bytes
-        → run_from answer closing number player (bytes ++ rest) ≡ stopped (LineLong number)
-    run_from-long bytes rest unbroken long =
+    pub outcome_of_rest-long : (bytes rest : List ℕ) → IsUnbroken bytes → longest_line < length bytes
+        → outcome_of_rest answer closing number player (bytes ++ rest) ≡ stopped_outcome (LineLong number)
+    outcome_of_rest-long bytes rest unbroken long =
         rw (lines_of-append bytes rest unbroken, tail_of-append bytes rest unbroken) (by_lines (lines_of rest) (tail_of rest))
       where
         long_tail : (front tail : List ℕ) → longest_line < length front
-            → after_writing [] (ended closing (number + 0) (front ++ tail) player) ≡ stopped (LineLong number)
+            → outcome_after_bytes [] (outcome_of_tail closing (number + 0) (front ++ tail) player) ≡ stopped_outcome (LineLong number)
         long_tail [] tail h = absurd (omega arith)
         long_tail (byte ∷ front) tail h =
             let long : longest_line < length ((byte ∷ front) ++ tail) = omega (arith, length-append (byte ∷ front) tail) in
-            rw (is_long long) (ap (λ n. stopped {P = P} (LineLong n)) (omega arith))
+            rw (is_long long) (ap (λ n. stopped_outcome {P = P} (LineLong n)) (omega arith))
 
-        by_lines : (lines : List (List ℕ)) (tail : List ℕ) → and_then (run answer number player (onto_first bytes lines))
-            (ended closing (number + length (onto_first bytes lines)) (onto_tail bytes lines tail)) ≡ stopped (LineLong number)
+        by_lines : (lines : List (List ℕ)) (tail : List ℕ) → outcome_of_both (outcome_of_lines answer number player (lines_with_front bytes lines))
+            (outcome_of_tail closing (number + length (lines_with_front bytes lines)) (tail_with_front bytes lines tail)) ≡ stopped_outcome (LineLong number)
         by_lines [] tail = long_tail bytes tail long
         by_lines (line ∷ lines) tail =
             let too_long : longest_line < length (bytes ++ line) = omega (arith, length-append bytes line) in rw (is_long too_long) refl
 
     -- The input ends within a line.
-    pub run_from-tail : (tail : List ℕ) → IsUnbroken tail → 0 < length tail → length tail ≤ longest_line
-        → run_from answer closing number player tail ≡ stopped (BadLine number)
-    run_from-tail tail unbroken some short =
+    pub outcome_of_rest-tail : (tail : List ℕ) → IsUnbroken tail → 0 < length tail → length tail ≤ longest_line
+        → outcome_of_rest answer closing number player tail ≡ stopped_outcome (BadLine number)
+    outcome_of_rest-tail tail unbroken some short =
         rw (lines_of-unbroken tail unbroken, tail_of-unbroken tail unbroken) (short_tail tail some short)
       where
         short_tail : (bytes : List ℕ) → 0 < length bytes → length bytes ≤ longest_line
-            → after_writing [] (ended closing (number + 0) bytes player) ≡ stopped (BadLine number)
+            → outcome_after_bytes [] (outcome_of_tail closing (number + 0) bytes player) ≡ stopped_outcome (BadLine number)
         short_tail [] h s = absurd (omega arith)
-        short_tail (byte ∷ bytes) h s = rw (is_short s) (ap (λ n. stopped {P = P} (BadLine n)) (omega arith))
+        short_tail (byte ∷ bytes) h s = rw (is_short s) (ap (λ n. stopped_outcome {P = P} (BadLine n)) (omega arith))
 
 -- One more line was answered.
-pub run-more : {P : Type 0} (answer : P → List ℕ → Result (List ℕ × P) Refused) (player : P) (lines : List (List ℕ))
-    (line sent reply : List ℕ) (last next : P) → run answer 1 player lines ≡ told sent (Ok last) → length line ≤ longest_line
-    → answer last line ≡ Ok (reply, next) → run answer 1 player (lines ++ line ∷ []) ≡ told (sent ++ reply) (Ok next)
+pub run-more : {P : Type 0} (answer : P → List ℕ → Result (List ℕ × P) LineRefusal) (player : P) (lines : List (List ℕ))
+    (line sent reply : List ℕ) (last next : P) → outcome_of_lines answer 1 player lines ≡ play_outcome sent (Ok last) → length line ≤ longest_line
+    → answer last line ≡ Ok (reply, next) → outcome_of_lines answer 1 player (lines ++ line ∷ []) ≡ play_outcome (sent ++ reply) (Ok next)
 run-more answer player lines line sent reply last next went short h =
-    rw (run-append answer 1 player lines (line ∷ []) sent last went, is_short short, h) (ap (λ bytes. told (sent ++ bytes) (Ok next)) (append-nil reply))
+    rw (run-append answer 1 player lines (line ∷ []) sent last went, is_short short, h) (ap (λ bytes. play_outcome (sent ++ bytes) (Ok next)) (append-nil reply))

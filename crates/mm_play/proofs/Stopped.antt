@@ -1,22 +1,22 @@
 -- The headline of a command over events: by a whole play, with what is written where it stopped, and with less said of what is shown.
 use Rattle.mm_play.proofs.Below.{◌≡◌, ◌∙◌, ℕ, List, [], ◌∷◌, ◌++◌, Result, Ok, Err, Option, None, Some, refl, sym, ap, subst, append-nil}
 use Rattle.mm_play.proofs.Below.{inl, inr, ReplayFault, Memory, ReadFault, WriteFault, BadLine, LineLong, TooMuch}
-use Rattle.mm_play.proofs.Below.{IsFrontOf, Consumes-nil, Appends-trans, Plays, length}
-use Rattle.mm_base.specs.Streams.{Sends}
+use Rattle.mm_play.proofs.Below.{IsFrontOf, Consumes-nil, Appends-trans, PlaysInput, length}
+use Rattle.mm_base.specs.Streams.{SinkSends}
 use Rattle.mm_base.specs.declared.fault.WriteFault as write
-use Rattle.mm_play.specs.Headline.{EventPlayer, IsLeft, WentOut, AreAnswered, TellsEvents}
+use Rattle.mm_play.specs.Headline.{EventPlayer, IsLeft, TextWentOut, AreAnswered, TellsEvents}
 use Rattle.mm_play.specs.PlaysEvents.{PlaysEvents}
-use Rattle.mm_play.specs.Shown.{Shows}
-use Rattle.mm_play.specs.Stage.{EventStage, EventSteps, HeadStage, LineStage, AtHeading, line_answer, line_closing}
+use Rattle.mm_play.specs.StageShows.{StageShows}
+use Rattle.mm_play.specs.Stage.{EventStage, EventSteps, HeadStage, LineStage, AtHeading, line_answer, closing_lines}
 use Rattle.mm_play.proofs.Headlines.{tells}
 use Rattle.mm_play.proofs.Telling.{plays_ok, plays_err}
 
 -- A play of lines by a stage that shows what the player of events does.
 module _ {G H E S R T : Type 0} (p : EventPlayer G H E S) (heads : HeadStage G R) (s : EventStage R) (steps : EventSteps E R)
-    (begun : H → R) (shown : H → List E → S) (shows : Shows p heads s steps begun shown) (Holds : H → List E → (List E → S) → Type 0)
+    (begun : H → R) (shown : H → List E → S) (shows : StageShows p heads s steps begun shown) (Holds : H → List E → (List E → S) → Type 0)
     (holds : (header : H) (events : List E) → Holds header events (shown header)) (reports : LineStage G R → T → Type 0) where
   told_events : {next : LineStage G R} {left left' received received' : Option (List ℕ)} {result : Result T ReplayFault}
-      → Plays (line_answer heads s) (line_closing heads s) (AtHeading p.start) next left left' received received' result
+      → Plays (line_answer heads s) (closing_lines heads s) (AtHeading p.start) next left left' received received' result
       → TellsEvents p Holds left left' received received' [] result
   told_events {next = next} {left' = left'} {result = result} played =
       let it = tells p heads s steps begun shown shows Holds holds next left' played.taken played.sent result played.settled in
@@ -34,7 +34,7 @@ module _ {G H E S R T : Type 0} (p : EventPlayer G H E S) (heads : HeadStage G R
 
   module _ {player next : LineStage G R} {left left' received received' : Option (List ℕ)} {result : Result (Unit {0}) ReplayFault}
       (begins : player ≡ AtHeading p.start)
-      (played : Plays (line_answer heads s) (line_closing heads s) player next left left' received received' result) where
+      (played : Plays (line_answer heads s) (closing_lines heads s) player next left left' received received' result) where
     pub events_ok : (done : Unit {0}) → result ≡ Ok done → (report : T) → reports next report
         → PlaysEvents p Holds heads s reports left left' received received' (Ok report)
     events_ok done is report reported =
@@ -45,7 +45,7 @@ module _ {G H E S R T : Type 0} (p : EventPlayer G H E S) (heads : HeadStage G R
         → (let said : Result T ReplayFault = Err fault in PlaysEvents p Holds heads s reports left left' received received' said)
     events_err fault is =
         let plays : (let said : Result T ReplayFault = Err fault in
-        Plays (line_answer heads s) (line_closing heads s) (AtHeading p.start) next left left' received received' said) =
+        Plays (line_answer heads s) (closing_lines heads s) (AtHeading p.start) next left left' received received' said) =
         plays_err begins played fault is in
         record { next = next; plays = plays; tells = told_events plays; reported = tt }
 
@@ -86,8 +86,8 @@ stop_on text sent more stop front w =
     (more, front, ap (λ (l : List ℕ). l ++ more) (w.2 ∙ ap (λ (l : List ℕ). text ++ l) (front_none w.0 w.1) ∙ append-nil text))
 
 went_on : {T : Type 0} (behind text : List ℕ) (last : Option (List ℕ)) (sent more stop : List ℕ) (result : Result T ReplayFault)
-    → IsSilent result stop → IsFrontOf more stop → WentOut behind text last [] sent result
-    → WentOut behind text last stop (sent ++ more) (bare result)
+    → IsSilent result stop → IsFrontOf more stop → TextWentOut behind text last [] sent result
+    → TextWentOut behind text last stop (sent ++ more) (bare result)
 went_on behind text last sent more stop (Ok _) silent front (end, is, so) = (end, is, nothing_more sent more stop silent front ∙ so)
 went_on behind text last sent more stop (Err WriteFault) silent front w =
     let same = nothing_more sent more stop silent front in
@@ -121,7 +121,7 @@ module _ {G H E S : Type 0} (p : EventPlayer G H E S) (All Less : H → List E �
   -- A play, and then its stop line or a front of it.
   pub stopped_events : {T : Type 0} {left left' received middle received' : Option (List ℕ)} {result : Result T ReplayFault}
       {stop : List ℕ} {wrote : Result (Unit {0}) write.WriteFault} → IsSilent result stop
-      → TellsEvents p All left left' received middle [] result → Sends middle received' stop wrote
+      → TellsEvents p All left left' received middle [] result → SinkSends middle received' stop wrote
       → TellsEvents p Less left left' received received' stop (bare result)
   stopped_events {left' = left'} {received = received} {middle = middle} {received' = received'} {result = result} {stop = stop} silent t
       sends =
@@ -154,7 +154,7 @@ module _ {G H E S : Type 0} (p : EventPlayer G H E S) (All Less : H → List E �
 -- Memory was wanting before anything was read.
 pub lacked_events : {G H E S : Type 0} (p : EventPlayer G H E S) (Holds : H → List E → (List E → S) → Type 0)
     {left received received' : Option (List ℕ)} {stop : List ℕ} {wrote : Result (Unit {0}) write.WriteFault}
-    → Sends received received' stop wrote
+    → SinkSends received received' stop wrote
     → (let said : Result (Unit {0}) ReplayFault = Err Memory in TellsEvents p Holds left left received received' stop said)
 lacked_events p Holds {left = left} sends = record {
   taken = [];

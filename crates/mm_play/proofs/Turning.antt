@@ -2,34 +2,34 @@
 -- first, and nothing is pending where it ends the run.
 use Rattle.mm_play.proofs.Below.{◌≡◌, ◌∙◌, ◌+◌, ℕ, Bool, true, false, List, [], ◌∷◌, ◌++◌, take, drop, Result, Ok, Err, Option, refl, sym}
 use Rattle.mm_play.proofs.Below.{ap, append_assoc, arith, inl, inr, length-take, take-append-drop, ReplayFault, Memory, BadLine, LineLong}
-use Rattle.mm_play.proofs.Below.{TooMuch, longest_line, Refused, refusal_at, stopped, run_from, ForWhole, Answers, PlayedOn, Advances, ◌≢◌}
-use Rattle.mm_play.proofs.Below.{length, subst, append-nil, Appends-trans, Consumes-nil, IsUnbroken, ReadFault, WriteFault, Told}
-use Rattle.mm_play.proofs.Below.{after_writing, IsFrontOf, SendsDue, SendsThen, IsSent, PlaysNext}
+use Rattle.mm_play.proofs.Below.{TooMuch, longest_line, LineRefusal, refusal_at, stopped_outcome, outcome_of_rest, HoldsOfWhole, PlayerAnswers, TurnPlays, TurnAdvances, ◌≢◌}
+use Rattle.mm_play.proofs.Below.{length, subst, append-nil, Appends-trans, Consumes-nil, IsUnbroken, ReadFault, WriteFault, PlayOutcome}
+use Rattle.mm_play.proofs.Below.{outcome_after_bytes, IsFrontOf, SendsDue, SendsAndAnswers, IsSent, PlaysNext}
 use Rattle.mm_base.specs.Lines.{MayGrow}
-use Rattle.mm_base.specs.Next.{NextLine}
+use Rattle.mm_base.specs.ReadsNextLine.{ReadsNextLine}
 use Rattle.mm_base.specs.declared.lines.LineFault.{LineFault}
 use Rattle.mm_base.specs.declared.lines.LineFault.TheVariants as fault
 use Rattle.mm_base.specs.declared.lines.Read.{Read}
 use Rattle.mm_base.specs.declared.lines.Read.TheVariants.{Line, Tail}
-use Rattle.mm_play.proofs.Runs.{run_from-refused, run_from-long, run_from-tail, run_from-answered}
+use Rattle.mm_play.proofs.Runs.{outcome_of_rest-refused, outcome_of_rest-long, outcome_of_rest-tail, outcome_of_rest-answered}
 use Rattle.std.proofs.Math.Seq.{take-append_seam}
 use Rattle.std.proofs.lemmas.List.Elements.{All-take}
 use Rattle.mm_base.specs.declared.fault.WriteFault as write
 use Rattle.mm_play.proofs.Telling.{for_whole}
 
-module _ {P : Type 0} (answer : P → List ℕ → Result (List ℕ × P) Refused) (closing : P → Option (List ℕ)) (number : ℕ) (player next : P)
+module _ {P : Type 0} (answer : P → List ℕ → Result (List ℕ × P) LineRefusal) (closing : P → Option (List ℕ)) (number : ℕ) (player next : P)
     (left left' : Option (List ℕ)) (held held' pending pending' : List ℕ) where
   -- the line is refused, whatever follows it
-  refused_by : (bytes line : List ℕ) (why : Refused) (fault : ReplayFault) → bytes ≡ line ++ 10 ∷ held' → MayGrow longest_line line
+  refused_by : (bytes line : List ℕ) (why : LineRefusal) (fault : ReplayFault) → bytes ≡ line ++ 10 ∷ held' → MayGrow longest_line line
       → answer player line ≡ Err why → refusal_at number why ≡ fault
-      → ForWhole left' bytes (λ input. run_from answer closing number player input ≡ stopped fault)
+      → HoldsOfWhole left' bytes (λ input. outcome_of_rest answer closing number player input ≡ stopped_outcome fault)
   refused_by bytes line why fault cut within refused is =
       inl (λ rest. rw (cut, append_assoc line (10 ∷ held') rest, ← is)
-      (run_from-refused answer closing number player line (held' ++ rest) why within.unbroken within.short refused))
+      (outcome_of_rest-refused answer closing number player line (held' ++ rest) why within.unbroken within.short refused))
 
   went_by_line : (bytes line : List ℕ) (result : Result Bool ReplayFault) → bytes ≡ line ++ 10 ∷ held' → MayGrow longest_line line
-      → Answers number (answer player line) next pending pending' result
-      → PlayedOn answer (run_from answer closing number player) player next left' bytes held' pending pending' result
+      → PlayerAnswers number (answer player line) next pending pending' result
+      → TurnPlays answer (outcome_of_rest answer closing number player) player next left' bytes held' pending pending' result
   went_by_line bytes line (Ok true) cut within a =
       (a.1, a.3, record { line = line; unbroken = within.unbroken; short = within.short; cut = cut; answered = a.2 })
   went_by_line bytes line (Ok false) cut within a = let clash : false ≡ true = a.0 in cc
@@ -40,9 +40,9 @@ module _ {P : Type 0} (answer : P → List ℕ → Result (List ℕ × P) Refuse
 
   -- A line was read, and the player answered it or didn't.
   pub advanced_by_line : (result : Result Bool ReplayFault) (read : Result Read LineFault) (what : Read) (line : _)
-      → NextLine longest_line left left' held read held' → read ≡ Ok what → what ≡ Line line
-      → Answers number (answer player line.now) next pending pending' result
-      → Advances answer closing number player next left left' held held' pending pending' result
+      → ReadsNextLine longest_line left left' held read held' → read ≡ Ok what → what ≡ Line line
+      → PlayerAnswers number (answer player line.now) next pending pending' result
+      → TurnAdvances answer closing number player next left left' held held' pending pending' result
   advanced_by_line result read what line n is what_is a =
       let m = rw (is, what_is) at n in
       record {
@@ -51,12 +51,12 @@ module _ {P : Type 0} (answer : P → List ℕ → Result (List ℕ × P) Refuse
         went = went_by_line (held ++ m.takes.taken) line.now result (m.takes.goes ∙ append_assoc line.now (10 ∷ []) held') m.reads a;
       }
 
-module _ {P : Type 0} (answer : P → List ℕ → Result (List ℕ × P) Refused) (closing : P → Option (List ℕ)) (number : ℕ) (player : P)
+module _ {P : Type 0} (answer : P → List ℕ → Result (List ℕ × P) LineRefusal) (closing : P → Option (List ℕ)) (number : ℕ) (player : P)
     (left left' : Option (List ℕ)) (held held' pending : List ℕ) (read : Result Read LineFault)
-    (n : NextLine longest_line left left' held read held') where
+    (n : ReadsNextLine longest_line left left' held read held') where
   -- The input ended within a line.
   pub advanced_by_tail : (what : Read) → read ≡ Ok what → what ≡ Tail
-      → Advances answer closing number player player left left' held held' pending pending (Err (BadLine number))
+      → TurnAdvances answer closing number player player left left' held held' pending pending (Err (BadLine number))
   advanced_by_tail what is what_is =
       let m = rw (is, what_is) at n in
       record {
@@ -66,14 +66,14 @@ module _ {P : Type 0} (answer : P → List ℕ → Result (List ℕ × P) Refuse
           refl,
           inr (
             m.reads.2,
-            rw m.takes.goes (run_from-tail answer closing number player held' m.reads.0.unbroken m.reads.1 m.reads.0.short),
+            rw m.takes.goes (outcome_of_rest-tail answer closing number player held' m.reads.0.unbroken m.reads.1 m.reads.0.short),
           ),
         );
       }
 
   -- Too many bytes came with no LF.
   pub advanced_by_long : (why : LineFault) → read ≡ Err why → why ≡ fault.LineLong
-      → Advances answer closing number player player left left' held held' pending pending (Err (LineLong number))
+      → TurnAdvances answer closing number player player left left' held held' pending pending (Err (LineLong number))
   advanced_by_long why is why_is =
       let m = rw (is, why_is) at n in
       let front : List ℕ = take (longest_line + 1) held' in
@@ -83,10 +83,10 @@ module _ {P : Type 0} (answer : P → List ℕ → Result (List ℕ × P) Refuse
         consumed = m.takes.consumed;
         went = (
           refl,
-          inl (λ rest. ap (λ b. run_from answer closing number player (b ++ rest))
+          inl (λ rest. ap (λ b. outcome_of_rest answer closing number player (b ++ rest))
               (m.takes.goes ∙ sym (take-append-drop (longest_line + 1) held'))
-              ∙ ap (run_from answer closing number player) (append_assoc front back rest)
-              ∙ run_from-long answer closing number player front (back ++ rest) m.reads.unbroken
+              ∙ ap (outcome_of_rest answer closing number player) (append_assoc front back rest)
+              ∙ outcome_of_rest-long answer closing number player front (back ++ rest) m.reads.unbroken
               (omega (arith, m.reads.long, length-take (longest_line + 1) held'))),
         );
       }
@@ -106,10 +106,10 @@ front_of_front a b c first second = subst (λ (x : List ℕ). IsFrontOf a x) sec
 
 -- ---- bytes that were pending first
 
-module _ {P : Type 0} (answer : P → List ℕ → Result (List ℕ × P) Refused) (rest : List ℕ → Told P) (player next : P)
+module _ {P : Type 0} (answer : P → List ℕ → Result (List ℕ × P) LineRefusal) (rest : List ℕ → PlayOutcome P) (player next : P)
     (left : Option (List ℕ)) (bytes held pending said front : List ℕ) where
-  went_behind : (result : Result Bool ReplayFault) → PlayedOn answer rest player next left bytes held pending said result
-      → PlayedOn answer rest player next left bytes held (front ++ pending) (front ++ said) result
+  went_behind : (result : Result Bool ReplayFault) → TurnPlays answer rest player next left bytes held pending said result
+      → TurnPlays answer rest player next left bytes held (front ++ pending) (front ++ said) result
   went_behind (Ok true) w = (w.0, rw (w.1, append_assoc) refl, w.2)
   went_behind (Ok false) w = (w.0, w.1, w.2, rw (w.3, append_assoc) refl)
   went_behind (Err WriteFault) w =
@@ -121,23 +121,23 @@ module _ {P : Type 0} (answer : P → List ℕ → Result (List ℕ × P) Refuse
 
 -- ---- a front of what is pending is a front of what the run writes
 
-module _ {P : Type 0} (answer : P → List ℕ → Result (List ℕ × P) Refused) (closing : P → Option (List ℕ)) (number : ℕ) (player next : P)
+module _ {P : Type 0} (answer : P → List ℕ → Result (List ℕ × P) LineRefusal) (closing : P → Option (List ℕ)) (number : ℕ) (player next : P)
     (left : Option (List ℕ)) (bytes held pending said sent : List ℕ) where
   abbrev IsCut : List ℕ → List ℕ → Type 0
-  IsCut front input = IsFrontOf front (pending ++ (run_from answer closing number player input).written)
+  IsCut front input = IsFrontOf front (pending ++ (outcome_of_rest answer closing number player input).written)
 
   -- nothing was answered
-  unanswered : said ≡ pending → IsFrontOf sent said → ForWhole left bytes (IsCut sent)
+  unanswered : said ≡ pending → IsFrontOf sent said → HoldsOfWhole left bytes (IsCut sent)
   unanswered same front =
-      inl (λ more. front_of_more sent pending (run_from answer closing number player (bytes ++ more)).written (rw same at front))
+      inl (λ more. front_of_more sent pending (outcome_of_rest answer closing number player (bytes ++ more)).written (rw same at front))
 
   went_cut : (result : Result Bool ReplayFault)
-      → PlayedOn answer (run_from answer closing number player) player next left bytes held pending said result
-      → IsFrontOf sent said → ForWhole left bytes (IsCut sent)
+      → TurnPlays answer (outcome_of_rest answer closing number player) player next left bytes held pending said result
+      → IsFrontOf sent said → HoldsOfWhole left bytes (IsCut sent)
   went_cut (Ok true) w front =
-      inl (λ more. let after : Told P = run_from answer closing (number + 1) next (held ++ more) in
-      let is : run_from answer closing number player (bytes ++ more) ≡ after_writing w.0 after =
-      rw (w.2.cut, append_assoc) (run_from-answered answer closing number player w.2.line (held ++ more) w.0 next w.2.unbroken w.2.short
+      inl (λ more. let after : PlayOutcome P = outcome_of_rest answer closing (number + 1) next (held ++ more) in
+      let is : outcome_of_rest answer closing number player (bytes ++ more) ≡ outcome_after_bytes w.0 after =
+      rw (w.2.cut, append_assoc) (outcome_of_rest-answered answer closing number player w.2.line (held ++ more) w.0 next w.2.unbroken w.2.short
       w.2.answered) in
       rw (is, ← append_assoc) (front_of_more sent (pending ++ w.0) after.written (rw w.1 at front)))
   went_cut (Ok false) w front = inr (w.0, rw w.2 (rw w.3 at front))
@@ -148,7 +148,7 @@ module _ {P : Type 0} (answer : P → List ℕ → Result (List ℕ × P) Refuse
 -- ---- turns
 
 -- the sink failed before the line was read
-pub turn_cut : {P : Type 0} (answer : P → List ℕ → Result (List ℕ × P) Refused) (closing : P → Option (List ℕ)) (number : ℕ) (player : P)
+pub turn_cut : {P : Type 0} (answer : P → List ℕ → Result (List ℕ × P) LineRefusal) (closing : P → Option (List ℕ)) (number : ℕ) (player : P)
     (left : Option (List ℕ)) (held held' : List ℕ) {received received' : Option (List ℕ)} {pending pending' : List ℕ}
     {due : Result (Unit {0}) write.WriteFault} {fault : write.WriteFault}
     → SendsDue received received' pending pending' due → due ≡ Err fault
@@ -172,11 +172,11 @@ none_is_sent pending (Ok true) none = tt
 none_is_sent pending _ none = none
 
 -- a line was read, or not, once what was due was sent
-module _ {P : Type 0} {answer : P → List ℕ → Result (List ℕ × P) Refused} {closing : P → Option (List ℕ)} {number : ℕ} {player next : P}
+module _ {P : Type 0} {answer : P → List ℕ → Result (List ℕ × P) LineRefusal} {closing : P → Option (List ℕ)} {number : ℕ} {player next : P}
     {left left' : Option (List ℕ)} {held here held' : List ℕ} {received received' : Option (List ℕ)} {pending waiting more : List ℕ}
     {due : Result (Unit {0}) write.WriteFault} {done : Unit {0}} {found : Result Bool ReplayFault}
     (same : here ≡ held) (m : SendsDue received received' pending waiting due) (is : due ≡ Ok done)
-    (a : Advances answer closing number player next left left' here held' waiting more found) where
+    (a : TurnAdvances answer closing number player next left left' here held' waiting more found) where
   -- what was sent first, and what was pending still
   abbrev first : List ℕ
   first = m.sent
@@ -186,7 +186,7 @@ module _ {P : Type 0} {answer : P → List ℕ → Result (List ℕ × P) Refuse
 
   abbrev WentBy : List ℕ → List ℕ → Result Bool ReplayFault → Type 0
   WentBy pending said came =
-      PlayedOn answer (run_from answer closing number player) player next left' (held ++ a.taken) held' pending said came
+      TurnPlays answer (outcome_of_rest answer closing number player) player next left' (held ++ a.taken) held' pending said came
 
   -- by what came, and with what was sent first
   came_now : (came : Result Bool ReplayFault) → found ≡ came → WentBy waiting more came
@@ -195,7 +195,7 @@ module _ {P : Type 0} {answer : P → List ℕ → Result (List ℕ × P) Refuse
   came_behind : (came : Result Bool ReplayFault) → found ≡ came → WentBy pending (first ++ more) came
   came_behind came found_is =
       subst (λ (p : List ℕ). WentBy p (first ++ more) came) (sym parted)
-      (went_behind answer (run_from answer closing number player) player next left' (held ++ a.taken) held' waiting more first came
+      (went_behind answer (outcome_of_rest answer closing number player) player next left' (held ++ a.taken) held' waiting more first came
       (came_now came found_is))
 
   -- the source failed: nothing is pending
@@ -214,7 +214,7 @@ module _ {P : Type 0} {answer : P → List ℕ → Result (List ℕ × P) Refuse
 
   -- all was sent, or the sink failed
   pub turn_ends : {received'' : Option (List ℕ)} {pending' : List ℕ} {came result : Result Bool ReplayFault} → found ≡ came
-      → SendsThen came received' received'' more result → pending' ≡ []
+      → SendsAndAnswers came received' received'' more result → pending' ≡ []
       → PlaysNext answer closing number player next left left' held held' received received'' pending pending' result
   turn_ends {received'' = received''} {pending' = pending'} {came = came} {result = result} found_is s none =
       let went = came_behind came found_is in

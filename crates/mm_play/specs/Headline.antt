@@ -3,32 +3,32 @@
 use Rattle.std.specs.Prelude.{◌≡◌, ◌≤◌, ◌<◌, ℕ, ◌+◌, List, [], ◌∷◌, ◌++◌, length, map, Option, None, Some, Result, Ok, Err, ◌⊎◌}
 use Rattle.std.specs.Io.KnownBytes.{Appends, Consumes, IsAtEnd}
 use Rattle.std.specs.List.{AllByRecursion, sum_by}
-use Rattle.mm_base.specs.Input.{IsUnbroken, lines_joined}
+use Rattle.mm_base.specs.Input.{IsUnbroken, joined_lines}
 use Rattle.mm_base.specs.Limits.{longest_line, most_events}
 use Rattle.mm_base.specs.declared.replay_fault.ReplayFault.{ReplayFault}
 use Rattle.mm_base.specs.declared.replay_fault.ReplayFault.TheVariants.{Memory, ReadFault, WriteFault, BadLine, LineLong, TooMuch}
-use Rattle.mm_play.specs.Headed.{Headed, More, Begins}
-use Rattle.mm_play.specs.Kept.{most_kept}
-use Rattle.mm_play.specs.Takes.{IsFrontOf}
+use Rattle.mm_play.specs.HeadingStep.{HeadingStep, More, Begins}
+use Rattle.mm_play.specs.KeptBytes.{most_kept_bytes}
+use Rattle.mm_play.specs.Fronts.{IsFrontOf}
 
 -- A player of events, as its lines are read: those of a heading, from its start on, until they name
 -- a header, and then an event in each. And what is shown of events: the text that answers them,
 -- what is written behind the last, and how many bytes are kept for them.
 pub record EventPlayer (G H E S : Type 0) : Type 0 where
   pub start : G
-  pub head : G → List ℕ → Option (Headed G H)
+  pub head : G → List ℕ → Option (HeadingStep G H)
   pub event_in : H → List ℕ → Option E
   pub text : List E → S → List ℕ
   pub last : S → List ℕ
   pub kept : S → ℕ
 
 -- Lines of a heading lead from one place in it to another, or to the header that they name.
-abbrev pub Lead : {G H : Type 0} → (G → List ℕ → Option (Headed G H)) → G → List (List ℕ)
-    → Headed G H → Type 0
-Lead head at [] to = to ≡ More at
-Lead head at (line ∷ []) to = head at line ≡ Some to
-Lead head at (line ∷ next ∷ lines) to =
-    (between : _) × (head at line ≡ Some (More between)) × Lead head between (next ∷ lines) to
+abbrev pub HeadingLeads : {G H : Type 0} → (G → List ℕ → Option (HeadingStep G H)) → G → List (List ℕ)
+    → HeadingStep G H → Type 0
+HeadingLeads head at [] to = to ≡ More at
+HeadingLeads head at (line ∷ []) to = head at line ≡ Some to
+HeadingLeads head at (line ∷ next ∷ lines) to =
+    (between : _) × (head at line ≡ Some (More between)) × HeadingLeads head between (next ∷ lines) to
 
 -- The bytes begin with this line.
 abbrev pub IsNextLine : List ℕ → List ℕ → Type 0
@@ -38,7 +38,7 @@ IsNextLine line bytes = IsUnbroken line × (more : List ℕ) × (bytes ≡ line 
 -- or all of them have more than 268,435,456 bytes.
 abbrev pub IsOver : (before : List (List ℕ)) (kept : ℕ) → List ℕ → Type 0
 IsOver before kept line = (most_events ≤ length before)
-    ⊎ (most_kept < sum_by length before + length line + kept)
+    ⊎ (most_kept_bytes < sum_by length before + length line + kept)
 
 -- By how it ended, what of the bytes taken is left behind so many answered lines. `IsNone` says
 -- that a line is none to be answered, `IsMuch` that it is one too many.
@@ -66,16 +66,16 @@ IsLeft left behind answered IsNone IsMuch (Err TooMuch) =
 
 -- By how it ended, what went out, where this text answers the lines, and `last` is what is written
 -- last, if the input may end behind them. `stop` is what is written where a play stopped.
-abbrev pub WentOut : {T : Type 0} → (behind text : List ℕ) (last : Option (List ℕ))
+abbrev pub TextWentOut : {T : Type 0} → (behind text : List ℕ) (last : Option (List ℕ))
     (stop sent : List ℕ) → Result T ReplayFault → Type 0
 -- the text, and the last lines
-WentOut behind text last stop sent (Ok _) =
+TextWentOut behind text last stop sent (Ok _) =
     (end : List ℕ) × (last ≡ Some end) × (sent ≡ text ++ end)
 -- a front of the text; or of both, where nothing is left
-WentOut behind text last stop sent (Err WriteFault) = IsFrontOf sent text
+TextWentOut behind text last stop sent (Err WriteFault) = IsFrontOf sent text
     ⊎ ((behind ≡ []) × (end : List ℕ) × (last ≡ Some end) × IsFrontOf sent (text ++ end))
 -- the text, and a front of what says why it stopped
-WentOut behind text last stop sent (Err _) =
+TextWentOut behind text last stop sent (Err _) =
     (stopped : List ℕ) × IsFrontOf stopped stop × (sent ≡ text ++ stopped)
 
 -- The lines name a header, and an event in each behind it; none of these is one too many. And what
@@ -88,7 +88,7 @@ pub record AreAnswered {G H E S : Type 0} (p : EventPlayer G H E S)
   pub events : List E
   pub shown : List E → S
   pub split : lines ≡ heads ++ others
-  pub headed : Lead p.head p.start heads (Begins header)
+  pub headed : HeadingLeads p.head p.start heads (Begins header)
   pub read : map (p.event_in header) others ≡ map Some events
   pub within : (before : List (List ℕ)) (line : List ℕ) (after : List (List ℕ)) (front : List E)
       → others ≡ before ++ line ∷ after → map (p.event_in header) before ≡ map Some front
@@ -107,13 +107,13 @@ pub record TellsEvents {G H E S T : Type 0} (p : EventPlayer G H E S)
   pub appended : Appends received received' sent
   pub done : List (List ℕ)
   pub behind : List ℕ
-  pub split : taken ≡ lines_joined done ++ behind
+  pub split : taken ≡ joined_lines done ++ behind
   pub short : AllByRecursion (λ line. IsUnbroken line × (length line ≤ longest_line)) done
-  pub continues : ((at : G) × Lead p.head p.start done (More at)
+  pub continues : ((at : G) × HeadingLeads p.head p.start done (More at)
       × IsLeft left' behind (length done) (λ line. p.head at line ≡ None) (λ line. ⊥) result
-      × WentOut behind [] None stop sent result)
+      × TextWentOut behind [] None stop sent result)
       ⊎ ((it : AreAnswered p Holds done)
       × IsLeft left' behind (length done) (λ line. p.event_in it.header line ≡ None)
       (λ line. IsOver it.others (p.kept (it.shown it.events)) line) result
-      × WentOut behind (p.text it.events (it.shown it.events))
+      × TextWentOut behind (p.text it.events (it.shown it.events))
       (Some (p.last (it.shown it.events))) stop sent result)

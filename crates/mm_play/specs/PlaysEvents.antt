@@ -2,9 +2,9 @@
 use Rattle.std.specs.Prelude.{ℕ, List, [], Option, Result}
 use Rattle.mm_base.specs.declared.replay_fault.ReplayFault.{ReplayFault}
 use Rattle.mm_play.specs.Headline.{EventPlayer, TellsEvents}
-use Rattle.mm_play.specs.Plays.{Plays}
-use Rattle.mm_play.specs.Stage.{EventStage, HeadStage, LineStage, AtHeading, line_answer, line_closing}
-use Rattle.mm_play.specs.Tells.{IsReported}
+use Rattle.mm_play.specs.PlaysInput.{PlaysInput}
+use Rattle.mm_play.specs.Stage.{EventStage, HeadStage, LineStage, AtHeading, line_answer, closing_lines}
+use Rattle.mm_play.specs.TellsOutput.{IsReported}
 
 -- What it took and wrote fits its answer line by line, and as a whole tells the headline; and what
 -- stands behind the last line is reported.
@@ -13,7 +13,7 @@ pub record PlaysEvents {G H E S R T : Type 0} (p : EventPlayer G H E S)
     (reports : LineStage G R → T → Type 0) (left left' received received' : Option (List ℕ))
     (result : Result T ReplayFault) : Type 0 where
   pub next : LineStage G R
-  pub plays : Plays (line_answer heads s) (line_closing heads s) (AtHeading p.start) next left
+  pub plays : PlaysInput (line_answer heads s) (closing_lines heads s) (AtHeading p.start) next left
       left' received received' result
   pub tells : TellsEvents p Holds left left' received received' [] result
   pub reported : IsReported reports next result

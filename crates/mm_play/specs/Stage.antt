@@ -2,10 +2,10 @@
 -- until one is too many.
 use Rattle.std.specs.Prelude.{◌≡◌, ℕ, ◌+◌, ◌-◌, ◌^◌, min, Bool, ◌||◌, nat_le, nat_lt, List, [], length, Option, None, Some, Result, Ok, Err, ◌⊎◌, if◌then◌else◌}
 use Rattle.mm_base.specs.Limits.{most_events}
-use Rattle.mm_play.specs.Headed.{Headed, More, Begins}
-use Rattle.mm_play.specs.Kept.{most_kept}
-use Rattle.mm_play.specs.declared.player.Refused.{Refused}
-use Rattle.mm_play.specs.declared.player.Refused.TheVariants.{Bad, Much}
+use Rattle.mm_play.specs.HeadingStep.{HeadingStep, More, Begins}
+use Rattle.mm_play.specs.KeptBytes.{most_kept_bytes}
+use Rattle.mm_play.specs.declared.player.LineRefusal.{LineRefusal}
+use Rattle.mm_play.specs.declared.player.LineRefusal.TheVariants.{Bad, Much}
 use Rattle.mm_play.specs.declared.player.ReplyFault.{ReplyFault}
 use Rattle.mm_play.specs.declared.player.ReplyFault.TheVariants as fault
 
@@ -34,85 +34,85 @@ answer_to steps r line = answer_by steps r (steps.event_in r line)
 -- What a heading does with its lines: where each leads, if it is one; and how many more there may
 -- be, at most.
 pub record HeadStage (H R : Type 0) : Type 0 where
-  pub behind : H → List ℕ → Option (Headed H R)
+  pub behind : H → List ℕ → Option (HeadingStep H R)
   pub left : H → ℕ
 
 -- what stands between two events: the stage, and the bytes of the lines read
-pub record Running (R : Type 0) : Type 0 where
+pub record PlayState (R : Type 0) : Type 0 where
   pub stage : R
   pub read : ℕ
 
-abbrev pub running : {R : Type 0} → R → ℕ → Running R
-running stage read = record { stage = stage; read = read }
+abbrev pub play_state : {R : Type 0} → R → ℕ → PlayState R
+play_state stage read = record { stage = stage; read = read }
 
 -- among the lines of the heading, or among the events
 pub data LineStage (H R : Type 0) : Type 0 where
   AtHeading : H → LineStage H R
-  InEvents : Running R → LineStage H R
+  InEvents : PlayState R → LineStage H R
 
 -- what 64 bits tell of a number
-abbrev pub within_64 : ℕ → ℕ
-within_64 n = min n (2 ^ 64 - 1)
+abbrev pub number_in_64_bits : ℕ → ℕ
+number_in_64_bits n = min n (2 ^ 64 - 1)
 
 module _ {R : Type 0} (s : EventStage R) where
   -- one event more would be too many, or its line too many bytes
-  abbrev pub is_over : Running R → List ℕ → Bool
+  abbrev pub is_over : PlayState R → List ℕ → Bool
   is_over r line = nat_le most_events (s.events r.stage)
-      || nat_lt most_kept (r.read + length line + s.kept r.stage)
+      || nat_lt most_kept_bytes (r.read + length line + s.kept r.stage)
 
   -- an event is answered, unless it is one too many
-  abbrev pub event_answer : {H : Type 0} → Running R → List ℕ → Option (List ℕ × R)
-      → Result (List ℕ × LineStage H R) Refused
+  abbrev pub event_answer : {H : Type 0} → PlayState R → List ℕ → Option (List ℕ × R)
+      → Result (List ℕ × LineStage H R) LineRefusal
   event_answer r line None = Err Bad
   event_answer r line (Some found) =
       if is_over r line then Err Much
-      else Ok (found.0, InEvents (running found.1 (r.read + length line)))
+      else Ok (found.0, InEvents (play_state found.1 (r.read + length line)))
 
 -- a line of the heading is answered by nothing
-abbrev pub head_answer : {H R : Type 0} → Option (Headed H R)
-    → Result (List ℕ × LineStage H R) Refused
+abbrev pub head_answer : {H R : Type 0} → Option (HeadingStep H R)
+    → Result (List ℕ × LineStage H R) LineRefusal
 head_answer None = Err Bad
 head_answer (Some (More heading)) = Ok ([], AtHeading heading)
-head_answer (Some (Begins stage)) = Ok ([], InEvents (running stage 0))
+head_answer (Some (Begins stage)) = Ok ([], InEvents (play_state stage 0))
 
 module _ {H R : Type 0} (heads : HeadStage H R) (s : EventStage R) where
   -- the reply to a line
-  abbrev pub line_answer : LineStage H R → List ℕ → Result (List ℕ × LineStage H R) Refused
+  abbrev pub line_answer : LineStage H R → List ℕ → Result (List ℕ × LineStage H R) LineRefusal
   line_answer (AtHeading heading) line = head_answer (heads.behind heading line)
   line_answer (InEvents r) line = event_answer s r line (s.answer r.stage line)
 
   -- the last lines, which need the whole heading before them
-  abbrev pub line_closing : LineStage H R → Option (List ℕ)
-  line_closing (AtHeading heading) = None
-  line_closing (InEvents r) = Some (s.last r.stage)
+  abbrev pub closing_lines : LineStage H R → Option (List ℕ)
+  closing_lines (AtHeading heading) = None
+  closing_lines (InEvents r) = Some (s.last r.stage)
 
   -- how many more lines can be answered
-  abbrev pub lines_left : LineStage H R → ℕ
-  lines_left (AtHeading heading) = most_events + 1 + heads.left heading
-  lines_left (InEvents r) = most_events - s.events r.stage
+  abbrev pub remaining_lines : LineStage H R → ℕ
+  remaining_lines (AtHeading heading) = most_events + 1 + heads.left heading
+  remaining_lines (InEvents r) = most_events - s.events r.stage
 
 -- Memory was wanting for the event that a line spells.
-abbrev pub wants_in : {E R : Type 0} → EventSteps E R → (R → E → R → Type 0) → R → List ℕ → R
+abbrev pub EventLacksMemory : {E R : Type 0} → EventSteps E R → (R → E → R → Type 0) → R → List ℕ → R
     → Type 0
-wants_in steps wants old line new =
+EventLacksMemory steps wants old line new =
     (event : _) × (steps.event_in old line ≡ Some event) × wants old event new
 
 -- Memory was wanting for a line: to read it, and nothing has changed; for its event, as `wants`
 -- says; or for its reply, and the event was played.
-abbrev pub LacksLine : {R : Type 0} → Type 0 → Option (List ℕ × R) → R → R → Type 0
-LacksLine wants answer old new =
+abbrev pub LineLacksMemory : {R : Type 0} → Type 0 → Option (List ℕ × R) → R → R → Type 0
+LineLacksMemory wants answer old new =
     (new ≡ old) ⊎ (wants ⊎ ((reply : List ℕ) × (answer ≡ Some (reply, new))))
 
 -- The event that a line spells was answered; where it spells none, nothing has changed.
-abbrev pub PlaysEvent : {R : Type 0} → Type 0 → Option (List ℕ × R) → R → R
+abbrev pub StageAnswersEvent : {R : Type 0} → Type 0 → Option (List ℕ × R) → R → R
     → Result (List ℕ) ReplyFault → Type 0
-PlaysEvent wants answer old new (Ok reply) = answer ≡ Some (reply, new)
-PlaysEvent wants answer old new (Err fault.Memory) = LacksLine wants answer old new
-PlaysEvent wants answer old new (Err (fault.Refused Bad)) = (answer ≡ None) × (new ≡ old)
-PlaysEvent wants answer old new (Err (fault.Refused Much)) = ⊥
+StageAnswersEvent wants answer old new (Ok reply) = answer ≡ Some (reply, new)
+StageAnswersEvent wants answer old new (Err fault.Memory) = LineLacksMemory wants answer old new
+StageAnswersEvent wants answer old new (Err (fault.Refused Bad)) = (answer ≡ None) × (new ≡ old)
+StageAnswersEvent wants answer old new (Err (fault.Refused Much)) = ⊥
 
 -- A line of the heading was taken: it is the last, and the events begin; or more are to come.
-abbrev pub TakesHead : {H R : Type 0} → Option (Headed H R) → H → Result (Option R) ReplyFault
+abbrev pub TakesHead : {H R : Type 0} → Option (HeadingStep H R) → H → Result (Option R) ReplyFault
     → Type 0
 TakesHead found new (Ok None) = found ≡ Some (More new)
 TakesHead found new (Ok (Some stage)) = found ≡ Some (Begins stage)

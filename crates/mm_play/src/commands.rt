@@ -1,20 +1,20 @@
 //! The one player of lines that are a heading and events.
 
 ghost use Rattle.std.specs.Prelude.{◌≡◌, ◌≤◌, ℕ, List, length, MatchOption};
-ghost use Rattle.mm_play.specs.Stage.{LineStage, AtHeading, InEvents, line_answer, line_closing, lines_left, running};
+ghost use Rattle.mm_play.specs.Stage.{LineStage, AtHeading, InEvents, line_answer, closing_lines, remaining_lines, play_state};
 ghost use Rattle.mm_play.specs.StageLaws.{lines_fall, lines_few};
 ghost use Rattle.mm_play.specs.Commands.{stage_at};
 
 use crate::player::{Player, ReplyFault};
 use crate::progress::Progress;
-use crate::stage::{Heading, Stage};
+use crate::stage::{Heading, PlayStage};
 use mm_base::{Bytes, Memory};
 use std::alloc::Global;
 use std::marker::Model;
 
 /// Where a command stands: among the lines of its heading, or among its events.
 #[derive(Drop)]
-pub enum At<H: Drop, S: Drop> {
+pub enum CommandPhase<H: Drop, S: Drop> {
     Heading(H),
     Events(Progress<S>),
 }
@@ -22,7 +22,7 @@ pub enum At<H: Drop, S: Drop> {
 /// Answers the lines of a heading, and then those of events.
 #[derive(Drop)]
 pub struct LinePlayer<H: Drop, S: Drop> {
-    at: At<H, S>,
+    at: CommandPhase<H, S>,
 }
 
 impl<H: Drop, S: Drop> Model for LinePlayer<H, S> {
@@ -37,35 +37,35 @@ impl<H: Drop, S: Drop> LinePlayer<H, S> {
         ensures { result ≡ AtHeading heading }
     {
         LinePlayer {
-            at: At::Heading(heading),
+            at: CommandPhase::Heading(heading),
         }
     }
 
     /// The stage, where events have begun.
     pub fn stage(&self) -> Option<&S>
         ensures { MatchOption result ((heading : H) × (self.now ≡ AtHeading heading))
-            (λ stage. (read : ℕ) × (self.now ≡ InEvents (running stage.now read))) }
+            (λ stage. (read : ℕ) × (self.now ≡ InEvents (play_state stage.now read))) }
     {
         match &self.at {
-            At::Events(progress) => Some(&progress.stage),
-            At::Heading(_) => None,
+            CommandPhase::Events(progress) => Some(&progress.stage),
+            CommandPhase::Heading(_) => None,
         }
     }
 }
 
-impl<H: Heading<S> + Drop, S: Stage + Drop> Player for LinePlayer<H, S> {
+impl<H: Heading<S> + Drop, S: PlayStage + Drop> Player for LinePlayer<H, S> {
     ghost answer = { line_answer H.heads S.plays };
 
-    ghost closing = { line_closing H.heads S.plays };
+    ghost closing = { closing_lines H.heads S.plays };
 
-    ghost lines_left = { lines_left H.heads S.plays };
+    ghost lines_left = { remaining_lines H.heads S.plays };
 
     fn reply(&mut self, alloc: Global, line: &[u8]) -> Result<Bytes, ReplyFault> {
         match &mut self.at {
-            At::Events(progress) => progress.reply_to_line(alloc, line),
-            At::Heading(heading) => {
+            CommandPhase::Events(progress) => progress.reply_to_line(alloc, line),
+            CommandPhase::Heading(heading) => {
                 if let Some(stage) = heading.take_line(alloc, line)? {
-                    self.at = At::Events(Progress::new(stage));
+                    self.at = CommandPhase::Events(Progress::new(stage));
                 }
                 Ok(Bytes::new(alloc))
             }
@@ -74,8 +74,8 @@ impl<H: Heading<S> + Drop, S: Stage + Drop> Player for LinePlayer<H, S> {
 
     fn last_lines(&self, alloc: Global) -> Result<Option<Bytes>, Memory> {
         match &self.at {
-            At::Events(progress) => Ok(Some(progress.stage.last_lines(alloc)?)),
-            At::Heading(_) => Ok(None),
+            CommandPhase::Events(progress) => Ok(Some(progress.stage.last_lines(alloc)?)),
+            CommandPhase::Heading(_) => Ok(None),
         }
     }
 

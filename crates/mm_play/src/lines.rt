@@ -4,12 +4,12 @@ ghost use Rattle.std.specs.Prelude.{◌≡◌, ◌+◌, ◌≤◌, ◌<◌, ℕ,
 ghost use Rattle.std.specs.Io.KnownBytes.{Appends, IsAtEnd};
 ghost use Rattle.mm_base.specs.Faults.{CountsFaults};
 ghost use Rattle.mm_base.specs.Input.{IsUnbroken};
-ghost use Rattle.mm_base.specs.Streams.{Sends};
+ghost use Rattle.mm_base.specs.Streams.{SinkSends};
 ghost use Rattle.mm_base.specs.Limits.{longest_line};
-ghost use Rattle.mm_play.specs.Turns.{Advances, Answers, EndsInput, SendsDue, SendsThen, PlaysNext};
-ghost use Rattle.mm_play.specs.Plays.{Plays, IsBlamed, is_read_fault, is_write_fault};
+ghost use Rattle.mm_play.specs.LineTurn.{TurnAdvances, PlayerAnswers, EndsInput, SendsDue, SendsAndAnswers, PlaysNext};
+ghost use Rattle.mm_play.specs.PlaysInput.{PlaysInput, IsBlamed, is_read_fault, is_write_fault};
 
-use crate::player::{Player, Refused, ReplyFault};
+use crate::player::{Player, LineRefusal, ReplyFault};
 use mm_base::{
     Bytes, LONGEST_LINE, LineFault, LineReader, Read, ReplayFault, Sink, Source, WriteFault,
     write_all,
@@ -28,7 +28,7 @@ fn queue_reply<P: Player>(
     pending: &mut Bytes,
 ) -> Result<bool, ReplayFault>
     requires { length line.now ≤ longest_line }
-    ensures { Answers number (P.answer player.old line.now) player.new pending.old pending.new
+    ensures { PlayerAnswers number (P.answer player.old line.now) player.new pending.old pending.new
         result }
 {
     match player.reply(alloc, line) {
@@ -37,8 +37,8 @@ fn queue_reply<P: Player>(
             Err(_) => Err(ReplayFault::Memory),
         },
         Err(ReplyFault::Memory) => Err(ReplayFault::Memory),
-        Err(ReplyFault::Refused(Refused::Bad)) => Err(ReplayFault::BadLine { line: number }),
-        Err(ReplyFault::Refused(Refused::Much)) => Err(ReplayFault::TooMuch),
+        Err(ReplyFault::Refused(LineRefusal::Bad)) => Err(ReplayFault::BadLine { line: number }),
+        Err(ReplyFault::Refused(LineRefusal::Much)) => Err(ReplayFault::TooMuch),
     }
 }
 
@@ -73,7 +73,7 @@ fn read_and_reply<P: Player, S: Source>(
     pending: &mut Bytes,
 ) -> Result<bool, ReplayFault>
     requires { IsUnbroken reader.old → pending.old ≡ [] }
-    ensures advances { Advances P.answer P.closing number player.old player.new (S.left input.old)
+    ensures advances { TurnAdvances P.answer P.closing number player.old player.new (S.left input.old)
         (S.left input.new) reader.old reader.new pending.old pending.new result }
     ensures read { IsBlamed (is_read_fault result) (S.faults input.old) (S.faults input.new) }
     ensures unwritten { is_write_fault result ≡ false }
@@ -90,7 +90,7 @@ fn read_and_reply<P: Player, S: Source>(
 /// Sends what is pending. Nothing is pending then, nor after `WriteFault`.
 fn send<K: Sink>(alloc: Global, pending: &mut Bytes, out: &mut K) -> Result<(), WriteFault>
     ensures none { pending.new ≡ [] }
-    ensures sent { Sends (K.received out.old) (K.received out.new) pending.old result }
+    ensures sent { SinkSends (K.received out.old) (K.received out.new) pending.old result }
     ensures counted { CountsFaults (K.faults out.old) (K.faults out.new) result }
 {
     let sent = write_all(out, pending.as_slice());
@@ -127,7 +127,7 @@ fn send_then<K: Sink>(
 ) -> Result<bool, ReplayFault>
     requires { is_write_fault came ≡ false }
     ensures none { pending.new ≡ [] }
-    ensures sent { SendsThen came (K.received out.old) (K.received out.new) pending.old result }
+    ensures sent { SendsAndAnswers came (K.received out.old) (K.received out.new) pending.old result }
     ensures wrote { IsBlamed (is_write_fault result) (K.faults out.old) (K.faults out.new) }
 {
     match send(alloc, pending, out) {
@@ -177,7 +177,7 @@ pub fn play<P: Player, S: Source, K: Sink>(
     input: &mut S,
     out: &mut K,
 ) -> Result<(), ReplayFault>
-    ensures plays { Plays P.answer P.closing player.old player.new (S.left input.old)
+    ensures plays { PlaysInput P.answer P.closing player.old player.new (S.left input.old)
         (S.left input.new) (K.received out.old) (K.received out.new) result }
     ensures read { IsBlamed (is_read_fault result) (S.faults input.old) (S.faults input.new) }
     ensures wrote { IsBlamed (is_write_fault result) (K.faults out.old) (K.faults out.new) }

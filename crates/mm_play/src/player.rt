@@ -2,15 +2,15 @@
 
 ghost use Rattle.std.specs.Prelude.{◌≡◌, ◌≤◌, ◌<◌, ◌^◌, ℕ, List, Option, Result, Ok, length, IfOk};
 ghost use Rattle.mm_base.specs.Limits.{longest_line};
-ghost use Rattle.mm_play.specs.declared.player.Refused.{Refused};
-ghost use Rattle.mm_play.specs.Takes.{GivesReply};
+ghost use Rattle.mm_play.specs.declared.player.LineRefusal.{LineRefusal};
+ghost use Rattle.mm_play.specs.Fronts.{GivesReply};
 
 use mm_base::{Bytes, Memory};
 use std::alloc::Global;
 
 /// Why a player refuses a line.
 #[derive(Clone, Copy, Debug, PartialEq, Eq)]
-pub enum Refused {
+pub enum LineRefusal {
     /// The line is outside the grammar.
     Bad,
     /// The line is one too many, or too many bytes are kept.
@@ -23,13 +23,13 @@ pub enum ReplyFault {
     /// Want of memory.
     Memory,
     /// The line is refused.
-    Refused(Refused),
+    Refused(LineRefusal),
 }
 
 /// Answers the lines of an input, one after another.
 pub trait Player {
     /// The reply to a line, with the player after it, or why the line is refused.
-    ghost answer: { Self → List ℕ → Result (List ℕ × Self) Refused };
+    ghost answer: { Self → List ℕ → Result (List ℕ × Self) LineRefusal };
 
     /// What is written last, where the input may end here.
     ghost closing: { Self → Option (List ℕ) };

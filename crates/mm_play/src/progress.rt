@@ -2,10 +2,10 @@
 
 ghost use Rattle.std.specs.Prelude.{◌≡◌, ◌+◌, ◌≤◌, ◌<◌, ℕ, List, false, length};
 ghost use Rattle.mm_base.specs.Limits.{longest_line};
-ghost use Rattle.mm_play.specs.Kept.{most_kept};
+ghost use Rattle.mm_play.specs.KeptBytes.{most_kept_bytes};
 
-use crate::player::{Refused, ReplyFault};
-use crate::stage::Stage;
+use crate::player::{LineRefusal, ReplyFault};
+use crate::stage::PlayStage;
 use mm_base::{Bytes, MOST_EVENTS};
 use std::alloc::Global;
 
@@ -19,16 +19,16 @@ pub struct Progress<S: Drop> {
     pub stage: S,
     /// The bytes of their lines, each without its LF.
     read: u64,
-    ghost small: { read ≤ most_kept },
+    ghost small: { read ≤ most_kept_bytes },
 }
 
-impl<S: Stage + Drop> Progress<S> {
-    ghost use Rattle.mm_play.specs.Progress.{RepliesTo, running_in, IsRefusal};
-    ghost use Rattle.mm_play.specs.Stage.{is_over, running};
+impl<S: PlayStage + Drop> Progress<S> {
+    ghost use Rattle.mm_play.specs.Progress.{RepliesToLine, play_state_of, IsRefusal};
+    ghost use Rattle.mm_play.specs.Stage.{is_over, play_state};
 
     /// A stage at its first event.
     pub fn new(stage: S) -> Progress<S>
-        ensures { running_in result ≡ running stage 0 }
+        ensures { play_state_of result ≡ play_state stage 0 }
     {
         Progress { stage, read: 0 }
     }
@@ -36,7 +36,7 @@ impl<S: Stage + Drop> Progress<S> {
     /// Whether one more event would be too many, or its line and what is kept too many bytes.
     #[inline(always)]
     pub fn is_full(&self, line: &[u8]) -> bool
-        ensures { result ≡ is_over S.plays (running_in self.now) line.now }
+        ensures { result ≡ is_over S.plays (play_state_of self.now) line.now }
     {
         let lines = self.read.saturating_add(line.len() as u64);
         self.stage.events() >= MOST_EVENTS || lines.saturating_add(self.stage.kept()) > MOST_KEPT
@@ -45,8 +45,8 @@ impl<S: Stage + Drop> Progress<S> {
     /// Counts a line that was answered.
     #[inline(always)]
     pub fn count_line(&mut self, line: &[u8])
-        requires { self.old.read + length line.now ≤ most_kept }
-        ensures { running_in self.new ≡ running self.old.stage (self.old.read + length line.now) }
+        requires { self.old.read + length line.now ≤ most_kept_bytes }
+        ensures { play_state_of self.new ≡ play_state self.old.stage (self.old.read + length line.now) }
     {
         self.read += line.len() as u64;
     }
@@ -56,18 +56,18 @@ impl<S: Stage + Drop> Progress<S> {
         ensures { IsRefusal (S.plays.answer self.now.stage line.now) result }
     {
         match self.stage.is_event(alloc, line) {
-            Ok(true) => ReplyFault::Refused(Refused::Much),
-            Ok(false) => ReplyFault::Refused(Refused::Bad),
+            Ok(true) => ReplyFault::Refused(LineRefusal::Much),
+            Ok(false) => ReplyFault::Refused(LineRefusal::Bad),
             Err(_) => ReplyFault::Memory,
         }
     }
 
-    /// The reply to an event line, as text. `Refused::Much` comes exactly where it is event 20,001, or where the event
+    /// The reply to an event line, as text. `LineRefusal::Much` comes exactly where it is event 20,001, or where the event
     /// lines and what is kept have more than 268,435,456 bytes; it isn't played then. After a refusal nothing has
-    /// changed. After want of memory the line isn't counted, and the stage is as `Stage::play` leaves it then.
+    /// changed. After want of memory the line isn't counted, and the stage is as `PlayStage::play` leaves it then.
     pub fn reply_to_line(&mut self, alloc: Global, line: &[u8]) -> Result<Bytes, ReplyFault>
         requires { length line.now ≤ longest_line }
-        ensures { RepliesTo S.plays S.wants line.now (running_in self.old) (running_in self.new)
+        ensures { RepliesToLine S.plays S.wants line.now (play_state_of self.old) (play_state_of self.new)
             result }
     {
         if self.is_full(line) {

@@ -2,16 +2,16 @@
 
 ghost use Rattle.std.specs.Prelude.{◌≡◌, ◌+◌, ◌≤◌, ◌<◌, ◌^◌, ℕ, List, Option, Some, is_some, length, IfOk};
 ghost use Rattle.mm_base.specs.Limits.{longest_line, most_events};
-ghost use Rattle.mm_play.specs.Headed.{More};
-ghost use Rattle.mm_play.specs.Kept.{most_kept};
-ghost use Rattle.mm_play.specs.Stage.{EventStage, HeadStage, PlaysEvent, TakesHead, within_64};
+ghost use Rattle.mm_play.specs.HeadingStep.{More};
+ghost use Rattle.mm_play.specs.KeptBytes.{most_kept_bytes};
+ghost use Rattle.mm_play.specs.Stage.{EventStage, HeadStage, StageAnswersEvent, TakesHead, number_in_64_bits};
 
 use crate::player::ReplyFault;
 use mm_base::{Bytes, Memory};
 use std::alloc::Global;
 
 /// What stands among events, and plays them one after another.
-pub trait Stage {
+pub trait PlayStage {
     /// What it does with events.
     ghost plays: { EventStage Self };
 
@@ -24,7 +24,7 @@ pub trait Stage {
 
     /// The bytes that it keeps for them, or the most that 64 bits tell.
     fn kept(&self) -> u64
-        ensures { result ≡ within_64 (plays.kept self.now) };
+        ensures { result ≡ number_in_64_bits (plays.kept self.now) };
 
     /// Whether the line spells an event.
     fn is_event(&self, alloc: Global, line: &[u8]) -> Result<bool, Memory>
@@ -36,8 +36,8 @@ pub trait Stage {
     fn play(&mut self, alloc: Global, line: &[u8]) -> Result<Bytes, ReplyFault>
         requires short { length line.now ≤ longest_line }
         requires few { plays.events self.old < most_events }
-        requires room { plays.kept self.old ≤ most_kept }
-        ensures { PlaysEvent (wants self.old line.now self.new) (plays.answer self.old line.now)
+        requires room { plays.kept self.old ≤ most_kept_bytes }
+        ensures { StageAnswersEvent (wants self.old line.now self.new) (plays.answer self.old line.now)
             self.old self.new result };
 
     /// What is written last.

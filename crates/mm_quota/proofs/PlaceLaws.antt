@@ -1,10 +1,10 @@
 -- Going through the accounts of a ledger.
 use Rattle.mm_quota.proofs.Below.{◌≡◌, suc, ◌+◌, ◌^◌, ◌<◌, ◌≤◌, ◌&&◌, Bool, true, false, nat_le, List, [], ◌∷◌, ◌++◌, length, take}
 use Rattle.mm_quota.proofs.Below.{drop, Option, Some, None, option_map, option_and_then, refl, sym, ◌∙◌, ap, arith, subst, append_assoc}
-use Rattle.mm_quota.proofs.Below.{length-append, nat_tests, and-true, Account, order_of, account_named, put, total_used, is_account, rises}
-use Rattle.mm_quota.proofs.Below.{account_bytes, body_of, account_at, accounts_from, of_count_bytes, holds_ledger, ledger_of}
-use Rattle.mm_quota.proofs.Below.{total_used-le, account_named-other, account_named-this, account_named-absent, bytes_eq-order}
-use Rattle.mm_quota.proofs.Below.{account_at-account_bytes, ReadsBody, accounts_from-reads, IsSpelled, follow}
+use Rattle.mm_quota.proofs.Below.{length-append, nat_tests, and-true, LedgerAccount, order_of, account_of_name, accounts_with, used_total, is_account, is_rising_from}
+use Rattle.mm_quota.proofs.Below.{account_bytes, body_of, account_at, accounts_from, count_of_bytes, holds_ledger, ledger_of}
+use Rattle.mm_quota.proofs.Below.{used_total-le, account_of_name-other, account_of_name-this, account_of_name-absent, bytes_eq-order}
+use Rattle.mm_quota.proofs.Below.{account_at-account_bytes, ReadsBody, accounts_from-reads, IsSpelled, has_rising_from}
 use Rattle.std.specs.Prelude.{ℕ, ◌-◌}
 use Rattle.std.specs.declared.cmp.Ordering.{Ordering}
 use Rattle.std.specs.declared.cmp.Ordering.TheVariants.{Less, Equal, Greater}
@@ -16,29 +16,29 @@ use Rattle.mm_module.specs.PartLaws.{are_bytes-drop}
 use Rattle.mm_quota.specs.Places.{IsAccountPlace}
 use Rattle.mm_quota.specs.Table.{accounts_of, is_ledger, is_state}
 use Rattle.mm_quota.specs.Views.{as_account}
-use Rattle.mm_quota.specs.declared.place.Place.{Place}
+use Rattle.mm_quota.specs.declared.place.AccountPlace.{AccountPlace}
 
 -- the rest, where an account stands in front of it
-pub follow-front : (previous : List ℕ) (account : Account) (accounts : Option (List Account))
-    → follow previous (option_map (λ others. account ∷ others) accounts) ≡ (is_account account
-    && (is_lt (order_of previous account.name) && follow account.name accounts))
+pub follow-front : (previous : List ℕ) (account : LedgerAccount) (accounts : Option (List LedgerAccount))
+    → has_rising_from previous (option_map (λ others. account ∷ others) accounts) ≡ (is_account account
+    && (is_lt (order_of previous account.name) && has_rising_from account.name accounts))
 follow-front previous account accounts = grind arith
 
 -- the accounts that are left, whose bytes are the rest
-pub record Left (rest : List ℕ) (count number : ℕ) (todo : List Account) : Type 0 where
+pub record Left (rest : List ℕ) (count number : ℕ) (todo : List LedgerAccount) : Type 0 where
   pub counted : length todo + number ≡ count
   pub good : list_all is_account todo ≡ true
   pub spelled : rest ≡ body_of todo
 
 -- the first of them is read
-record ReadsNext (rest : List ℕ) (count number : ℕ) (todo : List Account) : Type 0 where
-  account : Account
-  others : List Account
+record ReadsNext (rest : List ℕ) (count number : ℕ) (todo : List LedgerAccount) : Type 0 where
+  account : LedgerAccount
+  others : List LedgerAccount
   is : todo ≡ account ∷ others
   read : account_at rest ≡ Some (account, body_of others)
   later : Left (body_of others) count (number + 1) others
 
-reads-next : (rest : List ℕ) (count number : ℕ) (todo : List Account) → Left rest count number todo → number < count
+reads-next : (rest : List ℕ) (count number : ℕ) (todo : List LedgerAccount) → Left rest count number todo → number < count
     → ReadsNext rest count number todo
 reads-next rest count number [] left going = absurd (omega (arith, left.counted))
 reads-next rest count number (account ∷ others) left going =
@@ -53,39 +53,39 @@ reads-next rest count number (account ∷ others) left going =
 
 -- a sum that goes on
 pub record Summing (bytes rest : List ℕ) (count number total : ℕ) : Type 0 where
-  pub todo : List Account
+  pub todo : List LedgerAccount
   pub left : Left rest count number todo
-  pub summed : total + total_used todo ≡ total_used (ledger_of bytes)
+  pub summed : total + used_total todo ≡ used_total (ledger_of bytes)
 
 -- what the next account gives
-abbrev pub NextSum : List ℕ → ℕ → ℕ → ℕ → Option (Account × List ℕ) → Type 0
+abbrev pub NextSum : List ℕ → ℕ → ℕ → ℕ → Option (LedgerAccount × List ℕ) → Type 0
 NextSum bytes count number total None = ⊥
 NextSum bytes count number total (Some front) =
-    (total + front.0.used ≤ total_used (ledger_of bytes)) × Summing bytes front.1 count (number + 1) (total + front.0.used)
+    (total + front.0.used ≤ used_total (ledger_of bytes)) × Summing bytes front.1 count (number + 1) (total + front.0.used)
 
-pub Summing-given : (bytes rest : List ℕ) (count number total : ℕ) (front : Option (Account × List ℕ))
+pub Summing-given : (bytes rest : List ℕ) (count number total : ℕ) (front : Option (LedgerAccount × List ℕ))
     → Summing bytes rest count number total → number < count → front ≡ account_at rest → NextSum bytes count number total front
 Summing-given bytes rest count number total front is going read =
     let n = reads-next rest count number is.todo is.left going in
-    let used : total_used is.todo ≡ n.account.used + total_used n.others = ap total_used n.is in
+    let used : used_total is.todo ≡ n.account.used + used_total n.others = ap used_total n.is in
     subst (NextSum bytes count number total) (sym (read ∙ n.read))
     (omega (arith, used, is.summed), record { todo = n.others; left = n.later; summed = omega (arith, used, is.summed) })
 
 -- the sum has 64 bits
-pub IsSpelled-sum : (bytes : List ℕ) → IsSpelled bytes → total_used (ledger_of bytes) < 2 ^ 64
-IsSpelled-sum bytes is = omega (arith, total_used-le (ledger_of bytes) is.ledger.good, is.ledger.few)
+pub IsSpelled-sum : (bytes : List ℕ) → IsSpelled bytes → used_total (ledger_of bytes) < 2 ^ 64
+IsSpelled-sum bytes is = omega (arith, used_total-le (ledger_of bytes) is.ledger.good, is.ledger.few)
 
 -- a search that goes on: every account so far comes before the name
 pub record Finding (bytes name body rest : List ℕ) (count number : ℕ) : Type 0 where
-  pub todo : List Account
+  pub todo : List LedgerAccount
   pub front : List ℕ
   pub previous : List ℕ
   pub left : Left rest count number todo
-  pub rising : rises previous todo ≡ true
+  pub rising : is_rising_from previous todo ≡ true
   pub whole : body ≡ front ++ rest
   pub fits : length rest ≤ length body
-  pub named : account_named name (ledger_of bytes) ≡ account_named name todo
-  pub puts : (new : Account) → new.name ≡ name → body_of (put new (ledger_of bytes)) ≡ front ++ body_of (put new todo)
+  pub named : account_of_name name (ledger_of bytes) ≡ account_of_name name todo
+  pub puts : (new : LedgerAccount) → new.name ≡ name → body_of (accounts_with new (ledger_of bytes)) ≡ front ++ body_of (accounts_with new todo)
 
 pub Finding-begins : (bytes name body : List ℕ) (count : ℕ) → IsSpelled bytes → body ≡ drop 2 bytes → count ≡ length (ledger_of bytes)
     → Finding bytes name body body count 0
@@ -105,21 +105,21 @@ Finding-begins bytes name body count is body_is count_is =
 -- what is put stands between the bytes in front of the rest and these bytes
 abbrev pub Stands : List ℕ → List ℕ → List ℕ → List ℕ → List ℕ → Type 0
 Stands bytes name body rest back =
-    (new : Account) → new.name ≡ name → body_of (put new (ledger_of bytes)) ≡ take (length body - length rest) body
+    (new : LedgerAccount) → new.name ≡ name → body_of (accounts_with new (ledger_of bytes)) ≡ take (length body - length rest) body
     ++ (account_bytes new ++ back)
 
-pub record NextPlace (bytes name body rest : List ℕ) (count number : ℕ) (account : Account) (others : List ℕ) : Type 0 where
+pub record NextPlace (bytes name body rest : List ℕ) (count number : ℕ) (account : LedgerAccount) (others : List ℕ) : Type 0 where
   pub greater : order_of name account.name ≡ Greater → Finding bytes name body others count (number + 1)
-  pub equal : order_of name account.name ≡ Equal → (account_named name (ledger_of bytes) ≡ Some account)
+  pub equal : order_of name account.name ≡ Equal → (account_of_name name (ledger_of bytes) ≡ Some account)
       × Stands bytes name body rest others
-  pub less : order_of name account.name ≡ Less → (account_named name (ledger_of bytes) ≡ None) × Stands bytes name body rest rest
+  pub less : order_of name account.name ≡ Less → (account_of_name name (ledger_of bytes) ≡ None) × Stands bytes name body rest rest
 
-abbrev pub NextOf : List ℕ → List ℕ → List ℕ → List ℕ → ℕ → ℕ → Option (Account × List ℕ) → Type 0
+abbrev pub NextOf : List ℕ → List ℕ → List ℕ → List ℕ → ℕ → ℕ → Option (LedgerAccount × List ℕ) → Type 0
 NextOf bytes name body rest count number None = ⊥
 NextOf bytes name body rest count number (Some front) = NextPlace bytes name body rest count number front.0 front.1
 
 -- where the account of the name is put
-pub place-is : (bytes name body rest : List ℕ) (place : Place) → (account_named name (ledger_of bytes) ≡ option_map as_account place.found)
+pub place-is : (bytes name body rest : List ℕ) (place : AccountPlace) → (account_of_name name (ledger_of bytes) ≡ option_map as_account place.found)
     × Stands bytes name body rest place.back.now → place.front.now ≡ take (length body - length rest) body
     → IsAccountPlace name (ledger_of bytes) place
 place-is bytes name body rest place is front_is =
@@ -131,25 +131,25 @@ in-front body front rest whole =
     let n : length body - length rest ≡ length front = omega (arith, ap (λ (b : List ℕ). length b) whole, length-append front rest) in
     rw (n, whole) (take-append_seam front rest)
 
-put-by : (new account : Account) (accounts : List Account) (name : List ℕ) (order : Ordering) → new.name ≡ name
+put-by : (new account : LedgerAccount) (accounts : List LedgerAccount) (name : List ℕ) (order : Ordering) → new.name ≡ name
     → order_of name account.name ≡ order
-    → put new (account ∷ accounts) ≡ match_ordering order (new ∷ account ∷ accounts) (new ∷ accounts) (account ∷ put new accounts)
+    → accounts_with new (account ∷ accounts) ≡ match_ordering order (new ∷ account ∷ accounts) (new ∷ accounts) (account ∷ accounts_with new accounts)
 put-by new account accounts name order named is =
     let e : order_of new.name account.name ≡ order = ap (λ (n : List ℕ). order_of n account.name) named ∙ is in rw e refl
 
 -- what the next account gives
-pub Finding-given : (bytes name body rest : List ℕ) (count number : ℕ) (front : Option (Account × List ℕ))
+pub Finding-given : (bytes name body rest : List ℕ) (count number : ℕ) (front : Option (LedgerAccount × List ℕ))
     → Finding bytes name body rest count number → number < count → front ≡ account_at rest → NextOf bytes name body rest count number front
 Finding-given bytes name body rest count number front is going read =
     let n = reads-next rest count number is.todo is.left going in
     let account = n.account in
     let others = n.others in
-    let named = is.named ∙ ap (account_named name) n.is in
-    let rising : rises is.previous (account ∷ others) ≡ true = ap (rises is.previous) (sym n.is) ∙ is.rising in
-    let later = (and-true (is_lt (order_of is.previous account.name)) (rises account.name others) rising).1 in
-    let puts = λ (new : Account) (is_named : new.name ≡ name) (order : Ordering) (o : order_of name account.name ≡ order).
+    let named = is.named ∙ ap (account_of_name name) n.is in
+    let rising : is_rising_from is.previous (account ∷ others) ≡ true = ap (is_rising_from is.previous) (sym n.is) ∙ is.rising in
+    let later = (and-true (is_lt (order_of is.previous account.name)) (is_rising_from account.name others) rising).1 in
+    let puts = λ (new : LedgerAccount) (is_named : new.name ≡ name) (order : Ordering) (o : order_of name account.name ≡ order).
     is.puts new is_named
-    ∙ ap (λ (all : List Account). is.front ++ body_of all) (ap (put new) n.is ∙ put-by new account others name order is_named o) in
+    ∙ ap (λ (all : List LedgerAccount). is.front ++ body_of all) (ap (accounts_with new) n.is ∙ put-by new account others name order is_named o) in
     let spelled : rest ≡ account_bytes account ++ body_of others = is.left.spelled ∙ ap body_of n.is in
     let split : body ≡ (is.front ++ account_bytes account) ++ body_of others = is.whole ∙ ap (λ (b : List ℕ). is.front ++ b) spelled
     ∙ sym (append_assoc is.front (account_bytes account) (body_of others)) in
@@ -163,17 +163,17 @@ Finding-given bytes name body rest count number front is going read =
         rising = later;
         whole = split;
         fits = omega (arith, ap (λ (b : List ℕ). length b) split, length-append (is.front ++ account_bytes account) (body_of others));
-        named = named ∙ account_named-other name account others (bytes_eq-order name account.name Greater o);
+        named = named ∙ account_of_name-other name account others (bytes_eq-order name account.name Greater o);
         puts = λ new is_named. puts new is_named Greater o
-            ∙ sym (append_assoc is.front (account_bytes account) (body_of (put new others)));
+            ∙ sym (append_assoc is.front (account_bytes account) (body_of (accounts_with new others)));
       };
       equal = λ o. (
-        named ∙ account_named-this name account others (bytes_eq-order name account.name Equal o),
+        named ∙ account_of_name-this name account others (bytes_eq-order name account.name Equal o),
         λ new is_named. puts new is_named Equal o ∙ ap (λ (f : List ℕ). f ++ (account_bytes new ++ body_of others)) (sym head),
       );
       less = λ o. (
-        named ∙ account_named-other name account others (bytes_eq-order name account.name Less o)
-            ∙ account_named-absent name account.name others o later,
+        named ∙ account_of_name-other name account others (bytes_eq-order name account.name Less o)
+            ∙ account_of_name-absent name account.name others o later,
         λ new is_named. puts new is_named Less o
             ∙ ap (λ (f : List ℕ). f ++ (account_bytes new ++ body_of (account ∷ others))) (sym head)
             ∙ ap (λ (b : List ℕ). take (length body - length rest) body ++ (account_bytes new ++ b)) (sym spelled),
@@ -183,24 +183,24 @@ Finding-given bytes name body rest count number front is going read =
 -- one account more of a body
 pub accounts_from-suc : (count number : ℕ) (rest : List ℕ) → number < count
     → accounts_from (count - number) rest ≡ option_and_then
-    (λ (f : Account × List ℕ). option_map (λ accounts. f.0 ∷ accounts) (accounts_from (count - (number + 1)) f.1)) (account_at rest)
+    (λ (f : LedgerAccount × List ℕ). option_map (λ accounts. f.0 ∷ accounts) (accounts_from (count - (number + 1)) f.1)) (account_at rest)
 accounts_from-suc count number rest going = let n : count - number ≡ suc (count - (number + 1)) = omega arith in rw n refl
 
 -- the rest follows, where a formed account of a later name stands in front of it
-pub follow-next : (previous rest : List ℕ) (count number : ℕ) (front : Account × List ℕ) → number < count → Some front ≡ account_at rest
+pub follow-next : (previous rest : List ℕ) (count number : ℕ) (front : LedgerAccount × List ℕ) → number < count → Some front ≡ account_at rest
     → true ≡ is_account front.0 → true ≡ is_lt (order_of previous front.0.name)
-    → follow previous (accounts_from (count - number) rest) ≡ follow front.0.name (accounts_from (count - (number + 1)) front.1)
+    → has_rising_from previous (accounts_from (count - number) rest) ≡ has_rising_from front.0.name (accounts_from (count - (number + 1)) front.1)
 follow-next previous rest count number front going read formed later =
-    ap (λ (a : Option (List Account)). follow previous a) (accounts_from-suc count number rest going
-    ∙ ap (λ (f : Option (Account × List ℕ)). option_and_then
-    (λ (g : Account × List ℕ). option_map (λ accounts. g.0 ∷ accounts) (accounts_from (count - (number + 1)) g.1)) f) (sym read)) ∙
+    ap (λ (a : Option (List LedgerAccount)). has_rising_from previous a) (accounts_from-suc count number rest going
+    ∙ ap (λ (f : Option (LedgerAccount × List ℕ)). option_and_then
+    (λ (g : LedgerAccount × List ℕ). option_map (λ accounts. g.0 ∷ accounts) (accounts_from (count - (number + 1)) g.1)) f) (sym read)) ∙
     follow-front previous front.0 (accounts_from (count - (number + 1)) front.1) ∙
-    ap (λ (b : Bool). b && (is_lt (order_of previous front.0.name) && follow front.0.name (accounts_from (count - (number + 1)) front.1)))
+    ap (λ (b : Bool). b && (is_lt (order_of previous front.0.name) && has_rising_from front.0.name (accounts_from (count - (number + 1)) front.1)))
     (sym formed) ∙
-    ap (λ (b : Bool). b && follow front.0.name (accounts_from (count - (number + 1)) front.1)) (sym later)
+    ap (λ (b : Bool). b && has_rising_from front.0.name (accounts_from (count - (number + 1)) front.1)) (sym later)
 
-holds-follow : (most count : ℕ) (body : List ℕ) (accounts : Option (List Account)) → ReadsBody count body accounts
-    → holds_ledger most accounts ≡ (nat_le count most && follow [] accounts)
+holds-follow : (most count : ℕ) (body : List ℕ) (accounts : Option (List LedgerAccount)) → ReadsBody count body accounts
+    → holds_ledger most accounts ≡ (nat_le count most && has_rising_from [] accounts)
 unfolding is_ledger
 holds-follow most count body accounts reads = grind arith
 
@@ -208,7 +208,7 @@ accounts_of-short : (bytes : List ℕ) → length bytes < 2 → accounts_of byte
 unfolding accounts_of
 accounts_of-short bytes short = grind (arith, nat_tests)
 
-accounts_of-long : (bytes : List ℕ) → 2 ≤ length bytes → accounts_of bytes ≡ accounts_from (of_count_bytes (take 2 bytes)) (drop 2 bytes)
+accounts_of-long : (bytes : List ℕ) → 2 ≤ length bytes → accounts_of bytes ≡ accounts_from (count_of_bytes (take 2 bytes)) (drop 2 bytes)
 unfolding accounts_of
 accounts_of-long bytes long = let flag : nat_le 2 (length bytes) ≡ true = grind (arith, nat_tests) in rw flag refl
 
@@ -219,22 +219,22 @@ is_state-short most bytes short = rw (accounts_of-short bytes short) (grind arit
 
 -- bytes with a count that the ledger allows are a state, where their accounts follow
 pub is_state-long : (most : ℕ) (bytes : List ℕ) → 2 ≤ length bytes → are_bytes bytes ≡ true
-    → is_state most bytes ≡ (nat_le (of_count_bytes (take 2 bytes)) most
-    && follow [] (accounts_from (of_count_bytes (take 2 bytes)) (drop 2 bytes)))
+    → is_state most bytes ≡ (nat_le (count_of_bytes (take 2 bytes)) most
+    && has_rising_from [] (accounts_from (count_of_bytes (take 2 bytes)) (drop 2 bytes)))
 unfolding is_state
 is_state-long most bytes long is =
     rw (is, accounts_of-long bytes long)
-    (holds-follow most (of_count_bytes (take 2 bytes)) (drop 2 bytes) _
-    (accounts_from-reads (of_count_bytes (take 2 bytes)) (drop 2 bytes) (are_bytes-drop 2 bytes is)))
+    (holds-follow most (count_of_bytes (take 2 bytes)) (drop 2 bytes) _
+    (accounts_from-reads (count_of_bytes (take 2 bytes)) (drop 2 bytes) (are_bytes-drop 2 bytes is)))
 
 pub state-within : (most count : ℕ) (bytes body : List ℕ) → 2 ≤ length bytes → are_bytes bytes ≡ true
-    → count ≡ of_count_bytes (take 2 bytes) → body ≡ drop 2 bytes → count ≤ most
-    → follow [] (accounts_from count body) ≡ is_state most bytes
+    → count ≡ count_of_bytes (take 2 bytes) → body ≡ drop 2 bytes → count ≤ most
+    → has_rising_from [] (accounts_from count body) ≡ is_state most bytes
 state-within most count bytes body long is count_is body_is few =
     let flag : nat_le count most ≡ true = grind (arith, nat_tests) in
     sym (is_state-long most bytes long is ∙ rw (← count_is, ← body_is, flag) refl)
 
-pub state-beyond : (most count : ℕ) (bytes : List ℕ) → 2 ≤ length bytes → are_bytes bytes ≡ true → count ≡ of_count_bytes (take 2 bytes)
+pub state-beyond : (most count : ℕ) (bytes : List ℕ) → 2 ≤ length bytes → are_bytes bytes ≡ true → count ≡ count_of_bytes (take 2 bytes)
     → most < count → nat_le count most ≡ is_state most bytes
 state-beyond most count bytes long is count_is many =
     let flag : nat_le count most ≡ false = grind (arith, nat_tests) in

@@ -3,18 +3,18 @@ use Rattle.std.specs.Prelude.{◌≡◌, ℕ, ◌/◌, ◌%◌, ◌≤◌, ◌==
 use Rattle.std.proofs.Common.{refl, arith}
 use Rattle.std.specs.Fmt.{decimal}
 use Rattle.mm_module.specs.LineLaws.{IsText, is_unbroken}
-use Rattle.mm_listing.specs.Listing.{Listing, listing_of, IsListing, promises_nothing}
+use Rattle.mm_listing.specs.Listing.{Listing, listing_of, IsListing, PromisesNothing}
 use Rattle.mm_listing.specs.RequestLaws.{both, counted, in_both, listed, literal, numbered, request, word}
 use Rattle.mm_quota.specs.Ids.{small_ledger, small_ledger_is_lawful, wide_ledger, wide_ledger_is_lawful}
 use Rattle.mm_quota.specs.Requests.{account_request}
 
 abbrev pub quota_listing : Listing
 quota_listing =
-    listing_of (codes "quota") small_ledger account_request promises_nothing
+    listing_of (codes "quota") small_ledger account_request PromisesNothing
 
 abbrev pub ledger_listing : Listing
 ledger_listing =
-    listing_of (codes "ledger") wide_ledger account_request promises_nothing
+    listing_of (codes "ledger") wide_ledger account_request PromisesNothing
 
 -- a word, an account, and an amount
 moving : (front : List ℕ) (choice : ℕ) → is_unbroken front ≡ true → length front ≤ 20

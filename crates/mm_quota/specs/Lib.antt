@@ -4,7 +4,7 @@ pub mod AccountLaws
 pub mod SpellingLaws
 pub mod QuotaLaws
 pub mod Views
-pub mod Spelled
+pub mod IsLedger
 pub mod Places
 pub mod Ids
 pub mod OthersStay

@@ -10,11 +10,11 @@ use Rattle.std.proofs.lemmas.Nat.{be_bytes_2, from_be_bytes-to_be_bytes_2}
 use Rattle.mm_base.specs.Fields.{eight_bytes}
 use Rattle.mm_module.specs.Bytes.{is_byte, are_bytes}
 use Rattle.mm_module.specs.LineLaws.{and-true, and-both, is_byte-rem}
-use Rattle.mm_module.specs.Numbers.{of_eight_bytes}
-use Rattle.mm_module.specs.PartLaws.{take-front, drop-front, are_bytes-take, are_bytes-drop, are_bytes-append, are_bytes-visible, get_or-small, length-eight, are_bytes-eight, of_eight_bytes-eight, eight-of_eight_bytes}
-use Rattle.mm_quota.specs.Table.{Account, is_account, is_ledger, count_bytes, of_count_bytes, account_bytes, body_of, spelling_of, account_after, account_at, accounts_from, accounts_of, holds_ledger, is_state, ledger_of}
+use Rattle.mm_module.specs.Numbers.{number_of_eight_bytes}
+use Rattle.mm_module.specs.PartLaws.{take-front, drop-front, are_bytes-take, are_bytes-drop, are_bytes-append, are_bytes-visible, get_or-small, length-eight, are_bytes-eight, number_of_eight_bytes-eight, eight-number_of_eight_bytes}
+use Rattle.mm_quota.specs.Table.{LedgerAccount, is_account, is_ledger, count_bytes, count_of_bytes, account_bytes, body_of, spelling_of, account_after, account_at, accounts_from, accounts_of, holds_ledger, is_state, ledger_of}
 use Rattle.mm_quota.specs.AccountLaws.{IsAccount-from}
-use Rattle.mm_quota.specs.Spelled.{IsLedger, SpellsLedger}
+use Rattle.mm_quota.specs.IsLedger.{IsLedger, SpellsLedger}
 
 length-count_bytes : (n : ℕ) → length (count_bytes n) ≡ 2
 unfolding count_bytes
@@ -24,18 +24,18 @@ bytes-count_bytes : (n : ℕ) → are_bytes (count_bytes n) ≡ true
 unfolding count_bytes
 bytes-count_bytes n = simp is_byte-rem
 
-of_count_bytes-count_bytes : (n : ℕ) → n < 2 ^ 16 → of_count_bytes (count_bytes n) ≡ n
-unfolding of_count_bytes count_bytes
-of_count_bytes-count_bytes n small = from_be_bytes-to_be_bytes_2 n small
+count_of_bytes-count_bytes : (n : ℕ) → n < 2 ^ 16 → count_of_bytes (count_bytes n) ≡ n
+unfolding count_of_bytes count_bytes
+count_of_bytes-count_bytes n small = from_be_bytes-to_be_bytes_2 n small
 
-count_bytes-of_count_bytes : (bytes : List ℕ) → length bytes ≡ 2 → are_bytes bytes ≡ true → count_bytes (of_count_bytes bytes) ≡ bytes
-unfolding of_count_bytes count_bytes
-count_bytes-of_count_bytes bytes two is = be_bytes_2 bytes _ two (get_or-small bytes is) refl
+count_bytes-count_of_bytes : (bytes : List ℕ) → length bytes ≡ 2 → are_bytes bytes ≡ true → count_bytes (count_of_bytes bytes) ≡ bytes
+unfolding count_of_bytes count_bytes
+count_bytes-count_of_bytes bytes two is = be_bytes_2 bytes _ two (get_or-small bytes is) refl
 
 -- an account from its parts
 account_after-parts : (name limit used more : List ℕ) → length limit ≡ 8 → length used ≡ 8
     → account_after (length name) (name ++ (limit ++ (used ++ more)))
-    ≡ Some (record { name = name; limit = of_eight_bytes limit; used = of_eight_bytes used }, more)
+    ≡ Some (record { name = name; limit = number_of_eight_bytes limit; used = number_of_eight_bytes used }, more)
 unfolding account_after
 account_after-parts name limit used more limit_is used_is =
     let enough : length name + 16 ≤ length (name ++ (limit ++ (used ++ more))) =
@@ -52,30 +52,30 @@ account_after-parts name limit used more limit_is used_is =
       drop-front 8 used more used_is,
     ) refl
 
-pub account_at-account_bytes : (account : Account) (more : List ℕ) → is_account account ≡ true
+pub account_at-account_bytes : (account : LedgerAccount) (more : List ℕ) → is_account account ≡ true
     → account_at (account_bytes account ++ more) ≡ Some (account, more)
 unfolding account_bytes
 account_at-account_bytes account more is =
     let kept = IsAccount-from account is in
-    let limit = of_eight_bytes-eight account.limit (omega (arith, kept.limited)) in
-    let used = of_eight_bytes-eight account.used (omega (arith, kept.limited, kept.within)) in
+    let limit = number_of_eight_bytes-eight account.limit (omega (arith, kept.limited)) in
+    let used = number_of_eight_bytes-eight account.used (omega (arith, kept.limited, kept.within)) in
     simp append_assoc (account_after-parts account.name (eight_bytes account.limit)
     (eight_bytes account.used) more (length-eight account.limit)
     (length-eight account.used) ∙ rw (limit, used) refl)
 
 -- bytes of which an account was read are its bytes, and the rest
-abbrev pub IsFront : List ℕ → Option (Account × List ℕ) → Type 0
+abbrev pub IsFront : List ℕ → Option (LedgerAccount × List ℕ) → Type 0
 IsFront bytes None = Unit {0}
 IsFront bytes (Some front) = bytes ≡ account_bytes front.0 ++ front.1
 
-eight-front : (bytes : List ℕ) → are_bytes bytes ≡ true → 8 ≤ length bytes → eight_bytes (of_eight_bytes (take 8 bytes)) ≡ take 8 bytes
-eight-front bytes is long = eight-of_eight_bytes _ (length-take-le 8 bytes long) (are_bytes-take 8 bytes is)
+eight-front : (bytes : List ℕ) → are_bytes bytes ≡ true → 8 ≤ length bytes → eight_bytes (number_of_eight_bytes (take 8 bytes)) ≡ take 8 bytes
+eight-front bytes is long = eight-number_of_eight_bytes _ (length-take-le 8 bytes long) (are_bytes-take 8 bytes is)
 
 account-front : (count : ℕ) (bytes : List ℕ) → are_bytes bytes ≡ true → count + 16 ≤ length bytes
     → count ∷ bytes ≡ account_bytes (record {
       name = take count bytes;
-      limit = of_eight_bytes (take 8 (drop count bytes));
-      used = of_eight_bytes (take 8 (drop 8 (drop count bytes)));
+      limit = number_of_eight_bytes (take 8 (drop count bytes));
+      used = number_of_eight_bytes (take 8 (drop 8 (drop count bytes)));
     }) ++ drop 8 (drop 8 (drop count bytes))
 unfolding account_bytes
 account-front count bytes is long =
@@ -99,20 +99,20 @@ account_at-front (count ∷ bytes) is =
     let front = account-front count bytes are in grind (arith, nat_tests)
 
 -- accounts that were read are those of the bytes, so many
-pub record IsBody (count : ℕ) (bytes : List ℕ) (accounts : List Account) : Type 0 where
+pub record IsBody (count : ℕ) (bytes : List ℕ) (accounts : List LedgerAccount) : Type 0 where
   pub whole : bytes ≡ body_of accounts
   pub counted : length accounts ≡ count
 
-abbrev pub ReadsBody : ℕ → List ℕ → Option (List Account) → Type 0
+abbrev pub ReadsBody : ℕ → List ℕ → Option (List LedgerAccount) → Type 0
 ReadsBody count bytes None = Unit {0}
 ReadsBody count bytes (Some accounts) = IsBody count bytes accounts
 
-more-read : (count : ℕ) (bytes : List ℕ) (account : Account) (rest : List ℕ) (accounts : Option (List Account))
+more-read : (count : ℕ) (bytes : List ℕ) (account : LedgerAccount) (rest : List ℕ) (accounts : Option (List LedgerAccount))
     → bytes ≡ account_bytes account ++ rest → ReadsBody count rest accounts
     → ReadsBody (suc count) bytes (option_map (λ others. account ∷ others) accounts)
 more-read count bytes account rest accounts whole reads = grind arith
 
-after-front : (bytes : List ℕ) (account : Account) (rest : List ℕ) → bytes ≡ account_bytes account ++ rest → are_bytes bytes ≡ true
+after-front : (bytes : List ℕ) (account : LedgerAccount) (rest : List ℕ) → bytes ≡ account_bytes account ++ rest → are_bytes bytes ≡ true
     → are_bytes rest ≡ true
 after-front bytes account rest whole is =
     (and-true _ _ (sym (list_all-append is_byte (account_bytes account) rest)
@@ -126,8 +126,8 @@ accounts_from-reads (suc count) bytes is =
   where
     by : ((rest : List ℕ) → are_bytes rest ≡ true
         → ReadsBody count rest (accounts_from count rest))
-        → (front : Option (Account × List ℕ)) → IsFront bytes front
-        → ReadsBody (suc count) bytes (option_and_then (λ (f : Account × List ℕ).
+        → (front : Option (LedgerAccount × List ℕ)) → IsFront bytes front
+        → ReadsBody (suc count) bytes (option_and_then (λ (f : LedgerAccount × List ℕ).
         option_map (λ accounts. f.0 ∷ accounts) (accounts_from count f.1)) front)
     by more None whole = tt
     by more (Some front) whole =
@@ -135,7 +135,7 @@ accounts_from-reads (suc count) bytes is =
         (more front.1 (after-front bytes front.0 front.1 whole is))
 
 -- accounts are read that the bytes spell
-pub accounts_from-body_of : (accounts : List Account) → list_all is_account accounts ≡ true
+pub accounts_from-body_of : (accounts : List LedgerAccount) → list_all is_account accounts ≡ true
     → accounts_from (length accounts) (body_of accounts) ≡ Some accounts
 accounts_from-body_of [] all = refl
 accounts_from-body_of (account ∷ accounts) all =
@@ -143,20 +143,20 @@ accounts_from-body_of (account ∷ accounts) all =
     rw (account_at-account_bytes account (body_of accounts) w.0)
     (rw (accounts_from-body_of accounts w.1) refl)
 
-IsLedger-from : (most : ℕ) (accounts : List Account) → is_ledger most accounts ≡ true → IsLedger most accounts
+IsLedger-from : (most : ℕ) (accounts : List LedgerAccount) → is_ledger most accounts ≡ true → IsLedger most accounts
 unfolding is_ledger
 IsLedger-from most accounts is = grind (arith, nat_tests)
 
-is_ledger-IsLedger : (most : ℕ) (accounts : List Account) → IsLedger most accounts → is_ledger most accounts ≡ true
+is_ledger-IsLedger : (most : ℕ) (accounts : List LedgerAccount) → IsLedger most accounts → is_ledger most accounts ≡ true
 unfolding is_ledger
 is_ledger-IsLedger most accounts is = grind (arith, nat_tests)
 
 -- a spelled ledger is that of its bytes
-abbrev Reads : List ℕ → Option (List Account) → Type 0
+abbrev Reads : List ℕ → Option (List LedgerAccount) → Type 0
 Reads bytes None = Unit {0}
-Reads bytes (Some accounts) = (2 ≤ length bytes) × IsBody (of_count_bytes (take 2 bytes)) (drop 2 bytes) accounts
+Reads bytes (Some accounts) = (2 ≤ length bytes) × IsBody (count_of_bytes (take 2 bytes)) (drop 2 bytes) accounts
 
-reads-by : (bytes : List ℕ) (read : Option (List Account)) → ReadsBody (of_count_bytes (take 2 bytes)) (drop 2 bytes) read
+reads-by : (bytes : List ℕ) (read : Option (List LedgerAccount)) → ReadsBody (count_of_bytes (take 2 bytes)) (drop 2 bytes) read
     → Reads bytes (if nat_le 2 (length bytes) then read else None)
 reads-by bytes read reads = grind (arith, nat_tests)
 
@@ -164,12 +164,12 @@ accounts_of-reads : (bytes : List ℕ) → are_bytes bytes ≡ true → Reads by
 unfolding accounts_of
 accounts_of-reads bytes is = reads-by bytes _ (accounts_from-reads _ (drop 2 bytes) (are_bytes-drop 2 bytes is))
 
-spells-by : (most : ℕ) (bytes : List ℕ) (accounts : Option (List Account)) → are_bytes bytes ≡ true → Reads bytes accounts
+spells-by : (most : ℕ) (bytes : List ℕ) (accounts : Option (List LedgerAccount)) → are_bytes bytes ≡ true → Reads bytes accounts
     → holds_ledger most accounts ≡ true → accounts_of bytes ≡ accounts → SpellsLedger most bytes
 unfolding spelling_of ledger_of
 spells-by most bytes None is reads holds read = cc
 spells-by most bytes (Some accounts) is reads holds read =
-    let head = count_bytes-of_count_bytes (take 2 bytes) (length-take-le 2 bytes reads.0)
+    let head = count_bytes-count_of_bytes (take 2 bytes) (length-take-le 2 bytes reads.0)
     (are_bytes-take 2 bytes is) in
     record {
       ledger = rw read (IsLedger-from most accounts holds);
@@ -191,13 +191,13 @@ is_state-SpellsLedger most bytes is =
     spells-by most bytes _ w.0 (accounts_of-reads bytes w.0) w.1 refl
 
 -- the bytes of a ledger are bytes
-are_bytes-account_bytes : (account : Account) → is_account account ≡ true → are_bytes (account_bytes account) ≡ true
+are_bytes-account_bytes : (account : LedgerAccount) → is_account account ≡ true → are_bytes (account_bytes account) ≡ true
 unfolding account_bytes
 are_bytes-account_bytes account is =
     let kept = (IsAccount-from account is).named in
     grind (arith, nat_tests, are_bytes-append, are_bytes-visible, are_bytes-eight)
 
-are_bytes-body_of : (accounts : List Account) → list_all is_account accounts ≡ true → are_bytes (body_of accounts) ≡ true
+are_bytes-body_of : (accounts : List LedgerAccount) → list_all is_account accounts ≡ true → are_bytes (body_of accounts) ≡ true
 are_bytes-body_of [] all = refl
 are_bytes-body_of (account ∷ accounts) all =
     let w = and-true (is_account account) (list_all is_account accounts) all in
@@ -205,11 +205,11 @@ are_bytes-body_of (account ∷ accounts) all =
     (are_bytes-account_bytes account w.0) (are_bytes-body_of accounts w.1)
 
 -- an account has at most 49 bytes
-length-account_bytes : (account : Account) → length (account_bytes account) ≡ length account.name + 17
+length-account_bytes : (account : LedgerAccount) → length (account_bytes account) ≡ length account.name + 17
 unfolding account_bytes
 length-account_bytes account = omega (arith, length-append {A = ℕ}, length-eight)
 
-length-body_of : (accounts : List Account) → list_all is_account accounts ≡ true → length (body_of accounts) ≤ 49 * length accounts
+length-body_of : (accounts : List LedgerAccount) → list_all is_account accounts ≡ true → length (body_of accounts) ≤ 49 * length accounts
 length-body_of [] all = omega arith
 length-body_of (account ∷ accounts) all =
     let w = and-true (is_account account) (list_all is_account accounts) all in
@@ -221,7 +221,7 @@ length-body_of (account ∷ accounts) all =
       length-body_of accounts w.1,
     )
 
-pub length-spelling_of : (most : ℕ) (accounts : List Account) → IsLedger most accounts → length (spelling_of accounts) ≤ 2 + 49 * most
+pub length-spelling_of : (most : ℕ) (accounts : List LedgerAccount) → IsLedger most accounts → length (spelling_of accounts) ≤ 2 + 49 * most
 unfolding spelling_of
 length-spelling_of most accounts is = omega (
   arith,
@@ -232,7 +232,7 @@ length-spelling_of most accounts is = omega (
 )
 
 -- a ledger is read that the bytes spell
-accounts_of-spelling_of : (accounts : List Account) → length accounts < 2 ^ 16 → list_all is_account accounts ≡ true
+accounts_of-spelling_of : (accounts : List LedgerAccount) → length accounts < 2 ^ 16 → list_all is_account accounts ≡ true
     → accounts_of (spelling_of accounts) ≡ Some accounts
 unfolding accounts_of spelling_of
 accounts_of-spelling_of accounts few all =
@@ -244,17 +244,17 @@ accounts_of-spelling_of accounts few all =
       long,
       take-front 2 (count_bytes (length accounts)) (body_of accounts) two,
       drop-front 2 (count_bytes (length accounts)) (body_of accounts) two,
-      of_count_bytes-count_bytes (length accounts) few,
+      count_of_bytes-count_bytes (length accounts) few,
     ) (accounts_from-body_of accounts all)
 
-pub ledger_of-spelling_of : (most : ℕ) (accounts : List Account) → most < 2 ^ 16 → IsLedger most accounts
+pub ledger_of-spelling_of : (most : ℕ) (accounts : List LedgerAccount) → most < 2 ^ 16 → IsLedger most accounts
     → ledger_of (spelling_of accounts) ≡ accounts
 unfolding ledger_of
 ledger_of-spelling_of most accounts small is =
-    ap (λ (read : Option (List Account)). unwrap_or read [])
+    ap (λ (read : Option (List LedgerAccount)). unwrap_or read [])
     (accounts_of-spelling_of accounts (omega (arith, is.few)) is.good)
 
-pub is_state-spelling_of : (most : ℕ) (accounts : List Account) → most < 2 ^ 16 → IsLedger most accounts
+pub is_state-spelling_of : (most : ℕ) (accounts : List LedgerAccount) → most < 2 ^ 16 → IsLedger most accounts
     → is_state most (spelling_of accounts) ≡ true
 unfolding is_state
 is_state-spelling_of most accounts small is =

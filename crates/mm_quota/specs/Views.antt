@@ -3,30 +3,30 @@ use Rattle.std.specs.Prelude.{ℕ, List}
 use denote.Ref.{Bor}
 use Rattle.mm_quota.specs.Table as table
 use Rattle.mm_quota.specs.declared.account.Account.{Account}
-use Rattle.mm_quota.specs.declared.request.Action.{Action}
-use Rattle.mm_quota.specs.declared.request.Action.TheVariants as action
-use Rattle.mm_quota.specs.declared.request.Request.{Request}
-use Rattle.mm_quota.specs.declared.request.Request.TheVariants as request
-use Rattle.mm_quota.specs.declared.request.Says.{Says}
-use Rattle.mm_quota.specs.declared.request.Says.TheVariants as says
+use Rattle.mm_quota.specs.declared.request.QuotaAction.{QuotaAction}
+use Rattle.mm_quota.specs.declared.request.QuotaAction.TheVariants as action
+use Rattle.mm_quota.specs.declared.request.QuotaRequest.{QuotaRequest}
+use Rattle.mm_quota.specs.declared.request.QuotaRequest.TheVariants as request
+use Rattle.mm_quota.specs.declared.request.QuotaOutput.{QuotaOutput}
+use Rattle.mm_quota.specs.declared.request.QuotaOutput.TheVariants as says
 
-abbrev pub as_account : Account → table.Account
+abbrev pub as_account : Account → table.LedgerAccount
 as_account account = record { name = account.name.now; limit = account.limit; used = account.used }
 
-abbrev pub as_front : Account × Bor (List ℕ) → table.Account × List ℕ
-as_front front = (as_account front.0, front.1.now)
+abbrev pub front_account : Account × Bor (List ℕ) → table.LedgerAccount × List ℕ
+front_account front = (as_account front.0, front.1.now)
 
-abbrev pub as_action : Action → table.Action
+abbrev pub as_action : QuotaAction → table.LedgerAction
 as_action (action.Open limit) = table.Open limit
 as_action (action.Use number) = table.Use number
 as_action (action.Free number) = table.Free number
 as_action action.Left = table.Left
 
-abbrev pub as_request : Request → table.Request
+abbrev pub as_request : QuotaRequest → table.LedgerRequest
 as_request request.Sum = table.Sum
 as_request (request.On name action) = table.On name.now (as_action action)
 
-abbrev pub as_says : Says → table.Says
+abbrev pub as_says : QuotaOutput → table.LedgerOutput
 as_says says.Opened = table.IsOpened
 as_says says.Exists = table.IsThere
 as_says says.Full = table.IsFull

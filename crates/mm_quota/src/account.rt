@@ -2,7 +2,7 @@
 
 ghost use Rattle.std.specs.Prelude.{◌≡◌, ◌++◌, ◌≤◌, ℕ, length, option_map, OnOk};
 ghost use Rattle.mm_quota.specs.Table.{is_name, is_account, account_bytes, account_at};
-ghost use Rattle.mm_quota.specs.Views.{as_account, as_front};
+ghost use Rattle.mm_quota.specs.Views.{as_account, front_account};
 
 use mm_base::{Bytes, Memory, bytes_of_u64};
 use mm_module::{are_visible, u64_of_bytes};
@@ -37,7 +37,7 @@ pub fn account_is_formed(account: &Account<'_>) -> bool
 /// The account at the front of these bytes, and the bytes behind it.
 #[tactic(auto, unfolding(crate::specs::Table::account_after))]
 pub fn split_account(bytes: &[u8]) -> Option<(Account<'_>, &[u8])>
-    ensures { option_map as_front result ≡ account_at bytes.now }
+    ensures { option_map front_account result ≡ account_at bytes.now }
 {
     let (count, bytes) = bytes.split_first()?;
     let count = usize::from(*count);

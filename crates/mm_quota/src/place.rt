@@ -2,8 +2,8 @@
 
 ghost use Rattle.std.specs.Prelude.{◌≡◌, ◌≤◌, ◌-◌, [], length, take, drop};
 ghost use Rattle.std.specs.Ordering.{is_lt};
-ghost use Rattle.mm_quota.specs.Table.{order_of, total_used, ledger_of, is_state, accounts_from, of_count_bytes};
-ghost use Rattle.mm_quota.specs.Spelled.{IsSpelled, follow};
+ghost use Rattle.mm_quota.specs.Table.{order_of, used_total, ledger_of, is_state, accounts_from, count_of_bytes};
+ghost use Rattle.mm_quota.specs.IsLedger.{IsSpelled, has_rising_from};
 
 use crate::account::{Account, account_is_formed, split_account};
 use std::cmp::Ordering;
@@ -11,16 +11,16 @@ use std::cmp::Ordering;
 /// Where a name stands among the accounts of a state: the bytes before, the account of the name, where there is one, and
 /// the bytes behind.
 #[derive(Clone, Copy)]
-pub struct Place<'a> {
+pub struct AccountPlace<'a> {
     pub front: &'a [u8],
     pub found: Option<Account<'a>>,
     pub back: &'a [u8],
 }
 
 /// The number of accounts that stands at the front of a state.
-#[tactic(auto, unfolding(crate::specs::Table::of_count_bytes))]
+#[tactic(auto, unfolding(crate::specs::Table::count_of_bytes))]
 fn count_at(bytes: &[u8; 2]) -> u16
-    ensures { result ≡ of_count_bytes bytes.now }
+    ensures { result ≡ count_of_bytes bytes.now }
 {
     u16::from_be_bytes(*bytes)
 }
@@ -34,7 +34,7 @@ fn comes_before(name: &[u8], other: &[u8]) -> bool
 
 /// Whether these are so many accounts, in the order of their names, and nothing behind them.
 fn accounts_are_spelled(count: u16, body: &[u8]) -> bool
-    ensures { result ≡ follow [] (accounts_from count body.now) }
+    ensures { result ≡ has_rising_from [] (accounts_from count body.now) }
 {
     let mut previous: &[u8] = &[];
     let mut rest = body;
@@ -68,7 +68,7 @@ pub fn state_is_spelled(most: u16, state: &[u8]) -> bool
 /// The number of accounts of a state, and their bytes.
 pub fn parts(state: &[u8]) -> (u16, &[u8])
     requires { 2 ≤ length state.now }
-    ensures count { result.0 ≡ of_count_bytes (take 2 state.now) }
+    ensures count { result.0 ≡ count_of_bytes (take 2 state.now) }
     ensures body { result.1.now ≡ drop 2 state.now }
 {
     match state.split_first_chunk::<2>() {
@@ -89,7 +89,7 @@ fn front_of<'a>(body: &'a [u8], rest: &[u8]) -> &'a [u8]
 /// What is used of all accounts of a state.
 pub fn sum_of(state: &[u8]) -> u64
     requires { IsSpelled state.now }
-    ensures { result ≡ total_used (ledger_of state.now) }
+    ensures { result ≡ used_total (ledger_of state.now) }
 {
     let (count, body) = parts(state);
     let mut rest = body;
@@ -106,14 +106,14 @@ pub fn sum_of(state: &[u8]) -> u64
     total
 }
 
-impl<'a> Place<'a> {
+impl<'a> AccountPlace<'a> {
     ghost use Rattle.std.specs.Prelude.{◌≡◌};
     ghost use Rattle.mm_quota.specs.Table.{ledger_of};
-    ghost use Rattle.mm_quota.specs.Spelled.{IsSpelled};
+    ghost use Rattle.mm_quota.specs.IsLedger.{IsSpelled};
     ghost use Rattle.mm_quota.specs.Places.{IsAccountPlace};
 
     /// The place of a name in a state.
-    pub fn of(state: &'a [u8], name: &[u8]) -> Place<'a>
+    pub fn of(state: &'a [u8], name: &[u8]) -> AccountPlace<'a>
         requires { IsSpelled state.now }
         ensures { IsAccountPlace name.now (ledger_of state.now) result }
     {
@@ -125,14 +125,14 @@ impl<'a> Place<'a> {
                 Some((account, others)) => match name.cmp(&account.name) {
                     Ordering::Greater => rest = others,
                     Ordering::Equal => {
-                        return Place {
+                        return AccountPlace {
                             front: front_of(body, rest),
                             found: Some(account),
                             back: others,
                         };
                     }
                     Ordering::Less => {
-                        return Place {
+                        return AccountPlace {
                             front: front_of(body, rest),
                             found: None,
                             back: rest,
@@ -141,7 +141,7 @@ impl<'a> Place<'a> {
                 },
             }
         }
-        Place {
+        AccountPlace {
             front: front_of(body, rest),
             found: None,
             back: rest,

@@ -1,16 +1,16 @@
 //! The quota ledger as a module.
 
 ghost use Rattle.std.specs.Prelude.{◌≡◌, ◌≤◌, ◌+◌, ◌++◌, Some, true, min, is_some, if◌then◌else◌, length, IfOk, OnOk, IsTrue};
-ghost use Rattle.mm_quota.specs.Table.{On, is_name, account_bytes, count_bytes, spelling_of, is_state, ledger_of, outcome_of, stepped, text_of};
+ghost use Rattle.mm_quota.specs.Table.{On, is_name, account_bytes, count_bytes, spelling_of, is_state, ledger_of, outcome_of, outcome_of_bytes, text_of};
 ghost use Rattle.mm_quota.specs.Views.{as_account, as_action, as_says};
 ghost use Rattle.mm_quota.specs.QuotaLaws.{IsAction};
 ghost use Rattle.mm_quota.specs.OthersStay.{OthersStay};
-ghost use Rattle.mm_quota.specs.Spelled.{IsSpelled};
+ghost use Rattle.mm_quota.specs.IsLedger.{IsSpelled};
 ghost use Rattle.mm_quota.specs.Ids.{small_ledger, small_ledger_is_lawful, small_ledger_is_short, wide_ledger, wide_ledger_is_lawful};
 
 use crate::account::{Account, put_account};
-use crate::place::{Place, parts, state_is_spelled, sum_of};
-use crate::request::{Action, Request, Says, decision, read_request, text};
+use crate::place::{AccountPlace, parts, state_is_spelled, sum_of};
+use crate::request::{QuotaAction, QuotaRequest, QuotaOutput, decision, read_request, text};
 use mm_base::{Bytes, Memory};
 use mm_module::{Module, Short, Stepped};
 use std::alloc::Global;
@@ -40,7 +40,7 @@ fn with_account(
     alloc: Global,
     capacity: usize,
     count: u16,
-    place: &Place<'_>,
+    place: &AccountPlace<'_>,
     account: &Account<'_>,
 ) -> Result<Bytes, Memory>
     requires { length account.now.name.now ≤ 255 }
@@ -57,7 +57,7 @@ fn with_account(
 }
 
 /// The same state, and what is said.
-fn told(alloc: Global, state: &[u8], says: Says) -> Result<Stepped, Memory>
+fn told(alloc: Global, state: &[u8], says: QuotaOutput) -> Result<Stepped, Memory>
     requires { IsSpelled state.now }
     ensures state { IfOk result (λ stepped. stepped.state ≡ spelling_of (ledger_of state.now)) }
     ensures output { IfOk result (λ stepped. stepped.output ≡ text_of (as_says says)) }
@@ -69,7 +69,7 @@ fn told(alloc: Global, state: &[u8], says: Says) -> Result<Stepped, Memory>
 }
 
 /// The number of accounts once one stands at this place.
-fn count_with(count: u16, place: &Place<'_>) -> u16
+fn count_with(count: u16, place: &AccountPlace<'_>) -> u16
     ensures { result ≡ (if is_some place.now.found then count else min (count + 1) 65535) }
 {
     match place.found {
@@ -84,7 +84,7 @@ fn acted(
     alloc: Global,
     state: &[u8],
     name: &[u8],
-    action: Action,
+    action: QuotaAction,
 ) -> Result<Stepped, Memory>
     requires spelled { IsSpelled state.now }
     requires few { length (ledger_of state.now) ≤ most }
@@ -98,7 +98,7 @@ fn acted(
         (outcome_of most (ledger_of state.now) (Some (On name.now (as_action action)))).1) }
 {
     let (count, _body) = parts(state);
-    let place = Place::of(state, name);
+    let place = AccountPlace::of(state, name);
     let (change, says) = decision(count >= most, name, place.found, action);
     match change {
         None => told(alloc, state, says),
@@ -112,18 +112,18 @@ fn acted(
 }
 
 /// What a request does to the ledger of a state.
-#[tactic(auto, unfolding(crate::specs::Table::stepped))]
+#[tactic(auto, unfolding(crate::specs::Table::outcome_of_bytes))]
 fn step(most: u16, alloc: Global, state: &[u8], request: &[u8]) -> Result<Stepped, Memory>
     requires { IsTrue (is_state most state.now) }
     ensures state { IfOk result (λ after. after.state
-        ≡ spelling_of (stepped most state.now request.now).0) }
+        ≡ spelling_of (outcome_of_bytes most state.now request.now).0) }
     ensures output { IfOk result (λ after. after.output
-        ≡ text_of (stepped most state.now request.now).1) }
+        ≡ text_of (outcome_of_bytes most state.now request.now).1) }
 {
     match read_request(request) {
-        None => told(alloc, state, Says::Bad),
-        Some(Request::Sum) => told(alloc, state, Says::Sum(sum_of(state))),
-        Some(Request::On(name, action)) => acted(most, alloc, state, name, action),
+        None => told(alloc, state, QuotaOutput::Bad),
+        Some(QuotaRequest::Sum) => told(alloc, state, QuotaOutput::Sum(sum_of(state))),
+        Some(QuotaRequest::On(name, action)) => acted(most, alloc, state, name, action),
     }
 }
 

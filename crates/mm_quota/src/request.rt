@@ -13,7 +13,7 @@ use std::alloc::Global;
 
 /// What a request does with the account that it names.
 #[derive(Clone, Copy)]
-pub enum Action {
+pub enum QuotaAction {
     Open(u64),
     Use(u64),
     Free(u64),
@@ -22,14 +22,14 @@ pub enum Action {
 
 /// A request to a ledger.
 #[derive(Clone, Copy)]
-pub enum Request<'a> {
+pub enum QuotaRequest<'a> {
     Sum,
-    On(&'a [u8], Action),
+    On(&'a [u8], QuotaAction),
 }
 
 /// What a ledger says.
 #[derive(Clone, Copy)]
-pub enum Says {
+pub enum QuotaOutput {
     Opened,
     Exists,
     Full,
@@ -43,38 +43,38 @@ pub enum Says {
 }
 
 /// The action of a word with a number.
-fn read_action(word: &[u8], number: u64) -> Option<Action>
+fn read_action(word: &[u8], number: u64) -> Option<QuotaAction>
     ensures { option_map as_action result ≡ action_of word.now number }
 {
     if word == b"open".as_slice() {
         return if number <= GREATEST_LIMIT {
-            Some(Action::Open(number))
+            Some(QuotaAction::Open(number))
         } else {
             None
         };
     }
     if word == b"use".as_slice() {
-        return Some(Action::Use(number));
+        return Some(QuotaAction::Use(number));
     }
     if word == b"free".as_slice() {
-        return Some(Action::Free(number));
+        return Some(QuotaAction::Free(number));
     }
     None
 }
 
 /// The request that these bytes are, where they are one.
 #[tactic(auto, unfolding(crate::specs::Table::request_of))]
-pub fn read_request(bytes: &[u8]) -> Option<Request<'_>>
+pub fn read_request(bytes: &[u8]) -> Option<QuotaRequest<'_>>
     ensures { option_map as_request result ≡ request_of (words_of bytes.now) }
 {
     match Words::of(bytes) {
-        Words::One(word) if word == b"sum".as_slice() => Some(Request::Sum),
+        Words::One(word) if word == b"sum".as_slice() => Some(QuotaRequest::Sum),
         Words::Two(word, name) if word == b"left".as_slice() && name_is_formed(name) => {
-            Some(Request::On(name, Action::Left))
+            Some(QuotaRequest::On(name, QuotaAction::Left))
         }
         Words::Three(word, name, number) if name_is_formed(name) => {
             let action = read_action(word, read_decimal(number)?)?;
-            Some(Request::On(name, action))
+            Some(QuotaRequest::On(name, action))
         }
         _ => None,
     }
@@ -86,8 +86,8 @@ pub fn decision<'a>(
     full: bool,
     name: &'a [u8],
     found: Option<Account<'a>>,
-    action: Action,
-) -> (Option<Account<'a>>, Says)
+    action: QuotaAction,
+) -> (Option<Account<'a>>, QuotaOutput)
     requires { ForSome found (λ account. (account.used ≤ account.limit)
         × (account.limit ≤ greatest_limit)) }
     ensures { (option_map as_account result.0, as_says result.1)
@@ -98,36 +98,36 @@ pub fn decision<'a>(
     };
     let left = account.limit - account.used;
     match action {
-        Action::Open(_) => (None, Says::Exists),
-        Action::Use(number) if number <= left => used(account, account.used + number),
-        Action::Use(_) => (None, Says::Over(left)),
-        Action::Free(number) if number <= account.used => used(account, account.used - number),
-        Action::Free(_) => (None, Says::Under(account.used)),
-        Action::Left => (None, Says::Left(left)),
+        QuotaAction::Open(_) => (None, QuotaOutput::Exists),
+        QuotaAction::Use(number) if number <= left => used(account, account.used + number),
+        QuotaAction::Use(_) => (None, QuotaOutput::Over(left)),
+        QuotaAction::Free(number) if number <= account.used => used(account, account.used - number),
+        QuotaAction::Free(_) => (None, QuotaOutput::Under(account.used)),
+        QuotaAction::Left => (None, QuotaOutput::Left(left)),
     }
 }
 
 /// What an action does where there is no such account.
-fn opening(full: bool, name: &[u8], action: Action) -> (Option<Account<'_>>, Says)
+fn opening(full: bool, name: &[u8], action: QuotaAction) -> (Option<Account<'_>>, QuotaOutput)
     ensures { (option_map as_account result.0, as_says result.1)
         ≡ decision_of full name.now None (as_action action) }
 {
     match action {
-        Action::Open(_) if full => (None, Says::Full),
-        Action::Open(limit) => {
+        QuotaAction::Open(_) if full => (None, QuotaOutput::Full),
+        QuotaAction::Open(limit) => {
             let account = Account {
                 name,
                 limit,
                 used: 0,
             };
-            (Some(account), Says::Opened)
+            (Some(account), QuotaOutput::Opened)
         }
-        _ => (None, Says::None),
+        _ => (None, QuotaOutput::None),
     }
 }
 
 /// The account with another use, and what is said.
-fn used(account: Account<'_>, amount: u64) -> (Option<Account<'_>>, Says)
+fn used(account: Account<'_>, amount: u64) -> (Option<Account<'_>>, QuotaOutput)
     ensures account { option_map as_account result.0
         ≡ Some (record (as_account account.entry) { used = amount }) }
     ensures says { as_says result.1 ≡ IsUsed amount }
@@ -137,23 +137,23 @@ fn used(account: Account<'_>, amount: u64) -> (Option<Account<'_>>, Says)
         limit: account.limit,
         used: amount,
     };
-    (Some(account), Says::Used(amount))
+    (Some(account), QuotaOutput::Used(amount))
 }
 
 /// The text of what is said.
-pub fn text(alloc: Global, says: Says) -> Result<Bytes, Memory>
+pub fn text(alloc: Global, says: QuotaOutput) -> Result<Bytes, Memory>
     ensures { IfOk result (λ text. text ≡ text_of (as_says says)) }
 {
     match says {
-        Says::Opened => Bytes::copy_of(alloc, b"opened"),
-        Says::Exists => Bytes::copy_of(alloc, b"exists"),
-        Says::Full => Bytes::copy_of(alloc, b"full"),
-        Says::None => Bytes::copy_of(alloc, b"none"),
-        Says::Used(used) => text_and_number(alloc, b"used ", used),
-        Says::Over(left) => text_and_number(alloc, b"over ", left),
-        Says::Under(used) => text_and_number(alloc, b"under ", used),
-        Says::Left(left) => text_and_number(alloc, b"left ", left),
-        Says::Sum(sum) => text_and_number(alloc, b"sum ", sum),
-        Says::Bad => Bytes::copy_of(alloc, b"bad"),
+        QuotaOutput::Opened => Bytes::copy_of(alloc, b"opened"),
+        QuotaOutput::Exists => Bytes::copy_of(alloc, b"exists"),
+        QuotaOutput::Full => Bytes::copy_of(alloc, b"full"),
+        QuotaOutput::None => Bytes::copy_of(alloc, b"none"),
+        QuotaOutput::Used(used) => text_and_number(alloc, b"used ", used),
+        QuotaOutput::Over(left) => text_and_number(alloc, b"over ", left),
+        QuotaOutput::Under(used) => text_and_number(alloc, b"under ", used),
+        QuotaOutput::Left(left) => text_and_number(alloc, b"left ", left),
+        QuotaOutput::Sum(sum) => text_and_number(alloc, b"sum ", sum),
+        QuotaOutput::Bad => Bytes::copy_of(alloc, b"bad"),
     }
 }

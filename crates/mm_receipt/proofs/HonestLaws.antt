@@ -1,9 +1,9 @@
 -- Receipts that aren't forged never clash: each known pair is one, and two of one position are equal.
 use Rattle.mm_receipt.proofs.Below.{◌≡◌, ◌∙◌, ◌+◌, ◌≤◌, ◌==◌, ◌++◌, ℕ, Bool, true, false, cond, nat_lt, List, [], ◌∷◌}
 use Rattle.mm_receipt.proofs.Below.{length, Option, Some, None, Result, Ok, Err, refl, sym, ap, subst, arith}
-use Rattle.mm_receipt.proofs.Below.{first_answered, receipts-true, no-clash, Asked, Tally, Checking, pair_at, parted}
-use Rattle.mm_receipt.proofs.Below.{is_too_much, known_at, against_pair, receipt_verdict, pair_verdict, verdict_text, after_pair, first_by}
-use Rattle.mm_receipt.proofs.Below.{waits, settles, receipts_answer, first_tally}
+use Rattle.mm_receipt.proofs.Below.{first_answered, receipts-true, no-clash, AskedRequest, CheckTally, CheckState, pair_at, request_by_space}
+use Rattle.mm_receipt.proofs.Below.{is_too_much, known_at, verdict_against, receipt_verdict, pair_verdict, verdict_text, tally_after_pair, first_answer_by}
+use Rattle.mm_receipt.proofs.Below.{reply_of_first, reply_of_second, receipts_answer, first_tally}
 use Rattle.std.specs.Prelude.{if◌then◌else◌}
 use Rattle.std.specs.BTreeMap.{is_at, insert_entry}
 use Rattle.std.specs.List.{AllByRecursion, position}
@@ -16,16 +16,16 @@ use Rattle.std.proofs.lemmas.Slice.Eq.{bytes_eq-Decides}
 use Rattle.mm_base.specs.Limits.{last_position, longest_request}
 use Rattle.mm_module.specs.Meaning.{Meaning}
 use Rattle.mm_module.specs.WordsWords.{is_space}
-use Rattle.mm_play.specs.declared.player.Refused.TheVariants.{Much}
-use Rattle.mm_play.specs.Play.{Told, told, run}
+use Rattle.mm_play.specs.declared.player.LineRefusal.TheVariants.{Much}
+use Rattle.mm_play.specs.Play.{PlayOutcome, play_outcome, outcome_of_lines}
 use Rattle.mm_receipted.specs.declared.receipt.NotReceipt.{NotReceipt}
 use Rattle.mm_receipted.specs.declared.receipt.NotReceipt.TheVariants.{Form, Tag}
-use Rattle.mm_receipted.specs.Receipts.{verified}
-use Rattle.mm_receipted.specs.Tagged.{IsCounted, IsUnforged}
-use Rattle.mm_receipt.specs.declared.pair.Pair.{Pair}
-use Rattle.mm_receipt.specs.declared.pair.Verdict.{Verdict}
-use Rattle.mm_receipt.specs.declared.pair.Verdict.TheVariants.{Good}
-use Rattle.mm_receipt.specs.Honest.{pairs_of, text_alone, alone, WasTagged, IsTrue, IsHonest, ChecksAreHonest}
+use Rattle.mm_receipted.specs.Receipts.{check_of_receipt}
+use Rattle.mm_receipted.specs.TaggedMessages.{IsCounted, IsUnforged}
+use Rattle.mm_receipt.specs.declared.pair.GoodPair.{GoodPair}
+use Rattle.mm_receipt.specs.declared.pair.PairVerdict.{PairVerdict}
+use Rattle.mm_receipt.specs.declared.pair.PairVerdict.TheVariants.{Good}
+use Rattle.mm_receipt.specs.HonestCheck.{pairs_of, text_alone, pair_text_alone, WasTagged, IsTrue, IsHonest, ChecksAreHonest}
 
 -- a pair that nothing stands beside is answered by its output alone
 alone-text : (position : ℕ) (request output : List ℕ) (answer : Result (Unit {0}) NotReceipt)
@@ -33,15 +33,15 @@ alone-text : (position : ℕ) (request output : List ℕ) (answer : Result (Unit
 alone-text position request output answer = grind arith
 
 -- what a first line keeps
-record IsFormed (asked : Asked) : Type 0 where
+record IsFormed (asked : AskedRequest) : Type 0 where
   near : asked.position ≤ last_position
   short : length asked.request ≤ longest_request
 
-abbrev MayWait : Option Asked → Type 0
+abbrev MayWait : Option AskedRequest → Type 0
 MayWait None = Unit {0}
 MayWait (Some asked) = IsFormed asked
 
-parted-formed : (line : List ℕ) (found : Option ℕ) → MayWait (parted line found)
+parted-formed : (line : List ℕ) (found : Option ℕ) → MayWait (request_by_space line found)
 parted-formed line found = grind (arith, nat_tests)
 
 at-key : (a b : ℕ) → is_at (nat_cmp a) b ≡ true → a ≡ b
@@ -49,29 +49,29 @@ at-key a b is = grind (arith, nat_tests)
 
 module _ (inner : Meaning) (requests : List (List ℕ)) (counted : AllByRecursion IsCounted requests) (key : List ℕ) where
   -- a pair that is known isn't forged
-  abbrev IsSound : ℕ × Pair → Type 0
+  abbrev IsSound : ℕ × GoodPair → Type 0
   IsSound entry = IsUnforged inner requests key entry.0 entry.1.request entry.1.output
 
-  abbrev AreSound : List (ℕ × Pair) → Type 0
+  abbrev AreSound : List (ℕ × GoodPair) → Type 0
   AreSound known = AllByRecursion IsSound known
 
-  abbrev SoundAt : ℕ → Option Pair → Type 0
+  abbrev SoundAt : ℕ → Option GoodPair → Type 0
   SoundAt number None = Unit {0}
   SoundAt number (Some pair) = IsUnforged inner requests key number pair.request pair.output
 
-  sound-here : (number : ℕ) (entry : ℕ × Pair) (rest : List (ℕ × Pair)) (here : Bool) → is_at (nat_cmp number) entry.0 ≡ here
+  sound-here : (number : ℕ) (entry : ℕ × GoodPair) (rest : List (ℕ × GoodPair)) (here : Bool) → is_at (nat_cmp number) entry.0 ≡ here
       → IsSound entry → SoundAt number (lookup (is_at (nat_cmp number)) rest)
       → SoundAt number (cond here (Some entry.1) (lookup (is_at (nat_cmp number)) rest))
   sound-here number entry rest true is sound later =
       subst (λ n. IsUnforged inner requests key n entry.1.request entry.1.output) (sym (at-key number entry.0 is)) sound
   sound-here number entry rest false is sound later = later
 
-  sound-at : (number : ℕ) (known : List (ℕ × Pair)) → AreSound known → SoundAt number (known_at number known)
+  sound-at : (number : ℕ) (known : List (ℕ × GoodPair)) → AreSound known → SoundAt number (known_at number known)
   sound-at number [] sound = tt
   sound-at number (entry ∷ known) sound =
       sound-here number entry known (is_at (nat_cmp number) entry.0) refl sound.0 (sound-at number known sound.1)
 
-  sound-by : (number : ℕ) (pair : Pair) (entry : ℕ × Pair) (known rest : List (ℕ × Pair)) (below same : Bool) → (number == entry.0) ≡ same
+  sound-by : (number : ℕ) (pair : GoodPair) (entry : ℕ × GoodPair) (known rest : List (ℕ × GoodPair)) (below same : Bool) → (number == entry.0) ≡ same
       → IsUnforged inner requests key number pair.request pair.output → IsSound entry → AreSound known → AreSound rest
       → AreSound (match_ordering (cond below Less (cond same Equal Greater)) ((number, pair) ∷ entry ∷ known) ((entry.0, pair) ∷ known)
       (entry ∷ rest))
@@ -81,7 +81,7 @@ module _ (inner : Meaning) (requests : List (List ℕ)) (counted : AllByRecursio
       (subst (λ n. IsUnforged inner requests key n pair.request pair.output) e new, more)
   sound-by number pair entry known rest false false is new old more later = (old, later)
 
-  sound-insert : (number : ℕ) (pair : Pair) (known : List (ℕ × Pair)) → IsUnforged inner requests key number pair.request pair.output
+  sound-insert : (number : ℕ) (pair : GoodPair) (known : List (ℕ × GoodPair)) → IsUnforged inner requests key number pair.request pair.output
       → AreSound known → AreSound (insert_entry nat_cmp known number pair)
   sound-insert number pair [] new sound = (new, tt)
   sound-insert number pair (entry ∷ known) new sound =
@@ -91,117 +91,117 @@ module _ (inner : Meaning) (requests : List (List ℕ)) (counted : AllByRecursio
   same_bytes : (a b : List ℕ) → a ≡ b → bytes_eq a b ≡ true
   same_bytes a b is = grind (arith, bytes_eq-Decides)
 
-  beside-good : (asked : Asked) (output : List ℕ) (known : Option Pair) → IsUnforged inner requests key asked.position asked.request output
-      → SoundAt asked.position known → against_pair known asked.request output ≡ Good
+  beside-good : (asked : AskedRequest) (output : List ℕ) (known : Option GoodPair) → IsUnforged inner requests key asked.position asked.request output
+      → SoundAt asked.position known → verdict_against known asked.request output ≡ Good
   beside-good asked output None new sound = refl
   beside-good asked output (Some pair) new sound =
       let same = no-clash inner requests counted key asked.position asked.request output pair.request pair.output new sound in
       rw (same_bytes asked.request pair.request same.0, same_bytes output pair.output same.1) refl
 
   -- a verdict on a sound tally is the one of the pair alone
-  verdict-alone : (asked : Asked) (output : List ℕ) (known : Option Pair) (answer : Result (Unit {0}) NotReceipt)
+  verdict-alone : (asked : AskedRequest) (output : List ℕ) (known : Option GoodPair) (answer : Result (Unit {0}) NotReceipt)
       → (answer ≡ Ok tt → IsUnforged inner requests key asked.position asked.request output)
       → SoundAt asked.position known → receipt_verdict answer known asked.request output ≡ receipt_verdict answer None asked.request output
   verdict-alone asked output known (Err Form) new sound = refl
   verdict-alone asked output known (Err Tag) new sound = refl
   verdict-alone asked output known (Ok done) new sound = beside-good asked output known (new refl) sound
 
-  after-sound : (tally : Tally) (asked : Asked) (output : List ℕ) (answer : Result (Unit {0}) NotReceipt)
+  after-sound : (tally : CheckTally) (asked : AskedRequest) (output : List ℕ) (answer : Result (Unit {0}) NotReceipt)
       → (answer ≡ Ok tt → IsUnforged inner requests key asked.position asked.request output)
-      → AreSound tally.known → AreSound (after_pair tally asked output (receipt_verdict answer None asked.request output)).known
+      → AreSound tally.known → AreSound (tally_after_pair tally asked output (receipt_verdict answer None asked.request output)).known
   after-sound tally asked output (Err Form) new sound = sound
   after-sound tally asked output (Err Tag) new sound = sound
   after-sound tally asked output (Ok done) new sound =
       sound-insert asked.position (record { request = asked.request; output = output }) tally.known (new refl) sound
 
-  after-key : (tally : Tally) (asked : Asked) (output : List ℕ) (verdict : Verdict)
-      → (after_pair tally asked output verdict).key ≡ tally.key
+  after-key : (tally : CheckTally) (asked : AskedRequest) (output : List ℕ) (verdict : PairVerdict)
+      → (tally_after_pair tally asked output verdict).key ≡ tally.key
   after-key tally asked output verdict = grind arith
 
   -- what stands between two lines
-  record Stands (tally : Tally) (asked : Option Asked) : Type 0 where
+  record Stands (tally : CheckTally) (asked : Option AskedRequest) : Type 0 where
     keyed : tally.key ≡ key
     sound : AreSound tally.known
     formed : MayWait asked
 
   -- a first line waits, and is answered nothing
-  record Waiting (tally : Tally) (line : List ℕ) (reply : List ℕ) (mid : Checking) : Type 0 where
+  record Waiting (tally : CheckTally) (line : List ℕ) (reply : List ℕ) (mid : CheckState) : Type 0 where
     silent : reply ≡ []
     asked : mid.asked ≡ pair_at line
     known : mid.tally.known ≡ tally.known
     same_key : mid.tally.key ≡ tally.key
 
-  first-waits : (tally : Tally) (line : List ℕ) (found : Option Asked) (reply : List ℕ) (mid : Checking)
-      → pair_at line ≡ found → waits (first_by tally line found) ≡ Ok (reply, mid) → Waiting tally line reply mid
+  first-waits : (tally : CheckTally) (line : List ℕ) (found : Option AskedRequest) (reply : List ℕ) (mid : CheckState)
+      → pair_at line ≡ found → reply_of_first (first_answer_by tally line found) ≡ Ok (reply, mid) → Waiting tally line reply mid
   first-waits tally line found reply mid is h =
       let w = waited tally line found reply mid h in
       record { silent = w.0; asked = w.1.0 ∙ sym is; known = w.1.1; same_key = w.1.2 }
     where
-      waited : (tally : Tally) (line : List ℕ) (found : Option Asked) (reply : List ℕ) (mid : Checking)
-          → waits (first_by tally line found) ≡ Ok (reply, mid)
+      waited : (tally : CheckTally) (line : List ℕ) (found : Option AskedRequest) (reply : List ℕ) (mid : CheckState)
+          → reply_of_first (first_answer_by tally line found) ≡ Ok (reply, mid)
           → (reply ≡ []) × ((mid.asked ≡ found) × (mid.tally.known ≡ tally.known) × (mid.tally.key ≡ tally.key))
       waited tally line found reply mid h = grind (arith, nat_tests)
 
   -- a second line is answered by its verdict
-  settled : (tally after : Tally) (line said reply : List ℕ) (mid : Checking)
-      → settles (if is_too_much tally line then Err Much else Ok (said, after)) ≡ Ok (reply, mid)
+  settled : (tally after : CheckTally) (line said reply : List ℕ) (mid : CheckState)
+      → reply_of_second (if is_too_much tally line then Err Much else Ok (said, after)) ≡ Ok (reply, mid)
       → (reply ≡ said) × (mid ≡ record { tally = after; asked = None })
   settled tally after line said reply mid h = grind (arith, nat_tests)
 
-  unforged : (asked : Asked) (line : List ℕ) → IsFormed asked → WasTagged inner requests key (record { asked = asked; output = line })
-      → verified key asked.position asked.request line ≡ Ok tt → IsUnforged inner requests key asked.position asked.request line
+  unforged : (asked : AskedRequest) (line : List ℕ) → IsFormed asked → WasTagged inner requests key (record { asked = asked; output = line })
+      → check_of_receipt key asked.position asked.request line ≡ Ok tt → IsUnforged inner requests key asked.position asked.request line
   unforged asked line formed genuine accepted =
       record { near = formed.near; short = formed.short; accepted = accepted; tagged = genuine accepted }
 
-  true-pair : (asked : Asked) (line : List ℕ) → IsFormed asked → WasTagged inner requests key (record { asked = asked; output = line })
+  true-pair : (asked : AskedRequest) (line : List ℕ) → IsFormed asked → WasTagged inner requests key (record { asked = asked; output = line })
       → IsTrue inner requests key (record { asked = asked; output = line })
   true-pair asked line formed genuine accepted =
       receipts-true inner requests counted key asked.position asked.request line (unforged asked line formed genuine accepted)
 
-  honest-from : (lines : List (List ℕ)) (number : ℕ) (tally : Tally) (asked : Option Asked) (written : List ℕ) (next : Checking)
-      → Stands tally asked → run receipts_answer number (record { tally = tally; asked = asked }) lines ≡ told written (Ok next)
+  honest-from : (lines : List (List ℕ)) (number : ℕ) (tally : CheckTally) (asked : Option AskedRequest) (written : List ℕ) (next : CheckState)
+      → Stands tally asked → outcome_of_lines receipts_answer number (record { tally = tally; asked = asked }) lines ≡ play_outcome written (Ok next)
       → AllByRecursion (WasTagged inner requests key) (pairs_of asked lines) → IsHonest inner requests key (pairs_of asked lines) written
   honest-from [] number tally asked written next s ran genuine =
-      record { plain = sym (ap (λ (t : Told Checking). t.written) ran); right = tt }
+      record { plain = sym (ap (λ (t : PlayOutcome CheckState). t.written) ran); right = tt }
   honest-from (line ∷ lines) number tally None written next s ran genuine =
       let step = first_answered receipts_answer number (record { tally = tally; asked = None }) line lines written next ran in
       let w = first-waits tally line (pair_at line) step.reply.0 step.reply.1 refl step.replied in
       let mid : record { tally = step.reply.1.tally; asked = pair_at line } ≡ step.reply.1 = ap
-      (λ (a : Option Asked). record { tally = step.reply.1.tally; asked = a }) (sym w.asked) in
+      (λ (a : Option AskedRequest). record { tally = step.reply.1.tally; asked = a }) (sym w.asked) in
       let stands : Stands step.reply.1.tally (pair_at line) = record {
         keyed = w.same_key ∙ s.keyed;
         sound = subst AreSound (sym w.known) s.sound;
         formed = parted-formed line (position is_space line);
       } in
       let rest = honest-from lines (number + 1) step.reply.1.tally (pair_at line) step.more next stands
-      (ap (λ (c : Checking). run receipts_answer (number + 1) c lines) mid ∙ step.ran) genuine in
+      (ap (λ (c : CheckState). outcome_of_lines receipts_answer (number + 1) c lines) mid ∙ step.ran) genuine in
       record { plain = step.whole ∙ ap (λ (l : List ℕ). l ++ step.more) w.silent ∙ rest.plain; right = rest.right }
   honest-from (line ∷ lines) number tally (Some asked) written next s ran genuine =
       let step = first_answered receipts_answer number (record { tally = tally; asked = Some asked }) line lines written next ran in
       let verdict = pair_verdict tally asked line in
-      let w = settled tally (after_pair tally asked line verdict) line (verdict_text asked.position verdict) step.reply.0 step.reply.1
+      let w = settled tally (tally_after_pair tally asked line verdict) line (verdict_text asked.position verdict) step.reply.0 step.reply.1
       step.replied in
-      let answer = verified key asked.position asked.request line in
+      let answer = check_of_receipt key asked.position asked.request line in
       let new : answer ≡ Ok tt → IsUnforged inner requests key asked.position asked.request line = unforged asked line s.formed genuine.0 in
       let plain : pair_verdict tally asked line ≡ receipt_verdict answer None asked.request line =
-      ap (λ (k : List ℕ). receipt_verdict (verified k asked.position asked.request line) (known_at asked.position tally.known) asked.request
+      ap (λ (k : List ℕ). receipt_verdict (check_of_receipt k asked.position asked.request line) (known_at asked.position tally.known) asked.request
       line) s.keyed
       ∙ verdict-alone asked line (known_at asked.position tally.known) answer new (sound-at asked.position tally.known s.sound) in
-      let after = after_pair tally asked line (pair_verdict tally asked line) in
+      let after = tally_after_pair tally asked line (pair_verdict tally asked line) in
       let stands : Stands after None = record {
         keyed = after-key tally asked line (pair_verdict tally asked line) ∙ s.keyed;
         sound =
-            subst (λ (v : Verdict). AreSound (after_pair tally asked line v).known) (sym plain)
+            subst (λ (v : PairVerdict). AreSound (tally_after_pair tally asked line v).known) (sym plain)
             (after-sound tally asked line answer new s.sound);
         formed = tt;
       } in
       let rest = honest-from lines (number + 1) after None step.more next stands
-      (ap (λ (c : Checking). run receipts_answer (number + 1) c lines) (sym w.1) ∙ step.ran) genuine.1 in
+      (ap (λ (c : CheckState). outcome_of_lines receipts_answer (number + 1) c lines) (sym w.1) ∙ step.ran) genuine.1 in
       record {
         plain =
-            step.whole ∙ ap (λ (l : List ℕ). l ++ step.more) (w.0 ∙ ap (λ (v : Verdict). verdict_text asked.position v) plain
+            step.whole ∙ ap (λ (l : List ℕ). l ++ step.more) (w.0 ∙ ap (λ (v : PairVerdict). verdict_text asked.position v) plain
             ∙ alone-text asked.position asked.request line answer)
-            ∙ ap (λ (l : List ℕ). alone key (record { asked = asked; output = line }) ++ l) rest.plain;
+            ∙ ap (λ (l : List ℕ). pair_text_alone key (record { asked = asked; output = line }) ++ l) rest.plain;
         right = (true-pair asked line s.formed genuine.0, rest.right);
       }
 

@@ -1,5 +1,5 @@
-pub mod Checking
+pub mod ReceiptCheck
 pub mod Tallies
-pub mod Counting
+pub mod LineCountdown
 pub mod Reports
-pub mod Honest
+pub mod HonestCheck

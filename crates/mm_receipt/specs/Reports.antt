@@ -1,27 +1,27 @@
 -- A check of a whole input.
 use Rattle.std.specs.Prelude.{◌≡◌, ℕ, List, ◌++◌, Option, Result}
 use Rattle.mm_base.specs.declared.replay_fault.ReplayFault.{ReplayFault}
-use Rattle.mm_play.specs.Plays.{Plays}
-use Rattle.mm_play.specs.Tells.{Answered, IsReported, RefusesMuch, TellsBy}
-use Rattle.mm_receipt.specs.Checking.{Checking, first_checking, last_line, receipts_answer, receipts_closing}
-use Rattle.mm_receipt.specs.Honest.{IsHonestFor}
+use Rattle.mm_play.specs.PlaysInput.{PlaysInput}
+use Rattle.mm_play.specs.TellsOutput.{AnswersAllLines, IsReported, RefusesMuch, TellsOutput}
+use Rattle.mm_receipt.specs.ReceiptCheck.{CheckState, first_check, last_line, receipts_answer, receipts_closing}
+use Rattle.mm_receipt.specs.HonestCheck.{IsHonestFor}
 use Rattle.mm_receipt.specs.declared.report.ReceiptReport.{ReceiptReport}
 
 -- the counts of the last line
-abbrev pub CountsLast : Checking → ReceiptReport → Type 0
+abbrev pub CountsLast : CheckState → ReceiptReport → Type 0
 CountsLast it report = (report.good ≡ it.tally.good) × (report.pairs ≡ it.tally.pairs)
 
 -- A check took these bytes of the input and wrote those, which fit the answers line by line.
 pub record ChecksReceipts (key : List ℕ) (left left' received received' : Option (List ℕ))
     (result : Result ReceiptReport ReplayFault) : Type 0 where
-  pub next : Checking
-  pub plays : Plays receipts_answer receipts_closing (first_checking key) next left left' received
+  pub next : CheckState
+  pub plays : PlaysInput receipts_answer receipts_closing (first_check key) next left left' received
       received' result
   pub reported : IsReported CountsLast next result
 
 -- These lines were answered with this text; and honestly, where no receipt is forged.
 pub record AnswersHonestly (key : List ℕ) (lines : List (List ℕ)) (written : List ℕ) : Type 0 where
-  pub answered : Answered receipts_answer (first_checking key) lines written
+  pub answered : AnswersAllLines receipts_answer (first_check key) lines written
   pub honest : IsHonestFor key lines written
 
 -- All lines of an input were, and the last line stands behind.
@@ -35,6 +35,6 @@ pub record EndsHonestly (key : List ℕ) (lines : List (List ℕ)) (written : Li
 pub record ChecksHonestly (key : List ℕ) (left left' received received' : Option (List ℕ))
     (result : Result ReceiptReport ReplayFault) : Type 0 where
   pub checks : ChecksReceipts key left left' received received' result
-  pub tells : TellsBy (AnswersHonestly key) (EndsHonestly key)
-      (RefusesMuch receipts_answer (first_checking key)) left' checks.plays.taken checks.plays.sent
+  pub tells : TellsOutput (AnswersHonestly key) (EndsHonestly key)
+      (RefusesMuch receipts_answer (first_check key)) left' checks.plays.taken checks.plays.sent
       result

@@ -4,21 +4,21 @@ use mm_base::Bytes;
 
 /// The first line of a pair: a request of at most 4,096 bytes and its position.
 #[derive(Drop)]
-pub struct Asked {
+pub struct AskedRequest {
     pub position: u64,
     pub request: Bytes,
 }
 
 /// A pair that was good.
 #[derive(Drop)]
-pub struct Pair {
+pub struct GoodPair {
     pub request: Bytes,
     pub output: Bytes,
 }
 
 /// What a pair is answered.
 #[derive(Clone, Copy, PartialEq, Eq)]
-pub enum Verdict {
+pub enum PairVerdict {
     /// The output has not the form of a receipt.
     NoForm,
     /// Its digits aren't the tag.

@@ -1,14 +1,14 @@
 //! The command `receipts KEY`.
 
 ghost use Rattle.std.specs.Prelude.{◌≡◌, ℕ, List, Some, Ok};
-ghost use Rattle.mm_play.specs.Play.{run_of};
-ghost use Rattle.mm_play.specs.Plays.{IsBlamed, IsUnrefused, is_read_fault, is_write_fault};
-ghost use Rattle.mm_receipt.specs.Checking.{Checking, first_checking, receipts_answer, receipts_closing, lines_left_at};
-ghost use Rattle.mm_receipt.specs.Counting.{receipts_count_down, receipts_are_few};
-ghost use Rattle.mm_receipt.specs.Tallies.{tallied, IsShortAsked};
+ghost use Rattle.mm_play.specs.Play.{outcome_of_input};
+ghost use Rattle.mm_play.specs.PlaysInput.{IsBlamed, IsUnrefused, is_read_fault, is_write_fault};
+ghost use Rattle.mm_receipt.specs.ReceiptCheck.{CheckState, first_check, receipts_answer, receipts_closing, remaining_lines_at};
+ghost use Rattle.mm_receipt.specs.LineCountdown.{receipts_count_down, receipts_are_few};
+ghost use Rattle.mm_receipt.specs.Tallies.{tally_of, IsShortAsked};
 ghost use Rattle.mm_receipt.specs.Reports.{ChecksReceipts, ChecksHonestly, CountsLast};
 
-use crate::pair::Asked;
+use crate::pair::AskedRequest;
 use crate::report::ReceiptReport;
 use crate::tally::Tally;
 use crate::text::last_text;
@@ -21,13 +21,13 @@ use std::marker::Model;
 #[derive(Drop)]
 struct ReceiptPlayer {
     tally: Tally,
-    asked: Option<Asked>,
+    asked: Option<AskedRequest>,
 }
 
 impl Model for ReceiptPlayer {
-    ghost Value = { Checking };
+    ghost Value = { CheckState };
 
-    ghost view = { λ it. record { tally = tallied it.tally; asked = it.asked } };
+    ghost view = { λ it. record { tally = tally_of it.tally; asked = it.asked } };
 
     ghost invariant = { λ it. IsShortAsked it.asked };
 }
@@ -37,7 +37,7 @@ impl Player for ReceiptPlayer {
 
     ghost closing = { receipts_closing };
 
-    ghost lines_left = { lines_left_at };
+    ghost lines_left = { remaining_lines_at };
 
     fn reply(&mut self, alloc: Global, line: &[u8]) -> Result<Bytes, ReplyFault> {
         match self.asked.take() {
@@ -118,8 +118,8 @@ pub fn receipts<S: Source, K: Sink>(
     ensures wrote { IsBlamed (is_write_fault result) (K.faults out.old) (K.faults out.new) }
 
     // Lines of that form within the limits are not refused.
-    ensures complete { (bytes : List ℕ) → (next : Checking) → S.left input.old ≡ Some bytes
-        → (run_of receipts_answer receipts_closing (first_checking key.now) bytes).outcome ≡ Ok next
+    ensures complete { (bytes : List ℕ) → (next : CheckState) → S.left input.old ≡ Some bytes
+        → (outcome_of_input receipts_answer receipts_closing (first_check key.now) bytes).outcome ≡ Ok next
         → IsUnrefused result }
 
     // Where a run of short requests tagged the message of each output that is accepted: no line is `clash P`, and each

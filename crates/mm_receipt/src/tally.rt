@@ -4,12 +4,12 @@ ghost use Rattle.std.specs.Prelude.{◌≡◌, ◌≤◌, ◌<◌, ◌+◌, ℕ,
 ghost use Rattle.std.specs.List.{position};
 ghost use Rattle.mm_base.specs.Limits.{longest_line, longest_request};
 ghost use Rattle.mm_module.specs.WordsWords.{is_space};
-ghost use Rattle.mm_receipt.specs.Checking.{pair_at, compared, most_pairs, most_read};
+ghost use Rattle.mm_receipt.specs.ReceiptCheck.{pair_at, verdict_by_pair, most_pairs, most_read};
 
-use crate::pair::{Asked, Pair, Verdict};
+use crate::pair::{AskedRequest, GoodPair, PairVerdict};
 use crate::text::text_of;
 use mm_base::{Bytes, LAST_POSITION, LONGEST_REQUEST, Memory, read_decimal};
-use mm_play::{Refused, ReplyFault};
+use mm_play::{LineRefusal, ReplyFault};
 use mm_receipted::{NotReceipt, verify};
 use std::alloc::Global;
 use std::collections::BTreeMap;
@@ -24,7 +24,7 @@ const MOST_READ: u64 = 268_435_456;
 #[derive(Drop)]
 pub struct Tally {
     key: [u8; 32],
-    known: BTreeMap<u64, Pair>,
+    known: BTreeMap<u64, GoodPair>,
     /// The good pairs, those that came again counted again.
     good: u32,
     /// The pairs answered.
@@ -44,13 +44,13 @@ fn space_in(line: &[u8]) -> Option<usize>
 }
 
 impl Tally {
-    ghost use Rattle.mm_receipt.specs.Checking.{is_too_much, first_tally, first_answer, pair_verdict, counted_in, remembered, after_pair, second_answer};
-    ghost use Rattle.mm_receipt.specs.Tallies.{tallied, TakesFirst};
-    ghost use Rattle.mm_play.specs.Takes.{GivesReply};
+    ghost use Rattle.mm_receipt.specs.ReceiptCheck.{is_too_much, first_tally, first_answer, pair_verdict, tally_with_pair, tally_with_known, tally_after_pair, second_answer};
+    ghost use Rattle.mm_receipt.specs.Tallies.{tally_of, TakesFirst};
+    ghost use Rattle.mm_play.specs.Fronts.{GivesReply};
 
     /// Nothing was found yet. Takes no memory.
     pub fn new(alloc: Global, key: &[u8; 32]) -> Tally
-        ensures { tallied result ≡ first_tally key.now }
+        ensures { tally_of result ≡ first_tally key.now }
     {
         Tally {
             key: *key,
@@ -71,46 +71,46 @@ impl Tally {
     // Whether a pair more would be too many, or a line more too many bytes.
     fn is_full(&self, line: &[u8]) -> bool
         requires { length line.now ≤ longest_line }
-        ensures { result ≡ is_too_much (tallied self.now) line.now }
+        ensures { result ≡ is_too_much (tally_of self.now) line.now }
     {
         self.pairs >= MOST_PAIRS || self.read + line.len() as u64 > MOST_READ
     }
 
     /// Takes the first line of a pair.
-    pub fn first(&mut self, alloc: Global, line: &[u8]) -> Result<Asked, ReplyFault>
+    pub fn first(&mut self, alloc: Global, line: &[u8]) -> Result<AskedRequest, ReplyFault>
         requires { length line.now ≤ longest_line }
-        ensures first { TakesFirst (first_answer (tallied self.old) line.now) (tallied self.new)
+        ensures first { TakesFirst (first_answer (tally_of self.old) line.now) (tally_of self.new)
             result }
         ensures short { IfOk result (λ asked. length asked.request ≤ longest_request) }
     {
         let (position, request) = match read_asked(line) {
             Some(parts) => parts,
-            None => return Err(ReplyFault::Refused(Refused::Bad)),
+            None => return Err(ReplyFault::Refused(LineRefusal::Bad)),
         };
         if self.is_full(line) {
-            return Err(ReplyFault::Refused(Refused::Much));
+            return Err(ReplyFault::Refused(LineRefusal::Much));
         }
         match Bytes::copy_of(alloc, request) {
             Ok(request) => {
                 self.read += line.len() as u64;
-                Ok(Asked { position, request })
+                Ok(AskedRequest { position, request })
             }
             Err(_) => Err(ReplyFault::Memory),
         }
     }
 
     // What a pair is answered.
-    fn verdict(&self, asked: &Asked, output: &[u8]) -> Verdict
+    fn verdict(&self, asked: &AskedRequest, output: &[u8]) -> PairVerdict
         requires { length asked.now.request ≤ longest_request }
-        ensures { result ≡ pair_verdict (tallied self.now) asked.now output.now }
+        ensures { result ≡ pair_verdict (tally_of self.now) asked.now output.now }
     {
         match verify(&self.key, asked.position, asked.request.as_slice(), output) {
             Ok(()) => {}
-            Err(NotReceipt::Form) => return Verdict::NoForm,
-            Err(NotReceipt::Tag) => return Verdict::NoTag,
+            Err(NotReceipt::Form) => return PairVerdict::NoForm,
+            Err(NotReceipt::Tag) => return PairVerdict::NoTag,
         }
         match self.known.get(&asked.position) {
-            None => Verdict::Good,
+            None => PairVerdict::Good,
             Some(pair) => compared(pair, asked.request.as_slice(), output),
         }
     }
@@ -118,20 +118,20 @@ impl Tally {
     // Counts a pair and its second line.
     fn count(&mut self, line: &[u8])
         requires line { length line.now ≤ longest_line }
-        requires room { is_too_much (tallied self.old) line.now ≡ false }
-        ensures { tallied self.new ≡ counted_in (tallied self.old) line.now }
+        requires room { is_too_much (tally_of self.old) line.now ≡ false }
+        ensures { tally_of self.new ≡ tally_with_pair (tally_of self.old) line.now }
     {
         self.pairs += 1;
         self.read += line.len() as u64;
     }
 
     // Remembers a good pair.
-    fn remember(&mut self, alloc: Global, asked: Asked, output: &[u8]) -> Result<(), Memory>
-        ensures { OnOk result (tallied self.new ≡ remembered (tallied self.old) asked output.now) }
+    fn remember(&mut self, alloc: Global, asked: AskedRequest, output: &[u8]) -> Result<(), Memory>
+        ensures { OnOk result (tally_of self.new ≡ tally_with_known (tally_of self.old) asked output.now) }
     {
         let output = Bytes::copy_of(alloc, output)?;
-        let Asked { position, request } = asked;
-        match self.known.insert(position, Pair { request, output }) {
+        let AskedRequest { position, request } = asked;
+        match self.known.insert(position, GoodPair { request, output }) {
             Ok(_) => Ok(()),
             Err(_) => Err(Memory),
         }
@@ -141,18 +141,18 @@ impl Tally {
     fn settle(
         &mut self,
         alloc: Global,
-        asked: Asked,
+        asked: AskedRequest,
         output: &[u8],
-        verdict: Verdict,
+        verdict: PairVerdict,
     ) -> Result<(), Memory>
         requires line { length output.now ≤ longest_line }
-        requires room { is_too_much (tallied self.old) output.now ≡ false }
-        ensures { OnOk result (tallied self.new
-            ≡ after_pair (tallied self.old) asked output.now verdict) }
+        requires room { is_too_much (tally_of self.old) output.now ≡ false }
+        ensures { OnOk result (tally_of self.new
+            ≡ tally_after_pair (tally_of self.old) asked output.now verdict) }
     {
         self.count(output);
         match verdict {
-            Verdict::Good => {
+            PairVerdict::Good => {
                 self.remember(alloc, asked, output)?;
                 self.good += 1;
                 Ok(())
@@ -162,14 +162,14 @@ impl Tally {
     }
 
     /// Answers a pair by its second line.
-    pub fn second(&mut self, alloc: Global, asked: Asked, line: &[u8]) -> Result<Bytes, ReplyFault>
+    pub fn second(&mut self, alloc: Global, asked: AskedRequest, line: &[u8]) -> Result<Bytes, ReplyFault>
         requires line { length line.now ≤ longest_line }
         requires short { length asked.request ≤ longest_request }
-        ensures { GivesReply (second_answer (tallied self.old) asked line.now) (tallied self.new)
+        ensures { GivesReply (second_answer (tally_of self.old) asked line.now) (tally_of self.new)
             result }
     {
         if self.is_full(line) {
-            return Err(ReplyFault::Refused(Refused::Much));
+            return Err(ReplyFault::Refused(LineRefusal::Much));
         }
         let verdict = self.verdict(&asked, line);
         let text = match text_of(alloc, asked.position, verdict) {
@@ -200,12 +200,12 @@ fn read_asked(line: &[u8]) -> Option<(u64, &[u8])>
 }
 
 /// What a pair is answered whose position is known.
-fn compared(pair: &Pair, request: &[u8], output: &[u8]) -> Verdict
-    ensures { result ≡ compared pair.now request.now output.now }
+fn compared(pair: &GoodPair, request: &[u8], output: &[u8]) -> PairVerdict
+    ensures { result ≡ verdict_by_pair pair.now request.now output.now }
 {
     if request == pair.request.as_slice() && output == pair.output.as_slice() {
-        Verdict::Good
+        PairVerdict::Good
     } else {
-        Verdict::Clash
+        PairVerdict::Clash
     }
 }

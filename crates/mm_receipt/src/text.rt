@@ -2,9 +2,9 @@
 
 ghost use Rattle.std.specs.Prelude.{◌≡◌, ◌++◌, ◌∷◌, [], IfOk};
 ghost use Rattle.std.specs.Fmt.{decimal};
-ghost use Rattle.mm_receipt.specs.Checking.{verdict_text, last_line};
+ghost use Rattle.mm_receipt.specs.ReceiptCheck.{verdict_text, last_line};
 
-use crate::pair::Verdict;
+use crate::pair::PairVerdict;
 use mm_base::{Bytes, Memory, put_decimal};
 use mm_schedule::put_end;
 use std::alloc::Global;
@@ -20,14 +20,14 @@ fn placed(alloc: Global, word: &[u8], position: u64) -> Result<Bytes, Memory>
 }
 
 /// The line that answers a pair, with its LF.
-pub fn text_of(alloc: Global, position: u64, verdict: Verdict) -> Result<Bytes, Memory>
+pub fn text_of(alloc: Global, position: u64, verdict: PairVerdict) -> Result<Bytes, Memory>
     ensures { IfOk result (λ text. text ≡ verdict_text position verdict) }
 {
     match verdict {
-        Verdict::NoForm => Bytes::copy_of(alloc, b"no form\n"),
-        Verdict::NoTag => Bytes::copy_of(alloc, b"no tag\n"),
-        Verdict::Clash => placed(alloc, b"clash ", position),
-        Verdict::Good => placed(alloc, b"good ", position),
+        PairVerdict::NoForm => Bytes::copy_of(alloc, b"no form\n"),
+        PairVerdict::NoTag => Bytes::copy_of(alloc, b"no tag\n"),
+        PairVerdict::Clash => placed(alloc, b"clash ", position),
+        PairVerdict::Good => placed(alloc, b"good ", position),
     }
 }
 

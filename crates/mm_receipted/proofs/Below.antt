@@ -6,6 +6,6 @@ pub use Rattle.mm_base.specs.Limits.{last_position, longest_request}
 pub use Rattle.mm_module.specs.Meaning.{Meaning, outputs_from}
 pub use Rattle.mm_module.specs.TableLaws.{is-true}
 pub use Rattle.mm_receipted.specs.ReceiptedLaws.{IsKept, kept_of-IsKept, kept_of-spelling_of, outcome_of-IsKept, SpellsKept, SpellsKept-from}
-pub use Rattle.mm_receipted.specs.Receipts.{digits_of, parts_by, receipt_of, receipt_parts, verified, verified_by}
-pub use Rattle.mm_receipted.specs.Table.{first_kept, is_front, outcome_of, receipt_state_in, receipted, ReceiptState, spelling_of}
-pub use Rattle.mm_receipted.specs.Views.{as_kept}
+pub use Rattle.mm_receipted.specs.Receipts.{digits_of, parts_by, receipt_of, receipt_parts, check_of_receipt, check_of_parts}
+pub use Rattle.mm_receipted.specs.Table.{first_receipt_state, is_front, outcome_of, receipt_state_in, receipted_module, ReceiptState, spelling_of}
+pub use Rattle.mm_receipted.specs.Views.{kept_state_of}

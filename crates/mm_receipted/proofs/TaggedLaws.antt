@@ -2,8 +2,8 @@
 use Rattle.mm_receipted.proofs.Below.{inl, inr, ◌≡◌, ◌≢◌, ℕ, suc, ◌+◌, ◌<◌, ◌≤◌, ◌^◌, List, [], ◌∷◌}
 use Rattle.mm_receipted.proofs.Below.{◌++◌, length, take, drop, Some, refl, sym, ◌∙◌, ap, arith, length-append, slice_get}
 use Rattle.mm_receipted.proofs.Below.{Ok, ◌⊎◌, last_position, longest_request, Meaning, outputs_from}
-use Rattle.mm_receipted.proofs.Below.{digits_of, receipt_of, parts_by, verified_by, verified, ReceiptState, outcome_of}
-use Rattle.mm_receipted.proofs.Below.{first_kept, spelling_of, receipted, IsKept, kept_of-spelling_of, outcome_of-IsKept}
+use Rattle.mm_receipted.proofs.Below.{digits_of, receipt_of, parts_by, check_of_parts, check_of_receipt, ReceiptState, outcome_of}
+use Rattle.mm_receipted.proofs.Below.{first_receipt_state, spelling_of, receipted_module, IsKept, kept_of-spelling_of, outcome_of-IsKept}
 use Rattle.std.specs.List.{AllByRecursion}
 use Rattle.std.proofs.lemmas.Bool.Decides.{nat_tests}
 use Rattle.std.proofs.lemmas.List.{drop-drop, take-append-drop}
@@ -11,7 +11,7 @@ use Rattle.std.proofs.lemmas.Slice.Eq.{bytes_eq-Decides}
 use Rattle.mm_base.specs.Fields.{eight_bytes, four_bytes}
 use Rattle.mm_base.specs.FieldLaws.{length-eight_bytes, length-four_bytes, eight_bytes-injective, four_bytes-injective, append-injective}
 use Rattle.mm_receipted.specs.Receipts.{receipt_front, receipt_message}
-use Rattle.mm_receipted.specs.Tagged.{IsTaggedBy, IsTagged, IsCounted, ReceiptsAreTrue, ReceiptsDoNotClash}
+use Rattle.mm_receipted.specs.TaggedMessages.{IsTaggedBy, IsTagged, IsCounted, ReceiptsAreTrue, ReceiptsDoNotClash}
 
 length-receipt_front : (position size : ℕ) → length (receipt_front position size) ≡ 16
 unfolding receipt_front
@@ -50,13 +50,13 @@ receipt_message-injective position request said other asked told one two three f
     record { positions = front.positions; requests = rest.0; outputs = rest.1 }
 
 formed-receipt : (key : List ℕ) (position : ℕ) (request digits said : List ℕ) (space : ℕ)
-    → verified_by key position request (parts_by digits (space ∷ said)) ≡ Ok tt
+    → check_of_parts key position request (parts_by digits (space ∷ said)) ≡ Ok tt
     → (digits ≡ digits_of key position request said) × (space ≡ 32)
 formed-receipt key position request digits said space accepted =
     grind (arith, nat_tests, bytes_eq-Decides digits (digits_of key position request said))
 
 parts-receipt : (key : List ℕ) (position : ℕ) (request digits rest : List ℕ)
-    → verified_by key position request (parts_by digits rest) ≡ Ok tt
+    → check_of_parts key position request (parts_by digits rest) ≡ Ok tt
     → digits ++ rest ≡ receipt_of key position request (drop 1 rest)
 parts-receipt key position request digits [] accepted = cc
 parts-receipt key position request digits (space ∷ said) accepted =
@@ -64,7 +64,7 @@ parts-receipt key position request digits (space ∷ said) accepted =
     ap (λ (l : List ℕ). l ++ space ∷ said) f.0 ∙ ap (λ n. digits_of key position request said ++ n ∷ said) f.1
 
 -- an output that is accepted is the receipt of what stands behind its digits
-accepted-receipt : (key : List ℕ) (position : ℕ) (request output : List ℕ) → verified key position request output ≡ Ok tt
+accepted-receipt : (key : List ℕ) (position : ℕ) (request output : List ℕ) → check_of_receipt key position request output ≡ Ok tt
     → output ≡ receipt_of key position request (drop 65 output)
 accepted-receipt key position request output accepted =
     sym (take-append-drop 64 output) ∙ parts-receipt key position request (take 64 output) (drop 64 output) accepted
@@ -76,7 +76,7 @@ outputs_by inner kept [] = []
 outputs_by inner kept (request ∷ requests) = (outcome_of inner kept request).1 ∷ outputs_by inner (outcome_of inner kept request).0 requests
 
 outputs-same : (inner : Meaning) (kept : ReceiptState) (requests : List (List ℕ)) → IsKept kept
-    → outputs_from (receipted inner) (spelling_of kept) requests ≡ outputs_by inner kept requests
+    → outputs_from (receipted_module inner) (spelling_of kept) requests ≡ outputs_by inner kept requests
 outputs-same inner kept [] good = refl
 outputs-same inner kept (request ∷ requests) good =
     rw (kept_of-spelling_of kept good) (ap (λ (l : List (List ℕ)). (outcome_of inner kept request).1 ∷ l)
@@ -142,14 +142,14 @@ was-tagged inner key kept (first ∷ requests) good counted position request sai
 pub receipts-true : ReceiptsAreTrue
 receipts-true inner requests counted key position request output u =
     let said = drop 65 output in
-    let w = was-tagged inner key (first_kept inner) requests (record { few = omega arith; keyed = tt }) counted position request said u.near
+    let w = was-tagged inner key (first_receipt_state inner) requests (record { few = omega arith; keyed = tt }) counted position request said u.near
     u.short u.tagged in
     record {
       before = w.before;
       place = omega (arith, w.place);
       asked = w.asked;
       said =
-          rw (outputs-same inner (first_kept inner) requests (record { few = omega arith; keyed = tt }))
+          rw (outputs-same inner (first_receipt_state inner) requests (record { few = omega arith; keyed = tt }))
           (w.told ∙ ap (λ (l : List ℕ). Some l) (sym (accepted-receipt key position request output u.accepted)));
     }
 
@@ -157,7 +157,7 @@ pub no-clash : ReceiptsDoNotClash
 no-clash inner requests counted key position request output other said u v =
     let w = receipts-true inner requests counted key position request output u in
     let z = receipts-true inner requests counted key position other said v in
-    let outputs = outputs_from (receipted inner) (receipted inner).first requests in
+    let outputs = outputs_from (receipted_module inner) (receipted_module inner).first requests in
     let same : w.before ≡ z.before = omega (arith, w.place, z.place) in
     let asked = w.asked in let again = z.asked in let said_one = w.said in let said_two = z.said in
     (cc, cc)

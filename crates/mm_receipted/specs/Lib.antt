@@ -2,5 +2,5 @@ pub mod Receipts
 pub mod Table
 pub mod Views
 pub mod ReceiptedLaws
-pub mod Tagged
+pub mod TaggedMessages
 pub mod ReceiptListing

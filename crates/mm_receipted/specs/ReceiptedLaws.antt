@@ -13,12 +13,12 @@ use Rattle.mm_digest.specs.LengthLaws.{length-hmac_of}
 use Rattle.mm_module.specs.Bytes.{is_byte, are_bytes}
 use Rattle.mm_module.specs.LineLaws.{is_unbroken, and-true, and-both, IsText, is_unbroken-All}
 use Rattle.mm_module.specs.Meaning.{Meaning, IsLawful, IsShort}
-use Rattle.mm_module.specs.Numbers.{of_eight_bytes}
-use Rattle.mm_module.specs.PartLaws.{take-front, drop-front, are_bytes-take, are_bytes-drop, are_bytes-append, are_bytes-All, length-eight, are_bytes-eight, of_eight_bytes-eight}
+use Rattle.mm_module.specs.Numbers.{number_of_eight_bytes}
+use Rattle.mm_module.specs.PartLaws.{take-front, drop-front, are_bytes-take, are_bytes-drop, are_bytes-append, are_bytes-All, length-eight, are_bytes-eight, number_of_eight_bytes-eight}
 use Rattle.mm_module.specs.TableLaws.{Table, IsTable, is-true, table_is_lawful}
 use Rattle.mm_module.specs.ValueLaws.{IsValue, MayBeValue, value_at-value, is_unbroken-encoded}
 use Rattle.mm_receipted.specs.Receipts.{receipt_message, digits_of}
-use Rattle.mm_receipted.specs.Table.{ReceiptState, outcome_of, first_kept, key_bytes, spelling_of, is_keyed, is_front, as_receipt_state, receipt_state_in, is_state, receipted}
+use Rattle.mm_receipted.specs.Table.{ReceiptState, outcome_of, first_receipt_state, key_bytes, spelling_of, is_keyed, is_front, receipt_state_after, receipt_state_in, is_state, receipted_module}
 
 -- what is kept has its form, but for the state inside
 pub record IsKept (kept : ReceiptState) : Type 0 where
@@ -31,7 +31,7 @@ outcome_of-IsKept inner kept request good = grind (arith, nat_tests, value_at-va
 
 -- a key and a state inside are read back
 kept_by-joined : (count : ℕ) (key : Option (List ℕ)) (inner : List ℕ) → MayBeValue key
-    → as_receipt_state count (key_bytes key ++ inner) ≡ record { count = count; key = key; inner = inner }
+    → receipt_state_after count (key_bytes key ++ inner) ≡ record { count = count; key = key; inner = inner }
 kept_by-joined count None inner is = refl
 kept_by-joined count (Some key) inner is = rw (take-front 32 key inner is.long, drop-front 32 key inner is.long) refl
 
@@ -43,7 +43,7 @@ kept_of-spelling_of kept good =
     rw (
       take-front 8 (eight_bytes kept.count) behind (length-eight kept.count),
       drop-front 8 (eight_bytes kept.count) behind (length-eight kept.count),
-      of_eight_bytes-eight kept.count (omega (arith, good.few)),
+      number_of_eight_bytes-eight kept.count (omega (arith, good.few)),
     ) (kept_by-joined kept.count kept.key kept.inner good.keyed)
 
 is_keyed-joined : (key : Option (List ℕ)) (inner : List ℕ) → is_keyed (key_bytes key ++ inner) ≡ true
@@ -61,7 +61,7 @@ is_front-spelling_of kept good =
     let behind = key_bytes kept.key ++ kept.inner in
     let few : kept.count ≤ last_position = good.few in
     let eight = length-eight kept.count in
-    let count = of_eight_bytes-eight kept.count (omega (arith, few)) in
+    let count = number_of_eight_bytes-eight kept.count (omega (arith, few)) in
     let keyed = is_keyed-joined kept.key kept.inner in
     let long = length-key_bytes kept.key good.keyed in
     rw (take-front 8 (eight_bytes kept.count) behind eight, drop-front 8 (eight_bytes kept.count) behind eight)
@@ -85,12 +85,12 @@ is_state-spelling_of inner lawful kept good spelled =
 pub record SpellsKept (inner : Meaning) (bytes : List ℕ) : Type 0 where
   pub all : are_bytes bytes ≡ true
   pub long : 41 ≤ length bytes
-  pub few : of_eight_bytes (take 8 bytes) ≤ last_position
+  pub few : number_of_eight_bytes (take 8 bytes) ≤ last_position
   pub spelled : inner.is_spelled (receipt_state_in bytes).inner ≡ true
 
 spells-kept : (bytes : List ℕ) (all keyed spelled : Bool)
-    → (all && ((nat_le 41 (length bytes) && (nat_le (of_eight_bytes (take 8 bytes)) last_position && keyed)) && spelled)) ≡ true
-    → ((all ≡ true) × (spelled ≡ true)) × (41 ≤ length bytes) × (of_eight_bytes (take 8 bytes) ≤ last_position)
+    → (all && ((nat_le 41 (length bytes) && (nat_le (number_of_eight_bytes (take 8 bytes)) last_position && keyed)) && spelled)) ≡ true
+    → ((all ≡ true) × (spelled ≡ true)) × (41 ≤ length bytes) × (number_of_eight_bytes (take 8 bytes) ≤ last_position)
 spells-kept bytes all keyed spelled is = grind (arith, nat_tests)
 
 pub SpellsKept-from : (inner : Meaning) (bytes : List ℕ) → is_state inner bytes ≡ true → SpellsKept inner bytes
@@ -101,8 +101,8 @@ SpellsKept-from inner bytes is =
 
 -- what a spelled state keeps has its form, behind 41 bytes
 record KeepsBehind (count : ℕ) (back : List ℕ) : Type 0 where
-  kept : IsKept (as_receipt_state count back)
-  long : length back ≡ 33 + length (as_receipt_state count back).inner
+  kept : IsKept (receipt_state_after count back)
+  long : length back ≡ 33 + length (receipt_state_after count back).inner
 
 key_in-key : (named : Bool) (bytes : List ℕ) → IsValue bytes → MayBeValue (if named then Some bytes else None)
 key_in-key named bytes is = grind arith
@@ -121,7 +121,7 @@ keeps-behind count (form ∷ rest) few long all =
       long = omega (arith, length-drop 32 rest, long);
     }
 
-behind-front : (inner : Meaning) (bytes : List ℕ) → SpellsKept inner bytes → KeepsBehind (of_eight_bytes (take 8 bytes)) (drop 8 bytes)
+behind-front : (inner : Meaning) (bytes : List ℕ) → SpellsKept inner bytes → KeepsBehind (number_of_eight_bytes (take 8 bytes)) (drop 8 bytes)
 behind-front inner bytes is =
     keeps-behind _ (drop 8 bytes) is.few (omega (arith, length-drop 8 bytes, is.long))
     (are_bytes-drop 8 bytes is.all)
@@ -166,7 +166,7 @@ outcome_of-spelled inner kept request here next = grind (arith, nat_tests)
 
 abbrev receipted_table : Meaning → Table ReceiptState
 receipted_table inner = record {
-  first = first_kept inner;
+  first = first_receipt_state inner;
   read = receipt_state_in;
   spelling = spelling_of;
   does = outcome_of inner;
@@ -174,7 +174,7 @@ receipted_table inner = record {
 
 -- a module that gives receipts is a module
 receipted_is_table : (inner : Meaning) → IsLawful inner → IsShort inner
-    → IsTable (receipted_table inner) (receipted inner) (λ kept. IsKept kept × (inner.is_spelled kept.inner ≡ true)) 65041 400
+    → IsTable (receipted_table inner) (receipted_module inner) (λ kept. IsKept kept × (inner.is_spelled kept.inner ≡ true)) 65041 400
 receipted_is_table inner lawful short = record {
   begins = refl;
   first = (record { few = omega arith; keyed = tt }, is-true _ lawful.begins);
@@ -206,5 +206,5 @@ receipted_is_table inner lawful short = record {
 wide_enough : (id : ℕ) → 65041 ≤ limit_of id
 wide_enough id = grind (arith, nat_tests)
 
-pub receipted_is_lawful : (inner : Meaning) → IsLawful inner → IsShort inner → IsLawful (receipted inner)
+pub receipted_is_lawful : (inner : Meaning) → IsLawful inner → IsShort inner → IsLawful (receipted_module inner)
 receipted_is_lawful inner lawful short = table_is_lawful (receipted_is_table inner lawful short) (wide_enough _) (omega arith)

@@ -39,12 +39,12 @@ parts_by digits (space ∷ said) =
 abbrev pub receipt_parts : List ℕ → Option (List ℕ × List ℕ)
 receipt_parts output = parts_by (take 64 output) (drop 64 output)
 
-abbrev pub verified_by : List ℕ → ℕ → List ℕ → Option (List ℕ × List ℕ)
+abbrev pub check_of_parts : List ℕ → ℕ → List ℕ → Option (List ℕ × List ℕ)
     → Result (Unit {0}) NotReceipt
-verified_by key position request None = Err Form
-verified_by key position request (Some parts) =
+check_of_parts key position request None = Err Form
+check_of_parts key position request (Some parts) =
     if bytes_eq parts.0 (digits_of key position request parts.1) then Ok tt else Err Tag
 
 -- whether an output is the receipt of what stands behind its digits
-abbrev pub verified : List ℕ → ℕ → List ℕ → List ℕ → Result (Unit {0}) NotReceipt
-verified key position request output = verified_by key position request (receipt_parts output)
+abbrev pub check_of_receipt : List ℕ → ℕ → List ℕ → List ℕ → Result (Unit {0}) NotReceipt
+check_of_receipt key position request output = check_of_parts key position request (receipt_parts output)

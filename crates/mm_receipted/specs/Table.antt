@@ -5,7 +5,7 @@ use Rattle.mm_base.specs.Fields.{eight_bytes}
 use Rattle.mm_base.specs.Limits.{last_position}
 use Rattle.mm_module.specs.Bytes.{are_bytes}
 use Rattle.mm_module.specs.Meaning.{Meaning}
-use Rattle.mm_module.specs.Numbers.{of_eight_bytes}
+use Rattle.mm_module.specs.Numbers.{number_of_eight_bytes}
 use Rattle.mm_module.specs.Values.{value_at}
 use Rattle.mm_module.specs.Words.{words_of}
 use Rattle.mm_receipted.specs.Receipts.{receipt_of}
@@ -23,33 +23,33 @@ key_of_words _ = None
 
 -- what is said to a request that brings this key
 abbrev pub keyed_text : Option (List ℕ) → List ℕ
-keyed_text None = codes "unkeyed"
+keyed_text None = codes "outcome_without_key"
 keyed_text (Some key) = codes "keyed"
 
 -- a request before a key is set
-abbrev pub unkeyed : ReceiptState → Option (List ℕ) → ReceiptState × List ℕ
-unkeyed kept key =
+abbrev pub outcome_without_key : ReceiptState → Option (List ℕ) → ReceiptState × List ℕ
+outcome_without_key kept key =
     (record { count = kept.count + 1; key = key; inner = kept.inner }, keyed_text key)
 
 -- a request under a key
-abbrev pub stamped : Meaning → ReceiptState → List ℕ → List ℕ → ReceiptState × List ℕ
-stamped inner kept request key = (
+abbrev pub outcome_under_key : Meaning → ReceiptState → List ℕ → List ℕ → ReceiptState × List ℕ
+outcome_under_key inner kept request key = (
   record { count = kept.count + 1; key = Some key; inner = inner.next kept.inner request },
   receipt_of key (kept.count + 1) request (inner.says kept.inner request),
 )
 
-abbrev pub taken : Meaning → ReceiptState → List ℕ → Option (List ℕ) → ReceiptState × List ℕ
-taken inner kept request None = unkeyed kept (key_of_words (words_of request))
-taken inner kept request (Some key) = stamped inner kept request key
+abbrev pub outcome_by_key : Meaning → ReceiptState → List ℕ → Option (List ℕ) → ReceiptState × List ℕ
+outcome_by_key inner kept request None = outcome_without_key kept (key_of_words (words_of request))
+outcome_by_key inner kept request (Some key) = outcome_under_key inner kept request key
 
 -- what a request does, and what is said: there are 2^48 positions
 abbrev pub outcome_of : Meaning → ReceiptState → List ℕ → ReceiptState × List ℕ
 outcome_of inner kept request =
-    if kept.count == last_position then (kept, codes "full") else taken inner kept request kept.key
+    if kept.count == last_position then (kept, codes "full") else outcome_by_key inner kept request kept.key
 
 -- before every request
-abbrev pub first_kept : Meaning → ReceiptState
-first_kept inner = record { count = 0; key = None; inner = inner.first }
+abbrev pub first_receipt_state : Meaning → ReceiptState
+first_receipt_state inner = record { count = 0; key = None; inner = inner.first }
 
 -- a byte and a key: 00 and zeros, or 01 and the key
 abbrev pub key_bytes : Option (List ℕ) → List ℕ
@@ -73,16 +73,16 @@ is_keyed (form ∷ rest) = form == 1 || (form == 0 && bytes_eq (take 32 rest) (r
 abbrev pub is_front : List ℕ → Bool
 is_front bytes =
     nat_le 41 (length bytes)
-    && (nat_le (of_eight_bytes (take 8 bytes)) last_position && is_keyed (drop 8 bytes))
+    && (nat_le (number_of_eight_bytes (take 8 bytes)) last_position && is_keyed (drop 8 bytes))
 
-abbrev pub as_receipt_state : ℕ → List ℕ → ReceiptState
-as_receipt_state count [] = record { count = count; key = None; inner = [] }
-as_receipt_state count (form ∷ rest) =
+abbrev pub receipt_state_after : ℕ → List ℕ → ReceiptState
+receipt_state_after count [] = record { count = count; key = None; inner = [] }
+receipt_state_after count (form ∷ rest) =
     record { count = count; key = key_in form (take 32 rest); inner = drop 32 rest }
 
 -- what a state keeps
 unfoldable pub receipt_state_in : List ℕ → ReceiptState
-receipt_state_in bytes = as_receipt_state (of_eight_bytes (take 8 bytes)) (drop 8 bytes)
+receipt_state_in bytes = receipt_state_after (number_of_eight_bytes (take 8 bytes)) (drop 8 bytes)
 
 -- the bytes spell a state
 unfoldable pub is_state : Meaning → List ℕ → Bool
@@ -90,10 +90,10 @@ is_state inner bytes =
     are_bytes bytes && (is_front bytes && inner.is_spelled (receipt_state_in bytes).inner)
 
 -- the module round another
-abbrev pub receipted : Meaning → Meaning
-receipted inner = record {
+abbrev pub receipted_module : Meaning → Meaning
+receipted_module inner = record {
   id = (inner.id + 64) % 256;
-  first = spelling_of (first_kept inner);
+  first = spelling_of (first_receipt_state inner);
   next = λ state request. spelling_of (outcome_of inner (receipt_state_in state) request).0;
   says = λ state request. (outcome_of inner (receipt_state_in state) request).1;
   is_spelled = is_state inner;

@@ -4,7 +4,7 @@ ghost use Rattle.std.specs.Prelude.{◌≡◌, ◌≤◌, ◌<◌, ℕ, List, le
 ghost use Rattle.std.specs.List.{list_all};
 ghost use Rattle.hex.specs.Hex.{encode_lower};
 ghost use Rattle.mm_base.specs.Limits.{longest_request};
-ghost use Rattle.mm_receipted.specs.Receipts.{is_lower_digit, receipt_front, digits_of, receipt_of, receipt_parts, verified};
+ghost use Rattle.mm_receipted.specs.Receipts.{is_lower_digit, receipt_front, digits_of, receipt_of, receipt_parts, check_of_receipt};
 
 use mm_base::{Bytes, Memory, bytes_of_u32, bytes_of_u64};
 use mm_digest::{Digest, HmacKey};
@@ -107,7 +107,7 @@ pub fn verify(
     output: &[u8],
 ) -> Result<(), NotReceipt>
     requires { length request.now ≤ longest_request }
-    ensures { result ≡ verified key.now position request.now output.now }
+    ensures { result ≡ check_of_receipt key.now position request.now output.now }
 {
     let Some((digits, said)) = read_parts(output) else {
         return Err(NotReceipt::Form);

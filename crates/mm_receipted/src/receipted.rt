@@ -4,8 +4,8 @@ ghost use Rattle.std.specs.Prelude.{◌≡◌, ◌+◌, ◌++◌, ◌<◌, ◌�
 ghost use Rattle.mm_base.specs.Limits.{last_position};
 ghost use Rattle.mm_module.specs.Meaning.{IsLine};
 ghost use Rattle.mm_module.specs.Words.{words_of};
-ghost use Rattle.mm_receipted.specs.Table.{key_of_words, keyed_text, unkeyed, receipted, stamped, key_bytes, key_in, is_keyed, is_front, as_receipt_state, receipt_state_in, spelling_of, outcome_of};
-ghost use Rattle.mm_receipted.specs.Views.{as_kept};
+ghost use Rattle.mm_receipted.specs.Table.{key_of_words, keyed_text, outcome_without_key, receipted_module, outcome_under_key, key_bytes, key_in, is_keyed, is_front, receipt_state_after, receipt_state_in, spelling_of, outcome_of};
+ghost use Rattle.mm_receipted.specs.Views.{kept_state_of};
 ghost use Rattle.mm_receipted.specs.ReceiptedLaws.{receipted_is_lawful};
 
 use crate::receipt::receipt;
@@ -28,7 +28,7 @@ pub struct Receipted<M: Short> {
 
 /// What a state keeps.
 #[derive(Clone, Copy, Debug)]
-struct Kept<'a> {
+struct KeptState<'a> {
     count: u64,
     key: Option<[u8; 32]>,
     inner: &'a [u8],
@@ -78,15 +78,15 @@ fn read_key(form: u8, bytes: &[u8]) -> Option<[u8; 32]>
 }
 
 /// What is kept behind the count: a byte and a key, and the state inside.
-fn kept_behind(count: u64, bytes: &[u8]) -> Kept<'_>
+fn kept_behind(count: u64, bytes: &[u8]) -> KeptState<'_>
     requires { 33 ≤ length bytes.now }
-    ensures { as_kept result ≡ as_receipt_state count bytes.now }
+    ensures { kept_state_of result ≡ receipt_state_after count bytes.now }
 {
     let Some((form, rest)) = bytes.split_first() else {
         unreachable!()
     };
     let (key, inner) = rest.split_at(32);
-    Kept {
+    KeptState {
         count,
         key: read_key(*form, key),
         inner,
@@ -95,9 +95,9 @@ fn kept_behind(count: u64, bytes: &[u8]) -> Kept<'_>
 
 /// What a state keeps.
 #[tactic(auto, unfolding(crate::specs::Table::receipt_state_in))]
-fn read_kept(bytes: &[u8]) -> Kept<'_>
+fn read_kept(bytes: &[u8]) -> KeptState<'_>
     requires { 41 ≤ length bytes.now }
-    ensures { as_kept result ≡ receipt_state_in bytes.now }
+    ensures { kept_state_of result ≡ receipt_state_in bytes.now }
 {
     let (count, rest) = bytes.split_at(8);
     kept_behind(u64_of_bytes(count), rest)
@@ -138,12 +138,12 @@ fn text_of_key(alloc: Global, key: Option<[u8; 32]>) -> Result<Bytes, Memory>
 }
 
 /// A request before a key is set.
-fn step_unkeyed(alloc: Global, kept: Kept<'_>, request: &[u8]) -> Result<Stepped, Memory>
+fn step_unkeyed(alloc: Global, kept: KeptState<'_>, request: &[u8]) -> Result<Stepped, Memory>
     requires { kept.count < last_position }
     ensures state { IfOk result (λ stepped. stepped.state
-        ≡ spelling_of (unkeyed (as_kept kept.entry) (key_of_words (words_of request.now))).0) }
+        ≡ spelling_of (outcome_without_key (kept_state_of kept.entry) (key_of_words (words_of request.now))).0) }
     ensures output { IfOk result (λ stepped. stepped.output
-        ≡ (unkeyed (as_kept kept.entry) (key_of_words (words_of request.now))).1) }
+        ≡ (outcome_without_key (kept_state_of kept.entry) (key_of_words (words_of request.now))).1) }
 {
     let key = key_of(request);
     Ok(Stepped {
@@ -157,7 +157,7 @@ impl<M: Short> Receipted<M> {
     fn step_keyed(
         &self,
         alloc: Global,
-        kept: Kept<'_>,
+        kept: KeptState<'_>,
         key: &[u8; 32],
         request: &[u8],
     ) -> Result<Stepped, Memory>
@@ -166,9 +166,9 @@ impl<M: Short> Receipted<M> {
         requires room { kept.count < last_position }
         ensures state { IfOk result (λ stepped. stepped.state
             ≡ spelling_of
-            (stamped (M.meaning self.now.inner) (as_kept kept.entry) request.now key.now).0) }
+            (outcome_under_key (M.meaning self.now.inner) (kept_state_of kept.entry) request.now key.now).0) }
         ensures output { IfOk result (λ stepped. stepped.output
-            ≡ (stamped (M.meaning self.now.inner) (as_kept kept.entry) request.now key.now).1) }
+            ≡ (outcome_under_key (M.meaning self.now.inner) (kept_state_of kept.entry) request.now key.now).1) }
     {
         let position = kept.count + 1;
         let stepped = self.inner.step(alloc, kept.inner, request)?;
@@ -179,7 +179,7 @@ impl<M: Short> Receipted<M> {
 }
 
 impl<M: Short> Module for Receipted<M> {
-    ghost meaning = { λ it. receipted (M.meaning it.inner) };
+    ghost meaning = { λ it. receipted_module (M.meaning it.inner) };
 
     ghost is_lawful = { λ it. receipted_is_lawful (M.meaning it.inner) (M.is_lawful it.inner)
         (M.is_short it.inner) };

@@ -1,10 +1,10 @@
 -- A line of at most 4,096 bytes isn't too long to be asked, and its record fits a slot.
 use Rattle.mm_recovery.proofs.Below.{ℕ, ◌≡◌, ◌≢◌, false, List, length, refl, arith, nat_lt, list_any, nat_tests, longest_request, One, is_long}
-use Rattle.mm_recovery.proofs.Below.{◌+◌, ◌≤◌, ap, length-append, length-sha256, Pending, length-pending_front}
+use Rattle.mm_recovery.proofs.Below.{◌+◌, ◌≤◌, ap, length-append, length-sha256, PendingRecord, length-pending_front}
 use Rattle.std.proofs.lemmas.List.Folds.{list_any_none}
 use Rattle.mm_base.specs.Lines.{MayGrow}
 use Rattle.mm_model.specs.LongWords.{is_lf}
-use Rattle.mm_store.specs.Pending.{pending_front, pending_spelling, record_word, ReadsPending}
+use Rattle.mm_store.specs.PendingRecord.{pending_front, pending_spelling, record_word, ReadsPending}
 use Rattle.mm_recovery.proofs.Below.{◌++◌, ◌<◌, ◌∙◌, sym, None, last_position}
 use Rattle.std.proofs.Common.{append_assoc}
 use Rattle.std.specs.Prelude.{◌^◌}
@@ -21,12 +21,12 @@ askable request w =
     let unbroken : list_any is_lf request ≡ false = list_any_none is_lf request (λ k d h. not_lf _ (w.unbroken k d h)) in
     rw (short, unbroken) refl
 
-pub length-pending_spelling : (p : Pending) → length (pending_spelling p) ≡ 48 + length p.request
+pub length-pending_spelling : (p : PendingRecord) → length (pending_spelling p) ≡ 48 + length p.request
 unfolding pending_spelling
 length-pending_spelling p =
     simp length-append (omega (arith, length-pending_front p, length-sha256 (pending_front p)))
 
-pub record_short : (p : Pending) (bytes : List ℕ) → bytes ≡ pending_spelling p → length p.request ≤ longest_request → length bytes ≤ 1100000
+pub record_short : (p : PendingRecord) (bytes : List ℕ) → bytes ≡ pending_spelling p → length p.request ≤ longest_request → length bytes ≤ 1100000
 record_short p bytes e h = omega (arith, ap length e, length-pending_spelling p)
 
 -- A record's bytes tell its position.
@@ -34,7 +34,7 @@ record_short p bytes e h = omega (arith, ap length e, length-pending_spelling p)
 regrouped : (a b c d e : List ℕ) → (a ++ (b ++ (c ++ d))) ++ e ≡ a ++ (b ++ (c ++ (d ++ e)))
 regrouped a b c d e = simp append_assoc
 
-front_position : (p q : Pending) (a b : List ℕ) → p.position < 2 ^ 64 → q.position < 2 ^ 64
+front_position : (p q : PendingRecord) (a b : List ℕ) → p.position < 2 ^ 64 → q.position < 2 ^ 64
     → pending_front p ++ a ≡ pending_front q ++ b → p.position ≡ q.position
 unfolding pending_front
 front_position p q a b hp hq e =
@@ -49,13 +49,13 @@ front_position p q a b hp hq e =
     (four_bytes (length q.request) ++ (q.request ++ b)) (length-eight_bytes p.position ∙ sym (length-eight_bytes q.position)) first.1 in
     eight_bytes-injective p.position q.position hp hq second.0
 
-spelled_position : (p q : Pending) → p.position < 2 ^ 64 → q.position < 2 ^ 64 → pending_spelling p ≡ pending_spelling q
+spelled_position : (p q : PendingRecord) → p.position < 2 ^ 64 → q.position < 2 ^ 64 → pending_spelling p ≡ pending_spelling q
     → p.position ≡ q.position
 unfolding pending_spelling
 spelled_position p q hp hq e = front_position p q (sha256 (pending_front p)) (sha256 (pending_front q)) hp hq e
 
 -- so a record behind the last position is none of a slot's
-pub beyond_none : (slot : ℕ) (bytes : List ℕ) (next : Pending) → next.position ≡ last_position + 1 → bytes ≡ pending_spelling next
+pub beyond_none : (slot : ℕ) (bytes : List ℕ) (next : PendingRecord) → next.position ≡ last_position + 1 → bytes ≡ pending_spelling next
     → ReadsPending slot bytes None
 beyond_none slot bytes next at is = λ p valid e.
     omega (arith, valid.most, at, spelled_position next p (omega (arith, at)) (omega (arith, valid.most)) (sym is ∙ e))

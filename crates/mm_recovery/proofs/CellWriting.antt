@@ -1,50 +1,50 @@
 -- How often calls are to write the cell, and what flag they leave: one of either core, and calls one after another.
 use Rattle.mm_recovery.proofs.Below.{◌≡◌, ◌∙◌, ◌+◌, ◌≤◌, ℕ, zero, suc, Bool, true, false, List, Some, Ok, refl, sym, ap, inl, inr, arith}
-use Rattle.mm_recovery.proofs.Below.{◌⊎◌, counted, Variant, Basic, Opt, Standing, Answer, counted_by, WritesAtMostOnce, LeavesOpen, TellsFlag}
+use Rattle.mm_recovery.proofs.Below.{◌⊎◌, next_count, Variant, Basic, Opt, Standing, Answer, count_after_more, WritesAtMostOnce, LeavesOpen, TellsFlag}
 use Rattle.mm_recovery.proofs.Below.{WritesByOpening, WritesFor, is_open_after, openings, Option, None, Result, Err, StepFault, cell_after}
 use Rattle.mm_recovery.proofs.Below.{Meaning, Batch, PartsFault, IsCell, ReadsCell, SpellsCell, cell_spelling, Snapshot, BatchAnswer, Refusal}
-use Rattle.mm_recovery.proofs.Below.{Memory, Device, is_long, whole, whole_in, Ended, goes_on, breaks_off, EndsTo, result_of, acts_for, answer_in}
-use Rattle.mm_recovery.proofs.Below.{fault_of, OrMemory, refused_result, CallReads, Long, StepsRefused, StepsBy, opt_call}
-use Rattle.mm_recovery.proofs.Below.{StepsAnswered, StepsFrom, CallWrites, IsNewAt, LeavesFlag, new_by, [], ◌∷◌}
+use Rattle.mm_recovery.proofs.Below.{Memory, Device, is_long, batch_answer_of, batch_result_of, AskResult, goes_on, breaks_off, EndsByFinding, result_of, acts_for, answer_in}
+use Rattle.mm_recovery.proofs.Below.{fault_of, IsOrMemory, refused_result, CallReads, Long, StepsRefused, StepsBy, opt_call}
+use Rattle.mm_recovery.proofs.Below.{StepsAnswered, StepsFrom, CallWrites, IsNewAt, LeavesFlag, new_requests_by, [], ◌∷◌}
 use Rattle.mm_platform.specs.Steps.{Act}
-use Rattle.mm_machine.specs.Acts.{acts_left}
-use Rattle.mm_call.specs.Calls.{StepsTo}
+use Rattle.mm_machine.specs.Acts.{remaining_acts}
+use Rattle.mm_call.specs.CallKind.{AreStepsToEnd}
 use Rattle.std.proofs.Math.Nat.{suc-add, zero-add}
 use Rattle.mm_seal.specs.declared.cell.Cell.{Cell}
 use Rattle.mm_seal.specs.declared.cell.CellFault.{CellFault}
 use Rattle.mm_seal.specs.CellLaws.{reads_cell-same}
 use Rattle.mm_machine.specs.declared.change.Change as change
 use Rattle.mm_machine.specs.declared.change.Change.TheVariants.{Extending, Emptying, Placing, Writing}
-use Rattle.mm_machine.specs.declared.operation.Found.TheVariants.{Repeat, Change}
-use Rattle.mm_opt.specs.Found.{Found}
-use Rattle.mm_opt.specs.Seen.{cell_in}
+use Rattle.mm_machine.specs.declared.operation.OpFinding.TheVariants.{Repeat, Change}
+use Rattle.mm_opt.specs.BatchFinding.{BatchFinding}
+use Rattle.mm_opt.specs.CellSight.{cell_in}
 use Rattle.mm_opt.specs.Order.{has_lost_power}
-use Rattle.mm_opt.specs.Answers.{opened_cell, found_from, found_in_offer, found_unless, found_in}
-use Rattle.mm_opt.specs.Operating.{opt_asked}
-use Rattle.mm_opt.specs.Asked.{AskedInOpt}
+use Rattle.mm_opt.specs.Answers.{opened_cell, finding_from, finding_in_offer, finding_unless, finding_in}
+use Rattle.mm_opt.specs.Operation.{opt_operation}
+use Rattle.mm_opt.specs.AskPromise.{OptAskPromise}
 use Rattle.mm_opt.proofs.Above.{ReadsOn, ReadsOwnCell, reads_told}
 
 -- counts
-counted_sum : (n m count : ℕ) → counted_by m (counted_by n count) ≡ counted_by (n + m) count
-counted_sum zero m count = ap (λ (k : ℕ). counted_by k count) (sym (zero-add m))
-counted_sum (suc n) m count = counted_sum n m (counted count) ∙ ap (λ (k : ℕ). counted_by k count) (sym (suc-add n m))
+counted_sum : (n m count : ℕ) → count_after_more m (count_after_more n count) ≡ count_after_more (n + m) count
+counted_sum zero m count = ap (λ (k : ℕ). count_after_more k count) (sym (zero-add m))
+counted_sum (suc n) m count = counted_sum n m (next_count count) ∙ ap (λ (k : ℕ). count_after_more k count) (sym (suc-add n m))
 
-pub counted_most : (n count : ℕ) → counted_by n count ≤ count + n
+pub counted_most : (n count : ℕ) → count_after_more n count ≤ count + n
 counted_most zero count = omega arith
-counted_most (suc n) count = let rest = counted_most n (counted count) in omega (arith, rest)
+counted_most (suc n) count = let rest = counted_most n (next_count count) in omega (arith, rest)
 
-opens_sum : (flag : Bool) (n m before middle after : ℕ) → middle ≡ counted_by (openings flag n) before
-    → after ≡ counted_by (openings (is_open_after flag n) m) middle → after ≡ counted_by (openings flag (n + m)) before
+opens_sum : (flag : Bool) (n m before middle after : ℕ) → middle ≡ count_after_more (openings flag n) before
+    → after ≡ count_after_more (openings (is_open_after flag n) m) middle → after ≡ count_after_more (openings flag (n + m)) before
 opens_sum flag n m before middle after e f = grind (arith, e, f)
 
 open_sum : (flag : Bool) (n m : ℕ) → is_open_after (is_open_after flag n) m ≡ is_open_after flag (n + m)
 open_sum flag n m = grind arith
 
-once_by : (flag : Bool) (n before after : ℕ) → after ≡ counted_by (openings flag n) before → (after ≡ before) ⊎ (after ≡ counted before)
+once_by : (flag : Bool) (n before after : ℕ) → after ≡ count_after_more (openings flag n) before → (after ≡ before) ⊎ (after ≡ next_count before)
 once_by flag n before after e = grind (arith, e)
 
 -- where nothing was written
-opens_none : (flag : Bool) (before after : ℕ) → after ≡ before → after ≡ counted_by (openings flag 0) before
+opens_none : (flag : Bool) (before after : ℕ) → after ≡ before → after ≡ count_after_more (openings flag 0) before
 opens_none flag before after e = grind (arith, e)
 
 pub writes_none : (before after : Standing) → after.writes ≡ before.writes → WritesByOpening 0 before after
@@ -80,7 +80,7 @@ leads_answer variant answer n before after l = grind (arith, l)
 -- calls, and those behind them
 pub joined : (variant : Variant) (n m : ℕ) (before middle after : Standing) → LeadsOver variant n before middle
     → WritesFor variant n before middle → WritesFor variant m middle after → WritesFor variant (n + m) before after
-joined Basic n m before middle after l w x = x ∙ ap (counted_by m) w ∙ counted_sum n m before.writes
+joined Basic n m before middle after l w x = x ∙ ap (count_after_more m) w ∙ counted_sum n m before.writes
 joined Opt n m before middle after (inl e) w x = rw (e.0, zero-add m, sym e.1) x
 joined Opt n m before middle after (inr l) w x = record {
   each = omega (arith, w.each, x.each);
@@ -89,7 +89,7 @@ joined Opt n m before middle after (inr l) w x = record {
   opens = opens;
 }
   where
-    opens : (flag : Bool) → TellsFlag before flag → after.writes ≡ counted_by (openings flag (n + m)) before.writes
+    opens : (flag : Bool) → TellsFlag before flag → after.writes ≡ count_after_more (openings flag (n + m)) before.writes
     opens flag t =
         opens_sum flag n m before.writes middle.writes after.writes (w.opens flag t) (x.opens (is_open_after flag n) (l.leaves flag t))
 
@@ -115,21 +115,21 @@ both_writes variant n m before middle after a b = record {
 }
 
 -- Basic
-basic_answered : (again : Bool) (old new : Standing) → StepsAnswered Basic again old new → new.writes ≡ counted_by (new_by again) old.writes
+basic_answered : (again : Bool) (old new : Standing) → StepsAnswered Basic again old new → new.writes ≡ count_after_more (new_requests_by again) old.writes
 basic_answered again old new s = grind (arith, s)
 
 -- the requests that a refused call came to write
 basic_refused : (why : Refusal) (old new : Standing) → StepsRefused Basic why old new
-    → (requests : ℕ) × IsNewAt (fault_of why) requests × (new.writes ≡ counted_by requests old.writes)
+    → (requests : ℕ) × IsNewAt (fault_of why) requests × (new.writes ≡ count_after_more requests old.writes)
 basic_refused Long old new s = absurd s
 basic_refused (Device fault) old new (inl s) = (0, omega arith, s.1)
 basic_refused (Device fault) old new (inr s) = (1, omega arith, s.1)
 basic_refused _ old new s = (0, refl, s.1)
 
-pub basic_writes : (old new : Standing) (result : Result Answer Refusal) → StepsBy Basic (whole_in result) old new
+pub basic_writes : (old new : Standing) (result : Result Answer Refusal) → StepsBy Basic (batch_result_of result) old new
     → CallWrites Basic result old new
 basic_writes old new (Ok answer) s =
-    record { requests = new_by answer.again; new = refl; writes = basic_answered answer.again old new s; leaves = tt }
+    record { requests = new_requests_by answer.again; new = refl; writes = basic_answered answer.again old new s; leaves = tt }
 basic_writes old new (Err why) s =
     let r = basic_refused why old new s in record { requests = r.0; new = r.1; writes = r.2; leaves = tt }
 
@@ -139,21 +139,21 @@ IsChangeBy cell again (Extending value) = (again ≡ false) × (cell.flag ≡ tr
 IsChangeBy cell again (Emptying opening) = (again ≡ false) × (cell.flag ≡ false) × (opening.next ≡ opened_cell cell)
 IsChangeBy cell again _ = ⊥
 
-abbrev IsByCell : Cell → Result Found Refusal → Type 0
+abbrev IsByCell : Cell → Result BatchFinding Refusal → Type 0
 IsByCell cell (Ok (Repeat answer)) = answer.again ≡ true
 IsByCell cell (Ok (Change ready)) = IsChangeBy cell ready.answer.again ready.change
 IsByCell cell found = Unit {0}
 
 from_by_cell : (e : Result Bool Refusal) (cell : Cell) (value : List ℕ) (answer : Bool → BatchAnswer)
-    → ((again : Bool) → (answer again).again ≡ again) → IsByCell cell (found_from e cell value answer)
+    → ((again : Bool) → (answer again).again ≡ again) → IsByCell cell (finding_from e cell value answer)
 from_by_cell e cell value answer says = grind (arith, says)
 
 at_by_cell : (lost : Bool) (meaning : Meaning) (cell : Cell) (register : List ℕ) (taken : Result Snapshot PartsFault) (b : Batch)
-    → IsByCell cell (found_unless lost (found_in_offer meaning cell register taken b))
+    → IsByCell cell (finding_unless lost (finding_in_offer meaning cell register taken b))
 at_by_cell lost meaning cell register taken b = grind (arith, from_by_cell)
 
 -- want of memory may come in its place
-or_all : {A : Type 0} (P : Result A Refusal → Type 0) (x found : Result A Refusal) → P x → P (Err Memory) → OrMemory x found → P found
+or_all : {A : Type 0} (P : Result A Refusal → Type 0) (x found : Result A Refusal) → P x → P (Err Memory) → IsOrMemory x found → P found
 or_all P x found h m o = grind (arith, h, m, o)
 
 -- the cell that was seen
@@ -166,7 +166,7 @@ abbrev cells_after : List Act → Option (List ℕ) → Option (List ℕ)
 cells_after [] cell = cell
 cells_after (act ∷ acts) cell = cells_after acts (cell_after act true cell)
 
-all_made : (acts : List Act) (it answer : BatchAnswer) (old new : Standing) (ended : Ended) → StepsTo acts it old new ended
+all_made : (acts : List Act) (it answer : BatchAnswer) (old new : Standing) (ended : AskResult) → AreStepsToEnd acts it old new ended
     → result_of ended ≡ Ok answer → (answer ≡ it) × (new.cell ≡ cells_after acts old.cell)
 all_made [] it answer old new ended s done =
     let gives : Ok answer ≡ Ok it = sym done ∙ ap result_of s.1 in (cc, ap (λ (x : Standing). x.cell) s.0)
@@ -178,8 +178,8 @@ all_made (act ∷ acts) it answer old new ended (breaks_off fault g e) done =
 
 -- the flag that an answered call leaves in the cell that it saw
 change_left : (seen : Cell) (it : change.Change) (answer : BatchAnswer) (new : Standing) → IsCell seen
-    → IsChangeBy seen answer.again it → new.cell ≡ cells_after (acts_left it) (Some (cell_spelling seen))
-    → TellsFlag new (is_open_after seen.flag (new_by answer.again))
+    → IsChangeBy seen answer.again it → new.cell ≡ cells_after (remaining_acts it) (Some (cell_spelling seen))
+    → TellsFlag new (is_open_after seen.flag (new_requests_by answer.again))
 change_left seen (Extending value) answer new is by e =
     rw (by.0, by.1) (record { cell = seen; is_cell = is; tells = e; shows = by.1 })
 change_left seen (Emptying opening) answer new is by e =
@@ -192,19 +192,19 @@ change_left seen (Emptying opening) answer new is by e =
 change_left seen (Placing opening) answer new is by e = absurd by
 change_left seen (Writing next) answer new is by e = absurd by
 
-flag_left : (seen : Cell) (found : Found) (new : Standing) → IsCell seen → IsByCell seen (Ok found)
+flag_left : (seen : Cell) (found : BatchFinding) (new : Standing) → IsCell seen → IsByCell seen (Ok found)
     → new.cell ≡ cells_after (acts_for found) (Some (cell_spelling seen))
-    → TellsFlag new (is_open_after seen.flag (new_by (answer_in found).again))
+    → TellsFlag new (is_open_after seen.flag (new_requests_by (answer_in found).again))
 flag_left seen (Repeat it) new is by e =
     rw (by, sym (flag_kept seen.flag)) (record { cell = seen; is_cell = is; tells = e; shows = refl })
 flag_left seen (Change ready) new is by e = change_left seen ready.change ready.answer new is by e
 
 -- an answered call: the cell that it saw, where the platform tells that, and what it left
-module _ (meaning : Meaning) (offer : List ℕ) (b : Batch) (old new : Standing) (ended : Ended) (answer : BatchAnswer)
+module _ (meaning : Meaning) (offer : List ℕ) (b : Batch) (old new : Standing) (ended : AskResult) (answer : BatchAnswer)
     (done : result_of ended ≡ Ok answer) where
-  leaves_seen : (read : Result Cell Refusal) (one middle : Standing) (found : Found) → ReadsOwnCell meaning.id old one read
-      → ReadsOn meaning offer b read one middle (Ok found) → EndsTo opt_call (Ok found) middle new ended
-      → LeavesFlag (new_by answer.again) old new
+  leaves_seen : (read : Result Cell Refusal) (one middle : Standing) (found : BatchFinding) → ReadsOwnCell meaning.id old one read
+      → ReadsOn meaning offer b read one middle (Ok found) → EndsByFinding opt_call (Ok found) middle new ended
+      → LeavesFlag (new_requests_by answer.again) old new
   leaves_seen (Err why) one middle found r on ends = let e : Ok found ≡ Err why = on.1 in absurd (cc)
   leaves_seen (Ok seen) one middle found r on ends =
       let f = r.finds refl in
@@ -212,7 +212,7 @@ module _ (meaning : Meaning) (offer : List ℕ) (b : Batch) (old new : Standing)
       let told : (bytes : List ℕ) → old.cell ≡ Some bytes → bytes ≡ cell_spelling seen = λ bytes e. sym (f.told bytes e) ∙ s.1 in
       let g = on.finds refl in
       let by : IsByCell seen (Ok found) =
-      or_all (λ (x : Result Found Refusal). IsByCell seen x) (found_in meaning seen g.register g.said.taken b) (Ok found)
+      or_all (λ (x : Result BatchFinding Refusal). IsByCell seen x) (finding_in meaning seen g.register g.said.taken b) (Ok found)
       (at_by_cell (has_lost_power seen g.register) meaning seen g.register g.said.taken b) tt g.said.found_is in
       let made = all_made (acts_for found) (answer_in found) answer middle new ended ends done in
       record {
@@ -226,8 +226,8 @@ module _ (meaning : Meaning) (offer : List ℕ) (b : Batch) (old new : Standing)
             ∙ on.goes.cell ∙ r.goes.cell ∙ t.tells ∙ ap (λ (c : Cell). Some (cell_spelling c)) same)));
       }
 
-  ends_flag : (found : Result Found Refusal) (middle : Standing) → CallReads (opt_asked meaning offer b) old middle found
-      → EndsTo opt_call found middle new ended → LeavesFlag (new_by answer.again) old new
+  ends_flag : (found : Result BatchFinding Refusal) (middle : Standing) → CallReads (opt_operation meaning offer b) old middle found
+      → EndsByFinding opt_call found middle new ended → LeavesFlag (new_requests_by answer.again) old new
   ends_flag (Err why) middle r e =
       let failed : Ok answer ≡ Err why = sym done ∙ ap result_of e.1 ∙ refused_result why in absurd (cc)
   ends_flag (Ok found) middle r e =
@@ -235,18 +235,18 @@ module _ (meaning : Meaning) (offer : List ℕ) (b : Batch) (old new : Standing)
 
 -- a new request
 writes_new : (old new : Standing) → WritesAtMostOnce old new
-    → ((flag : Bool) → TellsFlag old flag → new.writes ≡ counted_by (openings flag 1) old.writes) → WritesByOpening 1 old new
+    → ((flag : Bool) → TellsFlag old flag → new.writes ≡ count_after_more (openings flag 1) old.writes) → WritesByOpening 1 old new
 writes_new old new once opens = record {
   each = elim once [ inl same ↦ omega (arith, same) | inr more ↦ omega (arith, more) ];
   once = λ bytes t. once;
   opens = opens;
 }
 
-opens_from : (flag : Bool) (old new : Standing) → StepsFrom flag false old new → new.writes ≡ counted_by (openings flag 1) old.writes
+opens_from : (flag : Bool) (old new : Standing) → StepsFrom flag false old new → new.writes ≡ count_after_more (openings flag 1) old.writes
 opens_from flag old new s = grind (arith, s)
 
 opt_answered : (again : Bool) (old new : Standing) → StepsAnswered Opt again old new → WritesAtMostOnce old new
-    → ((flag : Bool) → TellsFlag old flag → StepsFrom flag again old new) → WritesByOpening (new_by again) old new
+    → ((flag : Bool) → TellsFlag old flag → StepsFrom flag again old new) → WritesByOpening (new_requests_by again) old new
 opt_answered true old new s once from = writes_none old new s.1
 opt_answered false old new s once from = writes_new old new once (λ flag t. opens_from flag old new (from flag t))
 
@@ -254,8 +254,8 @@ opt_answered false old new s once from = writes_new old new once (λ flag t. ope
 none_new : (broken : Option StepFault) → IsNewAt broken 0
 none_new broken = grind arith
 
-opens_one : (flag : Bool) (before after : ℕ) → (flag ≡ true → after ≡ before) → after ≡ counted before
-    → after ≡ counted_by (openings flag 1) before
+opens_one : (flag : Bool) (before after : ℕ) → (flag ≡ true → after ≡ before) → after ≡ next_count before
+    → after ≡ count_after_more (openings flag 1) before
 opens_one flag before after same e = grind (arith, same, e)
 
 opt_quiet : (why : Refusal) (old new : Standing) → new.writes ≡ old.writes → CallWrites Opt (Err why) old new
@@ -263,7 +263,7 @@ opt_quiet why old new same =
     record { requests = 0; new = none_new (fault_of why); writes = writes_none old new same; leaves = tt }
 
 module _ (meaning : Meaning) (old new : Standing) (offer : List ℕ) (b : Batch) where
-  opt_refused : (why : Refusal) (broken : Option StepFault) → fault_of why ≡ broken → AskedInOpt meaning old new offer b (Err why)
+  opt_refused : (why : Refusal) (broken : Option StepFault) → fault_of why ≡ broken → OptAskPromise meaning old new offer b (Err why)
       → CallWrites Opt (Err why) old new
   opt_refused why None has a = opt_quiet why old new (a.untouched has).writes
   opt_refused why (Some fault) has a = elim a.writes.once [
@@ -277,14 +277,14 @@ module _ (meaning : Meaning) (old new : Standing) (offer : List ℕ) (b : Batch)
     }
   ]
 
-  pub opt_writes : (result : Result Answer Refusal) → is_long b ≡ false → AskedInOpt meaning old new offer b (whole_in result)
+  pub opt_writes : (result : Result Answer Refusal) → is_long b ≡ false → OptAskPromise meaning old new offer b (batch_result_of result)
       → CallWrites Opt result old new
   opt_writes (Err why) short a = opt_refused why (fault_of why) refl a
   opt_writes (Ok answer) short a =
       let c = a.calls.asks short in record {
-        requests = new_by answer.again;
+        requests = new_requests_by answer.again;
         new = refl;
         writes = opt_answered answer.again old new (a.steps short) a.writes.once
             (λ flag t. rw (sym t.shows) (a.writes.answers t.cell t.is_cell t.tells));
-        leaves = ends_flag meaning offer b old new c.ended (whole answer) (sym c.gives) c.asks.found c.asks.middle c.asks.reads c.asks.ends;
+        leaves = ends_flag meaning offer b old new c.ended (batch_answer_of answer) (sym c.gives) c.asks.found c.asks.middle c.asks.reads c.asks.ends;
       }

@@ -1,10 +1,10 @@
 -- What each exit of a recovery, and of one more request, is told as: whose fault it is, and how often the cell was to be written.
 use Rattle.mm_recovery.proofs.Below.{ℕ, ◌≡◌, ◌≢◌, ◌≤◌, Bool, List, Option, None, Some, Result, Ok, Err, refl, sym, ap, ◌∙◌}
-use Rattle.mm_recovery.proofs.Below.{arith, Variant, Standing, Meaning, Answer, Refusal, Long, Blames, fault_of}
-use Rattle.mm_recovery.proofs.Below.{StoreFault, CountsFailures, StoreStanding, Pending, HostFault, Resumed, store_fault_as, refusal_fault}
-use Rattle.mm_recovery.proofs.Below.{AfterRecord, AsksNext, AfterTwo, started, kept_as, AfterAsk, AfterOffer, AfterFinding, Resumes}
-use Rattle.mm_recovery.proofs.Below.{IsCall, CallWrites, WritesFor, new_by, IsNewOf, RequestWrites, new_first}
-use Rattle.mm_recovery.specs.Blame.{Blamed, IsNamed}
+use Rattle.mm_recovery.proofs.Below.{arith, Variant, Standing, Meaning, Answer, Refusal, Long, CountsHandedFault, fault_of}
+use Rattle.mm_recovery.proofs.Below.{StoreFault, CountsFailures, StoreStanding, PendingRecord, HostFault, Resumed, store_fault_as, refusal_fault}
+use Rattle.mm_recovery.proofs.Below.{GoesAfterRecord, AsksNext, GoesAfterTwo, result_of_start, result_of_keep, GoesAfterAsk, GoesAfterOffer, GoesAfterFinding, HostResumes}
+use Rattle.mm_recovery.proofs.Below.{IsCall, CallWrites, WritesFor, new_requests_by, IsNewOf, RequestWrites, new_requests_at}
+use Rattle.mm_recovery.specs.Blame.{BlamesHostFault, IsNamed}
 use Rattle.mm_recovery.proofs.CellWriting.{AnsweredWrites, LeadsOver, leads_answer, leads_rest, rests}
 use Rattle.mm_model.specs.declared.refusal.Refusal.TheVariants as refusal
 use Rattle.mm_recovery.specs.declared.fault.HostFault.TheVariants as host
@@ -17,7 +17,7 @@ by_refusal P memory other why = other why (λ e. cc)
 
 -- whose fault it is, and that a refusal is named
 pub record Told (result : Result Resumed HostFault) (before after : Standing) (old new : StoreStanding) : Type 0 where
-  pub blamed : Blamed result before after old new
+  pub blamed : BlamesHostFault result before after old new
   pub named : IsNamed result
 
 -- what a recovery or a line came to, with its new requests
@@ -30,12 +30,12 @@ pub record CameWrites (variant : Variant) (came : Result Resumed HostFault) (bef
   pub open counts use {requests, new as is_new, writes}
   pub leads : LeadsBy variant came counts.requests before after
 
-pub new_most : (again : Bool) (n : ℕ) → n ≡ new_by again → n ≤ 1
+pub new_most : (again : Bool) (n : ℕ) → n ≡ new_requests_by again → n ≤ 1
 new_most again n e = grind (arith, e)
 
 -- a finding counts as its last read
-two_counted : (two : Result (List ℕ) StoreFault) (old middle new : StoreStanding) (result : Result (Option Pending) StoreFault)
-    → CountsFailures old.faults middle.faults two → AfterTwo two middle new result → CountsFailures old.faults new.faults result
+two_counted : (two : Result (List ℕ) StoreFault) (old middle new : StoreStanding) (result : Result (Option PendingRecord) StoreFault)
+    → CountsFailures old.faults middle.faults two → GoesAfterTwo two middle new result → CountsFailures old.faults new.faults result
 two_counted two old middle new result c g = grind (arith, c, g)
 
 module _ (variant : Variant) (meaning : Meaning) (before after : Standing) where
@@ -43,7 +43,7 @@ module _ (variant : Variant) (meaning : Meaning) (before after : Standing) where
     told : Told result before after old new
     came : CameWrites variant result before after
 
-  exit_of : {old new : StoreStanding} {result : Result Resumed HostFault} → Blamed result before after old new → IsNamed result
+  exit_of : {old new : StoreStanding} {result : Result Resumed HostFault} → BlamesHostFault result before after old new → IsNamed result
       → (requests : ℕ) → IsNewOf result requests → WritesFor variant requests before after → LeadsBy variant result requests before after
       → Exit old new result
   exit_of blamed named requests is_new writes leads = record {
@@ -64,19 +64,19 @@ module _ (variant : Variant) (meaning : Meaning) (before after : Standing) where
   failed_exit T why old middle new result c g = grind (arith, stored_exit, rests, c, g)
 
   started_exit : (zero : Result (List ℕ) StoreFault) (old new : StoreStanding) → after ≡ before → CountsFailures old.faults new.faults zero
-      → Exit old new (started zero)
+      → Exit old new (result_of_start zero)
   started_exit (Ok first) old new s c =
       exit_of (ap (λ (x : Standing). x.faults) s, c) (record { remembered = λ e. absurd (cc); short = λ e. absurd (cc) }) 0 refl
       (rests variant before after s) (leads_rest variant before after s)
   started_exit (Err why) old new s c = failed_exit (List ℕ) why old new new (Err (store_fault_as why)) c (s, refl, refl)
 
   -- a call, and the answer's snapshot
-  refused_exit : (why : Refusal) (old new : StoreStanding) → Blames (fault_of why) before.faults after.faults → why ≢ Long
+  refused_exit : (why : Refusal) (old new : StoreStanding) → CountsHandedFault (fault_of why) before.faults after.faults → why ≢ Long
       → CallWrites variant (Err why) before after → new.faults ≡ old.faults → Exit old new (Err (refusal_fault why))
   refused_exit why old new b short c s = grind (arith, b, short, c, s)
 
   kept_exit : (answer : Answer) (written : Result Unit StoreFault) (old new : StoreStanding) → after.faults ≡ before.faults
-      → CallWrites variant (Ok answer) before after → CountsFailures old.faults new.faults written → Exit old new (kept_as answer written)
+      → CallWrites variant (Ok answer) before after → CountsFailures old.faults new.faults written → Exit old new (result_of_keep answer written)
   kept_exit answer (Ok it) old new s c k =
       exit_of (s, k) (record { remembered = λ e. absurd (cc); short = λ e. absurd (cc) }) c.requests c.new c.writes
       (leads_answer variant answer c.requests before after c.leaves)
@@ -84,7 +84,7 @@ module _ (variant : Variant) (meaning : Meaning) (before after : Standing) where
       stored_exit Unit why old new c.requests (new_most answer.again c.requests c.new) c.writes s k
 
   asked_exit : (offer request : List ℕ) (asked : Result Answer Refusal) (first old new : StoreStanding) (result : Result Resumed HostFault)
-      → old.faults ≡ first.faults → IsCall variant meaning before after offer request asked → AfterAsk asked old new result
+      → old.faults ≡ first.faults → IsCall variant meaning before after offer request asked → GoesAfterAsk asked old new result
       → Exit first new result
   asked_exit offer request (Err why) first old new result s a g =
       rw g.1 (refused_exit why first new a.faults (λ (e : why ≡ Long). a.short (ap (λ (w : Refusal). Err w) e)) a.counts
@@ -93,38 +93,38 @@ module _ (variant : Variant) (meaning : Meaning) (before after : Standing) where
       rw g.gives (kept_exit answer g.written first new a.faults a.counts (rw (sym s) g.writes.counted))
 
   -- what waited
-  offered_exit : (offer : Result (List ℕ) StoreFault) (old middle new : StoreStanding) (p : Pending) (result : Result Resumed HostFault)
-      → CountsFailures old.faults middle.faults offer → AfterOffer variant meaning before after offer middle new p result
+  offered_exit : (offer : Result (List ℕ) StoreFault) (old middle new : StoreStanding) (p : PendingRecord) (result : Result Resumed HostFault)
+      → CountsFailures old.faults middle.faults offer → GoesAfterOffer variant meaning before after offer middle new p result
       → Exit old new result
   offered_exit (Err why) old middle new p result c g = failed_exit (List ℕ) why old middle new result c g
   offered_exit (Ok offer) old middle new p result c g = asked_exit offer p.request g.asked old middle new result c g.asks g.goes
 
-  found_exit : (waiting : Result (Option Pending) StoreFault) (old middle new : StoreStanding) (result : Result Resumed HostFault)
-      → CountsFailures old.faults middle.faults waiting → AfterFinding variant meaning before after waiting middle new result
+  found_exit : (waiting : Result (Option PendingRecord) StoreFault) (old middle new : StoreStanding) (result : Result Resumed HostFault)
+      → CountsFailures old.faults middle.faults waiting → GoesAfterFinding variant meaning before after waiting middle new result
       → Exit old new result
-  found_exit (Err why) old middle new result c g = failed_exit (Option Pending) why old middle new result c g
+  found_exit (Err why) old middle new result c g = failed_exit (Option PendingRecord) why old middle new result c g
   found_exit (Ok None) old middle new result c g = rw g.1.gives (started_exit g.1.zero old new g.0 (rw (sym c) g.1.reads.counted))
   found_exit (Ok (Some p)) old middle new result c g =
       offered_exit g.offer old g.middle new p result (rw (sym c) g.reads.counted) g.goes
 
-  resumes_exit : (old new : StoreStanding) (result : Result Resumed HostFault) → Resumes variant meaning before after old new result
+  resumes_exit : (old new : StoreStanding) (result : Result Resumed HostFault) → HostResumes variant meaning before after old new result
       → Exit old new result
   resumes_exit old new result r =
       found_exit r.waiting old r.middle new result
       (two_counted r.finds.two old r.finds.middle r.middle r.waiting r.finds.reads.counted r.finds.goes) r.goes
 
-  pub resumes_told : (old new : StoreStanding) (result : Result Resumed HostFault) → Resumes variant meaning before after old new result
+  pub resumes_told : (old new : StoreStanding) (result : Result Resumed HostFault) → HostResumes variant meaning before after old new result
       → Told result before after old new
   resumes_told old new result r = (resumes_exit old new result r).told
 
-  pub resumes_came : (old new : StoreStanding) (result : Result Resumed HostFault) → Resumes variant meaning before after old new result
+  pub resumes_came : (old new : StoreStanding) (result : Result Resumed HostFault) → HostResumes variant meaning before after old new result
       → CameWrites variant result before after
   resumes_came old new result r = (resumes_exit old new result r).came
 
   -- one more request
   module _ (old new : StoreStanding) (last : Resumed) (request : List ℕ) (came : Result Resumed HostFault) where
     recorded_exit : (recorded : Result Unit StoreFault) (middle : StoreStanding) → CountsFailures old.faults middle.faults recorded
-        → AfterRecord variant meaning before after recorded middle new last request came → Exit old new came
+        → GoesAfterRecord variant meaning before after recorded middle new last request came → Exit old new came
     recorded_exit (Ok it) middle c g = asked_exit _ request g.asked old middle new came c g.asks g.goes
     recorded_exit (Err why) middle c g = failed_exit Unit why old middle new came c g
 
@@ -136,7 +136,7 @@ module _ (variant : Variant) (meaning : Meaning) (before after : Standing) where
 
 -- answered calls
 pub answered_writes : (variant : Variant) (it : Resumed) (before after : Standing) → CameWrites variant (Ok it) before after
-    → AnsweredWrites variant (new_first it) before after
+    → AnsweredWrites variant (new_requests_at it) before after
 answered_writes variant it before after c = record {
   writes = rw (sym c.is_new) c.writes;
   leads = rw (sym c.is_new) c.leads;

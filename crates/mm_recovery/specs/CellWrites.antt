@@ -1,7 +1,7 @@
 -- How often the cell is to be written: by one call, and by calls that are made one after another.
 use Rattle.std.specs.Prelude.{◌≡◌, ◌+◌, ◌≤◌, ℕ, zero, suc, Bool, true, false, List, Option, None, Some, Result, Ok, Err}
 use Rattle.mm_recovery.specs.Below.{Variant, Basic, Opt, IsCell, cell_spelling, Cell, Standing, StepFault, Answer, Refusal, fault_of}
-use Rattle.mm_recovery.specs.Below.{counted_by, WritesAtMostOnce}
+use Rattle.mm_recovery.specs.Below.{count_after_more, WritesAtMostOnce}
 use Rattle.mm_recovery.specs.declared.fault.HostFault.{HostFault}
 use Rattle.mm_recovery.specs.declared.fault.HostFault.TheVariants.{Refused}
 use Rattle.mm_recovery.specs.declared.resuming.Resumed.{Resumed}
@@ -31,17 +31,17 @@ pub record WritesByOpening (requests : ℕ) (before after : Standing) : Type 0 w
   pub each : after.writes ≤ before.writes + requests
   pub once : (bytes : List ℕ) → before.cell ≡ Some bytes → WritesAtMostOnce before after
   pub opens : (flag : Bool) → TellsFlag before flag
-      → after.writes ≡ counted_by (openings flag requests) before.writes
+      → after.writes ≡ count_after_more (openings flag requests) before.writes
 
 -- In Basic it was to be written once for each.
 abbrev pub WritesFor : Variant → ℕ → Standing → Standing → Type 0
-WritesFor Basic requests before after = after.writes ≡ counted_by requests before.writes
+WritesFor Basic requests before after = after.writes ≡ count_after_more requests before.writes
 WritesFor Opt requests before after = WritesByOpening requests before after
 
 -- a repeat is no new request
-abbrev pub new_by : Bool → ℕ
-new_by true = 0
-new_by false = 1
+abbrev pub new_requests_by : Bool → ℕ
+new_requests_by true = 0
+new_requests_by false = 1
 
 -- A refused request is new, and came to the step that writes, only where a device failed.
 abbrev pub IsNewAt : Option StepFault → ℕ → Type 0
@@ -49,7 +49,7 @@ IsNewAt None requests = requests ≡ 0
 IsNewAt (Some fault) requests = requests ≤ 1
 
 abbrev pub IsNewIn : Result Answer Refusal → ℕ → Type 0
-IsNewIn (Ok answer) requests = requests ≡ new_by answer.again
+IsNewIn (Ok answer) requests = requests ≡ new_requests_by answer.again
 IsNewIn (Err why) requests = IsNewAt (fault_of why) requests
 
 -- An answered call of Opt found a cell, and left its flag set where the request was new, as far as
@@ -71,14 +71,14 @@ pub record CallWrites (variant : Variant) (result : Result Answer Refusal)
   pub leaves : LeavesOpen variant result requests before after
 
 -- whether what was answered last is new
-abbrev pub new_first : Resumed → ℕ
-new_first (Start first) = 0
-new_first (Answered answer) = new_by answer.again
+abbrev pub new_requests_at : Resumed → ℕ
+new_requests_at (Start first) = 0
+new_requests_at (Answered answer) = new_requests_by answer.again
 
 -- Among what waited and wasn't answered one request may be new, and come to its writing step: where
 -- memory was wanting, or the store or a device failed.
 abbrev pub IsNewOf : Result Resumed HostFault → ℕ → Type 0
-IsNewOf (Ok it) requests = requests ≡ new_first it
+IsNewOf (Ok it) requests = requests ≡ new_requests_at it
 IsNewOf (Err (Refused why)) requests = IsNewAt (fault_of why) requests
 IsNewOf came requests = requests ≤ 1
 

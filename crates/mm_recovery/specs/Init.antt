@@ -4,11 +4,11 @@ use Rattle.std.specs.Prelude.{◌≡◌, ◌≤◌, ◌<◌, ◌↔◌, ℕ, Boo
 use Rattle.std.specs.Prelude.{Err, IfOk, MatchResult, ◌⊎◌}
 use Rattle.std.specs.Io.KnownBytes.{Consumes, IsAtEnd}
 use Rattle.std.specs.Result.{result_err}
-use Rattle.mm_recovery.specs.Below.{CountsFaults, Failed, Variant, blank_cell, cell_spelling, Standing, ReadCell, WriteCell, Goes, StepFault}
+use Rattle.mm_recovery.specs.Below.{CountsFaults, Failed, Variant, blank_cell, cell_spelling, Standing, ReadCell, WriteCell, StepGoes, StepFault}
 use Rattle.mm_recovery.specs.Below.{Meaning, first_history, Instance, cell_of, issued_bytes, instance_by, WritesSlot, StoreStanding, StoreFault}
 use Rattle.mm_recovery.specs.declared.init_fault.InitFault.{InitFault}
 use Rattle.mm_recovery.specs.declared.init_fault.InitFault.TheVariants.{Memory, Platform, Already, ReadFault, Short}
-use Rattle.mm_recovery.specs.InitFaults.{store_failed_as}
+use Rattle.mm_recovery.specs.InitFaults.{init_fault_as}
 
 -- what a first start works with: what stands on the platform, what the store holds, and of the
 -- source of entropy what is left, where it tells that, and its count of faults
@@ -25,7 +25,7 @@ devices platform store left source_faults =
 
 -- the cell is read, and told to be blank exactly where it is
 pub record LooksAtCell (old new : Standing) (is_blank : Result Bool StepFault) : Type 0 where
-  pub goes : Goes ReadCell old new (result_err is_blank)
+  pub goes : StepGoes ReadCell old new (result_err is_blank)
   pub tells : IfOk is_blank (λ blank. (cell : List ℕ) → old.cell ≡ Some cell
       → IsTrue blank ↔ (cell ≡ blank_cell))
 
@@ -39,9 +39,9 @@ pub record TakesBytes (old new : Option (List ℕ)) (before now : ℕ)
   pub counted : CountsFaults before now taken
 
 -- what was taken into these bytes, by the count
-abbrev pub taken_into : List ℕ → Result ℕ Failed → Result (List ℕ) Failed
-taken_into bytes (Ok count) = Ok (take count bytes)
-taken_into bytes (Err why) = Err why
+abbrev pub taken_bytes : List ℕ → Result ℕ Failed → Result (List ℕ) Failed
+taken_bytes bytes (Ok count) = Ok (take count bytes)
+taken_bytes bytes (Err why) = Err why
 
 -- the instance of a variant whose key is the first 32 bytes taken, and whose barrier the 32 after
 -- them
@@ -50,49 +50,49 @@ instance_from variant meaning secrets =
     instance_by variant meaning (take 32 secrets) (drop 32 secrets)
 
 -- a slot, and the bytes that are put in it
-abbrev pub Put : Type 0
-Put = ℕ × List ℕ
+abbrev pub SlotPut : Type 0
+SlotPut = ℕ × List ℕ
 
 -- what a new store gets, in this order: three slots are empty, and the first one holds the snapshot
-abbrev pub first_puts : List ℕ → List Put
+abbrev pub first_puts : List ℕ → List SlotPut
 first_puts snapshot = (1, []) ∷ (2, []) ∷ (3, []) ∷ (0, snapshot) ∷ []
 
 -- Each is written where those before it were, up to the first that fails.
-abbrev pub AfterPut : Result Unit StoreFault → StoreStanding → StoreStanding
+abbrev pub GoesAfterPut : Result Unit StoreFault → StoreStanding → StoreStanding
     → Result Unit StoreFault → Type 0 → Type 0
-AfterPut (Err why) middle new result Rest = (new ≡ middle) × (result ≡ Err why)
-AfterPut (Ok _) middle new result Rest = Rest
+GoesAfterPut (Err why) middle new result Rest = (new ≡ middle) × (result ≡ Err why)
+GoesAfterPut (Ok _) middle new result Rest = Rest
 
-abbrev pub PutsAll : List Put → StoreStanding → StoreStanding → Result Unit StoreFault → Type 0
+abbrev pub PutsAll : List SlotPut → StoreStanding → StoreStanding → Result Unit StoreFault → Type 0
 PutsAll [] old new result = (new ≡ old) × (result ≡ Ok tt)
 PutsAll (put ∷ puts) old new result =
     (middle : StoreStanding) × (written : Result Unit StoreFault)
     × WritesSlot put.0 put.1 old middle written
-    × AfterPut written middle new result (PutsAll puts middle new result)
+    × GoesAfterPut written middle new result (PutsAll puts middle new result)
 
 -- the cell is written
-abbrev pub written_as : Result Unit StepFault → Result Unit InitFault
-written_as (Ok _) = Ok tt
-written_as (Err fault) = Err (Platform fault)
+abbrev pub result_of_write : Result Unit StepFault → Result Unit InitFault
+result_of_write (Ok _) = Ok tt
+result_of_write (Err fault) = Err (Platform fault)
 
 pub record WritesCell (cell : List ℕ) (before after : Standing)
     (result : Result Unit InitFault) : Type 0 where
   pub written : Result Unit StepFault
-  pub goes : Goes (WriteCell cell) before after (result_err written)
-  pub gives : result ≡ written_as written
+  pub goes : StepGoes (WriteCell cell) before after (result_err written)
+  pub gives : result ≡ result_of_write written
 
 -- The store is set up, and then the cell is written.
-abbrev pub AfterPuts : List ℕ → Standing → Standing → Result Unit StoreFault → Result Unit InitFault
+abbrev pub GoesAfterAllPuts : List ℕ → Standing → Standing → Result Unit StoreFault → Result Unit InitFault
     → Type 0
-AfterPuts cell before after (Err why) result =
-    (after ≡ before) × (result ≡ Err (store_failed_as why))
-AfterPuts cell before after (Ok _) result = WritesCell cell before after result
+GoesAfterAllPuts cell before after (Err why) result =
+    (after ≡ before) × (result ≡ Err (init_fault_as why))
+GoesAfterAllPuts cell before after (Ok _) result = WritesCell cell before after result
 
 pub record SetsUpBoth (cell snapshot : List ℕ) (before after : Standing) (old new : StoreStanding)
     (result : Result Unit InitFault) : Type 0 where
   pub stored : Result Unit StoreFault
   pub puts : PutsAll (first_puts snapshot) old new stored
-  pub goes : AfterPuts cell before after stored result
+  pub goes : GoesAfterAllPuts cell before after stored result
 
 -- The first cell and snapshot of the instance are made, unless memory is wanting.
 abbrev pub SetsUp : Instance → Standing → Standing → StoreStanding → StoreStanding
@@ -103,11 +103,11 @@ SetsUp i before after old new result =
     after old new result
 
 -- With 64 bytes the platform and the store are set up for their instance.
-abbrev pub AfterTaking : Variant → Meaning → Devices → Devices → Result (List ℕ) Failed
+abbrev pub GoesAfterTaking : Variant → Meaning → Devices → Devices → Result (List ℕ) Failed
     → Result Unit InitFault → Type 0
-AfterTaking variant meaning middle after (Err _) result =
+GoesAfterTaking variant meaning middle after (Err _) result =
     (after ≡ middle) × (result ≡ Err ReadFault)
-AfterTaking variant meaning middle after (Ok secrets) result =
+GoesAfterTaking variant meaning middle after (Ok secrets) result =
     ((length secrets < 64) × (after ≡ middle) × (result ≡ Err (Short (length secrets))))
     ⊎ ((length secrets ≡ 64)
     × (after ≡ record middle { platform = after.platform; store = after.store })
@@ -120,23 +120,23 @@ pub record TakesAndSetsUp (variant : Variant) (meaning : Meaning) (before after 
   pub source_faults : ℕ
   pub taken : Result (List ℕ) Failed
   pub takes : TakesBytes before.left left before.source_faults source_faults taken
-  pub goes : AfterTaking variant meaning
+  pub goes : GoesAfterTaking variant meaning
       (record before { left = left; source_faults = source_faults }) after taken result
 
 -- The call: on a blank cell it takes the bytes.
-abbrev pub AfterLooking : Variant → Meaning → Devices → Devices → Result Bool StepFault
+abbrev pub GoesAfterLooking : Variant → Meaning → Devices → Devices → Result Bool StepFault
     → Result Unit InitFault → Type 0
-AfterLooking variant meaning middle after (Err fault) result =
+GoesAfterLooking variant meaning middle after (Err fault) result =
     (after ≡ middle) × (result ≡ Err (Platform fault))
-AfterLooking variant meaning middle after (Ok false) result =
+GoesAfterLooking variant meaning middle after (Ok false) result =
     (after ≡ middle) × (result ≡ Err Already)
-AfterLooking variant meaning middle after (Ok true) result =
+GoesAfterLooking variant meaning middle after (Ok true) result =
     TakesAndSetsUp variant meaning middle after result
 
-pub record Inits (variant : Variant) (meaning : Meaning) (before after : Devices)
+pub record InitGoes (variant : Variant) (meaning : Meaning) (before after : Devices)
     (result : Result Unit InitFault) : Type 0 where
   pub platform : Standing
   pub is_blank : Result Bool StepFault
   pub looks : LooksAtCell before.platform platform is_blank
-  pub goes : AfterLooking variant meaning (record before { platform = platform }) after is_blank
+  pub goes : GoesAfterLooking variant meaning (record before { platform = platform }) after is_blank
       result

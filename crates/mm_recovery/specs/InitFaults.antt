@@ -4,6 +4,6 @@ use Rattle.mm_store.specs.declared.fault.StoreFault.TheVariants as fault
 use Rattle.mm_recovery.specs.declared.init_fault.InitFault.{InitFault}
 use Rattle.mm_recovery.specs.declared.init_fault.InitFault.TheVariants.{Memory, Store}
 
-abbrev pub store_failed_as : StoreFault → InitFault
-store_failed_as fault.Memory = Memory
-store_failed_as fault.Failed = Store
+abbrev pub init_fault_as : StoreFault → InitFault
+init_fault_as fault.Memory = Memory
+init_fault_as fault.Failed = Store

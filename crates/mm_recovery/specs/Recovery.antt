@@ -1,24 +1,24 @@
 -- What a host program that goes on after a stop comes to, by lists alone.
 use Rattle.std.specs.Prelude.{◌≡◌, ◌≢◌, ℕ, true, List, [], ◌∷◌, ◌++◌, Option, None, Some, Result, Ok, Err, nat_eq, ◌⊎◌, ◌%◌, IfOk, IsSome}
 use Rattle.std.specs.List.{Contains}
-use Rattle.mm_recovery.specs.Below.{Variant, Basic, Opt, Item, Standing, Batch, One, Meaning, History, total_of, Instance, basic, opt, Life}
-use Rattle.mm_recovery.specs.Below.{Spoiled, LostLife, life_of, Within, IsClear, AreNoGuards, StandsFor, Answer, Refusal, Device, Lost, Stale}
-use Rattle.mm_recovery.specs.Below.{answer_on, IsWithin, right_messages, right_content, whole, AreShown, IsIdle, fault_of, standing_items}
-use Rattle.mm_recovery.specs.Below.{StoreStanding, Pending, Slots, slot_read}
+use Rattle.mm_recovery.specs.Below.{Variant, Basic, Opt, Item, Standing, Batch, One, Meaning, History, total_of, Instance, basic_instance, opt_instance, Life}
+use Rattle.mm_recovery.specs.Below.{Spoiled, LostLife, life_of, AreMessagesIn, IsClear, AreNoGuards, StandsFor, Answer, Refusal, Device, Lost, Stale}
+use Rattle.mm_recovery.specs.Below.{answer_on, IsWithin, right_messages, right_content, batch_answer_of, AreShown, IsIdle, fault_of, standing_items}
+use Rattle.mm_recovery.specs.Below.{StoreStanding, PendingRecord, Slots, slot_front}
 use Rattle.mm_recovery.specs.declared.fault.HostFault.{HostFault}
 use Rattle.mm_recovery.specs.declared.fault.HostFault.TheVariants.{Refused}
 use Rattle.mm_recovery.specs.declared.resuming.Resumed.{Resumed}
 use Rattle.mm_recovery.specs.declared.resuming.Resumed.TheVariants.{Start, Answered}
-use Rattle.mm_recovery.specs.Fitting.{offer_slot, FitsHistory, Holds}
-use Rattle.mm_recovery.specs.Last.{position_at, snapshot_at}
+use Rattle.mm_recovery.specs.SlotFit.{offer_slot, FitsHistory, IsSnapshotAt}
+use Rattle.mm_recovery.specs.LastAnswer.{position_at, snapshot_at}
 
 -- What is asked for the request that waits: it is among those asked, and the messages of its offer
 -- are in the list.
-abbrev pub IsAskedFor : List (List ℕ) → List Batch → Instance → Slots → Option Pending → Type 0
+abbrev pub IsAskedFor : List (List ℕ) → List Batch → Instance → Slots → Option PendingRecord → Type 0
 IsAskedFor all asked i slots None = Unit {0}
 IsAskedFor all asked i slots (Some p) =
     Contains asked (One p.request)
-    × Within (right_messages i (One p.request) (right_content i (slot_read slots (offer_slot p))))
+    × AreMessagesIn (right_messages i (One p.request) (right_content i (slot_front slots (offer_slot p))))
     all
 
 -- What is asked for a recovery: the store is honest, and tells its slots; the platform stands for
@@ -38,24 +38,24 @@ pub record CanRecover (all others : List (List ℕ)) (asked : List Batch) (i : I
 
 -- Nothing waits, so nothing is asked; or what waits is asked with no segment open, and isn't taken
 -- for new.
-abbrev pub AsksIdly : Instance → History → Slots → Option Pending → Type 0
+abbrev pub AsksIdly : Instance → History → Slots → Option PendingRecord → Type 0
 AsksIdly i y slots None = Unit {0}
-AsksIdly i y slots (Some p) = IsIdle i y (slot_read slots (offer_slot p)) (One p.request)
+AsksIdly i y slots (Some p) = IsIdle i y (slot_front slots (offer_slot p)) (One p.request)
 
 -- the batches of the history, and the request that waits, where that is new
-abbrev pub IsGrown : History → Option Pending → History → Type 0
+abbrev pub IsGrown : History → Option PendingRecord → History → Type 0
 IsGrown y None after = after.batches ≡ y.batches
 IsGrown y (Some p) after =
     (after.batches ≡ y.batches) ⊎ (after.batches ≡ y.batches ++ One p.request ∷ [])
 
 -- The answer is that of one run of the history's batches, of which the request that waits is the
 -- last, at its position; it is a repeat exactly where the position was taken before.
-pub record AnswersAt (i : Instance) (y : History) (waiting : Option Pending) (after : History)
+pub record AnswersAt (i : Instance) (y : History) (waiting : Option PendingRecord) (after : History)
     (answer : Answer) : Type 0 where
-  pub p : Pending
+  pub p : PendingRecord
   pub waits : waiting ≡ Some p
   pub position : p.position ≡ total_of after.batches
-  pub answer_is : whole answer ≡ answer_on i after (One p.request)
+  pub answer_is : batch_answer_of answer ≡ answer_on i after (One p.request)
       (nat_eq p.position (total_of y.batches))
 
 -- From slots that fit, a refusal is a device's fault; or in Opt it tells how the history has ended.
@@ -66,12 +66,12 @@ IsRefusedAs Stale life = life ≡ Spoiled
 IsRefusedAs why _ = ⊥
 
 -- It begins with the first snapshot exactly where nothing waits.
-abbrev pub ComesTo : Instance → History → Slots → Option Pending → History
+abbrev pub ResumeComesTo : Instance → History → Slots → Option PendingRecord → History
     → Result Resumed HostFault → Type 0
-ComesTo i y slots waiting after (Ok (Start first)) = (waiting ≡ None) × (first ≡ slot_read slots 0)
-ComesTo i y slots waiting after (Ok (Answered answer)) = AnswersAt i y waiting after answer
-ComesTo i y slots waiting after (Err (Refused why)) = IsRefusedAs why (life_of i.variant after)
-ComesTo i y slots waiting after result = Unit {0}
+ResumeComesTo i y slots waiting after (Ok (Start first)) = (waiting ≡ None) × (first ≡ slot_front slots 0)
+ResumeComesTo i y slots waiting after (Ok (Answered answer)) = AnswersAt i y waiting after answer
+ResumeComesTo i y slots waiting after (Err (Refused why)) = IsRefusedAs why (life_of i.variant after)
+ResumeComesTo i y slots waiting after result = Unit {0}
 
 -- A request may have been committed where it is answered, and where memory, the store or a device
 -- failed.
@@ -85,7 +85,7 @@ MayHaveCommitted result = Unit {0}
 -- position of the history. No power is lost by it.
 pub record RecoversTo (all others : List (List ℕ)) (asked : List Batch) (i : Instance) (y : History)
     (slots : Slots)
-    (waiting : Option Pending) (standing : Standing) (kept : StoreStanding)
+    (waiting : Option PendingRecord) (standing : Standing) (kept : StoreStanding)
     (result : Result Resumed HostFault) : Type 0 where
   pub after : History
   pub stands : StandsFor i standing after
@@ -98,25 +98,25 @@ pub record RecoversTo (all others : List (List ℕ)) (asked : List Batch) (i : I
   pub same_wait : fits.waiting ≡ waiting
   pub honest : kept.is_honest ≡ true
   pub newest : IfOk result
-      (λ resumed. slot_read slots_after (position_at resumed % 2) ≡ snapshot_at resumed)
-  pub holds : IfOk result (λ resumed. Holds i after (snapshot_at resumed) (position_at resumed))
+      (λ resumed. slot_front slots_after (position_at resumed % 2) ≡ snapshot_at resumed)
+  pub holds : IfOk result (λ resumed. IsSnapshotAt i after (snapshot_at resumed) (position_at resumed))
   pub powered : life_of i.variant y ≢ LostLife → life_of i.variant after ≢ LostLife
-  pub comes : ComesTo i y slots waiting after result
+  pub comes : ResumeComesTo i y slots waiting after result
 
 -- Over a platform of Basic it recovers from every history, under every key; over one of Opt under
 -- every key and barrier, where what others did is known by the items that the register shows at
 -- exit behind those that counted at entry, unless it asks idly.
-abbrev pub Recovers : Variant → Meaning → Standing → Standing → StoreStanding → StoreStanding
+abbrev pub HostRecovers : Variant → Meaning → Standing → Standing → StoreStanding → StoreStanding
     → Result Resumed HostFault → Type 0
-Recovers Basic meaning before after old new result =
+HostRecovers Basic meaning before after old new result =
     (key : List ℕ) (y : History) (slots : Slots) (all others : List (List ℕ)) (asked : List Batch)
-    (can : CanRecover all others asked (basic meaning key) y slots before old) →
-    RecoversTo all others asked (basic meaning key) y slots can.fits.waiting after new result
-Recovers Opt meaning before after old new result =
+    (can : CanRecover all others asked (basic_instance meaning key) y slots before old) →
+    RecoversTo all others asked (basic_instance meaning key) y slots can.fits.waiting after new result
+HostRecovers Opt meaning before after old new result =
     (key barrier : List ℕ) (y : History) (slots : Slots) (all others : List (List ℕ))
     (asked : List Batch) (items more : List Item)
-    (can : CanRecover all others asked (opt meaning key barrier) y slots before old) →
+    (can : CanRecover all others asked (opt_instance meaning key barrier) y slots before old) →
     before.items ≡ Some items → after.items ≡ Some (standing_items y.is_open items ++ more) →
-    ((AsksIdly (opt meaning key barrier) y slots can.fits.waiting → ⊥)
-    → AreShown all others (opt meaning key barrier) y more) →
-    RecoversTo all others asked (opt meaning key barrier) y slots can.fits.waiting after new result
+    ((AsksIdly (opt_instance meaning key barrier) y slots can.fits.waiting → ⊥)
+    → AreShown all others (opt_instance meaning key barrier) y more) →
+    RecoversTo all others asked (opt_instance meaning key barrier) y slots can.fits.waiting after new result

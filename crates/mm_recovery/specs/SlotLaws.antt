@@ -1,15 +1,15 @@
 -- The laws of slots that fit a history.
 use Rattle.std.specs.Prelude.{◌≡◌, ℕ, true, false, List, [], ◌∷◌, Option, None, Some}
 use Rattle.std.specs.List.{Contains}
-use Rattle.mm_recovery.specs.Below.{start_message, Variant, Basic, Opt, Batch, Meaning, History, Move, moved, Instance, IsClear, AreNoGuards}
-use Rattle.mm_recovery.specs.Below.{MayMove, IsSound, IsGenuine, commits, instance_by, Pending, Slots}
-use Rattle.mm_recovery.specs.Fitting.{first_offer, FitsHistory}
+use Rattle.mm_recovery.specs.Below.{start_message, Variant, Basic, Opt, Batch, Meaning, History, Move, history_after, Instance, IsClear, AreNoGuards}
+use Rattle.mm_recovery.specs.Below.{MayMove, IsSound, IsGenuine, has_commit, instance_by, PendingRecord, Slots}
+use Rattle.mm_recovery.specs.SlotFit.{first_offer, FitsHistory}
 use Rattle.mm_recovery.specs.Init.{Devices, instance_from}
-use Rattle.mm_recovery.specs.Begins.{first_on, first_slots, ShowsValues, Begins}
+use Rattle.mm_recovery.specs.FirstStart.{first_history_on, first_slots, ShowsValues, InstanceBegins}
 use Rattle.mm_recovery.specs.Recovery.{CanRecover}
 
 -- the slots fit the history, and this waits
-pub record FitsWith (i : Instance) (slots : Slots) (y : History) (waiting : Option Pending) : Type 0
+pub record FitsWith (i : Instance) (slots : Slots) (y : History) (waiting : Option PendingRecord) : Type 0
   where
     pub fits : FitsHistory i slots y
     pub waits : fits.waiting ≡ waiting
@@ -24,10 +24,10 @@ MayCome Opt i y m = IsSound y × MayMove i y m
 abbrev pub KeepsFitting : Type 0
 KeepsFitting =
     (variant : Variant) (meaning : Meaning) (key barrier : List ℕ) (y : History) (m : Move)
-    (slots : Slots) (waiting : Option Pending) →
+    (slots : Slots) (waiting : Option PendingRecord) →
     (let i = instance_by variant meaning key barrier in
-    MayCome variant i y m → commits (m ∷ []) ≡ false → FitsWith i slots y waiting →
-    FitsWith i slots (moved i y m) waiting)
+    MayCome variant i y m → has_commit (m ∷ []) ≡ false → FitsWith i slots y waiting →
+    FitsWith i slots (history_after i y m) waiting)
 
 -- Slots that fit a history offer first what is genuine for it: it names a position, if it is right.
 abbrev pub FittingAreGenuine : Type 0
@@ -42,7 +42,7 @@ StaysGenuine =
     (variant : Variant) (meaning : Meaning) (key barrier : List ℕ) (y : History) (m : Move)
     (offer : List ℕ) →
     (let i = instance_by variant meaning key barrier in
-    MayCome variant i y m → IsGenuine i y offer → IsGenuine i (moved i y m) offer)
+    MayCome variant i y m → IsGenuine i y offer → IsGenuine i (history_after i y m) offer)
 
 -- From what a first start leaves over an honest store a recovery can go on, and nothing waits.
 pub record CanStart (all others : List (List ℕ)) (asked : List Batch) (i : Instance) (y : History)
@@ -53,10 +53,10 @@ pub record CanStart (all others : List (List ℕ)) (asked : List Batch) (i : Ins
 abbrev pub FirstStartsCanGoOn : Type 0
 FirstStartsCanGoOn =
     (variant : Variant) (meaning : Meaning) (before after : Devices)
-    (begun : Begins variant meaning before after)
+    (begun : InstanceBegins variant meaning before after)
     (cell : List ℕ) (slots : Slots) (values all others : List (List ℕ)) (asked : List Batch) →
     before.platform.cell ≡ Some cell → ShowsValues variant after.platform values →
     before.store.is_honest ≡ true → before.store.slots ≡ Some slots →
     IsClear all → AreNoGuards (instance_from variant meaning begun.secrets).barrier others asked →
     Contains all (start_message variant meaning.id) →
-    CanStart all others asked (instance_from variant meaning begun.secrets) (first_on values) after
+    CanStart all others asked (instance_from variant meaning begun.secrets) (first_history_on values) after

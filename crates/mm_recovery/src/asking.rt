@@ -3,11 +3,11 @@
 ghost use Rattle.std.specs.Prelude.{◌≡◌, false, IfOk, length};
 ghost use Rattle.mm_module.specs.Batch.{One};
 ghost use Rattle.mm_model.specs.Long.{is_long};
-ghost use Rattle.mm_call.specs.AskedIn.{AskedIn};
-ghost use Rattle.mm_ask.specs.Asks.{ask_call};
-ghost use Rattle.mm_recovery.specs.Asking.{IsCall};
+ghost use Rattle.mm_call.specs.AskPromise.{AskPromise};
+ghost use Rattle.mm_ask.specs.WholeAsk.{ask_call};
+ghost use Rattle.mm_recovery.specs.HostCall.{IsCall};
 
-use crate::hosted::Hosted;
+use crate::hosted::HostedModule;
 use mm_ask::Ask;
 use mm_call::KeptKey;
 use mm_model::{Answer, BatchAnswer, Refusal};
@@ -16,7 +16,7 @@ use mm_platform::Platform;
 
 /// Asks for one request, which isn't too long, offering a snapshot.
 pub fn ask<M: Module, P: Platform>(
-    hosted: &Hosted<M>,
+    hosted: &HostedModule<M>,
     platform: &mut P,
     offer: &[u8],
     request: &[u8],
@@ -33,13 +33,13 @@ pub fn ask<M: Module, P: Platform>(
 
 // The call, whose answer has one output.
 fn call_one<M: Module, P: Platform>(
-    hosted: &Hosted<M>,
+    hosted: &HostedModule<M>,
     platform: &mut P,
     offer: &[u8],
     request: &[u8],
 ) -> Result<BatchAnswer, Refusal>
     requires { is_long (One request.now) ≡ false }
-    ensures asked { AskedIn (ask_call hosted.now.variant) (M.meaning hosted.now.«module».now)
+    ensures asked { AskPromise (ask_call hosted.now.variant) (M.meaning hosted.now.«module».now)
         (P.standing platform.old) (P.standing platform.new) offer.now (One request.now) result }
     ensures one { IfOk result (λ answer. length answer.outputs ≡ 1) }
 {

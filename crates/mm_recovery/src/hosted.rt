@@ -5,7 +5,7 @@ use std::alloc::Global;
 
 /// A module in a variant, and the allocator of what is done for it.
 #[derive(Drop)]
-pub struct Hosted<'a, M> {
+pub struct HostedModule<'a, M> {
     pub alloc: Global,
     pub variant: Variant,
     pub module: &'a M,

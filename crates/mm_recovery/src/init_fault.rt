@@ -1,7 +1,7 @@
 //! How a first start fails.
 
 ghost use Rattle.std.specs.Prelude.{◌≡◌};
-ghost use Rattle.mm_recovery.specs.InitFaults.{store_failed_as};
+ghost use Rattle.mm_recovery.specs.InitFaults.{init_fault_as};
 ghost use Rattle.mm_recovery.specs.declared.init_fault.InitFault.TheVariants as init_fault;
 
 use mm_base::{Failed, Memory};
@@ -57,7 +57,7 @@ impl From<Memory> for InitFault {
 }
 
 impl From<StoreFault> for InitFault {
-    ghost from_gives = { λ fault init. init ≡ store_failed_as fault };
+    ghost from_gives = { λ fault init. init ≡ init_fault_as fault };
 
     fn from(fault: StoreFault) -> InitFault {
         match fault {

@@ -16,7 +16,7 @@ mod slot_laws;
 mod waiting;
 
 pub use fault::HostFault;
-pub use hosted::Hosted;
+pub use hosted::HostedModule;
 pub use init_fault::InitFault;
 pub use next::ask_next;
 pub use resuming::{Resumed, resume};

@@ -4,14 +4,14 @@ ghost use Rattle.std.specs.Prelude.{◌≡◌, ◌+◌, ◌≤◌, ◌%◌, IfOk
 ghost use Rattle.mm_base.specs.Lines.{MayGrow};
 ghost use Rattle.mm_base.specs.Limits.{last_position, longest_request};
 ghost use Rattle.mm_store.specs.Calls.{WritesSlot};
-ghost use Rattle.mm_store.specs.Pending.{pending_spelling};
-ghost use Rattle.mm_recovery.specs.Blame.{Blamed, IsNamed};
+ghost use Rattle.mm_store.specs.PendingRecord.{pending_spelling};
+ghost use Rattle.mm_recovery.specs.Blame.{BlamesHostFault, IsNamed};
 ghost use Rattle.mm_recovery.specs.CellWrites.{RequestWrites};
-ghost use Rattle.mm_recovery.specs.Last.{IsSized};
-ghost use Rattle.mm_recovery.specs.Next.{AsksNext};
+ghost use Rattle.mm_recovery.specs.LastAnswer.{IsSized};
+ghost use Rattle.mm_recovery.specs.NextRequest.{AsksNext};
 
 use crate::fault::HostFault;
-use crate::hosted::Hosted;
+use crate::hosted::HostedModule;
 use crate::resuming::{Resumed, ask_and_keep};
 use mm_module::Module;
 use mm_platform::Platform;
@@ -24,7 +24,7 @@ use std::alloc::Global;
 /// position p + 1 is written to slot 2 + (p + 1) mod 2; the request is asked with the last snapshot; and the answer's
 /// snapshot is written to the slot of its position's parity. After a stop in between `resume` asks for it again.
 pub fn ask_next<M: Module, P: Platform, T: Store>(
-    hosted: &Hosted<M>,
+    hosted: &HostedModule<M>,
     platform: &mut P,
     store: &mut T,
     last: &Resumed,
@@ -35,7 +35,7 @@ pub fn ask_next<M: Module, P: Platform, T: Store>(
     ensures asks { AsksNext hosted.now.variant (M.meaning hosted.now.«module».now)
         (P.standing platform.old) (P.standing platform.new) (T.kept store.old) (T.kept store.new)
         last.now request.now result }
-    ensures faults { Blamed result (P.standing platform.old) (P.standing platform.new)
+    ensures faults { BlamesHostFault result (P.standing platform.old) (P.standing platform.new)
         (T.kept store.old) (T.kept store.new) }
     ensures named { IsNamed result }
     ensures sized { IfOk result IsSized }
@@ -48,7 +48,7 @@ pub fn ask_next<M: Module, P: Platform, T: Store>(
 // Writes the record of a request, asks for it, and keeps the answer's snapshot.
 #[tactic(auto, using(crate::proofs::Askable::askable))]
 fn record_and_ask<M: Module, P: Platform, T: Store>(
-    hosted: &Hosted<M>,
+    hosted: &HostedModule<M>,
     platform: &mut P,
     store: &mut T,
     last: &Resumed,

@@ -4,17 +4,17 @@ ghost use Rattle.std.specs.Prelude.{◌≡◌, ◌≤◌, IfOk, false, length};
 ghost use Rattle.mm_module.specs.Batch.{One};
 ghost use Rattle.mm_model.specs.Long.{is_long};
 ghost use Rattle.mm_store.specs.declared.store.TheConstants.{LONGEST_SLOT};
-ghost use Rattle.mm_recovery.specs.Waiting.{IsAskable};
-ghost use Rattle.mm_recovery.specs.Blame.{Blamed, IsNamed};
-ghost use Rattle.mm_recovery.specs.Recovery.{Recovers};
-ghost use Rattle.mm_recovery.specs.Resumes.{Starts, RepeatsPending, AsksAndKeeps, Keeps, Resumes};
-ghost use Rattle.mm_recovery.specs.Last.{IsSized};
+ghost use Rattle.mm_recovery.specs.WaitingRequest.{IsAskable};
+ghost use Rattle.mm_recovery.specs.Blame.{BlamesHostFault, IsNamed};
+ghost use Rattle.mm_recovery.specs.Recovery.{HostRecovers};
+ghost use Rattle.mm_recovery.specs.Resumption.{StartsFromSlot, RepeatsPending, AsksAndKeeps, KeepsAnswer, HostResumes};
+ghost use Rattle.mm_recovery.specs.LastAnswer.{IsSized};
 ghost use Rattle.mm_recovery.specs.CellWrites.{RequestWrites};
 
 use crate::asking::ask;
 use crate::fault::HostFault;
-use crate::hosted::Hosted;
-use crate::waiting::{Waiting, find_waiting};
+use crate::hosted::HostedModule;
+use crate::waiting::{WaitingRequest, find_waiting};
 use mm_base::Bytes;
 use mm_digest::Variant;
 use mm_model::Answer;
@@ -33,7 +33,7 @@ pub enum Resumed {
 }
 
 impl Resumed {
-    ghost use Rattle.mm_recovery.specs.Last.{position_at, snapshot_at};
+    ghost use Rattle.mm_recovery.specs.LastAnswer.{position_at, snapshot_at};
 
     /// The position of the last answer, and 0 at the start.
     pub fn position(&self) -> u64
@@ -66,18 +66,18 @@ pub fn resume<M: Module, P: Platform, T: Store>(
     platform: &mut P,
     store: &mut T,
 ) -> Result<Resumed, HostFault>
-    ensures resumes { Resumes variant (M.meaning «module».now) (P.standing platform.old)
+    ensures resumes { HostResumes variant (M.meaning «module».now) (P.standing platform.old)
         (P.standing platform.new) (T.kept store.old) (T.kept store.new) result }
-    ensures faults { Blamed result (P.standing platform.old) (P.standing platform.new)
+    ensures faults { BlamesHostFault result (P.standing platform.old) (P.standing platform.new)
         (T.kept store.old) (T.kept store.new) }
     ensures named { IsNamed result }
     ensures sized { IfOk result IsSized }
-    ensures recovers { Recovers variant (M.meaning «module».now) (P.standing platform.old)
+    ensures recovers { HostRecovers variant (M.meaning «module».now) (P.standing platform.old)
         (P.standing platform.new) (T.kept store.old) (T.kept store.new) result }
     ensures writes { RequestWrites variant (P.standing platform.old) (P.standing platform.new)
         result }
 {
-    let hosted = Hosted {
+    let hosted = HostedModule {
         alloc,
         variant,
         module,
@@ -87,11 +87,11 @@ pub fn resume<M: Module, P: Platform, T: Store>(
 
 // Finds what waits, and goes on by that.
 fn resume_by_steps<M: Module, P: Platform, T: Store>(
-    hosted: &Hosted<M>,
+    hosted: &HostedModule<M>,
     platform: &mut P,
     store: &mut T,
 ) -> Result<Resumed, HostFault>
-    ensures { Resumes hosted.now.variant (M.meaning hosted.now.«module».now)
+    ensures { HostResumes hosted.now.variant (M.meaning hosted.now.«module».now)
         (P.standing platform.old) (P.standing platform.new) (T.kept store.old) (T.kept store.new)
         result }
 {
@@ -104,7 +104,7 @@ fn resume_by_steps<M: Module, P: Platform, T: Store>(
 
 // Reads the first snapshot.
 fn start<T: Store>(alloc: Global, store: &mut T) -> Result<Resumed, HostFault>
-    ensures { Starts (T.kept store.old) (T.kept store.new) result }
+    ensures { StartsFromSlot (T.kept store.old) (T.kept store.new) result }
 {
     match store.read(alloc, 0) {
         Err(fault) => Err(HostFault::from(fault)),
@@ -114,10 +114,10 @@ fn start<T: Store>(alloc: Global, store: &mut T) -> Result<Resumed, HostFault>
 
 // Asks for the request that waits, with the snapshot before its position.
 fn repeat<M: Module, P: Platform, T: Store>(
-    hosted: &Hosted<M>,
+    hosted: &HostedModule<M>,
     platform: &mut P,
     store: &mut T,
-    waiting: &Waiting,
+    waiting: &WaitingRequest,
 ) -> Result<Resumed, HostFault>
     requires { IsAskable waiting.now }
     ensures { RepeatsPending hosted.now.variant (M.meaning hosted.now.«module».now)
@@ -139,7 +139,7 @@ fn repeat<M: Module, P: Platform, T: Store>(
 
 /// Asks for a request, and keeps the answer's snapshot.
 pub fn ask_and_keep<M: Module, P: Platform, T: Store>(
-    hosted: &Hosted<M>,
+    hosted: &HostedModule<M>,
     platform: &mut P,
     store: &mut T,
     offer: &[u8],
@@ -159,7 +159,7 @@ pub fn ask_and_keep<M: Module, P: Platform, T: Store>(
 // Writes the answer's snapshot to the slot of its position's parity.
 fn keep<T: Store>(store: &mut T, answer: Answer) -> Result<Resumed, HostFault>
     requires { length answer.snapshot ≤ LONGEST_SLOT }
-    ensures { Keeps answer (T.kept store.old) (T.kept store.new) result }
+    ensures { KeepsAnswer answer (T.kept store.old) (T.kept store.new) result }
 {
     match store.write((answer.position % 2) as u8, answer.snapshot.as_slice()) {
         Err(fault) => Err(HostFault::from(fault)),

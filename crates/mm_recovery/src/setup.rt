@@ -7,10 +7,10 @@ ghost use Rattle.mm_seal.specs.Cell.{cell_spelling};
 ghost use Rattle.mm_model.specs.History.{first_history};
 ghost use Rattle.mm_model.specs.Standing.{cell_of, issued_bytes};
 ghost use Rattle.mm_store.specs.declared.store.TheConstants.{LONGEST_SLOT};
-ghost use Rattle.mm_recovery.specs.Begins.{Leaves, TellsUse, BlamesDevice};
-ghost use Rattle.mm_recovery.specs.Init.{devices, LooksAtCell, TakesBytes, taken_into, instance_from, PutsAll, first_puts, SetsUp, SetsUpBoth, TakesAndSetsUp, Inits};
+ghost use Rattle.mm_recovery.specs.FirstStart.{InitLeaves, TellsUse, BlamesDevice};
+ghost use Rattle.mm_recovery.specs.Init.{devices, LooksAtCell, TakesBytes, taken_bytes, instance_from, PutsAll, first_puts, SetsUp, SetsUpBoth, TakesAndSetsUp, InitGoes};
 
-use crate::hosted::Hosted;
+use crate::hosted::HostedModule;
 use crate::init_fault::InitFault;
 use mm_base::{CELL_LENGTH, Failed, Memory, Source};
 use mm_call::Provisioned;
@@ -33,12 +33,12 @@ pub fn init<M: Module, P: Platform, T: Store, E: Source>(
     store: &mut T,
     entropy: &mut E,
 ) -> Result<(), InitFault>
-    ensures steps { Inits variant (M.meaning «module».now)
+    ensures steps { InitGoes variant (M.meaning «module».now)
         (devices (P.standing platform.old) (T.kept store.old) (E.left entropy.old)
         (E.faults entropy.old))
         (devices (P.standing platform.new) (T.kept store.new) (E.left entropy.new)
         (E.faults entropy.new)) result }
-    ensures leaves { Leaves variant (M.meaning «module».now)
+    ensures leaves { InitLeaves variant (M.meaning «module».now)
         (devices (P.standing platform.old) (T.kept store.old) (E.left entropy.old)
         (E.faults entropy.old))
         (devices (P.standing platform.new) (T.kept store.new) (E.left entropy.new)
@@ -50,7 +50,7 @@ pub fn init<M: Module, P: Platform, T: Store, E: Source>(
         (devices (P.standing platform.new) (T.kept store.new) (E.left entropy.new)
         (E.faults entropy.new)) result }
 {
-    let hosted = Hosted {
+    let hosted = HostedModule {
         alloc,
         variant,
         module,
@@ -60,12 +60,12 @@ pub fn init<M: Module, P: Platform, T: Store, E: Source>(
 
 // Reads the cell, and goes on where it is blank.
 fn init_by_steps<M: Module, P: Platform, T: Store, E: Source>(
-    hosted: &Hosted<M>,
+    hosted: &HostedModule<M>,
     platform: &mut P,
     store: &mut T,
     entropy: &mut E,
 ) -> Result<(), InitFault>
-    ensures { Inits hosted.now.variant (M.meaning hosted.now.«module».now)
+    ensures { InitGoes hosted.now.variant (M.meaning hosted.now.«module».now)
         (devices (P.standing platform.old) (T.kept store.old) (E.left entropy.old)
         (E.faults entropy.old))
         (devices (P.standing platform.new) (T.kept store.new) (E.left entropy.new)
@@ -90,7 +90,7 @@ fn is_blank<P: Platform>(platform: &mut P) -> Result<bool, StepFault>
 
 // Takes the bytes, and sets both up.
 fn take_and_set_up<M: Module, P: Platform, T: Store, E: Source>(
-    hosted: &Hosted<M>,
+    hosted: &HostedModule<M>,
     platform: &mut P,
     store: &mut T,
     entropy: &mut E,
@@ -113,7 +113,7 @@ fn take_and_set_up<M: Module, P: Platform, T: Store, E: Source>(
 // Takes bytes until there are 64 or the input ends, and answers how many.
 fn take_bytes<E: Source>(entropy: &mut E, into: &mut [u8; 64]) -> Result<usize, Failed>
     ensures takes { TakesBytes (E.left entropy.old) (E.left entropy.new) (E.faults entropy.old)
-        (E.faults entropy.new) (taken_into into.new result) }
+        (E.faults entropy.new) (taken_bytes into.new result) }
     ensures most { IfOk result (λ got. got ≤ 64) }
 {
     let mut got = 0;
@@ -142,7 +142,7 @@ fn take_behind<E: Source>(entropy: &mut E, into: &mut [u8; 64], at: usize) -> Re
 
 // Sets both up for the instance of these bytes.
 fn set_up<M: Module, P: Platform, T: Store>(
-    hosted: &Hosted<M>,
+    hosted: &HostedModule<M>,
     platform: &mut P,
     store: &mut T,
     secrets: &[u8; 64],
@@ -159,7 +159,7 @@ fn set_up<M: Module, P: Platform, T: Store>(
 }
 
 // The first cell and snapshot of the instance of these bytes.
-fn provision<M: Module>(hosted: &Hosted<M>, secrets: &[u8; 64]) -> Result<Provisioned, Memory>
+fn provision<M: Module>(hosted: &HostedModule<M>, secrets: &[u8; 64]) -> Result<Provisioned, Memory>
     ensures cell { IfOk result (λ made. made.cell
         ≡ cell_spelling
         (cell_of (instance_from hosted.now.variant (M.meaning hosted.now.«module».now)

@@ -2,10 +2,10 @@
 
 ghost use Rattle.std.specs.Prelude.{◌≡◌, ◌+◌, ◌^◌, IfOk, IfSome};
 ghost use Rattle.std.specs.Option.{option_map};
-ghost use Rattle.mm_store.specs.Kept.{StoreStanding};
+ghost use Rattle.mm_store.specs.StoreStanding.{StoreStanding};
 ghost use Rattle.mm_store.specs.Records.{pending_of};
-ghost use Rattle.mm_recovery.specs.Waiting.{IsAskable, TakesWaiting, later};
-ghost use Rattle.mm_recovery.specs.Resumes.{FindsWaiting};
+ghost use Rattle.mm_recovery.specs.WaitingRequest.{IsAskable, TakesWaiting, later_record};
+ghost use Rattle.mm_recovery.specs.Resumption.{FindsWaiting};
 
 use mm_base::Bytes;
 use mm_store::{PendingRequest, Store, StoreFault, read_pending};
@@ -15,21 +15,21 @@ use std::marker::Model;
 /// A request of at most 4,096 bytes without LF that waits to be asked, and the position from 1 to 2^48 that it is to
 /// take. Contracts see its record.
 #[derive(Drop)]
-pub struct Waiting {
+pub struct WaitingRequest {
     pub position: u64,
     pub request: Bytes,
 }
 
-impl Model for Waiting {
-    ghost use Rattle.mm_store.specs.Pending.{Pending};
+impl Model for WaitingRequest {
+    ghost use Rattle.mm_store.specs.PendingRecord.{PendingRecord};
 
-    ghost Value = { Pending };
+    ghost Value = { PendingRecord };
 
     ghost view = { λ waiting. record { position = waiting.position; request = waiting.request } };
 }
 
 /// Reads slots 2 and 3, and takes the request of the later of their valid records.
-pub fn find_waiting<T: Store>(alloc: Global, store: &mut T) -> Result<Option<Waiting>, StoreFault>
+pub fn find_waiting<T: Store>(alloc: Global, store: &mut T) -> Result<Option<WaitingRequest>, StoreFault>
     ensures finds { FindsWaiting (T.kept store.old) (T.kept store.new) result }
     ensures askable { IfOk result (λ waiting. IfSome waiting IsAskable) }
 {
@@ -39,7 +39,7 @@ pub fn find_waiting<T: Store>(alloc: Global, store: &mut T) -> Result<Option<Wai
 }
 
 // The request of the later valid record in these bytes of slots 2 and 3.
-fn take_later(alloc: Global, two: &[u8], three: &[u8]) -> Result<Option<Waiting>, StoreFault>
+fn take_later(alloc: Global, two: &[u8], three: &[u8]) -> Result<Option<WaitingRequest>, StoreFault>
     ensures takes { TakesWaiting two.now three.now result }
     ensures askable { IfOk result (λ waiting. IfSome waiting IsAskable) }
 {
@@ -47,7 +47,7 @@ fn take_later(alloc: Global, two: &[u8], three: &[u8]) -> Result<Option<Waiting>
         return Ok(None);
     };
     let request = Bytes::copy_of(alloc, pending.request)?;
-    Ok(Some(Waiting {
+    Ok(Some(WaitingRequest {
         position: pending.position,
         request,
     }))
@@ -59,7 +59,7 @@ fn later<'a>(
     three: Option<PendingRequest<'a>>,
 ) -> Option<PendingRequest<'a>>
     ensures { option_map pending_of result
-        ≡ later (option_map pending_of two.entry) (option_map pending_of three.entry) }
+        ≡ later_record (option_map pending_of two.entry) (option_map pending_of three.entry) }
 {
     match (two, three) {
         (None, three) => three,

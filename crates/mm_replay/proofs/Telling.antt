@@ -1,6 +1,6 @@
 -- A replay shows of events what is told of a whole replay.
 use Rattle.mm_replay.proofs.Below.{◌≡◌, ◌∙◌, ℕ, suc, List, [], ◌∷◌, ◌++◌, length, Option, None, Some, refl, ap, subst, sym, Header, Digests}
-use Rattle.mm_replay.proofs.Below.{Event, end_line, Reply, promises-kept, Followed, followed, replies_by_digests, world_of, by_digests, sum_by}
+use Rattle.mm_replay.proofs.Below.{Event, end_line, Reply, promises-kept, RunOutcome, outcome_of_events, outcome_by_digests, world_of, digest_level, sum_by}
 use Rattle.mm_replay.proofs.Below.{meaning_by, option_map}
 use Rattle.std.specs.Prelude.{take}
 use Rattle.std.specs.List.{flat_map}
@@ -12,12 +12,12 @@ use Rattle.mm_model.specs.Instance.{Instance}
 use Rattle.mm_module.specs.Meaning.{Meaning}
 use Rattle.mm_modules.specs.Modules.{meaning_of}
 use Rattle.mm_modules.specs.declared.any.AnyModule.{AnyModule}
-use Rattle.mm_play.specs.Headed.{Headed, Begins}
-use Rattle.mm_play.specs.Shown.{behind, begun_by, replies, Shows}
+use Rattle.mm_play.specs.HeadingStep.{HeadingStep, Begins}
+use Rattle.mm_play.specs.StageShows.{state_behind_events, heading_step_by, replies, StageShows}
 use Rattle.mm_schedule.specs.Headers.{header_at}
-use Rattle.mm_schedule.specs.Machine.{Runs}
+use Rattle.mm_schedule.specs.Machine.{IsEventRun}
 use Rattle.mm_run.specs.Folds.{event_outcome, first_digests, first_issued}
-use Rattle.mm_run.specs.Held.{world_key, world_barrier}
+use Rattle.mm_run.specs.WorldState.{world_key, world_barrier}
 use Rattle.mm_run.specs.Laws.{SchedulesGoOn}
 use Rattle.mm_run.specs.OneRun.{IsOneRun, FrontsAreOneRun}
 use Rattle.mm_call.specs.Levels.{Level}
@@ -25,9 +25,9 @@ use Rattle.mm_evidence.proofs.Above.{none_is_one, runs_until}
 use Rattle.mm_evidence.specs.Laws.{IsDecidedRun}
 use Rattle.mm_call.specs.Standing.{instance_by}
 use Rattle.mm_replay.specs.Text.{text_of_replies}
-use Rattle.mm_replay.specs.Headline.{IsByDigests, IsPromisedRun, replayed, Shown, shown_by_digests, shown_of}
+use Rattle.mm_replay.specs.Headline.{IsByDigests, IsPromisedRun, replay_player, RunResult, run_result_by_digests, run_result_of}
 use Rattle.mm_replay.specs.Laws.{OneRunUntilEvidence, PremisesGiveOneRun, ReplaysGoOn}
-use Rattle.mm_replay.specs.Schedule.{begun, outcome_of, replay_heads, replay_stage, Replayed, replaying}
+use Rattle.mm_replay.specs.Schedule.{first_replay_state, outcome_of, replay_heads, replay_stage, ReplayState, replay_steps}
 use Rattle.mm_replay.specs.declared.heading.HeaderLine.{HeaderLine}
 
 -- each first part of the events is one run, in either variant
@@ -37,7 +37,7 @@ FrontsRun = (variant : Variant) (meaning : Meaning) (key barrier : List ℕ) (ev
 
 -- a reply comes to each event
 one_each : {S : Type 0} (i : Instance) (level : Level S) (events : List Event) (s : S) (issued : List (List ℕ))
-    → length (followed i level s issued events).replies ≡ length events
+    → length (outcome_of_events i level s issued events).replies ≡ length events
 one_each i level [] s issued = refl
 one_each i level (event ∷ events) s issued =
     let o = event_outcome i level s issued event in ap suc (one_each i level events o.state o.issued)
@@ -49,13 +49,13 @@ first_replies front all it later is size =
     sym (ap (λ n. take n all) (sym size) ∙ ap (λ (rs : List Reply). take (length it) rs) is ∙ take-append_seam it later)
 
 -- the module's promises hold of one run, of an instance under any key and barrier
-pub promised_run : (variant : Variant) («module» : AnyModule) (key barrier : List ℕ) (events : List Event) (shown : Shown)
+pub promised_run : (variant : Variant) («module» : AnyModule) (key barrier : List ℕ) (events : List Event) (shown : RunResult)
     → (let i = instance_by variant (meaning_of «module») key barrier in IsOneRun i events shown.replies shown.committed shown.issued
     → IsPromisedRun i «module» events shown)
 promised_run variant «module» key barrier events shown one = record {
   run = one;
   promised = promises-kept «module» events shown.replies one.requests
-      (subst (λ m. Runs m [] events shown.replies one.requests) (meaning_by variant (meaning_of «module») key barrier) one.runs);
+      (subst (λ m. IsEventRun m [] events shown.replies one.requests) (meaning_by variant (meaning_of «module») key barrier) one.runs);
 }
 
 -- each run meets the premises or gives evidence
@@ -65,24 +65,24 @@ RunsAreDecided = (variant : Variant) (meaning : Meaning) (key barrier : List ℕ
 
 -- the laws of whole runs give the headline
 pub by_digests_so : FrontsRun → RunsAreDecided → (header : Header) (events : List Event)
-    → IsByDigests header events (shown_by_digests header)
+    → IsByDigests header events (run_result_by_digests header)
 by_digests_so law decided header events = record {
   exact = λ front. refl;
   headline = record {
-    each = one_each (world_of header) (by_digests (world_of header)) events (first_digests (world_of header)) (first_issued (world_of header));
+    each = one_each (world_of header) (digest_level (world_of header)) events (first_digests (world_of header)) (first_issued (world_of header));
     first = λ front later is.
         let i = world_of header in
-        let it : Followed Digests = replies_by_digests i front in
+        let it : RunOutcome Digests = outcome_by_digests i front in
         let own = law header.variant (meaning_of header.«module») world_key world_barrier events front later is in
-        first_replies front (replies_by_digests i events).replies it.replies
-        (followed i (by_digests i) it.state it.issued later).replies (ap (λ (f : Followed Digests). f.replies) own.0)
-        (one_each i (by_digests i) front (first_digests i) (first_issued i));
-    none = promised_run header.variant header.«module» world_key world_barrier [] (shown_by_digests header [])
+        first_replies front (outcome_by_digests i events).replies it.replies
+        (outcome_of_events i (digest_level i) it.state it.issued later).replies (ap (λ (f : RunOutcome Digests). f.replies) own.0)
+        (one_each i (digest_level i) front (first_digests i) (first_issued i));
+    none = promised_run header.variant header.«module» world_key world_barrier [] (run_result_by_digests header [])
         (none_is_one (world_of header) known);
     unless_evidence = λ front later is. elim (known front).decided [
       | inl p ↦
           let own = law header.variant (meaning_of header.«module») world_key world_barrier events front later is in
-          inl (promised_run header.variant header.«module» world_key world_barrier front (shown_by_digests header front) (own.1 p.0 p.1))
+          inl (promised_run header.variant header.«module» world_key world_barrier front (run_result_by_digests header front) (own.1 p.0 p.1))
       | inr evidence ↦ inr evidence
     ];
   };
@@ -109,40 +109,40 @@ pub replays_go_on : SchedulesGoOn → ReplaysGoOn
 replays_go_on law header events shown exact front rest is =
     let i = world_of header in
     let go = law i front rest first_history (first_digests i) (first_issued i) in
-    (exact.exact front, exact.exact events ∙ ap (λ (es : List Event). shown_by_digests header es) is ∙ ap shown_of go.1)
+    (exact.exact front, exact.exact events ∙ ap (λ (es : List Event). run_result_by_digests header es) is ∙ ap run_result_of go.1)
 
 -- what stands behind events, and what was written
-abbrev followed_in : Replayed → List Event → Followed Digests
-followed_in r events = followed (world_of r.header) (by_digests (world_of r.header)) r.digests r.issued events
+abbrev followed_in : ReplayState → List Event → RunOutcome Digests
+followed_in r events = outcome_of_events (world_of r.header) (digest_level (world_of r.header)) r.digests r.issued events
 
-state_behind : (events : List Event) (r : Replayed) → (behind replaying r events).digests ≡ (followed_in r events).state
+state_behind : (events : List Event) (r : ReplayState) → (state_behind_events replay_steps r events).digests ≡ (followed_in r events).state
 state_behind [] r = refl
-state_behind (event ∷ events) r = state_behind events (replaying.after r event)
+state_behind (event ∷ events) r = state_behind events (replay_steps.after r event)
 
-issued_behind : (events : List Event) (r : Replayed) → (behind replaying r events).issued ≡ (followed_in r events).issued
+issued_behind : (events : List Event) (r : ReplayState) → (state_behind_events replay_steps r events).issued ≡ (followed_in r events).issued
 issued_behind [] r = refl
-issued_behind (event ∷ events) r = issued_behind events (replaying.after r event)
+issued_behind (event ∷ events) r = issued_behind events (replay_steps.after r event)
 
-texts_behind : (events : List Event) (r : Replayed) → flat_map text_of_replies (followed_in r events).replies ≡ replies replaying r events
+texts_behind : (events : List Event) (r : ReplayState) → flat_map text_of_replies (followed_in r events).replies ≡ replies replay_steps r events
 texts_behind [] r = refl
 texts_behind (event ∷ events) r =
-    ap (λ (text : List ℕ). text_of_replies (outcome_of r event).reply ++ text) (texts_behind events (replaying.after r event))
+    ap (λ (text : List ℕ). text_of_replies (outcome_of r event).reply ++ text) (texts_behind events (replay_steps.after r event))
 
-leads_so : (found : Option Header) → (let x : Option (Headed HeaderLine Replayed) = option_map (λ header. Begins (begun header)) found in
-    x ≡ begun_by begun (option_map (λ header. Begins header) found))
+leads_so : (found : Option Header) → (let x : Option (HeadingStep HeaderLine ReplayState) = option_map (λ header. Begins (first_replay_state header)) found in
+    x ≡ heading_step_by first_replay_state (option_map (λ header. Begins header) found))
 leads_so None = refl
 leads_so (Some header) = refl
 
-pub shows : Shows replayed replay_heads replay_stage replaying begun shown_by_digests
+pub shows : StageShows replay_player replay_heads replay_stage replay_steps first_replay_state run_result_by_digests
 shows = record {
   takes = record { answers = λ r line. refl; reads = λ r event. refl; counts = λ r event. refl };
   leads = λ at line. leads_so (header_at line);
   reads = λ header. refl;
   first = λ header. refl;
-  text = λ header events. texts_behind events (begun header);
+  text = λ header events. texts_behind events (first_replay_state header);
   last = λ header events.
-      ap (λ (d : Digests). end_line d.count (length (followed_in (begun header) events).issued)) (sym (state_behind events (begun header)))
-      ∙ ap (λ (xs : List (List ℕ)). end_line (behind replaying (begun header) events).digests.count (length xs))
-      (sym (issued_behind events (begun header)));
-  kept = λ header events. ap (λ (xs : List (List ℕ)). sum_by length xs) (sym (issued_behind events (begun header)));
+      ap (λ (d : Digests). end_line d.count (length (followed_in (first_replay_state header) events).issued)) (sym (state_behind events (first_replay_state header)))
+      ∙ ap (λ (xs : List (List ℕ)). end_line (state_behind_events replay_steps (first_replay_state header) events).digests.count (length xs))
+      (sym (issued_behind events (first_replay_state header)));
+  kept = λ header events. ap (λ (xs : List (List ℕ)). sum_by length xs) (sym (issued_behind events (first_replay_state header)));
 }

@@ -9,29 +9,29 @@ use Rattle.mm_schedule.specs.declared.header.Header.{Header}
 use Rattle.mm_schedule.specs.Events.{Event}
 use Rattle.mm_schedule.specs.Grammar.{event_at}
 use Rattle.mm_schedule.specs.Headers.{header_at}
-use Rattle.mm_schedule.specs.Promises.{Promises}
+use Rattle.mm_schedule.specs.Promises.{ModulePromises}
 use Rattle.mm_schedule.specs.Replies.{end_line}
 use Rattle.mm_schedule.specs.declared.reply.Reply.{Reply}
-use Rattle.mm_run.specs.Folds.{Followed, replies_by_digests}
-use Rattle.mm_run.specs.Held.{world_of}
+use Rattle.mm_run.specs.Folds.{RunOutcome, outcome_by_digests}
+use Rattle.mm_run.specs.WorldState.{world_of}
 use Rattle.mm_run.specs.OneRun.{IsOneRun}
 use Rattle.mm_evidence.specs.Evidence.{HasEvidence}
-use Rattle.mm_play.specs.Headed.{Begins}
+use Rattle.mm_play.specs.HeadingStep.{Begins}
 use Rattle.mm_play.specs.Headline.{EventPlayer}
 use Rattle.mm_replay.specs.Text.{text_of_replies}
 use Rattle.mm_replay.specs.declared.heading.HeaderLine.{HeaderLine}
 
 -- what is shown of events: the replies to them, how many requests were committed, and the snapshots
 -- issued
-pub record Shown : Type 0 where
+pub record RunResult : Type 0 where
   pub replies : List Reply
   pub committed : ℕ
   pub issued : List (List ℕ)
 
 -- A schedule is a header line and events. The last line counts the requests and the snapshots, and
 -- the snapshots are kept.
-abbrev pub replayed : EventPlayer HeaderLine Header Event Shown
-replayed = record {
+abbrev pub replay_player : EventPlayer HeaderLine Header Event RunResult
+replay_player = record {
   start = record {};
   head = λ at line. option_map (λ header. Begins header) (header_at line);
   event_in = λ header. event_at;
@@ -42,16 +42,16 @@ replayed = record {
 
 -- One run of an instance of the module; and what the module promises of a run holds of the requests
 -- and of the replies.
-pub record IsPromisedRun (i : Instance) («module» : AnyModule) (events : List Event) (shown : Shown)
+pub record IsPromisedRun (i : Instance) («module» : AnyModule) (events : List Event) (shown : RunResult)
     : Type 0 where
   pub run : IsOneRun i events shown.replies shown.committed shown.issued
-  pub promised : Promises «module» run.requests shown.replies
+  pub promised : ModulePromises «module» run.requests shown.replies
 
 -- The headline. Each event has one reply, and the first events have the first ones. No event at all
 -- is one run; and each first part of the events is one, or one holds evidence in hand: two
 -- different messages of the run with one digest, a message with digest zero, a value of others that
 -- is the guard of a batch, or an offer that is forged.
-pub record AreOneRun (header : Header) (events : List Event) (shown : List Event → Shown) : Type 0
+pub record AreOneRun (header : Header) (events : List Event) (shown : List Event → RunResult) : Type 0
   where
     pub each : length (shown events).replies ≡ length events
     pub first : (front later : List Event) → events ≡ front ++ later
@@ -62,14 +62,14 @@ pub record AreOneRun (header : Header) (events : List Event) (shown : List Event
         ⊎ HasEvidence (world_of header) front
 
 -- what is shown of events by digests, as the code computes them
-abbrev pub shown_of : Followed Digests → Shown
-shown_of it = record { replies = it.replies; committed = it.state.count; issued = it.issued }
+abbrev pub run_result_of : RunOutcome Digests → RunResult
+run_result_of it = record { replies = it.replies; committed = it.state.count; issued = it.issued }
 
-abbrev pub shown_by_digests : Header → List Event → Shown
-shown_by_digests header events = shown_of (replies_by_digests (world_of header) events)
+abbrev pub run_result_by_digests : Header → List Event → RunResult
+run_result_by_digests header events = run_result_of (outcome_by_digests (world_of header) events)
 
 -- With no premise what is shown is that by digests.
-pub record IsByDigests (header : Header) (events : List Event) (shown : List Event → Shown)
+pub record IsByDigests (header : Header) (events : List Event) (shown : List Event → RunResult)
     : Type 0 where
-  pub exact : (front : List Event) → shown front ≡ shown_by_digests header front
+  pub exact : (front : List Event) → shown front ≡ run_result_by_digests header front
   pub headline : AreOneRun header events shown

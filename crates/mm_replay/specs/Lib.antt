@@ -1,8 +1,8 @@
 pub mod Text
 pub mod Schedule
 pub mod ScheduleLaws
-pub mod Replaying
+pub mod ReplayEvents
 pub mod Headline
 pub mod Laws
 pub mod Progress
-pub mod Replays
+pub mod WholeReplay

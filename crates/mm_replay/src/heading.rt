@@ -3,8 +3,8 @@
 ghost use Rattle.mm_replay.specs.Schedule.{replay_heads};
 ghost use Rattle.mm_replay.specs.ScheduleLaws.{leads_nowhere, leaves_none};
 
-use crate::replaying::Replaying;
-use mm_play::{Heading, Refused, ReplyFault};
+use crate::replaying::ScheduleReplay;
+use mm_play::{Heading, LineRefusal, ReplyFault};
 use mm_schedule::read_header;
 use std::alloc::Global;
 
@@ -12,15 +12,15 @@ use std::alloc::Global;
 #[derive(Drop)]
 pub struct HeaderLine {}
 
-impl Heading<Replaying> for HeaderLine {
+impl Heading<ScheduleReplay> for HeaderLine {
     ghost heads = { replay_heads };
 
-    fn take_line(&mut self, alloc: Global, line: &[u8]) -> Result<Option<Replaying>, ReplyFault> {
+    fn take_line(&mut self, alloc: Global, line: &[u8]) -> Result<Option<ScheduleReplay>, ReplyFault> {
         let header = match read_header(line) {
             Some(header) => header,
-            None => return Err(ReplyFault::Refused(Refused::Bad)),
+            None => return Err(ReplyFault::Refused(LineRefusal::Bad)),
         };
-        match Replaying::new(alloc, &header) {
+        match ScheduleReplay::new(alloc, &header) {
             Ok(replaying) => Ok(Some(replaying)),
             Err(_) => Err(ReplyFault::Memory),
         }

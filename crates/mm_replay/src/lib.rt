@@ -11,8 +11,8 @@ mod schedules;
 
 pub use heading::HeaderLine;
 pub use laws::{replays_are_one_run, replays_go_on};
-pub use progress::Progress;
+pub use progress::ReplayProgress;
 pub use put::put_reply;
-pub use replaying::Replaying;
+pub use replaying::ScheduleReplay;
 pub use report::Report;
 pub use schedules::replay;

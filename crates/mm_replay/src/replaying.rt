@@ -6,7 +6,7 @@ ghost use Rattle.mm_base.specs.Limits.{most_events};
 use crate::put::put_reply;
 use crate::report::Report;
 use mm_base::{Bytes, Memory};
-use mm_play::{Refused, ReplyFault, Stage};
+use mm_play::{LineRefusal, ReplyFault, PlayStage};
 use mm_schedule::{Event, Header, Meddles, Reply, event_in, put_end};
 use mm_world::{EventView, World, line_view, owned_view};
 use std::alloc::Global;
@@ -17,36 +17,36 @@ const USUAL_REPLY: usize = 48;
 
 /// A replay among its events: a world, and how many events it followed.
 #[derive(Drop)]
-pub struct Replaying {
+pub struct ScheduleReplay {
     world: World,
     events: u32,
 }
 
-impl Model for Replaying {
-    ghost use Rattle.mm_replay.specs.Replaying.{KeepsWorld, replayed_in};
-    ghost use Rattle.mm_replay.specs.Schedule.{Replayed};
+impl Model for ScheduleReplay {
+    ghost use Rattle.mm_replay.specs.ReplayEvents.{KeepsWorld, replay_state_in};
+    ghost use Rattle.mm_replay.specs.Schedule.{ReplayState};
 
-    ghost Value = { Replayed };
+    ghost Value = { ReplayState };
 
-    ghost view = { λ p. replayed_in p.world p.events };
+    ghost view = { λ p. replay_state_in p.world p.events };
 
     ghost invariant = { λ p. KeepsWorld p.world p.events };
 }
 
-impl Replaying {
-    ghost use Rattle.mm_replay.specs.Schedule.{after, begun, outcome_of, replaying};
+impl ScheduleReplay {
+    ghost use Rattle.mm_replay.specs.Schedule.{replay_state_after, first_replay_state, outcome_of, replay_steps};
     ghost use Rattle.mm_schedule.specs.Events.{event_of};
     ghost use Rattle.mm_schedule.specs.Replies.{IsPrintable, end_line};
-    ghost use Rattle.mm_play.specs.Stage.{PlaysEvent, answer_by};
-    ghost use Rattle.mm_replay.specs.Replaying.{WantsEvent};
-    ghost use Rattle.mm_world.specs.Views.{event_seen};
+    ghost use Rattle.mm_play.specs.Stage.{StageAnswersEvent, answer_by};
+    ghost use Rattle.mm_replay.specs.ReplayEvents.{ReplayLacksMemory};
+    ghost use Rattle.mm_world.specs.Views.{event_of_view};
 
     /// A replay at its first event.
-    pub fn new(alloc: Global, header: &Header) -> Result<Replaying, Memory>
-        ensures { IfOk result (λ it. it ≡ begun header.now) }
+    pub fn new(alloc: Global, header: &Header) -> Result<ScheduleReplay, Memory>
+        ensures { IfOk result (λ it. it ≡ first_replay_state header.now) }
     {
         let world = World::new(alloc, header)?;
-        Ok(Replaying { world, events: 0 })
+        Ok(ScheduleReplay { world, events: 0 })
     }
 
     /// Plays an event in the world. After want of memory it isn't counted, and all is as the world leaves it then.
@@ -56,8 +56,8 @@ impl Replaying {
         ensures reply { IfOk result
             (λ reply. reply ≡ (outcome_of self.old (event_of event.now)).reply) }
         ensures printable { IfOk result IsPrintable }
-        ensures after { OnOk result (self.new ≡ after self.old (event_of event.now)) }
-        ensures wants { OnErr result (WantsEvent self.old (event_of event.now) self.new) }
+        ensures after { OnOk result (self.new ≡ replay_state_after self.old (event_of event.now)) }
+        ensures wants { OnErr result (ReplayLacksMemory self.old (event_of event.now) self.new) }
     {
         self.follow(owned_view(event))
     }
@@ -67,10 +67,10 @@ impl Replaying {
     fn follow(&mut self, event: EventView<'_>) -> Result<Reply, Memory>
         requires { self.old.events < most_events }
         ensures reply { IfOk result
-            (λ reply. reply ≡ (outcome_of self.old (event_seen event.entry)).reply) }
+            (λ reply. reply ≡ (outcome_of self.old (event_of_view event.entry)).reply) }
         ensures printable { IfOk result IsPrintable }
-        ensures after { OnOk result (self.new ≡ after self.old (event_seen event.entry)) }
-        ensures wants { OnErr result (WantsEvent self.old (event_seen event.entry) self.new) }
+        ensures after { OnOk result (self.new ≡ replay_state_after self.old (event_of_view event.entry)) }
+        ensures wants { OnErr result (ReplayLacksMemory self.old (event_of_view event.entry) self.new) }
     {
         let reply = self.world.follow(event)?;
         self.events += 1;
@@ -80,8 +80,8 @@ impl Replaying {
     // The reply to an event where it lies, as text.
     fn written_reply(&mut self, alloc: Global, event: EventView<'_>) -> Result<Bytes, ReplyFault>
         requires { self.old.events < most_events }
-        ensures { PlaysEvent (WantsEvent self.old (event_seen event.entry) self.new)
-            (answer_by replaying self.old (Some (event_seen event.entry))) self.old self.new result }
+        ensures { StageAnswersEvent (ReplayLacksMemory self.old (event_of_view event.entry) self.new)
+            (answer_by replay_steps self.old (Some (event_of_view event.entry))) self.old self.new result }
     {
         let reply = match self.follow(event) {
             Ok(reply) => reply,
@@ -117,15 +117,15 @@ impl Replaying {
     }
 }
 
-impl Stage for Replaying {
-    ghost use Rattle.mm_play.specs.Stage.{wants_in};
-    ghost use Rattle.mm_replay.specs.Replaying.{WantsEvent};
-    ghost use Rattle.mm_replay.specs.Schedule.{replay_stage, replaying};
+impl PlayStage for ScheduleReplay {
+    ghost use Rattle.mm_play.specs.Stage.{EventLacksMemory};
+    ghost use Rattle.mm_replay.specs.ReplayEvents.{ReplayLacksMemory};
+    ghost use Rattle.mm_replay.specs.Schedule.{replay_stage, replay_steps};
     ghost use Rattle.mm_replay.specs.ScheduleLaws.{counts_on};
 
     ghost plays = { replay_stage };
 
-    ghost wants = { wants_in replaying WantsEvent };
+    ghost wants = { EventLacksMemory replay_steps ReplayLacksMemory };
 
     fn events(&self) -> u32 {
         self.events
@@ -144,7 +144,7 @@ impl Stage for Replaying {
         let mut meddles = Meddles::none();
         match event_in(line, &mut meddles) {
             Some(text) => self.written_reply(alloc, line_view(&meddles, text)),
-            None => Err(ReplyFault::Refused(Refused::Bad)),
+            None => Err(ReplyFault::Refused(LineRefusal::Bad)),
         }
     }
 

@@ -1,13 +1,13 @@
 //! Schedules, from the header to the last line.
 
 ghost use Rattle.std.specs.Prelude.{◌≡◌, ℕ, List, Some, Ok};
-ghost use Rattle.mm_play.specs.Play.{run_of};
-ghost use Rattle.mm_play.specs.Plays.{IsBlamed, IsUnrefused, is_read_fault, is_write_fault};
-ghost use Rattle.mm_replay.specs.Schedule.{ReplayStage, at_header, schedule_answer, schedule_closing};
-ghost use Rattle.mm_replay.specs.Replays.{Replays, Reports};
+ghost use Rattle.mm_play.specs.Play.{outcome_of_input};
+ghost use Rattle.mm_play.specs.PlaysInput.{IsBlamed, IsUnrefused, is_read_fault, is_write_fault};
+ghost use Rattle.mm_replay.specs.Schedule.{ReplayStage, header_stage, schedule_answer, schedule_closing};
+ghost use Rattle.mm_replay.specs.WholeReplay.{ReplaysSchedule, ReportsReplay};
 
 use crate::heading::HeaderLine;
-use crate::replaying::Replaying;
+use crate::replaying::ScheduleReplay;
 use crate::report::Report;
 use mm_base::{ReplayFault, Sink, Source};
 use mm_evidence::premises_or_evidence;
@@ -16,8 +16,8 @@ use mm_run::fronts_are_one_run;
 use std::alloc::Global;
 
 /// What stands behind the last line.
-fn report_of(player: &LinePlayer<HeaderLine, Replaying>) -> Report
-    ensures { Reports player.now result }
+fn report_of(player: &LinePlayer<HeaderLine, ScheduleReplay>) -> Report
+    ensures { ReportsReplay player.now result }
 {
     match player.stage() {
         Some(replaying) => replaying.report(),
@@ -39,19 +39,19 @@ pub fn replay<S: Source, K: Sink>(
     input: &mut S,
     out: &mut K,
 ) -> Result<Report, ReplayFault>
-    ensures replays { Replays (S.left input.old) (S.left input.new) (K.received out.old)
+    ensures replays { ReplaysSchedule (S.left input.old) (S.left input.new) (K.received out.old)
         (K.received out.new) result }
     ensures read { IsBlamed (is_read_fault result) (S.faults input.old) (S.faults input.new) }
     ensures wrote { IsBlamed (is_write_fault result) (K.faults out.old) (K.faults out.new) }
 
     // A schedule within the grammar and the limits is not refused.
     ensures complete { (bytes : List ℕ) → (next : ReplayStage) → S.left input.old ≡ Some bytes
-        → (run_of schedule_answer schedule_closing at_header bytes).outcome ≡ Ok next
+        → (outcome_of_input schedule_answer schedule_closing header_stage bytes).outcome ≡ Ok next
         → IsUnrefused result }
 {
     fronts_are_one_run();
     premises_or_evidence();
-    let mut player: LinePlayer<HeaderLine, Replaying> = LinePlayer::new(HeaderLine {});
+    let mut player: LinePlayer<HeaderLine, ScheduleReplay> = LinePlayer::new(HeaderLine {});
     match play(alloc, &mut player, input, out) {
         Ok(()) => Ok(report_of(&player)),
         Err(fault) => Err(fault),

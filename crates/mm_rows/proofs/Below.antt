@@ -4,19 +4,19 @@ pub use Rattle.std.proofs.Common.{◌∙◌, ap, subst, sym}
 pub use Rattle.mm_base.specs.Input.{lines_of}
 pub use Rattle.mm_digest.specs.declared.variant.Variant.{Variant}
 pub use Rattle.mm_digest.specs.declared.variant.Variant.TheVariants.{Basic, Opt}
-pub use Rattle.mm_twocell.specs.Torn.{Torn, whole_bytes}
+pub use Rattle.mm_twocell.specs.TornMemory.{TornMemory, whole_bytes}
 pub use Rattle.mm_twocell.specs.declared.pair.TwoCell.{TwoCell}
 pub use Rattle.mm_module.specs.Batch.{Batch}
 pub use Rattle.mm_module.specs.Meaning.{Meaning}
 pub use Rattle.mm_model.specs.History.{first_history, History}
 pub use Rattle.mm_model.specs.Instance.{Instance}
-pub use Rattle.mm_model.specs.InstanceWords.{basic, opt}
+pub use Rattle.mm_model.specs.InstanceWords.{basic_instance, opt_instance}
 pub use Rattle.mm_store.specs.Slots.{Slots}
-pub use Rattle.mm_pages.specs.Cached.{Cached}
+pub use Rattle.mm_pages.specs.CachedDevice.{CachedDevice}
 pub use Rattle.mm_pages.specs.Sheets.{Sheets}
-pub use Rattle.mm_recovery.specs.Begins.{Begins, first_slots, IsFirstStore, Leaves}
-pub use Rattle.mm_recovery.specs.Recovery.{CanRecover, IsAskedFor, Recovers}
-pub use Rattle.mm_host.specs.Sessions.{Sessions}
+pub use Rattle.mm_recovery.specs.FirstStart.{InstanceBegins, first_slots, IsFirstStore, InitLeaves}
+pub use Rattle.mm_recovery.specs.Recovery.{CanRecover, IsAskedFor, HostRecovers}
+pub use Rattle.mm_host.specs.Sessions.{IsSession}
 pub use Rattle.mm_host.specs.declared.fault.SessionFault.{SessionFault}
-pub use Rattle.mm_rows.specs.Devices.{first_devices, kept_in_pages, two_cells}
-pub use Rattle.mm_rows.specs.Starting.{StartsInMemory}
+pub use Rattle.mm_rows.specs.Devices.{first_devices, store_in_pages, two_cells}
+pub use Rattle.mm_rows.specs.MemoryStart.{StartsInMemory}

@@ -3,24 +3,24 @@ use Rattle.std.specs.List.{AllByRecursion}
 use Rattle.std.proofs.Common.{◌≡◌, ◌∙◌, ◌⊎◌, ◌++◌, ℕ, List, [], ◌∷◌, Bool, true, false, Option, None, Some, Result, Ok, Err, refl, sym, ap}
 use Rattle.std.proofs.Common.{subst, inl, inr}
 use Rattle.std.proofs.lemmas.List.{append-nil}
-use Rattle.mm_app.specs.Checkpoint.{Checkpoints}
+use Rattle.mm_app.specs.Checkpoint.{CheckpointsInstance}
 use Rattle.mm_app.specs.Commands.{DoesOrLacks, UsesPlatform}
 use Rattle.mm_app.specs.Power.{LosesPower as CommandLosesPower}
-use Rattle.mm_app.specs.Running.{FindsInstance, RunsInstance, ServesIfFound, instance_found}
-use Rattle.mm_app.specs.Starting.{StartsInstance}
-use Rattle.mm_app.specs.Telling.{EndsAtOnce}
+use Rattle.mm_app.specs.Run.{FindsInstance, RunsInstance, ServesIfFound, found_instance}
+use Rattle.mm_app.specs.Init.{StartsInstance}
+use Rattle.mm_app.specs.CommandOutput.{EndsAtOnce}
 use Rattle.mm_app.specs.declared.status.Status.{Status}
 use Rattle.mm_app.specs.declared.status.Status.TheVariants.{Memory}
 use Rattle.mm_call.specs.Standing.{StandsAt, cell_at, instance_by}
 use Rattle.mm_call.proofs.Above.{stands_at}
 use Rattle.mm_digest.specs.declared.variant.Variant.{Variant}
 use Rattle.mm_digest.specs.declared.variant.Variant.TheVariants.{Basic, Opt}
-use Rattle.mm_host.specs.Sessions.{Sessions}
+use Rattle.mm_host.specs.Sessions.{IsSession}
 use Rattle.mm_life.specs.Deeds.{Deed, DeedLeads, Extends, LosesPower}
 use Rattle.mm_life.specs.Deeds as deeds
-use Rattle.mm_life.specs.Doing.{CyclesAreDeeds, ReadsAreDeeds}
-use Rattle.mm_life.specs.Stages.{Does, IsLife, Stage, end_of}
-use Rattle.mm_life.specs.Staying.{IsNoCall}
+use Rattle.mm_life.specs.DeviceDeeds.{CyclesAreDeeds, ReadsAreDeeds}
+use Rattle.mm_life.specs.Stages.{Does, IsLife, LifeStage, end_of}
+use Rattle.mm_life.specs.DeedHistory.{IsNoCall}
 use Rattle.mm_life.proofs.Above.{deed_stands, life_stands}
 use Rattle.mm_model.specs.Instance.{Instance}
 use Rattle.mm_model.specs.Moves.{Digests, digests_of}
@@ -33,10 +33,10 @@ use Rattle.mm_opt.specs.declared.segment.Checkpointed.{Checkpointed}
 use Rattle.mm_opt.specs.declared.segment.Segment.{Segment}
 use Rattle.mm_opt.specs.declared.segment.Segment.TheVariants.{Open, Shut}
 use Rattle.mm_platform.specs.Standing.{Item, Standing}
-use Rattle.mm_platform.specs.Steps.{beside}
+use Rattle.mm_platform.specs.Steps.{items_beside}
 use Rattle.mm_platform.specs.declared.fault.StepFault.{StepFault}
-use Rattle.mm_recovery.specs.Begins.{Begins, Leaves}
-use Rattle.mm_recovery.specs.Init.{AfterLooking, Devices, LooksAtCell}
+use Rattle.mm_recovery.specs.FirstStart.{InstanceBegins, InitLeaves}
+use Rattle.mm_recovery.specs.Init.{GoesAfterLooking, Devices, LooksAtCell}
 use Rattle.mm_recovery.specs.declared.init_fault.InitFault.{InitFault}
 use Rattle.mm_recovery.specs.declared.init_fault.InitFault.TheVariants.{Platform}
 use Rattle.mm_schedule.specs.declared.header.Header.{Header}
@@ -45,31 +45,31 @@ use Rattle.mm_seal.specs.CellLaws.{reads_cell-same}
 use Rattle.mm_seal.specs.declared.cell.Cell.{Cell as Held}
 use Rattle.mm_seal.specs.declared.cell.CellFault.{CellFault}
 use Rattle.mm_seal.specs.declared.cell.CellFault.TheVariants as unheld
-use Rattle.mm_words.specs.declared.command.Command.{Command}
-use Rattle.mm_words.specs.declared.command.Command.TheVariants.{Init, Run, Checkpoint, Power}
+use Rattle.mm_words.specs.declared.command.CommandLine.{CommandLine}
+use Rattle.mm_words.specs.declared.command.CommandLine.TheVariants.{Init, Run, Checkpoint, Power}
 use Rattle.mm_rows.specs.CommandLives.{look_stage, session_stage}
-use Rattle.mm_rows.specs.Commands.{AreLife, AreRun, AreStagesOf, Began, CommandsAreLife, CommandsFromBlank}
-use Rattle.mm_rows.specs.Commands.{IsMetAgain, IsQuiet, Ran, devices_of}
+use Rattle.mm_rows.specs.Commands.{AreLife, AreRun, AreStagesOf, HasBegun, CommandsAreLife, CommandsFromBlank}
+use Rattle.mm_rows.specs.Commands.{IsMetAgain, IsQuiet, CommandRun, devices_of}
 use Rattle.mm_rows.proofs.CommandStages.{finds_it}
 
 -- lives, one behind another
-life_append : (variant : Variant) (meaning : Meaning) (here later : List Stage) (start : Standing) → IsLife variant meaning start here
+life_append : (variant : Variant) (meaning : Meaning) (here later : List LifeStage) (start : Standing) → IsLife variant meaning start here
     → IsLife variant meaning (end_of start here) later → IsLife variant meaning start (here ++ later)
 life_append variant meaning [] later start f g = g
 life_append variant meaning (stage ∷ here) later start f g = (f.0, life_append variant meaning here later stage.after f.1 g)
 
-pub nothing_beside : (items : Option (List Item)) → items ≡ beside [] items
+pub nothing_beside : (items : Option (List Item)) → items ≡ items_beside [] items
 nothing_beside None = refl
 nothing_beside (Some xs) = ap (λ (x : List Item). Some x) (sym (append-nil xs))
 
-behind_met : (met : Stage) (here later : List Stage) → met ∷ (here ++ later) ≡ met ∷ here ++ later
+behind_met : (met : LifeStage) (here later : List LifeStage) → met ∷ (here ++ later) ≡ met ∷ here ++ later
 behind_met met here later = refl
 
 -- quiet stages are those of a command
-abbrev QuietOf : Ran → Command → Type 0
-QuietOf r command = (stages : List Stage) → AllByRecursion IsQuiet stages → AreStagesOf r command stages
+abbrev QuietOf : CommandRun → CommandLine → Type 0
+QuietOf r command = (stages : List LifeStage) → AllByRecursion IsQuiet stages → AreStagesOf r command stages
 
-lacking_of : (r : Ran) (command : Command) → EndsAtOnce r.old r.new Memory r.status → QuietOf r command
+lacking_of : (r : CommandRun) (command : CommandLine) → EndsAtOnce r.old r.new Memory r.status → QuietOf r command
 lacking_of r Run e = λ stages q. inl (record {
   quiet = q;
   kept = e.still.kept;
@@ -100,16 +100,16 @@ module _ (reads : ReadsAreDeeds) (cycles : CyclesAreDeeds) (it : AnyModule) (var
   I = instance_by variant M key barrier
 
   -- what one command is of the life
-  record OneRan (r : Ran) (command : Command) : Type 0 where
-    here : List Stage
+  record OneRan (r : CommandRun) (command : CommandLine) : Type 0 where
+    here : List LifeStage
     life : IsLife variant M r.old.standing here
     ends : end_of r.old.standing here ≡ r.new.standing
     stages_of : AreStagesOf r command here
 
-  quiet_ran : (r : Ran) (command : Command) → QuietOf r command → (deed : Deed) → IsNoCall deed → DeedLeads variant M r.old.standing deed r.new.standing
+  quiet_ran : (r : CommandRun) (command : CommandLine) → QuietOf r command → (deed : Deed) → IsNoCall deed → DeedLeads variant M r.old.standing deed r.new.standing
       → OneRan r command
   quiet_ran r command says deed quiet f =
-      let stages : List Stage = record { part = Does deed; after = r.new.standing } ∷ [] in
+      let stages : List LifeStage = record { part = Does deed; after = r.new.standing } ∷ [] in
       record {
         here = stages;
         life = (f, tt);
@@ -117,7 +117,7 @@ module _ (reads : ReadsAreDeeds) (cycles : CyclesAreDeeds) (it : AnyModule) (var
         stages_of = says stages ((deed, refl, quiet), tt);
       }
 
-  same_ran : (r : Ran) (command : Command) → QuietOf r command → r.new.standing ≡ r.old.standing → OneRan r command
+  same_ran : (r : CommandRun) (command : CommandLine) → QuietOf r command → r.new.standing ≡ r.old.standing → OneRan r command
   same_ran r command says same =
       quiet_ran r command says (Extends []) tt (
         ap (λ (s : Standing). s.cell) same,
@@ -128,14 +128,14 @@ module _ (reads : ReadsAreDeeds) (cycles : CyclesAreDeeds) (it : AnyModule) (var
   looked_at : (header : Header) (platform : Standing) (is_blank : Result Bool StepFault) (old new : Devices)
       (answer : Result (Unit {0}) InitFault) (held : Held) → old.platform.cell ≡ Some (cell_spelling held)
       → ReadsCell (cell_spelling held) (Ok held) → LooksAtCell old.platform platform is_blank
-      → AfterLooking header.variant (meaning_of header.«module») (record old { platform = platform }) new is_blank answer
+      → GoesAfterLooking header.variant (meaning_of header.«module») (record old { platform = platform }) new is_blank answer
       → new.platform ≡ platform
   looked_at header platform (Err fault) old new answer held told spelled l g = ap (λ (d : Devices). d.platform) g.0
   looked_at header platform (Ok false) old new answer held told spelled l g = ap (λ (d : Devices). d.platform) g.0
   looked_at header platform (Ok true) old new answer held told spelled l g =
       absurd (held_not_blank held spelled ((l.tells (cell_spelling held) told).0 refl))
 
-  init_ran : (r : Ran) (header : Header)
+  init_ran : (r : CommandRun) (header : Header)
       → StartsInstance header (devices_of r.old) (devices_of r.new) r.old.received r.new.received r.old.writes r.new.writes r.status
       → (d : Digests) → StandsAt I r.old.standing d → OneRan r (Init header)
   init_ran r header s d stands =
@@ -156,7 +156,7 @@ module _ (reads : ReadsAreDeeds) (cycles : CyclesAreDeeds) (it : AnyModule) (var
       finds_it variant it held None before (Ok header) same id spelled.0 told refl finds in
       cc
 
-  module _ (r : Ran) (middle : Standing) (values : List (List ℕ))
+  module _ (r : CommandRun) (middle : Standing) (values : List (List ℕ))
       (looks : DeedLeads variant M r.old.standing (Extends values) middle) where
     run_by : (found : Result Header Status)
         → ((header : Header) → found ≡ Ok header → header ≡ record { variant = variant; «module» = it })
@@ -167,11 +167,11 @@ module _ (reads : ReadsAreDeeds) (cycles : CyclesAreDeeds) (it : AnyModule) (var
         (Extends values) tt
         (subst (λ (x : Standing). DeedLeads variant M r.old.standing (Extends values) x) (sym s.standing) looks)
     run_by (Ok header) is s =
-        let session : Sessions variant M middle r.new.standing r.old.kept r.new.kept r.old.left r.new.left r.old.received s.between
+        let session : IsSession variant M middle r.new.standing r.old.kept r.new.kept r.old.left r.new.left r.old.received s.between
         s.served.answer =
-        subst (λ (h : Header). Sessions h.variant (meaning_of h.«module») middle r.new.standing r.old.kept r.new.kept r.old.left r.new.left
+        subst (λ (h : Header). IsSession h.variant (meaning_of h.«module») middle r.new.standing r.old.kept r.new.kept r.old.left r.new.left
         r.old.received s.between s.served.answer) (is header refl) s.served.sessions in
-        let stages : List Stage = look_stage values middle
+        let stages : List LifeStage = look_stage values middle
         ∷ session_stage r.old.kept r.new.kept r.old.left r.new.left r.old.received s.between s.served.answer r.new.standing ∷ [] in
         record {
           here = stages;
@@ -189,7 +189,7 @@ module _ (reads : ReadsAreDeeds) (cycles : CyclesAreDeeds) (it : AnyModule) (var
           });
         }
 
-  run_ran : (r : Ran) → RunsInstance r.old.standing r.new.standing r.old.kept r.new.kept r.old.left r.new.left r.old.received
+  run_ran : (r : CommandRun) → RunsInstance r.old.standing r.new.standing r.old.kept r.new.kept r.old.left r.new.left r.old.received
       r.new.received r.old.reads r.new.reads r.old.writes r.new.writes r.status → (d : Digests) → StandsAt I r.old.standing d
       → OneRan r Run
   run_ran r x d stands =
@@ -197,14 +197,14 @@ module _ (reads : ReadsAreDeeds) (cycles : CyclesAreDeeds) (it : AnyModule) (var
       (λ header e. found_is (cell_at I d) x.looks.fault r.old.standing header (variant_is variant M key barrier)
       (ap (λ (m : Meaning). m.id) (meaning_is variant M key barrier)) (stands.spells, refl) stands.cell (rw e at x.looks.finds)) x.goes
 
-  power_ran : (r : Ran) → CommandLosesPower r.old.standing r.new.standing r.old.received r.new.received r.old.writes r.new.writes r.status
+  power_ran : (r : CommandRun) → CommandLosesPower r.old.standing r.new.standing r.old.received r.new.received r.old.writes r.new.writes r.status
       → OneRan r Power
   power_ran r l = elim (cycles variant M r.old.standing r.new.standing l.fault l.cycles).failed [
     | inl lost ↦ quiet_ran r Power (λ stages q. q) LosesPower tt lost
     | inr kept ↦ quiet_ran r Power (λ stages q. q) (Extends []) tt kept
   ]
 
-  ran_by : (r : Ran) (command : Command) → DoesOrLacks command r.old r.new r.status
+  ran_by : (r : CommandRun) (command : CommandLine) → DoesOrLacks command r.old r.new r.status
       → ((UsesPlatform command → ⊥) → r.new.standing ≡ r.old.standing) → (d : Digests) → StandsAt I r.old.standing d → OneRan r command
   ran_by r command (inr none) unused d s = same_ran r command (lacking_of r command none) none.still.standing
   ran_by r (Init header) (inl does) unused d s = init_ran r header does d s
@@ -225,7 +225,7 @@ module _ (reads : ReadsAreDeeds) (cycles : CyclesAreDeeds) (it : AnyModule) (var
     | inr none ↦ record { deed = LosesPower; quiet = tt; leads = (m.cell, none) }
   ]
 
-  all_ran : (commands : List Ran) (start : Standing) → AreRun start commands → (d : Digests) → StandsAt I start d
+  all_ran : (commands : List CommandRun) (start : Standing) → AreRun start commands → (d : Digests) → StandsAt I start d
       → AreLife variant M start commands
   all_ran [] start h d s = record { stages = []; life = tt; stages_of = refl }
   all_ran (r ∷ commands) start h d s =
@@ -234,7 +234,7 @@ module _ (reads : ReadsAreDeeds) (cycles : CyclesAreDeeds) (it : AnyModule) (var
       let one = ran_by r r.command h.1.does h.1.unused at.digests at.stands in
       let behind = life_stands variant M key barrier r.old.standing one.here one.life at.digests at.stands in
       let rest = all_ran commands r.new.standing h.2 behind.digests (rw one.ends at behind.stands) in
-      let met : Stage = record { part = Does m.deed; after = r.old.standing } in
+      let met : LifeStage = record { part = Does m.deed; after = r.old.standing } in
       record {
         stages = met ∷ (one.here ++ rest.stages);
         life = (
@@ -259,20 +259,20 @@ commands_are_life reads cycles it variant key barrier y start commands stands h 
     all_ran reads cycles it variant key barrier commands start h (digests_of i y) (stands_at i start y stands)
 
 -- On a blank cell a command leaves it blank, or it begins an instance.
-record BeginsOne (r : Ran) : Type 0 where
+record BeginsOne (r : CommandRun) : Type 0 where
   header : Header
   is : r.command ≡ Init header
-  begins : Begins header.variant (meaning_of header.«module») (devices_of r.old) (devices_of r.new)
+  begins : InstanceBegins header.variant (meaning_of header.«module») (devices_of r.old) (devices_of r.new)
 
-abbrev BlankOrBegun : Ran → Command → Type 0
+abbrev BlankOrBegun : CommandRun → CommandLine → Type 0
 BlankOrBegun r command =
     (r.new.standing.cell ≡ r.old.standing.cell)
     ⊎ ((header : Header) × (command ≡ Init header)
-    × Begins header.variant (meaning_of header.«module») (devices_of r.old) (devices_of r.new))
+    × InstanceBegins header.variant (meaning_of header.«module») (devices_of r.old) (devices_of r.new))
 
 leaves_blank : (variant : Variant) (meaning : Meaning) (before after : Devices) (answer : Result (Unit {0}) InitFault)
-    → Leaves variant meaning before after answer
-    → (after.platform.cell ≡ before.platform.cell) ⊎ Begins variant meaning before after
+    → InitLeaves variant meaning before after answer
+    → (after.platform.cell ≡ before.platform.cell) ⊎ InstanceBegins variant meaning before after
 leaves_blank variant meaning before after (Ok done) l = inr l
 leaves_blank variant meaning before after (Err (Platform fault)) l = l
 leaves_blank variant meaning before after (Err _) l = inl l
@@ -280,12 +280,12 @@ leaves_blank variant meaning before after (Err _) l = inl l
 none_found : (bytes : List ℕ) (read : Result Held CellFault) → ReadsCell bytes read → bytes ≡ blank_cell → read ≡ Err unheld.Blank
 none_found bytes read reads blank = reads_cell-same bytes read (Err unheld.Blank) reads blank
 
-module _ (r : Ran) (blank : r.old.standing.cell ≡ Some blank_cell) where
+module _ (r : CommandRun) (blank : r.old.standing.cell ≡ Some blank_cell) where
   found_none : (fault : Option StepFault) (header : Header) → FindsInstance fault r.old.standing (Ok header) → ⊥
   found_none (Some fault) header finds = cc
   found_none None header finds =
       let read = none_found finds.0 finds.2.read finds.2.reads (finds.1 blank_cell blank) in
-      let clash : Ok header ≡ instance_found (Err unheld.Blank) = finds.2.found_is ∙ ap instance_found read in
+      let clash : Ok header ≡ found_instance (Err unheld.Blank) = finds.2.found_is ∙ ap found_instance read in
       cc
 
   run_blank : (found : Result Header Status) (middle : Standing) (fault : Option StepFault) → middle.cell ≡ r.old.standing.cell
@@ -309,7 +309,7 @@ module _ (r : Ran) (blank : r.old.standing.cell ≡ Some blank_cell) where
   checked_blank (Ok Shut) middle answer same finds e = ap (λ (x : Standing). x.cell) e.0 ∙ same
   checked_blank (Ok (Open cell)) middle answer same finds e = absurd (open_none cell (finds refl))
 
-  blank_by : (command : Command) → DoesOrLacks command r.old r.new r.status
+  blank_by : (command : CommandLine) → DoesOrLacks command r.old r.new r.status
       → ((UsesPlatform command → ⊥) → r.new.standing ≡ r.old.standing) → BlankOrBegun r command
   blank_by command (inr none) unused = inl (ap (λ (x : Standing). x.cell) none.still.standing)
   blank_by (Init header) (inl does) unused =
@@ -325,9 +325,9 @@ module _ (r : Ran) (blank : r.old.standing.cell ≡ Some blank_cell) where
   blank_by command (inl does) unused = inl (ap (λ (x : Standing). x.cell) (unused (λ used. used)))
 
 module _ (reads : ReadsAreDeeds) (cycles : CyclesAreDeeds) where
-  begun_here : (r : Ran) (commands : List Ran) → r.old.standing.cell ≡ Some blank_cell → AreRun r.new.standing commands
+  begun_here : (r : CommandRun) (commands : List CommandRun) → r.old.standing.cell ≡ Some blank_cell → AreRun r.new.standing commands
       → (header : Header) → r.command ≡ Init header
-      → Begins header.variant (meaning_of header.«module») (devices_of r.old) (devices_of r.new) → Began (r ∷ commands)
+      → InstanceBegins header.variant (meaning_of header.«module») (devices_of r.old) (devices_of r.new) → HasBegun (r ∷ commands)
   begun_here r commands blank h header is begins = record {
     before = [];
     begun = r;
@@ -341,12 +341,12 @@ module _ (reads : ReadsAreDeeds) (cycles : CyclesAreDeeds) where
         (begins.stands blank_cell values blank shows) h;
   }
 
-  begun_later : (r : Ran) (commands : List Ran) → Began commands → Began (r ∷ commands)
+  begun_later : (r : CommandRun) (commands : List CommandRun) → HasBegun commands → HasBegun (r ∷ commands)
   begun_later r commands b = record {
     before = r ∷ b.before;
     begun = b.begun;
     behind = b.behind;
-    are = ap (λ (rs : List Ran). r ∷ rs) b.are;
+    are = ap (λ (rs : List CommandRun). r ∷ rs) b.are;
     header = b.header;
     is = b.is;
     begins = b.begins;
@@ -354,8 +354,8 @@ module _ (reads : ReadsAreDeeds) (cycles : CyclesAreDeeds) where
     life = b.life;
   }
 
-  from_blank : (commands : List Ran) (start : Standing) → start.cell ≡ Some blank_cell → AreRun start commands
-      → AllByRecursion (λ r. r.new.standing.cell ≡ Some blank_cell) commands ⊎ Began commands
+  from_blank : (commands : List CommandRun) (start : Standing) → start.cell ≡ Some blank_cell → AreRun start commands
+      → AllByRecursion (λ r. r.new.standing.cell ≡ Some blank_cell) commands ⊎ HasBegun commands
   from_blank [] start blank h = inl tt
   from_blank (r ∷ commands) start blank h =
       let old : r.old.standing.cell ≡ Some blank_cell = h.0.cell ∙ blank in

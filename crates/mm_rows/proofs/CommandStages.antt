@@ -1,27 +1,27 @@
 -- The commands of the program are parts of a life, by what each does.
 use Rattle.std.proofs.Common.{◌≡◌, ◌∙◌, ℕ, List, [], ◌∷◌, Option, None, Some, Result, Ok, Err, refl, sym, ap, subst}
-use Rattle.mm_app.specs.Running.{FindsInstance, RunsInstance, SeesInstance, ServesIfFound, header_found, instance_found}
+use Rattle.mm_app.specs.Run.{FindsInstance, RunsInstance, SeesInstance, ServesIfFound, found_header, found_instance}
 use Rattle.mm_digest.specs.declared.variant.Variant.TheVariants.{Basic, Opt}
 use Rattle.mm_call.specs.Standing.{instance_by}
 use Rattle.mm_model.specs.Standing.{cell_of}
-use Rattle.mm_modules.specs.Modules.{any_is_found, module_with}
+use Rattle.mm_modules.specs.Modules.{any_is_found, module_of_id}
 use Rattle.mm_modules.specs.declared.any.AnyModule.{AnyModule}
 use Rattle.mm_platform.specs.declared.fault.StepFault.{StepFault}
 use Rattle.mm_seal.specs.Cell.{IsCell, cell_spelling}
 use Rattle.mm_seal.specs.CellLaws.{reads_cell-same}
 use Rattle.mm_seal.specs.declared.cell.Cell.{Cell as Held}
 use Rattle.mm_app.specs.declared.status.Status.{Status}
-use Rattle.mm_recovery.specs.Begins.{Leaves}
+use Rattle.mm_recovery.specs.FirstStart.{InitLeaves}
 use Rattle.mm_recovery.specs.declared.init_fault.InitFault.{InitFault}
 use Rattle.mm_digest.specs.declared.variant.Variant.{Variant}
 use Rattle.mm_life.specs.Deeds.{DeedLeads, Extends}
-use Rattle.mm_life.specs.Doing.{CyclesAreDeeds, ReadsAreDeeds}
+use Rattle.mm_life.specs.DeviceDeeds.{CyclesAreDeeds, ReadsAreDeeds}
 use Rattle.mm_module.specs.Meaning.{Meaning}
 use Rattle.mm_modules.specs.Modules.{meaning_of}
 use Rattle.mm_platform.specs.Standing.{Standing}
 use Rattle.mm_rows.specs.CommandLives.{CheckpointsArePartsOfLife, IsRunOfLife, LossesArePartsOfLife, RunsArePartsOfLife, RunsFindTheInstance, InitBeginsLife}
 use Rattle.mm_schedule.specs.declared.header.Header.{Header}
-use Rattle.mm_store.specs.Kept.{StoreStanding}
+use Rattle.mm_store.specs.StoreStanding.{StoreStanding}
 
 run_leads : (found : Result Header Status) (before middle after : Standing) (values : List (List ℕ)) (old new : StoreStanding)
     (left left' received received' : Option (List ℕ)) (reads reads' writes writes' : ℕ) (status : Status)
@@ -44,7 +44,7 @@ runs_are_parts deeds before after old new left left' received received' reads re
 
 pub init_begins : InitBeginsLife
 init_begins header before after received received' writes writes' status s done is =
-    subst (λ (answer : Result (Unit {0}) InitFault). Leaves header.variant (meaning_of header.«module») before after answer) is s.leaves
+    subst (λ (answer : Result (Unit {0}) InitFault). InitLeaves header.variant (meaning_of header.«module») before after answer) is s.leaves
 
 -- a cell that holds the instance is found to hold it
 sees_it : (variant : Variant) (it : AnyModule) (held : Held) (found : Result Header Status) (bytes : List ℕ) → held.variant ≡ variant
@@ -52,8 +52,8 @@ sees_it : (variant : Variant) (it : AnyModule) (held : Held) (found : Result Hea
     → found ≡ Ok (record { variant = variant; «module» = it })
 sees_it variant it held found bytes same id formed spelled sees =
     let read = reads_cell-same bytes sees.read (Ok held) sees.reads (formed, spelled) in
-    sees.found_is ∙ ap instance_found read ∙ (λ j. header_found (same j) (module_with (id j)))
-    ∙ ap (header_found variant) (any_is_found it).by_id
+    sees.found_is ∙ ap found_instance read ∙ (λ j. found_header (same j) (module_of_id (id j)))
+    ∙ ap (found_header variant) (any_is_found it).by_id
 
 pub finds_it : (variant : Variant) (it : AnyModule) (held : Held) (fault : Option StepFault) (before : Standing) (found : Result Header Status)
     → held.variant ≡ variant → held.«module» ≡ (meaning_of it).id → IsCell held → before.cell ≡ Some (cell_spelling held) → fault ≡ None

@@ -7,55 +7,55 @@ use Rattle.mm_life.specs.Deeds.{Calls, Checkpoints, Extends, LosesPower}
 use Rattle.mm_life.specs.Laws.{BasicLifeIsOne, LivesKeepPromises, OptLifeIsOne, SessionsOfferSlots}
 use Rattle.mm_life.specs.Premises.{AreUntagged, IsFirstUntagged, life_batches, life_messages, opt_messages, others_values, snapshots_of}
 use Rattle.mm_life.specs.SessionCalls.{session_calls}
-use Rattle.mm_life.specs.Stages.{Does, Holds, IsLife, Part, PartLeads, Stage, part_calls}
-use Rattle.mm_life.specs.Staying.{IsNoCall}
+use Rattle.mm_life.specs.Stages.{Does, Holds, IsLife, LifePart, PartLeads, LifeStage, part_calls}
+use Rattle.mm_life.specs.DeedHistory.{IsNoCall}
 use Rattle.mm_model.specs.History.{first_history}
 use Rattle.mm_model.specs.Instance.{Instance}
-use Rattle.mm_model.specs.InstanceWords.{basic, opt}
+use Rattle.mm_model.specs.InstanceWords.{basic_instance, opt_instance}
 use Rattle.mm_model.specs.ListLaws.{each_append}
 use Rattle.mm_model.specs.Standing.{issued_bytes}
 use Rattle.mm_modules.specs.Modules.{meaning_of}
 use Rattle.mm_modules.specs.ModulesLaws.{any_is_lawful}
 use Rattle.mm_platform.specs.Standing.{Standing}
-use Rattle.mm_recovery.specs.Begins.{first_on, first_slots}
-use Rattle.mm_recovery.specs.Fitting.{first_offer}
+use Rattle.mm_recovery.specs.FirstStart.{first_history_on, first_slots}
+use Rattle.mm_recovery.specs.SlotFit.{first_offer}
 use Rattle.mm_store.specs.Slots.{Slots}
-use Rattle.mm_words.specs.declared.command.Command.{Command}
-use Rattle.mm_words.specs.declared.command.Command.TheVariants.{Run}
-use Rattle.mm_rows.specs.Commands.{AreStagesOf, AreStagesOfAll, CommandsAreLife, IsQuiet, Ran}
+use Rattle.mm_words.specs.declared.command.CommandLine.{CommandLine}
+use Rattle.mm_words.specs.declared.command.CommandLine.TheVariants.{Run}
+use Rattle.mm_rows.specs.Commands.{AreStagesOf, AreStagesOfAll, CommandsAreLife, IsQuiet, CommandRun}
 use Rattle.mm_rows.specs.CommandPromises.{BasicCommandsKeepPromises, OptCommandsKeepPromises}
 use Rattle.mm_rows.specs.Lives.{IsOldCopy}
 use Rattle.mm_rows.proofs.WholeLives.{basic_short, first_by, first_is_old, opt_short}
 
 -- the sessions of these stages begin over these slots, and besides no call is made
-abbrev StartsOver : Slots → Part → Type 0
+abbrev StartsOver : Slots → LifePart → Type 0
 StartsOver slots (Holds p) = p.old.slots ≡ Some slots
 StartsOver slots (Does deed) = IsNoCall deed
 
-abbrev StartOver : Slots → List Stage → Type 0
-StartOver slots stages = AllByRecursion (λ (stage : Stage). StartsOver slots stage.part) stages
+abbrev StartOver : Slots → List LifeStage → Type 0
+StartOver slots stages = AllByRecursion (λ (stage : LifeStage). StartsOver slots stage.part) stages
 
 module _ (slots : Slots) where
-  quiet_over : (stage : Stage) → IsQuiet stage → StartsOver slots stage.part
+  quiet_over : (stage : LifeStage) → IsQuiet stage → StartsOver slots stage.part
   quiet_over stage q = rw q.1 q.2
 
-  all_quiet : (stages : List Stage) → AllByRecursion IsQuiet stages → StartOver slots stages
+  all_quiet : (stages : List LifeStage) → AllByRecursion IsQuiet stages → StartOver slots stages
   all_quiet [] q = tt
   all_quiet (stage ∷ stages) q = (quiet_over stage q.0, all_quiet stages q.1)
 
-  one_over : (r : Ran) (command : Command) (stages : List Stage) → AreStagesOf r command stages → r.old.kept.slots ≡ Some slots
+  one_over : (r : CommandRun) (command : CommandLine) (stages : List LifeStage) → AreStagesOf r command stages → r.old.kept.slots ≡ Some slots
       → StartOver slots stages
   one_over r Run stages (inl none) told = all_quiet stages none.quiet
   one_over r Run stages (inr session) told = rw session.are (tt, (told, tt))
   one_over r _ stages quiet told = all_quiet stages quiet
 
-  all_over : (commands : List Ran) (stages : List Stage) → AreStagesOfAll commands stages
-      → AllByRecursion (λ (r : Ran). r.old.kept.slots ≡ Some slots) commands → StartOver slots stages
+  all_over : (commands : List CommandRun) (stages : List LifeStage) → AreStagesOfAll commands stages
+      → AllByRecursion (λ (r : CommandRun). r.old.kept.slots ≡ Some slots) commands → StartOver slots stages
   all_over [] stages e told = rw e tt
   all_over (r ∷ commands) stages (met, here, later, e, quiet, one, rest) told =
       rw e (
         quiet_over met quiet,
-        each_append (λ (stage : Stage). StartsOver slots stage.part) here later
+        each_append (λ (stage : LifeStage). StartsOver slots stage.part) here later
             (one_over r r.command here one told.0) (all_over commands later rest told.1),
       )
 
@@ -65,7 +65,7 @@ module _ (offers : SessionsOfferSlots) (i : Instance) (slots : Slots)
   abbrev Issued : List (List ℕ) → List (List ℕ)
   Issued more = issued_bytes i first_history ∷ more
 
-  part_untagged : (more : List (List ℕ)) (old : Standing) (part : Part) (new : Standing) (f : PartLeads i.variant i.meaning old part new)
+  part_untagged : (more : List (List ℕ)) (old : Standing) (part : LifePart) (new : Standing) (f : PartLeads i.variant i.meaning old part new)
       → StartsOver slots part → IsFirstUntagged i (Issued more) (part_calls i.variant i.meaning old part new f)
   part_untagged more old (Holds p) new f told =
       elim (offers i.variant i.meaning old new p.old p.new p.left p.left' p.received p.received' p.result f slots told) [
@@ -79,7 +79,7 @@ module _ (offers : SessionsOfferSlots) (i : Instance) (slots : Slots)
   part_untagged more old (Does LosesPower) new f quiet = tt
   part_untagged more old (Does (Checkpoints said)) new f quiet = tt
 
-  all_untagged : (stages : List Stage) (start : Standing) (more : List (List ℕ)) (f : IsLife i.variant i.meaning start stages)
+  all_untagged : (stages : List LifeStage) (start : Standing) (more : List (List ℕ)) (f : IsLife i.variant i.meaning start stages)
       → StartOver slots stages → AreUntagged i (Issued more) start stages f
   all_untagged [] start more f told = tt
   all_untagged (stage ∷ stages) start more f told = (
@@ -91,7 +91,7 @@ module _ (are : CommandsAreLife) (keep : LivesKeepPromises) (offers : SessionsOf
   pub basic_commands_keep : BasicLifeIsOne → BasicCommandsKeepPromises
   basic_commands_keep one it before after begins cell commands told run =
       let key : List ℕ = take 32 begins.secrets in
-      let i : Instance = basic (meaning_of it) key in
+      let i : Instance = basic_instance (meaning_of it) key in
       let stands = begins.stands cell [] told refl in
       let l = are it Basic key key first_history after.platform commands stands run in
       record {
@@ -113,9 +113,9 @@ module _ (are : CommandsAreLife) (keep : LivesKeepPromises) (offers : SessionsOf
   opt_commands_keep one it before after begins cell values commands told shows run =
       let key : List ℕ = take 32 begins.secrets in
       let barrier : List ℕ = drop 32 begins.secrets in
-      let i : Instance = opt (meaning_of it) key barrier in
+      let i : Instance = opt_instance (meaning_of it) key barrier in
       let stands = begins.stands cell values told shows in
-      let l = are it Opt key barrier (first_on values) after.platform commands stands run in
+      let l = are it Opt key barrier (first_history_on values) after.platform commands stands run in
       record {
         are = l;
         keeps = λ untagged.
@@ -129,6 +129,6 @@ module _ (are : CommandsAreLife) (keep : LivesKeepPromises) (offers : SessionsOf
             ];
         untagged = λ first.
             all_untagged offers i (first_slots i)
-            (first_is_old i (opt_short (meaning_of it) (any_is_lawful it) key barrier) (first_on []) (begins.first [])) l.stages
+            (first_is_old i (opt_short (meaning_of it) (any_is_lawful it) key barrier) (first_history_on []) (begins.first [])) l.stages
             after.platform [] l.life (all_over (first_slots i) commands l.stages l.stages_of first);
       }

@@ -1,37 +1,37 @@
 -- The commands of the program that go on with an instance are parts of a life.
 use Rattle.std.specs.Prelude.{◌≡◌, ℕ, List, [], ◌∷◌, Option, None, Result, Ok, Err}
-use Rattle.mm_app.specs.Checkpoint.{Checkpoints}
+use Rattle.mm_app.specs.Checkpoint.{CheckpointsInstance}
 use Rattle.mm_call.specs.Standing.{instance_by}
 use Rattle.mm_model.specs.History.{History}
 use Rattle.mm_model.specs.Standing.{StandsFor}
 use Rattle.mm_modules.specs.declared.any.AnyModule.{AnyModule}
 use Rattle.mm_app.specs.Power.{LosesPower}
-use Rattle.mm_app.specs.Running.{RunsInstance}
-use Rattle.mm_app.specs.Starting.{StartsInstance}
-use Rattle.mm_recovery.specs.Begins.{Begins}
+use Rattle.mm_app.specs.Run.{RunsInstance}
+use Rattle.mm_app.specs.Init.{StartsInstance}
+use Rattle.mm_recovery.specs.FirstStart.{InstanceBegins}
 use Rattle.mm_recovery.specs.Init.{Devices}
 use Rattle.mm_app.specs.declared.status.Status.{Status}
 use Rattle.mm_host.specs.declared.fault.SessionFault.{SessionFault}
 use Rattle.mm_life.specs.Deeds.{DeedLeads, Extends}
 use Rattle.mm_life.specs.Deeds as deeds
-use Rattle.mm_life.specs.Doing.{CyclesLead}
-use Rattle.mm_life.specs.Stages.{Does, Holds, IsLife, Program, Stage}
+use Rattle.mm_life.specs.DeviceDeeds.{CyclesLead}
+use Rattle.mm_life.specs.Stages.{Does, Holds, IsLife, Program, LifeStage}
 use Rattle.mm_module.specs.Meaning.{Meaning}
 use Rattle.mm_modules.specs.Modules.{meaning_of}
 use Rattle.mm_opt.specs.declared.segment.CheckpointRefusal.{CheckpointRefusal}
 use Rattle.mm_opt.specs.declared.segment.Checkpointed.{Checkpointed}
 use Rattle.mm_platform.specs.Standing.{Standing}
 use Rattle.mm_schedule.specs.declared.header.Header.{Header}
-use Rattle.mm_store.specs.Kept.{StoreStanding}
+use Rattle.mm_store.specs.StoreStanding.{StoreStanding}
 use Rattle.mm_digest.specs.declared.variant.Variant.{Variant}
 
 -- others extended the register by these values while the cell was read
-abbrev pub look_stage : List (List ℕ) → Standing → Stage
+abbrev pub look_stage : List (List ℕ) → Standing → LifeStage
 look_stage values after = record { part = Does (Extends values); after = after }
 
 -- a session was held over these objects
 abbrev pub session_stage : (old new : StoreStanding) (left left' received received' : Option (List ℕ))
-    → Result (Unit {0}) SessionFault → Standing → Stage
+    → Result (Unit {0}) SessionFault → Standing → LifeStage
 session_stage old new left left' received received' result after = record {
   part = Holds (record {
     old = old;
@@ -53,7 +53,7 @@ InitBeginsLife =
     (writes writes' : ℕ) (status : Status)
     (s : StartsInstance header before after received received' writes writes' status)
     (done : Unit {0}) → s.answer ≡ Ok done
-    → Begins header.variant (meaning_of header.«module») before after
+    → InstanceBegins header.variant (meaning_of header.«module») before after
 
 -- What `run` is of a life, by the instance that the cell held: the look at the cell, and a session
 -- over it; where it held none, the look alone, of any instance.
@@ -95,7 +95,7 @@ abbrev pub CheckpointsArePartsOfLife : Type 0
 CheckpointsArePartsOfLife =
     (variant : Variant) (meaning : Meaning) (before after : Standing)
     (received received' : Option (List ℕ)) (writes writes' : ℕ) (status : Status)
-    (c : Checkpoints before after received received' writes writes' status)
+    (c : CheckpointsInstance before after received received' writes writes' status)
     → DeedLeads variant meaning before (deeds.Checkpoints c.answer) after
 
 -- `power` is a loss of power, or, where it failed, one or nothing.

@@ -4,19 +4,19 @@ use Rattle.std.specs.Prelude.{true, None, Some}
 use Rattle.std.specs.Option.{option_map}
 use Rattle.mm_base.specs.Streams.{Supply}
 use Rattle.mm_recovery.specs.Init.{Devices}
-use Rattle.mm_pages.specs.Cached.{Cached}
+use Rattle.mm_pages.specs.CachedDevice.{CachedDevice}
 use Rattle.mm_pages.specs.Sheets.{Sheets}
 use Rattle.mm_platform.specs.Standing.{Standing}
-use Rattle.mm_store.specs.Kept.{StoreStanding}
-use Rattle.mm_twocell.specs.Pairs.{picked}
-use Rattle.mm_twocell.specs.Torn.{Torn, whole_bytes}
+use Rattle.mm_store.specs.StoreStanding.{StoreStanding}
+use Rattle.mm_twocell.specs.Pairs.{picked_cell}
+use Rattle.mm_twocell.specs.TornMemory.{TornMemory, whole_bytes}
 use Rattle.mm_twocell.specs.declared.pair.TwoCell.{TwoCell}
 
 -- The cell is the one that the last of the memory's 209 bytes picks; the register, power, room and
 -- faults are those of the memory's platform. No plan is told.
-abbrev pub two_cells : TwoCell Torn → Standing
+abbrev pub two_cells : TwoCell TornMemory → Standing
 two_cells it = record {
-  cell = option_map picked (whole_bytes it.raw.standing.cell);
+  cell = option_map picked_cell (whole_bytes it.raw.standing.cell);
   items = it.raw.standing.items;
   is_on = it.raw.standing.is_on;
   steps = it.steps;
@@ -29,8 +29,8 @@ two_cells it = record {
 
 -- the slots are the bytes of the pages, which are told, and honest; it is told which of them are
 -- synced
-abbrev pub kept_in_pages : Cached Sheets → StoreStanding
-kept_in_pages store = record {
+abbrev pub store_in_pages : CachedDevice Sheets → StoreStanding
+store_in_pages store = record {
   slots = Some store.device.slots;
   is_honest = true;
   faults = store.device.faults;
@@ -38,10 +38,10 @@ kept_in_pages store = record {
 }
 
 -- what a first start works with
-abbrev pub first_devices : TwoCell Torn → Cached Sheets → Supply → Devices
+abbrev pub first_devices : TwoCell TornMemory → CachedDevice Sheets → Supply → Devices
 first_devices it store entropy = record {
   platform = two_cells it;
-  store = kept_in_pages store;
+  store = store_in_pages store;
   left = Some entropy.left;
   source_faults = entropy.faults;
 }

@@ -7,20 +7,20 @@ use Rattle.mm_digest.specs.declared.variant.Variant.TheVariants.{Basic}
 use Rattle.mm_module.specs.Batch.{Batch}
 use Rattle.mm_module.specs.Meaning.{Meaning}
 use Rattle.mm_model.specs.Instance.{Instance}
-use Rattle.mm_model.specs.InstanceWords.{basic}
+use Rattle.mm_model.specs.InstanceWords.{basic_instance}
 use Rattle.mm_model.specs.History.{first_history}
 use Rattle.mm_model.specs.Messages.{IsClear, AreNoGuards}
 use Rattle.mm_host.specs.AnySlots.{AreAskedInTurn}
-use Rattle.mm_host.specs.Continuing.{ContinuesTo, IsInHand, told_in}
-use Rattle.mm_recovery.specs.Begins.{first_slots}
-use Rattle.mm_recovery.specs.Fitting.{first_offer}
-use Rattle.mm_host.specs.Sessions.{Sessions}
+use Rattle.mm_host.specs.Continuation.{ContinuesTo, IsInHand, served_calls_in}
+use Rattle.mm_recovery.specs.FirstStart.{first_slots}
+use Rattle.mm_recovery.specs.SlotFit.{first_offer}
+use Rattle.mm_host.specs.Sessions.{IsSession}
 use Rattle.mm_host.specs.declared.fault.SessionFault.{SessionFault}
-use Rattle.mm_pages.specs.Cached.{Cached}
+use Rattle.mm_pages.specs.CachedDevice.{CachedDevice}
 use Rattle.mm_pages.specs.Sheets.{Sheets}
-use Rattle.mm_twocell.specs.Torn.{Torn}
+use Rattle.mm_twocell.specs.TornMemory.{TornMemory}
 use Rattle.mm_twocell.specs.declared.pair.TwoCell.{TwoCell}
-use Rattle.mm_rows.specs.Devices.{kept_in_pages, two_cells}
+use Rattle.mm_rows.specs.Devices.{store_in_pages, two_cells}
 
 -- What is asked of the lines: they are asked one after another from the first history, with what a
 -- new store offers first; and no two messages of this share a digest.
@@ -33,19 +33,19 @@ pub record CanBegin (all others : List (List ℕ)) (asked : List Batch) (i : Ins
 
 -- 64 bytes were taken, of which the first 32 are the key; and a session of Basic was held. What it
 -- told is one run of the module from the empty list, and so on. Nothing is asked of the devices.
-pub record BeginsAndServes (meaning : Meaning) (after : TwoCell Torn) (new : Cached Sheets)
+pub record BeginsAndServes (meaning : Meaning) (after : TwoCell TornMemory) (new : CachedDevice Sheets)
     (entropy entropy' input input' received received' : List ℕ)
     (result : Result Unit SessionFault) : Type 0 where
   pub secrets : List ℕ
   pub counted : length secrets ≡ 64
   pub taken : entropy ≡ secrets ++ entropy'
-  pub middle : TwoCell Torn
-  pub store : Cached Sheets
-  pub session : Sessions Basic meaning (two_cells middle) (two_cells after) (kept_in_pages store)
-      (kept_in_pages new)
+  pub middle : TwoCell TornMemory
+  pub store : CachedDevice Sheets
+  pub session : IsSession Basic meaning (two_cells middle) (two_cells after) (store_in_pages store)
+      (store_in_pages new)
       (Some input) (Some input') (Some received) (Some received') result
   pub continues : (all others : List (List ℕ)) (asked : List Batch)
-      → CanBegin all others asked (basic meaning (take 32 secrets)) (lines_of input) →
-      ContinuesTo all others asked (basic meaning (take 32 secrets)) first_history None
-      (two_cells after) (kept_in_pages new)
-      (told_in None session.goes) (IsInHand None session.goes) result
+      → CanBegin all others asked (basic_instance meaning (take 32 secrets)) (lines_of input) →
+      ContinuesTo all others asked (basic_instance meaning (take 32 secrets)) first_history None
+      (two_cells after) (store_in_pages new)
+      (served_calls_in None session.goes) (IsInHand None session.goes) result

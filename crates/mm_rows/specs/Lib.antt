@@ -1,6 +1,6 @@
 pub mod Devices
-pub mod Recovering
-pub mod Starting
+pub mod MemoryRecovery
+pub mod MemoryStart
 pub mod FirstSession
 pub mod OldCopy
 pub mod Lives

@@ -9,32 +9,32 @@ use Rattle.mm_model.specs.Instance.{Instance}
 use Rattle.mm_model.specs.Standing.{issued_bytes}
 use Rattle.mm_opt.specs.declared.segment.CheckpointRefusal.{CheckpointRefusal}
 use Rattle.mm_opt.specs.declared.segment.Checkpointed.{Checkpointed}
-use Rattle.mm_store.specs.Pending.{Pending}
-use Rattle.mm_store.specs.Slots.{Slots, slot_read}
-use Rattle.mm_recovery.specs.Begins.{ShowsValues, first_slots}
-use Rattle.mm_recovery.specs.Fitting.{first_offer}
+use Rattle.mm_store.specs.PendingRecord.{PendingRecord}
+use Rattle.mm_store.specs.Slots.{Slots, slot_front}
+use Rattle.mm_recovery.specs.FirstStart.{ShowsValues, first_slots}
+use Rattle.mm_recovery.specs.SlotFit.{first_offer}
 use Rattle.mm_recovery.specs.Init.{instance_from}
-use Rattle.mm_recovery.specs.Waiting.{IsWaiting}
+use Rattle.mm_recovery.specs.WaitingRequest.{IsWaiting}
 use Rattle.mm_host.specs.declared.fault.SessionFault.{SessionFault}
-use Rattle.mm_pages.specs.Cached.{Cached}
+use Rattle.mm_pages.specs.CachedDevice.{CachedDevice}
 use Rattle.mm_pages.specs.Sheets.{Sheets}
-use Rattle.mm_twocell.specs.Torn.{Torn}
+use Rattle.mm_twocell.specs.TornMemory.{TornMemory}
 use Rattle.mm_twocell.specs.declared.pair.TwoCell.{TwoCell}
 use Rattle.mm_evidence.specs.Evidence.{HasClash}
 use Rattle.mm_life.specs.Deeds.{Checkpoints, LosesPower}
-use Rattle.mm_life.specs.Laws.{issued_over}
+use Rattle.mm_life.specs.Laws.{life_snapshots}
 use Rattle.mm_life.specs.OneList.{IsOneWhole}
 use Rattle.mm_life.specs.Premises.{IsUntagged, life_batches, life_messages, opt_messages, others_values, snapshots_of}
-use Rattle.mm_life.specs.Stages.{Does, Holds, IsLife, Stage, part_calls}
-use Rattle.mm_rows.specs.Devices.{kept_in_pages, two_cells}
+use Rattle.mm_life.specs.Stages.{Does, Holds, IsLife, LifeStage, part_calls}
+use Rattle.mm_rows.specs.Devices.{store_in_pages, two_cells}
 
 -- a session over pages, on an input and an output in memory
-abbrev pub session_stage : Cached Sheets → Cached Sheets → List ℕ → List ℕ → List ℕ → List ℕ
-    → Result Unit SessionFault → TwoCell Torn → Stage
+abbrev pub session_stage : CachedDevice Sheets → CachedDevice Sheets → List ℕ → List ℕ → List ℕ → List ℕ
+    → Result Unit SessionFault → TwoCell TornMemory → LifeStage
 session_stage old new left left' received received' result after = record {
   part = Holds (record {
-    old = kept_in_pages old;
-    new = kept_in_pages new;
+    old = store_in_pages old;
+    new = store_in_pages new;
     left = Some left;
     left' = Some left';
     received = Some received;
@@ -47,7 +47,7 @@ session_stage old new left left' received received' result after = record {
 -- What a copy of the slots offers first was issued, if it is right.
 abbrev pub IsOldCopy : Instance → List (List ℕ) → Slots → Type 0
 IsOldCopy i issued slots =
-    (waiting : Option Pending) → IsWaiting (slot_read slots 2) (slot_read slots 3) waiting
+    (waiting : Option PendingRecord) → IsWaiting (slot_front slots 2) (slot_front slots 3) waiting
     → IsUntagged i issued (first_offer slots waiting)
 
 -- The 64 bytes that were taken, what the first start left, and what the first session left.
@@ -55,17 +55,17 @@ pub record BeginsLife (entropy entropy' : List ℕ) : Type 0 where
   pub secrets : List ℕ
   pub counted : length secrets ≡ 64
   pub taken : entropy ≡ secrets ++ entropy'
-  pub start : TwoCell Torn
-  pub pages : Cached Sheets
-  pub middle : TwoCell Torn
-  pub left_pages : Cached Sheets
+  pub start : TwoCell TornMemory
+  pub pages : CachedDevice Sheets
+  pub middle : TwoCell TornMemory
+  pub left_pages : CachedDevice Sheets
   pub between : List ℕ
 
 -- Behind a first session of it, where the copy in the pages' place is an old one, a life is one
 -- whole, or gives evidence: two different of its messages have one digest, or the digest of one is
 -- zero. Nothing else is asked in Basic.
-abbrev pub IsWholeInBasic : (i : Instance) (start : TwoCell Torn) (stage : Stage)
-    (stages : List Stage) (copy : Slots)
+abbrev pub IsWholeInBasic : (i : Instance) (start : TwoCell TornMemory) (stage : LifeStage)
+    (stages : List LifeStage) (copy : Slots)
     → IsLife i.variant i.meaning (two_cells start) (stage ∷ stages) → Type 0
 IsWholeInBasic i start stage stages copy f =
     IsOldCopy i
@@ -74,13 +74,13 @@ IsWholeInBasic i start stage stages copy f =
     copy →
     IsOneWhole (life_messages i (two_cells start) (stage ∷ stages) f) []
     (life_batches i (two_cells start) (stage ∷ stages) f) i
-    (issued_over i (two_cells start) (stage ∷ stages) f) (two_cells start) (stage ∷ stages) f
+    (life_snapshots i (two_cells start) (stage ∷ stages) f) (two_cells start) (stage ∷ stages) f
     ⊎ HasClash i (life_messages i (two_cells start) (stage ∷ stages) f) []
     (life_batches i (two_cells start) (stage ∷ stages) f)
 
 -- In Opt it is evidence too that a value of others is the guard of a request.
-abbrev pub IsWholeInOpt : (i : Instance) (start : TwoCell Torn) (stage : Stage)
-    (stages : List Stage) (copy : Slots)
+abbrev pub IsWholeInOpt : (i : Instance) (start : TwoCell TornMemory) (stage : LifeStage)
+    (stages : List LifeStage) (copy : Slots)
     → IsLife i.variant i.meaning (two_cells start) (stage ∷ stages) → Type 0
 IsWholeInOpt i start stage stages copy f =
     IsOldCopy i
@@ -90,7 +90,7 @@ IsWholeInOpt i start stage stages copy f =
     IsOneWhole (opt_messages i (two_cells start) (stage ∷ stages) f)
     (others_values i (two_cells start) (stage ∷ stages) f)
     (life_batches i (two_cells start) (stage ∷ stages) f) i
-    (issued_over i (two_cells start) (stage ∷ stages) f) (two_cells start) (stage ∷ stages) f
+    (life_snapshots i (two_cells start) (stage ∷ stages) f) (two_cells start) (stage ∷ stages) f
     ⊎ HasClash i (opt_messages i (two_cells start) (stage ∷ stages) f)
     (others_values i (two_cells start) (stage ∷ stages) f)
     (life_batches i (two_cells start) (stage ∷ stages) f)
@@ -102,7 +102,7 @@ FirstSlotsAreOld i =
     (more : List (List ℕ)) → IsOldCopy i (issued_bytes i first_history ∷ more) (first_slots i)
 
 -- A life of Basic over a copy: a session, and one over the copy.
-pub record LivesOnCopy (meaning : Meaning) (after : TwoCell Torn) (copy new : Cached Sheets)
+pub record LivesOnCopy (meaning : Meaning) (after : TwoCell TornMemory) (copy new : CachedDevice Sheets)
     (entropy entropy' first first' second second' received received' : List ℕ)
     (one two : Result Unit SessionFault) : Type 0 where
   pub begun : BeginsLife entropy entropy'
@@ -116,7 +116,7 @@ pub record LivesOnCopy (meaning : Meaning) (after : TwoCell Torn) (copy new : Ca
   pub first_is_old : FirstSlotsAreOld (instance_from Basic meaning secrets)
 
 -- The same with a loss of power between the two.
-pub record LivesWithoutPower (meaning : Meaning) (after : TwoCell Torn) (copy new : Cached Sheets)
+pub record LivesWithoutPower (meaning : Meaning) (after : TwoCell TornMemory) (copy new : CachedDevice Sheets)
     (entropy entropy' first first' second second' received received' : List ℕ)
     (one two : Result Unit SessionFault) : Type 0 where
   pub begun : BeginsLife entropy entropy'
@@ -135,7 +135,7 @@ pub record LivesWithoutPower (meaning : Meaning) (after : TwoCell Torn) (copy ne
 
 -- A life of Opt with a checkpoint between the two, from the values that the register showed at the
 -- first start.
-pub record LivesCheckpointed (meaning : Meaning) (after : TwoCell Torn) (copy new : Cached Sheets)
+pub record LivesCheckpointed (meaning : Meaning) (after : TwoCell TornMemory) (copy new : CachedDevice Sheets)
     (entropy entropy' first first' second second' received received' : List ℕ)
     (one : Result Unit SessionFault) (said : Result Checkpointed CheckpointRefusal)
     (two : Result Unit SessionFault) : Type 0 where

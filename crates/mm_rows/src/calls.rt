@@ -4,8 +4,8 @@ ghost use Rattle.std.specs.Prelude.{◌≡◌, false};
 ghost use Rattle.mm_digest.specs.declared.variant.Variant.TheVariants.{Basic, Opt};
 ghost use Rattle.mm_module.specs.Batches.{batch_of};
 ghost use Rattle.mm_model.specs.Long.{is_long};
-ghost use Rattle.mm_call.specs.CallsOn.{CallsOn};
-ghost use Rattle.mm_opt.specs.ChecksOn.{ChecksOn};
+ghost use Rattle.mm_call.specs.CallOnCourse.{IsCallOnCourse};
+ghost use Rattle.mm_opt.specs.CheckpointOnCourse.{IsCheckpointOnCourse};
 ghost use Rattle.mm_rows.specs.Devices.{two_cells};
 
 use mm_model::{BatchAnswer, Refusal};
@@ -22,7 +22,7 @@ pub fn ask_basic<M: Module>(
     offer: &[u8],
     batch: Batch<'_>,
 ) -> Result<BatchAnswer, Refusal>
-    ensures { is_long (batch_of batch.entry) ≡ false → CallsOn Basic (M.meaning «module».now)
+    ensures { is_long (batch_of batch.entry) ≡ false → IsCallOnCourse Basic (M.meaning «module».now)
         (two_cells platform.old) (two_cells platform.new) offer.now (batch_of batch.entry) result }
 {
     mm_basic::ask_batch(alloc, module, platform, offer, batch)
@@ -36,7 +36,7 @@ pub fn ask_opt<M: Module>(
     offer: &[u8],
     batch: Batch<'_>,
 ) -> Result<BatchAnswer, Refusal>
-    ensures { is_long (batch_of batch.entry) ≡ false → CallsOn Opt (M.meaning «module».now)
+    ensures { is_long (batch_of batch.entry) ≡ false → IsCallOnCourse Opt (M.meaning «module».now)
         (two_cells platform.old) (two_cells platform.new) offer.now (batch_of batch.entry) result }
 {
     mm_opt::ask_batch(alloc, module, platform, offer, batch)
@@ -44,7 +44,7 @@ pub fn ask_opt<M: Module>(
 
 /// One checkpoint.
 pub fn close_segment(platform: &mut TwoCell<MemRaw>) -> Result<Checkpointed, CheckpointRefusal>
-    ensures { ChecksOn (two_cells platform.old) (two_cells platform.new) result }
+    ensures { IsCheckpointOnCourse (two_cells platform.old) (two_cells platform.new) result }
 {
     mm_opt::checkpoint(platform)
 }

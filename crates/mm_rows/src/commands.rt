@@ -3,9 +3,9 @@
 ghost use Rattle.std.specs.Prelude.{map};
 ghost use Rattle.mm_app.specs.Outside.{outside};
 ghost use Rattle.mm_words.specs.Commands.{SpellsCommand};
-ghost use Rattle.mm_words.specs.declared.command.Command.{Command};
+ghost use Rattle.mm_words.specs.declared.command.CommandLine.{CommandLine};
 ghost use Rattle.mm_rows.specs.CommandPromises.{BasicCommandsKeepPromises, OptCommandsKeepPromises};
-ghost use Rattle.mm_rows.specs.Commands.{CommandsAreLife, CommandsFromBlank, IsRun};
+ghost use Rattle.mm_rows.specs.Commands.{CommandsAreLife, CommandsFromBlank, IsCommandRun};
 ghost use Rattle.mm_rows.specs.CommandLives.{CheckpointsArePartsOfLife, InitBeginsLife, LossesArePartsOfLife, RunsArePartsOfLife, RunsFindTheInstance};
 
 use mm_app::{Status, memoir};
@@ -71,8 +71,8 @@ pub fn run_command<P: Platform, T: Store, S: Source, E: Source, K: Sink>(
         let new = outside (P.standing platform.new) (T.kept store.new) (S.left input.new)
         (S.faults input.new) (E.left entropy.new) (E.faults entropy.new) (K.received out.new)
         (K.faults out.new) in
-        (command : Command) → SpellsCommand command (map (λ s. s.now) words.now)
-        → IsRun (record { command = command; old = old; new = new; status = result }) }
+        (command : CommandLine) → SpellsCommand command (map (λ s. s.now) words.now)
+        → IsCommandRun (record { command = command; old = old; new = new; status = result }) }
 {
     memoir(alloc, words, platform, store, input, entropy, out)
 }

@@ -3,7 +3,7 @@
 ghost use Rattle.std.specs.Prelude.{OnOk};
 ghost use Rattle.mm_app.specs.Outside.{outside};
 ghost use Rattle.mm_rows.specs.CommandPromises.{LivesUnderHost};
-ghost use Rattle.mm_rows.specs.Commands.{HaveRun, IsRun};
+ghost use Rattle.mm_rows.specs.Commands.{HaveRun, IsCommandRun};
 ghost use Rattle.mm_rows.specs.Devices.{two_cells};
 ghost use Rattle.mm_rows.specs.Verbs.{verb_command};
 
@@ -30,7 +30,7 @@ pub enum Verb {
 
 /// What a host hands a command, besides the platform.
 #[derive(Debug, Drop)]
-pub struct Handed<T, S, E, K> {
+pub struct HandedObjects<T, S, E, K> {
     pub store: T,
     pub input: S,
     pub entropy: E,
@@ -39,7 +39,7 @@ pub struct Handed<T, S, E, K> {
 
 /// A host: it does what it likes to what it hands the next command, and says which that is. Nothing is asked of it.
 pub trait Host<T, S, E, K> {
-    fn hand(&mut self, handed: &mut Handed<T, S, E, K>) -> Verb;
+    fn hand(&mut self, handed: &mut HandedObjects<T, S, E, K>) -> Verb;
 }
 
 /// Runs one of the commands that go on with an instance.
@@ -47,7 +47,7 @@ pub fn run_verb<P: Platform, T: Store, S: Source, E: Source, K: Sink>(
     alloc: Global,
     verb: Verb,
     platform: &mut P,
-    handed: &mut Handed<T, S, E, K>,
+    handed: &mut HandedObjects<T, S, E, K>,
 ) -> Status
     ensures { let old = outside (P.standing platform.old) (T.kept handed.old.store)
         (S.left handed.old.input) (S.faults handed.old.input) (E.left handed.old.entropy)
@@ -55,9 +55,9 @@ pub fn run_verb<P: Platform, T: Store, S: Source, E: Source, K: Sink>(
         let new = outside (P.standing platform.new) (T.kept handed.new.store)
         (S.left handed.new.input) (S.faults handed.new.input) (E.left handed.new.entropy)
         (E.faults handed.new.entropy) (K.received handed.new.out) (K.faults handed.new.out) in
-        IsRun (record { command = verb_command verb; old = old; new = new; status = result }) }
+        IsCommandRun (record { command = verb_command verb; old = old; new = new; status = result }) }
 {
-    let Handed {
+    let HandedObjects {
         store,
         input,
         entropy,
@@ -78,7 +78,7 @@ pub fn run_rounds<P: Platform, T: Store, S: Source, E: Source, K: Sink, H: Host<
     rounds: u32,
     platform: &mut P,
     host: &mut H,
-    handed: &mut Handed<T, S, E, K>,
+    handed: &mut HandedObjects<T, S, E, K>,
 )
     ensures { HaveRun (P.standing platform.old) (P.standing platform.new) rounds }
 {
@@ -89,7 +89,7 @@ pub fn run_rounds<P: Platform, T: Store, S: Source, E: Source, K: Sink, H: Host<
 }
 
 /// What a host hands over pages and streams in memory.
-pub type HandedInMemory = Handed<PageStore<MemPages>, MemSource, MemSource, MemSink>;
+pub type MemHandedObjects = HandedObjects<PageStore<MemPages>, MemSource, MemSource, MemSink>;
 
 /// Starts an instance of Basic, and runs so many commands over it, each as the host hands it.
 pub fn live_under_host<H: Host<PageStore<MemPages>, MemSource, MemSource, MemSink>>(
@@ -98,7 +98,7 @@ pub fn live_under_host<H: Host<PageStore<MemPages>, MemSource, MemSource, MemSin
     rounds: u32,
     platform: &mut TwoCell<MemRaw>,
     host: &mut H,
-    handed: &mut HandedInMemory,
+    handed: &mut MemHandedObjects,
 ) -> Result<(), InitFault>
     ensures { OnOk result (LivesUnderHost «module».now (two_cells platform.new) rounds) }
 {

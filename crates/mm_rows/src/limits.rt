@@ -9,13 +9,13 @@ use std::test::Fail;
 
 /// A source of some bytes, and then of others so many times.
 #[derive(Drop)]
-pub struct Repeated<'a> {
+pub struct RepeatedSource<'a> {
     pub next: &'a [u8],
     pub again: &'a [u8],
     pub times: u64,
 }
 
-impl Source for Repeated<'_> {
+impl Source for RepeatedSource<'_> {
     ghost left = { λ _. None };
 
     ghost faults = { λ _. 0 };
@@ -42,7 +42,7 @@ fn has_lines(content: &[u8], lines: usize, last: &[u8]) -> bool {
 // Replays an input, and tells whether the exit status, the number of lines written and the last of them are these.
 fn replays(
     alloc: Global,
-    input: &mut Repeated<'_>,
+    input: &mut RepeatedSource<'_>,
     lines: usize,
     last: &[u8],
     code: u8,
@@ -53,7 +53,7 @@ fn replays(
 
 #[test]
 fn a_line_without_an_end_is_not_read_to_it(rt: HostRuntime) -> Result<(), Fail> {
-    let mut input = Repeated {
+    let mut input = RepeatedSource {
         next: b"memoir 1 basic counter\n",
         again: b"aaaaaaaaaaaaaaaa",
         times: u64::MAX,
@@ -83,7 +83,7 @@ fn longest_line(alloc: Global) -> Result<Bytes, Memory> {
 // Whether such lines behind a schedule come to an end.
 fn long_lines_come_to_an_end(alloc: Global, schedule: &[u8]) -> Result<bool, Memory> {
     let line = longest_line(alloc)?;
-    let mut input = Repeated {
+    let mut input = RepeatedSource {
         next: schedule,
         again: line.as_slice(),
         times: 20_000,
@@ -102,7 +102,7 @@ fn lines_and_snapshots_have_268435456_bytes(rt: HostRuntime) -> Result<(), Fail>
 
 /// Lines that are played, and whose bytes with those of the snapshots come to 268,435,456 behind the last.
 #[derive(Clone, Copy)]
-struct Kept<'a> {
+struct KeptLines<'a> {
     /// The command.
     word: &'a str,
     /// What comes before the events.
@@ -118,7 +118,7 @@ struct Kept<'a> {
     last: usize,
 }
 
-const REPLAY: Kept<'_> = Kept {
+const REPLAY: KeptLines<'_> = KeptLines {
     word: "replay",
     head: "memoir 1 basic ledger\n",
     open: "ask last open ",
@@ -128,7 +128,7 @@ const REPLAY: Kept<'_> = Kept {
     last: 6_901,
 };
 
-const TRANSFER: Kept<'_> = Kept {
+const TRANSFER: KeptLines<'_> = KeptLines {
     word: "transfer",
     head: "memoir transfer 1 basic ledger\n",
     open: "0 ask last open ",
@@ -138,7 +138,7 @@ const TRANSFER: Kept<'_> = Kept {
     last: 7_789,
 };
 
-const SLOTS: Kept<'_> = Kept {
+const SLOTS: KeptLines<'_> = KeptLines {
     word: "slots",
     head: "memoir slots 1 1\nbasic ledger\n",
     open: "0 begin last open ",
@@ -149,7 +149,7 @@ const SLOTS: Kept<'_> = Kept {
 };
 
 // Puts the lines that open the accounts.
-fn put_accounts(alloc: Global, text: &mut String, kept: &Kept<'_>) -> Result<(), AllocError> {
+fn put_accounts(alloc: Global, text: &mut String, kept: &KeptLines<'_>) -> Result<(), AllocError> {
     let (open, behind) = (kept.open, kept.behind);
     for number in 0..3306u32 {
         let lines = format!(in alloc; "{open}{number:032}{behind}")?;
@@ -159,7 +159,7 @@ fn put_accounts(alloc: Global, text: &mut String, kept: &Kept<'_>) -> Result<(),
 }
 
 // Puts a line of so many bytes whose request is too long.
-fn put_long(text: &mut String, kept: &Kept<'_>, size: usize) -> Result<(), AllocError> {
+fn put_long(text: &mut String, kept: &KeptLines<'_>, size: usize) -> Result<(), AllocError> {
     text.push_str(kept.long)?;
     for _ in kept.long.len()..size {
         text.push('a')?;
@@ -167,7 +167,7 @@ fn put_long(text: &mut String, kept: &Kept<'_>, size: usize) -> Result<(), Alloc
     text.push('\n')
 }
 
-fn put_fillers(text: &mut String, kept: &Kept<'_>) -> Result<(), AllocError> {
+fn put_fillers(text: &mut String, kept: &KeptLines<'_>) -> Result<(), AllocError> {
     for _ in 0..kept.fillers {
         put_long(text, kept, 7_500)?;
     }
@@ -175,7 +175,7 @@ fn put_fillers(text: &mut String, kept: &Kept<'_>) -> Result<(), AllocError> {
 }
 
 // The lines, the last of which has so many bytes more.
-fn lines_of(alloc: Global, kept: &Kept<'_>, more: usize) -> Result<String, AllocError> {
+fn lines_of(alloc: Global, kept: &KeptLines<'_>, more: usize) -> Result<String, AllocError> {
     let mut text = String::from_str(alloc, kept.head)?;
     put_accounts(alloc, &mut text, kept)?;
     put_fillers(&mut text, kept)?;
@@ -184,10 +184,10 @@ fn lines_of(alloc: Global, kept: &Kept<'_>, more: usize) -> Result<String, Alloc
 }
 
 // The status of such lines, and whether what they are answered ends with a stop.
-fn code_of(alloc: Global, kept: &Kept<'_>, more: usize) -> Result<(u8, bool), Memory> {
+fn code_of(alloc: Global, kept: &KeptLines<'_>, more: usize) -> Result<(u8, bool), Memory> {
     let text = lines_of(alloc, kept, more)?;
     let mut out = MemSink::new(alloc, 1 << 20, &[])?;
-    let mut input = Repeated {
+    let mut input = RepeatedSource {
         next: text.as_bytes(),
         again: b"",
         times: 0,
@@ -197,7 +197,7 @@ fn code_of(alloc: Global, kept: &Kept<'_>, more: usize) -> Result<(u8, bool), Me
 }
 
 // Whether such lines are all answered, and aren't with a byte more.
-fn are_most(alloc: Global, kept: &Kept<'_>) -> Result<bool, Memory> {
+fn are_most(alloc: Global, kept: &KeptLines<'_>) -> Result<bool, Memory> {
     let most = code_of(alloc, kept, 0)?;
     let more = code_of(alloc, kept, 1)?;
     Ok(most == (0, false) && more == (15, true))

@@ -33,7 +33,7 @@ pub struct Checkpoint {
 
 /// Why there weren't two sessions.
 #[derive(Clone, Copy, Debug, PartialEq, Eq)]
-pub enum Unlived {
+pub enum TwoSessionsFault {
     /// The first start failed.
     Starting(InitFault),
     /// The platform failed when it was to lose its power.
@@ -98,7 +98,7 @@ pub fn live_without_power<M: Module>(
     first_input: &mut MemSource,
     second_input: &mut MemSource,
     out: &mut MemSink,
-) -> Result<TwoSessions, Unlived>
+) -> Result<TwoSessions, TwoSessionsFault>
     ensures { IfOk result (λ both. LivesWithoutPower (M.meaning «module».now) platform.new copy.old
         copy.new entropy.old.left entropy.new.left first_input.old.left first_input.new.left
         second_input.old.left second_input.new.left out.old.received out.new.received both.first
@@ -108,7 +108,7 @@ pub fn live_without_power<M: Module>(
     sessions_offer_slots();
     device_calls_are_deeds();
     match start(alloc, Variant::Basic, module, platform, store, entropy) {
-        Err(fault) => Err(Unlived::Starting(fault)),
+        Err(fault) => Err(TwoSessionsFault::Starting(fault)),
         Ok(()) => {
             let first = serve(
                 alloc,
@@ -120,7 +120,7 @@ pub fn live_without_power<M: Module>(
                 out,
             );
             match platform.cycle() {
-                Err(fault) => Err(Unlived::LosingPower(fault)),
+                Err(fault) => Err(TwoSessionsFault::LosingPower(fault)),
                 Ok(()) => {
                     let second = serve(
                         alloc,

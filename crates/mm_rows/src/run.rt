@@ -1,6 +1,6 @@
 //! Single commands over a platform and a store in memory.
 
-use crate::limits::Repeated;
+use crate::limits::RepeatedSource;
 use mm_app::memoir;
 use mm_base::{Sink, Source};
 use mm_platform::{MemPlatform, Platform};
@@ -16,7 +16,7 @@ pub fn command<P: Platform, T: Store, S: Source, K: Sink>(
     input: &mut S,
     out: &mut K,
 ) -> u8 {
-    let mut entropy = Repeated {
+    let mut entropy = RepeatedSource {
         next: &[7; 64],
         again: &[],
         times: 0,

@@ -2,15 +2,15 @@
 
 ghost use Rattle.std.specs.Prelude.{◌≡◌, ℕ, List, Some, IfOk, OnOk, length};
 ghost use Rattle.mm_host.specs.AnySlots.{SessionRunsOnce};
-ghost use Rattle.mm_host.specs.Honest.{SessionContinues};
-ghost use Rattle.mm_recovery.specs.Begins.{Leaves};
-ghost use Rattle.mm_host.specs.Sessions.{Sessions};
+ghost use Rattle.mm_host.specs.HonestStore.{SessionContinues};
+ghost use Rattle.mm_recovery.specs.FirstStart.{InitLeaves};
+ghost use Rattle.mm_host.specs.Sessions.{IsSession};
 ghost use Rattle.mm_host.specs.SessionWrites.{SessionWrites};
-ghost use Rattle.mm_rows.specs.Devices.{first_devices, kept_in_pages, two_cells};
+ghost use Rattle.mm_rows.specs.Devices.{first_devices, store_in_pages, two_cells};
 ghost use Rattle.mm_rows.specs.FirstSession.{BeginsAndServes};
 ghost use Rattle.mm_rows.specs.OldCopy.{ServesCopy};
-ghost use Rattle.mm_rows.specs.Recovering.{RecoversInMemory};
-ghost use Rattle.mm_rows.specs.Starting.{StartsInMemory};
+ghost use Rattle.mm_rows.specs.MemoryRecovery.{RecoversInMemory};
+ghost use Rattle.mm_rows.specs.MemoryStart.{StartsInMemory};
 
 use mm_base::{MemSink, MemSource};
 use mm_digest::Variant;
@@ -29,7 +29,7 @@ pub fn start<M: Module>(
     store: &mut PageStore<MemPages>,
     entropy: &mut MemSource,
 ) -> Result<(), InitFault>
-    ensures leaves { Leaves variant (M.meaning «module».now)
+    ensures leaves { InitLeaves variant (M.meaning «module».now)
         (first_devices platform.old store.old entropy.old)
         (first_devices platform.new store.new entropy.new) result }
     ensures starts { OnOk result
@@ -79,20 +79,20 @@ pub fn serve<M: Module>(
     input: &mut MemSource,
     out: &mut MemSink,
 ) -> Result<(), SessionFault>
-    ensures sessions { Sessions variant (M.meaning «module».now) (two_cells platform.old)
-        (two_cells platform.new) (kept_in_pages store.old) (kept_in_pages store.new)
+    ensures sessions { IsSession variant (M.meaning «module».now) (two_cells platform.old)
+        (two_cells platform.new) (store_in_pages store.old) (store_in_pages store.new)
         (Some input.old.left) (Some input.new.left) (Some out.old.received) (Some out.new.received)
         result }
     ensures continues { SessionContinues variant (M.meaning «module».now) (two_cells platform.old)
-        (two_cells platform.new) (kept_in_pages store.old) (kept_in_pages store.new)
+        (two_cells platform.new) (store_in_pages store.old) (store_in_pages store.new)
         (Some input.old.left) (Some input.new.left) (Some out.old.received) (Some out.new.received)
         result }
     ensures once { SessionRunsOnce variant (M.meaning «module».now) (two_cells platform.old)
-        (two_cells platform.new) (kept_in_pages store.old) (kept_in_pages store.new)
+        (two_cells platform.new) (store_in_pages store.old) (store_in_pages store.new)
         (Some input.old.left) (Some input.new.left) (Some out.old.received) (Some out.new.received)
         result }
     ensures writes { SessionWrites variant (M.meaning «module».now) (two_cells platform.old)
-        (two_cells platform.new) (kept_in_pages store.old) (kept_in_pages store.new)
+        (two_cells platform.new) (store_in_pages store.old) (store_in_pages store.new)
         (Some input.old.left) (Some input.new.left) (Some out.old.received) (Some out.new.received)
         result }
 {

@@ -1,8 +1,8 @@
 -- What holds of an event's outcome in each way that it may go.
-use Rattle.mm_run.proofs.Below.{ℕ, ◌≡◌, Bool, true, false, List, Option, None, Some, refl, if◌then◌else◌, Batch, normal, Meddle, Stop}
-use Rattle.mm_run.proofs.Below.{Instance, Foreign, PowerMove, is_long, Level, called, checkpointed, Event, Ask, Checkpoint, Power, Extend}
-use Rattle.mm_run.proofs.Below.{offered_bytes, Outcome, course_of, outcome_by, uncalled, asked, closed_outcome, event_outcome}
-use Rattle.mm_run.proofs.Below.{[], ◌∷◌, Cut, Move, Ending, Breaks, Closing, Stops, after_stop, moves_then, closing_then}
+use Rattle.mm_run.proofs.Below.{ℕ, ◌≡◌, Bool, true, false, List, Option, None, Some, refl, if◌then◌else◌, Batch, normal_batch, Meddle, Stop}
+use Rattle.mm_run.proofs.Below.{Instance, Foreign, PowerMove, is_long, Level, call_outcome, checkpoint_outcome, Event, Ask, Checkpoint, Power, Extend}
+use Rattle.mm_run.proofs.Below.{offered_bytes, Outcome, course_of, outcome_by, outcome_without_call, ask_event_outcome, checkpoint_event_outcome, event_outcome}
+use Rattle.mm_run.proofs.Below.{[], ◌∷◌, Cut, Move, CallEnding, Breaks, CheckpointEnding, Stops, moves_after_stop, moves_after_call, moves_after_checkpoint}
 use Rattle.mm_schedule.specs.declared.reply.Cause.{Cause}
 use Rattle.mm_schedule.specs.declared.reply.Cause.TheVariants as cause
 use Rattle.mm_schedule.specs.declared.reply.Reply.TheVariants as reply
@@ -14,20 +14,20 @@ unless_long P false x z p q = q refl
 module _ {S : Type 0} (i : Instance) (level : Level S) (s : S) (issued : List (List ℕ)) (P : Outcome S → Type 0) where
   -- nothing was called, and a call was made, whose batch isn't too long
   pub asked_either : (meddles : List Meddle) (stop : Stop) (offered : Option (List ℕ)) (b : Batch)
-      → ((why : Cause) → P (uncalled s issued (reply.No why))) → ((bytes : List ℕ) → is_long b ≡ false
-      → P (outcome_by level stop issued (called i level s (course_of stop meddles) bytes (normal b))))
-      → P (asked i level s issued meddles stop offered b)
+      → ((why : Cause) → P (outcome_without_call s issued (reply.No why))) → ((bytes : List ℕ) → is_long b ≡ false
+      → P (outcome_by level stop issued (call_outcome i level s (course_of stop meddles) bytes (normal_batch b))))
+      → P (ask_event_outcome i level s issued meddles stop offered b)
   asked_either meddles stop None b refused call = refused cause.Snapshot
   asked_either meddles stop (Some bytes) b refused call = unless_long P (is_long b) _ _ (refused cause.Long) (call bytes)
 
   pub record InEachWay : Type 0 where
-    pub refused : (why : Cause) → P (uncalled s issued (reply.No why))
+    pub refused : (why : Cause) → P (outcome_without_call s issued (reply.No why))
     pub call : (stop : Stop) (meddles : List Meddle) (bytes : List ℕ) (b : Batch) → is_long b ≡ false
-        → P (outcome_by level stop issued (called i level s (course_of stop meddles) bytes (normal b)))
+        → P (outcome_by level stop issued (call_outcome i level s (course_of stop meddles) bytes (normal_batch b)))
     pub check : (stop : Stop) (meddles : List Meddle)
-        → P (closed_outcome level stop issued (checkpointed i level s (course_of stop meddles)))
-    pub power : P (uncalled (level.made s PowerMove) issued reply.Power)
-    pub extend : (value : List ℕ) → P (uncalled (level.made s (Foreign value)) issued reply.Extended)
+        → P (checkpoint_event_outcome level stop issued (checkpoint_outcome i level s (course_of stop meddles)))
+    pub power : P (outcome_without_call (level.made s PowerMove) issued reply.Power)
+    pub extend : (value : List ℕ) → P (outcome_without_call (level.made s (Foreign value)) issued reply.Extended)
 
   pub in_any_way : InEachWay → (event : Event) → P (event_outcome i level s issued event)
   in_any_way each (Ask meddles stop offer b) =
@@ -38,14 +38,14 @@ module _ {S : Type 0} (i : Instance) (level : Level S) (s : S) (issued : List (L
 
 -- what holds of no moves and of a loss of power holds of those that follow a stop
 module _ (P : List Move → Type 0) (none : P []) (power : P (PowerMove ∷ [])) where
-  stop_all : (stop : Stop) → P (after_stop stop)
+  stop_all : (stop : Stop) → P (moves_after_stop stop)
   stop_all (Cut n) = power
   stop_all stop = none
 
-  pub then_all : (stop : Stop) (ending : Ending) → P (moves_then stop ending)
+  pub then_all : (stop : Stop) (ending : CallEnding) → P (moves_after_call stop ending)
   then_all stop (Breaks fault kept) = stop_all stop
   then_all stop ending = none
 
-  pub closing_all : (stop : Stop) (closing : Closing) → P (closing_then stop closing)
+  pub closing_all : (stop : Stop) (closing : CheckpointEnding) → P (moves_after_checkpoint stop closing)
   closing_all stop (Stops fault closed) = stop_all stop
   closing_all stop closing = none

@@ -1,42 +1,42 @@
 -- In either variant, what is told by digests is what is expected.
-use Rattle.mm_run.proofs.Below.{ℕ, List, refl, sym, Contains, Meaning, Batch, Instance, basic, History, Foreign, PowerMove, Move, moved}
+use Rattle.mm_run.proofs.Below.{ℕ, List, refl, sym, Contains, Meaning, Batch, Instance, basic_instance, History, Foreign, PowerMove, Move, history_after}
 use Rattle.mm_run.proofs.Below.{IsClear, reads_zero, IsPlain, IsWithin, agrees-moved, plain-moved, summary-nil, plain_outside, basic_same}
-use Rattle.mm_run.proofs.Below.{basic_checkpoint_same, course_of, EventsAgree, Within, history_messages, counted_part}
-use Rattle.mm_run.proofs.Below.{AllByRecursion, Keeps, first_digests, first_history, start_message, Basic, ◌≡◌, ◌+◌, Bool, true, false}
-use Rattle.mm_run.proofs.Below.{cond, [], ◌∷◌, ◌++◌, map, ap, ◌∙◌, subst, ◌==◌, if◌then◌else◌, filter, append-nil, Opt, Meddle, opt, Value}
-use Rattle.mm_run.proofs.Below.{Reset, AreNoGuards, Digests, made, Step, Reads, Changes, Writes, ask_steps, checkpoint_steps, each_left}
-use Rattle.mm_run.proofs.Below.{each_right, each_append, sound_moved, outside_moved, first_sound, first_outside, by_lists, all_made}
-use Rattle.mm_run.proofs.Below.{found_at, is_fresh, found_unless_wanting, End, Done, Fails, Fate, Course, Walked, step_moves, after_step}
-use Rattle.mm_run.proofs.Below.{walk, seen_at, counted_moves, from_reset, moves_messages, foreign_in, anchor-nil, opt_agrees_moved}
-use Rattle.mm_run.proofs.Below.{foreign_may, power_may, power_brings, holds_moved, foreign_fine, asks, taking, taking_is, messages-made}
-use Rattle.mm_run.proofs.Below.{foreign_in-append, foreign_in-foreign, foreign_in-first, from_reset-foreign, AreOwn, own_asked, own_checked}
+use Rattle.mm_run.proofs.Below.{basic_checkpoint_same, course_of, EventsAgree, AreMessagesIn, history_messages, counted_part}
+use Rattle.mm_run.proofs.Below.{AllByRecursion, KeepsHistory, first_digests, first_history, start_message, Basic, ◌≡◌, ◌+◌, Bool, true, false}
+use Rattle.mm_run.proofs.Below.{cond, [], ◌∷◌, ◌++◌, map, ap, ◌∙◌, subst, ◌==◌, if◌then◌else◌, filter, append-nil, Opt, Meddle, opt_instance, Value}
+use Rattle.mm_run.proofs.Below.{Reset, AreNoGuards, Digests, digests_after, DeviceStep, Reads, Changes, Writes, ask_steps, checkpoint_steps, each_left}
+use Rattle.mm_run.proofs.Below.{each_right, each_append, sound_moved, outside_moved, first_sound, first_outside, list_level, state_after_moves}
+use Rattle.mm_run.proofs.Below.{finding_at, is_fresh, finding_unless_wanting, End, Done, Fails, StepFate, Course, StepsWalk, step_moves, walk_from_step}
+use Rattle.mm_run.proofs.Below.{walk, state_seen, counted_moves, moves_from_reset, messages_of_moves, foreign_move_values, anchor-nil, opt_agrees_moved}
+use Rattle.mm_run.proofs.Below.{foreign_may, power_may, power_brings, holds_moved, foreign_fine, asks, history_with_values, taking_is, messages-made}
+use Rattle.mm_run.proofs.Below.{foreign_move_values-append, foreign_move_values-foreign, foreign_move_values-first, moves_from_reset-foreign, AreOwn, own_asked, own_checked}
 use Rattle.mm_run.proofs.Below.{Shape, still, reset, shape, bare, listed_bare, holds_open, within_of, within_items, reset_messages}
 use Rattle.mm_run.proofs.Below.{opt_calls_agree_by_lists, read_moves, opt_checkpoints_agree_by_lists}
 use Rattle.mm_call.specs.MoveLaws.{IsBasicMove}
 use Rattle.mm_run.proofs.Below.{Variant, instance_by, AreApartIn, IsExpected, zero_bytes, run_messages, foreign_values, asked_batches}
 use Rattle.mm_run.proofs.Following.{Variants, event_same, expected_from}
-use Rattle.mm_platform.specs.StandingWords.{due}
+use Rattle.mm_platform.specs.StandingWords.{due_values}
 use Rattle.mm_model.specs.MessagesWords.{move_messages}
 
 -- Basic
 
 module _ (meaning : Meaning) (key : List ℕ) (all others : List (List ℕ)) (asked_for : List Batch) where
   abbrev it : Instance
-  it = basic meaning key
+  it = basic_instance meaning key
 
   -- what stands in the place of the register's items doesn't matter
-  plain_within : (y : History) (m : Move) → IsBasicMove m → IsWithin all others asked_for it y → (let z : History = moved it y m in
+  plain_within : (y : History) (m : Move) → IsBasicMove m → IsWithin all others asked_for it y → (let z : History = history_after it y m in
       Within (history_messages it (counted_part z)) all → AllByRecursion (Contains asked_for) z.batches
       → IsWithin all others asked_for it z)
   plain_within y m is w listed batches =
-      let z : History = moved it y m in let plain : IsPlain z = plain-moved meaning key y m is w.sound in record {
+      let z : History = history_after it y m in let plain : IsPlain z = plain-moved meaning key y m is w.sound in record {
         sound = plain;
         outside = plain_outside others z.closed z.is_open z.items plain.closed plain.shut;
         listed = listed;
         batches = batches;
       }
 
-  pub basic_begins : Contains all (start_message Basic meaning.id) → Keeps all others asked_for it first_history (first_digests it)
+  pub basic_begins : Contains all (start_message Basic meaning.id) → KeepsHistory all others asked_for it first_history (first_digests it)
   basic_begins first = record {
     agrees = record { digest = summary-nil meaning.id; flag = refl; register = sym reads_zero; count = refl };
     within = record { sound = record { closed = refl; shut = refl }; outside = tt; listed = (first, tt); batches = tt };
@@ -71,33 +71,33 @@ due_by others false m xs c h = h
 
 due_outside : (others : List (List ℕ)) (meddles : List Meddle)
     → AllByRecursion (Contains others) (map (λ (m : Meddle). m.value.bytes) meddles)
-    → (n : ℕ) → AllByRecursion (Contains others) (due n meddles)
+    → (n : ℕ) → AllByRecursion (Contains others) (due_values n meddles)
 due_outside others [] h n = tt
 due_outside others (m ∷ meddles) h n =
     due_by others (m.step == n) m (filter (λ (x : Meddle). x.step == n) meddles) h.0 (due_outside others meddles h.1 n)
 
 -- what others put in among the moves of a walk is what comes before its steps
 
-step_brings : (step : Step) (made : Bool) (values : List (List ℕ)) → AreOwn (step ∷ []) → foreign_in (step_moves step made values) ≡ values
-step_brings Reads made values own = foreign_in-foreign values
-step_brings (Changes m) true values own = foreign_in-first values (m ∷ []) ∙ ap (λ w. values ++ w) own.0 ∙ append-nil values
-step_brings (Changes m) false values own = foreign_in-first values [] ∙ append-nil values
+step_brings : (step : DeviceStep) (made : Bool) (values : List (List ℕ)) → AreOwn (step ∷ []) → foreign_move_values (step_moves step made values) ≡ values
+step_brings Reads made values own = foreign_move_values-foreign values
+step_brings (Changes m) true values own = foreign_move_values-first values (m ∷ []) ∙ ap (λ w. values ++ w) own.0 ∙ append-nil values
+step_brings (Changes m) false values own = foreign_move_values-first values [] ∙ append-nil values
 step_brings (Writes m) true values own =
-    foreign_in-append (m ∷ []) (map Foreign values) ∙ ap (λ w. w ++ foreign_in (map Foreign values)) own.0 ∙ foreign_in-foreign values
-step_brings (Writes m) false values own = foreign_in-foreign values
+    foreign_move_values-append (m ∷ []) (map Foreign values) ∙ ap (λ w. w ++ foreign_move_values (map Foreign values)) own.0 ∙ foreign_move_values-foreign values
+step_brings (Writes m) false values own = foreign_move_values-foreign values
 
 module _ (others : List (List ℕ)) where
   abbrev Among : List (List ℕ) → Type 0
   Among values = AllByRecursion (Contains others) values
 
-  step_among : (step : Step) (values : List (List ℕ)) (ends : End) (rest : Walked) → AreOwn (step ∷ []) → Among values
-      → Among (foreign_in rest.moves) → Among (foreign_in (after_step step values ends rest).moves)
-  step_among step values Done rest own h r = subst Among (sym (foreign_in-append (step_moves step true values) rest.moves
-      ∙ ap (λ w. w ++ foreign_in rest.moves) (step_brings step true values own))) (each_append (Contains others) values _ h r)
+  step_among : (step : DeviceStep) (values : List (List ℕ)) (ends : End) (rest : StepsWalk) → AreOwn (step ∷ []) → Among values
+      → Among (foreign_move_values rest.moves) → Among (foreign_move_values (walk_from_step step values ends rest).moves)
+  step_among step values Done rest own h r = subst Among (sym (foreign_move_values-append (step_moves step true values) rest.moves
+      ∙ ap (λ w. w ++ foreign_move_values rest.moves) (step_brings step true values own))) (each_append (Contains others) values _ h r)
   step_among step values (Fails fault made) rest own h r = subst Among (sym (step_brings step made values own)) h
 
-  walk_among : (fates : ℕ → Fate) (steps : List Step) (n : ℕ) → AreOwn steps → ((k : ℕ) → Among (fates k).brings)
-      → Among (foreign_in (walk fates n steps).moves)
+  walk_among : (fates : ℕ → StepFate) (steps : List DeviceStep) (n : ℕ) → AreOwn steps → ((k : ℕ) → Among (fates k).brings)
+      → Among (foreign_move_values (walk fates n steps).moves)
   walk_among fates [] n own h = tt
   walk_among fates (Reads ∷ steps) n own h =
       step_among Reads (fates n).brings (fates n).ends (walk fates (n + 1) steps) tt (h n) (walk_among fates steps (n + 1) own h)
@@ -110,11 +110,11 @@ module _ (others : List (List ℕ)) where
 
 module _ (meaning : Meaning) (key barrier : List ℕ) (all others : List (List ℕ)) (y : History) where
   abbrev I : Instance
-  I = opt meaning key barrier
+  I = opt_instance meaning key barrier
 
   -- what is listed of moves, and what of them others made
   abbrev AreListed : History → List Move → Type 0
-  AreListed z moves = Within (moves_messages I z moves) all × AllByRecursion (Contains others) (foreign_in moves)
+  AreListed z moves = Within (messages_of_moves I z moves) all × AllByRecursion (Contains others) (foreign_move_values moves)
 
   -- what counts, by whether a segment is open
   abbrev Counted : Bool → List Move → Type 0
@@ -122,38 +122,38 @@ module _ (meaning : Meaning) (key barrier : List ℕ) (all others : List (List �
 
   none_counted : (values : List (List ℕ)) → Counted false (map Foreign values)
   none_counted values =
-      let none : from_reset (map Foreign values) ≡ [] = ap from_reset (sym (append-nil (map Foreign values)))
-      ∙ from_reset-foreign values [] in
+      let none : moves_from_reset (map Foreign values) ≡ [] = ap moves_from_reset (sym (append-nil (map Foreign values)))
+      ∙ moves_from_reset-foreign values [] in
       subst (AreListed (bare y)) (sym none) (tt, tt)
 
   reset_counted : (values : List (List ℕ)) (rest : List Move) → AreListed y (map Foreign values ++ Reset ∷ rest)
       → Counted false (map Foreign values ++ Reset ∷ rest)
   reset_counted values rest listed =
       let W : List (List ℕ) → Type 0 = λ v. Within v all in
-      let back = each_right (Contains all) (moves_messages I y (map Foreign values))
-      (moves_messages I (all_made (by_lists I) y (map Foreign values)) (Reset ∷ rest))
+      let back = each_right (Contains all) (messages_of_moves I y (map Foreign values))
+      (messages_of_moves I (state_after_moves (list_level I) y (map Foreign values)) (Reset ∷ rest))
       (subst W (messages-made I (map Foreign values) (Reset ∷ rest) y) listed.0) in
-      let after : Within (moves_messages I (bare y) rest) all = each_right (Contains all) (move_messages I (taking y values) Reset)
-      (moves_messages I (bare y) rest) (subst (λ z. Within (moves_messages I z (Reset ∷ rest)) all) (taking_is I values y) back) in
-      subst (AreListed (bare y)) (sym (from_reset-foreign values (Reset ∷ rest))) (
-        subst (λ w. Within (w ++ moves_messages I (bare y) rest) all) (sym (reset_messages meaning key barrier (bare y) y.is_open)) after,
-        each_right (Contains others) values (foreign_in rest)
-            (subst (AllByRecursion (Contains others)) (foreign_in-first values (Reset ∷ rest)) listed.1),
+      let after : Within (messages_of_moves I (bare y) rest) all = each_right (Contains all) (move_messages I (history_with_values y values) Reset)
+      (messages_of_moves I (bare y) rest) (subst (λ z. Within (messages_of_moves I z (Reset ∷ rest)) all) (taking_is I values y) back) in
+      subst (AreListed (bare y)) (sym (moves_from_reset-foreign values (Reset ∷ rest))) (
+        subst (λ w. Within (w ++ messages_of_moves I (bare y) rest) all) (sym (reset_messages meaning key barrier (bare y) y.is_open)) after,
+        each_right (Contains others) values (foreign_move_values rest)
+            (subst (AllByRecursion (Contains others)) (foreign_move_values-first values (Reset ∷ rest)) listed.1),
       )
 
-  shape_counted : (fates : ℕ → Fate) (fresh : Bool) (b : Batch) (moves : List Move) → Shape fates fresh b moves → AreListed y moves
+  shape_counted : (fates : ℕ → StepFate) (fresh : Bool) (b : Batch) (moves : List Move) → Shape fates fresh b moves → AreListed y moves
       → Counted false moves
   shape_counted fates fresh b moves (still values is) listed = subst (Counted false) (sym is) (none_counted values)
   shape_counted fates fresh b moves (reset values rest is k) listed =
       subst (Counted false) (sym is) (reset_counted values rest (subst (AreListed y) is listed))
 
-  call_counted : (fates : ℕ → Fate) (flag fresh : Bool) (b : Batch) → (let moves : List Move = (walk fates 1
+  call_counted : (fates : ℕ → StepFate) (flag fresh : Bool) (b : Batch) → (let moves : List Move = (walk fates 1
       (ask_steps Opt flag fresh b)).moves in AreListed y moves → Counted flag moves)
   call_counted fates true fresh b listed = listed
   call_counted fates false fresh b listed = shape_counted fates fresh b (walk fates 1 (ask_steps Opt false fresh b)).moves
       (subst (λ s. Shape fates fresh b (walk fates 1 s).moves) (sym (asks false fresh b)) (shape fates fresh b)) listed
 
-  checkpoint_counted : (fates : ℕ → Fate) (flag lost : Bool) → (let moves : List Move = (walk fates 1
+  checkpoint_counted : (fates : ℕ → StepFate) (flag lost : Bool) → (let moves : List Move = (walk fates 1
       (checkpoint_steps Opt flag lost)).moves in AreListed y moves → Counted flag moves)
   checkpoint_counted fates true lost listed = listed
   checkpoint_counted fates false lost listed =
@@ -162,19 +162,19 @@ module _ (meaning : Meaning) (key barrier : List ℕ) (all others : List (List �
 -- a loss of power, and a value of others
 
 power_listed : (meaning : Meaning) (key barrier : List ℕ) (all : List (List ℕ)) (y : History) (flag : Bool)
-    → Within (history_messages (opt meaning key barrier) (record y { items = if flag then y.items else [] })) all
-    → Within (history_messages (opt meaning key barrier) (record y { items = if flag then [] else [] })) all
+    → Within (history_messages (opt_instance meaning key barrier) (record y { items = if flag then y.items else [] })) all
+    → Within (history_messages (opt_instance meaning key barrier) (record y { items = if flag then [] else [] })) all
 power_listed meaning key barrier all y true h = listed_bare meaning key barrier all y h
 power_listed meaning key barrier all y false h = h
 
 module _ (meaning : Meaning) (key barrier : List ℕ) (all others : List (List ℕ)) (asked_for : List Batch) where
   abbrev i : Instance
-  i = opt meaning key barrier
+  i = opt_instance meaning key barrier
 
   abbrev Kept : History → Digests → Type 0
-  Kept y d = Keeps all others asked_for i y d
+  Kept y d = KeepsHistory all others asked_for i y d
 
-  power_keeps : (y : History) (d : Digests) → Kept y d → Kept (moved i y PowerMove) (made i d PowerMove)
+  power_keeps : (y : History) (d : Digests) → Kept y d → Kept (history_after i y PowerMove) (digests_after i d PowerMove)
   power_keeps y d k = let may = power_may i y y.is_open in record {
     agrees = opt_agrees_moved meaning key barrier y d PowerMove may k.agrees;
     within = record {
@@ -186,10 +186,10 @@ module _ (meaning : Meaning) (key barrier : List ℕ) (all others : List (List �
   }
 
   foreign_by : (flag : Bool) (y : History) (d : Digests) (v : List ℕ) → y.is_open ≡ flag → Kept y d → Contains others v
-      → Within (move_messages i y (Foreign v)) all → IsWithin all others asked_for i (moved i y (Foreign v))
+      → Within (move_messages i y (Foreign v)) all → IsWithin all others asked_for i (history_after i y (Foreign v))
   foreign_by true y d v e k c message =
       let h = holds_open meaning key barrier all others asked_for y d e k.agrees k.within in
-      within_of meaning key barrier all others asked_for (moved i y (Foreign v)) (made i d (Foreign v))
+      within_of meaning key barrier all others asked_for (history_after i y (Foreign v)) (digests_after i d (Foreign v))
       (holds_moved meaning key barrier all others asked_for y d (Foreign v) h (foreign_fine meaning key barrier all others asked_for y v c)
       message)
   foreign_by false y d v e k c message = within_items meaning key barrier all others asked_for y (y.items ++ Value v ∷ []) e k.within
@@ -204,7 +204,7 @@ module _ (meaning : Meaning) (key barrier : List ℕ) (all others : List (List �
   opt_gives clear apart = record {
     calls = λ y d stop meddles bytes b k a.
         let c : Course = course_of stop meddles in
-        let fresh : Bool = is_fresh (found_unless_wanting (found_at i (by_lists i) (seen_at i (by_lists i) y c) b bytes) c.lacks) in
+        let fresh : Bool = is_fresh (finding_unless_wanting (finding_at i (list_level i) (state_seen i (list_level i) y c) b bytes) c.lacks) in
         let among = walk_among others c.fates (ask_steps Opt y.is_open fresh b) 1 (own_asked y.is_open fresh b)
         (λ n. due_outside others meddles a.outside n) in
         let counts = call_counted meaning key barrier all others y c.fates y.is_open fresh b (a.messages, among) in
@@ -219,7 +219,7 @@ module _ (meaning : Meaning) (key barrier : List ℕ) (all others : List (List �
           values = counts.1;
         });
     checkpoints = λ y d stop meddles k outside messages.
-        let c : Course = course_of stop meddles in let lost : Bool = (by_lists i).is_lost (seen_at i (by_lists i) y c) in
+        let c : Course = course_of stop meddles in let lost : Bool = (list_level i).is_lost (state_seen i (list_level i) y c) in
         let among = walk_among others c.fates (checkpoint_steps Opt y.is_open lost) 1 (own_checked y.is_open lost)
         (λ n. due_outside others meddles outside n) in
         let counts = checkpoint_counted meaning key barrier all others y c.fates y.is_open lost (messages, among) in
@@ -251,8 +251,8 @@ module _ (variant : Variant) (meaning : Meaning) (key barrier : List ℕ) where
       event_same all others asked_for (instance_by variant meaning key barrier)
       (gives variant meaning key barrier all others asked_for clear apart) y d issued event k w
 
-pub basic_events_agree : (meaning : Meaning) (key : List ℕ) → EventsAgree (basic meaning key)
+pub basic_events_agree : (meaning : Meaning) (key : List ℕ) → EventsAgree (basic_instance meaning key)
 basic_events_agree meaning key = events_agree Basic meaning key zero_bytes
 
-pub opt_events_agree : (meaning : Meaning) (key barrier : List ℕ) → EventsAgree (opt meaning key barrier)
+pub opt_events_agree : (meaning : Meaning) (key barrier : List ℕ) → EventsAgree (opt_instance meaning key barrier)
 opt_events_agree meaning key barrier = events_agree Opt meaning key barrier

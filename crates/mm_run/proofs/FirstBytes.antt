@@ -1,13 +1,13 @@
 -- Messages are told apart by the first bytes of their digests; SHA-256 with each word computed once; and so the messages of two runs.
 use Rattle.mm_run.proofs.Below.{ℕ, zero, suc, ◌≡◌, ◌+◌, ◌*◌, ◌/◌, take, drop, List, [], ◌∷◌, ◌++◌, length, refl, sym, ap, ◌∙◌, subst, arith}
 use Rattle.mm_run.proofs.Below.{Option, None, Some, if◌then◌else◌, nat_eq, slice_index, replicate, codes, AllByRecursion, Contains, each_at}
-use Rattle.mm_run.proofs.Below.{next_word, first_words, rounds, add_state, digest_bytes, initial_hash_256, padded_message, IsClear, Within}
+use Rattle.mm_run.proofs.Below.{next_word, first_words, rounds, add_state, digest_bytes, initial_hash_256, padded_message, IsClear, AreMessagesIn}
 use Rattle.mm_run.proofs.Below.{Basic, Opt, Batch, One, start_message, link_message, extended_message, anchored_message, guard_message}
 use Rattle.mm_run.proofs.Below.{world_barrier}
 use Rattle.sha2.specs.Sha256.{sha256, schedule, compress, hash_after, first_words, rounds, digest_bytes}
-use Rattle.mm_digest.specs.Messages.{zero_bytes, start_of, extended_of, anchored_of}
+use Rattle.mm_digest.specs.Messages.{zero_bytes, start_digest_of, extended_digest_of, anchored_digest_of}
 use Rattle.mm_model.specs.Chains.{guard}
-use Rattle.mm_run.specs.Held.{rising_from}
+use Rattle.mm_run.specs.WorldState.{rising_from}
 
 -- the first byte of a message's digest
 unfoldable pub first_byte : (List ℕ → List ℕ) → List ℕ → ℕ
@@ -37,7 +37,7 @@ clear_by_first all found =
     }
 
 -- what is asked of a list is asked of each part of it
-pub clear_within : (all some : List (List ℕ)) → IsClear all → Within some all → IsClear some
+pub clear_within : (all some : List (List ℕ)) → IsClear all → AreMessagesIn some all → IsClear some
 clear_within all some clear within = record {
   apart = λ m n c d same. clear.apart m n (each_at (Contains all) some m within c) (each_at (Contains all) some n within d) same;
   nonzero = λ m c. clear.nonzero m (each_at (Contains all) some m within c);
@@ -97,8 +97,8 @@ basic_by hash = start_message Basic 1 ∷ link_message (hash (start_message Basi
 pub basic_messages : List (List ℕ)
 basic_messages = basic_by sha256
 
-pub basic_listed : Contains basic_messages (start_message Basic 1) × Contains basic_messages (link_message (start_of Basic 1) five)
-unfolding basic_messages start_of
+pub basic_listed : Contains basic_messages (start_message Basic 1) × Contains basic_messages (link_message (start_digest_of Basic 1) five)
+unfolding basic_messages start_digest_of
 basic_listed = ((0, omega arith, refl), (1, omega arith, refl))
 
 pub basic_clear : IsClear basic_messages
@@ -113,13 +113,13 @@ abbrev pub five_guard : List ℕ
 five_guard = guard world_barrier five
 
 abbrev pub once : List ℕ → List ℕ
-once v = extended_of zero_bytes v
+once v = extended_digest_of zero_bytes v
 
 abbrev pub twice : List ℕ → List ℕ
-twice v = extended_of (once v) v
+twice v = extended_digest_of (once v) v
 
 abbrev pub thrice : List ℕ → List ℕ
-thrice v = extended_of (twice v) v
+thrice v = extended_digest_of (twice v) v
 
 abbrev pub ff_bytes : List ℕ
 ff_bytes = replicate 32 255
@@ -129,14 +129,14 @@ pub record AreListed (id : ℕ) (barrier v d : List ℕ) (all : List (List ℕ))
   pub begins : Contains all (start_message Opt id)
   pub guarded : Contains all (guard_message barrier five)
   pub first : Contains all (extended_message zero_bytes v)
-  pub closes_first : Contains all (anchored_message (start_of Opt id) (once v))
+  pub closes_first : Contains all (anchored_message (start_digest_of Opt id) (once v))
   pub second : Contains all (extended_message (once v) v)
-  pub closes_second : Contains all (anchored_message (start_of Opt id) (twice v))
-  pub behind_first : Contains all (anchored_message (anchored_of (start_of Opt id) (once v)) (once v))
+  pub closes_second : Contains all (anchored_message (start_digest_of Opt id) (twice v))
+  pub behind_first : Contains all (anchored_message (anchored_digest_of (start_digest_of Opt id) (once v)) (once v))
   pub by_others : Contains all (extended_message (twice v) d)
   pub third : Contains all (extended_message (twice v) v)
-  pub closes_third : Contains all (anchored_message (start_of Opt id) (thrice v))
-  pub behind_second : Contains all (anchored_message (anchored_of (start_of Opt id) (twice v)) (once v))
+  pub closes_third : Contains all (anchored_message (start_digest_of Opt id) (thrice v))
+  pub behind_second : Contains all (anchored_message (anchored_digest_of (start_digest_of Opt id) (twice v)) (once v))
 
 -- the messages, by the hash
 abbrev messages_by : (List ℕ → List ℕ) → List (List ℕ)
@@ -163,7 +163,7 @@ unfolding guard rising_from first_words rounds digest_bytes
 guard_first = ap (λ d. slice_index d 0) (sym (digest_is (guard_message world_barrier five))) ∙ refl
 
 pub segments_listed : AreListed 1 world_barrier five_guard ff_bytes segment_messages
-unfolding segment_messages start_of guard extended_of anchored_of
+unfolding segment_messages start_digest_of guard extended_digest_of anchored_digest_of
 segments_listed = record {
   begins = (0, omega arith, refl);
   guarded = (1, omega arith, refl);

@@ -1,15 +1,15 @@
 -- A schedule gives the same by digests as by lists: one induction over events, for both variants.
 use Rattle.mm_run.proofs.Below.{ℕ, ◌+◌, Bool, true, false, List, [], ◌∷◌, ◌++◌, map, Option, None, Some, refl, sym, ap, subst}
-use Rattle.mm_run.proofs.Below.{if◌then◌else◌, AllByRecursion, Contains, Meddle, Stop, Batch, normal, Instance, History, Foreign}
-use Rattle.mm_run.proofs.Below.{PowerMove, moved, is_long, Within, Digests, made, IsGenuine, each_left, each_right, by_lists, by_digests}
-use Rattle.mm_run.proofs.Below.{all_made, right_content, Called, called, Checkpointed, checkpointed}
-use Rattle.mm_run.proofs.Below.{IsSameCheckpoint, moves_messages, right_messages, IsSameCall, Event, Ask, Checkpoint, Power, Extend, Reply}
+use Rattle.mm_run.proofs.Below.{if◌then◌else◌, AllByRecursion, Contains, Meddle, Stop, Batch, normal_batch, Instance, History, Foreign}
+use Rattle.mm_run.proofs.Below.{PowerMove, history_after, is_long, AreMessagesIn, Digests, digests_after, IsGenuine, each_left, each_right, list_level, digest_level}
+use Rattle.mm_run.proofs.Below.{state_after_moves, right_content, CallOutcome, call_outcome, CheckpointOutcome, checkpoint_outcome}
+use Rattle.mm_run.proofs.Below.{IsSameCheckpoint, messages_of_moves, right_messages, IsSameCall, Event, Ask, Checkpoint, Power, Extend, Reply}
 use Rattle.mm_run.proofs.Below.{offered_bytes, Outcome, way_of, course_of, reply_of, snapshots_of, outcome_by}
-use Rattle.mm_run.proofs.Below.{uncalled, asked, closing_reply, closed_outcome, event_outcome, followed, moves_of}
-use Rattle.mm_run.proofs.Below.{event_messages, messages_from, foreign_of, batches_of, AreGenuine}
-use Rattle.mm_run.proofs.Below.{foreign_values, asked_batches, IsGenuineOffer, AgreesThroughout, Keeps, IsSameOutcome}
+use Rattle.mm_run.proofs.Below.{outcome_without_call, ask_event_outcome, closing_reply, checkpoint_event_outcome, event_outcome, outcome_of_events, moves_of}
+use Rattle.mm_run.proofs.Below.{event_messages, messages_from, event_foreign_values, batches_of, AreGenuine}
+use Rattle.mm_run.proofs.Below.{foreign_values, asked_batches, IsGenuineOffer, AgreesThroughout, KeepsHistory, IsSameOutcome}
 use Rattle.mm_run.proofs.Parts.{ask_moves, asking_messages}
-use Rattle.mm_run.proofs.Below.{start_message, first_history, first_digests, first_issued, run_messages, expected, replies_by_digests}
+use Rattle.mm_run.proofs.Below.{start_message, first_history, first_digests, first_issued, run_messages, outcome_by_lists, outcome_by_digests}
 use Rattle.mm_run.proofs.Below.{IsGenuineRun, each_self}
 use Rattle.mm_run.specs.OneEvent.{IsEventWithin}
 use Rattle.mm_run.proofs.Below.{Move}
@@ -25,38 +25,38 @@ pub record IsCallWithin (all others : List (List ℕ)) (asked_for : List Batch) 
   pub is_asked : Contains asked_for b
   pub listed : Within (right_messages i b (right_content i bytes)) all
   pub genuine : IsGenuine i y bytes
-  pub messages : Within (moves_messages i y (called i (by_lists i) y (course_of stop meddles) bytes b).moves) all
+  pub messages : Within (messages_of_moves i y (call_outcome i (list_level i) y (course_of stop meddles) bytes b).moves) all
 
 -- What one variant gives: the laws of calls and of checkpoints on a planned course, by the moves by lists; that a loss of
 -- power and a value of others keep what holds; and that it holds at the start.
 pub record Variants (all others : List (List ℕ)) (asked_for : List Batch) (i : Instance) : Type 0 where
   pub calls : (y : History) (d : Digests) (stop : Stop) (meddles : List Meddle) (bytes : List ℕ) (b : Batch)
-      → Keeps all others asked_for i y d → IsCallWithin all others asked_for i y stop meddles bytes b
-      → IsSameCall all others asked_for i (called i (by_lists i) y (course_of stop meddles) bytes b)
-      (called i (by_digests i) d (course_of stop meddles) bytes b)
-  pub checkpoints : (y : History) (d : Digests) (stop : Stop) (meddles : List Meddle) → Keeps all others asked_for i y d
+      → KeepsHistory all others asked_for i y d → IsCallWithin all others asked_for i y stop meddles bytes b
+      → IsSameCall all others asked_for i (call_outcome i (list_level i) y (course_of stop meddles) bytes b)
+      (call_outcome i (digest_level i) d (course_of stop meddles) bytes b)
+  pub checkpoints : (y : History) (d : Digests) (stop : Stop) (meddles : List Meddle) → KeepsHistory all others asked_for i y d
       → AllByRecursion (Contains others) (map (λ m. m.value.bytes) meddles)
-      → Within (moves_messages i y (checkpointed i (by_lists i) y (course_of stop meddles)).moves) all
-      → IsSameCheckpoint all others asked_for i (checkpointed i (by_lists i) y (course_of stop meddles))
-      (checkpointed i (by_digests i) d (course_of stop meddles))
-  pub power : (y : History) (d : Digests) → Keeps all others asked_for i y d
-      → Keeps all others asked_for i (moved i y PowerMove) (made i d PowerMove)
-  pub foreign : (y : History) (d : Digests) (v : List ℕ) → Keeps all others asked_for i y d → Contains others v
-      → Within (moves_messages i y (Foreign v ∷ [])) all → Keeps all others asked_for i (moved i y (Foreign v)) (made i d (Foreign v))
-  pub starts : Contains all (start_message i.variant i.meaning.id) → Keeps all others asked_for i first_history (first_digests i)
+      → Within (messages_of_moves i y (checkpoint_outcome i (list_level i) y (course_of stop meddles)).moves) all
+      → IsSameCheckpoint all others asked_for i (checkpoint_outcome i (list_level i) y (course_of stop meddles))
+      (checkpoint_outcome i (digest_level i) d (course_of stop meddles))
+  pub power : (y : History) (d : Digests) → KeepsHistory all others asked_for i y d
+      → KeepsHistory all others asked_for i (history_after i y PowerMove) (digests_after i d PowerMove)
+  pub foreign : (y : History) (d : Digests) (v : List ℕ) → KeepsHistory all others asked_for i y d → Contains others v
+      → Within (messages_of_moves i y (Foreign v ∷ [])) all → KeepsHistory all others asked_for i (history_after i y (Foreign v)) (digests_after i d (Foreign v))
+  pub starts : Contains all (start_message i.variant i.meaning.id) → KeepsHistory all others asked_for i first_history (first_digests i)
 
 module _ (all others : List (List ℕ)) (asked_for : List Batch) (i : Instance) (v : Variants all others asked_for i) where
   abbrev Kept : History → Digests → Type 0
-  Kept y d = Keeps all others asked_for i y d
+  Kept y d = KeepsHistory all others asked_for i y d
 
   abbrev Same : Outcome History → Outcome Digests → Type 0
   Same o p = IsSameOutcome all others asked_for i o p
 
   abbrev Then : History → Digests → List Move → Type 0
-  Then y d moves = Kept (all_made (by_lists i) y moves) (all_made (by_digests i) d moves)
+  Then y d moves = Kept (state_after_moves (list_level i) y moves) (state_after_moves (digest_level i) d moves)
 
-  outcome_same : (stop : Stop) (issued : List (List ℕ)) (o : Called History) (p : Called Digests) → IsSameCall all others asked_for i o p
-      → Same (outcome_by (by_lists i) stop issued o) (outcome_by (by_digests i) stop issued p)
+  outcome_same : (stop : Stop) (issued : List (List ℕ)) (o : CallOutcome History) (p : CallOutcome Digests) → IsSameCall all others asked_for i o p
+      → Same (outcome_by (list_level i) stop issued o) (outcome_by (digest_level i) stop issued p)
   outcome_same stop issued o p s =
       let k : Kept o.state p.state = record { agrees = s.agrees; within = s.within } in record {
         reply = ap (reply_of (way_of stop)) s.ending;
@@ -66,9 +66,9 @@ module _ (all others : List (List ℕ)) (asked_for : List Batch) (i : Instance) 
         keeps = rw s.ending (then_all (Then o.state p.state) k (v.power o.state p.state k) stop o.ending);
       }
 
-  closed_same : (stop : Stop) (issued : List (List ℕ)) (o : Checkpointed History) (p : Checkpointed Digests)
+  closed_same : (stop : Stop) (issued : List (List ℕ)) (o : CheckpointOutcome History) (p : CheckpointOutcome Digests)
       → IsSameCheckpoint all others asked_for i o p
-      → Same (closed_outcome (by_lists i) stop issued o) (closed_outcome (by_digests i) stop issued p)
+      → Same (checkpoint_event_outcome (list_level i) stop issued o) (checkpoint_event_outcome (digest_level i) stop issued p)
   closed_same stop issued o p s =
       let k : Kept o.state p.state = record { agrees = s.agrees; within = s.within } in record {
         reply = ap (closing_reply (way_of stop)) s.ending;
@@ -79,7 +79,7 @@ module _ (all others : List (List ℕ)) (asked_for : List Batch) (i : Instance) 
       }
 
   uncalled_same : (y : History) (d : Digests) (issued : List (List ℕ)) (said : Reply) → Kept y d
-      → Same (uncalled y issued said) (uncalled d issued said)
+      → Same (outcome_without_call y issued said) (outcome_without_call d issued said)
   uncalled_same y d issued said k = record { reply = refl; issued = refl; steps = refl; writes = refl; keeps = k }
 
   -- a call, unless its batch is too long
@@ -87,11 +87,11 @@ module _ (all others : List (List ℕ)) (asked_for : List Batch) (i : Instance) 
       (long : Bool) → Kept y d → AllByRecursion (Contains others) (map (λ m. m.value.bytes) meddles)
       → AllByRecursion (Contains asked_for) (if long then [] else b ∷ [])
       → Within (if long then [] else right_messages i b (right_content i bytes)) all → IsGenuine i y bytes
-      → (let lists : Called History = called i (by_lists i) y (course_of stop meddles) bytes b in
-      let digests : Called Digests = called i (by_digests i) d (course_of stop meddles) bytes b in
-      Within (moves_messages i y (if long then [] else lists.moves)) all
-      → Same (if long then uncalled y issued (reply.No cause.Long) else outcome_by (by_lists i) stop issued lists)
-      (if long then uncalled d issued (reply.No cause.Long) else outcome_by (by_digests i) stop issued digests))
+      → (let lists : CallOutcome History = call_outcome i (list_level i) y (course_of stop meddles) bytes b in
+      let digests : CallOutcome Digests = call_outcome i (digest_level i) d (course_of stop meddles) bytes b in
+      Within (messages_of_moves i y (if long then [] else lists.moves)) all
+      → Same (if long then outcome_without_call y issued (reply.No cause.Long) else outcome_by (list_level i) stop issued lists)
+      (if long then outcome_without_call d issued (reply.No cause.Long) else outcome_by (digest_level i) stop issued digests))
   asked_same y d issued meddles stop bytes b true k outside batches listed genuine messages =
       uncalled_same y d issued (reply.No cause.Long) k
   asked_same y d issued meddles stop bytes b false k outside batches listed genuine messages = outcome_same stop issued _ _
@@ -100,17 +100,17 @@ module _ (all others : List (List ℕ)) (asked_for : List Batch) (i : Instance) 
 
   offered_same : (y : History) (d : Digests) (issued : List (List ℕ)) (meddles : List Meddle) (stop : Stop) (bytes : Option (List ℕ))
       (b : Batch) → Kept y d → AllByRecursion (Contains others) (map (λ m. m.value.bytes) meddles)
-      → AllByRecursion (Contains asked_for) (if is_long b then [] else normal b ∷ []) → Within (asking_messages i bytes b) all
-      → IsGenuineOffer i y bytes → Within (moves_messages i y (ask_moves i y meddles stop bytes b)) all
-      → Same (asked i (by_lists i) y issued meddles stop bytes b) (asked i (by_digests i) d issued meddles stop bytes b)
+      → AllByRecursion (Contains asked_for) (if is_long b then [] else normal_batch b ∷ []) → Within (asking_messages i bytes b) all
+      → IsGenuineOffer i y bytes → Within (messages_of_moves i y (ask_moves i y meddles stop bytes b)) all
+      → Same (ask_event_outcome i (list_level i) y issued meddles stop bytes b) (ask_event_outcome i (digest_level i) d issued meddles stop bytes b)
   offered_same y d issued meddles stop None b k outside batches listed genuine messages =
       uncalled_same y d issued (reply.No cause.Snapshot) k
   offered_same y d issued meddles stop (Some bytes) b k outside batches listed genuine messages =
-      asked_same y d issued meddles stop bytes (normal b) (is_long b) k outside batches listed genuine messages
+      asked_same y d issued meddles stop bytes (normal_batch b) (is_long b) k outside batches listed genuine messages
 
   pub event_same : (y : History) (d : Digests) (issued : List (List ℕ)) (event : Event) → Kept y d
       → IsEventWithin all others asked_for i y issued event
-      → Same (event_outcome i (by_lists i) y issued event) (event_outcome i (by_digests i) d issued event)
+      → Same (event_outcome i (list_level i) y issued event) (event_outcome i (digest_level i) d issued event)
   event_same y d issued (Ask meddles stop offer b) k w =
       offered_same y d issued meddles stop (offered_bytes issued offer) b k w.outside w.batches w.listed w.genuine w.messages
   event_same y d issued (Checkpoint meddles stop) k w =
@@ -121,28 +121,28 @@ module _ (all others : List (List ℕ)) (asked_for : List Batch) (i : Instance) 
   pub follow_same : (events : List Event) (y : History) (d : Digests) (issued : List (List ℕ)) → Kept y d
       → AllByRecursion (Contains others) (foreign_values events) → AllByRecursion (Contains asked_for) (asked_batches events)
       → Within (messages_from i y issued events) all → AreGenuine i y issued events
-      → AgreesThroughout i (followed i (by_lists i) y issued events) (followed i (by_digests i) d issued events)
+      → AgreesThroughout i (outcome_of_events i (list_level i) y issued events) (outcome_of_events i (digest_level i) d issued events)
   follow_same [] y d issued k outside among listed genuine =
       record { replies = refl; issued = refl; steps = refl; writes = refl; stands = k.agrees }
   follow_same (event ∷ events) y d issued k outside among listed genuine =
-      let o : Outcome History = event_outcome i (by_lists i) y issued event in
-      let p : Outcome Digests = event_outcome i (by_digests i) d issued event in
+      let o : Outcome History = event_outcome i (list_level i) y issued event in
+      let p : Outcome Digests = event_outcome i (digest_level i) d issued event in
       let C : List ℕ → Type 0 = Contains all in
-      let here : List (List ℕ) = event_messages i issued event ++ moves_messages i y (moves_of i y issued event) in
+      let here : List (List ℕ) = event_messages i issued event ++ messages_of_moves i y (moves_of i y issued event) in
       let front = each_left C here (messages_from i o.state o.issued events) listed in
       let back = each_right C here (messages_from i o.state o.issued events) listed in
       let same = event_same y d issued event k (record {
-        outside = each_left (Contains others) (foreign_of event) (foreign_values events) outside;
+        outside = each_left (Contains others) (event_foreign_values event) (foreign_values events) outside;
         batches = each_left (Contains asked_for) (batches_of event) (asked_batches events) among;
-        listed = each_left C (event_messages i issued event) (moves_messages i y (moves_of i y issued event)) front;
+        listed = each_left C (event_messages i issued event) (messages_of_moves i y (moves_of i y issued event)) front;
         genuine = genuine.0;
-        messages = each_right C (event_messages i issued event) (moves_messages i y (moves_of i y issued event)) front;
+        messages = each_right C (event_messages i issued event) (messages_of_moves i y (moves_of i y issued event)) front;
       }) in
       let rest = follow_same events o.state p.state o.issued same.keeps
-      (each_right (Contains others) (foreign_of event) (foreign_values events) outside)
+      (each_right (Contains others) (event_foreign_values event) (foreign_values events) outside)
       (each_right (Contains asked_for) (batches_of event) (asked_batches events) among) back genuine.1 in
       let P : List (List ℕ)
-      → Type 0 = λ w. AgreesThroughout i (followed i (by_lists i) o.state o.issued events) (followed i (by_digests i) p.state w events) in
+      → Type 0 = λ w. AgreesThroughout i (outcome_of_events i (list_level i) o.state o.issued events) (outcome_of_events i (digest_level i) p.state w events) in
       let later = subst P (sym same.issued) rest in
       record {
         replies = λ j. same.reply j ∷ later.replies j;
@@ -155,7 +155,7 @@ module _ (all others : List (List ℕ)) (asked_for : List Batch) (i : Instance) 
 -- a run from the start, within its own messages, values and batches
 pub expected_from : (i : Instance) (events : List Event)
     → Variants (run_messages i events) (foreign_values events) (asked_batches events) i → IsGenuineRun i events
-    → AgreesThroughout i (expected i events) (replies_by_digests i events)
+    → AgreesThroughout i (outcome_by_lists i events) (outcome_by_digests i events)
 expected_from i events v genuine =
     let self = each_self [] (run_messages i events) in
     follow_same (run_messages i events) (foreign_values events) (asked_batches events) i v events first_history (first_digests i)

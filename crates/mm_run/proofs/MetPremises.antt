@@ -1,20 +1,20 @@
 -- The premises of the laws are met: by a run of one request in Basic, and by one of three in Opt, with a segment closed between them.
 use Rattle.mm_run.proofs.Below.{ℕ, ◌≡◌, Bool, true, false, List, [], ◌∷◌, ◌++◌, refl, subst, arith, Contains, Basic, Opt}
-use Rattle.mm_run.proofs.Below.{Batch, counter, counter_is_lawful, Meaning, link_message, Instance, basic, opt, History}
-use Rattle.mm_run.proofs.Below.{first_history, Within, offer_messages, Names, anchor_after, issued, IsGenuine, issued_bytes}
-use Rattle.mm_run.proofs.Below.{ask_steps, each_append, basic_issued, Quiet, Content, IsContent, found_at, right_content}
-use Rattle.mm_run.proofs.Below.{found_unless_wanting, is_fresh, one_ask, course_of, by_lists, parts_of, right_messages, moves_messages}
-use Rattle.mm_run.proofs.Below.{IsClearRun, IsGenuineRun, run_messages, seen_at, walk, summary-nil, ◌≤◌, ◌+◌, nat_le, Ok, Err, sym}
+use Rattle.mm_run.proofs.Below.{Batch, counter, counter_is_lawful, Meaning, link_message, Instance, basic_instance, opt_instance, History}
+use Rattle.mm_run.proofs.Below.{first_history, AreMessagesIn, offer_messages, NamesPosition, anchor_after, content_of_issue, IsGenuine, issued_bytes}
+use Rattle.mm_run.proofs.Below.{ask_steps, each_append, basic_issued, Quiet, Content, IsContent, finding_at, right_content}
+use Rattle.mm_run.proofs.Below.{finding_unless_wanting, is_fresh, one_ask, course_of, list_level, parts_of, right_messages, messages_of_moves}
+use Rattle.mm_run.proofs.Below.{IsClearRun, IsGenuineRun, run_messages, state_seen, walk, summary-nil, ◌≤◌, ◌+◌, nat_le, Ok, Err, sym}
 use Rattle.mm_run.proofs.Below.{ap, ◌∙◌, if◌then◌else◌, slice_index, bytes_eq, last_position, extended_message, anchored_message}
-use Rattle.mm_run.proofs.Below.{anchored_of, size_of, IsLawful, state_after-is_spelled, Event, Ask, Checkpoint, Extend, Last, variant_of}
-use Rattle.mm_run.proofs.Below.{offered_of, tag_of, InOpt, sealed_parts, guard, Own, Value, Move, Commit, Foreign, Placed, Reset, Close}
-use Rattle.mm_run.proofs.Below.{requests_of, total_of, judge, life_of, is_lost, form_messages, issued_place, digest_of, Fresh}
-use Rattle.mm_run.proofs.Below.{first_sound, reads_zero, opt_issued, Called, called, called_with, Found, found_by_verdict, found_with}
-use Rattle.mm_run.proofs.Below.{weighed, Outcome, followed, event_outcome, outcome_by, expected, first_issued, world_barrier, two_segments}
+use Rattle.mm_run.proofs.Below.{anchored_digest_of, size_of, IsLawful, state_after-is_spelled, Event, Ask, Checkpoint, Extend, Last, variant_of}
+use Rattle.mm_run.proofs.Below.{offered_snapshot_of, tag_of, InOpt, sealed_parts, guard, Own, Value, Move, Commit, Foreign, Placed, Reset, Close}
+use Rattle.mm_run.proofs.Below.{requests_of, total_of, verdict_on, life_of, is_lost, form_messages, issued_place, digest_of, Fresh}
+use Rattle.mm_run.proofs.Below.{first_sound, reads_zero, opt_issued, CallOutcome, call_outcome, call_outcome_with, CallFinding, finding_by_verdict, finding_with}
+use Rattle.mm_run.proofs.Below.{check_by_tests, Outcome, outcome_of_events, event_outcome, outcome_by, outcome_by_lists, first_issued, world_barrier, two_segments}
 use Rattle.mm_run.proofs.Below.{after_two_segments, moves_of, event_messages, messages_from, IsGenuineEvent, AreGenuine, each_at, Option}
-use Rattle.mm_run.proofs.Below.{Some, offered_bytes, asked, IsGenuineOffer}
+use Rattle.mm_run.proofs.Below.{Some, offered_bytes, ask_event_outcome, IsGenuineOffer}
 use Rattle.mm_run.proofs.Parts.{ask_moves, asking_messages}
-use Rattle.mm_digest.specs.Messages.{start_of, zero_bytes, extended_of}
+use Rattle.mm_digest.specs.Messages.{start_digest_of, zero_bytes, extended_digest_of}
 use Rattle.mm_model.specs.Chains.{anchor_of, register_of}
 use Rattle.mm_run.proofs.FirstBytes.{basic_clear, basic_listed, basic_messages, clear_within, five, guard_first, AreListed, five_guard}
 use Rattle.mm_run.proofs.FirstBytes.{once, twice, ff_bytes, segment_messages, segments_clear, segments_listed}
@@ -25,37 +25,37 @@ use Rattle.mm_run.proofs.Naming.{Lasts, opt_made}
 use Rattle.mm_model.specs.declared.refusal.Refusal.TheVariants as refusal
 
 -- what is asked of the snapshot of a history
-right_within : (i : Instance) (y : History) (b : Batch) (all : List (List ℕ)) → IsContent (issued i y)
-    → Within (offer_messages i (issued i y).place b) all → Within (right_messages i b (right_content i (issued_bytes i y))) all
+right_within : (i : Instance) (y : History) (b : Batch) (all : List (List ℕ)) → IsContent (content_of_issue i y)
+    → Within (offer_messages i (content_of_issue i y).place b) all → Within (right_messages i b (right_content i (issued_bytes i y))) all
 right_within i y b all formed h = listed_by i y b all (right_content i (issued_bytes i y))
     (λ content seen. subst (λ (x : Content). Within (offer_messages i x.place b) all) (issued_once i (issued_bytes i y) y content formed
     refl
     (right_of i (issued_bytes i y) (parts_of i.variant i.meaning.id (issued_bytes i y)) refl content seen)) h)
 
 -- it names a position of a later one
-is_genuine : (i : Instance) (y later : History) → IsContent (issued i y) → Names i later (issued i y)
+is_genuine : (i : Instance) (y later : History) → IsContent (content_of_issue i y) → NamesPosition i later (content_of_issue i y)
     → IsGenuine i later (issued_bytes i y)
 is_genuine i y later formed names content right =
-    subst (λ (x : Content). Names i later x) (issued_once i (issued_bytes i y) y content formed refl right) names
+    subst (λ (x : Content). NamesPosition i later x) (issued_once i (issued_bytes i y) y content formed refl right) names
 
 -- Basic
 
 basic_moves : (key : List ℕ) (all : List (List ℕ)) (fresh : Bool)
-    → Within (moves_messages (basic counter key) first_history (walk (course_of Quiet []).fates 1 (ask_steps Basic false fresh
+    → Within (messages_of_moves (basic_instance counter key) first_history (walk (course_of Quiet []).fates 1 (ask_steps Basic false fresh
     five)).moves) all
 basic_moves key all false = tt
 basic_moves key all true = tt
 
-pub basic_met : (key : List ℕ) → IsClearRun (basic counter key) one_ask × IsGenuineRun (basic counter key) one_ask
+pub basic_met : (key : List ℕ) → IsClearRun (basic_instance counter key) one_ask × IsGenuineRun (basic_instance counter key) one_ask
 basic_met key =
-    let i = basic counter key in let all = basic_messages in
+    let i = basic_instance counter key in let all = basic_messages in
     let formed = basic_content counter counter_is_lawful key first_history (omega arith) in
-    let offered : Within (offer_messages i (issued i first_history).place five) all =
+    let offered : Within (offer_messages i (content_of_issue i first_history).place five) all =
     (subst (λ s. Contains all (link_message s five)) (summary-nil 1) basic_listed.1, tt) in
-    let found = found_unless_wanting (found_at i (by_lists i) (seen_at i (by_lists i) first_history (course_of Quiet [])) five
+    let found = finding_unless_wanting (finding_at i (list_level i) (state_seen i (list_level i) first_history (course_of Quiet [])) five
     (issued_bytes i first_history)) false in
     let heard = right_messages i five (right_content i (issued_bytes i first_history)) in
-    let made = moves_messages i first_history (walk (course_of Quiet []).fates 1 (ask_steps Basic false (is_fresh found) five)).moves in (
+    let made = messages_of_moves i first_history (walk (course_of Quiet []).fates 1 (ask_steps Basic false (is_fresh found) five)).moves in (
       record {
         clear = clear_within all (run_messages i one_ask) basic_clear (
           basic_listed.0,
@@ -68,48 +68,48 @@ basic_met key =
       (is_genuine i first_history first_history formed (basic_issued counter key first_history), tt),
     )
 
-pub anchor_nil : (meaning : Meaning) (key barrier : List ℕ) → anchor_after (opt meaning key barrier) [] ≡ start_of Opt meaning.id
+pub anchor_nil : (meaning : Meaning) (key barrier : List ℕ) → anchor_after (opt_instance meaning key barrier) [] ≡ start_digest_of Opt meaning.id
 unfolding anchor_of
 anchor_nil meaning key barrier = refl
 
 -- an offer at the last position is found fresh
 
-abbrev fresh : Content → Found
+abbrev fresh : Content → CallFinding
 fresh content = record { offered = content; again = false }
 
 found_fresh : (meaning : Meaning) (key barrier : List ℕ) (y : History) (b : Batch) (c : Content) (bytes : List ℕ)
-    → is_lost (life_of Opt y) ≡ false → parts_of Opt meaning.id bytes ≡ Ok (offered_of key c) → meaning.is_spelled c.state ≡ true
-    → judge Opt y c.position b ≡ Fresh → nat_le (c.position + size_of b) last_position ≡ true
-    → found_at (opt meaning key barrier) (by_lists (opt meaning key barrier)) y b bytes ≡ Ok (fresh c)
+    → is_lost (life_of Opt y) ≡ false → parts_of Opt meaning.id bytes ≡ Ok (offered_snapshot_of key c) → meaning.is_spelled c.state ≡ true
+    → verdict_on Opt y c.position b ≡ Fresh → nat_le (c.position + size_of b) last_position ≡ true
+    → finding_at (opt_instance meaning key barrier) (list_level (opt_instance meaning key barrier)) y b bytes ≡ Ok (fresh c)
 found_fresh meaning key barrier y b c bytes live parts spelled here fits =
-    let i = opt meaning key barrier in let tagged = (bytes_eq-Decides (tag_of key c) (tag_of key c)).1 refl in
-    let weighs : weighed (meaning.is_spelled c.state) (bytes_eq (tag_of key c) (tag_of key c)) (judge Opt y c.position b)
+    let i = opt_instance meaning key barrier in let tagged = (bytes_eq-Decides (tag_of key c) (tag_of key c)).1 refl in
+    let weighs : check_by_tests (meaning.is_spelled c.state) (bytes_eq (tag_of key c) (tag_of key c)) (verdict_on Opt y c.position b)
     (nat_le (c.position + size_of b) last_position) ≡ Ok false = rw (spelled, tagged, here, fits) refl in
-    ap (λ lost. if lost then Err refusal.Lost else found_by_verdict i (by_lists i) y b (parts_of Opt meaning.id bytes)) live
-    ∙ ap (found_by_verdict i (by_lists i) y b) parts ∙ ap (found_with c) weighs
+    ap (λ lost. if lost then Err refusal.Lost else finding_by_verdict i (list_level i) y b (parts_of Opt meaning.id bytes)) live
+    ∙ ap (finding_by_verdict i (list_level i) y b) parts ∙ ap (finding_with c) weighs
 
 -- what a run of events comes to from a history on
 record Met (all : List (List ℕ)) (i : Instance) (y : History) (issued : List (List ℕ)) (events : List Event) (last : History) : Type 0 where
   within : Within (messages_from i y issued events) all
   genuine : AreGenuine i y issued events
-  ends : (followed i (by_lists i) y issued events).state ≡ last
+  ends : (outcome_of_events i (list_level i) y issued events).state ≡ last
 
 met_first : (all : List (List ℕ)) (i : Instance) (y : History) (issued : List (List ℕ)) (event : Event) (events : List Event)
     (last : History)
-    (o : Outcome History) (moves : List Move) → event_outcome i (by_lists i) y issued event ≡ o → moves_of i y issued event ≡ moves
-    → IsGenuineEvent i y issued event → Within (event_messages i issued event) all → Within (moves_messages i y moves) all
+    (o : Outcome History) (moves : List Move) → event_outcome i (list_level i) y issued event ≡ o → moves_of i y issued event ≡ moves
+    → IsGenuineEvent i y issued event → Within (event_messages i issued event) all → Within (messages_of_moves i y moves) all
     → Met all i o.state o.issued events last → Met all i y issued (event ∷ events) last
 met_first all i y issued event events last o moves eo em genuine asked made met =
     let P : List ℕ → Type 0 = Contains all in
     let heard = event_messages i issued event in
-    let went = moves_messages i y (moves_of i y issued event) in
-    let x : Outcome History = event_outcome i (by_lists i) y issued event in
+    let went = messages_of_moves i y (moves_of i y issued event) in
+    let x : Outcome History = event_outcome i (list_level i) y issued event in
     record {
       within = each_append P (heard ++ went) (messages_from i x.state x.issued events)
-          (each_append P heard went asked (subst (λ (m : List Move). Within (moves_messages i y m) all) (sym em) made))
+          (each_append P heard went asked (subst (λ (m : List Move). Within (messages_of_moves i y m) all) (sym em) made))
           (subst (λ (z : Outcome History). Within (messages_from i z.state z.issued events) all) (sym eo) met.within);
       genuine = (genuine, subst (λ (z : Outcome History). AreGenuine i z.state z.issued events) (sym eo) met.genuine);
-      ends = ap (λ (z : Outcome History). (followed i (by_lists i) z.state z.issued events).state) eo ∙ met.ends;
+      ends = ap (λ (z : Outcome History). (outcome_of_events i (list_level i) z.state z.issued events).state) eo ∙ met.ends;
     }
 
 -- the histories on the way
@@ -135,11 +135,11 @@ abbrev events_with : List ℕ → List Event
 events_with d = five_asked ∷ five_asked ∷ Checkpoint [] Quiet ∷ Extend d ∷ five_asked ∷ []
 
 one_of : (v : List ℕ) → register_of (v ∷ []) ≡ once v
-unfolding register_of extended_of
+unfolding register_of extended_digest_of
 one_of v = refl
 
 two_of : (v : List ℕ) → register_of (v ∷ v ∷ []) ≡ twice v
-unfolding register_of extended_of
+unfolding register_of extended_digest_of
 two_of v = refl
 
 if_other : (same : Bool) (all xs : List (List ℕ)) → (same ≡ false → Within xs all) → Within (if same then [] else xs) all
@@ -153,7 +153,7 @@ zero_is_zero = refl
 module _ (meaning : Meaning) (lawful : IsLawful meaning) (key barrier d : List ℕ) (all : List (List ℕ))
     (l : AreListed meaning.id barrier (guard barrier five) d all) where
   abbrev here : Instance
-  here = opt meaning key barrier
+  here = opt_instance meaning key barrier
 
   abbrev v : List ℕ
   v = guard barrier five
@@ -175,23 +175,23 @@ module _ (meaning : Meaning) (lawful : IsLawful meaning) (key barrier d : List �
 
   -- of a place by its digests
   pointed : (a e : List ℕ) → Within (form_messages a e v) all → (bytes_eq e zero_bytes ≡ false
-      → Within (anchored_message a e ∷ form_messages (anchored_of a e) zero_bytes v) all)
+      → Within (anchored_message a e ∷ form_messages (anchored_digest_of a e) zero_bytes v) all)
       → Within (offer_messages here (InOpt (digest_of a) (digest_of e)) five) all
   pointed a e fresh_form closed_form =
       (l.guarded, each_append (Contains all) (form_messages a e v) _ fresh_form (if_other (bytes_eq e zero_bytes) all _ closed_form))
 
   abbrev start : List ℕ
-  start = start_of Opt meaning.id
+  start = start_digest_of Opt meaning.id
 
-  first_offered : Within (offer_messages here (issued here first_history).place five) all
+  first_offered : Within (offer_messages here (content_of_issue here first_history).place five) all
   first_offered = rw (anchor_nil meaning key barrier) (pointed start zero_bytes (l.first, (l.closes_first, tt))
       (λ other. let clash : true ≡ false = sym zero_is_zero ∙ other in cc))
 
-  second_offered : Within (offer_messages here (issued here asked_once).place five) all
+  second_offered : Within (offer_messages here (content_of_issue here asked_once).place five) all
   second_offered = rw (anchor_nil meaning key barrier, one_of v)
       (pointed start (once v) (l.second, (l.closes_second, tt)) (λ other. (l.closes_first, (l.first, (l.behind_first, tt)))))
 
-  third_offered : Within (offer_messages here (issued here asked_twice).place five) all
+  third_offered : Within (offer_messages here (content_of_issue here asked_twice).place five) all
   third_offered = rw (anchor_nil meaning key barrier, two_of v)
       (pointed start (twice v) (l.third, (l.closes_third, tt)) (λ other. (l.closes_second, (l.first, (l.behind_second, tt)))))
 
@@ -211,16 +211,16 @@ module _ (meaning : Meaning) (lawful : IsLawful meaning) (key barrier d : List �
 
   -- a call that asks for the batch once more
 
-  abbrev call : History → History → Called History
-  call offered y = called_with here (by_lists here) y y (course_of Quiet []) five (Ok (fresh (issued here offered)))
+  abbrev call : History → History → CallOutcome History
+  call offered y = call_outcome_with here (list_level here) y y (course_of Quiet []) five (Ok (fresh (content_of_issue here offered)))
 
   called_is : (offered y : History) → total_of offered.batches ≤ last_position → is_lost (life_of Opt y) ≡ false
-      → judge Opt y (total_of offered.batches) five ≡ Fresh → nat_le (total_of offered.batches + 1) last_position ≡ true
-      → called here (by_lists here) y (course_of Quiet []) (issued_bytes here offered) five ≡ call offered y
-  called_is offered y few live at fits = ap (λ f. called_with here (by_lists here) y y (course_of Quiet []) five (found_unless_wanting f
+      → verdict_on Opt y (total_of offered.batches) five ≡ Fresh → nat_le (total_of offered.batches + 1) last_position ≡ true
+      → call_outcome here (list_level here) y (course_of Quiet []) (issued_bytes here offered) five ≡ call offered y
+  called_is offered y few live at fits = ap (λ f. call_outcome_with here (list_level here) y y (course_of Quiet []) five (finding_unless_wanting f
       false))
-      (found_fresh meaning key barrier y five (issued here offered) (issued_bytes here offered) live
-      (sealed_parts key (issued here offered) Opt meaning.id (opt_content meaning lawful key barrier offered few) (of_opt offered.is_open
+      (found_fresh meaning key barrier y five (content_of_issue here offered) (issued_bytes here offered) live
+      (sealed_parts key (content_of_issue here offered) Opt meaning.id (opt_content meaning lawful key barrier offered few) (of_opt offered.is_open
       offered) refl)
       (state_after-is_spelled meaning lawful (requests_of offered.batches)) at fits)
 
@@ -229,20 +229,20 @@ module _ (meaning : Meaning) (lawful : IsLawful meaning) (key barrier d : List �
 
   -- one more request, asked with the snapshot of a history
   asked_met : (offered y last : History) (issued_before : List (List ℕ)) (events : List Event) → total_of offered.batches ≤ last_position
-      → is_lost (life_of Opt y) ≡ false → judge Opt y (total_of offered.batches) five ≡ Fresh
+      → is_lost (life_of Opt y) ≡ false → verdict_on Opt y (total_of offered.batches) five ≡ Fresh
       → nat_le (total_of offered.batches + 1) last_position ≡ true → offered_bytes issued_before Last ≡ Some (issued_bytes here offered)
-      → Names here y (issued here offered) → Within (offer_messages here (issued here offered).place five) all
-      → (let o : Outcome History = outcome_by (by_lists here) Quiet issued_before (call offered y) in
-      Within (moves_messages here y (call offered y).moves) all → Met all here o.state o.issued events last
+      → NamesPosition here y (content_of_issue here offered) → Within (offer_messages here (content_of_issue here offered).place five) all
+      → (let o : Outcome History = outcome_by (list_level here) Quiet issued_before (call offered y) in
+      Within (messages_of_moves here y (call offered y).moves) all → Met all here o.state o.issued events last
       → Met all here y issued_before (five_asked ∷ events) last)
   asked_met offered y last issued_before events few live at fits newest names offers made met =
       let i : Instance = here in
-      let ask : Option (List ℕ) → Outcome History = λ bytes. asked i (by_lists i) y issued_before [] Quiet bytes five in
+      let ask : Option (List ℕ) → Outcome History = λ bytes. ask_event_outcome i (list_level i) y issued_before [] Quiet bytes five in
       let same = called_is offered y few live at fits in
-      met_first all here y issued_before five_asked events last (outcome_by (by_lists here) Quiet issued_before (call offered y))
+      met_first all here y issued_before five_asked events last (outcome_by (list_level here) Quiet issued_before (call offered y))
       (call offered y).moves
-      (ap ask newest ∙ ap (outcome_by (by_lists here) Quiet issued_before) same)
-      (ap (λ bytes. ask_moves i y [] Quiet bytes five) newest ∙ ap (λ (c : Called History). c.moves) same)
+      (ap ask newest ∙ ap (outcome_by (list_level here) Quiet issued_before) same)
+      (ap (λ bytes. ask_moves i y [] Quiet bytes five) newest ∙ ap (λ (c : CallOutcome History). c.moves) same)
       (subst (λ bytes. IsGenuineOffer i y bytes) (sym newest) (is_genuine here offered y (opt_content meaning lawful key barrier offered
       few) names))
       (subst (λ bytes. Within (asking_messages i bytes five) all) (sym newest) (right_within here offered five all (opt_content meaning
@@ -259,9 +259,9 @@ module _ (meaning : Meaning) (lawful : IsLawful meaning) (key barrier d : List �
   -- the closing and the value of others
   closed_met : Met all here asked_twice issued_thrice (Checkpoint [] Quiet ∷ Extend d ∷ five_asked ∷ []) after_two_segments
   closed_met = met_first all here asked_twice issued_thrice (Checkpoint [] Quiet) (Extend d ∷ five_asked ∷ []) after_two_segments
-      (event_outcome here (by_lists here) asked_twice issued_thrice (Checkpoint [] Quiet)) (Close ∷ []) refl refl tt tt (closing_made, tt)
+      (event_outcome here (list_level here) asked_twice issued_thrice (Checkpoint [] Quiet)) (Close ∷ []) refl refl tt tt (closing_made, tt)
       (met_first all here closed_then issued_thrice (Extend d) (five_asked ∷ []) after_two_segments
-      (event_outcome here (by_lists here) closed_then issued_thrice (Extend d)) (Foreign d ∷ []) refl refl tt tt (others_made, tt) last_met)
+      (event_outcome here (list_level here) closed_then issued_thrice (Extend d)) (Foreign d ∷ []) refl refl tt tt (others_made, tt) last_met)
 
   -- the request inside the segment, and the one that opens it
   first_met : Met all here first_history (first_issued here) (events_with d) after_two_segments
@@ -281,11 +281,11 @@ ff_apart b among d has same =
     let number : 255 ≡ 152 = ap (λ g. slice_index g 0) equal ∙ guard_first in
     absurd (omega (arith, number))
 
-pub segments_met : (key : List ℕ) → IsClearRun (opt counter key world_barrier) two_segments
-    × IsGenuineRun (opt counter key world_barrier) two_segments
-    × ((expected (opt counter key world_barrier) two_segments).state ≡ after_two_segments)
+pub segments_met : (key : List ℕ) → IsClearRun (opt_instance counter key world_barrier) two_segments
+    × IsGenuineRun (opt_instance counter key world_barrier) two_segments
+    × ((outcome_by_lists (opt_instance counter key world_barrier) two_segments).state ≡ after_two_segments)
 segments_met key =
-    let i = opt counter key world_barrier in
+    let i = opt_instance counter key world_barrier in
     let met = first_met counter counter_is_lawful key world_barrier ff_bytes segment_messages segments_listed in (
       record {
         clear = clear_within segment_messages (run_messages i two_segments) segments_clear (segments_listed.begins, met.within);
@@ -296,8 +296,8 @@ segments_met key =
     )
 
 -- and its first request alone is a run that meets them
-pub opt_met : (key : List ℕ) → IsClearRun (opt counter key world_barrier) one_ask × IsGenuineRun (opt counter key world_barrier) one_ask
+pub opt_met : (key : List ℕ) → IsClearRun (opt_instance counter key world_barrier) one_ask × IsGenuineRun (opt_instance counter key world_barrier) one_ask
 opt_met key =
-    let i = opt counter key world_barrier in
+    let i = opt_instance counter key world_barrier in
     let later : List Event = five_asked ∷ Checkpoint [] Quiet ∷ Extend ff_bytes ∷ five_asked ∷ [] in
     (clear_fronts i one_ask later (segments_met key).0, genuine_fronts i one_ask later (segments_met key).1)

@@ -1,10 +1,10 @@
 -- Parts of what the definitions say of a call, which proofs speak of alone.
-use Rattle.mm_run.proofs.Below.{ℕ, ◌-◌, length, Bool, List, [], Option, if◌then◌else◌, Batch, normal, History, Move, Instance, is_long}
-use Rattle.mm_run.proofs.Below.{called}
-use Rattle.mm_run.proofs.Below.{right_messages, by_lists, course_of, Meddle, Stop}
+use Rattle.mm_run.proofs.Below.{ℕ, ◌-◌, length, Bool, List, [], Option, if◌then◌else◌, Batch, normal_batch, History, Move, Instance, is_long}
+use Rattle.mm_run.proofs.Below.{call_outcome}
+use Rattle.mm_run.proofs.Below.{right_messages, list_level, course_of, Meddle, Stop}
 use Rattle.std.specs.Option.{option_map_or}
 use Rattle.mm_model.specs.declared.answer.BatchAnswer.{BatchAnswer}
-use Rattle.mm_call.specs.Found.{right_content}
+use Rattle.mm_call.specs.CallFinding.{right_content}
 use Rattle.mm_schedule.specs.declared.reply.Reply.{Reply}
 use Rattle.mm_schedule.specs.declared.reply.Reply.TheVariants as reply
 use Rattle.mm_schedule.specs.declared.reply.Way.{Way}
@@ -22,8 +22,8 @@ stopped_reply how closed = if closed then reply.Closed how else reply.Nothing ho
 -- the moves of a call that is asked, and the messages of what is asked of a right offer
 abbrev pub ask_moves : Instance → History → List Meddle → Stop → Option (List ℕ) → Batch → List Move
 ask_moves i y meddles stop offered b =
-    option_map_or (λ bytes. if is_long b then [] else (called i (by_lists i) y (course_of stop meddles) bytes (normal b)).moves) offered []
+    option_map_or (λ bytes. if is_long b then [] else (call_outcome i (list_level i) y (course_of stop meddles) bytes (normal_batch b)).moves) offered []
 
 abbrev pub asking_messages : Instance → Option (List ℕ) → Batch → List (List ℕ)
 asking_messages i offered b =
-    option_map_or (λ bytes. if is_long b then [] else right_messages i (normal b) (right_content i bytes)) offered []
+    option_map_or (λ bytes. if is_long b then [] else right_messages i (normal_batch b) (right_content i bytes)) offered []

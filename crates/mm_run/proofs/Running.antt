@@ -1,35 +1,35 @@
 -- What is expected is a run of the machine, in each variant.
 use Rattle.mm_run.proofs.Below.{ℕ, ◌≡◌, ◌+◌, ◌-◌, Bool, true, false, ◌&&◌, List, [], ◌∷◌, ◌++◌, length, Option, None, Some, Result, Ok, Err}
 use Rattle.mm_run.proofs.Below.{refl, sym, ap, ◌∙◌, subst, nat_eq, bytes_eq, and_parts, Meaning, state_after, outputs_from}
-use Rattle.mm_run.proofs.Below.{Batch, members_of, size_of, normal, members_of-normal, length-outputs_from, length-append, arith}
+use Rattle.mm_run.proofs.Below.{Batch, members_of, size_of, normal_batch, members_of-normal, length-outputs_from, length-append, arith}
 use Rattle.mm_run.proofs.Below.{PartsFault, Form, Kind}
 use Rattle.mm_run.proofs.Below.{Snapshot, tag_of, parts_of, StepFault, Meddle, Stop, Instance, History, Move}
-use Rattle.mm_run.proofs.Below.{requests_of, total_of, first_history, Life, Live, life_of, is_lost, is_last, judged, judge}
-use Rattle.mm_run.proofs.Below.{ask_steps, Refusal, admitted, examined, by_lists, all_made, Found, found_by_verdict, found_at}
-use Rattle.mm_run.proofs.Below.{found_unless_wanting, is_fresh, Course, Walked, walk, seen_in, commits, Answers, Breaks, Called}
-use Rattle.mm_run.proofs.Below.{reading_steps, ended_by, called, kept_at, Closing, Stops}
-use Rattle.mm_run.proofs.Below.{Checkpointed, checkpointed_with, same_batches, more_batches, Commits, nothing, batch, commits-none}
+use Rattle.mm_run.proofs.Below.{requests_of, total_of, first_history, Life, Live, life_of, is_lost, is_last, verdict_by_tests, verdict_on}
+use Rattle.mm_run.proofs.Below.{ask_steps, Refusal, check_of_verdict, check_of_offer, list_level, state_after_moves, CallFinding, finding_by_verdict, finding_at}
+use Rattle.mm_run.proofs.Below.{finding_unless_wanting, is_fresh, Course, StepsWalk, walk, moves_seen, has_commit, Answers, Breaks, CallOutcome}
+use Rattle.mm_run.proofs.Below.{reading_steps, call_ending_by, call_outcome, position_if_committed, CheckpointEnding, Stops}
+use Rattle.mm_run.proofs.Below.{CheckpointOutcome, checkpoint_outcome_with, same_batches, more_batches, Commits, nothing, batch, commits-none}
 use Rattle.mm_run.proofs.Below.{call_commits, commits_batch, seen_none, admitted_tells, weighed_tells, found_with_tells, unless_lost}
 use Rattle.mm_run.proofs.Below.{requests-push, said_last, again_of, fresh_of, unlacked, checkpoint_none, Event, Ask}
-use Rattle.mm_run.proofs.Below.{Checkpoint, IsTold, StepsOn, AsksNone, Steps, Runs, Way, Reply, offered_bytes, Outcome}
+use Rattle.mm_run.proofs.Below.{Checkpoint, IsTold, IsBatchStep, IsStepWithoutBatch, IsRunStep, IsEventRun, Way, Reply, offered_bytes, Outcome}
 use Rattle.mm_run.proofs.Below.{way_of, course_of, reply_of, outcome_by, closing_reply}
-use Rattle.mm_run.proofs.Below.{closed_outcome, event_outcome, Followed, followed, first_issued, ExpectedRuns}
-use Rattle.mm_model.specs.BatchLaws.{EndsWith, is_last_tells}
+use Rattle.mm_run.proofs.Below.{checkpoint_event_outcome, event_outcome, RunOutcome, outcome_of_events, first_issued, ExpectedRuns}
+use Rattle.mm_model.specs.BatchLaws.{HasLastBatch, is_last_tells}
 use Rattle.mm_call.specs.Answers.{answer_on}
 use Rattle.mm_schedule.specs.declared.reply.Reply.TheVariants.{Told, Kept}
 use Rattle.mm_run.proofs.EachWay.{asked_either, then_all, closing_all}
 
 -- a repeat that is accepted is one of the last batch, whatever the life of the history
-repeat_admitted : (life : Life) (here repeat fits again : Bool) → admitted (judged life here repeat) fits ≡ Ok again → again ≡ true
+repeat_admitted : (life : Life) (here repeat fits again : Bool) → check_of_verdict (verdict_by_tests life here repeat) fits ≡ Ok again → again ≡ true
     → repeat ≡ true
 repeat_admitted Live here repeat fits again e = (admitted_tells here repeat fits again e).1
 repeat_admitted _ here repeat fits again e = λ _. cc
 
 -- a repeat is asked of the last batch
-repeats_from : (i : Instance) (y : History) (b : Batch) (parts : Result Snapshot PartsFault) (found : Found)
-    → found_by_verdict i (by_lists i) y b parts ≡ Ok found → found.again ≡ true → EndsWith y.batches b
+repeats_from : (i : Instance) (y : History) (b : Batch) (parts : Result Snapshot PartsFault) (found : CallFinding)
+    → finding_by_verdict i (list_level i) y b parts ≡ Ok found → found.again ≡ true → HasLastBatch y.batches b
 repeats_from i y b (Ok snapshot) found is again =
-    let t = found_with_tells snapshot.content (examined i.meaning i.key snapshot b (judge i.variant y snapshot.content.position b)) found is
+    let t = found_with_tells snapshot.content (check_of_offer i.meaning i.key snapshot b (verdict_on i.variant y snapshot.content.position b)) found is
     in
     let w = weighed_tells (i.meaning.is_spelled snapshot.content.state) (bytes_eq snapshot.tag (tag_of i.key snapshot.content)) _ _
     found.again t.1 in
@@ -39,8 +39,8 @@ repeats_from i y b (Ok snapshot) found is again =
 repeats_from i y b (Err Form) found is again = cc
 repeats_from i y b (Err Kind) found is again = cc
 
-repeats_at : (i : Instance) (y : History) (b : Batch) (bytes : List ℕ) (found : Found)
-    → found_at i (by_lists i) y b bytes ≡ Ok found → found.again ≡ true → EndsWith y.batches b
+repeats_at : (i : Instance) (y : History) (b : Batch) (bytes : List ℕ) (found : CallFinding)
+    → finding_at i (list_level i) y b bytes ≡ Ok found → found.again ≡ true → HasLastBatch y.batches b
 repeats_at i y b bytes found is again =
     repeats_from i y b (parts_of i.variant i.meaning.id bytes) found (unless_lost (is_lost (life_of i.variant y)) _ found is) again
 
@@ -48,7 +48,7 @@ repeats_at i y b bytes found is again =
 broken_steps : (meaning : Meaning) (requests after : List (List ℕ)) (b : Batch) (how : Way) (fault : StepFault) (committed : Bool)
     (position : ℕ)
     → (committed ≡ false → after ≡ requests) → (committed ≡ true → (after ≡ requests ++ members_of b) × (position ≡ length after))
-    → StepsOn meaning requests b (reply_of how (Breaks fault (kept_at committed position))) after
+    → IsBatchStep meaning requests b (reply_of how (Breaks fault (position_if_committed committed position))) after
 broken_steps meaning requests after b how fault true position same grown = grown refl
 broken_steps meaning requests after b how fault false position same grown = same refl
 
@@ -67,22 +67,22 @@ told_last i y front b again e =
     }
 
 ended_steps : (i : Instance) (y seen : History) (how : Way) (b : Batch)
-    (walked : Walked) (broken : Option StepFault) (found : Result Found Refusal) → walked.broken ≡ broken
-    → Commits b (is_fresh found) walked → ((f : Found) → found ≡ Ok f → f.again ≡ true → EndsWith y.batches b)
-    → (let end : History = all_made (by_lists i) y walked.moves in
-    StepsOn i.meaning (requests_of y.batches) b (reply_of how (ended_by (by_lists i) seen end b found walked.moves broken))
+    (walked : StepsWalk) (broken : Option StepFault) (found : Result CallFinding Refusal) → walked.broken ≡ broken
+    → Commits b (is_fresh found) walked → ((f : CallFinding) → found ≡ Ok f → f.again ≡ true → HasLastBatch y.batches b)
+    → (let end : History = state_after_moves (list_level i) y walked.moves in
+    IsBatchStep i.meaning (requests_of y.batches) b (reply_of how (call_ending_by (list_level i) seen end b found walked.moves broken))
     (requests_of end.batches))
 ended_steps i y seen how b walked (Some fault) found e (nothing none unless) repeat =
-    broken_steps i.meaning _ _ b how fault (commits walked.moves) _ (λ x. ap requests_of (same_batches i walked.moves y none))
+    broken_steps i.meaning _ _ b how fault (has_commit walked.moves) _ (λ x. ap requests_of (same_batches i walked.moves y none))
     (λ x. let clash = sym (commits-none walked.moves none) ∙ x in cc)
 ended_steps i y seen how b walked (Some fault) (Ok f) e (batch one fresh) repeat =
-    broken_steps i.meaning _ _ b how fault (commits walked.moves) _ (λ x. let clash = sym (commits_batch walked.moves b one) ∙ x in cc)
+    broken_steps i.meaning _ _ b how fault (has_commit walked.moves) _ (λ x. let clash = sym (commits_batch walked.moves b one) ∙ x in cc)
     (λ x. (ap requests_of (more_batches i walked.moves y b one) ∙ requests-push y.batches b, refl))
 ended_steps i y seen how b walked None (Err why) e (nothing none unless) repeat = ap requests_of (same_batches i walked.moves y none)
 ended_steps i y seen how b walked None (Ok f) e (nothing none unless) repeat =
-    let end : History = all_made (by_lists i) y walked.moves in let again = again_of f.again (unless e) in
+    let end : History = state_after_moves (list_level i) y walked.moves in let again = again_of f.again (unless e) in
     let same = same_batches i walked.moves y none in let ends = repeat f refl again in
-    subst (λ (g : Bool). StepsOn i.meaning (requests_of y.batches) b (reply_of how (Answers (answer_on i end b g))) (requests_of
+    subst (λ (g : Bool). IsBatchStep i.meaning (requests_of y.batches) b (reply_of how (Answers (answer_on i end b g))) (requests_of
     end.batches))
     (sym again) (
       requests_of ends.front,
@@ -92,27 +92,27 @@ ended_steps i y seen how b walked None (Ok f) e (nothing none unless) repeat =
       ap requests_of same,
     )
 ended_steps i y seen how b walked None (Ok f) e (batch one fresh) repeat =
-    let end : History = all_made (by_lists i) y walked.moves in
-    subst (λ (g : Bool). StepsOn i.meaning (requests_of y.batches) b (reply_of how (Answers (answer_on i end b g))) (requests_of
+    let end : History = state_after_moves (list_level i) y walked.moves in
+    subst (λ (g : Bool). IsBatchStep i.meaning (requests_of y.batches) b (reply_of how (Answers (answer_on i end b g))) (requests_of
     end.batches))
     (sym (fresh_of f.again fresh)) (told_last i end y.batches b false (more_batches i walked.moves y b one))
 ended_steps i y seen how b walked broken (Err why) e (batch one fresh) repeat = cc
 
 called_steps : (i : Instance) (y : History) (issued : List (List ℕ)) (meddles : List Meddle) (stop : Stop) (bytes : List ℕ) (b : Batch)
-    → (let o : Outcome History = outcome_by (by_lists i) stop issued (called i (by_lists i) y (course_of stop meddles) bytes b) in
-    StepsOn i.meaning (requests_of y.batches) b o.reply (requests_of o.state.batches))
+    → (let o : Outcome History = outcome_by (list_level i) stop issued (call_outcome i (list_level i) y (course_of stop meddles) bytes b) in
+    IsBatchStep i.meaning (requests_of y.batches) b o.reply (requests_of o.state.batches))
 called_steps i y issued meddles stop bytes b =
     let c : Course = course_of stop meddles in
-    let moves : List Move = seen_in c.fates (reading_steps i.variant) 1 in
-    let seen : History = all_made (by_lists i) y moves in
+    let moves : List Move = moves_seen c.fates (reading_steps i.variant) 1 in
+    let seen : History = state_after_moves (list_level i) y moves in
     let same : seen.batches ≡ y.batches = same_batches i moves y (seen_none c.fates (reading_steps i.variant) 1) in
-    let lists : Result Found Refusal = found_at i (by_lists i) seen b bytes in
-    let found : Result Found Refusal = found_unless_wanting lists c.lacks in
-    let walked : Walked = walk c.fates 1 (ask_steps i.variant y.is_open (is_fresh found) b) in
-    let o : Called History = called i (by_lists i) y c bytes b in
-    let P : List Batch → Type 0 = λ v. EndsWith v b in
-    let S : List (List ℕ) → Type 0 = λ after. StepsOn i.meaning (requests_of y.batches) b (reply_of (way_of stop) o.ending) after in
-    let none = then_all (λ moves. (all_made (by_lists i) o.state moves).batches ≡ o.state.batches) refl refl stop o.ending in
+    let lists : Result CallFinding Refusal = finding_at i (list_level i) seen b bytes in
+    let found : Result CallFinding Refusal = finding_unless_wanting lists c.lacks in
+    let walked : StepsWalk = walk c.fates 1 (ask_steps i.variant y.is_open (is_fresh found) b) in
+    let o : CallOutcome History = call_outcome i (list_level i) y c bytes b in
+    let P : List Batch → Type 0 = λ v. HasLastBatch v b in
+    let S : List (List ℕ) → Type 0 = λ after. IsBatchStep i.meaning (requests_of y.batches) b (reply_of (way_of stop) o.ending) after in
+    let none = then_all (λ moves. (state_after_moves (list_level i) o.state moves).batches ≡ o.state.batches) refl refl stop o.ending in
     subst S (ap requests_of (sym none)) (ended_steps i y seen (way_of stop) b walked walked.broken found refl
     (call_commits i.variant c.fates y.is_open (is_fresh found) b)
     (λ f is again. subst P same (repeats_at i seen b bytes f (unlacked lists c.lacks f is) again)))
@@ -127,7 +127,7 @@ members_told meaning requests after b c position outputs e s = record {
 }
 
 members_steps : (meaning : Meaning) (requests after : List (List ℕ)) (b c : Batch) (said : Reply) → members_of b ≡ members_of c
-    → StepsOn meaning requests b said after → StepsOn meaning requests c said after
+    → IsBatchStep meaning requests b said after → IsBatchStep meaning requests c said after
 members_steps meaning requests after b c (Told true position outputs) e s =
     (s.0, members_told meaning s.0 requests b c position outputs e s.1, s.2)
 members_steps meaning requests after b c (Told false position outputs) e s = members_told meaning requests after b c position outputs e s
@@ -135,40 +135,40 @@ members_steps meaning requests after b c (Kept way position) e s = (s.0 ∙ ap (
 members_steps meaning requests after b c said e s = s
 
 -- what a checkpoint says tells no request
-closing_stays : (how : Way) (closing : Closing) (requests after : List (List ℕ)) → after ≡ requests
+closing_stays : (how : Way) (closing : CheckpointEnding) (requests after : List (List ℕ)) → after ≡ requests
     → AsksNone requests (closing_reply how closing) after
 closing_stays how (Stops fault true) requests after e = e
 closing_stays how (Stops fault false) requests after e = e
 closing_stays how closing requests after e = e
 
 checkpointed_steps : (i : Instance) (y : History) (issued : List (List ℕ)) (meddles : List Meddle) (stop : Stop) (is_lost : Bool)
-    → (let o : Outcome History = closed_outcome (by_lists i) stop issued
-    (checkpointed_with i (by_lists i) y (course_of stop meddles) is_lost) in
+    → (let o : Outcome History = checkpoint_event_outcome (list_level i) stop issued
+    (checkpoint_outcome_with i (list_level i) y (course_of stop meddles) is_lost) in
     AsksNone (requests_of y.batches) o.reply (requests_of o.state.batches))
 checkpointed_steps i y issued meddles stop is_lost =
     let c : Course = course_of stop meddles in
-    let o : Checkpointed History = checkpointed_with i (by_lists i) y c is_lost in
+    let o : CheckpointOutcome History = checkpoint_outcome_with i (list_level i) y c is_lost in
     closing_stays (way_of stop) o.ending _ _
-    (ap requests_of (closing_all (λ moves. (all_made (by_lists i) o.state moves).batches ≡ o.state.batches) refl refl stop o.ending
+    (ap requests_of (closing_all (λ moves. (state_after_moves (list_level i) o.state moves).batches ≡ o.state.batches) refl refl stop o.ending
     ∙ same_batches i o.moves y (checkpoint_none i.variant y.is_open is_lost c.fates)))
 
 pub event_steps : (i : Instance) (y : History) (issued : List (List ℕ)) (event : Event)
-    → (let o : Outcome History = event_outcome i (by_lists i) y issued event in
-    Steps i.meaning (requests_of y.batches) event o.reply (requests_of o.state.batches))
+    → (let o : Outcome History = event_outcome i (list_level i) y issued event in
+    IsRunStep i.meaning (requests_of y.batches) event o.reply (requests_of o.state.batches))
 event_steps i y issued (Ask meddles stop offer b) =
-    asked_either i (by_lists i) y issued (λ o. StepsOn i.meaning (requests_of y.batches) b o.reply (requests_of o.state.batches)) meddles
+    asked_either i (list_level i) y issued (λ o. IsBatchStep i.meaning (requests_of y.batches) b o.reply (requests_of o.state.batches)) meddles
     stop
-    (offered_bytes issued offer) b (λ why. refl) (λ bytes short. members_steps i.meaning _ _ (normal b) b _ (members_of-normal b)
-    (called_steps i y issued meddles stop bytes (normal b)))
+    (offered_bytes issued offer) b (λ why. refl) (λ bytes short. members_steps i.meaning _ _ (normal_batch b) b _ (members_of-normal b)
+    (called_steps i y issued meddles stop bytes (normal_batch b)))
 event_steps i y issued (Checkpoint meddles stop) = checkpointed_steps i y issued meddles stop _
 event_steps i y issued event = refl
 
 pub runs : (i : Instance) (events : List Event) (y : History) (issued : List (List ℕ))
-    → (let f : Followed History = followed i (by_lists i) y issued events in
-    Runs i.meaning (requests_of y.batches) events f.replies (requests_of f.state.batches))
+    → (let f : RunOutcome History = outcome_of_events i (list_level i) y issued events in
+    IsEventRun i.meaning (requests_of y.batches) events f.replies (requests_of f.state.batches))
 runs i [] y issued = refl
 runs i (event ∷ events) y issued =
-    let o : Outcome History = event_outcome i (by_lists i) y issued event in
+    let o : Outcome History = event_outcome i (list_level i) y issued event in
     (requests_of o.state.batches, event_steps i y issued event, runs i events o.state o.issued)
 
 pub expected_runs : ExpectedRuns

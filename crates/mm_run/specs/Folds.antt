@@ -1,16 +1,16 @@
 -- A schedule followed by a level: each event's reply, and what stands after it.
 use Rattle.std.specs.Prelude.{ℕ, ◌+◌, ◌-◌, false, List, [], ◌∷◌, ◌++◌, length, fold, Option, None, Some, Err, if◌then◌else◌}
 use Rattle.std.specs.Option.{option_map_or}
-use Rattle.mm_run.specs.Below.{zero_bytes, start_of, sealed_of, Plan, Meddle, Stop, Cut, Drop, Batch, One, normal, History, Move, Foreign}
-use Rattle.mm_run.specs.Below.{PowerMove, first_history, Instance, is_long, Digests, issued, Reads, Refusal, Ending, Answers, Refuses}
-use Rattle.mm_run.specs.Below.{Breaks, Called, called, called_by, Closing, Closes, HasNone, NoSegment, LostPower, Stops, Checkpointed}
-use Rattle.mm_run.specs.Below.{checkpointed, Course, planned, walk, Level, by_lists, by_digests, Event, Ask, Checkpoint, Power}
+use Rattle.mm_run.specs.Below.{zero_bytes, start_digest_of, sealed_snapshot_of, Plan, Meddle, Stop, Cut, Drop, Batch, One, normal_batch, History, Move, Foreign}
+use Rattle.mm_run.specs.Below.{PowerMove, first_history, Instance, is_long, Digests, content_of_issue, Reads, Refusal, CallEnding, Answers, Refuses}
+use Rattle.mm_run.specs.Below.{Breaks, CallOutcome, call_outcome, call_outcome_by, CheckpointEnding, Closes, HasNone, NoSegment, LostPower, Stops, CheckpointOutcome}
+use Rattle.mm_run.specs.Below.{checkpoint_outcome, Course, fate_by_plan, walk, Level, list_level, digest_level, Event, Ask, Checkpoint, Power}
 use Rattle.mm_run.specs.Below.{Extend, Cause, Reply, Way}
 use Rattle.mm_model.specs.declared.refusal.Refusal.TheVariants as refusal
 use Rattle.mm_schedule.specs.declared.reply.Way.TheVariants as way
 use Rattle.mm_schedule.specs.declared.reply.Cause.TheVariants as cause
 use Rattle.mm_schedule.specs.declared.reply.Reply.TheVariants as reply
-use Rattle.mm_run.specs.Offered.{offered_bytes}
+use Rattle.mm_run.specs.EventOffers.{offered_bytes}
 
 -- what stands after an event, with the snapshots issued so far; its reply; and the steps that it
 -- called, and those of them that were to write the cell
@@ -28,16 +28,16 @@ way_of (Drop step) = way.Drop
 way_of stop = way.Fault
 
 -- power is lost where the call is cut, and comes back
-abbrev pub after_stop : Stop → List Move
-after_stop (Cut step) = PowerMove ∷ []
-after_stop stop = []
+abbrev pub moves_after_stop : Stop → List Move
+moves_after_stop (Cut step) = PowerMove ∷ []
+moves_after_stop stop = []
 
 -- what a schedule plans for a call, and the course by it
 abbrev pub plan_of : Stop → List Meddle → Plan
 plan_of stop meddles = record { stop = stop; meddles = meddles; at = 0 }
 
 abbrev pub course_of : Stop → List Meddle → Course
-course_of stop meddles = record { fates = planned (plan_of stop meddles); lacks = false }
+course_of stop meddles = record { fates = fate_by_plan (plan_of stop meddles); lacks = false }
 
 -- the cause that a reply names. A planned call is refused for no other reason.
 abbrev pub cause_of : Refusal → Cause
@@ -54,7 +54,7 @@ cause_of why = cause.Long
 
 -- the reply to a call: its answer; or, where it was broken off, the position after its batch, if
 -- that was committed
-abbrev pub reply_of : Way → Ending → Reply
+abbrev pub reply_of : Way → CallEnding → Reply
 reply_of how (Answers answer) =
     reply.Told answer.again (answer.position - length answer.outputs) answer.outputs
 reply_of how (Refuses why) = reply.No (cause_of why)
@@ -62,19 +62,19 @@ reply_of how (Breaks fault kept) =
     option_map_or (λ position. reply.Kept how position) kept (reply.Nothing how)
 
 -- an answer hands out a snapshot
-abbrev pub snapshots_of : Ending → List (List ℕ)
+abbrev pub snapshots_of : CallEnding → List (List ℕ)
 snapshots_of (Answers answer) = answer.snapshot ∷ []
 snapshots_of ending = []
 
 -- what follows a call that is broken off
-abbrev pub moves_then : Stop → Ending → List Move
-moves_then stop (Breaks fault kept) = after_stop stop
-moves_then stop ending = []
+abbrev pub moves_after_call : Stop → CallEnding → List Move
+moves_after_call stop (Breaks fault kept) = moves_after_stop stop
+moves_after_call stop ending = []
 
 -- what a call comes to in a schedule
-abbrev pub outcome_by : {S : Type 0} → Level S → Stop → List (List ℕ) → Called S → Outcome S
+abbrev pub outcome_by : {S : Type 0} → Level S → Stop → List (List ℕ) → CallOutcome S → Outcome S
 outcome_by level stop issued o = record {
-  state = fold level.made o.state (moves_then stop o.ending);
+  state = fold level.made o.state (moves_after_call stop o.ending);
   issued = issued ++ snapshots_of o.ending;
   reply = reply_of (way_of stop) o.ending;
   steps = o.steps;
@@ -82,51 +82,51 @@ outcome_by level stop issued o = record {
 }
 
 -- nothing was called
-abbrev pub uncalled : {S : Type 0} → S → List (List ℕ) → Reply → Outcome S
-uncalled s issued said = record { state = s; issued = issued; reply = said; steps = 0; writes = 0 }
+abbrev pub outcome_without_call : {S : Type 0} → S → List (List ℕ) → Reply → Outcome S
+outcome_without_call s issued said = record { state = s; issued = issued; reply = said; steps = 0; writes = 0 }
 
 -- the number isn't issued, or the batch is too long: then nothing is called, and nothing meddles
-abbrev pub asked : {S : Type 0} → Instance → Level S → S → List (List ℕ) → List Meddle → Stop
+abbrev pub ask_event_outcome : {S : Type 0} → Instance → Level S → S → List (List ℕ) → List Meddle → Stop
     → Option (List ℕ) → Batch → Outcome S
-asked i level s issued meddles stop None b = uncalled s issued (reply.No cause.Snapshot)
-asked i level s issued meddles stop (Some bytes) b =
-    if is_long b then uncalled s issued (reply.No cause.Long)
-    else outcome_by level stop issued (called i level s (course_of stop meddles) bytes (normal b))
+ask_event_outcome i level s issued meddles stop None b = outcome_without_call s issued (reply.No cause.Snapshot)
+ask_event_outcome i level s issued meddles stop (Some bytes) b =
+    if is_long b then outcome_without_call s issued (reply.No cause.Long)
+    else outcome_by level stop issued (call_outcome i level s (course_of stop meddles) bytes (normal_batch b))
 
 -- The cell is none that a call goes on with: the call reads it, makes no further step, and is
 -- refused.
-abbrev pub reads_only : {S : Type 0} → Level S → S → List (List ℕ) → List Meddle → Stop → Refusal
+abbrev pub read_only_outcome : {S : Type 0} → Level S → S → List (List ℕ) → List Meddle → Stop → Refusal
     → Outcome S
-reads_only level s issued meddles stop why =
+read_only_outcome level s issued meddles stop why =
     outcome_by level stop issued
-    (called_by level s s (One []) (Err why)
+    (call_outcome_by level s s (One []) (Err why)
     (walk (course_of stop meddles).fates 1 (Reads ∷ [])))
 
 -- the same behind the tests for a number that isn't issued and for a batch that is too long
-abbrev pub asked_in_vain : {S : Type 0} → Level S → S → List (List ℕ) → List Meddle → Stop → Refusal
+abbrev pub vain_ask_outcome : {S : Type 0} → Level S → S → List (List ℕ) → List Meddle → Stop → Refusal
     → Option (List ℕ) → Batch → Outcome S
-asked_in_vain level s issued meddles stop why None b = uncalled s issued (reply.No cause.Snapshot)
-asked_in_vain level s issued meddles stop why (Some bytes) b =
-    if is_long b then uncalled s issued (reply.No cause.Long)
-    else reads_only level s issued meddles stop why
+vain_ask_outcome level s issued meddles stop why None b = outcome_without_call s issued (reply.No cause.Snapshot)
+vain_ask_outcome level s issued meddles stop why (Some bytes) b =
+    if is_long b then outcome_without_call s issued (reply.No cause.Long)
+    else read_only_outcome level s issued meddles stop why
 
 -- the reply to a checkpoint: where it was broken off, whether its segment was closed
-abbrev pub closing_reply : Way → Closing → Reply
+abbrev pub closing_reply : Way → CheckpointEnding → Reply
 closing_reply how Closes = reply.Checkpointed
 closing_reply how HasNone = reply.No cause.Kind
 closing_reply how NoSegment = reply.No cause.Segment
 closing_reply how LostPower = reply.No cause.Lost
 closing_reply how (Stops fault closed) = if closed then reply.Closed how else reply.Nothing how
 
-abbrev pub closing_then : Stop → Closing → List Move
-closing_then stop (Stops fault closed) = after_stop stop
-closing_then stop closing = []
+abbrev pub moves_after_checkpoint : Stop → CheckpointEnding → List Move
+moves_after_checkpoint stop (Stops fault closed) = moves_after_stop stop
+moves_after_checkpoint stop closing = []
 
 -- what a checkpoint comes to in a schedule
-abbrev pub closed_outcome : {S : Type 0} → Level S → Stop → List (List ℕ) → Checkpointed S
+abbrev pub checkpoint_event_outcome : {S : Type 0} → Level S → Stop → List (List ℕ) → CheckpointOutcome S
     → Outcome S
-closed_outcome level stop issued o = record {
-  state = fold level.made o.state (closing_then stop o.ending);
+checkpoint_event_outcome level stop issued o = record {
+  state = fold level.made o.state (moves_after_checkpoint stop o.ending);
   issued = issued;
   reply = closing_reply (way_of stop) o.ending;
   steps = o.steps;
@@ -136,39 +136,39 @@ closed_outcome level stop issued o = record {
 -- one event
 abbrev pub event_outcome : {S : Type 0} → Instance → Level S → S → List (List ℕ) → Event → Outcome S
 event_outcome i level s issued (Ask meddles stop offer b) =
-    asked i level s issued meddles stop (offered_bytes issued offer) b
+    ask_event_outcome i level s issued meddles stop (offered_bytes issued offer) b
 event_outcome i level s issued (Checkpoint meddles stop) =
-    closed_outcome level stop issued (checkpointed i level s (course_of stop meddles))
-event_outcome i level s issued Power = uncalled (level.made s PowerMove) issued reply.Power
+    checkpoint_event_outcome level stop issued (checkpoint_outcome i level s (course_of stop meddles))
+event_outcome i level s issued Power = outcome_without_call (level.made s PowerMove) issued reply.Power
 event_outcome i level s issued (Extend value) =
-    uncalled (level.made s (Foreign value)) issued reply.Extended
+    outcome_without_call (level.made s (Foreign value)) issued reply.Extended
 
 -- one event where the cell is none that a call goes on with
-abbrev pub event_in_vain : {S : Type 0} → Level S → S → List (List ℕ) → Refusal → Event → Outcome S
-event_in_vain level s issued why (Ask meddles stop offer b) =
-    asked_in_vain level s issued meddles stop why (offered_bytes issued offer) b
-event_in_vain level s issued why (Checkpoint meddles stop) =
-    reads_only level s issued meddles stop why
-event_in_vain level s issued why Power = uncalled (level.made s PowerMove) issued reply.Power
-event_in_vain level s issued why (Extend value) =
-    uncalled (level.made s (Foreign value)) issued reply.Extended
+abbrev pub vain_event_outcome : {S : Type 0} → Level S → S → List (List ℕ) → Refusal → Event → Outcome S
+vain_event_outcome level s issued why (Ask meddles stop offer b) =
+    vain_ask_outcome level s issued meddles stop why (offered_bytes issued offer) b
+vain_event_outcome level s issued why (Checkpoint meddles stop) =
+    read_only_outcome level s issued meddles stop why
+vain_event_outcome level s issued why Power = outcome_without_call (level.made s PowerMove) issued reply.Power
+vain_event_outcome level s issued why (Extend value) =
+    outcome_without_call (level.made s (Foreign value)) issued reply.Extended
 
 -- What stands after some events, with the replies so far and the counts of steps and of writes of
 -- the cell.
-pub record Followed (S : Type 0) : Type 0 where
+pub record RunOutcome (S : Type 0) : Type 0 where
   pub state : S
   pub issued : List (List ℕ)
   pub replies : List Reply
   pub steps : ℕ
   pub writes : ℕ
 
-abbrev pub followed : {S : Type 0} → Instance → Level S → S → List (List ℕ) → List Event
-    → Followed S
-followed i level s issued [] =
+abbrev pub outcome_of_events : {S : Type 0} → Instance → Level S → S → List (List ℕ) → List Event
+    → RunOutcome S
+outcome_of_events i level s issued [] =
     record { state = s; issued = issued; replies = []; steps = 0; writes = 0 }
-followed i level s issued (event ∷ events) =
+outcome_of_events i level s issued (event ∷ events) =
     let o = event_outcome i level s issued event in
-    let rest = followed i level o.state o.issued events in record {
+    let rest = outcome_of_events i level o.state o.issued events in record {
       state = rest.state;
       issued = rest.issued;
       replies = o.reply ∷ rest.replies;
@@ -178,20 +178,20 @@ followed i level s issued (event ∷ events) =
 
 -- the first snapshot of an instance, and its first digests
 abbrev pub first_issued : Instance → List (List ℕ)
-first_issued i = sealed_of i.key (issued i first_history) ∷ []
+first_issued i = sealed_snapshot_of i.key (issued i first_history) ∷ []
 
 abbrev pub first_digests : Instance → Digests
 first_digests i =
     record {
-      digest = start_of i.variant i.meaning.id;
+      digest = start_digest_of i.variant i.meaning.id;
       flag = false;
       register = zero_bytes;
       count = 0;
     }
 
 -- a schedule from the start: by lists, which gives the expected replies; and by digests
-abbrev pub expected : Instance → List Event → Followed History
-expected i events = followed i (by_lists i) first_history (first_issued i) events
+abbrev pub outcome_by_lists : Instance → List Event → RunOutcome History
+outcome_by_lists i events = outcome_of_events i (list_level i) first_history (first_issued i) events
 
-abbrev pub replies_by_digests : Instance → List Event → Followed Digests
-replies_by_digests i events = followed i (by_digests i) (first_digests i) (first_issued i) events
+abbrev pub outcome_by_digests : Instance → List Event → RunOutcome Digests
+outcome_by_digests i events = outcome_of_events i (digest_level i) (first_digests i) (first_issued i) events

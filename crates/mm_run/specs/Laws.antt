@@ -1,44 +1,44 @@
 -- The laws of whole runs.
 use Rattle.std.specs.Prelude.{◌≡◌, ℕ, ◌+◌, true, List, [], ◌∷◌, ◌++◌, codes, replicate}
 use Rattle.std.specs.List.{AllByRecursion}
-use Rattle.mm_run.specs.Below.{Content, sealed_of, Quiet, One, Meaning, History, Own, requests_of, Instance, basic, opt, Digests, Names}
-use Rattle.mm_run.specs.Below.{by_lists, by_digests, Agrees, Event, Ask, Checkpoint, Extend, Runs, Last}
-use Rattle.mm_run.specs.Folds.{Followed, followed, expected, replies_by_digests}
+use Rattle.mm_run.specs.Below.{Content, sealed_snapshot_of, Quiet, One, Meaning, History, Own, requests_of, Instance, basic_instance, opt_instance, Digests, NamesPosition}
+use Rattle.mm_run.specs.Below.{list_level, digest_level, DigestsAgree, Event, Ask, Checkpoint, Extend, IsEventRun, Last}
+use Rattle.mm_run.specs.Folds.{RunOutcome, outcome_of_events, outcome_by_lists, outcome_by_digests}
 use Rattle.mm_run.specs.Premises.{messages_from, IsClearRun, IsGenuineRun}
 
 -- Two followings give the same replies, issue the same snapshots and call as many steps and writes;
 -- and the digests at the end are those of the history.
-pub record AgreesThroughout (i : Instance) (lists : Followed History)
-    (digests : Followed Digests) : Type 0 where
+pub record AgreesThroughout (i : Instance) (lists : RunOutcome History)
+    (digests : RunOutcome Digests) : Type 0 where
   pub replies : digests.replies ≡ lists.replies
   pub issued : digests.issued ≡ lists.issued
   pub steps : digests.steps ≡ lists.steps
   pub writes : digests.writes ≡ lists.writes
-  pub stands : Agrees i lists.state digests.state
+  pub stands : DigestsAgree i lists.state digests.state
 
 -- Where no two messages of the run share a digest and each right offer names a position, what is
 -- told by digests is what is expected.
 abbrev pub IsExpected : Instance → Type 0
 IsExpected i = (events : List Event) → IsClearRun i events → IsGenuineRun i events →
-    AgreesThroughout i (expected i events) (replies_by_digests i events)
+    AgreesThroughout i (outcome_by_lists i events) (outcome_by_digests i events)
 
 -- of Basic, and of Opt
 abbrev pub BasicIsExpected : Type 0
-BasicIsExpected = (meaning : Meaning) (key : List ℕ) → IsExpected (basic meaning key)
+BasicIsExpected = (meaning : Meaning) (key : List ℕ) → IsExpected (basic_instance meaning key)
 
 abbrev pub OptIsExpected : Type 0
-OptIsExpected = (meaning : Meaning) (key barrier : List ℕ) → IsExpected (opt meaning key barrier)
+OptIsExpected = (meaning : Meaning) (key barrier : List ℕ) → IsExpected (opt_instance meaning key barrier)
 
 -- In both variants, and without a premise, what is expected is one run of the machine, on one list
 -- of requests.
 abbrev pub ExpectedRuns : Type 0
 ExpectedRuns = (i : Instance) (events : List Event) →
-    let lists : Followed History = expected i events in
-    Runs i.meaning [] events lists.replies (requests_of lists.state.batches)
+    let lists : RunOutcome History = outcome_by_lists i events in
+    IsEventRun i.meaning [] events lists.replies (requests_of lists.state.batches)
 
 -- What stands after some events and then more.
-abbrev pub continued : {S : Type 0} → Followed S → Followed S → Followed S
-continued first second = record {
+abbrev pub outcome_joined_to : {S : Type 0} → RunOutcome S → RunOutcome S → RunOutcome S
+outcome_joined_to first second = record {
   state = second.state;
   issued = second.issued;
   replies = first.replies ++ second.replies;
@@ -51,25 +51,25 @@ continued first second = record {
 abbrev pub SchedulesGoOn : Type 0
 SchedulesGoOn =
     (i : Instance) (es fs : List Event) (y : History) (d : Digests) (issued : List (List ℕ)) →
-    let lists : Followed History = followed i (by_lists i) y issued es in
-    let digests : Followed Digests = followed i (by_digests i) d issued es in
-    (followed i (by_lists i) y issued (es ++ fs) ≡ continued lists
-    (followed i (by_lists i) lists.state lists.issued fs))
-    × (followed i (by_digests i) d issued (es ++ fs) ≡ continued digests
-    (followed i (by_digests i) digests.state digests.issued fs))
+    let lists : RunOutcome History = outcome_of_events i (list_level i) y issued es in
+    let digests : RunOutcome Digests = outcome_of_events i (digest_level i) d issued es in
+    (outcome_of_events i (list_level i) y issued (es ++ fs) ≡ outcome_joined_to lists
+    (outcome_of_events i (list_level i) lists.state lists.issued fs))
+    × (outcome_of_events i (digest_level i) d issued (es ++ fs) ≡ outcome_joined_to digests
+    (outcome_of_events i (digest_level i) digests.state digests.issued fs))
     × (messages_from i y issued (es ++ fs) ≡ messages_from i y issued es
     ++ messages_from i lists.state lists.issued fs)
 
 -- A snapshot says, sealed under the key, what names a position of the history.
 pub record IsIssued (i : Instance) (y : History) (bytes : List ℕ) : Type 0 where
   pub content : Content
-  pub sealed : bytes ≡ sealed_of i.key content
-  pub names : Names i y content
+  pub sealed : bytes ≡ sealed_snapshot_of i.key content
+  pub names : NamesPosition i y content
 
 -- After each schedule every snapshot that was issued names a position of the history.
 abbrev pub IssuedNamePositions : Instance → Type 0
 IssuedNamePositions i = (events : List Event) →
-    let lists : Followed History = expected i events
+    let lists : RunOutcome History = outcome_by_lists i events
     in AllByRecursion (IsIssued i lists.state) lists.issued
 
 -- One request is asked once: `ask last add 5`.

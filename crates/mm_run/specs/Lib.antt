@@ -1,9 +1,9 @@
 pub mod Below
-pub mod Offered
+pub mod EventOffers
 pub mod OfferedBytes
 pub mod Folds
 pub mod Premises
-pub mod Held
+pub mod WorldState
 pub mod Laws
 pub mod OneRun
 pub mod OneEvent

@@ -1,8 +1,8 @@
 -- One run of the module, of all events and of each first part of them.
 use Rattle.std.specs.Prelude.{◌≡◌, ℕ, List, [], ◌++◌, length}
-use Rattle.mm_run.specs.Below.{Instance, Digests, by_digests, Event, Runs, Reply}
-use Rattle.mm_run.specs.Folds.{Followed, followed, expected, replies_by_digests}
-use Rattle.mm_run.specs.Laws.{continued}
+use Rattle.mm_run.specs.Below.{Instance, Digests, digest_level, Event, IsEventRun, Reply}
+use Rattle.mm_run.specs.Folds.{RunOutcome, outcome_of_events, outcome_by_lists, outcome_by_digests}
+use Rattle.mm_run.specs.Laws.{outcome_joined_to}
 use Rattle.mm_run.specs.Premises.{IsClearRun, IsGenuineRun}
 
 -- The replies to the events are those of one run of the module on one list of requests, as the
@@ -11,16 +11,16 @@ use Rattle.mm_run.specs.Premises.{IsClearRun, IsGenuineRun}
 pub record IsOneRun (i : Instance) (events : List Event) (replies : List Reply) (committed : ℕ)
     (issued : List (List ℕ)) : Type 0 where
   pub requests : List (List ℕ)
-  pub runs : Runs i.meaning [] events replies requests
-  pub judged : replies ≡ (expected i events).replies
+  pub runs : IsEventRun i.meaning [] events replies requests
+  pub judged : replies ≡ (outcome_by_lists i events).replies
   pub count : committed ≡ length requests
-  pub shown : issued ≡ (expected i events).issued
+  pub shown : issued ≡ (outcome_by_lists i events).issued
 
 -- The whole run is that of each first part of the events, and then of the rest. And of each first
 -- part that meets the premises it is one run: a premise that breaks later costs nothing of it.
 abbrev pub FrontsAreOneRun : Instance → List Event → Type 0
 FrontsAreOneRun i events = (front rest : List Event) → events ≡ front ++ rest →
-    let it : Followed Digests = replies_by_digests i front in
-    (replies_by_digests i events ≡ continued it (followed i (by_digests i) it.state it.issued rest))
+    let it : RunOutcome Digests = outcome_by_digests i front in
+    (outcome_by_digests i events ≡ outcome_joined_to it (outcome_of_events i (digest_level i) it.state it.issued rest))
     × (IsClearRun i front → IsGenuineRun i front
     → IsOneRun i front it.replies it.state.count it.issued)

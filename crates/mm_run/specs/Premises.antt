@@ -2,21 +2,21 @@
 -- the run.
 use Rattle.std.specs.Prelude.{◌≡◌, ℕ, List, [], ◌∷◌, ◌++◌, Option, IfSome, map, flat_map, if◌then◌else◌}
 use Rattle.std.specs.Option.{option_map_or}
-use Rattle.mm_run.specs.Below.{start_message, Variant, Opt, Batch, normal, History, Move, Foreign, PowerMove}
-use Rattle.mm_run.specs.Below.{first_history, Instance, is_long, IsClear, AreNoGuards, IsGenuine, moves_messages, right_messages}
-use Rattle.mm_run.specs.Below.{called, checkpointed}
-use Rattle.mm_run.specs.Below.{right_content, by_lists, Event, Ask, Checkpoint, Power, Extend}
-use Rattle.mm_run.specs.Offered.{offered_bytes}
+use Rattle.mm_run.specs.Below.{start_message, Variant, Opt, Batch, normal_batch, History, Move, Foreign, PowerMove}
+use Rattle.mm_run.specs.Below.{first_history, Instance, is_long, IsClear, AreNoGuards, IsGenuine, messages_of_moves, right_messages}
+use Rattle.mm_run.specs.Below.{call_outcome, checkpoint_outcome}
+use Rattle.mm_run.specs.Below.{right_content, list_level, Event, Ask, Checkpoint, Power, Extend}
+use Rattle.mm_run.specs.EventOffers.{offered_bytes}
 use Rattle.mm_run.specs.Folds.{course_of, event_outcome, first_issued}
 
 -- the moves of an event's call, by lists. The loss of power after one that was cut has no messages.
 abbrev pub moves_of : Instance → History → List (List ℕ) → Event → List Move
 moves_of i y issued (Ask meddles stop offer b) =
     option_map_or (λ bytes. if is_long b then []
-    else (called i (by_lists i) y (course_of stop meddles) bytes (normal b)).moves)
+    else (call_outcome i (list_level i) y (course_of stop meddles) bytes (normal_batch b)).moves)
     (offered_bytes issued offer) []
 moves_of i y issued (Checkpoint meddles stop) =
-    (checkpointed i (by_lists i) y (course_of stop meddles)).moves
+    (checkpoint_outcome i (list_level i) y (course_of stop meddles)).moves
 moves_of i y issued Power = PowerMove ∷ []
 moves_of i y issued (Extend value) = Foreign value ∷ []
 
@@ -24,7 +24,7 @@ moves_of i y issued (Extend value) = Foreign value ∷ []
 abbrev pub event_messages : Instance → List (List ℕ) → Event → List (List ℕ)
 event_messages i issued (Ask meddles stop offer b) =
     option_map_or (λ bytes. if is_long b then []
-    else right_messages i (normal b) (right_content i bytes)) (offered_bytes issued offer) []
+    else right_messages i (normal_batch b) (right_content i bytes)) (offered_bytes issued offer) []
 event_messages i issued event = []
 
 -- the messages of events from a history on, event by event: those of what is asked, then those of
@@ -32,20 +32,20 @@ event_messages i issued event = []
 abbrev pub messages_from : Instance → History → List (List ℕ) → List Event → List (List ℕ)
 messages_from i y issued [] = []
 messages_from i y issued (event ∷ events) =
-    let o = event_outcome i (by_lists i) y issued event in
-    event_messages i issued event ++ moves_messages i y (moves_of i y issued event)
+    let o = event_outcome i (list_level i) y issued event in
+    event_messages i issued event ++ messages_of_moves i y (moves_of i y issued event)
     ++ messages_from i o.state o.issued events
 
 -- the values by which others extend the register, whether the step is reached or not
-abbrev pub foreign_of : Event → List (List ℕ)
-foreign_of (Ask meddles stop offer b) = map (λ m. m.value.bytes) meddles
-foreign_of (Checkpoint meddles stop) = map (λ m. m.value.bytes) meddles
-foreign_of Power = []
-foreign_of (Extend value) = value ∷ []
+abbrev pub event_foreign_values : Event → List (List ℕ)
+event_foreign_values (Ask meddles stop offer b) = map (λ m. m.value.bytes) meddles
+event_foreign_values (Checkpoint meddles stop) = map (λ m. m.value.bytes) meddles
+event_foreign_values Power = []
+event_foreign_values (Extend value) = value ∷ []
 
 -- the batches asked that aren't too long, of whatever offer
 abbrev pub batches_of : Event → List Batch
-batches_of (Ask meddles stop offer b) = if is_long b then [] else normal b ∷ []
+batches_of (Ask meddles stop offer b) = if is_long b then [] else normal_batch b ∷ []
 batches_of event = []
 
 -- the messages of a run
@@ -55,7 +55,7 @@ run_messages i events =
 
 -- the values by which others extend the register, and the batches asked
 abbrev pub foreign_values : List Event → List (List ℕ)
-foreign_values events = flat_map foreign_of events
+foreign_values events = flat_map event_foreign_values events
 
 abbrev pub asked_batches : List Event → List Batch
 asked_batches events = flat_map batches_of events
@@ -86,7 +86,7 @@ IsGenuineEvent i y issued event = Unit {0}
 abbrev pub AreGenuine : Instance → History → List (List ℕ) → List Event → Type 0
 AreGenuine i y issued [] = Unit {0}
 AreGenuine i y issued (event ∷ events) =
-    let o = event_outcome i (by_lists i) y issued event in
+    let o = event_outcome i (list_level i) y issued event in
     IsGenuineEvent i y issued event × AreGenuine i o.state o.issued events
 
 abbrev pub IsGenuineRun : Instance → List Event → Type 0

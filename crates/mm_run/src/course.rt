@@ -4,7 +4,7 @@ use mm_platform::{Meddle, Stop};
 
 /// Where a call is stopped, and what others put into the register before its steps.
 #[derive(Clone, Copy)]
-pub struct Course<'a> {
+pub struct CallPlan<'a> {
     pub stop: Stop,
     pub meddles: &'a [Meddle],
 }

@@ -5,10 +5,10 @@ ghost use Rattle.mm_digest.specs.declared.variant.Variant.{Variant};
 ghost use Rattle.mm_module.specs.Meaning.{Meaning};
 ghost use Rattle.mm_module.specs.CounterTable.{counter};
 ghost use Rattle.mm_model.specs.Instance.{Instance};
-ghost use Rattle.mm_model.specs.InstanceWords.{basic, opt};
+ghost use Rattle.mm_model.specs.InstanceWords.{basic_instance, opt_instance};
 ghost use Rattle.mm_call.specs.Standing.{instance_by};
-ghost use Rattle.mm_run.specs.Held.{world_barrier};
-ghost use Rattle.mm_run.specs.Folds.{expected};
+ghost use Rattle.mm_run.specs.WorldState.{world_barrier};
+ghost use Rattle.mm_run.specs.Folds.{outcome_by_lists};
 ghost use Rattle.mm_run.specs.Premises.{IsClearRun, IsGenuineRun};
 ghost use Rattle.mm_run.specs.Laws.{BasicIsExpected, OptIsExpected, ExpectedRuns, SchedulesGoOn, IssuedNamePositions, one_ask, two_segments, after_two_segments};
 ghost use Rattle.mm_run.specs.OneRun.{FrontsAreOneRun};
@@ -78,10 +78,10 @@ pub fn issued_snapshots_name_positions()
 /// of others, and commits a request behind them.
 pub fn premises_are_met()
     ensures basic { (key : List ℕ)
-        → IsClearRun (basic counter key) one_ask × IsGenuineRun (basic counter key) one_ask }
-    ensures opt { (key : List ℕ) → IsClearRun (opt counter key world_barrier) one_ask
-        × IsGenuineRun (opt counter key world_barrier) one_ask }
-    ensures segments { (key : List ℕ) → IsClearRun (opt counter key world_barrier) two_segments
-        × IsGenuineRun (opt counter key world_barrier) two_segments
-        × ((expected (opt counter key world_barrier) two_segments).state ≡ after_two_segments) }
+        → IsClearRun (basic_instance counter key) one_ask × IsGenuineRun (basic_instance counter key) one_ask }
+    ensures opt { (key : List ℕ) → IsClearRun (opt_instance counter key world_barrier) one_ask
+        × IsGenuineRun (opt_instance counter key world_barrier) one_ask }
+    ensures segments { (key : List ℕ) → IsClearRun (opt_instance counter key world_barrier) two_segments
+        × IsGenuineRun (opt_instance counter key world_barrier) two_segments
+        × ((outcome_by_lists (opt_instance counter key world_barrier) two_segments).state ≡ after_two_segments) }
 {}

@@ -11,7 +11,7 @@ mod keys;
 mod laws;
 mod offer;
 
-pub use course::Course;
+pub use course::CallPlan;
 pub use ending::{cause, way};
 pub use keys::{rising, world_barrier, world_key};
 pub use laws::{

@@ -2,7 +2,7 @@
 
 ghost use Rattle.std.specs.Prelude.{◌≡◌, ◌∷◌, ◌++◌, IfOk, slice_get, option_copied};
 ghost use Rattle.std.specs.Option.{option_map};
-ghost use Rattle.mm_run.specs.Offered.{offered_bytes, flipped};
+ghost use Rattle.mm_run.specs.EventOffers.{offered_bytes, bytes_with_flipped_bit};
 ghost use Rattle.mm_run.specs.OfferedBytes.{bytes_in};
 
 use mm_base::{Bytes, Memory};
@@ -74,7 +74,7 @@ fn turned(
     offset: u32,
 ) -> Result<Option<OfferedBytes<'static>>, Memory>
     ensures { IfOk result (λ found. option_map bytes_in found
-        ≡ option_map (flipped offset) (slice_get issued.now number)) }
+        ≡ option_map (bytes_with_flipped_bit offset) (slice_get issued.now number)) }
 {
     match issued_at(issued, number) {
         None => Ok(None),
@@ -87,7 +87,7 @@ fn turned(
 
 // A copy with the lowest bit turned of the byte at this offset, modulo the number of bytes.
 fn flip(alloc: Global, bytes: &[u8], offset: usize) -> Result<Bytes, Memory>
-    ensures { IfOk result (λ copy. copy ≡ flipped offset bytes.now) }
+    ensures { IfOk result (λ copy. copy ≡ bytes_with_flipped_bit offset bytes.now) }
 {
     if bytes.is_empty() {
         return Bytes::copy_of(alloc, bytes);

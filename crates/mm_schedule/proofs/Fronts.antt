@@ -4,7 +4,7 @@ use Rattle.mm_schedule.proofs.Below.{refl, sym, ap, ◌∙◌, arith, cond, add-
 use Rattle.mm_schedule.proofs.Below.{option_map_or, Option, Some, None, bytes_eq, is_space, ◌>>=◌}
 use Rattle.std.proofs.lemmas.List.Quantifiers.{position-Some}
 use Rattle.std.proofs.lemmas.Slice.Eq.{bytes_eq-Decides}
-use Rattle.mm_schedule.specs.Words.{after_prefix, word_at}
+use Rattle.mm_schedule.specs.Words.{rest_after_prefix, word_at}
 
 -- a reading that gave something gave something at its first part
 pub bind-some : {A B : Type 0} (first : Option A) (then : A → Option B) (y : B) → (first >>= then) ≡ Some y
@@ -30,8 +30,8 @@ pub text_is : (text other : List ℕ) → bytes_eq text other ≡ true → text 
 text_is text other same = (bytes_eq-Decides text other).0 same
 
 -- a prefix stands in front
-pub after-front : (prefix line rest : List ℕ) → after_prefix prefix line ≡ Some rest → line ≡ prefix ++ rest
-unfolding after_prefix
+pub after-front : (prefix line rest : List ℕ) → rest_after_prefix prefix line ≡ Some rest → line ≡ prefix ++ rest
+unfolding rest_after_prefix
 after-front prefix line rest is =
     elim (chosen (bytes_eq (take (length prefix) line) prefix) (Some (drop (length prefix) line)) None rest is) [
       | inl w ↦ sym (take-append-drop (length prefix) line) ∙ ap (λ (front : List ℕ). front ++ drop (length prefix) line)

@@ -1,13 +1,13 @@
 -- A header has one line, and that line is read as it.
 use Rattle.mm_schedule.proofs.Below.{◌≡◌, inl, inr, ℕ, List, ◌∷◌, ◌++◌, refl, sym, ap, ◌∙◌, Option, Some, None, IfSome, codes, bytes_eq}
-use Rattle.mm_schedule.proofs.Below.{module_named, name_of, any_is_found, name_spelled, word_at}
+use Rattle.mm_schedule.proofs.Below.{module_of_name, name_of, any_is_found, name_spelled, word_at}
 use Rattle.mm_digest.specs.declared.variant.Variant.{Variant}
 use Rattle.mm_digest.specs.declared.variant.Variant.TheVariants.{Basic, Opt}
 use Rattle.mm_modules.specs.declared.any.AnyModule.{AnyModule}
 use Rattle.mm_schedule.specs.declared.header.Header.{Header}
 use Rattle.mm_schedule.specs.Headers.{head_at, head_text, header_at, header_text, variant_text}
 use Rattle.mm_schedule.specs.HeadersWords.{variant_at}
-use Rattle.mm_schedule.specs.Words.{after_prefix}
+use Rattle.mm_schedule.specs.Words.{rest_after_prefix}
 use Rattle.mm_schedule.proofs.Fronts.{after-front, bind-some, chosen, some-same, text_is, word-front}
 use Rattle.mm_schedule.proofs.SpelledIsRead.{NoSpace, letters, word-again}
 
@@ -24,14 +24,14 @@ pub head-spelled : (words : List ℕ) (head : Header) → head_at words ≡ Some
 unfolding head_at
 head-spelled words head is =
     let b = bind-some (word_at words) _ head is in let c = bind-some (variant_at b.0.0) _ head b.2 in
-    let d = bind-some (module_named b.0.1) _ head c.2 in
+    let d = bind-some (module_of_name b.0.1) _ head c.2 in
     word-front words b.0.0 b.0.1 b.1 ∙ ap (λ (word : List ℕ). word ++ 32 ∷ b.0.1) (variant-spelled b.0.0 c.0 c.1)
     ∙ ap (λ (name : List ℕ). variant_text c.0 ++ 32 ∷ name) (name_spelled b.0.1 d.0 d.1) ∙ ap head_text (some-same _ head d.2)
 
 pub header-spelled : (line : List ℕ) (header : Header) → header_at line ≡ Some header → line ≡ header_text header
 unfolding header_at
 header-spelled line header is =
-    let a = bind-some (after_prefix (codes "memoir 1 ") line) _ header is in
+    let a = bind-some (rest_after_prefix (codes "memoir 1 ") line) _ header is in
     after-front (codes "memoir 1 ") line a.0 a.1 ∙ ap (λ (back : List ℕ). codes "memoir 1 " ++ back) (head-spelled a.0 header a.2)
 
 variant-again : (variant : Variant) → variant_at (variant_text variant) ≡ Some variant
@@ -53,7 +53,7 @@ pub head-read : (words : List ℕ) (head : Header) → words ≡ head_text head 
 head-read words head is = ap head_at is ∙ head-again head.variant head.module
 
 behind_prefix : (words : List ℕ) → header_at (codes "memoir 1 " ++ words) ≡ head_at words
-unfolding header_at after_prefix
+unfolding header_at rest_after_prefix
 behind_prefix words = refl
 
 pub header-read : (line : List ℕ) (header : Header) → line ≡ header_text header → header_at line ≡ Some header

@@ -4,9 +4,9 @@ use Rattle.mm_schedule.proofs.Below.{ap, ◌∙◌, arith, cond, append_assoc, s
 use Rattle.mm_schedule.proofs.Below.{codes, nat_lt, ◌&&◌, ◌==◌, result_ok, bytes_eq, FromHexError, decode_of, decode_sized}
 use Rattle.mm_schedule.proofs.Below.{spelled_by_reading, One, Many, Meddle, Stop, Fail, Offer, Last, Event, Checkpoint, Power, SpellsBytes}
 use Rattle.mm_schedule.proofs.Below.{SpellsEvent, SpellsMeddles, SpellsNumber, SpellsOffer, SpellsPrefix, SpellsStep, SpellsStop}
-use Rattle.mm_schedule.proofs.Below.{SpellsValue, asks, after_prefix, word_at}
+use Rattle.mm_schedule.proofs.Below.{SpellsValue, ask_call_text, rest_after_prefix, word_at}
 use Rattle.mm_base.specs.Decimals.{decimal_number}
-use Rattle.mm_schedule.specs.Grammar.{call_at, event_at, failing_at, meddle_at, meddles_at, offer_at, prefixed_at, raw_at, stop_at, stop_step_at}
+use Rattle.mm_schedule.specs.Grammar.{call_at, event_at, fail_stop_at, meddle_at, meddles_at, offer_at, prefixed_call_at, raw_offer_at, stop_at, stop_step_at}
 use Rattle.mm_schedule.specs.GrammarWords.{flip_at}
 use Rattle.mm_module.specs.Values.{value_at}
 use Rattle.mm_schedule.specs.Words.{bytes_at, number_at, step_at}
@@ -103,7 +103,7 @@ meddles-spelled : (room least : ℕ) (line : List ℕ) (read : List Meddle × Li
     → ReadsMeddles room least line read
 unfolding meddles_at
 meddles-spelled zero least line read is = no-meddles zero least line read is
-meddles-spelled (suc room) least line read is = elim (found_or (after_prefix (codes "meddle ") line) _ (Some ([], line)) read is) [
+meddles-spelled (suc room) least line read is = elim (found_or (rest_after_prefix (codes "meddle ") line) _ (Some ([], line)) read is) [
   | inl w ↦
       let a = bind-some (meddle_at least w.0) _ read w.2 in
       let b = bind-some (meddles_at room a.0.0.step a.0.1) _ read a.2 in
@@ -139,8 +139,8 @@ module _ (line : List ℕ) (read : Stop × List ℕ) where
     spelled : SpellsStop read.0 text
     parts : line ≡ text ++ read.1
 
-  failing-spelled : failing_at line ≡ Some read → (text : List ℕ) × SpellsStop read.0 (codes "fail " ++ text) × (line ≡ text ++ read.1)
-  unfolding failing_at
+  failing-spelled : fail_stop_at line ≡ Some read → (text : List ℕ) × SpellsStop read.0 (codes "fail " ++ text) × (line ≡ text ++ read.1)
+  unfolding fail_stop_at
   failing-spelled is =
       let a = bind-some (stop_step_at line) _ read is in let b = bind-some (word_at a.0.1) _ read a.2 in
       let at = stop_step-spelled line a.0 a.1 in let word = word-front a.0.1 b.0.0 b.0.1 b.1 in
@@ -167,7 +167,7 @@ module _ (line : List ℕ) (read : Stop × List ℕ) where
 
 stop-spelled : (line : List ℕ) (read : Stop × List ℕ) → stop_at line ≡ Some read → ReadsStop line read
 unfolding stop_at
-stop-spelled line read is = elim (found_or (after_prefix (codes "cut ") line) _ _ read is) [
+stop-spelled line read is = elim (found_or (rest_after_prefix (codes "cut ") line) _ _ read is) [
   | inl w ↦
       let a = bind-some (stop_step_at w.0) _ read w.2 in let at = stop_step-spelled w.0 a.0 a.1 in
       subst (ReadsStop line) (some-same _ read a.2) (record {
@@ -175,7 +175,7 @@ stop-spelled line read is = elim (found_or (after_prefix (codes "cut ") line) _ 
         spelled = (at.step, at.stepped, refl);
         parts = after-front (codes "cut ") line w.0 w.1 ∙ ap (λ (back : List ℕ). codes "cut " ++ back) at.parts ∙ simp append_assoc;
       })
-  | inr w ↦ elim (found_or (after_prefix (codes "drop ") line) _ _ read w.1) [
+  | inr w ↦ elim (found_or (rest_after_prefix (codes "drop ") line) _ _ read w.1) [
     | inl v ↦
         let a = bind-some (stop_step_at v.0) _ read v.2 in let at = stop_step-spelled v.0 a.0 a.1 in
         subst (ReadsStop line) (some-same _ read a.2) (record {
@@ -183,7 +183,7 @@ stop-spelled line read is = elim (found_or (after_prefix (codes "cut ") line) _ 
           spelled = (at.step, at.stepped, refl);
           parts = after-front (codes "drop ") line v.0 v.1 ∙ ap (λ (back : List ℕ). codes "drop " ++ back) at.parts ∙ simp append_assoc;
         })
-    | inr v ↦ elim (found_or (after_prefix (codes "fail ") line) _ _ read v.1) [
+    | inr v ↦ elim (found_or (rest_after_prefix (codes "fail ") line) _ _ read v.1) [
       | inl u ↦
           let failing = failing-spelled u.0 read u.2 in record {
             text = codes "fail " ++ failing.0;
@@ -222,8 +222,8 @@ module _ (line : List ℕ) (read : Offer × List ℕ) where
             ∙ simp append_assoc,
       )
 
-  raw-spelled : raw_at line ≡ Some read → (text : List ℕ) × SpellsOffer read.0 (codes "raw " ++ text) × (line ≡ text ++ 32 ∷ read.1)
-  unfolding raw_at
+  raw-spelled : raw_offer_at line ≡ Some read → (text : List ℕ) × SpellsOffer read.0 (codes "raw " ++ text) × (line ≡ text ++ 32 ∷ read.1)
+  unfolding raw_offer_at
   raw-spelled is =
       let a = bind-some (word_at line) _ read is in let b = bind-some (bytes_at a.0.0) _ read a.2 in
       subst (λ (r : Offer × List ℕ). (text : List ℕ) × SpellsOffer r.0 (codes "raw " ++ text) × (line ≡ text ++ 32 ∷ r.1))
@@ -243,7 +243,7 @@ offer-spelled line read is =
               parts = first ∙ ap (λ (word : List ℕ). word ++ 32 ∷ a.0.1) (text_is _ _ v.0)
                   ∙ ap (λ (back : List ℕ). codes "flip " ++ back) flip.2 ∙ simp append_assoc;
             }
-        | inr v ↦ elim (chosen (bytes_eq a.0.0 (codes "raw")) (raw_at a.0.1) _ read v.1) [
+        | inr v ↦ elim (chosen (bytes_eq a.0.0 (codes "raw")) (raw_offer_at a.0.1) _ read v.1) [
           | inl u ↦
               let raw = raw-spelled a.0.1 read u.1 in record {
                 text = codes "raw " ++ raw.0;
@@ -275,24 +275,24 @@ call-spelled meddles stop line rest text ending event few meddled stopped parts 
     } in
     elim (chosen (bytes_eq rest (codes "checkpoint")) (Some (Checkpoint meddles stop)) _ event is) [
       | inl w ↦ subst (λ (e : Event). SpellsEvent e line) (some-same _ event w.1) (front (codes "checkpoint") (text_is _ _ w.0))
-      | inr w ↦ elim (found_or (after_prefix (codes "ask ") rest) _ _ event w.1) [
+      | inr w ↦ elim (found_or (rest_after_prefix (codes "ask ") rest) _ _ event w.1) [
         | inl v ↦
             let a = bind-some (offer_at v.0) _ event v.2 in let offer = offer-spelled v.0 a.0 a.1 in
             subst (λ (e : Event). SpellsEvent e line) (some-same _ event a.2) (
               offer.text,
               offer.spelled,
               front
-                  (asks (One a.0.1) offer.text) (after-front (codes "ask ") rest v.0 v.1 ∙ ap (λ (back : List ℕ). codes "ask " ++ back)
+                  (ask_call_text (One a.0.1) offer.text) (after-front (codes "ask ") rest v.0 v.1 ∙ ap (λ (back : List ℕ). codes "ask " ++ back)
                   offer.parts ∙ simp append_assoc),
             )
-        | inr v ↦ elim (found_or (after_prefix (codes "batch ") rest) _ None event v.1) [
+        | inr v ↦ elim (found_or (rest_after_prefix (codes "batch ") rest) _ None event v.1) [
           | inl u ↦
               let a = bind-some (offer_at u.0) _ event u.2 in let offer = offer-spelled u.0 a.0 a.1 in
               subst (λ (e : Event). SpellsEvent e line) (some-same _ event a.2) (
                 offer.text,
                 offer.spelled,
                 front
-                    (asks (Many a.0.1) offer.text)
+                    (ask_call_text (Many a.0.1) offer.text)
                     (after-front (codes "batch ") rest u.0 u.1 ∙ ap (λ (back : List ℕ). codes "batch " ++ back)
                     offer.parts ∙ simp append_assoc),
               )
@@ -301,8 +301,8 @@ call-spelled meddles stop line rest text ending event few meddled stopped parts 
       ]
     ]
 
-prefixed-spelled : (line : List ℕ) (event : Event) → prefixed_at line ≡ Some event → SpellsEvent event line
-unfolding prefixed_at
+prefixed-spelled : (line : List ℕ) (event : Event) → prefixed_call_at line ≡ Some event → SpellsEvent event line
+unfolding prefixed_call_at
 prefixed-spelled line event is =
     let a = bind-some (meddles_at 8 0 line) _ event is in let b = bind-some (stop_at a.0.1) _ event a.2 in
     let meddles = meddles-spelled 8 0 line a.0 a.1 in let stop = stop-spelled a.0.1 b.0 b.1 in
@@ -313,7 +313,7 @@ pub event_spelled : (line : List ℕ) (event : Event) → event_at line ≡ Some
 unfolding event_at
 event_spelled line event is = elim (chosen (bytes_eq line (codes "power")) (Some Power) _ event is) [
   | inl w ↦ subst (λ (e : Event). SpellsEvent e line) (some-same _ event w.1) (text_is _ _ w.0)
-  | inr w ↦ elim (found_or (after_prefix (codes "extend ") line) _ (prefixed_at line) event w.1) [
+  | inr w ↦ elim (found_or (rest_after_prefix (codes "extend ") line) _ (prefixed_call_at line) event w.1) [
     | inl v ↦
         let a = bind-some (value_at v.0) _ event v.2 in
         subst (λ (e : Event). SpellsEvent e line) (some-same _ event a.2)

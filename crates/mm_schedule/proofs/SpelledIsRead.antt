@@ -6,17 +6,17 @@ use Rattle.mm_schedule.proofs.Below.{Some, None, Ok, codes, nat_lt, ◌||◌, �
 use Rattle.mm_schedule.proofs.Below.{decode_of-ok, decode_sized-ok, decode_sized-twice, read_by_spelling, Batch, One, Many, Meddle, Stop}
 use Rattle.mm_schedule.proofs.Below.{Quiet, Cut, Drop, Fail, is_space, Offer, Number, Last, Flip, Raw, Event, Ask, Checkpoint, Power}
 use Rattle.mm_schedule.proofs.Below.{Extend, SpellsBytes, SpellsEvent, SpellsMeddles, SpellsNumber, SpellsOffer, SpellsPrefix, SpellsStep}
-use Rattle.mm_schedule.proofs.Below.{SpellsStop, SpellsValue, asks}
+use Rattle.mm_schedule.proofs.Below.{SpellsStop, SpellsValue, ask_call_text}
 use Rattle.std.proofs.lemmas.Bool.{ne_eqb}
 use Rattle.std.proofs.lemmas.List.Elements.{All-head, All-tail}
 use Rattle.std.proofs.lemmas.Str.Parse.{numerals_by_value, tells_all_ascii_digits}
 use Rattle.std.specs.Char.{is_ascii_digit}
 use Rattle.std.specs.Fmt.{decimal}
 use Rattle.mm_base.specs.Decimals.{decimal_number}
-use Rattle.mm_schedule.specs.Grammar.{call_at, event_at, failing_at, meddle_at, meddles_at, offer_at, prefixed_at, raw_at, stop_at, stop_step_at}
+use Rattle.mm_schedule.specs.Grammar.{call_at, event_at, fail_stop_at, meddle_at, meddles_at, offer_at, prefixed_call_at, raw_offer_at, stop_at, stop_step_at}
 use Rattle.mm_schedule.specs.GrammarWords.{flip_at}
 use Rattle.mm_module.specs.Values.{value_at}
-use Rattle.mm_schedule.specs.Words.{after_prefix, bytes_at, number_at, step_at, word_at}
+use Rattle.mm_schedule.specs.Words.{rest_after_prefix, bytes_at, number_at, step_at, word_at}
 use Rattle.mm_schedule.proofs.Fronts.{after-front, text_is}
 
 -- no space is among the bytes
@@ -110,8 +110,8 @@ bytes-again bytes word (inr some) =
     let long : 0 < length word = some.0 in let test : (length word == 0) ≡ false = grind (arith, nat_tests) in
     rw (no-dash word bytes (bytes_eq word (codes "-")) refl some.1, test, some.1) refl
 
-after-again-meddle : (rest : List ℕ) → after_prefix (codes "meddle ") (codes "meddle " ++ rest) ≡ Some rest
-unfolding after_prefix
+after-again-meddle : (rest : List ℕ) → rest_after_prefix (codes "meddle ") (codes "meddle " ++ rest) ≡ Some rest
+unfolding rest_after_prefix
 after-again-meddle rest = refl
 
 meddle-again : (least : ℕ) (meddle : Meddle) (step value rest : List ℕ) → least ≤ meddle.step → SpellsStep meddle.step step
@@ -129,7 +129,7 @@ meddle-again least meddle step value rest rising stepped valued =
 
 -- meddles are read up to what is none
 meddles-again : (room least : ℕ) (meddles : List Meddle) (text rest : List ℕ) → SpellsMeddles least meddles text → length meddles ≤ room
-    → after_prefix (codes "meddle ") rest ≡ None → meddles_at room least (text ++ rest) ≡ Some (meddles, rest)
+    → rest_after_prefix (codes "meddle ") rest ≡ None → meddles_at room least (text ++ rest) ≡ Some (meddles, rest)
 unfolding meddles_at
 meddles-again zero least [] text rest spelled few over = rw spelled refl
 meddles-again (suc room) least [] text rest spelled few over = rw (spelled, over) refl
@@ -148,16 +148,16 @@ meddles-again (suc room) least (meddle ∷ meddles) text rest spelled few over =
 
 -- what follows is no stop
 record IsNoStop (call : List ℕ) : Type 0 where
-  cut : after_prefix (codes "cut ") call ≡ None
-  dropped : after_prefix (codes "drop ") call ≡ None
-  failed : after_prefix (codes "fail ") call ≡ None
+  cut : rest_after_prefix (codes "cut ") call ≡ None
+  dropped : rest_after_prefix (codes "drop ") call ≡ None
+  failed : rest_after_prefix (codes "fail ") call ≡ None
 
 stop_step-again : (at : ℕ) (step rest : List ℕ) → SpellsStep at step → stop_step_at (step ++ 32 ∷ rest) ≡ Some (at, rest)
 unfolding stop_step_at
 stop_step-again at step rest stepped = rw (word-again step rest (step-spaceless at step stepped), step-again at step stepped) refl
 
 stop-again : (stop : Stop) (text call : List ℕ) → SpellsStop stop text → IsNoStop call → stop_at (text ++ call) ≡ Some (stop, call)
-unfolding stop_at after_prefix failing_at
+unfolding stop_at rest_after_prefix fail_stop_at
 stop-again Quiet text call spelled over = rw (spelled, over.cut, over.dropped, over.failed) refl
 stop-again (Cut at) text call spelled over =
     rw (spelled.2, append_assoc spelled.0 (32 ∷ []) call, stop_step-again at spelled.0 call spelled.1) refl
@@ -202,8 +202,8 @@ flip-again number byte first second rest one two =
       number-again byte second two,
     ) refl
 
-raw-again : (bytes word rest : List ℕ) → SpellsBytes bytes word → raw_at (word ++ 32 ∷ rest) ≡ Some (Raw bytes, rest)
-unfolding raw_at
+raw-again : (bytes word rest : List ℕ) → SpellsBytes bytes word → raw_offer_at (word ++ 32 ∷ rest) ≡ Some (Raw bytes, rest)
+unfolding raw_offer_at
 raw-again bytes word rest spelled = rw (word-again word rest (bytes-spaceless bytes word spelled), bytes-again bytes word spelled) refl
 
 offer-again : (offer : Offer) (text rest : List ℕ) → SpellsOffer offer text → offer_at (text ++ 32 ∷ rest) ≡ Some (offer, rest)
@@ -241,7 +241,7 @@ no-power : (line : List ℕ) (same : Bool) → opens line ≡ false → bytes_eq
 no-power line true shut same = let clash : true ≡ false = sym (ap opens (text_is line (codes "power") same)) ∙ shut in cc
 no-power line false shut same = refl
 
-no-extend : (line : List ℕ) (found : Option (List ℕ)) → opens line ≡ false → after_prefix (codes "extend ") line ≡ found → found ≡ None
+no-extend : (line : List ℕ) (found : Option (List ℕ)) → opens line ≡ false → rest_after_prefix (codes "extend ") line ≡ found → found ≡ None
 no-extend line None shut is = refl
 no-extend line (Some rest) shut is = let clash : true ≡ false = sym (ap opens (after-front (codes "extend ") line rest is)) ∙ shut in cc
 
@@ -254,9 +254,9 @@ prefix-shut [] (Fail at true) extensions ending call one two shut = rw (one, two
 prefix-shut [] _ extensions ending call one two shut = rw (one, two.2) refl
 
 -- a stop or a call is no meddle
-no-meddle : (stop : Stop) (ending call : List ℕ) → SpellsStop stop ending → after_prefix (codes "meddle ") call ≡ None
-    → after_prefix (codes "meddle ") (ending ++ call) ≡ None
-unfolding after_prefix
+no-meddle : (stop : Stop) (ending call : List ℕ) → SpellsStop stop ending → rest_after_prefix (codes "meddle ") call ≡ None
+    → rest_after_prefix (codes "meddle ") (ending ++ call) ≡ None
+unfolding rest_after_prefix
 no-meddle Quiet ending call spelled over = rw spelled over
 no-meddle (Fail at true) ending call spelled over = rw spelled.2 refl
 no-meddle _ ending call spelled over = rw spelled.2 refl
@@ -264,13 +264,13 @@ no-meddle _ ending call spelled over = rw spelled.2 refl
 module _ (meddles : List Meddle) where
   record IsCall (stop : Stop) (call : List ℕ) (event : Event) : Type 0 where
     shut : opens call ≡ false
-    none : after_prefix (codes "meddle ") call ≡ None
+    none : rest_after_prefix (codes "meddle ") call ≡ None
     last : IsNoStop call
     read : call_at meddles stop call ≡ Some event
 
   prefixed-again : (stop : Stop) (line call : List ℕ) (event : Event) → SpellsPrefix meddles stop line call → IsCall stop call event
       → event_at line ≡ Some event
-  unfolding event_at prefixed_at
+  unfolding event_at prefixed_call_at
   prefixed-again stop line call event spelled is =
       let shut : opens line ≡ false =
       ap opens spelled.parts ∙ prefix-shut meddles stop spelled.extensions spelled.ending call spelled.meddled spelled.stopped is.shut in
@@ -281,14 +281,14 @@ module _ (meddles : List Meddle) where
       (no-meddle stop spelled.ending call spelled.stopped is.none) in
       rw (
         no-power line (bytes_eq line (codes "power")) shut refl,
-        no-extend line (after_prefix (codes "extend ") line) shut refl,
+        no-extend line (rest_after_prefix (codes "extend ") line) shut refl,
         first,
         stop-again stop spelled.ending call spelled.stopped is.last,
       ) is.read
 
   ask-call : (stop : Stop) (offer : Offer) (from : List ℕ) (batch : Batch) → SpellsOffer offer from
-      → IsCall stop (asks batch from) (Ask meddles stop offer batch)
-  unfolding after_prefix call_at
+      → IsCall stop (ask_call_text batch from) (Ask meddles stop offer batch)
+  unfolding rest_after_prefix call_at
   ask-call stop offer from (One request) spelled =
       let read = offer-again offer from request spelled in
       record { shut = refl; none = refl; last = record { cut = refl; dropped = refl; failed = refl }; read = rw read refl }
@@ -297,13 +297,13 @@ module _ (meddles : List Meddle) where
       record { shut = refl; none = refl; last = record { cut = refl; dropped = refl; failed = refl }; read = rw read refl }
 
   checkpoint-call : (stop : Stop) → IsCall stop (codes "checkpoint") (Checkpoint meddles stop)
-  unfolding after_prefix call_at
+  unfolding rest_after_prefix call_at
   checkpoint-call stop = record { shut = refl; none = refl; last = record { cut = refl; dropped = refl; failed = refl }; read = refl }
 
 pub spelled_is_read : (line : List ℕ) (event : Event) → SpellsEvent event line → event_at line ≡ Some event
-unfolding event_at after_prefix
+unfolding event_at rest_after_prefix
 spelled_is_read line (Ask meddles stop offer batch) spelled =
-    prefixed-again meddles stop line (asks batch spelled.0) (Ask meddles stop offer batch) spelled.2
+    prefixed-again meddles stop line (ask_call_text batch spelled.0) (Ask meddles stop offer batch) spelled.2
     (ask-call meddles stop offer spelled.0 batch spelled.1)
 spelled_is_read line (Checkpoint meddles stop) spelled =
     prefixed-again meddles stop line (codes "checkpoint") (Checkpoint meddles stop) spelled (checkpoint-call meddles stop)

@@ -2,7 +2,7 @@
 use Rattle.mm_schedule.proofs.Below.{IsTold}
 use Rattle.mm_schedule.proofs.Below.{◌≡◌, ℕ, ◌+◌, true, false, List, [], ◌∷◌, ◌++◌, length, drop, refl, sym, ◌∙◌, ap, append_assoc}
 use Rattle.mm_schedule.proofs.Below.{append-nil, slice_get, AllByRecursion, Batch, members_of, Meaning, state_after, outputs_from, Reply}
-use Rattle.mm_schedule.proofs.Below.{Told, Runs, Steps, tellings_from}
+use Rattle.mm_schedule.proofs.Below.{Told, IsEventRun, IsRunStep, tellings_from}
 use Rattle.mm_schedule.proofs.Below.{tellings_of, tellings_in, TellsWhatWasSaid}
 use Rattle.mm_module.specs.RunLaws.{outputs_from-append, length-outputs_from}
 use Rattle.mm_listing.specs.Tellings.{Telling, WasSaid}
@@ -56,7 +56,7 @@ module _ (meaning : Meaning) where
       ∙ ap (λ n. drop n (front ++ (outputs ++ rest))) at ∙ drop-length front (outputs ++ rest))
 
   run-grows : (requests : List (List ℕ)) (es : List events.Event) (replies : List Reply) (after : List (List ℕ))
-      → Runs meaning requests es replies after → Grows requests after
+      → IsEventRun meaning requests es replies after → Grows requests after
   run-grows requests [] [] after r = ([], r ∙ sym (append-nil requests))
   run-grows requests (event ∷ es) (reply ∷ replies) after r =
       let one = step-grows meaning requests event reply r.0 r.1 in let two = run-grows r.0 es replies after r.2 in
@@ -66,7 +66,7 @@ module _ (meaning : Meaning) where
 
 -- what a step tells was said, also once more requests were run
 step-tells : (meaning : Meaning) (requests : List (List ℕ)) (event : events.Event) (reply : Reply) (between more after : List (List ℕ))
-    → Steps meaning requests event reply between → after ≡ between ++ more
+    → IsRunStep meaning requests event reply between → after ≡ between ++ more
     → AllByRecursion (WasSaid (outputs_from meaning meaning.first after)) (tellings_of reply)
 step-tells meaning requests (events.Ask meddles stop offer batch) (Told false before outputs) between more after s is =
     batch-said meaning requests batch before outputs between more after s is
@@ -76,7 +76,7 @@ step-tells meaning requests _ (Told again before said) between more after s is =
 step-tells meaning requests _ _ between more after s is = tt
 
 run-tells : (meaning : Meaning) (requests : List (List ℕ)) (es : List events.Event) (replies : List Reply) (after : List (List ℕ))
-    → Runs meaning requests es replies after → AllByRecursion (WasSaid (outputs_from meaning meaning.first after)) (tellings_in replies)
+    → IsEventRun meaning requests es replies after → AllByRecursion (WasSaid (outputs_from meaning meaning.first after)) (tellings_in replies)
 run-tells meaning requests [] [] after r = tt
 run-tells meaning requests (event ∷ es) (reply ∷ replies) after r =
     let g = run-grows meaning r.0 es replies after r.2 in

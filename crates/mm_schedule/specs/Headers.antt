@@ -3,9 +3,9 @@ use Rattle.std.specs.Prelude.{List, ℕ, ◌∷◌, ◌++◌, Option, Some, None
 use Rattle.std.specs.Str.{bytes_eq}
 use Rattle.mm_digest.specs.declared.variant.Variant.{Variant}
 use Rattle.mm_digest.specs.declared.variant.Variant.TheVariants.{Basic, Opt}
-use Rattle.mm_modules.specs.Modules.{module_named, name_of}
+use Rattle.mm_modules.specs.Modules.{module_of_name, name_of}
 use Rattle.mm_schedule.specs.declared.header.Header.{Header}
-use Rattle.mm_schedule.specs.Words.{◌>>=◌, after_prefix, word_at}
+use Rattle.mm_schedule.specs.Words.{◌>>=◌, rest_after_prefix, word_at}
 
 abbrev pub variant_text : Variant → List ℕ
 variant_text Basic = codes "basic"
@@ -25,9 +25,9 @@ head_at words =
     word_at words >>= λ variant_word.
     (if bytes_eq variant_word.0 (codes "basic") then Some Basic
     else (if bytes_eq variant_word.0 (codes "opt") then Some Opt else None)) >>= λ variant.
-    module_named variant_word.1 >>= λ module_read.
+    module_of_name variant_word.1 >>= λ module_read.
     Some (record { variant = variant; «module» = module_read })
 
 -- the header that a line is read as
 unfoldable pub header_at : List ℕ → Option Header
-header_at line = after_prefix (codes "memoir 1 ") line >>= head_at
+header_at line = rest_after_prefix (codes "memoir 1 ") line >>= head_at

@@ -4,7 +4,7 @@ use Rattle.mm_module.specs.Meaning.{Meaning}
 use Rattle.mm_schedule.specs.declared.reply.Reply.{Reply}
 use Rattle.mm_schedule.specs.Events.{Event}
 use Rattle.mm_schedule.specs.Grammar.{event_at}
-use Rattle.mm_schedule.specs.Machine.{Runs}
+use Rattle.mm_schedule.specs.Machine.{IsEventRun}
 use Rattle.mm_schedule.specs.Spelling.{SpellsEvent}
 
 -- the events and the replies fix the requests that are run
@@ -12,7 +12,7 @@ abbrev pub RunIsFixed : Type 0
 RunIsFixed =
     (meaning : Meaning) (requests after other : List (List ℕ)) (events : List Event)
     (replies : List Reply)
-    → Runs meaning requests events replies after → Runs meaning requests events replies other
+    → IsEventRun meaning requests events replies after → IsEventRun meaning requests events replies other
     → after ≡ other
 
 -- a run goes on where another ended
@@ -20,8 +20,8 @@ abbrev pub RunsGoOn : Type 0
 RunsGoOn =
     (meaning : Meaning) (requests between after : List (List ℕ)) (events more : List Event)
     (replies others : List Reply)
-    → Runs meaning requests events replies between → Runs meaning between more others after
-    → Runs meaning requests (events ++ more) (replies ++ others) after
+    → IsEventRun meaning requests events replies between → IsEventRun meaning between more others after
+    → IsEventRun meaning requests (events ++ more) (replies ++ others) after
 
 -- what is spelled in a line is read of it
 abbrev pub SpelledIsRead : Type 0

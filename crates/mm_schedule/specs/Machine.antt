@@ -18,45 +18,45 @@ pub record IsTold (meaning : Meaning) (requests : List (List ℕ)) (batch : Batc
 -- One step on a batch that is asked, by its reply. A batch that is told for the first time is run,
 -- and so is one that is kept, with the position behind it. A batch that is told again ends the
 -- requests, and is told as it was the first time.
-abbrev pub StepsOn : Meaning → List (List ℕ) → Batch → Reply → List (List ℕ) → Type 0
-StepsOn meaning requests batch (Told false before outputs) after =
+abbrev pub IsBatchStep : Meaning → List (List ℕ) → Batch → Reply → List (List ℕ) → Type 0
+IsBatchStep meaning requests batch (Told false before outputs) after =
     IsTold meaning requests batch before outputs after
-StepsOn meaning requests batch (Told true before outputs) after =
+IsBatchStep meaning requests batch (Told true before outputs) after =
     (earlier : List (List ℕ)) × IsTold meaning earlier batch before outputs requests
     × (after ≡ requests)
-StepsOn meaning requests batch (Kept way position) after =
+IsBatchStep meaning requests batch (Kept way position) after =
     (after ≡ requests ++ members_of batch) × (position ≡ length after)
-StepsOn meaning requests batch (No cause) after = after ≡ requests
-StepsOn meaning requests batch (Nothing way) after = after ≡ requests
-StepsOn meaning requests batch (Closed way) after = after ≡ requests
-StepsOn meaning requests batch Checkpointed after = after ≡ requests
-StepsOn meaning requests batch Power after = after ≡ requests
-StepsOn meaning requests batch Extended after = after ≡ requests
+IsBatchStep meaning requests batch (No cause) after = after ≡ requests
+IsBatchStep meaning requests batch (Nothing way) after = after ≡ requests
+IsBatchStep meaning requests batch (Closed way) after = after ≡ requests
+IsBatchStep meaning requests batch Checkpointed after = after ≡ requests
+IsBatchStep meaning requests batch Power after = after ≡ requests
+IsBatchStep meaning requests batch Extended after = after ≡ requests
 
 -- one step where no batch is asked: none is told or kept, and nothing is run
-abbrev pub AsksNone : List (List ℕ) → Reply → List (List ℕ) → Type 0
-AsksNone requests (Told again before outputs) after = ⊥
-AsksNone requests (Kept way position) after = ⊥
-AsksNone requests (No cause) after = after ≡ requests
-AsksNone requests (Nothing way) after = after ≡ requests
-AsksNone requests (Closed way) after = after ≡ requests
-AsksNone requests Checkpointed after = after ≡ requests
-AsksNone requests Power after = after ≡ requests
-AsksNone requests Extended after = after ≡ requests
+abbrev pub IsStepWithoutBatch : List (List ℕ) → Reply → List (List ℕ) → Type 0
+IsStepWithoutBatch requests (Told again before outputs) after = ⊥
+IsStepWithoutBatch requests (Kept way position) after = ⊥
+IsStepWithoutBatch requests (No cause) after = after ≡ requests
+IsStepWithoutBatch requests (Nothing way) after = after ≡ requests
+IsStepWithoutBatch requests (Closed way) after = after ≡ requests
+IsStepWithoutBatch requests Checkpointed after = after ≡ requests
+IsStepWithoutBatch requests Power after = after ≡ requests
+IsStepWithoutBatch requests Extended after = after ≡ requests
 
 -- one step: the requests before, an event, its reply, and the requests after
-abbrev pub Steps : Meaning → List (List ℕ) → events.Event → Reply → List (List ℕ) → Type 0
-Steps meaning requests (events.Ask meddles stop offer batch) reply after =
-    StepsOn meaning requests batch reply after
-Steps meaning requests (events.Checkpoint meddles stop) reply after = AsksNone requests reply after
-Steps meaning requests events.Power reply after = AsksNone requests reply after
-Steps meaning requests (events.Extend value) reply after = AsksNone requests reply after
+abbrev pub IsRunStep : Meaning → List (List ℕ) → events.Event → Reply → List (List ℕ) → Type 0
+IsRunStep meaning requests (events.Ask meddles stop offer batch) reply after =
+    IsBatchStep meaning requests batch reply after
+IsRunStep meaning requests (events.Checkpoint meddles stop) reply after = IsStepWithoutBatch requests reply after
+IsRunStep meaning requests events.Power reply after = IsStepWithoutBatch requests reply after
+IsRunStep meaning requests (events.Extend value) reply after = IsStepWithoutBatch requests reply after
 
 -- one step after another: a reply for each event, all on one list of requests
-abbrev pub Runs : Meaning → List (List ℕ) → List events.Event → List Reply → List (List ℕ) → Type 0
-Runs meaning requests [] [] after = after ≡ requests
-Runs meaning requests [] (reply ∷ replies) after = ⊥
-Runs meaning requests (event ∷ events) [] after = ⊥
-Runs meaning requests (event ∷ events) (reply ∷ replies) after =
-    (between : List (List ℕ)) × Steps meaning requests event reply between
-    × Runs meaning between events replies after
+abbrev pub IsEventRun : Meaning → List (List ℕ) → List events.Event → List Reply → List (List ℕ) → Type 0
+IsEventRun meaning requests [] [] after = after ≡ requests
+IsEventRun meaning requests [] (reply ∷ replies) after = ⊥
+IsEventRun meaning requests (event ∷ events) [] after = ⊥
+IsEventRun meaning requests (event ∷ events) (reply ∷ replies) after =
+    (between : List (List ℕ)) × IsRunStep meaning requests event reply between
+    × IsEventRun meaning between events replies after

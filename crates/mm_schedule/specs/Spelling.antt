@@ -61,9 +61,9 @@ SpellsOffer (Raw bytes) text =
     (word : List ℕ) × SpellsBytes bytes word × (text ≡ codes "raw " ++ word)
 
 -- what is asked of an offer, behind its words
-abbrev pub asks : Batch → List ℕ → List ℕ
-asks (One request) offer = codes "ask " ++ offer ++ 32 ∷ request
-asks (Many text) offer = codes "batch " ++ offer ++ 32 ∷ text
+abbrev pub ask_call_text : Batch → List ℕ → List ℕ
+ask_call_text (One request) offer = codes "ask " ++ offer ++ 32 ∷ request
+ask_call_text (Many text) offer = codes "batch " ++ offer ++ 32 ∷ text
 
 -- at most eight meddles, and then a stop, in front of a call
 pub record SpellsPrefix (meddles : List Meddle) (stop : Stop) (line call : List ℕ) : Type 0 where
@@ -77,7 +77,7 @@ pub record SpellsPrefix (meddles : List Meddle) (stop : Stop) (line call : List 
 -- the line of an event
 abbrev pub SpellsEvent : Event → List ℕ → Type 0
 SpellsEvent (Ask meddles stop offer batch) line =
-    (from : List ℕ) × SpellsOffer offer from × SpellsPrefix meddles stop line (asks batch from)
+    (from : List ℕ) × SpellsOffer offer from × SpellsPrefix meddles stop line (ask_call_text batch from)
 SpellsEvent (Checkpoint meddles stop) line = SpellsPrefix meddles stop line (codes "checkpoint")
 SpellsEvent Power line = line ≡ codes "power"
 SpellsEvent (Extend value) line =

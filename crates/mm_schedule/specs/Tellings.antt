@@ -6,7 +6,7 @@ use Rattle.mm_listing.specs.Tellings.{Telling, WasSaid}
 use Rattle.mm_schedule.specs.declared.reply.Reply.{Reply}
 use Rattle.mm_schedule.specs.declared.reply.Reply.TheVariants.{Told, No, Kept, Nothing, Closed, Checkpointed, Power, Extended}
 use Rattle.mm_schedule.specs.Events.{Event}
-use Rattle.mm_schedule.specs.Machine.{Runs}
+use Rattle.mm_schedule.specs.Machine.{IsEventRun}
 
 -- the lines of a batch that comes behind so many requests
 abbrev pub tellings_from : ℕ → List (List ℕ) → List Telling
@@ -35,5 +35,5 @@ tellings_in (reply ∷ replies) = tellings_of reply ++ tellings_in replies
 abbrev pub TellsWhatWasSaid : Type 0
 TellsWhatWasSaid =
     (meaning : Meaning) (events : List Event) (replies : List Reply) (requests : List (List ℕ))
-    → Runs meaning [] events replies requests
+    → IsEventRun meaning [] events replies requests
     → AllByRecursion (WasSaid (outputs_from meaning meaning.first requests)) (tellings_in replies)

@@ -31,13 +31,13 @@ event_in meddles text.Power = Power
 event_in meddles (text.Extend value) = Extend value.bytes
 
 -- meddles that were read into a place, and what follows them
-abbrev pub put_in : Meddles → Bor (List ℕ) → List Meddle × List ℕ
-put_in meddles rest = (meddles_of meddles, rest.now)
+abbrev pub meddles_in_place : Meddles → Bor (List ℕ) → List Meddle × List ℕ
+meddles_in_place meddles rest = (meddles_of meddles, rest.now)
 
 -- meddles that were read, and what follows them
-abbrev pub read_of : Meddles × Bor (List ℕ) → List Meddle × List ℕ
-read_of read = (meddles_of read.0, read.1.now)
+abbrev pub meddles_and_rest : Meddles × Bor (List ℕ) → List Meddle × List ℕ
+meddles_and_rest read = (meddles_of read.0, read.1.now)
 
 -- the same behind meddles that were read before
-abbrev pub behind : List Meddle → Option (List Meddle × List ℕ) → Option (List Meddle × List ℕ)
-behind front read = option_map (λ (later : List Meddle × List ℕ). (front ++ later.0, later.1)) read
+abbrev pub meddles_behind : List Meddle → Option (List Meddle × List ℕ) → Option (List Meddle × List ℕ)
+meddles_behind front read = option_map (λ (later : List Meddle × List ℕ). (front ++ later.0, later.1)) read

@@ -15,12 +15,12 @@ None >>= f = None
 (Some x) >>= f = f x
 
 -- two parts of a line where they lie, as byte lists
-abbrev pub in_place : Bor (List ℕ) × Bor (List ℕ) → List ℕ × List ℕ
-in_place parts = (parts.0.now, parts.1.now)
+abbrev pub parts_in_place : Bor (List ℕ) × Bor (List ℕ) → List ℕ × List ℕ
+parts_in_place parts = (parts.0.now, parts.1.now)
 
 -- what follows a prefix
-unfoldable pub after_prefix : List ℕ → List ℕ → Option (List ℕ)
-after_prefix prefix line =
+unfoldable pub rest_after_prefix : List ℕ → List ℕ → Option (List ℕ)
+rest_after_prefix prefix line =
     if bytes_eq (take (length prefix) line) prefix then Some (drop (length prefix) line) else None
 
 -- the first word, and what follows the space behind it

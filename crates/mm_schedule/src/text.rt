@@ -5,7 +5,7 @@ ghost use Rattle.std.specs.Option.{option_map};
 ghost use Rattle.mm_platform.specs.declared.plan.Meddle.{Meddle};
 ghost use Rattle.mm_schedule.specs.declared.fault.EventFault.{EventFault};
 ghost use Rattle.mm_schedule.specs.Events.{event_of, meddles_of};
-ghost use Rattle.mm_schedule.specs.Grammar.{call_at, event_at, failing_at, meddle_at, meddles_at, offer_at, prefixed_at, raw_at, stop_at, stop_step_at};
+ghost use Rattle.mm_schedule.specs.Grammar.{call_at, event_at, fail_stop_at, meddle_at, meddles_at, offer_at, prefixed_call_at, raw_offer_at, stop_at, stop_step_at};
 ghost use Rattle.mm_schedule.specs.GrammarWords.{flip_at};
 ghost use Rattle.mm_schedule.specs.Texts as texts;
 ghost use Rattle.mm_schedule.specs.Words.{bytes_at};
@@ -65,9 +65,9 @@ pub fn event_in<'a>(line: &'a [u8], meddles: &mut Meddles) -> Option<EventText<'
 }
 
 /// A call with what comes before it.
-#[tactic(auto, unfolding(crate::specs::Grammar::prefixed_at))]
+#[tactic(auto, unfolding(crate::specs::Grammar::prefixed_call_at))]
 fn prefixed_in<'a>(line: &'a [u8], meddles: &mut Meddles) -> Option<EventText<'a>>
-    ensures { option_map (texts.event_in (meddles_of meddles.new)) result ≡ prefixed_at line.now }
+    ensures { option_map (texts.event_in (meddles_of meddles.new)) result ≡ prefixed_call_at line.now }
 {
     let line = read_meddles(meddles, line)?;
     let (stop, line) = stop_in(line)?;
@@ -133,9 +133,9 @@ fn flip_in(line: &[u8]) -> Option<(OfferText<'_>, &[u8])>
 }
 
 /// Bytes behind `raw`.
-#[tactic(auto, unfolding(crate::specs::Grammar::raw_at))]
+#[tactic(auto, unfolding(crate::specs::Grammar::raw_offer_at))]
 fn raw_in(line: &[u8]) -> Option<(OfferText<'_>, &[u8])>
-    ensures { option_map (λ (x : _). (texts.offer_of x.0, x.1.now)) result ≡ raw_at line.now }
+    ensures { option_map (λ (x : _). (texts.offer_of x.0, x.1.now)) result ≡ raw_offer_at line.now }
 {
     let (word, line) = word_in(line)?;
     if !spells_bytes(word) {
@@ -176,9 +176,9 @@ fn stop_step_in(line: &[u8]) -> Option<(u8, &[u8])>
 }
 
 /// A step and a word behind `fail`.
-#[tactic(auto, unfolding(crate::specs::Grammar::failing_at))]
+#[tactic(auto, unfolding(crate::specs::Grammar::fail_stop_at))]
 fn failing_in(line: &[u8]) -> Option<(Stop, &[u8])>
-    ensures { option_map (λ (x : _). (x.0, x.1.now)) result ≡ failing_at line.now }
+    ensures { option_map (λ (x : _). (x.0, x.1.now)) result ≡ fail_stop_at line.now }
 {
     let (step, line) = stop_step_in(line)?;
     let (word, line) = word_in(line)?;
@@ -193,7 +193,7 @@ fn failing_in(line: &[u8]) -> Option<(Stop, &[u8])>
 
 /// The meddles that a line begins with, at most eight, and what follows them. None where one of them is wrong.
 pub fn meddles_in(line: &[u8]) -> Option<(Meddles, &[u8])>
-    ensures { option_map texts.read_of result ≡ meddles_at 8 0 line.now }
+    ensures { option_map texts.meddles_and_rest result ≡ meddles_at 8 0 line.now }
 {
     let mut meddles = Meddles::none();
     let line = read_meddles(&mut meddles, line)?;
@@ -202,7 +202,7 @@ pub fn meddles_in(line: &[u8]) -> Option<(Meddles, &[u8])>
 
 /// Puts the meddles that a line begins with in place of these, and answers what follows them.
 fn read_meddles<'a>(meddles: &mut Meddles, line: &'a [u8]) -> Option<&'a [u8]>
-    ensures { option_map (texts.put_in meddles.new) result ≡ meddles_at 8 0 line.now }
+    ensures { option_map (texts.meddles_in_place meddles.new) result ≡ meddles_at 8 0 line.now }
 {
     meddles.count = 0;
     more_meddles(meddles, 0, line)
@@ -211,8 +211,8 @@ fn read_meddles<'a>(meddles: &mut Meddles, line: &'a [u8]) -> Option<&'a [u8]>
 /// Puts the meddles of a line, from a step on, behind these, and answers what follows them.
 #[tactic(auto, unfolding(crate::specs::Grammar::meddles_at))]
 fn more_meddles<'a>(meddles: &mut Meddles, least: u8, line: &'a [u8]) -> Option<&'a [u8]>
-    ensures { option_map (texts.put_in meddles.new) result
-        ≡ texts.behind (meddles_of meddles.old)
+    ensures { option_map (texts.meddles_in_place meddles.new) result
+        ≡ texts.meddles_behind (meddles_of meddles.old)
         (meddles_at (8 - meddles.old.count) least line.now) }
 {
     if meddles.count == 8 {

@@ -6,7 +6,7 @@ ghost use Rattle.std.specs.Option.{option_map};
 ghost use Rattle.std.specs.Str.{bytes_eq};
 ghost use Rattle.hex.specs.Hex.{is_hex_digit};
 ghost use Rattle.mm_module.specs.Values.{value_at};
-ghost use Rattle.mm_schedule.specs.Words.{after_prefix, bytes_at, in_place, number_at, step_at, word_at};
+ghost use Rattle.mm_schedule.specs.Words.{rest_after_prefix, bytes_at, parts_in_place, number_at, step_at, word_at};
 
 use mm_base::read_decimal;
 use mm_digest::Digest;
@@ -23,9 +23,9 @@ pub fn is_text(bytes: &[u8], text: &[u8]) -> bool
 }
 
 /// What follows a prefix.
-#[tactic(auto, unfolding(crate::specs::Words::after_prefix))]
+#[tactic(auto, unfolding(crate::specs::Words::rest_after_prefix))]
 pub fn after<'a>(prefix: &[u8], line: &'a [u8]) -> Option<&'a [u8]>
-    ensures { option_copied result ≡ after_prefix prefix.now line.now }
+    ensures { option_copied result ≡ rest_after_prefix prefix.now line.now }
 {
     line.strip_prefix(prefix)
 }
@@ -33,7 +33,7 @@ pub fn after<'a>(prefix: &[u8], line: &'a [u8]) -> Option<&'a [u8]>
 /// The first word, and what follows the space behind it.
 #[tactic(auto, unfolding(crate::specs::Words::word_at))]
 pub fn word_in(line: &[u8]) -> Option<(&[u8], &[u8])>
-    ensures { option_map in_place result ≡ word_at line.now }
+    ensures { option_map parts_in_place result ≡ word_at line.now }
 {
     let Some(at) = space_in(line) else {
         return None;

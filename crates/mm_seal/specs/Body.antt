@@ -35,8 +35,8 @@ HasFieldsOf front variant =
     (variant_byte variant ≡ slice_index front 4) × (18 + place_length variant ≤ length front)
 
 -- the place of this variant in front of the bytes, and the rest
-abbrev pub PlacedIn : List ℕ → Variant → Place → List ℕ → Type 0
-PlacedIn bytes variant place rest =
+abbrev pub HasPlaceInFront : List ℕ → Variant → Place → List ℕ → Type 0
+HasPlaceInFront bytes variant place rest =
     (bytes ≡ place_spelling place ++ rest) × (variant_of place ≡ variant) × IsPlace place
 
 -- the head is the content's, and the content is within its bounds and has this length

@@ -16,7 +16,7 @@ use Rattle.mm_seal.specs.declared.snapshot.Place.TheVariants.{Basic, Opt}
 use Rattle.mm_base.specs.Fields.{eight_bytes, four_bytes}
 use Rattle.mm_seal.specs.Body.{place_length}
 use Rattle.mm_seal.specs.CellLaws.{variant_byte-injective}
-use Rattle.mm_seal.specs.Snapshot.{Content, Snapshot, IsPlace, Spells, IsOfKind, IsNoSnapshot, ReadsParts, place_spelling, snapshot_front, snapshot_spelling, variant_of}
+use Rattle.mm_seal.specs.Snapshot.{Content, Snapshot, IsPlace, SpellsSnapshot, IsOfKind, IsNoSnapshot, ReadsParts, place_spelling, snapshot_front, snapshot_spelling, variant_of}
 use Rattle.mm_seal.specs.SnapshotWords.{front_head}
 use Rattle.mm_base.specs.FieldLaws.{length-eight_bytes, length-four_bytes}
 use Rattle.mm_seal.specs.SnapshotLaws.{length-snapshot_front, reads_parts-same}
@@ -120,7 +120,7 @@ place_whole true bytes h = (digest_whole 6 bytes (omega arith), digest_whole 38 
 place_whole false bytes h = digest_whole 6 bytes (omega arith)
 
 -- what spells the fields is a snapshot
-spells_fields : (bytes : List ℕ) → is_spelled_by bytes (fields_of bytes) ≡ true → Spells bytes (fields_of bytes)
+spells_fields : (bytes : List ℕ) → is_spelled_by bytes (fields_of bytes) ≡ true → SpellsSnapshot bytes (fields_of bytes)
 unfolding fields_of
 spells_fields bytes e =
     let t = spelled_tells bytes (fields_of bytes) e in (
@@ -145,7 +145,7 @@ no_snapshot bytes e s is at =
     }) in
     let yes : is_spelled_by bytes (fields_of bytes) ≡ true = ap (is_spelled_by bytes) fields ∙ spelled in cc
 
-reads_by : (variant : Variant) (id : ℕ) (bytes : List ℕ) (s : Snapshot) (spelled kind : Bool) → (spelled ≡ true → Spells bytes s)
+reads_by : (variant : Variant) (id : ℕ) (bytes : List ℕ) (s : Snapshot) (spelled kind : Bool) → (spelled ≡ true → SpellsSnapshot bytes s)
     → (spelled ≡ false → IsNoSnapshot bytes) → (kind ≡ true → IsOfKind variant id s) → (IsOfKind variant id s → kind ≡ true)
     → ReadsParts bytes variant id (if spelled then (if kind then Ok s else Err Kind) else Err Form)
 reads_by variant id bytes s true true a b c d = (a refl, c refl)

@@ -8,6 +8,6 @@ pub mod SnapshotWords
 pub mod FieldLaws
 pub mod SnapshotLaws
 pub mod SealLaws
-pub mod Sealing
+pub mod KeyRemembers
 pub mod CellLaws
 pub mod ReadingLaws

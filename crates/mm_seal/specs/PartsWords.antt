@@ -10,5 +10,5 @@ abbrev pub is_bounded : Content → Bool
 is_bounded content =
     nat_le content.position last_position && nat_le (length content.state) (limit_of content.id)
 
-abbrev pub same_variant : Variant → Variant → Bool
-same_variant v w = variant_byte v == variant_byte w
+abbrev pub is_same_variant : Variant → Variant → Bool
+is_same_variant v w = variant_byte v == variant_byte w

@@ -66,12 +66,12 @@ abbrev pub tag_of : List ℕ → Content → List ℕ
 tag_of key content = hmac_of key (snapshot_front content)
 
 -- the content's snapshot under the key
-unfoldable pub sealed_of : List ℕ → Content → List ℕ
-sealed_of key content = snapshot_front content ++ tag_of key content
+unfoldable pub sealed_snapshot_of : List ℕ → Content → List ℕ
+sealed_snapshot_of key content = snapshot_front content ++ tag_of key content
 
 -- what the content's snapshot under the key is taken apart to
-abbrev pub offered_of : List ℕ → Content → Snapshot
-offered_of key content = record { content = content; tag = tag_of key content }
+abbrev pub offered_snapshot_of : List ℕ → Content → Snapshot
+offered_snapshot_of key content = record { content = content; tag = tag_of key content }
 
 -- the snapshot is of this variant and module
 abbrev pub IsOfKind : Variant → ℕ → Snapshot → Type 0
@@ -79,8 +79,8 @@ IsOfKind variant id snapshot =
     (variant_of snapshot.content.place ≡ variant) × (snapshot.content.id ≡ id)
 
 -- the bytes are this snapshot's
-abbrev pub Spells : List ℕ → Snapshot → Type 0
-Spells bytes snapshot = IsSnapshot snapshot × (bytes ≡ snapshot_spelling snapshot)
+abbrev pub SpellsSnapshot : List ℕ → Snapshot → Type 0
+SpellsSnapshot bytes snapshot = IsSnapshot snapshot × (bytes ≡ snapshot_spelling snapshot)
 
 -- no snapshot is spelled so
 abbrev pub IsNoSnapshot : List ℕ → Type 0
@@ -90,27 +90,27 @@ IsNoSnapshot bytes =
 -- the bytes are a snapshot's of another variant or module
 abbrev pub IsOtherKind : List ℕ → Variant → ℕ → Type 0
 IsOtherKind bytes variant id =
-    (snapshot : Snapshot) × Spells bytes snapshot × (¬ IsOfKind variant id snapshot)
+    (snapshot : Snapshot) × SpellsSnapshot bytes snapshot × (¬ IsOfKind variant id snapshot)
 
 -- what taking an offer apart gives: there is one answer for each list of bytes
 abbrev pub ReadsParts : List ℕ → Variant → ℕ → Result Snapshot PartsFault → Type 0
-ReadsParts bytes variant id (Ok snapshot) = Spells bytes snapshot × IsOfKind variant id snapshot
+ReadsParts bytes variant id (Ok snapshot) = SpellsSnapshot bytes snapshot × IsOfKind variant id snapshot
 ReadsParts bytes variant id (Err Form) = IsNoSnapshot bytes
 ReadsParts bytes variant id (Err Kind) = IsOtherKind bytes variant id
 
 -- what opening an offer under the key gives
-abbrev pub Opens : List ℕ → List ℕ → Variant → ℕ → Result Snapshot OpenFault → Type 0
-Opens bytes key variant id (Ok snapshot) =
-    Spells bytes snapshot × IsOfKind variant id snapshot
+abbrev pub OpensOffer : List ℕ → List ℕ → Variant → ℕ → Result Snapshot OpenFault → Type 0
+OpensOffer bytes key variant id (Ok snapshot) =
+    SpellsSnapshot bytes snapshot × IsOfKind variant id snapshot
     × (snapshot.tag ≡ tag_of key snapshot.content)
-Opens bytes key variant id (Err opening.Form) = IsNoSnapshot bytes
-Opens bytes key variant id (Err opening.Kind) = IsOtherKind bytes variant id
-Opens bytes key variant id (Err opening.Tag) =
-    (snapshot : Snapshot) × Spells bytes snapshot × IsOfKind variant id snapshot
+OpensOffer bytes key variant id (Err opening.Form) = IsNoSnapshot bytes
+OpensOffer bytes key variant id (Err opening.Kind) = IsOtherKind bytes variant id
+OpensOffer bytes key variant id (Err opening.Tag) =
+    (snapshot : Snapshot) × SpellsSnapshot bytes snapshot × IsOfKind variant id snapshot
     × (snapshot.tag ≢ tag_of key snapshot.content)
 
 -- the law of the grammar: each spelling has one content and tag, and none is a proper prefix of
 -- another
-abbrev pub OneSpelling : Type 0
-OneSpelling = (s t : Snapshot) (rest : List ℕ) → IsSnapshot s → IsSnapshot t →
+abbrev pub HasOneSpelling : Type 0
+HasOneSpelling = (s t : Snapshot) (rest : List ℕ) → IsSnapshot s → IsSnapshot t →
     snapshot_spelling s ++ rest ≡ snapshot_spelling t → (s ≡ t) × (rest ≡ [])

@@ -10,7 +10,7 @@ use Rattle.mm_seal.specs.declared.snapshot.Place.{Place}
 use Rattle.mm_seal.specs.declared.snapshot.Place.TheVariants.{Basic, Opt}
 use Rattle.mm_base.specs.Fields.{eight_bytes, four_bytes}
 use Rattle.mm_seal.specs.Fields.{version_of}
-use Rattle.mm_seal.specs.Snapshot.{Content, IsContent, IsPlace, Snapshot, snapshot_spelling, OneSpelling, variant_of, place_spelling, snapshot_front, Spells, IsOfKind, ReadsParts, tag_of, sealed_of}
+use Rattle.mm_seal.specs.Snapshot.{Content, IsContent, IsPlace, Snapshot, snapshot_spelling, HasOneSpelling, variant_of, place_spelling, snapshot_front, SpellsSnapshot, IsOfKind, ReadsParts, tag_of, sealed_snapshot_of}
 use Rattle.mm_seal.specs.SnapshotWords.{front_head}
 use Rattle.mm_digest.specs.LengthLaws.{length-hmac_of}
 use Rattle.mm_seal.specs.declared.snapshot.PartsFault.{PartsFault}
@@ -154,7 +154,7 @@ same_front x y a b ix iy e =
     (λ i. record { id = f.id i; place = f.place i; position = f.position i; state = states.0 i }, states.1)
 
 -- the law of the grammar
-pub one_spelling : OneSpelling
+pub one_spelling : HasOneSpelling
 one_spelling s t rest is it e =
     let regrouped = sym (append_assoc (snapshot_front s.content) s.tag rest) ∙ e in
     let contents = same_front s.content t.content (s.tag ++ rest) t.tag is.content it.content regrouped in
@@ -181,7 +181,7 @@ reads_parts-same bytes variant id (Err Kind) (Err Form) h k = absurd (k h.0 h.1.
 reads_parts-same bytes variant id (Err Kind) (Err Kind) h k = refl
 
 -- a sealed content is spelled, with its tag under the key
-pub sealed_of-spells : (key : List ℕ) (content : Content) → IsContent content →
-    Spells (sealed_of key content) (record { content = content; tag = tag_of key content })
-unfolding sealed_of
-sealed_of-spells key content is = (record { content = is; tag = length-hmac_of key (snapshot_front content) }, refl)
+pub sealed_snapshot_of-spells : (key : List ℕ) (content : Content) → IsContent content →
+    Spells (sealed_snapshot_of key content) (record { content = content; tag = tag_of key content })
+unfolding sealed_snapshot_of
+sealed_snapshot_of-spells key content is = (record { content = is; tag = length-hmac_of key (snapshot_front content) }, refl)

@@ -10,5 +10,5 @@ mod snapshot;
 pub use cell::{Cell, CellFault, cell_bytes, read_cell};
 pub use field::split_digest;
 pub use kept::KeptKey;
-pub use sealing::{SealingKey, Tagged};
+pub use sealing::{SealingKey, TaggedText};
 pub use snapshot::{Body, Offered, OpenFault, PartsFault, Place, open, parts, seal, seal_under};

@@ -15,26 +15,26 @@ use std::marker::Model;
 pub struct SealingKey {
     bytes: [u8; 32],
     key: Option<HmacKey>,
-    last: Option<Tagged>,
-    before: Option<Tagged>,
+    last: Option<TaggedText>,
+    before: Option<TaggedText>,
 }
 
 /// A text that was sealed, which is a snapshot without its tag; and the tag.
 #[derive(Drop)]
-pub struct Tagged {
+pub struct TaggedText {
     pub text: Vec<u8>,
     pub tag: Digest,
 }
 
 impl Model for SealingKey {
     ghost use Rattle.std.specs.Prelude.{List, ℕ};
-    ghost use Rattle.mm_seal.specs.Sealing.{Remembers};
+    ghost use Rattle.mm_seal.specs.KeyRemembers.{KeyRemembers};
 
     ghost Value = { List ℕ };
 
     ghost view = { λ it. it.bytes };
 
-    ghost invariant = { λ it. Remembers it.bytes it.key it.last it.before };
+    ghost invariant = { λ it. KeyRemembers it.bytes it.key it.last it.before };
 }
 
 impl SealingKey {
@@ -42,7 +42,7 @@ impl SealingKey {
     ghost use Rattle.mm_base.specs.Limits.{last_position, limit_of};
     ghost use Rattle.mm_digest.specs.Hmac.{hmac_of};
     ghost use Rattle.mm_seal.specs.Body.{content_of};
-    ghost use Rattle.mm_seal.specs.Snapshot.{sealed_of, tag_of};
+    ghost use Rattle.mm_seal.specs.Snapshot.{sealed_snapshot_of, tag_of};
 
     /// The key, absorbed, with nothing remembered. Takes no memory.
     pub fn new(key: &[u8; 32]) -> SealingKey
@@ -57,7 +57,7 @@ impl SealingKey {
     }
 
     /// The key, which remembers these texts, and is absorbed once it is used. Takes no memory.
-    pub fn remembering(key: &[u8; 32], last: Option<Tagged>, before: Option<Tagged>) -> SealingKey
+    pub fn remembering(key: &[u8; 32], last: Option<TaggedText>, before: Option<TaggedText>) -> SealingKey
         requires last { IfSome last (λ it. it.tag.bytes ≡ hmac_of key.now it.text.items) }
         requires before { IfSome before (λ it. it.tag.bytes ≡ hmac_of key.now it.text.items) }
         ensures { result ≡ key.now }
@@ -78,7 +78,7 @@ impl SealingKey {
     }
 
     /// The text that was sealed last, where it is remembered.
-    pub fn last(&self) -> Option<&Tagged>
+    pub fn last(&self) -> Option<&TaggedText>
         ensures { IfSome result (λ it. it.now.tag.bytes ≡ hmac_of self.now it.now.text.items) }
     {
         match &self.last {
@@ -88,7 +88,7 @@ impl SealingKey {
     }
 
     /// The text that was sealed before that, where it is remembered.
-    pub fn before(&self) -> Option<&Tagged>
+    pub fn before(&self) -> Option<&TaggedText>
         ensures { IfSome result (λ it. it.now.tag.bytes ≡ hmac_of self.now it.now.text.items) }
     {
         match &self.before {
@@ -114,12 +114,12 @@ impl SealingKey {
 
     /// The snapshot of this content, sealed under the key, as [`crate::seal`] gives it. What is signed is remembered from
     /// then on, with its tag; where memory is too short for that alone, nothing is.
-    #[tactic(auto, unfolding(crate::specs::Snapshot::sealed_of))]
+    #[tactic(auto, unfolding(crate::specs::Snapshot::sealed_snapshot_of))]
     #[inline(always)]
     pub fn seal(&mut self, alloc: Global, body: &Body<'_>) -> Result<Bytes, Memory>
         requires position { body.now.position ≤ last_position }
         requires state { length body.now.state.now ≤ limit_of body.now.module }
-        ensures sealed { IfOk result (λ bytes. bytes ≡ sealed_of self.old (content_of body.now)) }
+        ensures sealed { IfOk result (λ bytes. bytes ≡ sealed_snapshot_of self.old (content_of body.now)) }
         ensures same { self.new ≡ self.old }
     {
         let mut bytes = front(alloc, body)?;
@@ -179,7 +179,7 @@ impl SealingKey {
     }
 }
 
-impl Tagged {
+impl TaggedText {
     ghost use Rattle.std.specs.Prelude.{◌≡◌, IfSome};
 
     // Its tag, where this is its text, byte for byte.
@@ -197,7 +197,7 @@ impl Tagged {
 
 // The tag of a text, where it is this one.
 #[inline(always)]
-fn tag_in(tagged: &Option<Tagged>, text: &[u8]) -> Option<Digest>
+fn tag_in(tagged: &Option<TaggedText>, text: &[u8]) -> Option<Digest>
     ensures some { IfSome result (λ tag. IsSome tagged.now) }
     ensures tag { IfSome result (λ tag. IfSome tagged.now
         (λ it. (tag ≡ it.tag) × (it.text.items ≡ text.now))) }
@@ -223,8 +223,8 @@ fn absorb(key: &mut Option<HmacKey>, bytes: &[u8; 32])
 // there is no more, the text isn't remembered.
 fn remember(
     alloc: Global,
-    last: &mut Option<Tagged>,
-    before: &mut Option<Tagged>,
+    last: &mut Option<TaggedText>,
+    before: &mut Option<TaggedText>,
     text: &[u8],
     tag: &Digest,
 )
@@ -232,13 +232,13 @@ fn remember(
     ensures before { before.new ≡ last.old }
 {
     let mut kept = match before.take() {
-        Some(Tagged { text, .. }) => text,
+        Some(TaggedText { text, .. }) => text,
         None => Vec::new(alloc),
     };
     *before = last.take();
     kept.clear();
     if kept.extend_from_slice(text).is_ok() {
-        *last = Some(Tagged {
+        *last = Some(TaggedText {
             text: kept,
             tag: *tag,
         });

@@ -3,10 +3,10 @@
 ghost use Rattle.std.specs.Prelude.{◌≡◌, ◌≤◌, ◌<◌, ◌++◌, ◌↔◌, IsTrue, IfOk, MatchOption, OnOk, OnErr, length};
 ghost use Rattle.mm_base.specs.Limits.{last_position, limit_of};
 ghost use Rattle.mm_digest.specs.Hmac.{hmac_of};
-ghost use Rattle.mm_seal.specs.Snapshot.{variant_of, place_spelling, IsPlace, snapshot_front, sealed_of, IsOfKind, IsNoSnapshot, Spells, ReadsParts, Opens, OneSpelling};
+ghost use Rattle.mm_seal.specs.Snapshot.{variant_of, place_spelling, IsPlace, snapshot_front, sealed_snapshot_of, IsOfKind, IsNoSnapshot, SpellsSnapshot, ReadsParts, OpensOffer, HasOneSpelling};
 ghost use Rattle.mm_seal.specs.SnapshotWords.{front_head};
 ghost use Rattle.mm_seal.specs.Parts.{parts_of};
-ghost use Rattle.mm_seal.specs.Body.{content_of, SpellsNoContent, SpellsContent, HasFieldsOf, HasHead, PlacedIn, place_length};
+ghost use Rattle.mm_seal.specs.Body.{content_of, SpellsNoContent, SpellsContent, HasFieldsOf, HasHead, HasPlaceInFront, place_length};
 
 use crate::field::{split_digest, version};
 use crate::sealing::SealingKey;
@@ -134,18 +134,18 @@ impl<'a> Offered<'a> {
 pub fn seal(alloc: Global, key: &[u8; 32], body: &Body<'_>) -> Result<Bytes, Memory>
     requires position { body.now.position ≤ last_position }
     requires state { length body.now.state.now ≤ limit_of body.now.module }
-    ensures { IfOk result (λ bytes. bytes ≡ sealed_of key.now (content_of body.now)) }
+    ensures { IfOk result (λ bytes. bytes ≡ sealed_snapshot_of key.now (content_of body.now)) }
 {
     seal_under(alloc, &SealingKey::new(key), body)
 }
 
 /// The same, under a key that is absorbed. Nothing more is remembered.
-#[tactic(auto, unfolding(crate::specs::Snapshot::sealed_of))]
+#[tactic(auto, unfolding(crate::specs::Snapshot::sealed_snapshot_of))]
 #[inline(always)]
 pub fn seal_under(alloc: Global, key: &SealingKey, body: &Body<'_>) -> Result<Bytes, Memory>
     requires position { body.now.position ≤ last_position }
     requires state { length body.now.state.now ≤ limit_of body.now.module }
-    ensures { IfOk result (λ bytes. bytes ≡ sealed_of key.now (content_of body.now)) }
+    ensures { IfOk result (λ bytes. bytes ≡ sealed_snapshot_of key.now (content_of body.now)) }
 {
     let mut bytes = front(alloc, body)?;
     let tag = key.tag(bytes.as_slice());
@@ -223,7 +223,7 @@ fn head_of(body: &Body<'_>) -> [u8; 6]
 pub fn parts(bytes: &[u8], variant: Variant, id: u8) -> Result<Offered<'_>, PartsFault>
     ensures reads { ReadsParts bytes.now variant id result }
     ensures parts { result ≡ parts_of variant id bytes.now }
-    ensures one_spelling { OneSpelling }
+    ensures one_spelling { HasOneSpelling }
 {
     match offered_in(bytes) {
         None => Err(PartsFault::Form),
@@ -246,7 +246,7 @@ pub fn open<'a>(
     variant: Variant,
     id: u8,
 ) -> Result<Offered<'a>, OpenFault>
-    ensures { Opens bytes.now key.now variant id result }
+    ensures { OpensOffer bytes.now key.now variant id result }
 {
     match parts(bytes, variant, id) {
         Err(PartsFault::Form) => Err(OpenFault::Form),
@@ -272,7 +272,7 @@ fn is_of_kind(offered: &Offered<'_>, variant: Variant, id: u8) -> bool
 // The snapshot that these bytes spell.
 #[inline(always)]
 fn offered_in(bytes: &[u8]) -> Option<Offered<'_>>
-    ensures { MatchOption result (IsNoSnapshot bytes.now) (Spells bytes.now) }
+    ensures { MatchOption result (IsNoSnapshot bytes.now) (SpellsSnapshot bytes.now) }
 {
     let (signed, tag) = bytes.split_last_chunk::<32>()?;
     let body = body_of(signed)?;
@@ -334,7 +334,7 @@ fn place_len(variant: Variant) -> usize
 // The place in front, and the rest.
 fn split_place(variant: Variant, bytes: &[u8]) -> Option<(Place, &[u8])>
     ensures { MatchOption result (length bytes.now < place_length variant)
-        (λ p. PlacedIn bytes.now variant p.0 p.1.now) }
+        (λ p. HasPlaceInFront bytes.now variant p.0 p.1.now) }
 {
     let (digest, rest) = split_digest(bytes)?;
     match variant {

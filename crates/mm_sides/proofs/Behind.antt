@@ -1,23 +1,23 @@
 -- A side that the module left, and the history that goes on from where it left.
 use Rattle.mm_sides.proofs.Below.{ℕ, ◌≡◌, ◌∙◌, ◌++◌, ◌∷◌, Bool, true, false, List, [], inl, inr, refl, sym, ap, append-nil, Variant, Basic, Opt}
-use Rattle.mm_sides.proofs.Below.{Batch, Meaning, History, Entry, Move, moved, Instance, joined, has_value, life_of}
-use Rattle.mm_sides.proofs.Below.{LiveHistory, by_lists, all_made, instance_by, Event, event_outcome, IsSoundIn, Role}
-use Rattle.mm_sides.proofs.Below.{Foreign, PowerMove, lives, Content, Names, total_of, nat_eq, requests_of, state_after, Digests, Within}
-use Rattle.mm_sides.proofs.Below.{IsClear, place_messages, IsWithin, Agrees, by_digests, stands_here, Retired}
+use Rattle.mm_sides.proofs.Below.{Batch, Meaning, History, RegisterEntry, Move, history_after, Instance, items_of_all, has_value, life_of}
+use Rattle.mm_sides.proofs.Below.{LiveHistory, list_level, state_after_moves, instance_by, Event, event_outcome, IsSoundIn, Role}
+use Rattle.mm_sides.proofs.Below.{Foreign, PowerMove, lives, Content, NamesPosition, total_of, nat_eq, requests_of, state_after, Digests, AreMessagesIn}
+use Rattle.mm_sides.proofs.Below.{IsClear, place_messages, IsWithin, DigestsAgree, digest_level, stands_here, Retired}
 use Rattle.mm_sides.proofs.Below.{is_new, One, zero_bytes, sound_shut, if◌then◌else◌}
 use Rattle.std.proofs.Common.{append_assoc}
 use Rattle.mm_model.specs.Chains.{guard}
-use Rattle.mm_model.specs.History.{Close, Commit, committed, Placed, Reset, Value}
+use Rattle.mm_model.specs.History.{Close, Commit, history_after_commit, Placed, Reset, Value}
 use Rattle.mm_model.specs.HistoryLaws.{has_value-append}
-use Rattle.mm_model.specs.Judge.{verdict_by_digests}
+use Rattle.mm_model.specs.Verdicts.{verdict_by_digests}
 use Rattle.mm_model.specs.SegmentLaws.{joined-push, true_not_false}
 use Rattle.mm_model.specs.Sound.{batches_in, IsMarred, IsSound}
 use Rattle.mm_model.proofs.Above.{shut_current}
-use Rattle.mm_call.specs.Called.{Called, called}
-use Rattle.mm_call.specs.Checkpoints.{Checkpointed, checkpointed}
-use Rattle.mm_run.specs.Folds.{closing_then, course_of, moves_then}
+use Rattle.mm_call.specs.CallOutcome.{CallOutcome, call_outcome}
+use Rattle.mm_call.specs.Checkpoints.{CheckpointOutcome, checkpoint_outcome}
+use Rattle.mm_run.specs.Folds.{moves_after_checkpoint, course_of, moves_after_call}
 use Rattle.mm_run.proofs.Above.{in_any_way}
-use Rattle.mm_module.specs.Batch.{normal}
+use Rattle.mm_module.specs.Batch.{normal_batch}
 use Rattle.mm_sides.proofs.Outer.{IsAlike, same_batches, same_open}
 use Rattle.mm_sides.proofs.Rests.{holding, IsAtEnd, names_cross}
 use Rattle.mm_sides.proofs.WentOn.{basic_went_on, counts_same, opt_went_on, Rests, WentOn}
@@ -32,18 +32,18 @@ went_further x y z a b = record {
   more = a.more ++ b.more;
   newer = a.newer ++ b.newer;
   batches = b.batches ∙ ap (λ (l : List Batch). l ++ b.more) a.batches ∙ append_assoc x.batches a.more b.more;
-  closed = b.closed ∙ ap (λ (l : List (List Entry)). l ++ b.newer) a.closed ∙ append_assoc x.closed a.newer b.newer;
+  closed = b.closed ∙ ap (λ (l : List (List RegisterEntry)). l ++ b.newer) a.closed ∙ append_assoc x.closed a.newer b.newer;
 }
 
-went_items : (y : History) (items : List Entry) → WentOn y (holding y items)
+went_items : (y : History) (items : List RegisterEntry) → WentOn y (holding y items)
 went_items y items = record { more = []; newer = []; batches = sym (append-nil y.batches); closed = sym (append-nil y.closed) }
 
-went_committed : (variant : Variant) (flag : Bool) (y : History) (b : Batch) → WentOn y (committed variant flag y b)
+went_committed : (variant : Variant) (flag : Bool) (y : History) (b : Batch) → WentOn y (history_after_commit variant flag y b)
 went_committed Basic flag y b = record { more = b ∷ []; newer = []; batches = refl; closed = sym (append-nil y.closed) }
 went_committed Opt true y b = record { more = b ∷ []; newer = []; batches = refl; closed = sym (append-nil y.closed) }
 went_committed Opt false y b = record { more = b ∷ []; newer = []; batches = refl; closed = sym (append-nil y.closed) }
 
-went_moved : (i : Instance) (y : History) (m : Move) → WentOn y (moved i y m)
+went_moved : (i : Instance) (y : History) (m : Move) → WentOn y (history_after i y m)
 went_moved i y (Commit b) = went_committed i.variant y.is_open y b
 went_moved i y Close = record { more = []; newer = y.items ∷ []; batches = sym (append-nil y.batches); closed = refl }
 went_moved i y (Foreign d) = went_items y (y.items ++ Value d ∷ [])
@@ -51,24 +51,24 @@ went_moved i y (Placed b) = went_items y (y.items ++ Value (guard i.barrier b) �
 went_moved i y Reset = went_items y []
 went_moved i y PowerMove = went_items y []
 
-went_moves : (i : Instance) (moves : List Move) (y : History) → WentOn y (all_made (by_lists i) y moves)
+went_moves : (i : Instance) (moves : List Move) (y : History) → WentOn y (state_after_moves (list_level i) y moves)
 went_moves i [] y = went_here y
 went_moves i (m ∷ moves) y =
-    went_further y (moved i y m) (all_made (by_lists i) (moved i y m) moves) (went_moved i y m) (went_moves i moves (moved i y m))
+    went_further y (history_after i y m) (state_after_moves (list_level i) (history_after i y m) moves) (went_moved i y m) (went_moves i moves (history_after i y m))
 
 -- an event leads on
 pub went_event : (i : Instance) (y : History) (issued : List (List ℕ)) (event : Event)
-    → WentOn y (event_outcome i (by_lists i) y issued event).state
-went_event i y issued event = in_any_way i (by_lists i) y issued (λ o. WentOn y o.state) (record {
+    → WentOn y (event_outcome i (list_level i) y issued event).state
+went_event i y issued event = in_any_way i (list_level i) y issued (λ o. WentOn y o.state) (record {
   refused = λ why. went_here y;
   call = λ stop meddles bytes b short.
-      let o : Called History = called i (by_lists i) y (course_of stop meddles) bytes (normal b) in
-      let rest : List Move = moves_then stop o.ending in
-      went_further y o.state (all_made (by_lists i) o.state rest) (went_moves i o.moves y) (went_moves i rest o.state);
+      let o : CallOutcome History = call_outcome i (list_level i) y (course_of stop meddles) bytes (normal_batch b) in
+      let rest : List Move = moves_after_call stop o.ending in
+      went_further y o.state (state_after_moves (list_level i) o.state rest) (went_moves i o.moves y) (went_moves i rest o.state);
   check = λ stop meddles.
-      let o : Checkpointed History = checkpointed i (by_lists i) y (course_of stop meddles) in
-      let rest : List Move = closing_then stop o.ending in
-      went_further y o.state (all_made (by_lists i) o.state rest) (went_moves i o.moves y) (went_moves i rest o.state);
+      let o : CheckpointOutcome History = checkpoint_outcome i (list_level i) y (course_of stop meddles) in
+      let rest : List Move = moves_after_checkpoint stop o.ending in
+      went_further y o.state (state_after_moves (list_level i) o.state rest) (went_moves i o.moves y) (went_moves i rest o.state);
   power = went_moved i y PowerMove;
   extend = λ value. went_moved i y (Foreign value);
 }) event
@@ -87,7 +87,7 @@ alike_went y x z alike w = record {
   more = w.more;
   newer = w.newer;
   batches = w.batches ∙ ap (λ (l : List Batch). l ++ w.more) (sym (same_batches y x alike));
-  closed = w.closed ∙ ap (λ (l : List (List Entry)). l ++ w.newer) (sym (ap (λ (v : History). v.closed) alike.is));
+  closed = w.closed ∙ ap (λ (l : List (List RegisterEntry)). l ++ w.newer) (sym (ap (λ (v : History). v.closed) alike.is));
 }
 
 alike_rests : (y z : History) → IsAlike y z → Rests y → Rests z
@@ -95,8 +95,8 @@ alike_rests y z alike r =
     let closed : z.closed ≡ y.closed = ap (λ (w : History). w.closed) alike.is in
     record {
       shut = same_open y z alike ∙ r.shut;
-      clean = ap (λ (l : List (List Entry)). has_value (joined l)) closed ∙ r.clean;
-      batches = same_batches y z alike ∙ r.batches ∙ ap (λ (l : List (List Entry)). batches_in (joined l)) (sym closed);
+      clean = ap (λ (l : List (List RegisterEntry)). has_value (items_of_all l)) closed ∙ r.clean;
+      batches = same_batches y z alike ∙ r.batches ∙ ap (λ (l : List (List RegisterEntry)). batches_in (items_of_all l)) (sym closed);
     }
 
 -- in Opt a history at rest that goes on
@@ -108,8 +108,8 @@ pub alike_rests_in : (variant : Variant) (y z : History) → IsAlike y z → Res
 alike_rests_in Basic y z alike r = tt
 alike_rests_in Opt y z alike r = alike_rests y z alike r
 
-marred_value : (y : History) → IsMarred y → has_value (joined y.closed) ≡ true
-marred_value y m = rw (m.split, joined-push m.before m.last, has_value-append (joined m.before) m.last, m.clean) m.marred
+marred_value : (y : History) → IsMarred y → has_value (items_of_all y.closed) ≡ true
+marred_value y m = rw (m.split, joined-push m.before m.last, has_value-append (items_of_all m.before) m.last, m.clean) m.marred
 
 opt_rests : (y : History) → IsSound y → life_of Opt y ≡ LiveHistory → y.is_open ≡ false → Rests y
 opt_rests y sound live shut =
@@ -119,7 +119,7 @@ opt_rests y sound live shut =
       shut = shut;
       clean = l.clean;
       batches = elim sound.history [
-        | inl c ↦ c.batches ∙ ap (λ (bs : List Batch). batches_in (joined y.closed) ++ bs) none ∙ append-nil (batches_in (joined y.closed))
+        | inl c ↦ c.batches ∙ ap (λ (bs : List Batch). batches_in (items_of_all y.closed) ++ bs) none ∙ append-nil (batches_in (items_of_all y.closed))
         | inr m ↦ absurd (true_not_false (sym (marred_value y m) ∙ l.clean))
       ];
     }
@@ -146,7 +146,7 @@ behind_alike role variant y x z alike b = tt
 -- An offer to such a side, of what names a position of the history.
 
 -- at the last position it says what the side has there
-pub end_behind : (i : Instance) (y z : History) (c : Content) → WentOn y z → Names i z c → nat_eq c.position (total_of y.batches) ≡ true
+pub end_behind : (i : Instance) (y z : History) (c : Content) → WentOn y z → NamesPosition i z c → nat_eq c.position (total_of y.batches) ≡ true
     → IsAtEnd i y c
 end_behind i y z c w n last =
     let same : n.named ≡ y.batches =
@@ -162,14 +162,14 @@ sound_counted z false e sound = sound_shut z [] e sound
 pub there_same : (variant : Variant) (meaning : Meaning) (key barrier : List ℕ) (all others : List (List ℕ)) (asked : List Batch)
     → (let i = instance_by variant meaning key barrier in
     IsClear all → (y z : History) (d : Digests) (c : Content) → WentOn y z → RestsIn i.variant y → IsWithin all others asked i z
-    → Agrees i y d → y.is_open ≡ false → Within (place_messages c.place) all → Names i z c
-    → stands_here (by_digests i) d c ≡ stands_here (by_lists i) y c)
+    → DigestsAgree i y d → y.is_open ≡ false → AreMessagesIn (place_messages c.place) all → NamesPosition i z c
+    → stands_here (digest_level i) d c ≡ stands_here (list_level i) y c)
 there_same Basic meaning key barrier all others asked clear y z d c on rests w a shut listed names =
     ap (λ f. is_new (verdict_by_digests zero_bytes f d.digest d.register c.place (One []))) a.flag
     ∙ ap (λ x. is_new (verdict_by_digests zero_bytes false x d.register c.place (One []))) a.digest
     ∙ basic_went_on meaning key d.register y z c (One []) all on clear w.listed names
 there_same Opt meaning key barrier all others asked clear y z d c on rests w a shut listed names =
-    let items : List Entry = if z.is_open then z.items else [] in
+    let items : List RegisterEntry = if z.is_open then z.items else [] in
     ap (λ f. is_new (verdict_by_digests barrier f d.digest d.register c.place (One []))) (a.flag ∙ shut)
     ∙ ap (λ x. is_new (verdict_by_digests barrier false x d.register c.place (One []))) a.digest
     ∙ opt_went_on meaning key barrier d.register y (holding z items) c (One []) all

@@ -1,12 +1,12 @@
 -- Whole schedules of both sides agree, by digests and by lists; and they go on from what stands after their first events.
 use Rattle.mm_sides.proofs.Below.{ℕ, ◌≡◌, List, [], ◌∷◌, ◌++◌, refl, sym, ap, subst, AllByRecursion, Contains, start_message, Variant}
-use Rattle.mm_sides.proofs.Below.{Basic, Opt, Batch, Meaning, Instance, History, first_history, Within, IsClear, Digests, each_left}
-use Rattle.mm_sides.proofs.Below.{each_right, each_self, instance_by, first_digests, Keeps, AreApartIn, Notes, no_notes, Which, First}
-use Rattle.mm_sides.proofs.Below.{Second, Pair, instance_on, Both, turned, Mover, lists_move, digests_move, first_lists, first_both, Act}
-use Rattle.mm_sides.proofs.Below.{BothEvent, BothReply, BothOutcome, outcome_here, both_outcome, BothFollowed, both_followed, noted_if}
-use Rattle.mm_sides.proofs.Below.{both_event_messages, both_messages_from, both_messages, others_in, both_others, batches_in, both_batches}
+use Rattle.mm_sides.proofs.Below.{Basic, Opt, Batch, Meaning, Instance, History, first_history, AreMessagesIn, IsClear, Digests, each_left}
+use Rattle.mm_sides.proofs.Below.{each_right, each_self, instance_by, first_digests, KeepsHistory, AreApartIn, MoveNotes, no_notes, Which, First}
+use Rattle.mm_sides.proofs.Below.{Second, Pair, instance_on, Both, sides_swapped, Mover, lists_move, digests_move, first_lists, first_both, BothAct}
+use Rattle.mm_sides.proofs.Below.{BothEvent, BothReply, BothOutcome, outcome_here, both_outcome, BothRunOutcome, both_outcome_of_events, notes_with_effect_if}
+use Rattle.mm_sides.proofs.Below.{both_event_messages, both_messages_from, both_messages, others_values_in, both_others, batches_in, both_batches}
 use Rattle.mm_sides.proofs.Below.{IsGenuineIn, AreGenuineFrom, IsNew, IsOursIn, AreFreshFrom, PairsAgree, PairsAgreeThroughout}
-use Rattle.mm_sides.proofs.Below.{both_continued, PairsGoOn, basic_begins, opt_begins}
+use Rattle.mm_sides.proofs.Below.{both_outcome_joined, PairsGoOn, basic_begins, opt_begins}
 use Rattle.mm_sides.proofs.InOrder.{roles_begin}
 use Rattle.mm_sides.proofs.OneLive.{here_ordered}
 use Rattle.mm_sides.proofs.Twins.{Twin, twin, turned_twin, Kept, Goes, turned_kept}
@@ -20,19 +20,19 @@ apart_cross Opt meaning key key' barrier others asked h = h
 
 starts_by : (variant : Variant) (meaning : Meaning) (key key' barrier : List ℕ) (all others : List (List ℕ)) (asked : List Batch)
     → Contains all (start_message (instance_by variant meaning key barrier).variant (instance_by variant meaning key barrier).meaning.id)
-    → Keeps all others asked (instance_by variant meaning key' barrier) first_history
+    → KeepsHistory all others asked (instance_by variant meaning key' barrier) first_history
     (first_digests (instance_by variant meaning key' barrier))
 starts_by Basic meaning key key' barrier all others asked h = basic_begins meaning key' all others asked h
 starts_by Opt meaning key key' barrier all others asked h = opt_begins meaning key' barrier all others asked h
 
 module _ (pair : Pair) (all others : List (List ℕ)) (asked : List Batch) (clear : IsClear all)
     (apart : AreApartIn (instance_on pair First).variant (instance_on pair First) others asked) where
-  event_goes : (l : Both History History) (x : Twin) (notes : Notes) (which : Which) (act : Act)
+  event_goes : (l : Both History History) (x : Twin) (notes : MoveNotes) (which : Which) (act : BothAct)
       → Kept all others asked (instance_on pair First) (instance_on pair Second) l x notes
       → (let event : BothEvent = record { which = which; act = act } in
       IsNew notes (both_outcome lists_move pair l event).effect → IsOursIn pair l.tickets notes act
-      → AllByRecursion (Contains others) (others_in act) → AllByRecursion (Contains asked) (batches_in act)
-      → Within (both_event_messages pair l event) all → IsGenuineIn pair l event
+      → AllByRecursion (Contains others) (others_values_in act) → AllByRecursion (Contains asked) (batches_in act)
+      → AreMessagesIn (both_event_messages pair l event) all → IsGenuineIn pair l event
       → Goes all others asked (instance_on pair First) (instance_on pair Second) notes (both_outcome lists_move pair l event)
       (both_outcome digests_move pair (twin l x) event))
   event_goes l x notes First act k new ours outside batches listed genuine =
@@ -41,22 +41,22 @@ module _ (pair : Pair) (all others : List (List ℕ)) (asked : List Batch) (clea
   event_goes l x notes Second act k new ours outside batches listed genuine =
       let i : Instance = instance_on pair Second in
       let back = turned_kept pair.variant pair.meaning pair.first_key pair.second_key pair.barrier all others asked l x notes k in
-      let o : BothOutcome History History = outcome_here lists_move pair i (turned l) act in
+      let o : BothOutcome History History = outcome_here lists_move pair i (sides_swapped l) act in
       let g = here_goes pair.variant pair.meaning pair.second_key pair.first_key pair.barrier all others asked clear
-      (apart_cross pair.variant pair.meaning pair.first_key pair.second_key pair.barrier others asked apart) pair (turned l)
-      (turned_twin x) notes act back (here_ordered pair i (turned l) notes act back.order new ours) outside batches listed genuine ours in
+      (apart_cross pair.variant pair.meaning pair.first_key pair.second_key pair.barrier others asked apart) pair (sides_swapped l)
+      (turned_twin x) notes act back (here_ordered pair i (sides_swapped l) notes act back.order new ours) outside batches listed genuine ours in
       record {
         at = turned_twin g.at;
-        same = ap (λ (w : BothOutcome Digests ℕ). record w { both = turned w.both }) g.same;
+        same = ap (λ (w : BothOutcome Digests ℕ). record w { both = sides_swapped w.both }) g.same;
         kept = turned_kept pair.variant pair.meaning pair.second_key pair.first_key pair.barrier all others asked o.both g.at
-            (noted_if o.effect notes) g.kept;
+            (notes_with_effect_if o.effect notes) g.kept;
       }
 
-  agree_from : (events : List BothEvent) (l : Both History History) (x : Twin) (notes : Notes)
+  agree_from : (events : List BothEvent) (l : Both History History) (x : Twin) (notes : MoveNotes)
       → Kept all others asked (instance_on pair First) (instance_on pair Second) l x notes
       → AllByRecursion (Contains others) (both_others events) → AllByRecursion (Contains asked) (both_batches events)
-      → Within (both_messages_from pair l events) all → AreGenuineFrom pair l events → AreFreshFrom pair l notes events
-      → PairsAgree pair (both_followed lists_move pair l events) (both_followed digests_move pair (twin l x) events)
+      → AreMessagesIn (both_messages_from pair l events) all → AreGenuineFrom pair l events → AreFreshFrom pair l notes events
+      → PairsAgree pair (both_outcome_of_events lists_move pair l events) (both_outcome_of_events digests_move pair (twin l x) events)
   agree_from [] l x notes k outside batches listed genuine fresh = record {
     replies = refl;
     first = record { role = refl; at = k.this.keeps.agrees; issued = refl };
@@ -67,17 +67,17 @@ module _ (pair : Pair) (all others : List (List ℕ)) (asked : List Batch) (clea
   agree_from (event ∷ events) l x notes k outside batches listed genuine fresh =
       let o : BothOutcome History History = both_outcome lists_move pair l event in
       let g = event_goes l x notes event.which event.act k fresh.0 fresh.1
-      (each_left (Contains others) (others_in event.act) (both_others events) outside)
+      (each_left (Contains others) (others_values_in event.act) (both_others events) outside)
       (each_left (Contains asked) (batches_in event.act) (both_batches events) batches)
       (each_left (Contains all) (both_event_messages pair l event) (both_messages_from pair o.both events) listed) genuine.0 in
-      let rest = agree_from events o.both g.at (noted_if o.effect notes) g.kept
-      (each_right (Contains others) (others_in event.act) (both_others events) outside)
+      let rest = agree_from events o.both g.at (notes_with_effect_if o.effect notes) g.kept
+      (each_right (Contains others) (others_values_in event.act) (both_others events) outside)
       (each_right (Contains asked) (batches_in event.act) (both_batches events) batches)
       (each_right (Contains all) (both_event_messages pair l event) (both_messages_from pair o.both events) listed) genuine.1 fresh.2 in
-      let f : BothFollowed History History = both_followed lists_move pair o.both events in
+      let f : BothRunOutcome History History = both_outcome_of_events lists_move pair o.both events in
       let Q : BothOutcome Digests ℕ → Type 0 = λ w. PairsAgree pair (record { both = f.both; replies = o.reply ∷ f.replies }) (record {
-        both = (both_followed digests_move pair w.both events).both;
-        replies = w.reply ∷ (both_followed digests_move pair w.both events).replies;
+        both = (both_outcome_of_events digests_move pair w.both events).both;
+        replies = w.reply ∷ (both_outcome_of_events digests_move pair w.both events).replies;
       }) in
       subst Q (sym g.same) (record {
         replies = ap (λ (r : List BothReply). o.reply ∷ r) rest.replies;
@@ -110,12 +110,12 @@ pairs_agree pair events clear genuine fresh =
     }) (each_self [] others) (each_self [] asked) self.1 genuine fresh
 
 follow_on : {S A : Type 0} (mover : Mover S A) (pair : Pair) (es fs : List BothEvent) (both : Both S A)
-    → both_followed mover pair both (es ++ fs) ≡ both_continued (both_followed mover pair both es)
-    (both_followed mover pair (both_followed mover pair both es).both fs)
+    → both_outcome_of_events mover pair both (es ++ fs) ≡ both_outcome_joined (both_outcome_of_events mover pair both es)
+    (both_outcome_of_events mover pair (both_outcome_of_events mover pair both es).both fs)
 follow_on mover pair [] fs both = refl
 follow_on {S} {A} mover pair (event ∷ es) fs both =
     let o : BothOutcome S A = both_outcome mover pair both event in
-    ap (λ (rest : BothFollowed S A). record { both = rest.both; replies = o.reply ∷ rest.replies }) (follow_on mover pair es fs o.both)
+    ap (λ (rest : BothRunOutcome S A). record { both = rest.both; replies = o.reply ∷ rest.replies }) (follow_on mover pair es fs o.both)
 
 pub pairs_go_on : PairsGoOn
 pairs_go_on pair es fs = (follow_on lists_move pair es fs (first_lists pair), follow_on digests_move pair es fs (first_both pair))

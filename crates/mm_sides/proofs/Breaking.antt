@@ -2,10 +2,10 @@
 use Rattle.mm_sides.proofs.Below.{ℕ, ◌≡◌, ◌&&◌, ◌++◌, ◌∷◌, Bool, false, List, [], Option, None, Some, Result, Ok, Err, inl, inr}
 use Rattle.mm_sides.proofs.Below.{refl, sym, ap, subst, Contains, bytes_eq, bytes_eq-Decides, nat_eq, Content}
 use Rattle.mm_sides.proofs.Below.{History, Instance, Refusal, TicketContent, Event, offered_bytes}
-use Rattle.mm_sides.proofs.Below.{Role, Live, Retired, Waiting, Blank, Effect, Invites, Leaves, Enters, Notes, no_notes}
+use Rattle.mm_sides.proofs.Below.{Role, Live, Retired, Waiting, Blank, Effect, Invites, Leaves, Enters, MoveNotes, no_notes}
 use Rattle.mm_sides.proofs.Below.{First, Which, key_of, Pair, instance_on, Both, lists_move, first_lists, history_now}
-use Rattle.mm_sides.proofs.Below.{Invite, Retire, Accept, ticket_in, Act, Plain, Moves, BothEvent, both_outcome, both_followed}
-use Rattle.mm_sides.proofs.Below.{noted_if, IsGenuineTo, IsGenuineHere, IsGenuineIn, AreGenuineFrom, IsNew}
+use Rattle.mm_sides.proofs.Below.{Invite, Retire, Accept, ticket_in, BothAct, Plain, Moves, BothEvent, both_outcome, both_outcome_of_events}
+use Rattle.mm_sides.proofs.Below.{notes_with_effect_if, IsGenuineTo, IsGenuineHere, IsGenuineIn, AreGenuineFrom, IsNew}
 use Rattle.mm_sides.proofs.Below.{IsOurs, IsOursOffered, IsOursIn, AreFreshFrom, both_messages, both_others, both_batches}
 use Rattle.std.proofs.Common.{◌⊎◌}
 use Rattle.std.specs.Bool.{Decides}
@@ -13,7 +13,7 @@ use Rattle.std.proofs.lemmas.Bool.Decides.{Decides-and, Decides-eqb}
 use Rattle.mm_seal.specs.declared.snapshot.Place.{Place}
 use Rattle.mm_seal.specs.declared.snapshot.Place.TheVariants.{Basic as InBasic, Opt as InOpt}
 use Rattle.mm_digest.specs.declared.digest.Digest.{Digest}
-use Rattle.mm_model.specs.Places.{Names}
+use Rattle.mm_model.specs.Places.{NamesPosition}
 use Rattle.mm_history.specs.Naming.{BasicNamesAreDecided, is_named, IsDecided, OptNamesAreDecided}
 use Rattle.mm_platform.specs.declared.plan.Meddle.{Meddle}
 use Rattle.mm_platform.specs.declared.plan.Stop.{Stop}
@@ -22,7 +22,7 @@ use Rattle.mm_schedule.specs.declared.event.Offer.{Offer}
 use Rattle.mm_run.specs.Premises.{IsGenuineOffer}
 use Rattle.mm_evidence.specs.Evidence.{IsForged}
 use Rattle.mm_evidence.proofs.Above.{clash_apart, clash_or, found_or_none, names_by, offer_apart, offer_or}
-use Rattle.mm_sides.specs.Both.{facing}
+use Rattle.mm_sides.specs.Both.{sides_seen_from}
 use Rattle.mm_sides.specs.Evidence.{accepted, asked, breach, clash, HasPairEvidence, invited, IsBreach, notes_after, PairsAreDecided, retired}
 use Rattle.mm_sides.specs.Premises.{IsClearPair, IsFreshPair, IsGenuinePair, IsGenuinePlain}
 
@@ -87,9 +87,9 @@ contains_or same decides xs x = elim (found_or_none (same x) xs) [
 
 -- what an event breaks, or that it breaks nothing
 
-module _ (pair : Pair) (both : Both History History) (notes : Notes) (event : BothEvent) where
+module _ (pair : Pair) (both : Both History History) (notes : MoveNotes) (event : BothEvent) where
   abbrev here : Both History History
-  here = facing event.which both
+  here = sides_seen_from event.which both
 
   abbrev at_side : Instance
   at_side = instance_on pair event.which
@@ -119,14 +119,14 @@ module _ (pair : Pair) (both : Both History History) (notes : Notes) (event : Bo
     ours_offered None offers = inr tt
     ours_offered (Some bytes) offers = ours_by bytes offers (ticket_in pair bytes) refl
 
-  ours_or : (act : Act) → event.act ≡ act → Breach ⊎ IsOursIn pair both.tickets notes act
+  ours_or : (act : BothAct) → event.act ≡ act → Breach ⊎ IsOursIn pair both.tickets notes act
   ours_or (Plain e) is = inr tt
   ours_or (Moves meddles stop (Accept offer)) is = ours_offered meddles stop offer is (offered_bytes both.tickets offer) refl
   ours_or (Moves meddles stop (Invite nonce)) is = inr tt
   ours_or (Moves meddles stop (Retire nonce offer)) is = inr tt
 
   -- offers, of an instance whose names are decided
-  module _ (named : (y : History) (content : Content) → IsDecided (is_named at_side y content) (Names at_side y content)) where
+  module _ (named : (y : History) (content : Content) → IsDecided (is_named at_side y content) (NamesPosition at_side y content)) where
     module _ (meddles : List Meddle) (stop : Stop) (nonce : List ℕ) (offer : Offer) (is : event.act ≡ Moves meddles stop (Retire nonce offer))
       where
         stood : (here.first.role ≡ Live) ⊎ ((left : List ℕ) × (here.first.role ≡ Retired left))
@@ -156,7 +156,7 @@ module _ (pair : Pair) (both : Both History History) (notes : Notes) (event : Bo
     genuine_plain e is Blank at = inr tt
     genuine_plain e is (Waiting awaited) at = inr tt
 
-    genuine_here : (act : Act) → event.act ≡ act → Breach ⊎ IsGenuineHere at_side here act
+    genuine_here : (act : BothAct) → event.act ≡ act → Breach ⊎ IsGenuineHere at_side here act
     genuine_here (Plain e) is = genuine_plain e is here.first.role refl
     genuine_here (Moves meddles stop (Retire nonce offer)) is = genuine_to meddles stop nonce offer is here.first.role refl
     genuine_here (Moves meddles stop (Invite nonce)) is = inr tt
@@ -186,20 +186,20 @@ module _ (pair : Pair) (both : Both History History) (notes : Notes) (event : Bo
 -- a schedule of both sides
 
 module _ (pair : Pair) where
-  record Breaks (both : Both History History) (notes : Notes) (events : List BothEvent) : Type 0 where
+  record Breaks (both : Both History History) (notes : MoveNotes) (events : List BothEvent) : Type 0 where
     before : List BothEvent
     event : BothEvent
     later : List BothEvent
     split : events ≡ before ++ event ∷ later
-    broken : IsBreach pair (both_followed lists_move pair both before).both (notes_after pair both notes before) event
+    broken : IsBreach pair (both_outcome_of_events lists_move pair both before).both (notes_after pair both notes before) event
 
-  breach_first : (both : Both History History) (notes : Notes) (event : BothEvent) (events : List BothEvent)
+  breach_first : (both : Both History History) (notes : MoveNotes) (event : BothEvent) (events : List BothEvent)
       → IsBreach pair both notes event → Breaks both notes (event ∷ events)
   breach_first both notes event events b = record { before = []; event = event; later = events; split = refl; broken = b }
 
   module _ (named : (which : Which) (y : History) (content : Content)
-      → (let i = instance_on pair which in IsDecided (is_named i y content) (Names i y content))) where
-    breach_or : (events : List BothEvent) (both : Both History History) (notes : Notes)
+      → (let i = instance_on pair which in IsDecided (is_named i y content) (NamesPosition i y content))) where
+    breach_or : (events : List BothEvent) (both : Both History History) (notes : MoveNotes)
         → Breaks both notes events ⊎ (AreGenuineFrom pair both events × AreFreshFrom pair both notes events)
     breach_or [] both notes = inr (tt, tt)
     breach_or (event ∷ events) both notes =
@@ -210,7 +210,7 @@ module _ (pair : Pair) where
             | inl b ↦ inl (breach_first both notes event events b)
             | inr new ↦ elim (ours_or pair both notes event event.act refl) [
               | inl b ↦ inl (breach_first both notes event events b)
-              | inr ours ↦ elim (breach_or events o.both (noted_if o.effect notes)) [
+              | inr ours ↦ elim (breach_or events o.both (notes_with_effect_if o.effect notes)) [
                 | inl b ↦ inl (record {
                   before = event ∷ b.before;
                   event = b.event;
@@ -224,13 +224,13 @@ module _ (pair : Pair) where
           ]
         ]
 
-  breaks_apart : (before : List BothEvent) (event : BothEvent) (later : List BothEvent) (both : Both History History) (notes : Notes)
+  breaks_apart : (before : List BothEvent) (event : BothEvent) (later : List BothEvent) (both : Both History History) (notes : MoveNotes)
       → AreGenuineFrom pair both (before ++ event ∷ later) → AreFreshFrom pair both notes (before ++ event ∷ later)
-      → IsBreach pair (both_followed lists_move pair both before).both (notes_after pair both notes before) event → ⊥
+      → IsBreach pair (both_outcome_of_events lists_move pair both before).both (notes_after pair both notes before) event → ⊥
   breaks_apart [] event later both notes genuine fresh b = breach_apart pair both notes event b genuine.0 fresh.0 fresh.1
   breaks_apart (x ∷ before) event later both notes genuine fresh b =
       let o = both_outcome lists_move pair both x in
-      breaks_apart before event later o.both (noted_if o.effect notes) genuine.1 fresh.2 b
+      breaks_apart before event later o.both (notes_with_effect_if o.effect notes) genuine.1 fresh.2 b
 
   pair_apart : (events : List BothEvent) → IsClearPair pair events → IsGenuinePair pair events → IsFreshPair pair events
       → HasPairEvidence pair events → ⊥
@@ -252,5 +252,5 @@ pairs_decided basic opt pair events = record {
 }
   where
     named : (which : Which) (y : History) (content : Content)
-        → IsDecided (is_named (instance_on pair which) y content) (Names (instance_on pair which) y content)
+        → IsDecided (is_named (instance_on pair which) y content) (NamesPosition (instance_on pair which) y content)
     named which = names_by basic opt pair.variant pair.meaning (key_of pair which) pair.barrier

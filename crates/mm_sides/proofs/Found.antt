@@ -1,13 +1,13 @@
 -- What a move finds fits the role of its side, and tells of where the side stands.
 use Rattle.mm_sides.proofs.Below.{ℕ, ◌≡◌, Bool, true, false, List, Option, None, Some, Result, Ok, Err, refl, sym, [], ◌∷◌, ◌++◌}
 use Rattle.mm_sides.proofs.Below.{if◌then◌else◌, Contains, bytes_eq, bytes_eq-Decides, PartsFault, Form, Kind, parts_of, Content, Snapshot}
-use Rattle.mm_sides.proofs.Below.{tag_of, Refusal, Instance, weighed, weighed_only, accepting_verdict, Fate, End, Done, Fails, walk}
-use Rattle.mm_sides.proofs.Below.{after_step, TicketContent, offered_bytes, Role, Live, Waiting, Retired, Effect, Invites, Leaves, Enters}
-use Rattle.mm_sides.proofs.Below.{Notes, is_live, MayTake, IsFreshEffect, IsLastTicket, AreInOrder, EntersLast, Pair, Both, Mover, Command}
-use Rattle.mm_sides.proofs.Below.{Invite, Retire, Accept, MoveCause, Open, Gone, Nonce, Already, FoundMove, stands_here, verdict_here}
-use Rattle.mm_sides.proofs.Below.{invited_on, left_by, offered_to, retired_on, ticket_in, entered_as, entered_again, accepted_on, is_moved}
-use Rattle.mm_sides.proofs.Below.{effect_if, effect_of, retiring, accepting, finding, BothOutcome, affected_if, handed, told, move_ended}
-use Rattle.mm_sides.proofs.Below.{noted_if, IsNew, IsOurs, IsOursOffered, IsOursFor, Reads, StepFault, Stop, plain_reply}
+use Rattle.mm_sides.proofs.Below.{tag_of, Refusal, Instance, check_by_tests, weighed_only, accepting_verdict, StepFate, End, Done, Fails, walk}
+use Rattle.mm_sides.proofs.Below.{walk_from_step, TicketContent, offered_bytes, Role, Live, Waiting, Retired, Effect, Invites, Leaves, Enters}
+use Rattle.mm_sides.proofs.Below.{MoveNotes, is_live, MayTake, IsFreshEffect, IsLastTicket, AreInOrder, EntersLast, Pair, Both, Mover, MoveCommand}
+use Rattle.mm_sides.proofs.Below.{Invite, Retire, Accept, DenialCause, Open, Gone, Nonce, Already, FoundMove, stands_here, verdict_here}
+use Rattle.mm_sides.proofs.Below.{invitation_on, found_retirement_by, retirement_with, retirement_on, ticket_in, entry_by_ticket, repeated_entry, acceptance_on, is_moved}
+use Rattle.mm_sides.proofs.Below.{effect_if, effect_of, found_retirement, found_acceptance, found_command, BothOutcome, sides_after_effect_if, sides_after_issue, effect_reply, move_end_outcome}
+use Rattle.mm_sides.proofs.Below.{notes_with_effect_if, IsNew, IsOurs, IsOursOffered, IsOursFor, Reads, StepFault, Stop, plain_reply}
 use Rattle.mm_sides.proofs.InOrder.{not_dead, roles_go_on, roles_enter_last}
 
 -- How a list of tickets ends, and how the walk of a move does.
@@ -31,19 +31,19 @@ never_none : {A : Type 0} (x : A) → Some x ≡ None → ⊥
 never_none x e = cc
 
 both_done : (v w : List (List ℕ)) (a b : End)
-    → (after_step Reads v a (after_step Reads w b (record { moves = []; steps = 0; writes = 0; broken = None }))).broken ≡ None
+    → (walk_from_step Reads v a (walk_from_step Reads w b (record { moves = []; steps = 0; writes = 0; broken = None }))).broken ≡ None
     → is_moved a b ≡ true
 both_done v w Done Done e = refl
 both_done v w Done (Fails fault made) e = absurd (never_none fault e)
 both_done v w (Fails fault made) b e = absurd (never_none fault e)
 
 -- the walk of a move that isn't broken off made both its steps
-pub unbroken : (fates : ℕ → Fate) (again : Bool) → (walk fates 1 (if again then Reads ∷ [] else Reads ∷ Reads ∷ [])).broken ≡ None
+pub unbroken : (fates : ℕ → StepFate) (again : Bool) → (walk fates 1 (if again then Reads ∷ [] else Reads ∷ Reads ∷ [])).broken ≡ None
     → again ≡ false → is_moved (fates 1).ends (fates 2).ends ≡ true
 unbroken fates true e f = not_dead f
 unbroken fates false e f = both_done (fates 1).brings (fates 2).brings (fates 1).ends (fates 2).ends e
 
-pub found_is : (f g : FoundMove) → (let r : Result FoundMove MoveCause = Ok f in let s : Result FoundMove MoveCause = Ok g in r ≡ s) → f ≡ g
+pub found_is : (f g : FoundMove) → (let r : Result FoundMove DenialCause = Ok f in let s : Result FoundMove DenialCause = Ok g in r ≡ s) → f ≡ g
 found_is f g e = cc
 
 -- The module leaves where no segment is open, by an offer that stands there.
@@ -61,21 +61,21 @@ pub record EnteredHere {S A : Type 0} (mover : Mover S A) (i : Instance) (at : S
 
 -- What a found effect tells, by whether it was made before: a new one may be taken by the role of its side, and a ticket is one
 -- that the module left by.
-abbrev pub Fits : {S A : Type 0} → Mover S A → Instance → S → Notes → Role → (again : Bool) → Effect → Type 0
+abbrev pub Fits : {S A : Type 0} → Mover S A → Instance → S → MoveNotes → Role → (again : Bool) → Effect → Type 0
 Fits mover i at notes role again (Invites nonce) = again ≡ false → MayTake role (Invites nonce)
 Fits mover i at notes role again (Leaves ticket) = again ≡ false → MayTake role (Leaves ticket) × LeavesBy mover i at ticket
 Fits mover i at notes role again (Enters ticket) =
     (again ≡ false → MayTake role (Enters ticket)) × (again ≡ true → EnteredHere mover i at role ticket) × Contains notes.retired ticket
 
-abbrev pub FitsFound : {S A : Type 0} → Mover S A → Instance → S → Notes → Role → Result FoundMove MoveCause → Type 0
+abbrev pub FitsFound : {S A : Type 0} → Mover S A → Instance → S → MoveNotes → Role → Result FoundMove DenialCause → Type 0
 FitsFound mover i at notes role (Err cause) = Unit {0}
 FitsFound mover i at notes role (Ok found) = Fits mover i at notes role found.again found.effect
 
-abbrev pub FitsIn : {S A : Type 0} → Mover S A → Instance → S → Notes → Role → Option (Result FoundMove MoveCause) → Type 0
+abbrev pub FitsIn : {S A : Type 0} → Mover S A → Instance → S → MoveNotes → Role → Option (Result FoundMove DenialCause) → Type 0
 FitsIn mover i at notes role None = Unit {0}
 FitsIn mover i at notes role (Some found) = FitsFound mover i at notes role found
 
-if_either : (P : Result FoundMove MoveCause → Type 0) (b : Bool) (x y : Result FoundMove MoveCause) → (b ≡ true → P x) → (b ≡ false → P y)
+if_either : (P : Result FoundMove DenialCause → Type 0) (b : Bool) (x y : Result FoundMove DenialCause) → (b ≡ true → P x) → (b ≡ false → P y)
     → P (if b then x else y)
 if_either P true x y p q = p refl
 if_either P false x y p q = q refl
@@ -85,11 +85,11 @@ stands_by true again e = refl
 stands_by false true e = cc
 stands_by false false e = cc
 
-module _ {S A : Type 0} (mover : Mover S A) (i : Instance) (at : S) (notes : Notes) where
-  abbrev F : Role → Result FoundMove MoveCause → Type 0
+module _ {S A : Type 0} (mover : Mover S A) (i : Instance) (at : S) (notes : MoveNotes) where
+  abbrev F : Role → Result FoundMove DenialCause → Type 0
   F role found = FitsFound mover i at notes role found
 
-  invited_fits : (role : Role) (nonce : List ℕ) → F role (invited_on role nonce)
+  invited_fits : (role : Role) (nonce : List ℕ) → F role (invitation_on role nonce)
   invited_fits Live nonce = tt
   invited_fits (Waiting awaited) nonce =
       if_either (F (Waiting awaited)) (bytes_eq awaited nonce) _ (Err Already) (λ t e. not_dead e) (λ f. tt)
@@ -97,7 +97,7 @@ module _ {S A : Type 0} (mover : Mover S A) (i : Instance) (at : S) (notes : Not
 
   left_fits : (role : Role) (again : Bool) (nonce : List ℕ) (c : Content) (result : Result Bool Refusal)
       → (again ≡ false → ((ticket : TicketContent) → MayTake role (Leaves ticket)) × ((mover.level i).is_open at ≡ false))
-      → ((fresh : Bool) → result ≡ Ok fresh → stands_here (mover.level i) at c ≡ true) → F role (left_by mover i at again nonce c result)
+      → ((fresh : Bool) → result ≡ Ok fresh → stands_here (mover.level i) at c ≡ true) → F role (found_retirement_by mover i at again nonce c result)
   left_fits role again nonce c (Err why) may here = tt
   left_fits role again nonce c (Ok fresh) may here = λ e. (
     (may e).0 (record { nonce = nonce; content = mover.says i at c }),
@@ -106,18 +106,18 @@ module _ {S A : Type 0} (mover : Mover S A) (i : Instance) (at : S) (notes : Not
 
   offered_fits : (role : Role) (again : Bool) (nonce : List ℕ) (parts : Result Snapshot PartsFault)
       → (again ≡ false → ((ticket : TicketContent) → MayTake role (Leaves ticket)) × ((mover.level i).is_open at ≡ false))
-      → F role (offered_to mover i at again nonce parts)
+      → F role (retirement_with mover i at again nonce parts)
   offered_fits role again nonce (Ok snapshot) may =
       let c : Content = snapshot.content in
       let s : Bool = i.meaning.is_spelled c.state in
       let t : Bool = bytes_eq snapshot.tag (tag_of i.key c) in
       let here : Bool = stands_here (mover.level i) at c in
-      left_fits role again nonce c (weighed s t (verdict_here here) true) may
+      left_fits role again nonce c (check_by_tests s t (verdict_here here) true) may
       (λ fresh e. stands_by here fresh (weighed_only s t (verdict_here here) true fresh e).verdict)
   offered_fits role again nonce (Err Form) may = tt
   offered_fits role again nonce (Err Kind) may = tt
 
-  retired_fits : (role : Role) (nonce bytes : List ℕ) → F role (retired_on mover i role at nonce bytes)
+  retired_fits : (role : Role) (nonce bytes : List ℕ) → F role (retirement_on mover i role at nonce bytes)
   retired_fits Live nonce bytes = if_either (F Live) ((mover.level i).is_open at) (Err Open) _ (λ t. tt)
       (λ f. offered_fits Live false nonce (parts_of i.variant i.meaning.id bytes) (λ e. ((λ ticket. tt), f)))
   retired_fits (Retired left) nonce bytes = if_either (F (Retired left)) (bytes_eq left nonce) _ (Err Gone)
@@ -125,35 +125,35 @@ module _ {S A : Type 0} (mover : Mover S A) (i : Instance) (at : S) (notes : Not
   retired_fits role nonce bytes = tt
 
   entered_fits : (awaited : List ℕ) (read : Result TicketContent Refusal) → IsOurs notes read → F (Waiting awaited)
-      (entered_as awaited read)
+      (entry_by_ticket awaited read)
   entered_fits awaited (Err why) ours = tt
   entered_fits awaited (Ok ticket) ours = if_either (F (Waiting awaited)) (bytes_eq awaited ticket.nonce) _ (Err Nonce)
       (λ t. ((λ e. (bytes_eq-Decides awaited ticket.nonce).0 t), (λ e. not_dead (sym e)), ours)) (λ f. tt)
 
-  again_fits : (read : Result TicketContent Refusal) → IsOurs notes read → F Live (entered_again (mover.level i) at read)
+  again_fits : (read : Result TicketContent Refusal) → IsOurs notes read → F Live (repeated_entry (mover.level i) at read)
   again_fits (Err why) ours = tt
   again_fits (Ok ticket) ours = if_either (F Live) ((mover.level i).is_open at) _ _ (λ t. tt)
       (λ shut. if_either (F Live) (stands_here (mover.level i) at ticket.content) _ _
       (λ here. ((λ e. not_dead e), (λ e. record { live = refl; shut = shut; here = here }), ours)) (λ g. tt))
 
   accepted_fits : (role : Role) (read : Result TicketContent Refusal) → IsOurs notes read
-      → F role (accepted_on (mover.level i) role at read)
+      → F role (acceptance_on (mover.level i) role at read)
   accepted_fits Live read ours = again_fits read ours
   accepted_fits (Waiting awaited) read ours = entered_fits awaited read ours
   accepted_fits role read ours = tt
 
   by_snapshot : (role : Role) (issued : List (List ℕ)) (nonce : List ℕ) (bytes : Option (List ℕ))
-      → FitsIn mover i at notes role (retiring mover i (record { role = role; at = at; issued = issued }) nonce bytes)
+      → FitsIn mover i at notes role (found_retirement mover i (record { role = role; at = at; issued = issued }) nonce bytes)
   by_snapshot role issued nonce None = tt
   by_snapshot role issued nonce (Some bytes) = retired_fits role nonce bytes
 
   by_ticket : (pair : Pair) (role : Role) (issued : List (List ℕ)) (bytes : Option (List ℕ)) → IsOursOffered pair notes bytes
-      → FitsIn mover i at notes role (accepting mover pair i (record { role = role; at = at; issued = issued }) bytes)
+      → FitsIn mover i at notes role (found_acceptance mover pair i (record { role = role; at = at; issued = issued }) bytes)
   by_ticket pair role issued None ours = tt
   by_ticket pair role issued (Some bytes) ours = accepted_fits role (ticket_in pair bytes) ours
 
-pub finding_fits : {S A : Type 0} (mover : Mover S A) (pair : Pair) (i : Instance) (notes : Notes) (both : Both S A) (command : Command)
-    → IsOursFor pair both.tickets notes command → FitsIn mover i both.first.at notes both.first.role (finding mover pair i both command)
+pub finding_fits : {S A : Type 0} (mover : Mover S A) (pair : Pair) (i : Instance) (notes : MoveNotes) (both : Both S A) (command : MoveCommand)
+    → IsOursFor pair both.tickets notes command → FitsIn mover i both.first.at notes both.first.role (found_command mover pair i both command)
 finding_fits mover pair i notes both (Invite nonce) ours = invited_fits mover i both.first.at notes both.first.role nonce
 finding_fits mover pair i notes both (Retire nonce offer) ours =
     by_snapshot mover i both.first.at notes both.first.role both.first.issued nonce (offered_bytes both.first.issued offer)
@@ -162,11 +162,11 @@ finding_fits mover pair i notes both (Accept offer) ours =
 
 -- the effect that it has may be taken, and is fresh
 
-abbrev pub IsFine : Role → Notes → Option Effect → Type 0
+abbrev pub IsFine : Role → MoveNotes → Option Effect → Type 0
 IsFine role notes None = Unit {0}
 IsFine role notes (Some effect) = MayTake role effect × IsFreshEffect notes effect
 
-module _ {S A : Type 0} (mover : Mover S A) (i : Instance) (at : S) (notes : Notes) (role : Role) where
+module _ {S A : Type 0} (mover : Mover S A) (i : Instance) (at : S) (notes : MoveNotes) (role : Role) where
   fine_if : (again moved : Bool) (effect : Effect) → Fits mover i at notes role again effect
       → IsNew notes (if again then None else effect_if moved effect) → IsFine role notes (if again then None else effect_if moved effect)
   fine_if true moved effect fits new = tt
@@ -175,7 +175,7 @@ module _ {S A : Type 0} (mover : Mover S A) (i : Instance) (at : S) (notes : Not
   fine_if false true (Leaves ticket) fits new = ((fits refl).0, tt)
   fine_if false true (Enters ticket) fits new = (fits.0 refl, fits.2)
 
-  pub effect_fine : (fates : ℕ → Fate) (found : Result FoundMove MoveCause) → FitsFound mover i at notes role found
+  pub effect_fine : (fates : ℕ → StepFate) (found : Result FoundMove DenialCause) → FitsFound mover i at notes role found
       → IsNew notes (effect_of fates found) → IsFine role notes (effect_of fates found)
   effect_fine fates (Err cause) fits new = tt
   effect_fine fates (Ok found) fits new = fine_if found.again (is_moved (fates 1).ends (fates 2).ends) found.effect fits new
@@ -191,11 +191,11 @@ pub record IsTold {S A : Type 0} (both after : Both S A) : Type 0 where
   pub committed : after.committed ≡ both.committed
 
 module _ {S A : Type 0} (mover : Mover S A) (pair : Pair) (i : Instance) where
-  handed_told : (both : Both S A) (effect : Effect) → IsTold both (handed mover pair i both effect)
+  handed_told : (both : Both S A) (effect : Effect) → IsTold both (sides_after_issue mover pair i both effect)
   handed_told both (Invites nonce) = record { role = refl; at = refl; second = refl; away = refl; committed = refl }
   handed_told both _ = record { role = refl; at = refl; second = refl; away = refl; committed = refl }
 
-  told_none : (both : Both S A) (effect : Effect) → plain_reply (told mover i both effect) ≡ []
+  told_none : (both : Both S A) (effect : Effect) → plain_reply (effect_reply mover i both effect) ≡ []
   told_none both (Invites nonce) = refl
   told_none both _ = refl
 
@@ -205,8 +205,8 @@ module _ {S A : Type 0} (mover : Mover S A) (pair : Pair) (i : Instance) where
     pub none : plain_reply o.reply ≡ []
     pub effect_is : o.effect ≡ effect
 
-  pub ended_told : (both : Both S A) (stop : Stop) (broken : Option StepFault) (found : Result FoundMove MoveCause) (effect : Option Effect)
-      → IsEnded both effect (move_ended mover pair i both stop broken found effect)
+  pub ended_told : (both : Both S A) (stop : Stop) (broken : Option StepFault) (found : Result FoundMove DenialCause) (effect : Option Effect)
+      → IsEnded both effect (move_end_outcome mover pair i both stop broken found effect)
   ended_told both stop (Some fault) found effect = record {
     tells = record { role = refl; at = refl; second = refl; away = refl; committed = refl };
     none = refl;
@@ -221,9 +221,9 @@ module _ {S A : Type 0} (mover : Mover S A) (pair : Pair) (i : Instance) where
       record { tells = handed_told both found.effect; none = told_none both found.effect; effect_is = refl }
 
 -- what an effect makes of the roles
-pub affected_order : {S A : Type 0} (mover : Mover S A) (both : Both S A) (notes : Notes) (effect : Option Effect)
+pub affected_order : {S A : Type 0} (mover : Mover S A) (both : Both S A) (notes : MoveNotes) (effect : Option Effect)
     → AreInOrder both.first.role both.second.role notes → IsFine both.first.role notes effect
-    → (let after : Both S A = affected_if mover both effect in AreInOrder after.first.role after.second.role (noted_if effect notes))
+    → (let after : Both S A = sides_after_effect_if mover both effect in AreInOrder after.first.role after.second.role (notes_with_effect_if effect notes))
 affected_order mover both notes None h fine = h
 affected_order mover both notes (Some (Invites nonce)) h fine =
     roles_go_on both.first.role both.second.role notes (Invites nonce) h fine.0 fine.1
@@ -231,11 +231,11 @@ affected_order mover both notes (Some effect) h fine =
     roles_go_on both.first.role both.second.role notes effect h fine.0 fine.1
 
 -- the module enters alone
-abbrev pub EntersSo : Role → Role → Notes → Option Effect → Type 0
+abbrev pub EntersSo : Role → Role → MoveNotes → Option Effect → Type 0
 EntersSo this other notes (Some (Enters ticket)) = EntersLast this other notes ticket
 EntersSo this other notes effect = Unit {0}
 
-pub enters_so : (this other : Role) (notes : Notes) (effect : Option Effect) → AreInOrder this other notes → IsFine this notes effect
+pub enters_so : (this other : Role) (notes : MoveNotes) (effect : Option Effect) → AreInOrder this other notes → IsFine this notes effect
     → EntersSo this other notes effect
 enters_so this other notes (Some (Enters ticket)) h fine = roles_enter_last this other notes ticket h fine.0 fine.1
 enters_so this other notes effect h fine = tt

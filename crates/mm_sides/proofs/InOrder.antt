@@ -2,7 +2,7 @@
 use Rattle.mm_sides.proofs.Below.{ℕ, ◌≡◌, Bool, true, false, List, [], ◌∷◌, ◌++◌, map, refl, sym, ap, ◌∙◌, subst, inl, inr, AllByRecursion}
 use Rattle.mm_sides.proofs.Below.{Contains, map-append, All-from_recursion, All-contains, Contains-append_left, Contains-push}
 use Rattle.mm_sides.proofs.Below.{Contains-push_cases, each_append, each_self, TicketContent, Role, Blank, Live, Waiting, Retired, Invites}
-use Rattle.mm_sides.proofs.Below.{Leaves, Enters, is_live, Notes, noted, nonces_of, IsAwaited, WaitsElse, WaitApart, IsSomewhere, here}
+use Rattle.mm_sides.proofs.Below.{Leaves, Enters, is_live, MoveNotes, notes_with_effect, nonces_of, IsAwaited, WaitsElse, WaitApart, IsSomewhere, here}
 use Rattle.mm_sides.proofs.Below.{there, away, AreInOrder, MayTake, RolesBegin, RolesSwap, RolesGoOn, RolesEnterLast, AtMostOne}
 use Rattle.mm_sides.proofs.Below.{RolesAreOne}
 
@@ -97,8 +97,8 @@ invited_place this other nonce retired spent may (there n l e) = there refl l e
 invited_place this other nonce retired spent may (away m n front last is e) = away refl n front last is e
 invited_place this other nonce retired spent may (here l n e) = absurd (not_both (is_live this) l (invites_none this nonce may))
 
-invites : (this other : Role) (notes : Notes) (nonce : List ℕ) → AreInOrder this other notes → MayTake this (Invites nonce)
-    → (Contains notes.invited nonce → ⊥) → AreInOrder (Waiting nonce) other (noted (Invites nonce) notes)
+invites : (this other : Role) (notes : MoveNotes) (nonce : List ℕ) → AreInOrder this other notes → MayTake this (Invites nonce)
+    → (Contains notes.invited nonce → ⊥) → AreInOrder (Waiting nonce) other (notes_with_effect (Invites nonce) notes)
 invites this other notes nonce h may new = record {
   spent = h.spent;
   invited = more_of notes.invited nonce h.spent h.invited;
@@ -120,8 +120,8 @@ pub leaves_live : (this : Role) (ticket : TicketContent) → MayTake this (Leave
 leaves_live Live ticket may = refl
 leaves_live this ticket may = absurd may
 
-leaves : (this other : Role) (notes : Notes) (ticket : TicketContent) → AreInOrder this other notes → MayTake this (Leaves ticket)
-    → AreInOrder (Retired ticket.nonce) other (noted (Leaves ticket) notes)
+leaves : (this other : Role) (notes : MoveNotes) (ticket : TicketContent) → AreInOrder this other notes → MayTake this (Leaves ticket)
+    → AreInOrder (Retired ticket.nonce) other (notes_with_effect (Leaves ticket) notes)
 leaves this other notes ticket h may = record {
   spent = h.spent;
   invited = h.invited;
@@ -140,7 +140,7 @@ record IsTaken (this other : Role) (invited spent : List (List ℕ)) (nonce : Li
   unspent : Contains spent nonce → ⊥
   elsewhere : WaitsElse nonce other
 
-taken_of : (this other : Role) (notes : Notes) (ticket : TicketContent) (h : AreInOrder this other notes) → MayTake this (Enters ticket)
+taken_of : (this other : Role) (notes : MoveNotes) (ticket : TicketContent) (h : AreInOrder this other notes) → MayTake this (Enters ticket)
     → IsTaken this other notes.invited h.spent ticket.nonce
 taken_of (Waiting m) other notes ticket h may = record {
   not_here = refl;
@@ -174,7 +174,7 @@ on_its_way this other retired spent ticket dead unspent ours (away m n front las
     last_of front last ticket (λ c. unspent (subst (λ s. Contains s ticket.nonce) (sym e) c)) (subst P is ours) in
     record { not_there = n; front = front; is = is ∙ ap (λ t. front ++ t ∷ []) same; spent_is = e }
 
-way_of : (this other : Role) (notes : Notes) (ticket : TicketContent) (h : AreInOrder this other notes) → MayTake this (Enters ticket)
+way_of : (this other : Role) (notes : MoveNotes) (ticket : TicketContent) (h : AreInOrder this other notes) → MayTake this (Enters ticket)
     → Contains notes.retired ticket → OnItsWay this other notes.retired h.spent ticket
 way_of this other notes ticket h may ours =
     let t = taken_of this other notes ticket h may in
@@ -194,8 +194,8 @@ awaited_else invited spent nonce (Waiting m) w h =
     (h.0, λ c. elim (Contains-push_cases spent nonce m c) [ inl old ↦ h.1 old | inr e ↦ w e ])
 awaited_else invited spent nonce role w h = tt
 
-enters : (this other : Role) (notes : Notes) (ticket : TicketContent) → AreInOrder this other notes → MayTake this (Enters ticket)
-    → Contains notes.retired ticket → AreInOrder Live other (noted (Enters ticket) notes)
+enters : (this other : Role) (notes : MoveNotes) (ticket : TicketContent) → AreInOrder this other notes → MayTake this (Enters ticket)
+    → Contains notes.retired ticket → AreInOrder Live other (notes_with_effect (Enters ticket) notes)
 enters this other notes ticket h may ours =
     let t = taken_of this other notes ticket h may in
     let w = way_of this other notes ticket h may ours in record {

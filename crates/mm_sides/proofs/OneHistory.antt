@@ -1,6 +1,6 @@
 -- The one history: the sides exchanged have the same, and what an effect makes of it.
 use Rattle.mm_sides.proofs.Below.{◌≡◌, Bool, true, false, Option, Some, refl, sym, ap, ◌∙◌, History, Effect, Invites, Leaves, Enters}
-use Rattle.mm_sides.proofs.Below.{Notes, is_live, AreInOrder, Both, turned, lists_move, affected_if, history_at, history_now}
+use Rattle.mm_sides.proofs.Below.{MoveNotes, is_live, AreInOrder, Both, sides_swapped, lists_move, sides_after_effect_if, history_at, history_now}
 use Rattle.mm_sides.proofs.InOrder.{not_dead, invites_none, leaves_live, roles_are_one}
 use Rattle.mm_sides.proofs.Found.{IsFine}
 use Rattle.mm_sides.proofs.Outer.{IsAlike}
@@ -11,8 +11,8 @@ turned_at true true first second away one = not_dead (one refl)
 turned_at false true first second away one = refl
 turned_at _ _ first second away one = refl
 
-pub turned_history : (l : Both History History) (notes : Notes) → AreInOrder l.first.role l.second.role notes
-    → history_now (turned l) ≡ history_now l
+pub turned_history : (l : Both History History) (notes : MoveNotes) → AreInOrder l.first.role l.second.role notes
+    → history_now (sides_swapped l) ≡ history_now l
 turned_history l notes h = turned_at (is_live l.first.role) (is_live l.second.role) l.first.at l.second.at l.away
     (roles_are_one l.first.role l.second.role notes h)
 
@@ -37,9 +37,9 @@ abbrev pub then_history : Both History History → Option Effect → History
 then_history l (Some (Enters ticket)) = record l.away { items = l.first.at.items }
 then_history l effect = history_now l
 
-pub affected_history : (l : Both History History) (notes : Notes) (effect : Option Effect)
+pub affected_history : (l : Both History History) (notes : MoveNotes) (effect : Option Effect)
     → AreInOrder l.first.role l.second.role notes → IsFine l.first.role notes effect
-    → history_now (affected_if lists_move l effect) ≡ then_history l effect
+    → history_now (sides_after_effect_if lists_move l effect) ≡ then_history l effect
 affected_history l notes (Some (Invites nonce)) h fine =
     ap (λ f. history_at f (is_live l.second.role) l.first.at l.second.at l.away) (sym (invites_none l.first.role nonce fine.0))
 affected_history l notes (Some (Leaves ticket)) h fine =

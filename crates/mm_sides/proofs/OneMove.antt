@@ -1,41 +1,41 @@
 -- A run in which the module moves once meets the premises.
 use Rattle.mm_sides.proofs.Below.{ℕ, ◌≡◌, Bool, true, false, List, [], ◌∷◌, ◌++◌, length, Option, Some, Result, Ok, refl}
 use Rattle.mm_sides.proofs.Below.{sym, ap, ◌∙◌, subst, arith, if◌then◌else◌, Contains, bytes_eq, Variant, Basic, Opt, start_message}
-use Rattle.mm_sides.proofs.Below.{zero_bytes, Quiet, parts_of, Content, IsContent, variant_of, tag_of, sealed_of, offered_of, Instance}
-use Rattle.mm_sides.proofs.Below.{basic, opt, History, first_history, IsClear, Names, issued, IsGenuine, place_messages, Reads, Refusal}
-use Rattle.mm_sides.proofs.Below.{moves_messages, by_lists, instance_by, place_at, summary_in, TicketContent}
+use Rattle.mm_sides.proofs.Below.{zero_bytes, Quiet, parts_of, Content, IsContent, variant_of, tag_of, sealed_snapshot_of, offered_snapshot_of, Instance}
+use Rattle.mm_sides.proofs.Below.{basic_instance, opt_instance, History, first_history, IsClear, NamesPosition, content_of_issue, IsGenuine, place_messages, Reads, Refusal}
+use Rattle.mm_sides.proofs.Below.{messages_of_moves, list_level, instance_by, place_at, summary_in, TicketContent}
 use Rattle.mm_sides.proofs.Below.{IsTicket, TaggedTicket, ticket_tag, ticket_of, bytes_are, tickets_are_read, anchor_nil, clear_within}
-use Rattle.mm_sides.proofs.Below.{one_ask, run_messages, AreApartIn, Live, Waiting, Retired, Leaves, Enters, Invites, Notes, no_notes}
-use Rattle.mm_sides.proofs.Below.{noted, First, Second, Pair, Both, lists_move, first_lists, turned, Invite, Retire, Accept, FoundMove}
-use Rattle.mm_sides.proofs.Below.{MoveCause, stands_here, ticket_in}
-use Rattle.mm_sides.proofs.Below.{BothEvent, BothOutcome, Moves, Invited, Left, Entered, finding, both_outcome}
-use Rattle.mm_sides.proofs.Below.{both_followed, both_expected, noted_if, read_moves, found_moves, offer_closing}
+use Rattle.mm_sides.proofs.Below.{one_ask, run_messages, AreApartIn, Live, Waiting, Retired, Leaves, Enters, Invites, MoveNotes, no_notes}
+use Rattle.mm_sides.proofs.Below.{notes_with_effect, First, Second, Pair, Both, lists_move, first_lists, sides_swapped, Invite, Retire, Accept, FoundMove}
+use Rattle.mm_sides.proofs.Below.{DenialCause, stands_here, ticket_in}
+use Rattle.mm_sides.proofs.Below.{BothEvent, BothOutcome, Moves, Invited, Left, Entered, found_command, both_outcome}
+use Rattle.mm_sides.proofs.Below.{both_outcome_of_events, both_outcome_by_lists, notes_with_effect_if, read_moves, found_moves, offer_closing_messages}
 use Rattle.mm_sides.proofs.Below.{both_event_messages, both_messages, both_messages_from, AreFreshFrom, IsNew, IsOurs, IsOursIn, one_move}
 use Rattle.mm_sides.proofs.Below.{counters, MovesOnce}
-use Rattle.mm_digest.specs.LengthLaws.{length-zero_bytes, length-start_of, length-hmac_of}
+use Rattle.mm_digest.specs.LengthLaws.{length-zero_bytes, length-start_digest_of, length-hmac_of}
 use Rattle.mm_module.specs.CounterTable.{counter}
 use Rattle.mm_module.specs.CounterLaws.{counter_is_lawful}
 use Rattle.mm_seal.specs.SealLaws.{sealed_parts, sealed_once}
 use Rattle.mm_call.specs.MoveLaws.{summary-nil}
 use Rattle.mm_move.specs.Tickets.{sealed_ticket}
 use Rattle.mm_schedule.specs.declared.event.Offer.TheVariants.{Last}
-use Rattle.mm_run.specs.Held.{world_barrier}
+use Rattle.mm_run.specs.WorldState.{world_barrier}
 use Rattle.mm_sides.proofs.Rests.{issued_here}
 use Rattle.mm_sides.proofs.SideNames.{first_sound_in, first_lives}
 
 -- the snapshot of the first history
 
 abbrev said : Variant → (key barrier : List ℕ) → Content
-said variant key barrier = issued (instance_by variant counter key barrier) first_history
+said variant key barrier = content_of_issue (instance_by variant counter key barrier) first_history
 
 formed : (variant : Variant) (key barrier : List ℕ) → IsContent (said variant key barrier)
 formed Basic key barrier = record {
-  place = ap length (sym (summary-nil counter.id)) ∙ length-start_of Basic counter.id;
+  place = ap length (sym (summary-nil counter.id)) ∙ length-start_digest_of Basic counter.id;
   position = omega arith;
   state = counter_is_lawful.fits counter.first counter_is_lawful.begins;
 }
 formed Opt key barrier = record {
-  place = (ap length (anchor_nil counter key barrier) ∙ length-start_of Opt counter.id, length-zero_bytes);
+  place = (ap length (anchor_nil counter key barrier) ∙ length-start_digest_of Opt counter.id, length-zero_bytes);
   position = omega arith;
   state = counter_is_lawful.fits counter.first counter_is_lawful.begins;
 }
@@ -72,7 +72,7 @@ at_anchor Basic key barrier = refl
 at_anchor Opt key barrier = refl
 
 stands : (variant : Variant) (key barrier : List ℕ)
-    → stands_here (by_lists (instance_by variant counter key barrier)) first_history (said variant key barrier) ≡ true
+    → stands_here (list_level (instance_by variant counter key barrier)) first_history (said variant key barrier) ≡ true
 stands Basic key barrier = refl
 stands Opt key barrier = refl
 
@@ -84,12 +84,12 @@ no_closing Basic key barrier = refl
 no_closing Opt key barrier = rw zero_is_zero refl
 
 quiet_steps : (i : Instance) (y : History) (again : Bool)
-    → moves_messages i y (read_moves [] Quiet (if again then Reads ∷ [] else Reads ∷ Reads ∷ [])) ≡ []
+    → messages_of_moves i y (read_moves [] Quiet (if again then Reads ∷ [] else Reads ∷ Reads ∷ [])) ≡ []
 quiet_steps i y true = refl
 quiet_steps i y false = refl
 
 -- a command to which nobody puts a value into a register lists no message by its steps
-quiet : (i : Instance) (y : History) (f : Option (Result FoundMove MoveCause)) → moves_messages i y (found_moves [] Quiet f) ≡ []
+quiet : (i : Instance) (y : History) (f : Option (Result FoundMove DenialCause)) → messages_of_moves i y (found_moves [] Quiet f) ≡ []
 quiet i y (Some (Ok f)) = quiet_steps i y f.again
 quiet i y f = refl
 
@@ -100,13 +100,13 @@ first_of x xs = (0, omega arith, refl)
 none_of : (x : List ℕ) → Contains [] x → ⊥
 none_of x c = omega (arith, c.1)
 
-clear_start : (variant : Variant) (first_key barrier : List ℕ) → IsClear (run_messages (basic counter first_key) one_ask)
-    → IsClear (run_messages (opt counter first_key world_barrier) one_ask)
+clear_start : (variant : Variant) (first_key barrier : List ℕ) → IsClear (run_messages (basic_instance counter first_key) one_ask)
+    → IsClear (run_messages (opt_instance counter first_key world_barrier) one_ask)
     → (let i = instance_by variant counter first_key barrier in IsClear (start_message i.variant i.meaning.id ∷ []))
 clear_start Basic first_key barrier in_basic in_opt =
-    clear_within (run_messages (basic counter first_key) one_ask) (start_message Basic counter.id ∷ []) in_basic (first_of _ _, tt)
+    clear_within (run_messages (basic_instance counter first_key) one_ask) (start_message Basic counter.id ∷ []) in_basic (first_of _ _, tt)
 clear_start Opt first_key barrier in_basic in_opt =
-    clear_within (run_messages (opt counter first_key world_barrier) one_ask) (start_message Opt counter.id ∷ []) in_opt (first_of _ _, tt)
+    clear_within (run_messages (opt_instance counter first_key world_barrier) one_ask) (start_message Opt counter.id ∷ []) in_opt (first_of _ _, tt)
 
 apart : (variant : Variant) (first_key barrier : List ℕ)
     → (let i = instance_by variant counter first_key barrier in AreApartIn i.variant i [] [])
@@ -114,7 +114,7 @@ apart Basic first_key barrier = λ is. cc
 apart Opt first_key barrier = λ is d b c among. absurd (none_of d c)
 
 names : (variant : Variant) (key barrier : List ℕ)
-    → Names (instance_by variant counter key barrier) first_history (said variant key barrier)
+    → NamesPosition (instance_by variant counter key barrier) first_history (said variant key barrier)
 names variant key barrier = issued_here variant counter key barrier first_history (first_sound_in variant counter key barrier)
     (first_lives variant counter key barrier)
 
@@ -135,9 +135,9 @@ module _ (variant : Variant) (first_key second_key barrier link nonce : List ℕ
   ticket = record { nonce = nonce; content = content }
 
   abbrev bytes : List ℕ
-  bytes = sealed_of here.key content
+  bytes = sealed_snapshot_of here.key content
 
-  parts : parts_of here.variant here.meaning.id bytes ≡ Ok (offered_of here.key content)
+  parts : parts_of here.variant here.meaning.id bytes ≡ Ok (offered_snapshot_of here.key content)
   parts = sealed_parts here.key content here.variant here.meaning.id (formed variant first_key barrier)
       (of_variant variant first_key barrier ∙ sym (variant_is variant first_key barrier)) (of_id variant first_key barrier)
 
@@ -187,7 +187,7 @@ module _ (variant : Variant) (first_key second_key barrier link nonce : List ℕ
 
   abbrev arrived : Both History History
   arrived = record gone {
-    second = record { role = Live; at = first_history; issued = sealed_of there.key (issued there first_history) ∷ [] };
+    second = record { role = Live; at = first_history; issued = sealed_snapshot_of there.key (content_of_issue there first_history) ∷ [] };
   }
 
   invites : both_outcome lists_move pair (first_lists pair)
@@ -198,25 +198,25 @@ module _ (variant : Variant) (first_key second_key barrier link nonce : List ℕ
   leaves = rw (parts, spelled variant first_key barrier, tagged, stands variant first_key barrier) refl
 
   comes : both_outcome lists_move pair gone
-      accepted ≡ record { both = arrived; reply = Entered (issued there first_history).position; effect = Some (Enters ticket) }
+      accepted ≡ record { both = arrived; reply = Entered (content_of_issue there first_history).position; effect = Some (Enters ticket) }
   comes = rw (read_back, spelled_there variant first_key barrier, same_tag, bytes_are nonce nonce refl) refl
 
   -- the run
-  runs : (both_expected pair (one_move nonce)).both ≡ arrived
-  runs = ap (λ (o : BothOutcome History History). (both_followed lists_move pair o.both (accepted ∷ [])).both) leaves
+  runs : (both_outcome_by_lists pair (one_move nonce)).both ≡ arrived
+  runs = ap (λ (o : BothOutcome History History). (both_outcome_of_events lists_move pair o.both (accepted ∷ [])).both) leaves
       ∙ ap (λ (o : BothOutcome History History). o.both) comes
 
   -- no message but the start message is listed
-  closed_by : offer_closing here (Some bytes) ≡ []
+  closed_by : offer_closing_messages here (Some bytes) ≡ []
   closed_by = rw (parts, spelled variant first_key barrier, tagged) (no_closing variant first_key barrier)
 
   none_by_retiring : both_event_messages pair waiting retired ≡ []
   none_by_retiring = ap (λ (m : List (List ℕ)). m
-      ++ moves_messages here first_history (found_moves [] Quiet (finding lists_move pair here waiting (Retire nonce Last)))) closed_by
-      ∙ quiet here first_history (finding lists_move pair here waiting (Retire nonce Last))
+      ++ messages_of_moves here first_history (found_moves [] Quiet (found_command lists_move pair here waiting (Retire nonce Last)))) closed_by
+      ∙ quiet here first_history (found_command lists_move pair here waiting (Retire nonce Last))
 
   none_by_accepting : both_event_messages pair gone accepted ≡ []
-  none_by_accepting = quiet there first_history (finding lists_move pair there (turned gone) (Accept Last))
+  none_by_accepting = quiet there first_history (found_command lists_move pair there (sides_swapped gone) (Accept Last))
 
   none_behind : both_messages_from pair waiting (retired ∷ accepted ∷ []) ≡ []
   none_behind = ap (λ (m : List (List ℕ)). m ++ both_messages_from pair (both_outcome lists_move pair waiting retired).both (accepted ∷ []))
@@ -227,28 +227,28 @@ module _ (variant : Variant) (first_key second_key barrier link nonce : List ℕ
   listed = ap (λ (m : List (List ℕ)). start_message here.variant here.meaning.id ∷ m) none_behind
 
   genuine : IsGenuine here first_history bytes
-  genuine = λ c it. subst (λ (x : Content). Names here first_history x)
+  genuine = λ c it. subst (λ (x : Content). NamesPosition here first_history x)
       (sealed_once here.key here.key content c (formed variant first_key barrier) it.formed it.sealed) (names variant first_key barrier)
 
-  abbrev awaited : Notes
-  awaited = noted (Invites nonce) no_notes
+  abbrev awaited : MoveNotes
+  awaited = notes_with_effect (Invites nonce) no_notes
 
-  abbrev travelling : Notes
-  travelling = noted (Leaves ticket) awaited
+  abbrev travelling : MoveNotes
+  travelling = notes_with_effect (Leaves ticket) awaited
 
   ours : IsOurs travelling (ticket_in pair paper)
   ours = subst (λ (t : Result TicketContent Refusal). IsOurs travelling t) (sym right_ticket) (0, omega arith, refl)
 
   fresh_there : AreFreshFrom pair gone travelling (accepted ∷ [])
   fresh_there = subst (λ (o : BothOutcome History History). IsNew travelling o.effect × IsOursIn pair gone.tickets travelling accepted.act
-      × AreFreshFrom pair o.both (noted_if o.effect travelling) []) (sym comes) (tt, ours, tt)
+      × AreFreshFrom pair o.both (notes_with_effect_if o.effect travelling) []) (sym comes) (tt, ours, tt)
 
   fresh_here : AreFreshFrom pair waiting awaited (retired ∷ accepted ∷ [])
   fresh_here = subst (λ (o : BothOutcome History History). IsNew awaited o.effect × IsOursIn pair waiting.tickets awaited retired.act
-      × AreFreshFrom pair o.both (noted_if o.effect awaited) (accepted ∷ [])) (sym leaves) (tt, tt, fresh_there)
+      × AreFreshFrom pair o.both (notes_with_effect_if o.effect awaited) (accepted ∷ [])) (sym leaves) (tt, tt, fresh_there)
 
-  pub moves_once : IsClear (run_messages (basic counter first_key) one_ask)
-      → IsClear (run_messages (opt counter first_key world_barrier) one_ask) → MovesOnce pair nonce
+  pub moves_once : IsClear (run_messages (basic_instance counter first_key) one_ask)
+      → IsClear (run_messages (opt_instance counter first_key world_barrier) one_ask) → MovesOnce pair nonce
   moves_once in_basic in_opt = record {
     clear = record {
       clear = subst IsClear (sym listed) (clear_start variant first_key barrier in_basic in_opt);

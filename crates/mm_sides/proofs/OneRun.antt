@@ -2,16 +2,16 @@
 use Rattle.mm_sides.proofs.Below.{ℕ, ◌≡◌, ◌≤◌, ◌+◌, true, false, List, [], ◌∷◌, ◌++◌, length, Option, None, Some, Result}
 use Rattle.mm_sides.proofs.Below.{refl, sym, ap, ◌∙◌, subst, arith, length-append, Batch, members_of, Meaning, Meddle}
 use Rattle.mm_sides.proofs.Below.{Stop, Variant, Basic, Opt, Instance, History, requests_of, Refusal}
-use Rattle.mm_sides.proofs.Below.{Fate, walk, by_lists, instance_by, Outcome, refused_where}
-use Rattle.mm_sides.proofs.Below.{course_of, event_outcome, event_in_vain, event_steps, Role}
-use Rattle.mm_sides.proofs.Below.{Live, Effect, Invites, Enters, is_live, Notes, no_notes, AreInOrder, Which}
-use Rattle.mm_sides.proofs.Below.{First, Second, Pair, key_of, instance_on, Both, turned, lists_move, first_lists, Command}
-use Rattle.mm_sides.proofs.Below.{Accept, MoveCause, FoundMove, Act, Plain, Moves, BothEvent, BothOutcome, plain_outcome}
-use Rattle.mm_sides.proofs.Below.{affected_if, brought_to, effect_of, move_steps, finding, moved_by, moved_if, unissued, outcome_here}
-use Rattle.mm_sides.proofs.Below.{both_outcome, BothFollowed, both_followed, noted_if, IsNew, IsOursIn, AreFreshFrom, plain_in}
+use Rattle.mm_sides.proofs.Below.{StepFate, walk, list_level, instance_by, Outcome, refusal_for_role}
+use Rattle.mm_sides.proofs.Below.{course_of, event_outcome, vain_event_outcome, event_steps, Role}
+use Rattle.mm_sides.proofs.Below.{Live, Effect, Invites, Enters, is_live, MoveNotes, no_notes, AreInOrder, Which}
+use Rattle.mm_sides.proofs.Below.{First, Second, Pair, key_of, instance_on, Both, sides_swapped, lists_move, first_lists, MoveCommand}
+use Rattle.mm_sides.proofs.Below.{Accept, DenialCause, FoundMove, BothAct, Plain, Moves, BothEvent, BothOutcome, plain_outcome}
+use Rattle.mm_sides.proofs.Below.{sides_after_effect_if, state_after_steps, effect_of, move_steps, found_command, outcome_of_found_move, outcome_if_found, unissued_reply, outcome_here}
+use Rattle.mm_sides.proofs.Below.{both_outcome, BothRunOutcome, both_outcome_of_events, notes_with_effect_if, IsNew, IsOursIn, AreFreshFrom, plain_events_in}
 use Rattle.mm_sides.proofs.Below.{plain_events, plain_reply, plain_replies, history_at, history_now, SidesRunAsOne}
 use Rattle.mm_schedule.specs.Events as events
-use Rattle.mm_schedule.specs.Machine.{StepsOn, AsksNone, Steps, Runs}
+use Rattle.mm_schedule.specs.Machine.{IsBatchStep, IsStepWithoutBatch, IsRunStep, IsEventRun}
 use Rattle.mm_schedule.specs.declared.reply.Reply.{Reply}
 use Rattle.mm_schedule.specs.declared.reply.Reply.TheVariants.{Told as ToldReply, Kept}
 use Rattle.mm_sides.proofs.InOrder.{roles_begin, roles_swap}
@@ -22,27 +22,27 @@ use Rattle.mm_sides.proofs.OneLive.{IsOrdered, here_ordered, event_ordered}
 
 -- a step runs no request backwards
 
-on_longer : (meaning : Meaning) (r s : List (List ℕ)) (b : Batch) (reply : Reply) → StepsOn meaning r b reply s → length r ≤ length s
+on_longer : (meaning : Meaning) (r s : List (List ℕ)) (b : Batch) (reply : Reply) → IsBatchStep meaning r b reply s → length r ≤ length s
 on_longer meaning r s b (ToldReply true position outputs) h = omega (arith, ap length h.2)
 on_longer meaning r s b (ToldReply false position outputs) h = omega (arith, ap length h.grown, length-append r (members_of b))
 on_longer meaning r s b (Kept way position) h = omega (arith, ap length h.0, length-append r (members_of b))
 on_longer meaning r s b reply h = omega (arith, ap length h)
 
-none_longer : (r s : List (List ℕ)) (reply : Reply) → AsksNone r reply s → length r ≤ length s
+none_longer : (r s : List (List ℕ)) (reply : Reply) → IsStepWithoutBatch r reply s → length r ≤ length s
 none_longer r s (ToldReply again position outputs) h = absurd h
 none_longer r s (Kept way position) h = absurd h
 none_longer r s reply h = omega (arith, ap length h)
 
-longer : (meaning : Meaning) (event : events.Event) (reply : Reply) (r s : List (List ℕ)) → Steps meaning r event reply s
+longer : (meaning : Meaning) (event : events.Event) (reply : Reply) (r s : List (List ℕ)) → IsRunStep meaning r event reply s
     → length r ≤ length s
 longer meaning (events.Ask meddles stop offer b) reply r s h = on_longer meaning r s b reply h
 longer meaning event reply r s h = none_longer r s reply h
 
 -- runs one after another
 
-runs_on : (meaning : Meaning) (es fs : List events.Event) (rs ss : List Reply) (a b c : List (List ℕ)) → Runs meaning a es rs b
-    → Runs meaning b fs ss c → Runs meaning a (es ++ fs) (rs ++ ss) c
-runs_on meaning [] fs [] ss a b c h k = subst (λ v. Runs meaning v fs ss c) h k
+runs_on : (meaning : Meaning) (es fs : List events.Event) (rs ss : List Reply) (a b c : List (List ℕ)) → IsEventRun meaning a es rs b
+    → IsEventRun meaning b fs ss c → IsEventRun meaning a (es ++ fs) (rs ++ ss) c
+runs_on meaning [] fs [] ss a b c h k = subst (λ v. IsEventRun meaning v fs ss c) h k
 runs_on meaning [] fs (r ∷ rs) ss a b c h k = absurd h
 runs_on meaning (e ∷ es) fs [] ss a b c h k = absurd h
 runs_on meaning (e ∷ es) fs (r ∷ rs) ss a b c h k = (h.0, h.1, runs_on meaning es fs rs ss h.0 b c h.2 k)
@@ -53,8 +53,8 @@ abbrev requests_now : Both History History → List (List ℕ)
 requests_now both = requests_of (history_now both).batches
 
 -- The event and its reply are a run, of one event of a schedule or of none; and the count of requests goes along.
-record IsRunHere (meaning : Meaning) (both : Both History History) (act : Act) (o : BothOutcome History History) : Type 0 where
-  runs : Runs meaning (requests_now both) (plain_in act) (plain_reply o.reply) (requests_now o.both)
+record IsRunHere (meaning : Meaning) (both : Both History History) (act : BothAct) (o : BothOutcome History History) : Type 0 where
+  runs : IsEventRun meaning (requests_now both) (plain_events_in act) (plain_reply o.reply) (requests_now o.both)
   count : both.committed ≡ length (requests_now both) → o.both.committed ≡ length (requests_now o.both)
 
 still : (n m : ℕ) → n ≡ m → n + 0 ≡ m
@@ -66,12 +66,12 @@ module _ (i : Instance) (l : Both History History) where
   standing role = record l { first = record l.first { role = role } }
 
   vain_run : (role : Role) (why : Refusal) (event : events.Event)
-      → (let o : Outcome History = event_in_vain (by_lists i) l.first.at l.first.issued why event in
+      → (let o : Outcome History = vain_event_outcome (list_level i) l.first.at l.first.issued why event in
       let now : List (List ℕ) = requests_of (history_at (is_live role) (is_live l.second.role) l.first.at l.second.at l.away).batches in
       let then_now : List (List ℕ) = requests_of (history_at (is_live role) (is_live l.second.role) o.state l.second.at l.away).batches in
-      Runs i.meaning now (event ∷ []) (o.reply ∷ []) then_now × (then_now ≡ now))
+      IsEventRun i.meaning now (event ∷ []) (o.reply ∷ []) then_now × (then_now ≡ now))
   vain_run role why event =
-      let o : Outcome History = event_in_vain (by_lists i) l.first.at l.first.issued why event in
+      let o : Outcome History = vain_event_outcome (list_level i) l.first.at l.first.issued why event in
       let v = in_vain i l.first.at l.first.issued why event in
       let now : History → History = λ y. history_at (is_live role) (is_live l.second.role) y l.second.at l.away in
       let r : List (List ℕ) = requests_of (now l.first.at).batches in
@@ -82,17 +82,17 @@ module _ (i : Instance) (l : Both History History) where
   plain_run : (role : Role) (event : events.Event)
       → IsRunHere i.meaning (standing role) (Plain event) (plain_outcome lists_move i (standing role) event)
   plain_run Live event =
-      let o : Outcome History = event_outcome i (by_lists i) l.first.at l.first.issued event in
+      let o : Outcome History = event_outcome i (list_level i) l.first.at l.first.issued event in
       let steps = event_steps i l.first.at l.first.issued event in
       let more = longer i.meaning event o.reply (requests_of l.first.at.batches) (requests_of o.state.batches) steps in
       record { runs = (requests_of o.state.batches, steps, refl); count = λ e. omega (arith, e, more) }
   plain_run role event =
-      let r = vain_run role (refused_where role) event in
+      let r = vain_run role (refusal_for_role role) event in
       record { runs = r.0; count = λ e. still l.committed _ (e ∙ ap length (sym r.1)) }
 
 -- a move changes nothing of the history
 
-then_requests : (both : Both History History) (notes : Notes) (effect : Option Effect)
+then_requests : (both : Both History History) (notes : MoveNotes) (effect : Option Effect)
     → EntersSo both.first.role both.second.role notes effect → requests_of (then_history both effect).batches ≡ requests_now both
 then_requests both notes (Some (Enters ticket)) alone =
     ap (λ (y : History). requests_of y.batches) (sym (away_history both alone.not_here alone.not_there))
@@ -102,39 +102,39 @@ told_now : (both after : Both History History) → IsTold both after → request
 told_now both after t = λ j.
     requests_of (history_at (is_live (t.role j)) (is_live (t.second j).role) (t.at j) (t.second j).at (t.away j)).batches
 
-affected_count : (both : Both History History) (effect : Option Effect) → (affected_if lists_move both effect).committed ≡ both.committed
+affected_count : (both : Both History History) (effect : Option Effect) → (sides_after_effect_if lists_move both effect).committed ≡ both.committed
 affected_count both (Some (Invites nonce)) = refl
 affected_count both _ = refl
 
-unissued_none : (command : Command) → plain_reply (unissued command) ≡ []
+unissued_none : (command : MoveCommand) → plain_reply (unissued_reply command) ≡ []
 unissued_none (Accept offer) = refl
 unissued_none command = refl
 
 -- nothing is told, and the requests are the same
-silent : (meaning : Meaning) (replies : List Reply) (r s : List (List ℕ)) → replies ≡ [] → s ≡ r → Runs meaning r [] replies s
+silent : (meaning : Meaning) (replies : List Reply) (r s : List (List ℕ)) → replies ≡ [] → s ≡ r → IsEventRun meaning r [] replies s
 silent meaning [] r s n e = e
 silent meaning (reply ∷ replies) r s n e = cc
 
-moved_run : (pair : Pair) (i : Instance) (both : Both History History) (notes : Notes) (meddles : List Meddle) (stop : Stop)
-    (command : Command) (found : Option (Result FoundMove MoveCause)) → AreInOrder both.first.role both.second.role notes
-    → IsOrdered both.first.role both.second.role notes (moved_if lists_move pair i both meddles stop command found)
-    → IsRunHere i.meaning both (Moves meddles stop command) (moved_if lists_move pair i both meddles stop command found)
+moved_run : (pair : Pair) (i : Instance) (both : Both History History) (notes : MoveNotes) (meddles : List Meddle) (stop : Stop)
+    (command : MoveCommand) (found : Option (Result FoundMove DenialCause)) → AreInOrder both.first.role both.second.role notes
+    → IsOrdered both.first.role both.second.role notes (outcome_if_found lists_move pair i both meddles stop command found)
+    → IsRunHere i.meaning both (Moves meddles stop command) (outcome_if_found lists_move pair i both meddles stop command found)
 moved_run pair i both notes meddles stop command None h s = record {
-  runs = silent i.meaning (plain_reply (unissued command)) (requests_now both) (requests_now both) (unissued_none command) refl;
+  runs = silent i.meaning (plain_reply (unissued_reply command)) (requests_now both) (requests_now both) (unissued_none command) refl;
   count = λ e. e;
 }
 moved_run pair i both notes meddles stop command (Some found) h s =
-    let fates : ℕ → Fate = (course_of stop meddles).fates in
+    let fates : ℕ → StepFate = (course_of stop meddles).fates in
     let effect : Option Effect = effect_of fates found in
-    let at : History = brought_to lists_move i both.first.at meddles stop (move_steps found) in
+    let at : History = state_after_steps lists_move i both.first.at meddles stop (move_steps found) in
     let here : Both History History = record both { first = record both.first { at = at } } in
-    let o : BothOutcome History History = moved_by lists_move pair i both meddles stop found in
-    let ended : IsEnded lists_move pair i (affected_if lists_move here effect) effect o =
-    ended_told lists_move pair i (affected_if lists_move here effect) stop (walk fates 1 (move_steps found)).broken found effect in
+    let o : BothOutcome History History = outcome_of_found_move lists_move pair i both meddles stop found in
+    let ended : IsEnded lists_move pair i (sides_after_effect_if lists_move here effect) effect o =
+    ended_told lists_move pair i (sides_after_effect_if lists_move here effect) stop (walk fates 1 (move_steps found)).broken found effect in
     let alike : IsAlike (history_now both) (history_now here) = alike_at (is_live both.first.role)
     (is_live both.second.role) both.first.at at
     both.second.at both.away (brought_alike i both.first.at meddles stop found) in
-    let same : requests_now o.both ≡ requests_now both = told_now (affected_if lists_move here effect) o.both ended.tells
+    let same : requests_now o.both ≡ requests_now both = told_now (sides_after_effect_if lists_move here effect) o.both ended.tells
     ∙ ap (λ (y : History). requests_of y.batches)
     (affected_history here notes effect h (subst (IsFine both.first.role notes) ended.effect_is s.fine))
     ∙ then_requests here notes effect (subst (EntersSo both.first.role both.second.role notes) ended.effect_is s.alone)
@@ -144,19 +144,19 @@ moved_run pair i both notes meddles stop command (Some found) h s =
       count = λ e. ended.tells.committed ∙ affected_count here effect ∙ e ∙ ap length (sym same);
     }
 
-here_run : (pair : Pair) (i : Instance) (both : Both History History) (notes : Notes) (act : Act)
+here_run : (pair : Pair) (i : Instance) (both : Both History History) (notes : MoveNotes) (act : BothAct)
     → AreInOrder both.first.role both.second.role notes
     → IsOrdered both.first.role both.second.role notes (outcome_here lists_move pair i both act)
     → IsRunHere i.meaning both act (outcome_here lists_move pair i both act)
 here_run pair i both notes (Plain event) h s =
     plain_run i both both.first.role event
 here_run pair i both notes (Moves meddles stop command) h s =
-    moved_run pair i both notes meddles stop command (finding lists_move pair i both command) h s
+    moved_run pair i both notes meddles stop command (found_command lists_move pair i both command) h s
 
 -- turned
 
-turned_now : (both : Both History History) (notes : Notes) → AreInOrder both.first.role both.second.role notes
-    → requests_now (turned both) ≡ requests_now both
+turned_now : (both : Both History History) (notes : MoveNotes) → AreInOrder both.first.role both.second.role notes
+    → requests_now (sides_swapped both) ≡ requests_now both
 turned_now both notes h = ap (λ (y : History). requests_of y.batches) (turned_history both notes h)
 
 pub same_meaning : (variant : Variant) (meaning : Meaning) (key barrier : List ℕ)
@@ -167,7 +167,7 @@ same_meaning Opt meaning key barrier = refl
 meaning_on : (pair : Pair) (which : Which) → (instance_on pair which).meaning ≡ pair.meaning
 meaning_on pair which = same_meaning pair.variant pair.meaning (key_of pair which) pair.barrier
 
-event_run : (pair : Pair) (both : Both History History) (notes : Notes) (which : Which) (act : Act)
+event_run : (pair : Pair) (both : Both History History) (notes : MoveNotes) (which : Which) (act : BothAct)
     → AreInOrder both.first.role both.second.role notes
     → (let o : BothOutcome History History = both_outcome lists_move pair both (record { which = which; act = act }) in
     IsNew notes o.effect → IsOursIn pair both.tickets notes act → IsRunHere pair.meaning both act o)
@@ -178,30 +178,30 @@ event_run pair both notes First act h new ours =
 event_run pair both notes Second act h new ours =
     let i : Instance = instance_on pair Second in
     let k = roles_swap both.first.role both.second.role notes h in
-    let s = here_ordered pair i (turned both) notes act k new ours in
-    let o : BothOutcome History History = outcome_here lists_move pair i (turned both) act in
-    let r : IsRunHere pair.meaning (turned both) act o =
-    subst (λ m. IsRunHere m (turned both) act o) (meaning_on pair Second) (here_run pair i (turned both) notes act k s) in
-    let before : requests_now (turned both) ≡ requests_now both = turned_now both notes h in
-    let after : requests_now (turned o.both) ≡ requests_now o.both = turned_now o.both _ s.order in
+    let s = here_ordered pair i (sides_swapped both) notes act k new ours in
+    let o : BothOutcome History History = outcome_here lists_move pair i (sides_swapped both) act in
+    let r : IsRunHere pair.meaning (sides_swapped both) act o =
+    subst (λ m. IsRunHere m (sides_swapped both) act o) (meaning_on pair Second) (here_run pair i (sides_swapped both) notes act k s) in
+    let before : requests_now (sides_swapped both) ≡ requests_now both = turned_now both notes h in
+    let after : requests_now (sides_swapped o.both) ≡ requests_now o.both = turned_now o.both _ s.order in
     record {
-      runs = subst (λ v. Runs pair.meaning v (plain_in act) (plain_reply o.reply) (requests_now (turned o.both))) before
-          (subst (λ v. Runs pair.meaning (requests_now (turned both)) (plain_in act) (plain_reply o.reply) v) (sym after) r.runs);
+      runs = subst (λ v. IsEventRun pair.meaning v (plain_events_in act) (plain_reply o.reply) (requests_now (sides_swapped o.both))) before
+          (subst (λ v. IsEventRun pair.meaning (requests_now (sides_swapped both)) (plain_events_in act) (plain_reply o.reply) v) (sym after) r.runs);
       count = λ e. r.count (e ∙ ap length (sym before)) ∙ ap length (sym after);
     }
 
-run_from : (pair : Pair) (events : List BothEvent) (both : Both History History) (notes : Notes)
+run_from : (pair : Pair) (events : List BothEvent) (both : Both History History) (notes : MoveNotes)
     → AreInOrder both.first.role both.second.role notes → AreFreshFrom pair both notes events → both.committed ≡ length (requests_now both)
-    → (let f : BothFollowed History History = both_followed lists_move pair both events in
-    Runs pair.meaning (requests_now both) (plain_events events) (plain_replies f.replies) (requests_now f.both)
+    → (let f : BothRunOutcome History History = both_outcome_of_events lists_move pair both events in
+    IsEventRun pair.meaning (requests_now both) (plain_events events) (plain_replies f.replies) (requests_now f.both)
     × (f.both.committed ≡ length (requests_now f.both)))
 run_from pair [] both notes h fresh e = (refl, e)
 run_from pair (event ∷ events) both notes h fresh e =
     let o : BothOutcome History History = both_outcome lists_move pair both event in
     let next = event_ordered pair both notes event.which event.act h fresh.0 fresh.1 in
     let r = event_run pair both notes event.which event.act h fresh.0 fresh.1 in
-    let rest = run_from pair events o.both (noted_if o.effect notes) next.order fresh.2 (r.count e) in (
-      runs_on pair.meaning (plain_in event.act) (plain_events events) (plain_reply o.reply) _ (requests_now both)
+    let rest = run_from pair events o.both (notes_with_effect_if o.effect notes) next.order fresh.2 (r.count e) in (
+      runs_on pair.meaning (plain_events_in event.act) (plain_events events) (plain_reply o.reply) _ (requests_now both)
           (requests_now o.both) _ r.runs rest.0,
       rest.1,
     )

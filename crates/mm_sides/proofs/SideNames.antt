@@ -1,10 +1,10 @@
 -- What both sides issue names positions of where they stand, and of the one history.
 use Rattle.mm_sides.proofs.Below.{ℕ, ◌≡◌, Bool, true, false, List, [], ◌∷◌, refl, sym, ap, ◌∙◌, subst, AllByRecursion, Variant, Basic, Opt}
-use Rattle.mm_sides.proofs.Below.{Meaning, Content, sealed_of, Instance, History, Entry, joined, first_history, Life, LiveHistory, life_by}
-use Rattle.mm_sides.proofs.Below.{is_empty, are_own, has_value, life_of, Names, Refusal, by_lists}
-use Rattle.mm_sides.proofs.Below.{instance_by, sound_shut, Event, Outcome, event_outcome, event_in_vain, IsIssued, IsSoundIn, Role}
-use Rattle.mm_sides.proofs.Below.{Live, Notes, is_live, AreInOrder, Both, turned, lists_move, plain_outcome}
-use Rattle.mm_sides.proofs.Below.{history_at, history_now, refused_where}
+use Rattle.mm_sides.proofs.Below.{Meaning, Content, sealed_snapshot_of, Instance, History, RegisterEntry, items_of_all, first_history, Life, LiveHistory, life_by}
+use Rattle.mm_sides.proofs.Below.{is_empty, are_own, has_value, life_of, NamesPosition, Refusal, list_level}
+use Rattle.mm_sides.proofs.Below.{instance_by, sound_shut, Event, Outcome, event_outcome, vain_event_outcome, IsIssued, IsSoundIn, Role}
+use Rattle.mm_sides.proofs.Below.{Live, MoveNotes, is_live, AreInOrder, Both, sides_swapped, lists_move, plain_outcome}
+use Rattle.mm_sides.proofs.Below.{history_at, history_now, refusal_for_role}
 use Rattle.mm_model.specs.EndLaws.{first_sound}
 use Rattle.mm_sides.proofs.InOrder.{not_dead, roles_swap}
 use Rattle.mm_sides.proofs.Outer.{in_vain, IsAlike, events_keep_names}
@@ -13,11 +13,11 @@ use Rattle.mm_sides.proofs.Rests.{holding, names_cross, alike_names}
 
 -- names go along where a history is alike, and from one side to the other
 
-each_issued : (i j : Instance) (y z : History) → i.key ≡ j.key → ((c : Content) → Names i y c → Names j z c) → (xs : List (List ℕ))
+each_issued : (i j : Instance) (y z : History) → i.key ≡ j.key → ((c : Content) → NamesPosition i y c → NamesPosition j z c) → (xs : List (List ℕ))
     → AllByRecursion (IsIssued i y) xs → AllByRecursion (IsIssued j z) xs
 each_issued i j y z same go [] h = tt
 each_issued i j y z same go (x ∷ xs) h = (
-  record { content = h.0.content; sealed = h.0.sealed ∙ ap (λ k. sealed_of k h.0.content) same; names = go h.0.content h.0.names },
+  record { content = h.0.content; sealed = h.0.sealed ∙ ap (λ k. sealed_snapshot_of k h.0.content) same; names = go h.0.content h.0.names },
   each_issued i j y z same go xs h.1,
 )
 
@@ -32,20 +32,20 @@ alike_issued variant meaning key barrier y z alike xs h =
     let i = instance_by variant meaning key barrier in each_issued i i y z refl (alike_names variant meaning key barrier y z alike) xs h
 
 -- a history at rest is as sound, and goes on as well, with other items
-pub sound_holding : (variant : Variant) (meaning : Meaning) (key barrier : List ℕ) (y : History) (items : List Entry) → y.is_open ≡ false
+pub sound_holding : (variant : Variant) (meaning : Meaning) (key barrier : List ℕ) (y : History) (items : List RegisterEntry) → y.is_open ≡ false
     → IsSoundIn (instance_by variant meaning key barrier).variant y
     → IsSoundIn (instance_by variant meaning key barrier).variant (holding y items)
 sound_holding Basic meaning key barrier y items shut h = tt
 sound_holding Opt meaning key barrier y items shut h = sound_shut y items shut h
 
-life_at : Bool → History → List Entry → Life
-life_at flag y items = life_by flag (is_empty items) (are_own items y.current) (has_value (joined y.closed))
+life_at : Bool → History → List RegisterEntry → Life
+life_at flag y items = life_by flag (is_empty items) (are_own items y.current) (has_value (items_of_all y.closed))
 
-life_shut : (y : History) (items : List Entry) → y.is_open ≡ false → life_of Opt (holding y items) ≡ life_of Opt y
+life_shut : (y : History) (items : List RegisterEntry) → y.is_open ≡ false → life_of Opt (holding y items) ≡ life_of Opt y
 unfolding life_at
 life_shut y items shut = ap (λ f. life_at f y items) shut ∙ ap (λ f. life_at f y y.items) (sym shut)
 
-pub life_holding : (variant : Variant) (meaning : Meaning) (key barrier : List ℕ) (y : History) (items : List Entry) → y.is_open ≡ false
+pub life_holding : (variant : Variant) (meaning : Meaning) (key barrier : List ℕ) (y : History) (items : List RegisterEntry) → y.is_open ≡ false
     → life_of (instance_by variant meaning key barrier).variant y ≡ LiveHistory
     → life_of (instance_by variant meaning key barrier).variant (holding y items) ≡ LiveHistory
 life_holding Basic meaning key barrier y items shut h = refl
@@ -64,7 +64,7 @@ first_lives Opt meaning key barrier = refl
 -- what holds of both sides at each moment
 
 pub record IssuesAt (i j : Instance) (role role' : Role) (y z away now : History) (issued issued' : List (List ℕ))
-    (notes : Notes) : Type 0 where
+    (notes : MoveNotes) : Type 0 where
   pub order : AreInOrder role role' notes
   pub sound : IsSoundIn i.variant now
   pub this_here : AllByRecursion (IsIssued i y) issued
@@ -73,13 +73,13 @@ pub record IssuesAt (i j : Instance) (role role' : Role) (y z away now : History
   pub other_now : AllByRecursion (IsIssued j now) issued'
   pub rests : is_live role ≡ false → is_live role' ≡ false → (away.is_open ≡ false) × (life_of i.variant away ≡ LiveHistory)
 
-abbrev pub Issues : Instance → Instance → Both History History → Notes → Type 0
+abbrev pub Issues : Instance → Instance → Both History History → MoveNotes → Type 0
 Issues i j l notes =
     IssuesAt i j l.first.role l.second.role l.first.at l.second.at l.away (history_now l) l.first.issued l.second.issued notes
 
-pub turned_issues : (variant : Variant) (meaning : Meaning) (key key' barrier : List ℕ) (l : Both History History) (notes : Notes)
+pub turned_issues : (variant : Variant) (meaning : Meaning) (key key' barrier : List ℕ) (l : Both History History) (notes : MoveNotes)
     → Issues (instance_by variant meaning key barrier) (instance_by variant meaning key' barrier) l notes
-    → Issues (instance_by variant meaning key' barrier) (instance_by variant meaning key barrier) (turned l) notes
+    → Issues (instance_by variant meaning key' barrier) (instance_by variant meaning key barrier) (sides_swapped l) notes
 turned_issues variant meaning key key' barrier l notes k =
     let i = instance_by variant meaning key barrier in
     let j = instance_by variant meaning key' barrier in
@@ -110,7 +110,7 @@ module _ (variant : Variant) (meaning : Meaning) (key key' barrier : List ℕ) w
   sound_at false false y z second away h s = s
 
   -- the first side stands elsewhere, and issued no snapshot
-  pub brought_issues : (l : Both History History) (notes : Notes) (z : History) → Issues me them l notes → IsAlike l.first.at z
+  pub brought_issues : (l : Both History History) (notes : MoveNotes) (z : History) → Issues me them l notes → IsAlike l.first.at z
       → (is_live l.first.role ≡ true → IsSoundIn me.variant l.first.at → IsSoundIn me.variant z)
       → Issues me them (record l { first = record l.first { at = z } }) notes
   brought_issues l notes z k alike sound =
@@ -129,15 +129,15 @@ module _ (variant : Variant) (meaning : Meaning) (key key' barrier : List ℕ) w
 
   -- an event of a schedule
 
-  module _ (l : Both History History) (notes : Notes) where
+  module _ (l : Both History History) (notes : MoveNotes) where
     abbrev standing : Role → Both History History
     standing role = record l { first = record l.first { role = role } }
 
     live_issues : (event : Event) → Issues me them (standing Live) notes
-        → (let o : Outcome History = event_outcome me (by_lists me) l.first.at l.first.issued event in
+        → (let o : Outcome History = event_outcome me (list_level me) l.first.at l.first.issued event in
         Issues me them (record (standing Live) { first = record { role = Live; at = o.state; issued = o.issued } }) notes)
     live_issues event k =
-        let o : Outcome History = event_outcome me (by_lists me) l.first.at l.first.issued event in
+        let o : Outcome History = event_outcome me (list_level me) l.first.at l.first.issued event in
         let n = events_keep_names variant meaning key barrier l.first.at l.first.issued event k.sound in
         record {
           order = k.order;
@@ -152,11 +152,11 @@ module _ (variant : Variant) (meaning : Meaning) (key key' barrier : List ℕ) w
         }
 
     vain_issues : (role : Role) (why : Refusal) (event : Event) → is_live role ≡ false
-        → Issues me them (standing role) notes → (let o : Outcome History = event_in_vain
-        (by_lists me) l.first.at l.first.issued why event in
+        → Issues me them (standing role) notes → (let o : Outcome History = vain_event_outcome
+        (list_level me) l.first.at l.first.issued why event in
         Issues me them (record (standing role) { first = record { role = role; at = o.state; issued = o.issued } }) notes)
     vain_issues role why event dead k =
-        let o : Outcome History = event_in_vain (by_lists me) l.first.at l.first.issued why event in
+        let o : Outcome History = vain_event_outcome (list_level me) l.first.at l.first.issued why event in
         let v = in_vain me l.first.at l.first.issued why event in
         subst (λ xs. Issues me them (record (standing role) { first = record { role = role; at = o.state; issued = xs } }) notes)
         (sym v.issued_is) (brought_issues (standing role) notes o.state k v.alike (λ live. not_dead (sym live ∙ dead)))
@@ -164,4 +164,4 @@ module _ (variant : Variant) (meaning : Meaning) (key key' barrier : List ℕ) w
     pub plain_issues : (role : Role) (event : Event) → Issues me them (standing role) notes
         → Issues me them (plain_outcome lists_move me (standing role) event).both notes
     plain_issues Live event k = live_issues event k
-    plain_issues role event k = vain_issues role (refused_where role) event refl k
+    plain_issues role event k = vain_issues role (refusal_for_role role) event refl k

@@ -1,12 +1,12 @@
 -- Both sides by digests beside both sides by lists: what holds of them before and after each event.
 use Rattle.mm_sides.proofs.Below.{Basic, Bool, Opt, true}
 use Rattle.mm_sides.proofs.Below.{ℕ, ◌≡◌, false, List, [], ◌∷◌, sym, ◌∙◌, subst, ◌+◌, ◌-◌, None, AllByRecursion, Contains}
-use Rattle.mm_sides.proofs.Below.{Variant, Batch, Meaning, Instance, History, total_of, Within, IsClear, Digests, Names, issued}
-use Rattle.mm_sides.proofs.Below.{place_messages, IsWithin, moves_messages, instance_by, TicketContent, Keeps, Role, Live}
-use Rattle.mm_sides.proofs.Below.{Retired, Notes, is_live, AreInOrder, IsLastTicket, Both, turned, lists_move, digests_move}
-use Rattle.mm_sides.proofs.Below.{BothOutcome, noted_if, Plain, Said, plain_outcome, history_at, history_now, Refusal, each_left}
-use Rattle.mm_sides.proofs.Below.{each_right, by_lists, by_digests, Event, Outcome, event_outcome, event_in_vain, foreign_of, batches_of}
-use Rattle.mm_sides.proofs.Below.{event_messages, moves_of, AreApartIn, refused_where, vain_moves, plain_messages, IsGenuineHere}
+use Rattle.mm_sides.proofs.Below.{Variant, Batch, Meaning, Instance, History, total_of, AreMessagesIn, IsClear, Digests, NamesPosition, content_of_issue}
+use Rattle.mm_sides.proofs.Below.{place_messages, IsWithin, messages_of_moves, instance_by, TicketContent, KeepsHistory, Role, Live}
+use Rattle.mm_sides.proofs.Below.{Retired, MoveNotes, is_live, AreInOrder, IsLastTicket, Both, sides_swapped, lists_move, digests_move}
+use Rattle.mm_sides.proofs.Below.{BothOutcome, notes_with_effect_if, Plain, Said, plain_outcome, history_at, history_now, Refusal, each_left}
+use Rattle.mm_sides.proofs.Below.{each_right, list_level, digest_level, Event, Outcome, event_outcome, vain_event_outcome, event_foreign_values, batches_of}
+use Rattle.mm_sides.proofs.Below.{event_messages, moves_of, AreApartIn, refusal_for_role, vain_moves, plain_messages, IsGenuineHere}
 use Rattle.mm_sides.proofs.InOrder.{roles_swap, not_dead}
 use Rattle.mm_sides.proofs.OneHistory.{turned_history, alike_at}
 use Rattle.mm_sides.proofs.Rests.{names_cross, alike_names, issued_cross, within_cross, sound_in}
@@ -38,11 +38,11 @@ IsShut role y = Unit {0}
 
 -- a ticket names a position of the history, and its place has no message of its own
 abbrev pub IsNamed : List (List ℕ) → Instance → History → TicketContent → Type 0
-IsNamed all i y ticket = Names i y ticket.content × Within (place_messages ticket.content.place) all
+IsNamed all i y ticket = NamesPosition i y ticket.content × AreMessagesIn (place_messages ticket.content.place) all
 
 -- where a side stands by digests is where it stands by lists
 pub record Stands (all others : List (List ℕ)) (asked : List Batch) (i : Instance) (role : Role) (y : History) (d : Digests) : Type 0 where
-  pub keeps : Keeps all others asked i y d
+  pub keeps : KeepsHistory all others asked i y d
   pub shut : IsShut role y
 
 -- what is kept of where the module left
@@ -52,27 +52,27 @@ pub record IsLeft (all others : List (List ℕ)) (asked : List Batch) (i : Insta
   pub within : IsWithin all others asked i y
 
 pub record KeptAt (all others : List (List ℕ)) (asked : List Batch) (i j : Instance) (role role' : Role) (y z away : History) (x : Twin)
-    (notes : Notes) : Type 0 where
+    (notes : MoveNotes) : Type 0 where
   pub this : Stands all others asked i role y x.first
   pub other : Stands all others asked j role' z x.second
   pub left : IsLeft all others asked i away x.away
   pub order : AreInOrder role role' notes
   pub named : AllByRecursion (IsNamed all i (history_at (is_live role) (is_live role') y z away)) notes.retired
   pub last : is_live role ≡ false → is_live role' ≡ false → (ticket : TicketContent) → IsLastTicket notes.retired ticket
-      → ticket.content ≡ issued i away
+      → ticket.content ≡ content_of_issue i away
   pub this_behind : IsBehind role i.variant y (history_at (is_live role) (is_live role') y z away)
   pub other_behind : IsBehind role' j.variant z (history_at (is_live role) (is_live role') y z away)
 
 -- what holds of both sides, whatever they issued
-abbrev pub Kept : List (List ℕ) → List (List ℕ) → List Batch → Instance → Instance → Both History History → Twin → Notes → Type 0
+abbrev pub Kept : List (List ℕ) → List (List ℕ) → List Batch → Instance → Instance → Both History History → Twin → MoveNotes → Type 0
 Kept all others asked i j l x notes = KeptAt all others asked i j l.first.role l.second.role l.first.at l.second.at l.away x notes
 
 -- An event comes by digests to what it comes to by lists.
-pub record Goes (all others : List (List ℕ)) (asked : List Batch) (i j : Instance) (notes : Notes) (lists : BothOutcome History History)
+pub record Goes (all others : List (List ℕ)) (asked : List Batch) (i j : Instance) (notes : MoveNotes) (lists : BothOutcome History History)
     (digests : BothOutcome Digests ℕ) : Type 0 where
   pub at : Twin
   pub same : digests ≡ record { both = twin lists.both at; reply = lists.reply; effect = lists.effect }
-  pub kept : Kept all others asked i j lists.both at (noted_if lists.effect notes)
+  pub kept : Kept all others asked i j lists.both at (notes_with_effect_if lists.effect notes)
 
 pub each_goes : {A : Type 0} (P Q : A → Type 0) → ((x : A) → P x → Q x) → (xs : List A) → AllByRecursion P xs → AllByRecursion Q xs
 each_goes P Q f [] h = tt
@@ -80,9 +80,9 @@ each_goes P Q f (x ∷ xs) h = (f x h.0, each_goes P Q f xs h.1)
 
 -- the same with the sides exchanged
 pub turned_kept : (variant : Variant) (meaning : Meaning) (key key' barrier : List ℕ) (all others : List (List ℕ)) (asked : List Batch)
-    (l : Both History History) (x : Twin) (notes : Notes)
+    (l : Both History History) (x : Twin) (notes : MoveNotes)
     → Kept all others asked (instance_by variant meaning key barrier) (instance_by variant meaning key' barrier) l x notes
-    → Kept all others asked (instance_by variant meaning key' barrier) (instance_by variant meaning key barrier) (turned l)
+    → Kept all others asked (instance_by variant meaning key' barrier) (instance_by variant meaning key barrier) (sides_swapped l)
     (turned_twin x) notes
 turned_kept variant meaning key key' barrier all others asked l x notes k =
     let i = instance_by variant meaning key barrier in
@@ -130,8 +130,8 @@ module _ (variant : Variant) (meaning : Meaning) (key key' barrier : List ℕ) (
   shut_alike role y z e h = tt
 
   -- the first side stands elsewhere, as others extended its register
-  pub brought_kept : (l : Both History History) (x : Twin) (notes : Notes) (z : History) (d : Digests)
-      → Kept all others asked me them l x notes → Keeps all others asked me z d → IsAlike l.first.at z
+  pub brought_kept : (l : Both History History) (x : Twin) (notes : MoveNotes) (z : History) (d : Digests)
+      → Kept all others asked me them l x notes → KeepsHistory all others asked me z d → IsAlike l.first.at z
       → Kept all others asked me them (record l { first = record l.first { at = z } }) (record x { first = d }) notes
   brought_kept l x notes z d k keeps alike =
       let now = alike_at (is_live l.first.role) (is_live l.second.role) l.first.at z l.second.at l.away alike in
@@ -156,23 +156,23 @@ module _ (variant : Variant) (meaning : Meaning) (key key' barrier : List ℕ) (
 
   -- an event of a schedule, by the role of its side
 
-  module _ (l : Both History History) (x : Twin) (notes : Notes) where
+  module _ (l : Both History History) (x : Twin) (notes : MoveNotes) where
     abbrev standing : Role → Both History History
     standing role = record l { first = record l.first { role = role } }
 
     live_goes : (event : Event) → Kept all others asked me them (standing Live) x notes
-        → AllByRecursion (Contains others) (foreign_of event)
-        → AllByRecursion (Contains asked) (batches_of event) → Within (plain_messages me Live (standing Live).first event) all
+        → AllByRecursion (Contains others) (event_foreign_values event)
+        → AllByRecursion (Contains asked) (batches_of event) → AreMessagesIn (plain_messages me Live (standing Live).first event) all
         → IsGenuineHere me (standing Live) (Plain event)
         → Goes all others asked me them notes (plain_outcome lists_move me (standing Live) event)
         (plain_outcome digests_move me (twin (standing Live) x) event)
     live_goes event k outside batches listed genuine =
-        let ol : Outcome History = event_outcome me (by_lists me) l.first.at l.first.issued event in
-        let od : Outcome Digests = event_outcome me (by_digests me) x.first l.first.issued event in
+        let ol : Outcome History = event_outcome me (list_level me) l.first.at l.first.issued event in
+        let od : Outcome Digests = event_outcome me (digest_level me) x.first l.first.issued event in
         let first = each_left (Contains all) (event_messages me l.first.issued event)
-        (moves_messages me l.first.at (moves_of me l.first.at l.first.issued event)) listed in
+        (messages_of_moves me l.first.at (moves_of me l.first.at l.first.issued event)) listed in
         let then_moves = each_right (Contains all) (event_messages me l.first.issued event)
-        (moves_messages me l.first.at (moves_of me l.first.at l.first.issued event)) listed in
+        (messages_of_moves me l.first.at (moves_of me l.first.at l.first.issued event)) listed in
         let s = events_agree variant meaning key barrier all others asked clear apart l.first.at x.first l.first.issued event k.this.keeps
         (record { outside = outside; batches = batches; listed = first; genuine = genuine; messages = then_moves }) in
         let n = events_keep_names variant meaning key barrier l.first.at l.first.issued event
@@ -205,9 +205,9 @@ module _ (variant : Variant) (meaning : Meaning) (key key' barrier : List ℕ) (
         }
 
     vain_goes : (role : Role) (why : Refusal) (event : Event) → Kept all others asked me them (standing role) x notes
-        → AllByRecursion (Contains others) (foreign_of event) → Within (moves_messages me l.first.at (vain_moves l.first.issued event)) all
-        → (let ol : Outcome History = event_in_vain (by_lists me) l.first.at l.first.issued why event in
-        let od : Outcome Digests = event_in_vain (by_digests me) x.first l.first.issued why event in
+        → AllByRecursion (Contains others) (event_foreign_values event) → AreMessagesIn (messages_of_moves me l.first.at (vain_moves l.first.issued event)) all
+        → (let ol : Outcome History = vain_event_outcome (list_level me) l.first.at l.first.issued why event in
+        let od : Outcome Digests = vain_event_outcome (digest_level me) x.first l.first.issued why event in
         Goes all others asked me them notes (record {
           both = record (standing role) { first = record { role = role; at = ol.state; issued = ol.issued }; committed = l.committed + 0 };
           reply = Said ol.reply;
@@ -219,8 +219,8 @@ module _ (variant : Variant) (meaning : Meaning) (key key' barrier : List ℕ) (
           effect = None;
         }))
     vain_goes role why event k outside listed =
-        let ol : Outcome History = event_in_vain (by_lists me) l.first.at l.first.issued why event in
-        let od : Outcome Digests = event_in_vain (by_digests me) x.first l.first.issued why event in
+        let ol : Outcome History = vain_event_outcome (list_level me) l.first.at l.first.issued why event in
+        let od : Outcome Digests = vain_event_outcome (digest_level me) x.first l.first.issued why event in
         let s = vain_same all others asked me
         (events_agree variant meaning key barrier) clear apart l.first.at x.first l.first.issued why event outside listed k.this.keeps in
         record {
@@ -240,16 +240,16 @@ module _ (variant : Variant) (meaning : Meaning) (key key' barrier : List ℕ) (
         }
 
     pub plain_goes : (role : Role) (event : Event) → Kept all others asked me them (standing role) x notes
-        → AllByRecursion (Contains others) (foreign_of event)
-        → AllByRecursion (Contains asked) (batches_of event) → Within (plain_messages me role (standing role).first event) all
+        → AllByRecursion (Contains others) (event_foreign_values event)
+        → AllByRecursion (Contains asked) (batches_of event) → AreMessagesIn (plain_messages me role (standing role).first event) all
         → IsGenuineHere me (standing role) (Plain event)
         → Goes all others asked me them notes (plain_outcome lists_move me (standing role) event)
         (plain_outcome digests_move me (twin (standing role) x) event)
     plain_goes Live event k outside batches listed genuine = live_goes event k outside batches listed genuine
-    plain_goes role event k outside batches listed genuine = vain_goes role (refused_where role) event k outside listed
+    plain_goes role event k outside batches listed genuine = vain_goes role (refusal_for_role role) event k outside listed
 
   -- the history now is within the lists
-  pub now_within : (l : Both History History) (x : Twin) (notes : Notes) → Kept all others asked me them l x notes
+  pub now_within : (l : Both History History) (x : Twin) (notes : MoveNotes) → Kept all others asked me them l x notes
       → IsWithin all others asked me (history_now l)
   now_within l x notes k = within_at (is_live l.first.role) (is_live l.second.role) k.this.keeps.within
       (within_other variant meaning key key' barrier all others asked l.second.at k.other.keeps.within) k.left.within

@@ -2,7 +2,7 @@
 pub use Rattle.mm_digest.specs.Messages.{start_message}
 pub use Rattle.mm_digest.specs.declared.variant.Variant.{Variant}
 pub use Rattle.mm_seal.specs.Parts.{parts_of}
-pub use Rattle.mm_seal.specs.Snapshot.{Content, Snapshot, sealed_of, tag_of}
+pub use Rattle.mm_seal.specs.Snapshot.{Content, Snapshot, sealed_snapshot_of, tag_of}
 pub use Rattle.mm_seal.specs.declared.snapshot.PartsFault.{PartsFault}
 pub use Rattle.mm_seal.specs.declared.snapshot.PartsFault.TheVariants.{Form, Kind}
 pub use Rattle.mm_platform.specs.declared.fault.StepFault.{StepFault}
@@ -17,28 +17,28 @@ pub use Rattle.mm_model.specs.Instance.{Instance}
 pub use Rattle.mm_model.specs.Long.{is_long}
 pub use Rattle.mm_model.specs.Messages.{IsClear}
 pub use Rattle.mm_model.specs.Moves.{Digests}
-pub use Rattle.mm_model.specs.Places.{issued}
+pub use Rattle.mm_model.specs.Places.{content_of_issue}
 pub use Rattle.mm_model.specs.PlacesWords.{digest_of}
-pub use Rattle.mm_model.specs.StandingHere.{is_new, place_messages}
-pub use Rattle.mm_model.specs.Steps.{Reads, Step}
+pub use Rattle.mm_model.specs.PlaceMessages.{is_new, place_messages}
+pub use Rattle.mm_model.specs.Steps.{Reads, DeviceStep}
 pub use Rattle.mm_model.specs.declared.refusal.Refusal.{Refusal}
 pub use Rattle.mm_model.specs.declared.verdict.Verdict.{Verdict}
 pub use Rattle.mm_model.specs.declared.verdict.Verdict.TheVariants.{Fresh, Stale}
-pub use Rattle.mm_call.specs.Asked.{moves_messages}
-pub use Rattle.mm_call.specs.Courses.{Done, End, Fails, Fate, walk}
-pub use Rattle.mm_call.specs.Found.{right_content}
-pub use Rattle.mm_call.specs.Levels.{Agrees, Level, by_digests, by_lists}
-pub use Rattle.mm_call.specs.OrderWords.{weighed}
+pub use Rattle.mm_call.specs.CallPremises.{messages_of_moves}
+pub use Rattle.mm_call.specs.Courses.{Done, End, Fails, StepFate, walk}
+pub use Rattle.mm_call.specs.CallFinding.{right_content}
+pub use Rattle.mm_call.specs.Levels.{DigestsAgree, Level, digest_level, list_level}
+pub use Rattle.mm_call.specs.OrderWords.{check_by_tests}
 pub use Rattle.mm_call.specs.Standing.{instance_by}
 pub use Rattle.mm_move.specs.Tickets.{TaggedTicket, TicketContent, place_at, sealed_ticket, summary_in, ticket_of, ticket_tag}
 pub use Rattle.mm_schedule.specs.Events.{Ask, Checkpoint, Event, Extend, Power}
-pub use Rattle.mm_schedule.specs.Machine.{Runs}
+pub use Rattle.mm_schedule.specs.Machine.{IsEventRun}
 pub use Rattle.mm_schedule.specs.declared.event.Offer.{Offer}
 pub use Rattle.mm_schedule.specs.declared.event.Offer.TheVariants.{Last}
 pub use Rattle.mm_schedule.specs.declared.reply.Reply.{Reply}
 pub use Rattle.mm_schedule.specs.declared.reply.Way.{Way}
-pub use Rattle.mm_run.specs.Folds.{Outcome, after_stop, course_of, event_in_vain, event_outcome, first_digests, first_issued, way_of}
+pub use Rattle.mm_run.specs.Folds.{Outcome, moves_after_stop, course_of, vain_event_outcome, event_outcome, first_digests, first_issued, way_of}
 pub use Rattle.mm_run.specs.Laws.{IsIssued}
-pub use Rattle.mm_run.specs.Offered.{offered_bytes}
-pub use Rattle.mm_run.specs.Premises.{IsGenuineEvent, batches_of, event_messages, foreign_of, moves_of, AreApartIn, IsGenuineOffer}
+pub use Rattle.mm_run.specs.EventOffers.{offered_bytes}
+pub use Rattle.mm_run.specs.Premises.{IsGenuineEvent, batches_of, event_messages, event_foreign_values, moves_of, AreApartIn, IsGenuineOffer}
 pub use Rattle.mm_evidence.specs.Evidence.{HasClash, IsForged}

@@ -1,8 +1,8 @@
 -- Two sides that share a link, what stands on each, and two ways to follow them: by lists and by
 -- digests.
 use Rattle.std.specs.Prelude.{ℕ, Bool, true, false, List, []}
-use Rattle.mm_sides.specs.Below.{Variant, Content, Meaning, History, first_history, Instance, Digests, issued, digest_of, Level, by_lists}
-use Rattle.mm_sides.specs.Below.{by_digests, instance_by, summary_in, place_at, first_issued, first_digests}
+use Rattle.mm_sides.specs.Below.{Variant, Content, Meaning, History, first_history, Instance, Digests, content_of_issue, digest_of, Level, list_level}
+use Rattle.mm_sides.specs.Below.{digest_level, instance_by, summary_in, place_at, first_issued, first_digests}
 use Rattle.mm_sides.specs.Roles.{Role, Blank, Live, is_live}
 
 -- the first side or the second
@@ -30,7 +30,7 @@ instance_on pair which = instance_by pair.variant pair.meaning (key_of pair whic
 
 -- One side: its role; where it stands, for the sake of its register from the start; and the
 -- snapshots that it issued.
-pub record Side (S : Type 0) : Type 0 where
+pub record SideState (S : Type 0) : Type 0 where
   pub role : Role
   pub at : S
   pub issued : List (List ℕ)
@@ -38,15 +38,15 @@ pub record Side (S : Type 0) : Type 0 where
 -- Both sides; what is kept of where the module stood when it left last; the tickets handed out; and
 -- how many requests were committed, on either side.
 pub record Both (S A : Type 0) : Type 0 where
-  pub first : Side S
-  pub second : Side S
+  pub first : SideState S
+  pub second : SideState S
   pub away : A
   pub tickets : List (List ℕ)
   pub committed : ℕ
 
 -- the same with the sides exchanged
-abbrev pub turned : {S A : Type 0} → Both S A → Both S A
-turned both = record both { first = both.second; second = both.first }
+abbrev pub sides_swapped : {S A : Type 0} → Both S A → Both S A
+sides_swapped both = record both { first = both.second; second = both.first }
 
 -- the one history: that of the live side, or where the module left
 abbrev pub history_at : (first_lives second_lives : Bool) → (first second away : History) → History
@@ -60,9 +60,9 @@ history_now both =
     both.away
 
 -- with this side as the first
-abbrev pub facing : {S A : Type 0} → Which → Both S A → Both S A
-facing First both = both
-facing Second both = turned both
+abbrev pub sides_seen_from : {S A : Type 0} → Which → Both S A → Both S A
+sides_seen_from First both = both
+sides_seen_from Second both = sides_swapped both
 
 -- A way to follow both sides: one way to follow each; what a ticket or a snapshot says where no
 -- segment is open, of an offer that stands there; what is kept of where the module leaves; and
@@ -77,7 +77,7 @@ pub record Mover (S A : Type 0) : Type 0 where
 -- By lists: the module has its one history, and the register has what it had.
 abbrev pub lists_move : Mover History History
 lists_move = record {
-  level = by_lists;
+  level = list_level;
   says = λ i y offered. issued i y;
   leaves = λ y. y;
   enters = λ own away content. record away { items = own.items };
@@ -87,7 +87,7 @@ lists_move = record {
 -- the ticket.
 abbrev pub digests_move : Mover Digests ℕ
 digests_move = record {
-  level = by_digests;
+  level = digest_level;
   says = λ i d offered. record {
     id = i.meaning.id;
     place = place_at i.variant (digest_of d.digest);
@@ -101,8 +101,8 @@ digests_move = record {
 }
 
 -- At first the module is on the first side, and the second is blank.
-abbrev pub begun : {S A : Type 0} → Pair → S → S → A → Both S A
-begun pair here there away = record {
+abbrev pub sides_at_start : {S A : Type 0} → Pair → S → S → A → Both S A
+sides_at_start pair here there away = record {
   first = record { role = Live; at = here; issued = first_issued (instance_on pair First) };
   second = record { role = Blank; at = there; issued = [] };
   away = away;
@@ -111,8 +111,8 @@ begun pair here there away = record {
 }
 
 abbrev pub first_lists : Pair → Both History History
-first_lists pair = begun pair first_history first_history first_history
+first_lists pair = sides_at_start pair first_history first_history first_history
 
 abbrev pub first_both : Pair → Both Digests ℕ
 first_both pair =
-    begun pair (first_digests (instance_on pair First)) (first_digests (instance_on pair Second)) 0
+    sides_at_start pair (first_digests (instance_on pair First)) (first_digests (instance_on pair Second)) 0

@@ -1,26 +1,26 @@
 -- The laws of two sides.
 use Rattle.std.specs.Prelude.{◌≡◌, ℕ, List, [], ◌∷◌, ◌++◌, length, Option, Some}
 use Rattle.std.specs.List.{AllByRecursion}
-use Rattle.mm_sides.specs.Below.{Variant, Quiet, counter, History, requests_of, Digests, Agrees, Event, Runs, Last, Reply, IsIssued}
-use Rattle.mm_sides.specs.Roles.{Live, Retired, Effect, Enters, Notes, no_notes}
+use Rattle.mm_sides.specs.Below.{Variant, Quiet, counter, History, requests_of, Digests, DigestsAgree, Event, IsEventRun, Last, Reply, IsIssued}
+use Rattle.mm_sides.specs.Roles.{Live, Retired, Effect, Enters, MoveNotes, no_notes}
 use Rattle.mm_sides.specs.Order.{EntersLast, AtMostOne}
-use Rattle.mm_sides.specs.Both.{Which, First, Second, Pair, instance_on, Side, Both, history_now, lists_move, digests_move, first_lists}
+use Rattle.mm_sides.specs.Both.{Which, First, Second, Pair, instance_on, SideState, Both, history_now, lists_move, digests_move, first_lists}
 use Rattle.mm_sides.specs.Moves.{Invite, Retire, Accept}
-use Rattle.mm_sides.specs.Folds.{Act, Plain, Moves, BothEvent, BothReply, Said, both_outcome, BothFollowed, both_followed, both_expected, both_by_digests, noted_if}
+use Rattle.mm_sides.specs.Folds.{BothAct, Plain, Moves, BothEvent, BothReply, Said, both_outcome, BothRunOutcome, both_outcome_of_events, both_outcome_by_lists, both_outcome_by_digests, notes_with_effect_if}
 use Rattle.mm_sides.specs.Premises.{IsClearPair, IsGenuinePair, IsFreshPair}
 
 -- Two ways to follow a side agree: its role, its snapshots, and the digests are those of the
 -- history.
-pub record SidesAgree (pair : Pair) (which : Which) (lists : Side History)
-    (digests : Side Digests) : Type 0 where
+pub record SidesAgree (pair : Pair) (which : Which) (lists : SideState History)
+    (digests : SideState Digests) : Type 0 where
   pub role : digests.role ≡ lists.role
-  pub at : Agrees (instance_on pair which) lists.at digests.at
+  pub at : DigestsAgree (instance_on pair which) lists.at digests.at
   pub issued : digests.issued ≡ lists.issued
 
 -- Both followings give the same replies, the same tickets and the same count of requests, and agree
 -- on either side.
-pub record PairsAgree (pair : Pair) (lists : BothFollowed History History)
-    (digests : BothFollowed Digests ℕ) : Type 0 where
+pub record PairsAgree (pair : Pair) (lists : BothRunOutcome History History)
+    (digests : BothRunOutcome Digests ℕ) : Type 0 where
   pub replies : digests.replies ≡ lists.replies
   pub first : SidesAgree pair First lists.both.first digests.both.first
   pub second : SidesAgree pair Second lists.both.second digests.both.second
@@ -32,22 +32,22 @@ pub record PairsAgree (pair : Pair) (lists : BothFollowed History History)
 abbrev pub PairsAgreeThroughout : Type 0
 PairsAgreeThroughout = (pair : Pair) (events : List BothEvent) →
     IsClearPair pair events → IsGenuinePair pair events → IsFreshPair pair events
-    → PairsAgree pair (both_expected pair events) (both_by_digests pair events)
+    → PairsAgree pair (both_outcome_by_lists pair events) (both_outcome_by_digests pair events)
 
 -- where the effect of an event is that the module enters a side
-abbrev pub EntersAlone : Notes → Both History History → Option Effect → Type 0
+abbrev pub EntersAlone : MoveNotes → Both History History → Option Effect → Type 0
 EntersAlone notes both (Some (Enters ticket)) =
     EntersLast both.first.role both.second.role notes ticket
 EntersAlone notes both effect = Unit {0}
 
 -- At each moment at most one side is live; and the module enters a side only where none is, by the
 -- ticket that it left by last.
-abbrev pub IsOneFrom : Pair → Both History History → Notes → List BothEvent → Type 0
+abbrev pub IsOneFrom : Pair → Both History History → MoveNotes → List BothEvent → Type 0
 IsOneFrom pair both notes [] = AtMostOne both.first.role both.second.role
 IsOneFrom pair both notes (event ∷ events) =
     let o = both_outcome lists_move pair both event in
     AtMostOne both.first.role both.second.role × EntersAlone notes both o.effect
-    × IsOneFrom pair o.both (noted_if o.effect notes) events
+    × IsOneFrom pair o.both (notes_with_effect_if o.effect notes) events
 
 -- It takes no premise but that nonces and tickets are fresh.
 abbrev pub OneIsLive : Type 0
@@ -56,13 +56,13 @@ OneIsLive =
     → IsOneFrom pair (first_lists pair) no_notes events
 
 -- the events of a schedule alone, and the replies to them
-abbrev pub plain_in : Act → List Event
-plain_in (Plain event) = event ∷ []
-plain_in (Moves meddles stop command) = []
+abbrev pub plain_events_in : BothAct → List Event
+plain_events_in (Plain event) = event ∷ []
+plain_events_in (Moves meddles stop command) = []
 
 abbrev pub plain_events : List BothEvent → List Event
 plain_events [] = []
-plain_events (event ∷ events) = plain_in event.act ++ plain_events events
+plain_events (event ∷ events) = plain_events_in event.act ++ plain_events events
 
 abbrev pub plain_reply : BothReply → List Reply
 plain_reply (Said reply) = reply ∷ []
@@ -74,34 +74,34 @@ plain_replies (reply ∷ replies) = plain_reply reply ++ plain_replies replies
 
 -- The replies to both sides' calls are those of one run of the machine, and as many requests were
 -- committed.
-pub record IsOneRun (pair : Pair) (events : List BothEvent)
-    (lists : BothFollowed History History) : Type 0 where
-  pub runs : Runs pair.meaning [] (plain_events events) (plain_replies lists.replies)
+pub record IsOneRunOfBoth (pair : Pair) (events : List BothEvent)
+    (lists : BothRunOutcome History History) : Type 0 where
+  pub runs : IsEventRun pair.meaning [] (plain_events events) (plain_replies lists.replies)
       (requests_of (history_now lists.both).batches)
   pub count : lists.both.committed ≡ length (requests_of (history_now lists.both).batches)
 
 abbrev pub SidesRunAsOne : Type 0
 SidesRunAsOne =
     (pair : Pair) (events : List BothEvent) → IsFreshPair pair events
-    → IsOneRun pair events (both_expected pair events)
+    → IsOneRunOfBoth pair events (both_outcome_by_lists pair events)
 
 -- what stands after some events and then more
-abbrev pub both_continued : {S A : Type 0} → BothFollowed S A → BothFollowed S A → BothFollowed S A
-both_continued first second =
+abbrev pub both_outcome_joined : {S A : Type 0} → BothRunOutcome S A → BothRunOutcome S A → BothRunOutcome S A
+both_outcome_joined first second =
     record { both = second.both; replies = first.replies ++ second.replies }
 
 -- A front of a schedule: what stands after it and its replies are those of the schedule so far.
 abbrev pub PairsGoOn : Type 0
 PairsGoOn = (pair : Pair) (es fs : List BothEvent) →
-    let lists : BothFollowed History History = both_expected pair es in
-    let digests : BothFollowed Digests ℕ = both_by_digests pair es in
-    (both_expected pair (es ++ fs) ≡ both_continued lists
-    (both_followed lists_move pair lists.both fs))
-    × (both_by_digests pair (es ++ fs) ≡ both_continued digests
-    (both_followed digests_move pair digests.both fs))
+    let lists : BothRunOutcome History History = both_outcome_by_lists pair es in
+    let digests : BothRunOutcome Digests ℕ = both_outcome_by_digests pair es in
+    (both_outcome_by_lists pair (es ++ fs) ≡ both_outcome_joined lists
+    (both_outcome_of_events lists_move pair lists.both fs))
+    × (both_outcome_by_digests pair (es ++ fs) ≡ both_outcome_joined digests
+    (both_outcome_of_events digests_move pair digests.both fs))
 
 -- Each snapshot that a side issued names a position of where it stands, and of the one history.
-pub record SnapshotsName (pair : Pair) (which : Which) (side : Side History)
+pub record SnapshotsName (pair : Pair) (which : Which) (side : SideState History)
     (history : History) : Type 0 where
   pub here : AllByRecursion (IsIssued (instance_on pair which) side.at) side.issued
   pub now : AllByRecursion (IsIssued (instance_on pair which) history) side.issued
@@ -109,7 +109,7 @@ pub record SnapshotsName (pair : Pair) (which : Which) (side : Side History)
 -- So it is after each schedule with fresh nonces and tickets.
 abbrev pub SidesIssueNames : Type 0
 SidesIssueNames = (pair : Pair) (events : List BothEvent) → IsFreshPair pair events →
-    let lists : BothFollowed History History = both_expected pair events in
+    let lists : BothRunOutcome History History = both_outcome_by_lists pair events in
     SnapshotsName pair First lists.both.first (history_now lists.both)
     × SnapshotsName pair Second lists.both.second (history_now lists.both)
 
@@ -137,8 +137,8 @@ pub record MovesOnce (pair : Pair) (nonce : List ℕ) : Type 0 where
   pub clear : IsClearPair pair (one_move nonce)
   pub genuine : IsGenuinePair pair (one_move nonce)
   pub fresh : IsFreshPair pair (one_move nonce)
-  pub left : (both_expected pair (one_move nonce)).both.first.role ≡ Retired nonce
-  pub entered : (both_expected pair (one_move nonce)).both.second.role ≡ Live
+  pub left : (both_outcome_by_lists pair (one_move nonce)).both.first.role ≡ Retired nonce
+  pub entered : (both_outcome_by_lists pair (one_move nonce)).both.second.role ≡ Live
 
 -- So the premises can be met, under all keys.
 abbrev pub PremisesAreMet : Type 0

@@ -3,7 +3,7 @@
 use Rattle.std.specs.Prelude.{◌≡◌, ◌≢◌, ℕ, true, false, List, [], ◌∷◌, ◌++◌, map}
 use Rattle.std.specs.List.{AllByRecursion, Contains}
 use Rattle.mm_sides.specs.Below.{TicketContent}
-use Rattle.mm_sides.specs.Roles.{Role, Blank, Live, Waiting, Retired, Effect, Invites, Leaves, Enters, role_after, is_live, Notes, no_notes, noted}
+use Rattle.mm_sides.specs.Roles.{Role, Blank, Live, Waiting, Retired, Effect, Invites, Leaves, Enters, role_after, is_live, MoveNotes, no_notes, notes_with_effect}
 
 abbrev pub nonces_of : List TicketContent → List (List ℕ)
 nonces_of tickets = map (λ (ticket : TicketContent). ticket.nonce) tickets
@@ -36,7 +36,7 @@ pub data IsSomewhere (this other : Role) (retired : List TicketContent)
 
 -- What holds of this side and the other at each moment: by the nonces that were spent, those of the
 -- tickets accepted.
-pub record AreInOrder (this other : Role) (notes : Notes) : Type 0 where
+pub record AreInOrder (this other : Role) (notes : MoveNotes) : Type 0 where
   pub spent : List (List ℕ)
   pub invited : AllByRecursion (Contains notes.invited) spent
   pub this_awaits : IsAwaited notes.invited spent this
@@ -55,7 +55,7 @@ MayTake role effect = ⊥
 
 -- What is asked of an effect: nobody is invited twice under one nonce, and a ticket that is
 -- accepted is one that the module left by, as nobody else made one.
-abbrev pub IsFreshEffect : Notes → Effect → Type 0
+abbrev pub IsFreshEffect : MoveNotes → Effect → Type 0
 IsFreshEffect notes (Invites nonce) = Contains notes.invited nonce → ⊥
 IsFreshEffect notes (Leaves ticket) = Unit {0}
 IsFreshEffect notes (Enters ticket) = Contains notes.retired ticket
@@ -66,7 +66,7 @@ pub record IsLastTicket (retired : List TicketContent) (ticket : TicketContent) 
   pub is : retired ≡ front ++ ticket ∷ []
 
 -- The module enters a side only where it is on none, and only by the ticket that it left by last.
-pub record EntersLast (this other : Role) (notes : Notes) (ticket : TicketContent) : Type 0 where
+pub record EntersLast (this other : Role) (notes : MoveNotes) (ticket : TicketContent) : Type 0 where
   pub not_here : is_live this ≡ false
   pub not_there : is_live other ≡ false
   pub last : IsLastTicket notes.retired ticket
@@ -78,17 +78,17 @@ RolesBegin = AreInOrder Live Blank no_notes
 
 abbrev pub RolesSwap : Type 0
 RolesSwap =
-    (this other : Role) (notes : Notes) → AreInOrder this other notes → AreInOrder other this notes
+    (this other : Role) (notes : MoveNotes) → AreInOrder this other notes → AreInOrder other this notes
 
 abbrev pub RolesGoOn : Type 0
 RolesGoOn =
-    (this other : Role) (notes : Notes) (effect : Effect) → AreInOrder this other notes
+    (this other : Role) (notes : MoveNotes) (effect : Effect) → AreInOrder this other notes
     → MayTake this effect
-    → IsFreshEffect notes effect → AreInOrder (role_after effect) other (noted effect notes)
+    → IsFreshEffect notes effect → AreInOrder (role_after effect) other (notes_with_effect effect notes)
 
 abbrev pub RolesEnterLast : Type 0
 RolesEnterLast =
-    (this other : Role) (notes : Notes) (ticket : TicketContent) → AreInOrder this other notes
+    (this other : Role) (notes : MoveNotes) (ticket : TicketContent) → AreInOrder this other notes
     → MayTake this (Enters ticket)
     → IsFreshEffect notes (Enters ticket) → EntersLast this other notes ticket
 
@@ -98,4 +98,4 @@ AtMostOne this other = is_live this ≡ true → is_live other ≡ false
 
 abbrev pub RolesAreOne : Type 0
 RolesAreOne =
-    (this other : Role) (notes : Notes) → AreInOrder this other notes → AtMostOne this other
+    (this other : Role) (notes : MoveNotes) → AreInOrder this other notes → AtMostOne this other

@@ -3,67 +3,67 @@
 use Rattle.std.specs.Prelude.{ℕ, List, [], ◌∷◌, ◌++◌, Option, None, Some, Result, Ok, Err, map, if◌then◌else◌}
 use Rattle.std.specs.List.{Contains}
 use Rattle.mm_sides.specs.Below.{start_message, Content, Meddle, Stop, Batch, History, Move, Foreign, PowerMove, Instance, is_long, IsClear}
-use Rattle.mm_sides.specs.Below.{place_messages, Step, Reads, Refusal, moves_messages, walk, right_content, TicketContent, Event, Ask}
-use Rattle.mm_sides.specs.Below.{Checkpoint, Power, Extend, course_of, offered_bytes, moves_of, event_messages, foreign_of, batches_of}
+use Rattle.mm_sides.specs.Below.{place_messages, DeviceStep, Reads, Refusal, messages_of_moves, walk, right_content, TicketContent, Event, Ask}
+use Rattle.mm_sides.specs.Below.{Checkpoint, Power, Extend, course_of, offered_bytes, moves_of, event_messages, event_foreign_values, batches_of}
 use Rattle.mm_sides.specs.Below.{IsGenuineEvent, AreApartIn, IsGenuineOffer}
-use Rattle.mm_sides.specs.Roles.{Role, Live, Retired, Effect, Invites, Notes, no_notes}
-use Rattle.mm_sides.specs.Both.{First, Pair, instance_on, Side, Both, facing, history_now, lists_move, first_lists}
-use Rattle.mm_sides.specs.Moves.{Command, Retire, Accept, FoundMove, MoveCause, ticket_in}
-use Rattle.mm_sides.specs.Folds.{Act, Plain, Moves, BothEvent, move_steps, finding, both_outcome, noted_if}
+use Rattle.mm_sides.specs.Roles.{Role, Live, Retired, Effect, Invites, MoveNotes, no_notes}
+use Rattle.mm_sides.specs.Both.{First, Pair, instance_on, SideState, Both, sides_seen_from, history_now, lists_move, first_lists}
+use Rattle.mm_sides.specs.Moves.{MoveCommand, Retire, Accept, FoundMove, DenialCause, ticket_in}
+use Rattle.mm_sides.specs.Folds.{BothAct, Plain, Moves, BothEvent, move_steps, found_command, both_outcome, notes_with_effect_if}
 
 -- what others put into a side's register during steps that only read
-abbrev pub read_moves : List Meddle → Stop → List Step → List Move
+abbrev pub read_moves : List Meddle → Stop → List DeviceStep → List Move
 read_moves meddles stop steps = (walk (course_of stop meddles).fates 1 steps).moves
 
 -- what the register of a side takes in during an event where the module isn't
-abbrev pub vain_asked : List Meddle → Stop → Option (List ℕ) → Batch → List Move
-vain_asked meddles stop None b = []
-vain_asked meddles stop (Some bytes) b =
+abbrev pub vain_ask_moves : List Meddle → Stop → Option (List ℕ) → Batch → List Move
+vain_ask_moves meddles stop None b = []
+vain_ask_moves meddles stop (Some bytes) b =
     if is_long b then [] else read_moves meddles stop (Reads ∷ [])
 
 abbrev pub vain_moves : List (List ℕ) → Event → List Move
 vain_moves issued (Ask meddles stop offer b) =
-    vain_asked meddles stop (offered_bytes issued offer) b
+    vain_ask_moves meddles stop (offered_bytes issued offer) b
 vain_moves issued (Checkpoint meddles stop) = read_moves meddles stop (Reads ∷ [])
 vain_moves issued Power = PowerMove ∷ []
 vain_moves issued (Extend value) = Foreign value ∷ []
 
 -- The messages of an event of a schedule: where the module is, those of one platform; elsewhere,
 -- what the register takes in.
-abbrev pub plain_messages : Instance → Role → Side History → Event → List (List ℕ)
+abbrev pub plain_messages : Instance → Role → SideState History → Event → List (List ℕ)
 plain_messages i Live side event =
-    event_messages i side.issued event ++ moves_messages i side.at
+    event_messages i side.issued event ++ messages_of_moves i side.at
     (moves_of i side.at side.issued event)
-plain_messages i role side event = moves_messages i side.at (vain_moves side.issued event)
+plain_messages i role side event = messages_of_moves i side.at (vain_moves side.issued event)
 
 -- of a retirement's right offer: the closing of its segment, where it is inside one
-abbrev pub closing_of : Option Content → List (List ℕ)
-closing_of None = []
-closing_of (Some content) = place_messages content.place
+abbrev pub messages_of_closing : Option Content → List (List ℕ)
+messages_of_closing None = []
+messages_of_closing (Some content) = place_messages content.place
 
-abbrev pub offer_closing : Instance → Option (List ℕ) → List (List ℕ)
-offer_closing i None = []
-offer_closing i (Some bytes) = closing_of (right_content i bytes)
+abbrev pub offer_closing_messages : Instance → Option (List ℕ) → List (List ℕ)
+offer_closing_messages i None = []
+offer_closing_messages i (Some bytes) = messages_of_closing (right_content i bytes)
 
 -- what the register of the first side takes in during a command
-abbrev pub found_moves : List Meddle → Stop → Option (Result FoundMove MoveCause) → List Move
+abbrev pub found_moves : List Meddle → Stop → Option (Result FoundMove DenialCause) → List Move
 found_moves meddles stop None = []
 found_moves meddles stop (Some found) = read_moves meddles stop (move_steps found)
 
-abbrev pub command_messages : Instance → Side History → Command → List (List ℕ)
-command_messages i side (Retire nonce offer) = offer_closing i (offered_bytes side.issued offer)
+abbrev pub command_messages : Instance → SideState History → MoveCommand → List (List ℕ)
+command_messages i side (Retire nonce offer) = offer_closing_messages i (offered_bytes side.issued offer)
 command_messages i side command = []
 
-abbrev pub messages_here : Pair → Instance → Both History History → Act → List (List ℕ)
+abbrev pub messages_here : Pair → Instance → Both History History → BothAct → List (List ℕ)
 messages_here pair i both (Plain event) = plain_messages i both.first.role both.first event
 messages_here pair i both (Moves meddles stop command) =
     command_messages i both.first command
-    ++ moves_messages i both.first.at
-    (found_moves meddles stop (finding lists_move pair i both command))
+    ++ messages_of_moves i both.first.at
+    (found_moves meddles stop (found_command lists_move pair i both command))
 
 abbrev pub both_event_messages : Pair → Both History History → BothEvent → List (List ℕ)
 both_event_messages pair both event =
-    messages_here pair (instance_on pair event.which) (facing event.which both) event.act
+    messages_here pair (instance_on pair event.which) (sides_seen_from event.which both) event.act
 
 abbrev pub both_messages_from : Pair → Both History History → List BothEvent → List (List ℕ)
 both_messages_from pair both [] = []
@@ -79,15 +79,15 @@ both_messages pair events =
 
 -- the values by which others extend the register of either side, whether the step is reached or
 -- not; and the batches asked
-abbrev pub others_in : Act → List (List ℕ)
-others_in (Plain event) = foreign_of event
-others_in (Moves meddles stop command) = map (λ m. m.value.bytes) meddles
+abbrev pub others_values_in : BothAct → List (List ℕ)
+others_values_in (Plain event) = event_foreign_values event
+others_values_in (Moves meddles stop command) = map (λ m. m.value.bytes) meddles
 
 abbrev pub both_others : List BothEvent → List (List ℕ)
 both_others [] = []
-both_others (event ∷ events) = others_in event.act ++ both_others events
+both_others (event ∷ events) = others_values_in event.act ++ both_others events
 
-abbrev pub batches_in : Act → List Batch
+abbrev pub batches_in : BothAct → List Batch
 batches_in (Plain event) = batches_of event
 batches_in (Moves meddles stop command) = []
 
@@ -109,22 +109,22 @@ IsGenuineTo Live i now bytes = IsGenuineOffer i now bytes
 IsGenuineTo (Retired nonce) i now bytes = IsGenuineOffer i now bytes
 IsGenuineTo role i now bytes = Unit {0}
 
-abbrev pub IsGenuinePlain : Role → Instance → Side History → Event → Type 0
+abbrev pub IsGenuinePlain : Role → Instance → SideState History → Event → Type 0
 IsGenuinePlain Live i side event = IsGenuineEvent i side.at side.issued event
 IsGenuinePlain role i side event = Unit {0}
 
-abbrev pub IsGenuineCommand : Instance → Both History History → Command → Type 0
+abbrev pub IsGenuineCommand : Instance → Both History History → MoveCommand → Type 0
 IsGenuineCommand i both (Retire nonce offer) =
     IsGenuineTo both.first.role i (history_now both) (offered_bytes both.first.issued offer)
 IsGenuineCommand i both command = Unit {0}
 
-abbrev pub IsGenuineHere : Instance → Both History History → Act → Type 0
+abbrev pub IsGenuineHere : Instance → Both History History → BothAct → Type 0
 IsGenuineHere i both (Plain event) = IsGenuinePlain both.first.role i both.first event
 IsGenuineHere i both (Moves meddles stop command) = IsGenuineCommand i both command
 
 abbrev pub IsGenuineIn : Pair → Both History History → BothEvent → Type 0
 IsGenuineIn pair both event =
-    IsGenuineHere (instance_on pair event.which) (facing event.which both) event.act
+    IsGenuineHere (instance_on pair event.which) (sides_seen_from event.which both) event.act
 
 abbrev pub AreGenuineFrom : Pair → Both History History → List BothEvent → Type 0
 AreGenuineFrom pair both [] = Unit {0}
@@ -135,32 +135,32 @@ AreGenuineFrom pair both (event ∷ events) =
 -- What is asked of nonces and tickets: an invitation that has its effect is under a nonce that
 -- nobody was invited under before, and each right ticket that is offered is one that the module has
 -- left by.
-abbrev pub IsNew : Notes → Option Effect → Type 0
+abbrev pub IsNew : MoveNotes → Option Effect → Type 0
 IsNew notes (Some (Invites nonce)) = Contains notes.invited nonce → ⊥
 IsNew notes effect = Unit {0}
 
-abbrev pub IsOurs : Notes → Result TicketContent Refusal → Type 0
+abbrev pub IsOurs : MoveNotes → Result TicketContent Refusal → Type 0
 IsOurs notes (Ok ticket) = Contains notes.retired ticket
 IsOurs notes (Err why) = Unit {0}
 
-abbrev pub IsOursOffered : Pair → Notes → Option (List ℕ) → Type 0
+abbrev pub IsOursOffered : Pair → MoveNotes → Option (List ℕ) → Type 0
 IsOursOffered pair notes None = Unit {0}
 IsOursOffered pair notes (Some bytes) = IsOurs notes (ticket_in pair bytes)
 
-abbrev pub IsOursFor : Pair → List (List ℕ) → Notes → Command → Type 0
+abbrev pub IsOursFor : Pair → List (List ℕ) → MoveNotes → MoveCommand → Type 0
 IsOursFor pair tickets notes (Accept offer) = IsOursOffered pair notes (offered_bytes tickets offer)
 IsOursFor pair tickets notes command = Unit {0}
 
-abbrev pub IsOursIn : Pair → List (List ℕ) → Notes → Act → Type 0
+abbrev pub IsOursIn : Pair → List (List ℕ) → MoveNotes → BothAct → Type 0
 IsOursIn pair tickets notes (Plain event) = Unit {0}
 IsOursIn pair tickets notes (Moves meddles stop command) = IsOursFor pair tickets notes command
 
-abbrev pub AreFreshFrom : Pair → Both History History → Notes → List BothEvent → Type 0
+abbrev pub AreFreshFrom : Pair → Both History History → MoveNotes → List BothEvent → Type 0
 AreFreshFrom pair both notes [] = Unit {0}
 AreFreshFrom pair both notes (event ∷ events) =
     let o = both_outcome lists_move pair both event in
     IsNew notes o.effect × IsOursIn pair both.tickets notes event.act
-    × AreFreshFrom pair o.both (noted_if o.effect notes) events
+    × AreFreshFrom pair o.both (notes_with_effect_if o.effect notes) events
 
 abbrev pub IsGenuinePair : Pair → List BothEvent → Type 0
 IsGenuinePair pair events = AreGenuineFrom pair (first_lists pair) events

@@ -27,14 +27,14 @@ is_live role = false
 
 -- What a run has seen of moves that had their effect: the nonces that the module was invited under,
 -- and the tickets that it left by, in order of time.
-pub record Notes : Type 0 where
+pub record MoveNotes : Type 0 where
   pub invited : List (List ℕ)
   pub retired : List TicketContent
 
-abbrev pub no_notes : Notes
+abbrev pub no_notes : MoveNotes
 no_notes = record { invited = []; retired = [] }
 
-abbrev pub noted : Effect → Notes → Notes
-noted (Invites nonce) notes = record notes { invited = notes.invited ++ nonce ∷ [] }
-noted (Leaves ticket) notes = record notes { retired = notes.retired ++ ticket ∷ [] }
-noted (Enters ticket) notes = notes
+abbrev pub notes_with_effect : Effect → MoveNotes → MoveNotes
+notes_with_effect (Invites nonce) notes = record notes { invited = notes.invited ++ nonce ∷ [] }
+notes_with_effect (Leaves ticket) notes = record notes { retired = notes.retired ++ ticket ∷ [] }
+notes_with_effect (Enters ticket) notes = notes

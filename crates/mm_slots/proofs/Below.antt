@@ -14,9 +14,9 @@ pub use Rattle.mm_base.specs.Limits.{longest_line, most_events, most_members}
 pub use Rattle.mm_digest.specs.declared.variant.Variant.{Variant}
 pub use Rattle.mm_digest.specs.declared.variant.Variant.TheVariants.{Basic, Opt}
 pub use Rattle.mm_seal.specs.Cell.{cell_spelling}
-pub use Rattle.mm_platform.specs.Memory.{cycled, meddling, new_platform}
+pub use Rattle.mm_platform.specs.Memory.{standing_after_cycle, plan_with_meddle, new_platform}
 pub use Rattle.mm_platform.specs.Standing.{Item, item_values, next_step, Plan, register_after, Standing}
-pub use Rattle.mm_platform.specs.Told.{next_plan, quiet_plan}
+pub use Rattle.mm_platform.specs.PlannedSteps.{next_plan, quiet_plan}
 pub use Rattle.mm_platform.specs.declared.plan.Meddle.{Meddle}
 pub use Rattle.mm_platform.specs.declared.plan.Stop.{Stop}
 pub use Rattle.mm_platform.specs.declared.plan.Stop.TheVariants.{Quiet}
@@ -26,57 +26,57 @@ pub use Rattle.mm_modules.specs.Modules.{meaning_of}
 pub use Rattle.mm_model.specs.History.{first_history, Foreign, Move, Power as PowerMove, requests_of}
 pub use Rattle.mm_model.specs.Instance.{Instance}
 pub use Rattle.mm_model.specs.Long.{is_long}
-pub use Rattle.mm_model.specs.Moves.{Digests, made}
-pub use Rattle.mm_model.specs.Standing.{cell_of, issued_bytes, register_reads}
-pub use Rattle.mm_call.specs.Levels.{all_made, by_digests}
+pub use Rattle.mm_model.specs.Moves.{Digests, digests_after}
+pub use Rattle.mm_model.specs.Standing.{cell_of, issued_bytes, register_reading}
+pub use Rattle.mm_call.specs.Levels.{state_after_moves, digest_level}
 pub use Rattle.mm_call.specs.Standing.{cell_at, instance_by}
 pub use Rattle.mm_schedule.specs.Events.{Ask, Event, Extend}
-pub use Rattle.mm_schedule.specs.Machine.{Runs}
-pub use Rattle.mm_schedule.specs.Words.{◌>>=◌, after_prefix, number_at, word_at}
+pub use Rattle.mm_schedule.specs.Machine.{IsEventRun}
+pub use Rattle.mm_schedule.specs.Words.{◌>>=◌, rest_after_prefix, number_at, word_at}
 pub use Rattle.mm_schedule.specs.declared.event.Offer.{Offer}
 pub use Rattle.mm_schedule.specs.declared.header.Header.{Header}
 pub use Rattle.mm_schedule.specs.declared.reply.Reply.{Reply}
 pub use Rattle.mm_schedule.proofs.Above.{promises-kept}
-pub use Rattle.mm_flight.specs.InFlight.{plan_by}
+pub use Rattle.mm_flight.specs.Flight.{plan_by}
 pub use Rattle.mm_flight.proofs.Above.{meddled}
-pub use Rattle.mm_run.specs.Folds.{course_of, expected, first_digests, Followed, followed, Outcome, replies_by_digests}
-pub use Rattle.mm_run.specs.Held.{rising_from}
-pub use Rattle.mm_run.specs.Offered.{offered_bytes}
+pub use Rattle.mm_run.specs.Folds.{course_of, outcome_by_lists, first_digests, RunOutcome, outcome_of_events, Outcome, outcome_by_digests}
+pub use Rattle.mm_run.specs.WorldState.{rising_from}
+pub use Rattle.mm_run.specs.EventOffers.{offered_bytes}
 pub use Rattle.mm_run.proofs.Above.{few_committed, issues_one, printable}
-pub use Rattle.mm_world.specs.Asks.{Came, quiet_as}
-pub use Rattle.mm_world.specs.Held.{digest_in, flag_in, value_in}
-pub use Rattle.mm_world.specs.Stands.{IsQuiet, Stands}
-pub use Rattle.mm_world.specs.declared.call.Called.{Called}
+pub use Rattle.mm_world.specs.OwnCalls.{CallComesTo, quiet_call}
+pub use Rattle.mm_world.specs.HeldWorld.{digest_in, flag_in, value_in}
+pub use Rattle.mm_world.specs.WorldStanding.{IsQuiet, HasDigests}
+pub use Rattle.mm_world.specs.declared.call.CallReport.{CallReport}
 pub use Rattle.mm_world.proofs.Above.{count_none, counting, digests_are, stands_extended, stands_new, stands_settled}
-pub use Rattle.mm_steps.specs.Stopping.{is_nothing, stop_behind}
+pub use Rattle.mm_steps.specs.FlightStop.{is_nothing, stop_behind}
 pub use Rattle.mm_steps.proofs.Above.{asks_begun, asks_broken_off, asks_stepped, closes_begun, closes_broken_off, closes_stepped}
 pub use Rattle.mm_steps.proofs.Above.{flight_takes_in, may_take_in}
-pub use Rattle.mm_steps.specs.Flying.{BreaksAs, MayStepOn, StepsAs}
+pub use Rattle.mm_steps.specs.FlightSteps.{FlightBreaksAs, MayStepOn, FlightStepsAs}
 pub use Rattle.mm_play.proofs.Above.{events_err, events_ok, plays_err, unrefused}
 pub use Rattle.mm_slots.specs.Answers.{answer_text, answers_text, end_lines, IsSayable, slot_end_line}
 pub use Rattle.mm_slots.specs.Grammar.{action_at, event_at}
-pub use Rattle.mm_slots.specs.Held.{call_in, ComesTo, digests_in, Fits, FitsCall, FitsFlight, flight_in, flown, GoesOn, HasRegister}
-pub use Rattle.mm_slots.specs.Held.{instance_in, EndsIn, LacksIn, LosesIn, row_in, slot_in}
+pub use Rattle.mm_slots.specs.HeldParts.{call_in, SlotComesTo, digests_in, PartsFit, FitsCall, FitsFlight, flight_in, parts_with_flight, SlotGoesOn, HasRegister}
+pub use Rattle.mm_slots.specs.HeldParts.{instance_in, CallEndsIn, SlotLacksMemory, SlotLosesPower, row_in, slot_in}
 pub use Rattle.mm_world.specs.Lengths.{within_64}
-pub use Rattle.mm_slots.specs.Laws.{SlotRuns, SlotsAreAlone, SlotsRun}
-pub use Rattle.mm_slots.specs.Plays.{Reports}
-pub use Rattle.mm_slots.specs.Rows.{ActsAs, ActsAt, CanCount, IsCounted, IsInside, IsWithin, KeepsAll, LacksAs, one_loses}
-pub use Rattle.mm_slots.specs.Rows.{only_at, others_lose, Tells, touched}
-pub use Rattle.mm_world.specs.Seat.{extended_by, IsFirst, StaysOn}
-pub use Rattle.mm_slots.specs.Tenant.{acted, acted_by, Acts, Asks, beginning, begun, Call, Closes, event_by, first_tenant, Flight, flying, folded}
-pub use Rattle.mm_slots.specs.Tenant.{joined, Loses, merely, Met, outcome_in, plays, Tenant, tenant_instance, so_far, stepped}
-pub use Rattle.mm_slots.specs.Tenant.{stop_at, Turned, turned, unpowered, Wants}
-pub use Rattle.mm_slots.specs.Slots.{all_cycled, selected_of, Slots}
-pub use Rattle.mm_slots.specs.Stage.{kept_in, playing, Running}
-pub use Rattle.mm_slots.specs.Table.{after_event, after_events, Answer, answers, answers_to, by_place, cuts_all, first_row, first_rows}
-pub use Rattle.mm_slots.specs.Table.{EventWants, instance_of, is_cut, met_by, met_in, PowerLost, Row, row_after, said_at, said_for, Says}
-pub use Rattle.mm_slots.specs.Table.{WantsAt}
-pub use Rattle.mm_slots.specs.declared.event.Action.{Action}
+pub use Rattle.mm_slots.specs.Laws.{SlotIsOneRun, SlotsAreAlone, SlotsRun}
+pub use Rattle.mm_slots.specs.WholeSlots.{ReportsSlots}
+pub use Rattle.mm_slots.specs.Rows.{RowActs, SlotActsAt, CanCount, IsCounted, IsInside, IsWithin, KeepsAll, RowLacksMemory, loss_of_one}
+pub use Rattle.mm_slots.specs.Rows.{meetings_at, losses_of_others, EventTells, rows_after_meetings}
+pub use Rattle.mm_world.specs.Seat.{extended_standing, IsFirst, SeatStaysOn}
+pub use Rattle.mm_slots.specs.Tenant.{turn_by_action, turn_in_flight, Acts, Asks, first_flight, begin_turn, SlotCall, Closes, event_by, first_tenant, Flight, with_flight, turn_over_all}
+pub use Rattle.mm_slots.specs.Tenant.{with_meddle, Loses, turn_saying, Meeting, outcome_in, event_turn, Tenant, tenant_instance, event_so_far, step_turn}
+pub use Rattle.mm_slots.specs.Tenant.{stop_at, SlotTurn, turn_by_met, power_turn, ActionLacksMemory}
+pub use Rattle.mm_slots.specs.Slots.{slots_after_cycle, selected_standing, Slots}
+pub use Rattle.mm_slots.specs.Stage.{kept_bytes_in, slots_steps, SlotsState}
+pub use Rattle.mm_slots.specs.Table.{rows_after_event, rows_after_all, SlotAnswer, answers, answers_to, items_by_place, cuts_all, first_row, first_rows}
+pub use Rattle.mm_slots.specs.Table.{RowsLackMemory, instance_of, is_cut, slot_meetings, event_meetings, PowerLost, Row, row_after, slot_replies_at, slot_replies_for, Says}
+pub use Rattle.mm_slots.specs.Table.{OneRowLacksMemory}
+pub use Rattle.mm_slots.specs.declared.event.SlotAction.{SlotAction}
 pub use Rattle.mm_slots.specs.declared.event.SlotEvent.{SlotEvent}
 pub use Rattle.mm_slots.specs.declared.event.SlotEvent.TheVariants.{At, Power}
-pub use Rattle.mm_slots.specs.declared.flight.Asking.{Asking}
-pub use Rattle.mm_slots.specs.declared.flight.Closing.{Closing}
+pub use Rattle.mm_slots.specs.declared.flight.AskInFlight.{AskInFlight}
+pub use Rattle.mm_slots.specs.declared.flight.CheckpointInFlight.{CheckpointInFlight}
 pub use Rattle.mm_slots.specs.declared.flight.Flight.{Flight as CodeFlight}
 pub use Rattle.mm_slots.specs.declared.parts.Parts.{Parts}
-pub use Rattle.mm_slots.specs.declared.said.Said.{Said}
-pub use Rattle.mm_slots.specs.declared.said.Said.TheVariants.{Begun, Going, Replied}
+pub use Rattle.mm_slots.specs.declared.said.SlotReply.{SlotReply}
+pub use Rattle.mm_slots.specs.declared.said.SlotReply.TheVariants.{Begun, Going, Replied}

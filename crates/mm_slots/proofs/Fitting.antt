@@ -3,24 +3,24 @@ use Rattle.mm_slots.proofs.Below.{◌≡◌, ◌∙◌, ◌+◌, ◌^◌, ◌≤
 use Rattle.std.specs.List.{sum_by}
 use Rattle.mm_slots.proofs.Below.{◌-◌, length, arith, vec_capacity, most_members, Variant, Basic, Opt, Meaning}
 use Rattle.mm_slots.proofs.Below.{IsLawful, meaning_of, Standing, Instance, Digests, instance_by, Event, Header, Reply, rising_from}
-use Rattle.mm_slots.proofs.Below.{Outcome, few_committed, printable, Called, Came, digest_in, flag_in, value_in, Stands, IsQuiet}
-use Rattle.mm_slots.proofs.Below.{digests_are, counting, CodeFlight, Said, Replied, Parts, IsSayable, Tenant, tenant_instance, outcome_in}
-use Rattle.mm_slots.proofs.Below.{plays, digests_in, slot_in, flight_in, instance_in, FitsFlight, Fits, ComesTo, flown, HasRegister}
-use Rattle.mm_slots.proofs.Below.{within_64, EndsIn, next_plan, Bool, true, cond, option_map_or, Meddle, Quiet, Plan}
-use Rattle.mm_slots.proofs.Below.{quiet_plan, made, plan_by, is_nothing, Going, Flight, Turned, merely, flying, so_far}
-use Rattle.mm_slots.proofs.Below.{stepped, call_in, FitsCall, GoesOn}
+use Rattle.mm_slots.proofs.Below.{Outcome, few_committed, printable, CallReport, CallComesTo, digest_in, flag_in, value_in, HasDigests, IsQuiet}
+use Rattle.mm_slots.proofs.Below.{digests_are, counting, CodeFlight, SlotReply, Replied, Parts, IsSayable, Tenant, tenant_instance, outcome_in}
+use Rattle.mm_slots.proofs.Below.{event_turn, digests_in, slot_in, flight_in, instance_in, FitsFlight, PartsFit, SlotComesTo, parts_with_flight, HasRegister}
+use Rattle.mm_slots.proofs.Below.{within_64, CallEndsIn, next_plan, Bool, true, cond, option_map_or, Meddle, Quiet, Plan}
+use Rattle.mm_slots.proofs.Below.{quiet_plan, digests_after, plan_by, is_nothing, Going, Flight, SlotTurn, turn_saying, with_flight, event_so_far}
+use Rattle.mm_slots.proofs.Below.{step_turn, call_in, FitsCall, SlotGoesOn}
 use Rattle.mm_modules.specs.ModulesLaws.{any_is_lawful}
-use Rattle.mm_slots.proofs.Below.{flight_takes_in, meddled, meddling, option_map, One}
+use Rattle.mm_slots.proofs.Below.{flight_takes_in, meddled, plan_with_meddle, option_map, One}
 use Rattle.mm_digest.specs.declared.digest.Digest.{Digest}
 use Rattle.mm_flight.proofs.Above.{may_planned}
-use Rattle.mm_machine.specs.Stepping.{MayGoOn as MayStep}
-use Rattle.mm_steps.specs.InFlight.{asking as asks_so, checkpointing}
-use Rattle.mm_slots.specs.Held.{Flies}
+use Rattle.mm_machine.specs.OpSteps.{MayGoOn as MayStep}
+use Rattle.mm_steps.specs.FlightKind.{ask_kind as asks_so, checkpoint_kind}
+use Rattle.mm_slots.specs.HeldParts.{SlotCallFlies}
 use Rattle.mm_slots.specs.declared.flight.Flight.TheVariants as code
 use Rattle.mm_schedule.specs.Replies.{IsPrintable}
 
 -- where the platform of a slot stands, by the register's value that the slot has
-pub mine_are : (slot : Parts) (d : Digests) → Stands (instance_in slot) slot.seat.platform d → HasRegister slot
+pub mine_are : (slot : Parts) (d : Digests) → HasDigests (instance_in slot) slot.seat.platform d → HasRegister slot
     → digests_in slot ≡ record d { count = slot.seat.committed }
 mine_are slot d s r =
     let register : value_in (Some slot.register.bytes) ≡ d.register = ap value_in (sym r ∙ s.register) in
@@ -38,15 +38,15 @@ FitsWith slot flight = FitsFlight slot.seat.header slot.number (digests_in slot)
     slot.seat.platform flight
 
 -- a slot with no call in flight
-pub settled : (slot : Parts) (d : Digests) → slot.flight ≡ None → Stands (instance_in slot) slot.seat.platform d
-    → IsQuiet slot.seat.platform → HasRegister slot → Fits slot
+pub settled : (slot : Parts) (d : Digests) → slot.flight ≡ None → HasDigests (instance_in slot) slot.seat.platform d
+    → IsQuiet slot.seat.platform → HasRegister slot → PartsFit slot
 settled slot d none s q r =
-    let stands = subst (λ (x : Digests). Stands (instance_in slot) slot.seat.platform x) (sym (mine_are slot d s r))
+    let stands = subst (λ (x : Digests). HasDigests (instance_in slot) slot.seat.platform x) (sym (mine_are slot d s r))
     (counting (instance_in slot) d slot.seat.platform slot.seat.committed s) in
     subst (FitsWith slot) (sym none) (stands, q)
 
-pub idle : (slot : Parts) → slot.flight ≡ None → Fits slot
-    → Stands (instance_in slot) slot.seat.platform (digests_in slot) × IsQuiet slot.seat.platform
+pub idle : (slot : Parts) → slot.flight ≡ None → PartsFit slot
+    → HasDigests (instance_in slot) slot.seat.platform (digests_in slot) × IsQuiet slot.seat.platform
 idle slot none f = subst (FitsWith slot) none f
 
 pub same_instance : (slot slot' : Parts) → slot'.seat.header ≡ slot.seat.header → slot'.number ≡ slot.number
@@ -57,9 +57,9 @@ same_instance slot slot' h n =
 -- a slot with no call in flight that kept all it had goes on, and stands where its platform does
 pub rests : (slot slot' : Parts) (d : Digests) → slot'.seat.header ≡ slot.seat.header → slot'.number ≡ slot.number
     → slot'.seat.committed ≡ slot.seat.committed → slot'.flight ≡ None → HasRegister slot' → d.count ≡ slot.seat.committed
-    → Stands (instance_in slot) slot'.seat.platform d → IsQuiet slot'.seat.platform → GoesOn slot slot' × (digests_in slot' ≡ d)
+    → HasDigests (instance_in slot) slot'.seat.platform d → IsQuiet slot'.seat.platform → SlotGoesOn slot slot' × (digests_in slot' ≡ d)
 rests slot slot' d h n c none r count s q =
-    let mine = subst (λ (j : Instance). Stands j slot'.seat.platform d) (sym (same_instance slot slot' h n)) s in (
+    let mine = subst (λ (j : Instance). HasDigests j slot'.seat.platform d) (sym (same_instance slot slot' h n)) s in (
       record { fits = settled slot' d none mine q r; header = h; number = n },
       mine_are slot' d mine r ∙ (λ j. record d { count = (c ∙ sym count) j }),
     )
@@ -91,14 +91,14 @@ left slot new keys tally bound = record slot {
 }
 
 -- A call is over: the slot stands as its event says.
-pub over_comes : (slot slot' : Parts) (flight : CodeFlight) (keys : Unit {0}) (tally : Counted slot) (bound : Bounded slot) (from new : Standing) (event : Event) (it : Called)
-    (said : Said) → slot.flight ≡ None → slot.seat.committed < 2 ^ 63
-    → (let s = slot_in (flown slot flight) in
+pub over_comes : (slot slot' : Parts) (flight : CodeFlight) (keys : Unit {0}) (tally : Counted slot) (bound : Bounded slot) (from new : Standing) (event : Event) (it : CallReport)
+    (said : SlotReply) → slot.flight ≡ None → slot.seat.committed < 2 ^ 63
+    → (let s = slot_in (parts_with_flight slot flight) in
     Came (instance_in slot) (outcome_in (instance_in slot) s event) s.digests.count s.issued from new it
-    → EndsIn it (left slot new keys tally bound) slot' said → ComesTo (flown slot flight) slot' (plays (instance_in slot) s event) said)
+    → CallEndsIn it (left slot new keys tally bound) slot' said → SlotComesTo (parts_with_flight slot flight) slot' (event_turn (instance_in slot) s event) said)
 over_comes slot slot' flight keys tally bound from new event it said none few c e =
     let i = instance_in slot in
-    let s = slot_in (flown slot flight) in
+    let s = slot_in (parts_with_flight slot flight) in
     let o : Outcome Digests = outcome_in i s event in
     let at : slot'.seat.platform ≡ new = e.ends.platform in
     let header : slot'.seat.header ≡ slot.seat.header = e.ends.header in
@@ -107,8 +107,8 @@ over_comes slot slot' flight keys tally bound from new event it said none few c 
     let counts : o.state.count ≡ slot.seat.committed + it.committed = c.counts in
     let ended : slot'.seat.committed ≡ within_64 (slot.seat.committed + it.committed) = e.ends.committed in
     let committed : slot'.seat.committed ≡ o.state.count = omega (arith, ended, counts, most, few) in
-    let here = subst (λ (x : Standing). Stands i x o.state) (sym at) c.stands in
-    let stands = subst (λ (x : Instance). Stands x slot'.seat.platform o.state) (sym (same_instance slot slot' header number)) here in
+    let here = subst (λ (x : Standing). HasDigests i x o.state) (sym at) c.stands in
+    let stands = subst (λ (x : Instance). HasDigests x slot'.seat.platform o.state) (sym (same_instance slot slot' header number)) here in
     let idle : slot'.flight ≡ None = e.flight ∙ none in
     let digests : digests_in slot' ≡ o.state = mine_are slot' o.state stands e.register
     ∙ (λ j. record o.state { count = committed j }) in
@@ -121,7 +121,7 @@ over_comes slot slot' flight keys tally bound from new event it said none few c 
         number = number;
       };
       stands = λ j. record { digests = digests j; issued = issued j; flight = ends j };
-      says = ap (λ (r : Reply). Replied r ∷ []) (sym c.reply) ∙ ap (λ (x : Said). x ∷ []) (sym e.says);
+      says = ap (λ (r : Reply). Replied r ∷ []) (sym c.reply) ∙ ap (λ (x : SlotReply). x ∷ []) (sym e.says);
       sayable = subst IsSayable (sym e.says) (subst IsPrintable (sym c.reply) (printable_in slot s event));
     }
 
@@ -162,17 +162,17 @@ digests_kept slot before after keys tally bound new e = λ j. record {
 -- a call that goes on stands as its fold says
 pub goes_comes : (slot : Parts) (before after : CodeFlight) (keys : Unit {0}) (tally : Counted slot) (bound : Bounded slot) (new : Standing) (step : ℕ)
     → call_in after ≡ call_in before
-    → (let old = slot.seat.platform in let slot' = flown (left slot new keys tally bound) after in
-    GoesPlanned old new (next_plan old).meddles ((next_plan old).at + 1) → Fits slot' → step ≡ (next_plan old).at + 1 + 1
-    → is_nothing (outcome_in (instance_in slot) (slot_in (flown slot before)) (so_far (flight_of old before))).reply ≡ true
-    → ComesTo (flown slot before) slot' (stepped (instance_in slot) (slot_in (flown slot before)) (flight_of old before)) (Going step))
+    → (let old = slot.seat.platform in let slot' = parts_with_flight (left slot new keys tally bound) after in
+    GoesPlanned old new (next_plan old).meddles ((next_plan old).at + 1) → PartsFit slot' → step ≡ (next_plan old).at + 1 + 1
+    → is_nothing (outcome_in (instance_in slot) (slot_in (parts_with_flight slot before)) (event_so_far (flight_of old before))).reply ≡ true
+    → SlotComesTo (parts_with_flight slot before) slot' (step_turn (instance_in slot) (slot_in (parts_with_flight slot before)) (flight_of old before)) (Going step))
 goes_comes slot before after keys tally bound new step same planned fits number nothing =
-    let s = slot_in (flown slot before) in
+    let s = slot_in (parts_with_flight slot before) in
     let f = flight_of slot.seat.platform before in
     let i = instance_in slot in
-    let on : Turned = merely (flying s (record f { next = f.next + 1 })) (Going (f.next + 1)) in
-    let slot' = flown (left slot new keys tally bound) after in
-    let P : Bool → Type 0 = λ b. ComesTo (flown slot before) slot' (cond b on (plays i s (so_far f))) (Going step) in
+    let on : SlotTurn = turn_saying (with_flight s (record f { next = f.next + 1 })) (Going (f.next + 1)) in
+    let slot' = parts_with_flight (left slot new keys tally bound) after in
+    let P : Bool → Type 0 = λ b. SlotComesTo (parts_with_flight slot before) slot' (cond b on (event_turn i s (event_so_far f))) (Going step) in
     subst P (sym nothing) (record {
       goes = record { fits = fits; header = refl; number = refl };
       stands = λ j. record {
@@ -185,14 +185,14 @@ goes_comes slot before after keys tally bound new step same planned fits number 
     })
 
 -- the slot fits its call in flight
-pub call_of : (slot : Parts) (flight : CodeFlight) → Fits (flown slot flight)
-    → FitsCall slot.seat.header slot.number (digests_in (flown slot flight)) slot.seat.issued.items (vec_capacity slot.seat.issued)
+pub call_of : (slot : Parts) (flight : CodeFlight) → PartsFit (parts_with_flight slot flight)
+    → FitsCall slot.seat.header slot.number (digests_in (parts_with_flight slot flight)) slot.seat.issued.items (vec_capacity slot.seat.issued)
     slot.seat.platform flight
 call_of slot flight f = f
 
 -- what is known of a call in flight, whatever it asks
 pub record IsOn (i : Instance) (d : Digests) (from now : Standing) (meddles : List Meddle) (next : ℕ) : Type 0 where
-  pub stands : Stands i from d
+  pub stands : HasDigests i from d
   pub made : ℕ
   pub cell : now.cell ≡ from.cell
   pub is_on : now.is_on ≡ true
@@ -201,7 +201,7 @@ pub record IsOn (i : Instance) (d : Digests) (from now : Standing) (meddles : Li
   pub is_next : next ≡ made + 1
 
 pub flight_is : (header : Header) (i : Instance) (d : Digests) (from : Standing) (flight : CodeFlight) (now : Standing)
-    (meddles : List Meddle) (next : ℕ) → Flies header i d from flight now meddles next → IsOn i d from now meddles next
+    (meddles : List Meddle) (next : ℕ) → SlotCallFlies header i d from flight now meddles next → IsOn i d from now meddles next
 flight_is header i d from (code.Asks it) now meddles next f = record {
   stands = f.stands;
   made = f.made;
@@ -223,12 +223,12 @@ flight_is header i d from (code.Closes it) now meddles next f = record {
 
 -- a call in flight takes in a value of others
 pub takes_value : (header : Header) (i : Instance) (d : Digests) (from : Standing) (flight : CodeFlight) (now new : Standing)
-    (meddles : List Meddle) (next : ℕ) (value : Digest) → Flies header i d from flight now meddles next
-    → new ≡ record now { plan = option_map (meddling value) now.plan }
-    → Flies header i d from flight new (meddled meddles next value) next
+    (meddles : List Meddle) (next : ℕ) (value : Digest) → SlotCallFlies header i d from flight now meddles next
+    → new ≡ record now { plan = option_map (plan_with_meddle value) now.plan }
+    → SlotCallFlies header i d from flight new (meddled meddles next value) next
 takes_value header i d from (code.Asks it) now new meddles next value f e =
     flight_takes_in (asks_so header.variant (meaning_of header.«module») it.bytes (One it.request)) i d from it.call now new meddles next
-    value f e (subst (MayStep it.call) (sym e) (may_planned it.call now (option_map (meddling value) now.plan) f.room))
+    value f e (subst (MayStep it.call) (sym e) (may_planned it.call now (option_map (plan_with_meddle value) now.plan) f.room))
 takes_value header i d from (code.Closes it) now new meddles next value f e =
-    flight_takes_in checkpointing i d from it.call now new meddles next value f e
-    (subst (MayStep it.call) (sym e) (may_planned it.call now (option_map (meddling value) now.plan) f.room))
+    flight_takes_in checkpoint_kind i d from it.call now new meddles next value f e
+    (subst (MayStep it.call) (sym e) (may_planned it.call now (option_map (plan_with_meddle value) now.plan) f.room))

@@ -1,6 +1,6 @@
 -- A slot that is the same but for the room of its snapshots, and a call that isn't begun.
-use Rattle.mm_slots.proofs.Below.{◌≡◌, ◌∙◌, None, sym, ap, subst, digest_in, flag_in, next_plan, Standing, Stands, Digests, Instance, IsQuiet}
-use Rattle.mm_slots.proofs.Below.{Action, Said, Parts, Turned, acted, digests_in, slot_in, flight_in, instance_in, Fits, ComesTo}
+use Rattle.mm_slots.proofs.Below.{◌≡◌, ◌∙◌, None, sym, ap, subst, digest_in, flag_in, next_plan, Standing, HasDigests, Digests, Instance, IsQuiet}
+use Rattle.mm_slots.proofs.Below.{SlotAction, SlotReply, Parts, SlotTurn, turn_by_action, digests_in, slot_in, flight_in, instance_in, PartsFit, SlotComesTo}
 use Rattle.mm_slots.proofs.Fitting.{FitsWith, idle, same_instance}
 
 pub record IsSame (slot mid : Parts) : Type 0 where
@@ -27,33 +27,33 @@ same_slot slot mid k = λ j. record {
   flight = flight_in (next_plan (k.platform j)) (k.flight j);
 }
 
-same_acted : (slot mid : Parts) (what : Action) → IsSame slot mid
-    → acted (instance_in mid) (slot_in mid) what ≡ acted (instance_in slot) (slot_in slot) what
+same_acted : (slot mid : Parts) (what : SlotAction) → IsSame slot mid
+    → turn_by_action (instance_in mid) (slot_in mid) what ≡ turn_by_action (instance_in slot) (slot_in slot) what
 same_acted slot mid what k =
     let i = same_instance slot mid k.header k.number in
     let s = same_slot slot mid k in
-    λ j. acted (i j) (s j) what
+    λ j. turn_by_action (i j) (s j) what
 
 -- no call is in flight there
-pub still_fits : (slot mid : Parts) → slot.flight ≡ None → Fits slot → IsSame slot mid → Fits mid
+pub still_fits : (slot mid : Parts) → slot.flight ≡ None → PartsFit slot → IsSame slot mid → PartsFit mid
 still_fits slot mid none fits k =
     let at = idle slot none fits in
     let i = same_instance slot mid k.header k.number in
     let d = same_digests slot mid k in
-    let stands = subst (λ (x : Instance). Stands x mid.seat.platform (digests_in mid)) (sym i)
-    (subst (λ (x : Digests). Stands (instance_in slot) mid.seat.platform x) (sym d)
-    (subst (λ (p : Standing). Stands (instance_in slot) p (digests_in slot)) (sym k.platform) at.0)) in
+    let stands = subst (λ (x : Instance). HasDigests x mid.seat.platform (digests_in mid)) (sym i)
+    (subst (λ (x : Digests). HasDigests (instance_in slot) mid.seat.platform x) (sym d)
+    (subst (λ (p : Standing). HasDigests (instance_in slot) p (digests_in slot)) (sym k.platform) at.0)) in
     subst (FitsWith mid) (sym (k.flight ∙ none)) (stands, subst IsQuiet (sym k.platform) at.1)
 
 -- what happens there happens in the slot
-pub comes_there : (slot mid new : Parts) (what : Action) (said : Said) → IsSame slot mid
-    → ComesTo mid new (acted (instance_in mid) (slot_in mid) what) said
-    → ComesTo slot new (acted (instance_in slot) (slot_in slot) what) said
+pub comes_there : (slot mid new : Parts) (what : SlotAction) (said : SlotReply) → IsSame slot mid
+    → SlotComesTo mid new (turn_by_action (instance_in mid) (slot_in mid) what) said
+    → SlotComesTo slot new (turn_by_action (instance_in slot) (slot_in slot) what) said
 comes_there slot mid new what said k c =
     let same = same_acted slot mid what k in
     record {
       goes = record { fits = c.goes.fits; header = c.goes.header ∙ k.header; number = c.goes.number ∙ k.number };
-      stands = c.stands ∙ ap (λ (t : Turned). t.slot) same;
-      says = ap (λ (t : Turned). t.said) (sym same) ∙ c.says;
+      stands = c.stands ∙ ap (λ (t : SlotTurn). t.slot) same;
+      says = ap (λ (t : SlotTurn). t.said) (sym same) ∙ c.says;
       sayable = c.sayable;
     }

@@ -1,12 +1,12 @@
 -- The slots at first: each is as its header and number say.
 use Rattle.mm_slots.proofs.Below.{◌≡◌, ◌∙◌, ◌+◌, ◌<◌, ℕ, List, [], ◌∷◌, ◌++◌, length, take, get_or, None, Some, refl, sym, ap, subst, arith}
 use Rattle.mm_slots.proofs.Below.{length-take-le, take_more, next_plan, Standing, first_history, cell_of}
-use Rattle.mm_slots.proofs.Below.{cell_spelling, meaning_of, first_digests, register_reads, Header, IsQuiet, Stands, stands_new, Parts}
-use Rattle.mm_slots.proofs.Below.{IsFirst, digests_in, flight_in, instance_in, Fits, HasRegister, row_in}
-use Rattle.mm_slots.proofs.Below.{tenant_instance, by_place, first_row, first_rows, Row}
+use Rattle.mm_slots.proofs.Below.{cell_spelling, meaning_of, first_digests, register_reading, Header, IsQuiet, HasDigests, stands_new, Parts}
+use Rattle.mm_slots.proofs.Below.{IsFirst, digests_in, flight_in, instance_in, PartsFit, HasRegister, row_in}
+use Rattle.mm_slots.proofs.Below.{tenant_instance, items_by_place, first_row, first_rows, Row}
 use Rattle.std.proofs.lemmas.List.FromFn.{length-range_with_len}
 use Rattle.mm_digest.specs.Messages.{zero_bytes}
-use Rattle.mm_run.specs.Held.{rising_from}
+use Rattle.mm_run.specs.WorldState.{rising_from}
 use Rattle.mm_slots.proofs.Fitting.{settled, mine_are}
 
 length-rising : (n : ℕ) → length (rising_from n) ≡ 32
@@ -16,19 +16,19 @@ length-rising n = length-range_with_len n 32
 -- a slot over a platform that was provisioned with its key and barrier
 module _ (header : Header) (slot : Parts) (f : IsFirst header (rising_from slot.number) (rising_from (128 + slot.number)) slot.seat)
     (register : slot.register.bytes ≡ zero_bytes) (none : slot.flight ≡ None) where
-  stands_there : Stands (instance_in slot) slot.seat.platform (first_digests (tenant_instance header slot.number))
+  stands_there : HasDigests (instance_in slot) slot.seat.platform (first_digests (tenant_instance header slot.number))
   stands_there =
       let i = tenant_instance header slot.number in
       let cell = cell_spelling (cell_of i first_history) in
       let new = stands_new header.variant (meaning_of header.«module») (rising_from slot.number) (rising_from (128 + slot.number)) cell
       (length-rising slot.number) (length-rising (128 + slot.number)) refl in
-      let stands = subst (λ (x : Standing). Stands i x (first_digests i)) (sym f.platform) new in
-      subst (λ (h : Header). Stands (tenant_instance h slot.number) slot.seat.platform (first_digests i)) (sym f.headed) stands
+      let stands = subst (λ (x : Standing). HasDigests i x (first_digests i)) (sym f.platform) new in
+      subst (λ (h : Header). HasDigests (tenant_instance h slot.number) slot.seat.platform (first_digests i)) (sym f.headed) stands
 
   has_register : HasRegister slot
-  has_register = ap register_reads f.platform ∙ ap Some (sym register)
+  has_register = ap register_reading f.platform ∙ ap Some (sym register)
 
-  pub fits_there : Fits slot
+  pub fits_there : PartsFit slot
   fits_there = settled slot (first_digests (tenant_instance header slot.number)) none stands_there
       (subst IsQuiet (sym f.platform) (record { is_on = refl; plan = refl })) has_register
 
@@ -48,13 +48,13 @@ module _ (header : Header) (slot : Parts) (f : IsFirst header (rising_from slot.
 
 -- one more slot behind these
 more_from : (number : ℕ) (headers : List Header) (header : Header)
-    → by_place first_row number (headers ++ header ∷ [])
-    ≡ by_place first_row number headers ++ first_row (number + length headers) header ∷ []
+    → items_by_place first_row number (headers ++ header ∷ [])
+    ≡ items_by_place first_row number headers ++ first_row (number + length headers) header ∷ []
 more_from number [] header = let same : number ≡ number + 0 = omega arith in ap (λ (n : ℕ). first_row n header ∷ []) same
 more_from number (first ∷ headers) header =
     let same : number + 1 + length headers ≡ number + length (first ∷ headers) = omega arith in
     ap (λ (rows : List Row). first_row number first ∷ rows) (more_from (number + 1) headers header
-    ∙ ap (λ (n : ℕ). by_place first_row (number + 1) headers ++ first_row n header ∷ []) same)
+    ∙ ap (λ (n : ℕ). items_by_place first_row (number + 1) headers ++ first_row n header ∷ []) same)
 
 pub one_more : (all : List Header) (n number : ℕ) (header d : Header) (rows rows' : List Row) → n < length all → number ≡ n
     → header ≡ get_or all n d → rows ≡ first_rows (take n all) → rows' ≡ rows ++ first_row number header ∷ []

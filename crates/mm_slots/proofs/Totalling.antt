@@ -5,7 +5,7 @@ use Rattle.mm_slots.proofs.Below.{slot_end_line, end_lines, within_64, Row, IsWi
 use Rattle.std.specs.List.{All, sum_by}
 use Rattle.std.proofs.lemmas.List.Elements.{All-weaker}
 use Rattle.std.proofs.lemmas.List.Sums.{sum_by-le, sum_by_more}
-use Rattle.mm_slots.specs.Plays.{committed_in, issued_in}
+use Rattle.mm_slots.specs.WholeSlots.{committed_count_in, issued_count_in}
 
 -- one more of them
 pub sum_on : (f : Row → ℕ) (rows : List Row) (n : ℕ) (d row : Row) (before one after : ℕ) → n < length rows → row ≡ get_or rows n d
@@ -15,11 +15,11 @@ sum_on f rows n d row before one after few is had counts sums =
     let same : f row ≡ f (get_or rows n d) = ap f is in
     omega (arith, same, had, counts, sums, sum_by_more f rows n d few)
 
-pub requests_few : (rows : List Row) → All (IsWithin most_events) rows → committed_in rows ≤ length rows * (most_members * most_events)
+pub requests_few : (rows : List Row) → All (IsWithin most_events) rows → committed_count_in rows ≤ length rows * (most_members * most_events)
 requests_few rows all = sum_by-le (λ (row : Row). row.slot.digests.count) (most_members * most_events) rows
     (All-weaker (IsWithin most_events) (λ row. row.slot.digests.count ≤ most_members * most_events) (λ row w. w.few) rows all)
 
-pub snapshots_few : (rows : List Row) → All (IsWithin most_events) rows → issued_in rows ≤ length rows * (most_events + 1)
+pub snapshots_few : (rows : List Row) → All (IsWithin most_events) rows → issued_count_in rows ≤ length rows * (most_events + 1)
 snapshots_few rows all = sum_by-le (λ (row : Row). length row.slot.issued) (most_events + 1) rows
     (All-weaker (IsWithin most_events) (λ row. length row.slot.issued ≤ most_events + 1) (λ row w. w.short) rows all)
 

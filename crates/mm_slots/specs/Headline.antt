@@ -8,15 +8,15 @@ use Rattle.mm_replay.specs.Headline.{IsPromisedRun}
 use Rattle.mm_slots.specs.declared.event.SlotEvent.{SlotEvent}
 use Rattle.mm_slots.specs.Answers.{answers_text, end_lines}
 use Rattle.mm_slots.specs.Grammar.{event_at}
-use Rattle.mm_slots.specs.Tenant.{Turned, tenant_instance, tenant_after}
-use Rattle.mm_slots.specs.Stage.{Opening, AtFirst, slots_head}
-use Rattle.mm_slots.specs.Table.{Answer, Row, first_rows, after_events, answers, met_by, said_for}
+use Rattle.mm_slots.specs.Tenant.{SlotTurn, tenant_instance, tenant_turn}
+use Rattle.mm_slots.specs.Stage.{OpeningStage, AtFirst, slots_head}
+use Rattle.mm_slots.specs.Table.{SlotAnswer, Row, first_rows, rows_after_all, answers, slot_meetings, slot_replies_for}
 
 -- The first line names the number of slots, a header line for each follows, and then events. What
 -- is shown of these is the answers to them, and what stands in the slots behind them: the last
 -- lines count the requests and the snapshots of each slot, and the snapshots are kept.
-abbrev pub slotted : EventPlayer Opening (List Header) SlotEvent (List Answer × List Row)
-slotted = record {
+abbrev pub slots_player : EventPlayer OpeningStage (List Header) SlotEvent (List SlotAnswer × List Row)
+slots_player = record {
   start = AtFirst;
   head = slots_head;
   event_in = λ headers. event_at (length headers);
@@ -26,7 +26,7 @@ slotted = record {
 }
 
 -- the calls of a slot that are over are one run of its module
-abbrev pub IsRunOfSlot : ℕ → Header → Turned → Type 0
+abbrev pub IsRunOfSlot : ℕ → Header → SlotTurn → Type 0
 IsRunOfSlot number header it =
     IsPromisedRun (tenant_instance header number) header.«module» it.events (record {
       replies = it.replies;
@@ -38,18 +38,18 @@ IsRunOfSlot number header it =
 -- one run of its module, or one holds evidence in hand: two different messages of the slot's run
 -- with one digest, one with digest zero, a value of others that is the guard of a batch, or an
 -- offer that is forged.
-pub record IsSlotRun (number : ℕ) (header : Header) (told : List Answer) (it : Turned) : Type 0
+pub record IsSlotRun (number : ℕ) (header : Header) (told : List SlotAnswer) (it : SlotTurn) : Type 0
   where
-    pub own : said_for number told ≡ it.said
+    pub own : slot_replies_for number told ≡ it.said
     pub unless_evidence : IsRunOfSlot number header it
         ⊎ HasEvidence (tenant_instance header number) it.events
 
 -- The headline, of each first part of the events, and of each slot. A slot's fold is over what it
 -- meets itself, and knows no other slot.
 abbrev pub AreSlotRuns : List Header → List SlotEvent
-    → (List SlotEvent → List Answer × List Row) → Type 0
+    → (List SlotEvent → List SlotAnswer × List Row) → Type 0
 AreSlotRuns headers events shown = (front later : List SlotEvent) → events ≡ front ++ later
-    → (shown front ≡ (answers (first_rows headers) front, after_events (first_rows headers) front))
+    → (shown front ≡ (answers (first_rows headers) front, rows_after_all (first_rows headers) front))
     × ((number : ℕ) (header : Header) → slice_get headers number ≡ Some header
     → IsSlotRun number header (shown front).0
-    (tenant_after header number (met_by number (first_rows headers) front)))
+    (tenant_turn header number (slot_meetings number (first_rows headers) front)))

@@ -11,20 +11,20 @@ use Rattle.mm_module.specs.Meaning.{Meaning}
 use Rattle.mm_run.specs.OneRun.{IsOneRun}
 use Rattle.mm_run.specs.Premises.{IsClearRun, IsGenuineRun}
 use Rattle.mm_slots.specs.declared.event.SlotEvent.{SlotEvent}
-use Rattle.mm_slots.specs.declared.said.Said.{Said}
-use Rattle.mm_slots.specs.declared.said.Said.TheVariants.{Replied}
-use Rattle.mm_slots.specs.Tenant.{Tenant, Turned, Met, folded, first_tenant, tenant_after, tenant_instance}
-use Rattle.mm_slots.specs.Table.{Answer, Row, instance_of, row_after, after_events, answers, first_rows, met_by, said_for}
+use Rattle.mm_slots.specs.declared.said.SlotReply.{SlotReply}
+use Rattle.mm_slots.specs.declared.said.SlotReply.TheVariants.{Replied}
+use Rattle.mm_slots.specs.Tenant.{Tenant, SlotTurn, Meeting, turn_over_all, first_tenant, tenant_turn, tenant_instance}
+use Rattle.mm_slots.specs.Table.{SlotAnswer, Row, instance_of, row_after, rows_after_all, answers, first_rows, slot_meetings, slot_replies_for}
 use Rattle.mm_slots.specs.Headline.{AreSlotRuns, IsRunOfSlot}
 
 -- A slot of a table is where its own fold leaves it, and what is said for it is what its fold says:
 -- over what it meets, and over nothing else.
 pub record IsAlone (number : ℕ) (rows : List Row) (events : List SlotEvent) (row : Row) : Type 0
   where
-    pub stands : slice_get (after_events rows events) number ≡ Some
-        (row_after row (met_by number rows events))
-    pub said : said_for number
-        (answers rows events) ≡ (folded (instance_of row) row.slot (met_by number rows events)).said
+    pub stands : slice_get (rows_after_all rows events) number ≡ Some
+        (row_after row (slot_meetings number rows events))
+    pub said : slot_replies_for number
+        (answers rows events) ≡ (turn_over_all (instance_of row) row.slot (slot_meetings number rows events)).said
 
 abbrev pub SlotsAreAlone : Type 0
 SlotsAreAlone =
@@ -35,26 +35,26 @@ SlotsAreAlone =
 -- The replies that a slot's events come to are those of one run of the module on one list of
 -- requests, as the verdict on histories gives them; so many requests were committed, and the
 -- snapshots issued are those that the verdict issues.
-abbrev pub SlotRuns : Instance → Turned → Type 0
-SlotRuns i it = IsOneRun i it.events it.replies it.slot.digests.count it.slot.issued
+abbrev pub SlotIsOneRun : Instance → SlotTurn → Type 0
+SlotIsOneRun i it = IsOneRun i it.events it.replies it.slot.digests.count it.slot.issued
 
 -- So it is of each slot, where no two different messages of its run share a digest, no digest is
 -- zero, no value that others extend its register by is the guard of a batch, and no tag is forged.
 abbrev pub SlotsRun : Type 0
-SlotsRun = (variant : Variant) (meaning : Meaning) (key barrier : List ℕ) (mets : List Met) →
+SlotsRun = (variant : Variant) (meaning : Meaning) (key barrier : List ℕ) (mets : List Meeting) →
     let i = instance_by variant meaning key barrier in
-    let it = folded i (first_tenant i) mets in
-    IsClearRun i it.events → IsGenuineRun i it.events → SlotRuns i it
+    let it = turn_over_all i (first_tenant i) mets in
+    IsClearRun i it.events → IsGenuineRun i it.events → SlotIsOneRun i it
 
 -- So the headline says of each slot, and of each first part of the events: a premise that breaks
 -- later costs nothing of it.
 abbrev pub PremisesGiveSlotRuns : Type 0
 PremisesGiveSlotRuns =
     (headers : List Header) (events : List SlotEvent)
-    (shown : List SlotEvent → List Answer × List Row) → AreSlotRuns headers events shown
+    (shown : List SlotEvent → List SlotAnswer × List Row) → AreSlotRuns headers events shown
     → (front later : List SlotEvent) → events ≡ front ++ later
     → (number : ℕ) (header : Header) → slice_get headers number ≡ Some header →
-    let it = tenant_after header number (met_by number (first_rows headers) front) in
+    let it = tenant_turn header number (slot_meetings number (first_rows headers) front) in
     IsClearRun (tenant_instance header number) it.events
     → IsGenuineRun (tenant_instance header number) it.events → IsRunOfSlot number header it
 
@@ -62,23 +62,23 @@ PremisesGiveSlotRuns =
 abbrev pub SlotsGoOn : Type 0
 SlotsGoOn =
     (headers : List Header) (events : List SlotEvent)
-    (shown : List SlotEvent → List Answer × List Row) → AreSlotRuns headers events shown
+    (shown : List SlotEvent → List SlotAnswer × List Row) → AreSlotRuns headers events shown
     → (front rest : List SlotEvent) → events ≡ front ++ rest →
-    let it : List Answer × List Row = shown front in
-    shown events ≡ (it.0 ++ answers it.1 rest, after_events it.1 rest)
+    let it : List SlotAnswer × List Row = shown front in
+    shown events ≡ (it.0 ++ answers it.1 rest, rows_after_all it.1 rest)
 
 -- a reply to a call: neither that of a loss of power, nor that of a value of others
-abbrev pub to_call : Reply → List Reply
-to_call reply.Power = []
-to_call reply.Extended = []
-to_call it = it ∷ []
+abbrev pub call_replies_of : Reply → List Reply
+call_replies_of reply.Power = []
+call_replies_of reply.Extended = []
+call_replies_of it = it ∷ []
 
-abbrev pub said_to_call : Said → List Reply
-said_to_call (Replied it) = to_call it
-said_to_call _ = []
+abbrev pub call_replies_in : SlotReply → List Reply
+call_replies_in (Replied it) = call_replies_of it
+call_replies_in _ = []
 
 -- The replies to calls that are said for a slot are those that its fold gives, in their order.
 abbrev pub SlotsTellReplies : Type 0
-SlotsTellReplies = (i : Instance) (slot : Tenant) (mets : List Met)
-    → flat_map said_to_call (folded i slot mets).said ≡ flat_map to_call
-    (folded i slot mets).replies
+SlotsTellReplies = (i : Instance) (slot : Tenant) (mets : List Meeting)
+    → flat_map call_replies_in (turn_over_all i slot mets).said ≡ flat_map call_replies_of
+    (turn_over_all i slot mets).replies

@@ -1,14 +1,14 @@
 -- The lines before the events of slots, as contracts see them.
 use Rattle.std.specs.Prelude.{◌≡◌, ℕ, true, false, List, [], Option, None, Some, Result, Ok, Err}
 use Rattle.mm_base.specs.declared.fault.Memory.{Memory}
-use Rattle.mm_play.specs.declared.player.Refused.TheVariants.{Bad, Much}
+use Rattle.mm_play.specs.declared.player.LineRefusal.TheVariants.{Bad, Much}
 use Rattle.mm_play.specs.declared.player.ReplyFault.{ReplyFault}
 use Rattle.mm_play.specs.declared.player.ReplyFault.TheVariants as fault
 use Rattle.mm_schedule.specs.declared.header.Header.{Header}
-use Rattle.mm_slots.specs.Stage.{Opening, AtFirst, AtHeads, Running, are_to_come, begun}
+use Rattle.mm_slots.specs.Stage.{OpeningStage, AtFirst, AtHeads, SlotsState, are_to_come, first_slots_state}
 use Rattle.mm_slots.specs.declared.heads.Heads.{Heads}
 
-abbrev pub opening_in : Option Heads → Opening
+abbrev pub opening_in : Option Heads → OpeningStage
 opening_in None = AtFirst
 opening_in (Some heads) = AtHeads heads.count heads.headers.items
 
@@ -21,9 +21,9 @@ BeginsHeads found (Err (fault.Refused Much)) = ⊥
 
 -- With one more header of so many slots others are to come, or these begin.
 abbrev pub AddsHead : (count : ℕ) (all : List Header) (count' : ℕ) (headers : List Header)
-    → Result (Option Running) Memory → Type 0
+    → Result (Option SlotsState) Memory → Type 0
 AddsHead count all count' headers (Ok None) =
     (are_to_come count all ≡ true) × (count' ≡ count) × (headers ≡ all)
 AddsHead count all count' headers (Ok (Some stage)) =
-    (are_to_come count all ≡ false) × (stage ≡ begun all)
+    (are_to_come count all ≡ false) × (stage ≡ first_slots_state all)
 AddsHead count all count' headers (Err memory) = Unit {0}

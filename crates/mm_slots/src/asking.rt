@@ -1,20 +1,20 @@
 //! A call of a slot that asks a request: it begins, makes its steps, and is over.
 
 ghost use Rattle.std.specs.Prelude.{◌≡◌, IfOk};
-ghost use Rattle.mm_run.specs.Offered.{offered_bytes};
+ghost use Rattle.mm_run.specs.EventOffers.{offered_bytes};
 
-use crate::event::Breaking;
-use crate::flight::{Asking, Flight};
+use crate::event::CallBreak;
+use crate::flight::{AskInFlight, Flight};
 use crate::parts::{Parts, stop_at};
-use crate::said::Said;
+use crate::said::SlotReply;
 use mm_ask::Ask;
 use mm_base::{Bytes, Memory};
-use mm_machine::{Call, Operation};
+use mm_machine::{OpCall, Operation};
 use mm_model::is_long;
 use mm_module::Batch;
 use mm_run::{OfferedBytes, offered};
 use mm_schedule::{Cause, Offer, Reply};
-use mm_steps::{Stepped, break_off, step};
+use mm_steps::{FlightOutcome, break_off, step};
 use std::alloc::Global;
 
 // The bytes that are offered. None exactly where the number isn't issued.
@@ -34,62 +34,62 @@ fn bytes_offered(alloc: Global, issued: &[Bytes], offer: &Offer) -> Result<Optio
 
 impl Parts {
     ghost use Rattle.std.specs.Prelude.{◌≡◌, ◌<◌, ◌^◌, None, IfOk, OnErr, Some, vec_len, vec_capacity};
-    ghost use Rattle.mm_run.specs.Offered.{offered_bytes};
-    ghost use Rattle.mm_slots.specs.Held.{instance_in, slot_in, flown, Fits, ComesTo, LacksIn};
-    ghost use Rattle.mm_slots.specs.declared.event.Action.{Action};
-    ghost use Rattle.mm_slots.specs.Tenant.{acted};
+    ghost use Rattle.mm_run.specs.EventOffers.{offered_bytes};
+    ghost use Rattle.mm_slots.specs.HeldParts.{instance_in, slot_in, parts_with_flight, PartsFit, SlotComesTo, SlotLacksMemory};
+    ghost use Rattle.mm_slots.specs.declared.event.SlotAction.{SlotAction};
+    ghost use Rattle.mm_slots.specs.Tenant.{turn_by_action};
 
     /// Begins a call that asks a request, where none is in flight.
-    pub fn begin(&mut self, alloc: Global, offer: Offer, request: Bytes) -> Result<Said, Memory>
-        requires fits { Fits self.old }
-        ensures ok { IfOk result (ComesTo self.old self.new
-            (acted (instance_in self.old) (slot_in self.old) (Action.Begin offer request))) }
-        ensures err { OnErr result (LacksIn (Action.Begin offer request) self.old self.new) }
+    pub fn begin(&mut self, alloc: Global, offer: Offer, request: Bytes) -> Result<SlotReply, Memory>
+        requires fits { PartsFit self.old }
+        ensures ok { IfOk result (SlotComesTo self.old self.new
+            (turn_by_action (instance_in self.old) (slot_in self.old) (SlotAction.Begin offer request))) }
+        ensures err { OnErr result (SlotLacksMemory (SlotAction.Begin offer request) self.old self.new) }
     {
         if self.flight.is_some() {
-            return Ok(Said::Busy);
+            return Ok(SlotReply::Busy);
         }
         self.seat.issued.reserve(1)?;
         match bytes_offered(alloc, self.seat.issued.as_slice(), &offer) {
             Err(memory) => Err(memory),
-            Ok(None) => Ok(Said::Replied(Reply::No(Cause::Snapshot))),
+            Ok(None) => Ok(SlotReply::Replied(Reply::No(Cause::Snapshot))),
             Ok(Some(bytes)) => Ok(self.begin_asking(offer, bytes, request)),
         }
     }
 
     // Begins a call that asks a request of these bytes, where there is room for one more snapshot.
-    fn begin_asking(&mut self, offer: Offer, bytes: Bytes, request: Bytes) -> Said
-        requires fits { Fits self.old }
+    fn begin_asking(&mut self, offer: Offer, bytes: Bytes, request: Bytes) -> SlotReply
+        requires fits { PartsFit self.old }
         requires idle { self.old.flight ≡ None }
         requires offered { offered_bytes self.old.seat.issued.items offer ≡ Some bytes }
         requires room { vec_len self.old.seat.issued < vec_capacity self.old.seat.issued }
-        ensures { ComesTo self.old self.new
-            (acted (instance_in self.old) (slot_in self.old) (Action.Begin offer request)) result }
+        ensures { SlotComesTo self.old self.new
+            (turn_by_action (instance_in self.old) (slot_in self.old) (SlotAction.Begin offer request)) result }
     {
         if is_long(&Batch::One(request.as_slice())) {
-            return Said::Replied(Reply::No(Cause::Long));
+            return SlotReply::Replied(Reply::No(Cause::Long));
         }
-        self.flight = Some(Flight::Asks(Asking {
-            call: Call::begin(),
+        self.flight = Some(Flight::Asks(AskInFlight {
+            call: OpCall::begin(),
             offer,
             bytes,
             request,
         }));
-        Said::Begun
+        SlotReply::Begun
     }
 
     /// A call that asks makes its next step. After want of memory the call is over, and has committed nothing.
-    pub fn step_asking(&mut self, alloc: Global, asking: Asking) -> Result<Said, Memory>
+    pub fn step_asking(&mut self, alloc: Global, asking: AskInFlight) -> Result<SlotReply, Memory>
         requires idle { self.old.flight ≡ None }
-        requires fits { Fits (flown self.old (Flight.Asks asking)) }
+        requires fits { PartsFit (parts_with_flight self.old (Flight.Asks asking)) }
         requires few { self.old.seat.committed < 2 ^ 63 }
-        ensures ok { IfOk result (ComesTo (flown self.old (Flight.Asks asking)) self.new
-            (acted (instance_in self.old) (slot_in (flown self.old (Flight.Asks asking)))
-            Action.Step)) }
+        ensures ok { IfOk result (SlotComesTo (parts_with_flight self.old (Flight.Asks asking)) self.new
+            (turn_by_action (instance_in self.old) (slot_in (parts_with_flight self.old (Flight.Asks asking)))
+            SlotAction.Step)) }
         ensures err { OnErr result
-            (LacksIn Action.Step (flown self.old (Flight.Asks asking)) self.new) }
+            (SlotLacksMemory SlotAction.Step (parts_with_flight self.old (Flight.Asks asking)) self.new) }
     {
-        let Asking {
+        let AskInFlight {
             call,
             offer,
             bytes,
@@ -111,30 +111,30 @@ impl Parts {
                 self.register = *self.seat.platform.register();
                 Err(memory)
             }
-            Ok(Stepped::Over(called)) => Ok(self.end(called)),
-            Ok(Stepped::Going(call)) => {
+            Ok(FlightOutcome::Over(called)) => Ok(self.end(called)),
+            Ok(FlightOutcome::Going(call)) => {
                 let next = u64::from(call.next_step(writes));
-                self.flight = Some(Flight::Asks(Asking {
+                self.flight = Some(Flight::Asks(AskInFlight {
                     call,
                     offer,
                     bytes,
                     request,
                 }));
-                Ok(Said::Going(next))
+                Ok(SlotReply::Going(next))
             }
         }
     }
 
     /// A call that asks makes its next step, which breaks it off.
-    pub fn break_asking(&mut self, alloc: Global, asking: Asking, how: Breaking) -> Said
+    pub fn break_asking(&mut self, alloc: Global, asking: AskInFlight, how: CallBreak) -> SlotReply
         requires idle { self.old.flight ≡ None }
-        requires fits { Fits (flown self.old (Flight.Asks asking)) }
+        requires fits { PartsFit (parts_with_flight self.old (Flight.Asks asking)) }
         requires few { self.old.seat.committed < 2 ^ 63 }
-        ensures { ComesTo (flown self.old (Flight.Asks asking)) self.new
-            (acted (instance_in self.old) (slot_in (flown self.old (Flight.Asks asking)))
-            (Action.Break how)) result }
+        ensures { SlotComesTo (parts_with_flight self.old (Flight.Asks asking)) self.new
+            (turn_by_action (instance_in self.old) (slot_in (parts_with_flight self.old (Flight.Asks asking)))
+            (SlotAction.Break how)) result }
     {
-        let Asking {
+        let AskInFlight {
             call,
             offer: _,
             bytes,

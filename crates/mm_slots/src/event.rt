@@ -6,7 +6,7 @@ use mm_schedule::Offer;
 
 /// How the next step of a call in flight ends it.
 #[derive(Clone, Copy, Debug, PartialEq, Eq)]
-pub enum Breaking {
+pub enum CallBreak {
     /// Power is lost behind the step and comes back.
     Cut,
     /// The step is made, and the call is broken off.
@@ -17,7 +17,7 @@ pub enum Breaking {
 
 /// What happens in one slot.
 #[derive(Debug, Drop)]
-pub enum Action {
+pub enum SlotAction {
     /// A call begins that asks a request of the offered snapshot.
     Begin { offer: Offer, request: Bytes },
     /// A call begins that closes the open segment.
@@ -25,7 +25,7 @@ pub enum Action {
     /// The call in flight makes its next step.
     Step,
     /// The call in flight makes its next step, or fails to, and is over.
-    Break(Breaking),
+    Break(CallBreak),
     /// Others extend the slot's register.
     Extend { value: Digest },
 }
@@ -36,5 +36,5 @@ pub enum SlotEvent {
     /// Power is lost and returns, for all slots.
     Power,
     /// Something happens in the slot with this number.
-    At { slot: u8, action: Action },
+    At { slot: u8, action: SlotAction },
 }

@@ -1,15 +1,15 @@
 //! Calls in flight.
 
 use mm_base::Bytes;
-use mm_machine::Call;
+use mm_machine::OpCall;
 use mm_model::BatchAnswer;
 use mm_opt::Checkpointed;
 use mm_schedule::Offer;
 
 /// A call that asks a request, in flight: what it offers, and the bytes of that.
 #[derive(Drop)]
-pub struct Asking {
-    pub call: Call<BatchAnswer>,
+pub struct AskInFlight {
+    pub call: OpCall<BatchAnswer>,
     pub offer: Offer,
     pub bytes: Bytes,
     pub request: Bytes,
@@ -17,13 +17,13 @@ pub struct Asking {
 
 /// A checkpoint in flight.
 #[derive(Drop)]
-pub struct Closing {
-    pub call: Call<Checkpointed>,
+pub struct CheckpointInFlight {
+    pub call: OpCall<Checkpointed>,
 }
 
 /// A call between two of its device steps.
 #[derive(Drop)]
 pub enum Flight {
-    Asks(Asking),
-    Closes(Closing),
+    Asks(AskInFlight),
+    Closes(CheckpointInFlight),
 }

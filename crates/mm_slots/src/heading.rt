@@ -1,28 +1,28 @@
 //! Header lines of slots are read, and the events begin.
 
 ghost use Rattle.std.specs.Prelude.{◌≡◌, ◌++◌, ◌∷◌, []};
-ghost use Rattle.mm_slots.specs.Grammar.{first_at};
+ghost use Rattle.mm_slots.specs.Grammar.{slot_count_at};
 ghost use Rattle.mm_slots.specs.Opening.{BeginsHeads, AddsHead};
 
 use crate::heads::Heads;
 use crate::read::read_first;
 use crate::stage::SlotsStage;
 use mm_base::Memory;
-use mm_play::{Refused, ReplyFault};
+use mm_play::{LineRefusal, ReplyFault};
 use mm_schedule::Header;
 use std::alloc::Global;
 use std::mem;
 
 /// The heads behind the first line.
 pub fn first_heads(alloc: Global, line: &[u8]) -> Result<Heads, ReplyFault>
-    ensures { BeginsHeads (first_at line.now) result }
+    ensures { BeginsHeads (slot_count_at line.now) result }
 {
     match read_first(line) {
         Some(count) => Ok(Heads {
             count,
             headers: Vec::new(alloc),
         }),
-        None => Err(ReplyFault::Refused(Refused::Bad)),
+        None => Err(ReplyFault::Refused(LineRefusal::Bad)),
     }
 }
 

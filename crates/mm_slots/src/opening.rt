@@ -7,38 +7,38 @@ ghost use Rattle.mm_slots.specs.StageLaws.{openings_fall, openings_few};
 use crate::heading::{add_head, first_heads};
 use crate::heads::Heads;
 use crate::stage::SlotsStage;
-use mm_play::{Heading, Refused, ReplyFault};
+use mm_play::{Heading, LineRefusal, ReplyFault};
 use mm_schedule::read_head;
 use std::alloc::Global;
 use std::marker::Model;
 
 /// Before the first line there are no heads.
 #[derive(Drop)]
-pub struct Opening {
+pub struct SlotsHeading {
     heads: Option<Heads>,
 }
 
-impl Model for Opening {
+impl Model for SlotsHeading {
     ghost use Rattle.mm_slots.specs.Opening.{opening_in};
-    ghost use Rattle.mm_slots.specs.Stage.{Opening as Stands};
+    ghost use Rattle.mm_slots.specs.Stage.{OpeningStage as Stands};
 
     ghost Value = { Stands };
 
     ghost view = { λ it. opening_in it.heads };
 }
 
-impl Opening {
+impl SlotsHeading {
     ghost use Rattle.mm_slots.specs.Stage.{AtFirst};
 
     /// Slots before their first line.
-    pub fn new() -> Opening
+    pub fn new() -> SlotsHeading
         ensures { result ≡ AtFirst }
     {
-        Opening { heads: None }
+        SlotsHeading { heads: None }
     }
 }
 
-impl Heading<SlotsStage> for Opening {
+impl Heading<SlotsStage> for SlotsHeading {
     ghost heads = { slots_heads };
 
     fn take_line(&mut self, alloc: Global, line: &[u8]) -> Result<Option<SlotsStage>, ReplyFault> {
@@ -49,7 +49,7 @@ impl Heading<SlotsStage> for Opening {
             }
             Some(heads) => {
                 let Some(header) = read_head(line) else {
-                    return Err(ReplyFault::Refused(Refused::Bad));
+                    return Err(ReplyFault::Refused(LineRefusal::Bad));
                 };
                 match add_head(alloc, heads, header) {
                     Ok(stage) => Ok(stage),

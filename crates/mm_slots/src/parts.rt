@@ -3,13 +3,13 @@
 ghost use Rattle.std.specs.Prelude.{◌≡◌};
 ghost use Rattle.mm_slots.specs.Tenant.{stop_at};
 
-use crate::event::{Action, Breaking};
+use crate::event::{SlotAction, CallBreak};
 use crate::flight::Flight;
-use crate::said::Said;
+use crate::said::SlotReply;
 use mm_base::Memory;
 use mm_digest::Digest;
 use mm_platform::Stop;
-use mm_world::{Called, Seat};
+use mm_world::{CallReport, Seat};
 use std::alloc::Global;
 
 /// The number of a slot, the seat in it, and the call in flight.
@@ -23,76 +23,76 @@ pub struct Parts {
 }
 
 /// How a call is stopped at this step.
-pub fn stop_at(how: Breaking, step: u8) -> Stop
+pub fn stop_at(how: CallBreak, step: u8) -> Stop
     ensures { result ≡ stop_at how step }
 {
     match how {
-        Breaking::Cut => Stop::Cut(step),
-        Breaking::Drop => Stop::Drop(step),
-        Breaking::Fail { done } => Stop::Fail { step, done },
+        CallBreak::Cut => Stop::Cut(step),
+        CallBreak::Drop => Stop::Drop(step),
+        CallBreak::Fail { done } => Stop::Fail { step, done },
     }
 }
 
 impl Parts {
     ghost use Rattle.std.specs.Prelude.{◌≡◌, ◌<◌, ◌^◌, IfOk, OnErr, IsSome, vec_len, vec_capacity};
-    ghost use Rattle.mm_slots.specs.Held.{instance_in, slot_in, Fits, ComesTo, LacksIn, EndsIn};
-    ghost use Rattle.mm_slots.specs.Tenant.{acted};
+    ghost use Rattle.mm_slots.specs.HeldParts.{instance_in, slot_in, PartsFit, SlotComesTo, SlotLacksMemory, CallEndsIn};
+    ghost use Rattle.mm_slots.specs.Tenant.{turn_by_action};
 
     /// Lets something happen in the slot. After want of memory nothing has changed, but that a call in flight is over whose
     /// step it was, with nothing done but its reading steps.
-    pub fn act(&mut self, alloc: Global, action: Action) -> Result<Said, Memory>
-        requires fits { Fits self.old }
+    pub fn act(&mut self, alloc: Global, action: SlotAction) -> Result<SlotReply, Memory>
+        requires fits { PartsFit self.old }
         requires few { self.old.seat.committed < 2 ^ 63 }
-        ensures ok { IfOk result (ComesTo self.old self.new
-            (acted (instance_in self.old) (slot_in self.old) action)) }
-        ensures err { OnErr result (LacksIn action self.old self.new) }
+        ensures ok { IfOk result (SlotComesTo self.old self.new
+            (turn_by_action (instance_in self.old) (slot_in self.old) action)) }
+        ensures err { OnErr result (SlotLacksMemory action self.old self.new) }
     {
         match action {
-            Action::Begin { offer, request } => self.begin(alloc, offer, request),
-            Action::Close => Ok(self.begin_closing()),
-            Action::Step => self.step(alloc),
-            Action::Break(how) => Ok(self.break_off(alloc, how)),
-            Action::Extend { value } => self.extend(&value),
+            SlotAction::Begin { offer, request } => self.begin(alloc, offer, request),
+            SlotAction::Close => Ok(self.begin_closing()),
+            SlotAction::Step => self.step(alloc),
+            SlotAction::Break(how) => Ok(self.break_off(alloc, how)),
+            SlotAction::Extend { value } => self.extend(&value),
         }
     }
 
     // The call in flight makes its next step. After want of memory the call is over, with nothing done but its reading steps.
-    fn step(&mut self, alloc: Global) -> Result<Said, Memory>
-        requires fits { Fits self.old }
+    fn step(&mut self, alloc: Global) -> Result<SlotReply, Memory>
+        requires fits { PartsFit self.old }
         requires few { self.old.seat.committed < 2 ^ 63 }
-        ensures ok { IfOk result (ComesTo self.old self.new
-            (acted (instance_in self.old) (slot_in self.old) Action.Step)) }
-        ensures err { OnErr result (LacksIn Action.Step self.old self.new) }
+        ensures ok { IfOk result (SlotComesTo self.old self.new
+            (turn_by_action (instance_in self.old) (slot_in self.old) Action.Step)) }
+        ensures err { OnErr result (SlotLacksMemory Action.Step self.old self.new) }
     {
         match self.flight.take() {
-            None => Ok(Said::Idle),
+            None => Ok(SlotReply::Idle),
             Some(Flight::Asks(asking)) => self.step_asking(alloc, asking),
             Some(Flight::Closes(closing)) => Ok(self.step_closing(closing)),
         }
     }
 
     // The call in flight makes its next step, which breaks it off.
-    fn break_off(&mut self, alloc: Global, how: Breaking) -> Said
-        requires fits { Fits self.old }
+    fn break_off(&mut self, alloc: Global, how: CallBreak) -> SlotReply
+        requires fits { PartsFit self.old }
         requires few { self.old.seat.committed < 2 ^ 63 }
-        ensures { ComesTo self.old self.new
-            (acted (instance_in self.old) (slot_in self.old) (Action.Break how)) result }
+        ensures { SlotComesTo self.old self.new
+            (turn_by_action (instance_in self.old) (slot_in self.old) (Action.Break how)) result }
     {
         match self.flight.take() {
-            None => Said::Idle,
+            None => SlotReply::Idle,
             Some(Flight::Asks(asking)) => self.break_asking(alloc, asking, how),
             Some(Flight::Closes(closing)) => self.break_closing(closing, how),
         }
     }
 
     /// A call is over: counts what it committed, and keeps the snapshot that it hands out.
-    pub fn end(&mut self, called: Called) -> Said
+    pub fn end(&mut self, called: CallReport) -> SlotReply
         requires { IsSome called.snapshot
             → vec_len self.old.seat.issued < vec_capacity self.old.seat.issued }
-        ensures { EndsIn called self.old self.new result }
+        ensures { CallEndsIn called self.old self.new result }
     {
         let reply = self.seat.end(called);
         self.register = *self.seat.platform.register();
-        Said::Replied(reply)
+        SlotReply::Replied(reply)
     }
 }

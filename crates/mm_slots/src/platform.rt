@@ -29,8 +29,8 @@ impl SlotPlatform {
     ghost use Rattle.std.specs.Prelude.{◌≡◌, ◌<◌, ◌≤◌, IfOk, OnOk, OnErr, length, map};
     ghost use Rattle.std.specs.Borrow.{sem};
     ghost use Rattle.mm_platform.specs.Memory.{new_platform};
-    ghost use Rattle.mm_slots.specs.Slots.{selected_of, standing_in, brought, failing, all_cycled};
-    ghost use Rattle.mm_slots.specs.Lending.{LendsSlot};
+    ghost use Rattle.mm_slots.specs.Slots.{selected_standing, standing_in, slots_after_value, slots_with_failure, slots_after_cycle};
+    ghost use Rattle.mm_slots.specs.SlotLoan.{LendsSlot};
 
     /// A platform with these cells of 104 bytes each, one a slot: on, with empty registers and no faults. Tenant 0 is
     /// selected.
@@ -58,7 +58,7 @@ impl SlotPlatform {
     /// Others extend the register of the slot with this number by this value. After want of memory nothing has changed.
     pub fn foreign(&mut self, slot: usize, value: &Digest) -> Result<(), Memory>
         requires { slot < length self.old.slots }
-        ensures ok { OnOk result (self.new ≡ brought self.old slot value.now) }
+        ensures ok { OnOk result (self.new ≡ slots_after_value self.old slot value.now) }
         ensures err { OnErr result (self.new ≡ self.old) }
     {
         self.slots[slot].foreign(value)
@@ -67,14 +67,14 @@ impl SlotPlatform {
     /// The next step of the slot with this number fails, with its effect where `done`; no other step does.
     pub fn fail_next(&mut self, slot: usize, done: bool)
         requires { slot < length self.old.slots }
-        ensures { self.new ≡ failing self.old slot done }
+        ensures { self.new ≡ slots_with_failure self.old slot done }
     {
         self.slots[slot].fail_next(done);
     }
 
     /// Loses power and gets it back: the registers of all slots are zero.
     pub fn power(&mut self)
-        ensures { self.new ≡ all_cycled self.old }
+        ensures { self.new ≡ slots_after_cycle self.old }
     {
         self.cycle_all();
     }
@@ -90,7 +90,7 @@ impl SlotPlatform {
 
     // Takes the power of each slot and gives it back.
     fn cycle_all(&mut self)
-        ensures all { self.new ≡ all_cycled self.old }
+        ensures all { self.new ≡ slots_after_cycle self.old }
         ensures inside { self.old.selected < length self.old.slots }
     {
         for slot in self.slots.iter_mut() {
@@ -101,7 +101,7 @@ impl SlotPlatform {
     // The selected slot.
     fn here(&mut self) -> &mut MemPlatform
         ensures* writes_back { sem 𝓛 (LendsSlot self.entry self.old.selected result) }
-        ensures value { result.now ≡ selected_of self.old }
+        ensures value { result.now ≡ selected_standing self.old }
         ensures inside { self.old.selected < length self.old.slots }
     {
         &mut self.slots[self.selected]
@@ -109,21 +109,21 @@ impl SlotPlatform {
 }
 
 impl Device for SlotPlatform {
-    ghost use Rattle.mm_slots.specs.Slots.{selected_of};
+    ghost use Rattle.mm_slots.specs.Slots.{selected_standing};
 
-    ghost standing = { selected_of };
+    ghost standing = { selected_standing };
 }
 
 impl Nv for SlotPlatform {
     ghost use Rattle.std.specs.Prelude.{◌≡◌, ℕ, List, Some, OnOk, OnErr};
     ghost use Rattle.std.specs.Result.{result_err};
-    ghost use Rattle.mm_platform.specs.Steps.{ReadCell, WriteCell, Goes};
-    ghost use Rattle.mm_slots.specs.Slots.{selected_of, KeepsOthers};
+    ghost use Rattle.mm_platform.specs.Steps.{ReadCell, WriteCell, StepGoes};
+    ghost use Rattle.mm_slots.specs.Slots.{selected_standing, KeepsOthers};
 
     fn nv_read(&mut self, into: &mut [u8; CELL_LENGTH]) -> Result<(), StepFault>
-        ensures goes { Goes ReadCell (selected_of self.old) (selected_of self.new)
+        ensures goes { StepGoes ReadCell (selected_standing self.old) (selected_standing self.new)
             (result_err result) }
-        ensures read { OnOk result ((cell : List ℕ) → (selected_of self.old).cell ≡ Some cell
+        ensures read { OnOk result ((cell : List ℕ) → (selected_standing self.old).cell ≡ Some cell
             → into.new ≡ cell) }
         ensures unread { OnErr result (into.new ≡ into.old) }
         ensures others { KeepsOthers self.old self.new }
@@ -132,7 +132,7 @@ impl Nv for SlotPlatform {
     }
 
     fn nv_write(&mut self, bytes: &[u8; CELL_LENGTH]) -> Result<(), StepFault>
-        ensures goes { Goes (WriteCell bytes.now) (selected_of self.old) (selected_of self.new)
+        ensures goes { StepGoes (WriteCell bytes.now) (selected_standing self.old) (selected_standing self.new)
             (result_err result) }
         ensures others { KeepsOthers self.old self.new }
     {
@@ -144,22 +144,22 @@ impl Register for SlotPlatform {
     ghost use Rattle.std.specs.Prelude.{◌≡◌, ◌≤◌, List, Some, OnOk, OnErr, IfOk};
     ghost use Rattle.std.specs.Result.{result_err};
     ghost use Rattle.mm_platform.specs.Standing.{Item, item_values, register_after};
-    ghost use Rattle.mm_platform.specs.Steps.{ReadRegister, ResetRegister, ExtendRegister, Goes, Readies};
-    ghost use Rattle.mm_slots.specs.Slots.{selected_of, KeepsOthers};
+    ghost use Rattle.mm_platform.specs.Steps.{ReadRegister, ResetRegister, ExtendRegister, StepGoes, RoomGrows};
+    ghost use Rattle.mm_slots.specs.Slots.{selected_standing, KeepsOthers};
 
     fn reg_ready(&mut self) -> Result<(), Memory>
-        ensures ok { OnOk result (Readies (selected_of self.old) (selected_of self.new)) }
-        ensures err { OnErr result (selected_of self.new ≡ selected_of self.old) }
+        ensures ok { OnOk result (RoomGrows (selected_standing self.old) (selected_standing self.new)) }
+        ensures err { OnErr result (selected_standing self.new ≡ selected_standing self.old) }
         ensures others { KeepsOthers self.old self.new }
     {
         self.here().reg_ready()
     }
 
     fn reg_read(&mut self) -> Result<Digest, StepFault>
-        ensures goes { Goes ReadRegister (selected_of self.old) (selected_of self.new)
+        ensures goes { StepGoes ReadRegister (selected_standing self.old) (selected_standing self.new)
             (result_err result) }
         ensures read { IfOk result (λ value. (items : List Item)
-            → (selected_of self.new).items ≡ Some items
+            → (selected_standing self.new).items ≡ Some items
             → value.bytes ≡ register_after (item_values items)) }
         ensures others { KeepsOthers self.old self.new }
     {
@@ -167,7 +167,7 @@ impl Register for SlotPlatform {
     }
 
     fn reg_reset(&mut self) -> Result<(), StepFault>
-        ensures goes { Goes ResetRegister (selected_of self.old) (selected_of self.new)
+        ensures goes { StepGoes ResetRegister (selected_standing self.old) (selected_standing self.new)
             (result_err result) }
         ensures others { KeepsOthers self.old self.new }
     {
@@ -175,9 +175,9 @@ impl Register for SlotPlatform {
     }
 
     fn reg_extend(&mut self, value: &Digest) -> Result<(), StepFault>
-        requires { 1 ≤ (selected_of self.old).spare }
-        ensures goes { Goes (ExtendRegister value.now.bytes) (selected_of self.old)
-            (selected_of self.new) (result_err result) }
+        requires { 1 ≤ (selected_standing self.old).spare }
+        ensures goes { StepGoes (ExtendRegister value.now.bytes) (selected_standing self.old)
+            (selected_standing self.new) (result_err result) }
         ensures others { KeepsOthers self.old self.new }
     {
         self.here().reg_extend(value)
@@ -187,12 +187,12 @@ impl Register for SlotPlatform {
 impl Platform for SlotPlatform {
     ghost use Rattle.std.specs.Prelude.{◌≡◌};
     ghost use Rattle.std.specs.Result.{result_err};
-    ghost use Rattle.mm_platform.specs.Steps.{Cycles};
-    ghost use Rattle.mm_slots.specs.Slots.{selected_of, all_cycled};
+    ghost use Rattle.mm_platform.specs.Steps.{PowerCycles};
+    ghost use Rattle.mm_slots.specs.Slots.{selected_standing, slots_after_cycle};
 
     fn cycle(&mut self) -> Result<(), StepFault>
-        ensures cycles { Cycles (selected_of self.old) (selected_of self.new) (result_err result) }
-        ensures all { self.new ≡ all_cycled self.old }
+        ensures cycles { PowerCycles (selected_standing self.old) (selected_standing self.new) (result_err result) }
+        ensures all { self.new ≡ slots_after_cycle self.old }
     {
         SlotPlatform::cycle_all(self);
         Ok(())

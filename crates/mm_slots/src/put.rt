@@ -1,29 +1,29 @@
 //! The answers of slots as text.
 
 ghost use Rattle.std.specs.Prelude.{◌≡◌, ◌++◌, OnOk};
-ghost use Rattle.mm_slots.specs.Answers.{said_text, answer_text, slot_end_line, IsSayable};
+ghost use Rattle.mm_slots.specs.Answers.{slot_reply_text, answer_text, slot_end_line, IsSayable};
 ghost use Rattle.mm_slots.specs.Table.{PowerLost, Says};
 
-use crate::said::Said;
+use crate::said::SlotReply;
 use mm_base::{Bytes, Memory, put_decimal};
 use mm_replay::put_reply;
 
 /// Puts what is said at the end, with its LF.
-fn put_said(said: &Said, into: &mut Bytes) -> Result<(), Memory>
+fn put_said(said: &SlotReply, into: &mut Bytes) -> Result<(), Memory>
     requires { IsSayable said.now }
-    ensures { OnOk result (into.new ≡ into.old ++ said_text said.now) }
+    ensures { OnOk result (into.new ≡ into.old ++ slot_reply_text said.now) }
 {
     match said {
-        Said::Busy => into.append(b"no busy\n"),
-        Said::Idle => into.append(b"no idle\n"),
-        Said::Begun => into.append(b"begun\n"),
-        Said::Going(step) => put_going(*step, into),
-        Said::Replied(reply) => put_reply(reply, into),
+        SlotReply::Busy => into.append(b"no busy\n"),
+        SlotReply::Idle => into.append(b"no idle\n"),
+        SlotReply::Begun => into.append(b"begun\n"),
+        SlotReply::Going(step) => put_going(*step, into),
+        SlotReply::Replied(reply) => put_reply(reply, into),
     }
 }
 
 fn put_going(step: u64, into: &mut Bytes) -> Result<(), Memory>
-    ensures { OnOk result (into.new ≡ into.old ++ said_text (Said.Going step)) }
+    ensures { OnOk result (into.new ≡ into.old ++ slot_reply_text (Said.Going step)) }
 {
     into.append(b"going ")?;
     put_decimal(into, step)?;
@@ -31,7 +31,7 @@ fn put_going(step: u64, into: &mut Bytes) -> Result<(), Memory>
 }
 
 /// Puts the number of a slot and a space, and what is said for it, at the end.
-pub fn put_answer(slot: u8, said: &Said, into: &mut Bytes) -> Result<(), Memory>
+pub fn put_answer(slot: u8, said: &SlotReply, into: &mut Bytes) -> Result<(), Memory>
     requires { IsSayable said.now }
     ensures { OnOk result (into.new ≡ into.old ++ answer_text (Says slot said.now)) }
 {

@@ -2,10 +2,10 @@
 
 ghost use Rattle.std.specs.Prelude.{◌≡◌, ◌↔◌, ◌≤◌, Some, None, IfOk, IfSome, IsErrOf};
 ghost use Rattle.std.specs.Option.{option_map};
-ghost use Rattle.mm_slots.specs.Grammar.{action_at, begin_at, breaking_at, event_at, first_at, index_at};
+ghost use Rattle.mm_slots.specs.Grammar.{action_at, begin_action_at, break_at, event_at, slot_count_at, index_at};
 ghost use Rattle.mm_slots.specs.Texts as texts;
 
-use crate::event::{Action, Breaking, SlotEvent};
+use crate::event::{SlotAction, CallBreak, SlotEvent};
 use mm_base::{Bytes, Memory};
 use mm_digest::Digest;
 use mm_schedule::{
@@ -24,23 +24,23 @@ pub enum ActionText<'a> {
     },
     Close,
     Step,
-    Break(Breaking),
+    Break(CallBreak),
     Extend {
         value: Digest,
     },
 }
 
 /// An event as it lies in its line.
-pub enum EventText<'a> {
+pub enum SlotEventText<'a> {
     Power,
     At { slot: u8, action: ActionText<'a> },
 }
 
 /// The number of slots that the first line names, as `memoir slots 1 2`: 1 to 16. None where the line is outside the
 /// grammar.
-#[tactic(auto, unfolding(crate::specs::Grammar::first_at))]
+#[tactic(auto, unfolding(crate::specs::Grammar::slot_count_at))]
 pub fn read_first(line: &[u8]) -> Option<u8>
-    ensures { result ≡ first_at line.now }
+    ensures { result ≡ slot_count_at line.now }
 {
     let word = after(b"memoir slots 1 ", line)?;
     let count = number_in(word)?;
@@ -64,16 +64,16 @@ pub fn read_slot_event(alloc: Global, slots: u8, line: &[u8]) -> Result<SlotEven
 
 // The event of a line.
 #[tactic(auto, unfolding(crate::specs::Grammar::event_at))]
-fn event_in(slots: u8, line: &[u8]) -> Option<EventText<'_>>
+fn event_in(slots: u8, line: &[u8]) -> Option<SlotEventText<'_>>
     ensures { option_map texts.event_in result ≡ event_at slots line.now }
 {
     if is_text(line, b"power") {
-        return Some(EventText::Power);
+        return Some(SlotEventText::Power);
     }
     let (word, line) = word_in(line)?;
     let slot = index_in(slots, word)?;
     let action = action_in(line)?;
-    Some(EventText::At { slot, action })
+    Some(SlotEventText::At { slot, action })
 }
 
 // The number of a slot, a decimal below their number.
@@ -111,59 +111,59 @@ fn action_in(line: &[u8]) -> Option<ActionText<'_>>
 }
 
 // An offer and a request behind `begin`.
-#[tactic(auto, unfolding(crate::specs::Grammar::begin_at))]
+#[tactic(auto, unfolding(crate::specs::Grammar::begin_action_at))]
 fn begin_in(line: &[u8]) -> Option<ActionText<'_>>
-    ensures { option_map texts.action_in result ≡ begin_at line.now }
+    ensures { option_map texts.action_in result ≡ begin_action_at line.now }
 {
     let (from, request) = offer_in(line)?;
     Some(ActionText::Begin { from, request })
 }
 
 // How a call is broken off.
-#[tactic(auto, unfolding(crate::specs::Grammar::breaking_at))]
-fn breaking_in(line: &[u8]) -> Option<Breaking>
-    ensures { result ≡ breaking_at line.now }
+#[tactic(auto, unfolding(crate::specs::Grammar::break_at))]
+fn breaking_in(line: &[u8]) -> Option<CallBreak>
+    ensures { result ≡ break_at line.now }
 {
     if is_text(line, b"cut") {
-        return Some(Breaking::Cut);
+        return Some(CallBreak::Cut);
     }
     if is_text(line, b"drop") {
-        return Some(Breaking::Drop);
+        return Some(CallBreak::Drop);
     }
     if is_text(line, b"fail done") {
-        return Some(Breaking::Fail { done: true });
+        return Some(CallBreak::Fail { done: true });
     }
     if is_text(line, b"fail undone") {
-        return Some(Breaking::Fail { done: false });
+        return Some(CallBreak::Fail { done: false });
     }
     None
 }
 
 // The event with bytes of its own.
-fn owned(alloc: Global, event: EventText<'_>) -> Result<SlotEvent, Memory>
+fn owned(alloc: Global, event: SlotEventText<'_>) -> Result<SlotEvent, Memory>
     ensures { IfOk result (λ own. own ≡ texts.event_in event.entry) }
 {
     match event {
-        EventText::Power => Ok(SlotEvent::Power),
-        EventText::At { slot, action } => {
+        SlotEventText::Power => Ok(SlotEvent::Power),
+        SlotEventText::At { slot, action } => {
             let action = owned_action(alloc, action)?;
             Ok(SlotEvent::At { slot, action })
         }
     }
 }
 
-fn owned_action(alloc: Global, action: ActionText<'_>) -> Result<Action, Memory>
+fn owned_action(alloc: Global, action: ActionText<'_>) -> Result<SlotAction, Memory>
     ensures { IfOk result (λ own. own ≡ texts.action_in action.entry) }
 {
     match action {
         ActionText::Begin { from, request } => {
             let offer = owned_offer(alloc, from)?;
             let request = Bytes::copy_of(alloc, request)?;
-            Ok(Action::Begin { offer, request })
+            Ok(SlotAction::Begin { offer, request })
         }
-        ActionText::Close => Ok(Action::Close),
-        ActionText::Step => Ok(Action::Step),
-        ActionText::Break(how) => Ok(Action::Break(how)),
-        ActionText::Extend { value } => Ok(Action::Extend { value }),
+        ActionText::Close => Ok(SlotAction::Close),
+        ActionText::Step => Ok(SlotAction::Step),
+        ActionText::Break(how) => Ok(SlotAction::Break(how)),
+        ActionText::Extend { value } => Ok(SlotAction::Extend { value }),
     }
 }

@@ -4,13 +4,13 @@ ghost use Rattle.std.specs.Prelude.{◌≡◌, ◌<◌, IfOk, OnErr, OnOk, lengt
 ghost use Rattle.std.specs.List.{All};
 ghost use Rattle.mm_slots.specs.declared.event.SlotEvent.TheVariants.{Power, At};
 ghost use Rattle.mm_slots.specs.Answers.{answers_text};
-ghost use Rattle.mm_slots.specs.Rows.{ActsAt, CanCount, IsInside, Tells, only_at, one_loses, others_lose, touched};
+ghost use Rattle.mm_slots.specs.Rows.{SlotActsAt, CanCount, IsInside, EventTells, meetings_at, loss_of_one, losses_of_others, rows_after_meetings};
 ghost use Rattle.mm_slots.specs.Tenant.{Loses};
-ghost use Rattle.mm_slots.specs.Table.{EventWants, WantsAt, after_event, answers_to};
+ghost use Rattle.mm_slots.specs.Table.{RowsLackMemory, OneRowLacksMemory, rows_after_event, answers_to};
 
-use crate::event::{Action, SlotEvent};
+use crate::event::{SlotAction, SlotEvent};
 use crate::put::{put_answer, put_power};
-use crate::said::Said;
+use crate::said::SlotReply;
 use crate::tenant::Tenant;
 use mm_base::{Bytes, Memory};
 use std::alloc::Global;
@@ -20,12 +20,12 @@ fn act_at(
     alloc: Global,
     slots: &mut [Tenant],
     number: usize,
-    action: Action,
-) -> Result<Said, Memory>
+    action: SlotAction,
+) -> Result<SlotReply, Memory>
     requires inside { number < length slots.old }
     requires few { All CanCount slots.old }
-    ensures ok { IfOk result (ActsAt number action slots.old slots.new) }
-    ensures err { OnErr result (WantsAt number action slots.old slots.new) }
+    ensures ok { IfOk result (SlotActsAt number action slots.old slots.new) }
+    ensures err { OnErr result (OneRowLacksMemory number action slots.old slots.new) }
 {
     let slot = &mut slots[number];
     slot.act(alloc, action)
@@ -34,7 +34,7 @@ fn act_at(
 // The slot with this number loses its power. Its call in flight is over, and has changed nothing.
 fn lose_at(slots: &mut [Tenant], number: usize)
     requires { number < length slots.old }
-    ensures { slots.new ≡ touched (only_at number Loses) slots.old }
+    ensures { slots.new ≡ rows_after_meetings (meetings_at number Loses) slots.old }
 {
     let slot = &mut slots[number];
     slot.lose_power();
@@ -43,7 +43,7 @@ fn lose_at(slots: &mut [Tenant], number: usize)
 // The slot with this number loses its power, if it isn't that one.
 fn lose_unless(slots: &mut [Tenant], number: usize, but: usize)
     requires { number < length slots.old }
-    ensures { slots.new ≡ touched (one_loses number but) slots.old }
+    ensures { slots.new ≡ rows_after_meetings (loss_of_one number but) slots.old }
 {
     if number != but {
         lose_at(slots, number);
@@ -52,7 +52,7 @@ fn lose_unless(slots: &mut [Tenant], number: usize, but: usize)
 
 // All slots lose their power but the one with this number, if there is one.
 fn lose_all(slots: &mut [Tenant], but: usize)
-    ensures { slots.new ≡ touched (others_lose but) slots.old }
+    ensures { slots.new ≡ rows_after_meetings (losses_of_others but) slots.old }
 {
     for number in 0..slots.len() {
         lose_unless(slots, number, but);
@@ -61,7 +61,7 @@ fn lose_all(slots: &mut [Tenant], but: usize)
 
 // Where a call was cut, all slots lose their power but the one with this number.
 fn lose_if(slots: &mut [Tenant], but: usize, is_cut: bool)
-    ensures { slots.new ≡ touched (λ k. if is_cut then others_lose but k else []) slots.old }
+    ensures { slots.new ≡ rows_after_meetings (λ k. if is_cut then losses_of_others but k else []) slots.old }
 {
     if is_cut {
         lose_all(slots, but);
@@ -70,7 +70,7 @@ fn lose_if(slots: &mut [Tenant], but: usize, is_cut: bool)
 
 /// All slots lose their power. Their calls in flight are over, and have changed nothing.
 pub fn lose_power(slots: &mut [Tenant])
-    ensures { slots.new ≡ after_event slots.old Power }
+    ensures { slots.new ≡ rows_after_event slots.old Power }
 {
     let none = slots.len();
     lose_all(slots, none);
@@ -82,12 +82,12 @@ pub fn act(
     alloc: Global,
     slots: &mut [Tenant],
     number: usize,
-    action: Action,
-) -> Result<Said, Memory>
+    action: SlotAction,
+) -> Result<SlotReply, Memory>
     requires inside { number < length slots.old }
     requires few { All CanCount slots.old }
-    ensures ok { IfOk result (Tells number action slots.old slots.new) }
-    ensures err { OnErr result (WantsAt number action slots.old slots.new) }
+    ensures ok { IfOk result (EventTells number action slots.old slots.new) }
+    ensures err { OnErr result (OneRowLacksMemory number action slots.old slots.new) }
 {
     let is_cut = slots[number].is_cut(&action);
     match act_at(alloc, slots, number, action) {
@@ -104,9 +104,9 @@ pub fn act(
 pub fn follow(alloc: Global, slots: &mut [Tenant], event: SlotEvent) -> Result<Bytes, Memory>
     requires inside { IsInside (length slots.old) event }
     requires few { All CanCount slots.old }
-    ensures stands { OnOk result (slots.new ≡ after_event slots.old event) }
+    ensures stands { OnOk result (slots.new ≡ rows_after_event slots.old event) }
     ensures answers { IfOk result (λ text. text ≡ answers_text (answers_to slots.old event)) }
-    ensures wants { OnErr result (EventWants event slots.old slots.new) }
+    ensures wants { OnErr result (RowsLackMemory event slots.old slots.new) }
 {
     match event {
         SlotEvent::Power => follow_power(alloc, slots),
@@ -115,7 +115,7 @@ pub fn follow(alloc: Global, slots: &mut [Tenant], event: SlotEvent) -> Result<B
 }
 
 fn follow_power(alloc: Global, slots: &mut [Tenant]) -> Result<Bytes, Memory>
-    ensures stands { slots.new ≡ after_event slots.old Power }
+    ensures stands { slots.new ≡ rows_after_event slots.old Power }
     ensures answers { IfOk result (λ text. text ≡ answers_text (answers_to slots.old Power)) }
 {
     lose_power(slots);
@@ -130,14 +130,14 @@ fn follow_action(
     alloc: Global,
     slots: &mut [Tenant],
     slot: u8,
-    action: Action,
+    action: SlotAction,
 ) -> Result<Bytes, Memory>
     requires inside { slot < length slots.old }
     requires few { All CanCount slots.old }
-    ensures stands { OnOk result (slots.new ≡ after_event slots.old (At slot action)) }
+    ensures stands { OnOk result (slots.new ≡ rows_after_event slots.old (At slot action)) }
     ensures answers { IfOk result (λ text. text
         ≡ answers_text (answers_to slots.old (At slot action))) }
-    ensures wants { OnErr result (EventWants (At slot action) slots.old slots.new) }
+    ensures wants { OnErr result (RowsLackMemory (At slot action) slots.old slots.new) }
 {
     match act(alloc, slots, usize::from(slot), action) {
         Err(memory) => Err(memory),

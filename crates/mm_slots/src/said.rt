@@ -4,7 +4,7 @@ use mm_schedule::Reply;
 
 /// The answer to what happens in a slot.
 #[derive(Debug, Drop)]
-pub enum Said {
+pub enum SlotReply {
     /// A call is in flight already.
     Busy,
     /// No call is in flight.

@@ -11,7 +11,7 @@ use crate::rows::follow;
 use crate::tenant::Tenant;
 use crate::totals::{bytes_in, put_ends, requests_in, snapshots_in};
 use mm_base::{Bytes, Memory};
-use mm_play::{Refused, ReplyFault, Stage};
+use mm_play::{LineRefusal, ReplyFault, PlayStage};
 use mm_schedule::{EventFault, Header};
 use std::alloc::Global;
 use std::marker::Model;
@@ -26,9 +26,9 @@ pub struct SlotsStage {
 
 impl Model for SlotsStage {
     ghost use Rattle.mm_slots.specs.Rows.{KeepsAll};
-    ghost use Rattle.mm_slots.specs.Stage.{Running};
+    ghost use Rattle.mm_slots.specs.Stage.{SlotsState};
 
-    ghost Value = { Running };
+    ghost Value = { SlotsState };
 
     ghost view = { λ p. record { rows = p.slots.items; events = p.events } };
 
@@ -36,18 +36,18 @@ impl Model for SlotsStage {
 }
 
 impl SlotsStage {
-    ghost use Rattle.mm_play.specs.Stage.{PlaysEvent, answer_by};
+    ghost use Rattle.mm_play.specs.Stage.{StageAnswersEvent, answer_by};
     ghost use Rattle.mm_slots.specs.Answers.{answers_text, end_lines};
-    ghost use Rattle.mm_slots.specs.Plays.{committed_in, issued_in};
+    ghost use Rattle.mm_slots.specs.WholeSlots.{committed_count_in, issued_count_in};
     ghost use Rattle.mm_slots.specs.Rows.{IsInside};
-    ghost use Rattle.mm_slots.specs.Stage.{WantsEvent, after, begun, playing};
+    ghost use Rattle.mm_slots.specs.Stage.{SlotsLackMemory, slots_state_after, first_slots_state, slots_steps};
     ghost use Rattle.mm_slots.specs.Table.{answers_to};
 
     /// Slots at their first event, one for each header.
     pub fn new(alloc: Global, headers: &[Header]) -> Result<SlotsStage, Memory>
         requires some { 1 ≤ length headers.now }
         requires few { length headers.now ≤ 16 }
-        ensures { IfOk result (λ it. it ≡ begun headers.now) }
+        ensures { IfOk result (λ it. it ≡ first_slots_state headers.now) }
     {
         let slots = first_slots(alloc, headers)?;
         Ok(SlotsStage { slots, events: 0 })
@@ -57,10 +57,10 @@ impl SlotsStage {
     fn follow(&mut self, alloc: Global, event: SlotEvent) -> Result<Bytes, Memory>
         requires inside { IsInside (length self.old.rows) event }
         requires few { self.old.events < most_events }
-        ensures after { OnOk result (self.new ≡ after self.old event) }
+        ensures after { OnOk result (self.new ≡ slots_state_after self.old event) }
         ensures answers { IfOk result (λ text. text
             ≡ answers_text (answers_to self.old.rows event)) }
-        ensures wants { OnErr result (WantsEvent self.old event self.new) }
+        ensures wants { OnErr result (SlotsLackMemory self.old event self.new) }
     {
         self.events += 1;
         follow(alloc, self.slots.as_mut_slice(), event)
@@ -82,8 +82,8 @@ impl SlotsStage {
 
     /// How many requests were committed and snapshots issued, in all slots together.
     pub fn report(&self) -> SlotReport
-        ensures committed { result.committed ≡ committed_in self.now.rows }
-        ensures issued { result.issued ≡ issued_in self.now.rows }
+        ensures committed { result.committed ≡ committed_count_in self.now.rows }
+        ensures issued { result.issued ≡ issued_count_in self.now.rows }
     {
         SlotReport {
             committed: requests_in(self.slots.as_slice()),
@@ -92,14 +92,14 @@ impl SlotsStage {
     }
 }
 
-impl Stage for SlotsStage {
-    ghost use Rattle.mm_play.specs.Stage.{wants_in};
-    ghost use Rattle.mm_slots.specs.Stage.{WantsEvent, playing, slots_stage};
+impl PlayStage for SlotsStage {
+    ghost use Rattle.mm_play.specs.Stage.{EventLacksMemory};
+    ghost use Rattle.mm_slots.specs.Stage.{SlotsLackMemory, slots_steps, slots_stage};
     ghost use Rattle.mm_slots.specs.StageLaws.{counts_on};
 
     ghost plays = { slots_stage };
 
-    ghost wants = { wants_in playing WantsEvent };
+    ghost wants = { EventLacksMemory slots_steps SlotsLackMemory };
 
     fn events(&self) -> u32 {
         self.events
@@ -124,7 +124,7 @@ impl Stage for SlotsStage {
                 Err(_) => Err(ReplyFault::Memory),
             },
             Err(EventFault::Memory) => Err(ReplyFault::Memory),
-            Err(EventFault::Bad) => Err(ReplyFault::Refused(Refused::Bad)),
+            Err(EventFault::Bad) => Err(ReplyFault::Refused(LineRefusal::Bad)),
         }
     }
 

@@ -1,8 +1,8 @@
 //! A module in one slot of a platform.
 
-use crate::event::{Action, Breaking};
+use crate::event::{SlotAction, CallBreak};
 use crate::parts::Parts;
-use crate::said::Said;
+use crate::said::SlotReply;
 use mm_base::Memory;
 use mm_digest::zero;
 use mm_run::rising;
@@ -22,17 +22,17 @@ impl Model for Tenant {
 
     ghost Value = { Row };
 
-    ghost use Rattle.mm_slots.specs.Held.{row_in, Fits};
+    ghost use Rattle.mm_slots.specs.HeldParts.{row_in, PartsFit};
 
     ghost view = { λ it. row_in it.parts };
 
-    ghost invariant = { λ it. Fits it.parts };
+    ghost invariant = { λ it. PartsFit it.parts };
 }
 
 impl Tenant {
     ghost use Rattle.std.specs.Prelude.{◌≡◌, ◌<◌, ◌^◌, [], ◌∷◌, IfOk, OnErr, length};
     ghost use Rattle.std.specs.List.{sum_by};
-    ghost use Rattle.mm_slots.specs.Rows.{ActsAs, LacksAs};
+    ghost use Rattle.mm_slots.specs.Rows.{RowActs, RowLacksMemory};
     ghost use Rattle.mm_world.specs.Lengths.{within_64};
     ghost use Rattle.mm_slots.specs.Tenant.{Loses};
     ghost use Rattle.mm_slots.specs.Table.{first_row, is_cut, row_after};
@@ -59,10 +59,10 @@ impl Tenant {
 
     /// Lets something happen in the slot. After want of memory nothing has changed, but that a call in flight is over whose
     /// step it was, with nothing done but its reading steps.
-    pub fn act(&mut self, alloc: Global, action: Action) -> Result<Said, Memory>
+    pub fn act(&mut self, alloc: Global, action: SlotAction) -> Result<SlotReply, Memory>
         requires { self.old.slot.digests.count < 2 ^ 63 }
-        ensures ok { IfOk result (ActsAs action self.old self.new) }
-        ensures err { OnErr result (LacksAs action self.old self.new) }
+        ensures ok { IfOk result (RowActs action self.old self.new) }
+        ensures err { OnErr result (RowLacksMemory action self.old self.new) }
     {
         self.parts.act(alloc, action)
     }
@@ -75,11 +75,11 @@ impl Tenant {
     }
 
     /// Whether this ends a call in flight by a loss of power.
-    pub fn is_cut(&self, action: &Action) -> bool
+    pub fn is_cut(&self, action: &SlotAction) -> bool
         ensures { result ≡ is_cut self.now.slot.flight action.now }
     {
         match (&self.parts.flight, action) {
-            (Some(_), Action::Break(Breaking::Cut)) => true,
+            (Some(_), SlotAction::Break(CallBreak::Cut)) => true,
             _ => false,
         }
     }

@@ -3,10 +3,10 @@
 ghost use Rattle.std.specs.Prelude.{◌≡◌, ◌≤◌, ◌<◌, ◌^◌, ◌++◌, OnOk, length};
 ghost use Rattle.std.specs.List.{All};
 ghost use Rattle.mm_slots.specs.Answers.{slot_end_line, end_lines};
-ghost use Rattle.mm_slots.specs.Plays.{committed_in, issued_in};
+ghost use Rattle.mm_slots.specs.WholeSlots.{committed_count_in, issued_count_in};
 ghost use Rattle.mm_slots.specs.Rows.{IsCounted};
 ghost use Rattle.mm_world.specs.Lengths.{within_64};
-ghost use Rattle.mm_slots.specs.Stage.{kept_in};
+ghost use Rattle.mm_slots.specs.Stage.{kept_bytes_in};
 
 use crate::put::put_slot_end;
 use crate::tenant::Tenant;
@@ -14,7 +14,7 @@ use mm_base::{Bytes, Memory};
 
 /// The bytes of the snapshots issued in these slots, or the most that 64 bits tell.
 pub fn bytes_in(slots: &[Tenant]) -> u64
-    ensures { result ≡ within_64 (kept_in slots.now) }
+    ensures { result ≡ within_64 (kept_bytes_in slots.now) }
 {
     let mut total = 0u64;
     for slot in slots {
@@ -25,7 +25,7 @@ pub fn bytes_in(slots: &[Tenant]) -> u64
 
 /// The requests committed in these slots, or the most that 64 bits tell.
 pub fn requests_in(slots: &[Tenant]) -> u64
-    ensures { result ≡ within_64 (committed_in slots.now) }
+    ensures { result ≡ within_64 (committed_count_in slots.now) }
 {
     let mut total = 0u64;
     for slot in slots {
@@ -36,7 +36,7 @@ pub fn requests_in(slots: &[Tenant]) -> u64
 
 /// The snapshots issued in these slots, or the most that 64 bits tell.
 pub fn snapshots_in(slots: &[Tenant]) -> u64
-    ensures { result ≡ within_64 (issued_in slots.now) }
+    ensures { result ≡ within_64 (issued_count_in slots.now) }
 {
     let mut total = 0u64;
     for slot in slots {

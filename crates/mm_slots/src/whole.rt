@@ -1,13 +1,13 @@
 //! Slots, from the first line to the last lines.
 
 ghost use Rattle.std.specs.Prelude.{◌≡◌, ℕ, List, Some, Ok};
-ghost use Rattle.mm_play.specs.Play.{run_of};
-ghost use Rattle.mm_play.specs.Plays.{IsBlamed, IsUnrefused, is_read_fault, is_write_fault};
-ghost use Rattle.mm_slots.specs.Stage.{SlotsStage as Stands, at_first, slots_answer, slots_closing};
-ghost use Rattle.mm_slots.specs.Plays.{PlaysSlots, Reports};
+ghost use Rattle.mm_play.specs.Play.{outcome_of_input};
+ghost use Rattle.mm_play.specs.PlaysInput.{IsBlamed, IsUnrefused, is_read_fault, is_write_fault};
+ghost use Rattle.mm_slots.specs.Stage.{SlotsStage as Stands, first_slots_stage, slots_answer, slots_closing};
+ghost use Rattle.mm_slots.specs.WholeSlots.{PlaysSlots, ReportsSlots};
 
 use crate::laws::slots_run;
-use crate::opening::Opening;
+use crate::opening::SlotsHeading;
 use crate::report::SlotReport;
 use crate::stage::SlotsStage;
 use mm_base::{ReplayFault, Sink, Source};
@@ -16,8 +16,8 @@ use mm_play::{LinePlayer, play};
 use std::alloc::Global;
 
 /// What stands behind the last line.
-fn report_of(player: &LinePlayer<Opening, SlotsStage>) -> SlotReport
-    ensures { Reports player.now result }
+fn report_of(player: &LinePlayer<SlotsHeading, SlotsStage>) -> SlotReport
+    ensures { ReportsSlots player.now result }
 {
     match player.stage() {
         Some(stage) => stage.report(),
@@ -48,12 +48,12 @@ pub fn slots<S: Source, K: Sink>(
 
     // Lines of slots within the grammar and the limits are not refused.
     ensures complete { (bytes : List ℕ) → (next : Stands) → S.left input.old ≡ Some bytes
-        → (run_of slots_answer slots_closing at_first bytes).outcome ≡ Ok next
+        → (outcome_of_input slots_answer slots_closing first_slots_stage bytes).outcome ≡ Ok next
         → IsUnrefused result }
 {
     slots_run();
     premises_or_evidence();
-    let mut player: LinePlayer<Opening, SlotsStage> = LinePlayer::new(Opening::new());
+    let mut player: LinePlayer<SlotsHeading, SlotsStage> = LinePlayer::new(SlotsHeading::new());
     match play(alloc, &mut player, input, out) {
         Ok(()) => Ok(report_of(&player)),
         Err(fault) => Err(fault),

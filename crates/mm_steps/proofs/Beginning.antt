@@ -1,19 +1,19 @@
 -- How a call in flight begins, and takes in a value of others.
-use Rattle.mm_steps.proofs.Below.{◌≡◌, ℕ, ◌<◌, List, [], Some, refl, sym, subst, option_map, Variant, Meddle, Plan, Standing, meddling}
-use Rattle.mm_steps.proofs.Below.{next_plan, Meaning, Batch, Digests, instance_by, Finishes, Stage, Begun, begins, takes_in, meddled}
-use Rattle.mm_steps.proofs.Below.{MayGoOn, Stands, IsQuiet, asking, checkpointing, IsInFlight, Kind}
+use Rattle.mm_steps.proofs.Below.{◌≡◌, ℕ, ◌<◌, List, [], Some, refl, sym, subst, option_map, Variant, Meddle, Plan, Standing, plan_with_meddle}
+use Rattle.mm_steps.proofs.Below.{next_plan, Meaning, Batch, Digests, instance_by, OpEnds, OpStage, Begun, begins, takes_in, meddled}
+use Rattle.mm_steps.proofs.Below.{MayGoOn, HasDigests, IsQuiet, ask_kind, checkpoint_kind, IsInFlight, Kind}
 use Rattle.mm_digest.specs.declared.digest.Digest.{Digest}
 use Rattle.mm_model.specs.Instance.{Instance}
 use Rattle.mm_ask.proofs.Above.{begun_stage}
 
 module _ {A R : Type 0} (kind : Kind A R) (i : Instance) (d : Digests) (from : Standing) where
   -- a call that was just begun over a quiet platform
-  flight_begun : Stands i from d → IsQuiet from → kind.CanStand Begun → IsInFlight kind i d from Begun from [] 1
+  flight_begun : HasDigests i from d → IsQuiet from → kind.CanStand Begun → IsInFlight kind i d from Begun from [] 1
   flight_begun s q may = record {
     stands = s;
     quiet = q;
     made = 0;
-    flies = begins (Finishes kind.asked Begun) (Finishes kind.asked Begun) from q.is_on q.plan (λ old new ended f. f);
+    flies = begins (OpEnds kind.asked Begun) (OpEnds kind.asked Begun) from q.is_on q.plan (λ old new ended f. f);
     room = tt;
     can_stand = may;
     number = refl;
@@ -21,15 +21,15 @@ module _ {A R : Type 0} (kind : Kind A R) (i : Instance) (d : Digests) (from : S
   }
 
   -- others extend the register by a value just before the next step
-  pub flight_takes_in : (stage : Stage A) (now new : Standing) (meddles : List Meddle) (next : ℕ) (value : Digest)
-      → IsInFlight kind i d from stage now meddles next → new ≡ record now { plan = option_map (meddling value) now.plan }
+  pub flight_takes_in : (stage : OpStage A) (now new : Standing) (meddles : List Meddle) (next : ℕ) (value : Digest)
+      → IsInFlight kind i d from stage now meddles next → new ≡ record now { plan = option_map (plan_with_meddle value) now.plan }
       → MayGoOn stage new → IsInFlight kind i d from stage new (meddled meddles next value) next
   flight_takes_in stage now new meddles next value f e may =
       subst (λ (k : ℕ). IsInFlight kind i d from stage new (meddled meddles k value) k) (sym f.is_next) (record {
         stands = f.stands;
         quiet = f.quiet;
         made = f.made;
-        flies = takes_in (Finishes kind.asked Begun) (Finishes kind.asked stage) from now new meddles f.made value f.flies e;
+        flies = takes_in (OpEnds kind.asked Begun) (OpEnds kind.asked stage) from now new meddles f.made value f.flies e;
         room = may;
         can_stand = f.can_stand;
         number = f.number;
@@ -37,14 +37,14 @@ module _ {A R : Type 0} (kind : Kind A R) (i : Instance) (d : Digests) (from : S
       })
 
 module _ (variant : Variant) (meaning : Meaning) (key barrier : List ℕ) (d : Digests) (from : Standing)
-    (s : Stands (instance_by variant meaning key barrier) from d) (q : IsQuiet from) where
+    (s : HasDigests (instance_by variant meaning key barrier) from d) (q : IsQuiet from) where
   pub asks_begun : (bytes : List ℕ) (b : Batch)
-      → IsInFlight (asking variant meaning bytes b) (instance_by variant meaning key barrier) d from Begun from [] 1
+      → IsInFlight (ask_kind variant meaning bytes b) (instance_by variant meaning key barrier) d from Begun from [] 1
   asks_begun bytes b =
-      flight_begun (asking variant meaning bytes b) (instance_by variant meaning key barrier) d from s q (begun_stage variant)
+      flight_begun (ask_kind variant meaning bytes b) (instance_by variant meaning key barrier) d from s q (begun_stage variant)
 
-  pub closes_begun : IsInFlight checkpointing (instance_by variant meaning key barrier) d from Begun from [] 1
-  closes_begun = flight_begun checkpointing (instance_by variant meaning key barrier) d from s q tt
+  pub closes_begun : IsInFlight checkpoint_kind (instance_by variant meaning key barrier) d from Begun from [] 1
+  closes_begun = flight_begun checkpoint_kind (instance_by variant meaning key barrier) d from s q tt
 
 -- there is a next step to plan such a value for
 pub may_take_in : (now : Standing) (plan : Plan) (at : ℕ) → now.plan ≡ Some (record plan { at = at }) → at < 255 → (next_plan now).at < 255

@@ -1,15 +1,15 @@
 -- A stop says nothing of the steps before it; and what its step comes to.
 use Rattle.mm_steps.proofs.Below.{◌≡◌, ℕ, ◌+◌, ◌<◌, ◌≤◌, Bool, true, false, List, Option, None, Some, refl, sym, ap, ◌∙◌, arith, ◌==◌}
-use Rattle.mm_steps.proofs.Below.{is_some, option_map, counted, StepFault, Failed, Meddle, Stop, Quiet, Cut, Drop, Fail}
-use Rattle.mm_steps.proofs.Below.{Plan, Standing, next_step, stopping, step_made, plan_by, under, SaySame, GoesOnAs, AlwaysFails}
-use Rattle.mm_steps.proofs.Below.{counted_few, Replans, stopped_step, SettlesPlan, BreaksNext, stop_behind, replans, quiet_plan, behind}
+use Rattle.mm_steps.proofs.Below.{is_some, option_map, next_count, StepFault, Failed, Meddle, Stop, Quiet, Cut, Drop, Fail}
+use Rattle.mm_steps.proofs.Below.{Plan, Standing, next_step, plan_with_stop, standing_after_step, plan_by, standing_under, PlansAgreeAt, PlanAgreesWith, AlwaysFails}
+use Rattle.mm_steps.proofs.Below.{counted_few, Replans, stopped_step, SettlesPlan, BreaksNext, stop_behind, replans, quiet_plan, plan_behind}
 use Rattle.std.proofs.lemmas.Bool.{ne_eqb}
 use Rattle.std.proofs.lemmas.Bool.Decides.{nat_tests}
-use Rattle.mm_platform.specs.Steps.{Act, Goes, fault_at}
+use Rattle.mm_platform.specs.Steps.{Act, StepGoes, fault_at}
 use Rattle.mm_platform.specs.StepLaws.{goes}
 
 same_at : (stop : Stop) (meddles : List Meddle) (n : ℕ) → (stopped_step stop ≡ n → ⊥)
-    → SaySame (plan_by stop meddles) (plan_by Quiet meddles) n
+    → PlansAgreeAt (plan_by stop meddles) (plan_by Quiet meddles) n
 same_at Quiet meddles n other = record { brings = refl; answers = refl; makes = refl; stays = refl }
 same_at (Cut at) meddles n other =
     let e = ne_eqb at n other in record { brings = refl; answers = rw e refl; makes = refl; stays = rw e refl }
@@ -22,11 +22,11 @@ earlier : (stop n made : ℕ) → made < stop → n ≤ made → stop ≡ n → 
 earlier stop n made later few e = omega arith
 
 -- such a stop leaves the steps that were made as they were
-pub goes_as : (stop : Stop) (meddles : List Meddle) (made : ℕ) → made < stopped_step stop → GoesOnAs (plan_by stop meddles) meddles made
+pub goes_as : (stop : Stop) (meddles : List Meddle) (made : ℕ) → made < stopped_step stop → PlanAgreesWith (plan_by stop meddles) meddles made
 goes_as stop meddles made later = λ n few. same_at stop meddles n (earlier (stopped_step stop) n made later few)
 
 -- and the next one too, where it comes behind that
-pub same_next : (meddles : List Meddle) (made : ℕ) → SaySame (plan_by (stop_behind (made + 1)) meddles) (plan_by Quiet meddles) (made + 1)
+pub same_next : (meddles : List Meddle) (made : ℕ) → PlansAgreeAt (plan_by (stop_behind (made + 1)) meddles) (plan_by Quiet meddles) (made + 1)
 same_next meddles made = same_at (stop_behind (made + 1)) meddles (made + 1)
     (earlier (made + 1 + 1) (made + 1) (made + 1) (omega arith) (omega arith))
 
@@ -36,11 +36,11 @@ same_numbers : (n k : ℕ) → n ≡ k → (n == k) ≡ true
 same_numbers n k e = grind (arith, nat_tests)
 
 pub fails_next : (act : Act) (now : Standing) (meddles : List Meddle) (made : ℕ) → now.is_on ≡ true → made < 255
-    → (let at = under (plan_by (stop_behind made) meddles) made now in Goes act at (step_made act at) (Some Failed))
+    → (let at = standing_under (plan_by (stop_behind made) meddles) made now in StepGoes act at (standing_after_step act at) (Some Failed))
 fails_next act now meddles made on few =
-    let at = under (plan_by (stop_behind made) meddles) made now in
-    let here = same_numbers (made + 1) (counted made) (sym (counted_few made few)) in
-    goes act at (step_made act at) (Some Failed) refl (rw (on, here) refl)
+    let at = standing_under (plan_by (stop_behind made) meddles) made now in
+    let here = same_numbers (made + 1) (next_count made) (sym (counted_few made few)) in
+    goes act at (standing_after_step act at) (Some Failed) refl (rw (on, here) refl)
 
 -- a platform whose next step fails by this stop
 
@@ -48,10 +48,10 @@ none_fails : (stop : Stop) (n : ℕ) → fault_at stop n ≡ None → is_some (f
 none_fails stop n none some = let clash : false ≡ true = sym (ap (λ (f : Option StepFault). is_some f) none) ∙ some in cc
 
 pub always_fails : (stop : Stop) (old : Standing) → BreaksNext stop old
-    → AlwaysFails (record old { plan = option_map (stopping stop) old.plan })
+    → AlwaysFails (record old { plan = option_map (plan_with_stop stop) old.plan })
 always_fails stop old b = λ act new fault g none.
-    let plan : Plan = stopping stop b.plan in
-    let planned : option_map (stopping stop) old.plan ≡ Some plan = ap (λ (p : Option Plan). option_map (stopping stop) p) b.planned in
+    let plan : Plan = plan_with_stop stop b.plan in
+    let planned : option_map (plan_with_stop stop) old.plan ≡ Some plan = ap (λ (p : Option Plan). option_map (plan_with_stop stop) p) b.planned in
     let known : fault ≡ fault_at plan.stop (next_step plan) = rw b.is_on at (g.told plan planned).answers in
     none_fails stop (next_step b.plan) (sym known ∙ none) b.fails
 
@@ -73,21 +73,21 @@ pub breaks_at : (stop : Stop) (now : Standing) (meddles : List Meddle) (made nex
     → now.plan ≡ Some (record (plan_by Quiet meddles) { at = made }) → made < 255 → stopped_step stop ≡ next → next ≡ made + 1
     → BreaksNext stop now
 breaks_at stop now meddles made next on planned few at is =
-    let counts : counted made ≡ made + 1 = counted_few made few in record {
+    let counts : next_count made ≡ made + 1 = counted_few made few in record {
       plan = record (plan_by Quiet meddles) { at = made };
       is_on = on;
       planned = planned;
-      fails = fails_at stop (counted made) (next_number (stopped_step stop) next made (counted made) at is counts) (omega arith);
+      fails = fails_at stop (next_count made) (next_number (stopped_step stop) next made (next_count made) at is counts) (omega arith);
     }
 
 pub replans_behind : (now : Standing) (meddles : List Meddle) (made next : ℕ) → now.is_on ≡ true
     → now.plan ≡ Some (record (plan_by Quiet meddles) { at = made }) → made < 255 → next ≡ made + 1
-    → Replans (behind meddles next) (plan_by Quiet meddles) made now
+    → Replans (plan_behind meddles next) (plan_by Quiet meddles) made now
 replans_behind now meddles made next on planned few is =
-    rw is (replans (behind meddles (made + 1)) now meddles made on planned few (same_next meddles made))
+    rw is (replans (plan_behind meddles (made + 1)) now meddles made on planned few (same_next meddles made))
 
 pub settled_under : (stop : Stop) (broken : Bool) (plan : Plan) (at : ℕ) (mid new : Standing) → SettlesPlan stop broken mid new
-    → SettlesPlan stop broken (under plan at mid) new
+    → SettlesPlan stop broken (standing_under plan at mid) new
 settled_under stop broken plan at mid new s = record {
   cell = s.cell;
   items = s.items;
@@ -110,7 +110,7 @@ later_than made stop next at is = omega arith
 
 -- a platform that is stopped at its next step
 pub stopped_under : (stop : Stop) (now stopped : Standing) (meddles : List Meddle) (made : ℕ)
-    → now.plan ≡ Some (record (plan_by Quiet meddles) { at = made }) → stopped ≡ record now { plan = option_map (stopping stop) now.plan }
-    → stopped ≡ under (plan_by stop meddles) made now
+    → now.plan ≡ Some (record (plan_by Quiet meddles) { at = made }) → stopped ≡ record now { plan = option_map (plan_with_stop stop) now.plan }
+    → stopped ≡ standing_under (plan_by stop meddles) made now
 stopped_under stop now stopped meddles made planned is =
-    is ∙ ap (λ (p : Option Plan). record now { plan = option_map (stopping stop) p }) planned
+    is ∙ ap (λ (p : Option Plan). record now { plan = option_map (plan_with_stop stop) p }) planned

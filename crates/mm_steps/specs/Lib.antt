@@ -1,3 +1,3 @@
-pub mod Stopping
-pub mod Flying
-pub mod InFlight
+pub mod FlightStop
+pub mod FlightSteps
+pub mod FlightKind

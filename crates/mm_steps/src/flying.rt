@@ -1,34 +1,34 @@
 //! The steps of a call in flight, whatever it asks.
 
-ghost use Rattle.mm_machine.specs.Stepping.{MayGoOn};
-ghost use Rattle.mm_steps.specs.Flying.{BreaksAs, MayStepOn, StepsAs};
-ghost use Rattle.mm_steps.specs.Stopping.{BreaksNext};
+ghost use Rattle.mm_machine.specs.OpSteps.{MayGoOn};
+ghost use Rattle.mm_steps.specs.FlightSteps.{FlightBreaksAs, MayStepOn, FlightStepsAs};
+ghost use Rattle.mm_steps.specs.FlightStop.{BreaksNext};
 
 use mm_base::Memory;
-use mm_machine::{Call, Step, advance, finish};
+use mm_machine::{OpCall, StepResult, advance, finish};
 use mm_platform::{MemPlatform, Stop};
 use mm_seal::KeptKey;
-use mm_world::{Called, Telling, settled};
+use mm_world::{CallReport, CallTeller, settled};
 
 /// What a step of a call came to.
 #[derive(Drop)]
-pub enum Stepped<A> {
+pub enum FlightOutcome<A> {
     /// The call goes on, with its next step.
-    Going(Call<A>),
+    Going(OpCall<A>),
     /// The call is over, and its plan with it.
-    Over(Called),
+    Over(CallReport),
 }
 
 /// Makes the next step of a call in flight. Only a reading step may want memory: then it was made, and the call is over
 /// with nothing done.
-pub fn step<O: Telling>(
+pub fn step<O: CallTeller>(
     op: &O,
     platform: &mut MemPlatform,
-    call: Call<O::Answer>,
+    call: OpCall<O::Answer>,
     keys: &mut KeptKey,
-) -> Result<Stepped<O::Answer>, Memory>
+) -> Result<FlightOutcome<O::Answer>, Memory>
     requires room { MayGoOn call platform.old }
-    ensures steps { StepsAs (O.asked op.now) (O.tells op.now) (O.writes op.now) call platform.old
+    ensures steps { FlightStepsAs (O.asked op.now) (O.tells op.now) (O.writes op.now) call platform.old
         platform.new result }
     ensures room { MayStepOn result platform.new }
 {
@@ -37,25 +37,25 @@ pub fn step<O: Telling>(
         done: false,
     };
     match advance(op, call, platform, keys) {
-        Step::Going(call) => Ok(Stepped::Going(call)),
-        Step::Over(ended) => match settled(op, platform, coming, ended) {
-            Ok(called) => Ok(Stepped::Over(called)),
+        StepResult::Going(call) => Ok(FlightOutcome::Going(call)),
+        StepResult::Over(ended) => match settled(op, platform, coming, ended) {
+            Ok(called) => Ok(FlightOutcome::Over(called)),
             Err(memory) => Err(memory),
         },
     }
 }
 
 /// Makes the next step of a call in flight with this stop at it, which breaks the call off. Takes no memory.
-pub fn break_off<O: Telling>(
+pub fn break_off<O: CallTeller>(
     op: &O,
     platform: &mut MemPlatform,
-    call: Call<O::Answer>,
+    call: OpCall<O::Answer>,
     stop: Stop,
     keys: &mut KeptKey,
-) -> Called
+) -> CallReport
     requires room { MayGoOn call platform.old }
     requires next { BreaksNext stop platform.old }
-    ensures { BreaksAs (O.asked op.now) (O.tells op.now) call platform.old platform.new stop
+    ensures { FlightBreaksAs (O.asked op.now) (O.tells op.now) call platform.old platform.new stop
         result }
 {
     platform.stop_with(stop);

@@ -3,4 +3,4 @@
 
 mod flying;
 
-pub use flying::{Stepped, break_off, step};
+pub use flying::{FlightOutcome, break_off, step};

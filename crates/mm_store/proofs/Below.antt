@@ -3,4 +3,4 @@ pub use Rattle.std.proofs.Common.{◌++◌, ◌∙◌, ◌≡◌, ap, arith, Boo
 pub use Rattle.std.proofs.lemmas.List.{length-take-le, take_all}
 pub use Rattle.sha2.proofs.Facts256.{length-sha256}
 pub use Rattle.mm_base.specs.FieldLaws.{joined}
-pub use Rattle.mm_store.specs.Pending.{record_word}
+pub use Rattle.mm_store.specs.PendingRecord.{record_word}

@@ -4,7 +4,7 @@ use Rattle.std.proofs.lemmas.List.{append-nil}
 use Rattle.sha2.specs.Sha256.{sha256}
 use Rattle.mm_store.proofs.Below.{length-sha256}
 use Rattle.mm_base.specs.Fields.{eight_bytes, four_bytes}
-use Rattle.mm_store.specs.Pending.{Pending, IsPending, record_word, pending_front, pending_spelling, ReadsPending, OneReading, SpellsRecord, SpellsNoRecord}
+use Rattle.mm_store.specs.PendingRecord.{PendingRecord, IsPending, record_word, pending_front, pending_spelling, ReadsPending, HasOneReading, SpellsRecord, SpellsNoRecord}
 use Rattle.mm_base.specs.FieldLaws.{joined, append-injective, eight_bytes-injective, four_bytes-injective, length-eight_bytes, length-four_bytes}
 
 -- four parts put at the end one after another
@@ -13,7 +13,7 @@ pub put_in_parts : (old b₁ b₂ b₃ b₄ p₁ p₂ p₃ p₄ q₂ q₃ : List
 put_in_parts old b₁ b₂ b₃ b₄ p₁ p₂ p₃ p₄ q₂ q₃ e₁ e₂ e₃ e₄ f₂ f₃ =
     rw e₄ (rw e₃ (rw e₂ (rw e₁ (rw f₂ (rw f₃ (simp append_assoc))))))
 
-pub length-pending_front : (p : Pending) → length (pending_front p) ≡ 16 + length p.request
+pub length-pending_front : (p : PendingRecord) → length (pending_front p) ≡ 16 + length p.request
 unfolding pending_front
 length-pending_front p =
     simp length-append (omega (arith, length-eight_bytes p.position, length-four_bytes (length p.request)))
@@ -27,13 +27,13 @@ regrouped : (a b c d e : List ℕ) → (a ++ (b ++ (c ++ d))) ++ e ≡ a ++ (b +
 regrouped a b c d e = simp append_assoc
 
 -- the fields at the front of bytes are those of the only record whose front they are
-pub record SameFields (head : List ℕ) (position size : ℕ) (rest : List ℕ) (p : Pending) (after : List ℕ) : Type 0 where
+pub record SameFields (head : List ℕ) (position size : ℕ) (rest : List ℕ) (p : PendingRecord) (after : List ℕ) : Type 0 where
   pub at_head : head ≡ record_word
   pub at_position : eight_bytes position ≡ eight_bytes p.position
   pub at_size : size ≡ length p.request
   pub at_rest : rest ≡ p.request ++ after
 
-same_fields : (head rest after : List ℕ) (position size : ℕ) (p : Pending) → length head ≡ 4 → size < 2 ^ 32 →
+same_fields : (head rest after : List ℕ) (position size : ℕ) (p : PendingRecord) → length head ≡ 4 → size < 2 ^ 32 →
     length p.request < 2 ^ 32 →
     head ++ (eight_bytes position ++ (four_bytes size ++ rest)) ≡ pending_front p ++ after →
     SameFields head position size rest p after
@@ -73,7 +73,7 @@ no_front-fields front head rest after request position size e h d f below wrong 
     wrong same.at_head (ap length same.at_rest ∙ ap length (append-nil p.request) ∙ sym same.at_size)
 
 -- a record is the only one with its front, whatever follows
-pending_front-injective : (p q : Pending) (a b : List ℕ) → p.position < 2 ^ 64 → q.position < 2 ^ 64 →
+pending_front-injective : (p q : PendingRecord) (a b : List ℕ) → p.position < 2 ^ 64 → q.position < 2 ^ 64 →
     length p.request < 2 ^ 32 → length q.request < 2 ^ 32 → pending_front p ++ a ≡ pending_front q ++ b → p ≡ q
 unfolding pending_front
 pending_front-injective p q a b hp hq kp kq e =
@@ -85,7 +85,7 @@ pending_front-injective p q a b hp hq kp kq e =
     λ i. record { position = positions i; request = requests.0 i }
 
 -- a slot's bytes have one reading
-pub one_reading : OneReading
+pub one_reading : HasOneReading
 unfolding pending_spelling
 one_reading slot bytes None None h k = refl
 one_reading slot bytes None (Some q) h k = absurd (h q k.0 k.1)
@@ -99,7 +99,7 @@ abbrev pub IsSplit : List ℕ → List ℕ → List ℕ → Type 0
 IsSplit bytes front digest =
     (front ≡ take (length bytes - 32) bytes) × (digest ≡ drop (length bytes - 32) bytes) × (length front + 32 ≡ length bytes)
 
-pub split_record : (bytes front digest : List ℕ) (p : Pending) → IsSplit bytes front digest →
+pub split_record : (bytes front digest : List ℕ) (p : PendingRecord) → IsSplit bytes front digest →
     bytes ≡ pending_spelling p → (front ≡ pending_front p) × (digest ≡ sha256 (pending_front p))
 unfolding pending_spelling
 split_record bytes front digest p s e =
@@ -126,7 +126,7 @@ reads_none-front slot bytes front digest s none p is e =
     none p (omega (arith, is.line.short)) (split_record bytes front digest p s e).0
 
 -- so are those of a record that stands in no such slot, or whose digest is wrong
-pub reads_none-invalid : (slot : ℕ) (bytes front digest : List ℕ) (q : Pending) → IsSplit bytes front digest →
+pub reads_none-invalid : (slot : ℕ) (bytes front digest : List ℕ) (q : PendingRecord) → IsSplit bytes front digest →
     SpellsRecord front q → (IsPending slot q → digest ≡ sha256 front → ⊥) → ReadsPending slot bytes None
 reads_none-invalid slot bytes front digest q s f wrong p is e =
     let parts = split_record bytes front digest p s e in
@@ -134,9 +134,9 @@ reads_none-invalid slot bytes front digest q s f wrong p is e =
     ap (λ (x : List ℕ). x ++ []) (sym f.spelled ∙ parts.0) in
     let same : p ≡ q =
     sym (pending_front-injective q p [] [] f.position (omega (arith, is.most)) f.size (omega (arith, is.line.short)) fronts) in
-    wrong (subst (λ (x : Pending). IsPending slot x) same is) (parts.1 ∙ ap sha256 (sym parts.0))
+    wrong (subst (λ (x : PendingRecord). IsPending slot x) same is) (parts.1 ∙ ap sha256 (sym parts.0))
 
-pub reads_some : (slot : ℕ) (bytes front digest : List ℕ) (q : Pending) → IsSplit bytes front digest →
+pub reads_some : (slot : ℕ) (bytes front digest : List ℕ) (q : PendingRecord) → IsSplit bytes front digest →
     SpellsRecord front q → IsPending slot q → digest ≡ sha256 front → ReadsPending slot bytes (Some q)
 unfolding pending_spelling
 reads_some slot bytes front digest q s f is e = (

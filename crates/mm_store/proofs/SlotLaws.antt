@@ -3,8 +3,8 @@ use Rattle.std.proofs.lemmas.Bool.Decides.{nat_tests}
 use Rattle.mm_store.proofs.Below.{ℕ, ◌≡◌, Option, List, length, take, min, refl, ap, sym, ◌∙◌, inl, inr}
 use Rattle.mm_store.proofs.Below.{arith, take_all}
 use Rattle.std.proofs.lemmas.Bool.{cases_lt}
-use Rattle.mm_store.specs.Slots.{Slots, longest_slot, slot_in, with_slot}
-use Rattle.mm_store.specs.Calls.{putting}
+use Rattle.mm_store.specs.Slots.{Slots, longest_slot, slot_in, slots_with}
+use Rattle.mm_store.specs.Calls.{slots_with_bytes}
 
 pub longest_slot-is : longest_slot ≡ 1100000
 unfolding longest_slot
@@ -37,5 +37,5 @@ pub with_slot-same : (slots : Slots) (n : ℕ) → with_slot slots n (slot_in sl
 with_slot-same slots n = grind (arith, nat_tests)
 
 pub putting-twice : (n : ℕ) (one other : List ℕ) (slots : Option Slots) →
-    putting n other (putting n one slots) ≡ putting n other slots
+    slots_with_bytes n other (slots_with_bytes n one slots) ≡ slots_with_bytes n other slots
 putting-twice n one other slots = grind (arith, nat_tests)

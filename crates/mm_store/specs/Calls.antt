@@ -1,20 +1,20 @@
 -- What each call of a store does to what it holds.
 use Rattle.std.specs.Prelude.{◌≡◌, ◌≤◌, ℕ, true, false, List, Option, Some, Result, Ok, Err, IfOk, length}
 use Rattle.std.specs.Option.{option_map}
-use Rattle.mm_base.specs.Faults.{Rose}
+use Rattle.mm_base.specs.Faults.{CountRose}
 use Rattle.mm_store.specs.declared.fault.StoreFault.{StoreFault}
 use Rattle.mm_store.specs.declared.fault.StoreFault.TheVariants.{Memory, Failed}
 use Rattle.mm_store.specs.declared.store.TheConstants.{LONGEST_SLOT}
-use Rattle.mm_store.specs.Slots.{Slots, with_slot, slot_read}
-use Rattle.mm_store.specs.Unsynced.{Unsynced, marking, MarksAlone}
-use Rattle.mm_store.specs.Kept.{StoreStanding}
+use Rattle.mm_store.specs.Slots.{Slots, slots_with, slot_front}
+use Rattle.mm_store.specs.UnsyncedSlots.{UnsyncedSlots, unsynced_with_mark, MarksAlone}
+use Rattle.mm_store.specs.StoreStanding.{StoreStanding}
 
 -- the count of faults rose by exactly one where the call failed, and is as before after Ok and
 -- where memory was wanting
 abbrev pub CountsFailures : {T : Type 0} → ℕ → ℕ → Result T StoreFault → Type 0
 CountsFailures before now (Ok _) = now ≡ before
 CountsFailures before now (Err Memory) = now ≡ before
-CountsFailures before now (Err Failed) = Rose before now
+CountsFailures before now (Err Failed) = CountRose before now
 
 -- a read changes no slot, and gives the slot's first bytes where the slots are told
 pub record ReadsSlot (slot : ℕ) (old new : StoreStanding)
@@ -23,25 +23,25 @@ pub record ReadsSlot (slot : ℕ) (old new : StoreStanding)
   pub honest : new.is_honest ≡ old.is_honest
   pub counted : CountsFailures old.faults new.faults result
   pub gives : IfOk result (λ bytes. (slots : Slots) → old.slots ≡ Some slots
-      → bytes ≡ slot_read slots slot)
+      → bytes ≡ slot_front slots slot)
   pub short : IfOk result (λ bytes. length bytes ≤ LONGEST_SLOT)
   pub unsynced : new.unsynced ≡ old.unsynced
 
 -- the slots where they are told, with these bytes in one of them
-abbrev pub putting : ℕ → List ℕ → Option Slots → Option Slots
-putting slot bytes slots = option_map (λ told. with_slot told slot bytes) slots
+abbrev pub slots_with_bytes : ℕ → List ℕ → Option Slots → Option Slots
+slots_with_bytes slot bytes slots = option_map (λ told. slots_with told slot bytes) slots
 
 -- what a write to an honest store leaves: its slot holds the bytes after Ok, and any bytes after it
 -- failed
 abbrev pub LeavesInSlot : ℕ → List ℕ → Option Slots → Option Slots → Result Unit StoreFault → Type 0
-LeavesInSlot slot bytes old new (Ok _) = new ≡ putting slot bytes old
+LeavesInSlot slot bytes old new (Ok _) = new ≡ slots_with_bytes slot bytes old
 LeavesInSlot slot bytes old new (Err Memory) = new ≡ old
-LeavesInSlot slot bytes old new (Err Failed) = (left : List ℕ) × (new ≡ putting slot left old)
+LeavesInSlot slot bytes old new (Err Failed) = (left : List ℕ) × (new ≡ slots_with_bytes slot left old)
 
 -- what waits to be synced after a write to a slot: nothing of the slot after Ok, all as before
 -- where memory is wanting, and of the other slots what waited before
-abbrev pub SyncsSlot : ℕ → Option Unsynced → Option Unsynced → Result Unit StoreFault → Type 0
-SyncsSlot slot old new (Ok _) = new ≡ marking slot false old
+abbrev pub SyncsSlot : ℕ → Option UnsyncedSlots → Option UnsyncedSlots → Result Unit StoreFault → Type 0
+SyncsSlot slot old new (Ok _) = new ≡ unsynced_with_mark slot false old
 SyncsSlot slot old new (Err Memory) = new ≡ old
 SyncsSlot slot old new (Err Failed) = MarksAlone slot old new
 

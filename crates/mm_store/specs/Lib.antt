@@ -1,7 +1,7 @@
 pub mod Slots
-pub mod Unsynced
-pub mod Kept
+pub mod UnsyncedSlots
+pub mod StoreStanding
 pub mod Calls
 pub mod Shelf
-pub mod Pending
+pub mod PendingRecord
 pub mod Records

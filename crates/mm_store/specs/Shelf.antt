@@ -1,10 +1,10 @@
 -- A store in memory.
 use Rattle.std.specs.Prelude.{ℕ, ◌-◌, Bool, true, List, [], None, Some, Result, Ok, Err}
-use Rattle.mm_base.specs.Faults.{counted}
+use Rattle.mm_base.specs.Faults.{next_count}
 use Rattle.mm_store.specs.declared.fault.StoreFault.{StoreFault}
 use Rattle.mm_store.specs.declared.fault.StoreFault.TheVariants.{Memory, Failed}
-use Rattle.mm_store.specs.Slots.{Slots, with_slot}
-use Rattle.mm_store.specs.Kept.{StoreStanding}
+use Rattle.mm_store.specs.Slots.{Slots, slots_with}
+use Rattle.mm_store.specs.StoreStanding.{StoreStanding}
 
 -- The slots, whether the store is honest, its count of faults, the number of calls up to the one
 -- that is to fail (none where 0), and what that call leaves if it is a write.
@@ -35,22 +35,22 @@ shelf_standing shelf = record {
 }
 
 -- one call fewer is ahead
-abbrev pub call_made : Shelf → Shelf
-call_made shelf = record shelf { ahead = shelf.ahead - 1 }
+abbrev pub shelf_after_call : Shelf → Shelf
+shelf_after_call shelf = record shelf { ahead = shelf.ahead - 1 }
 
 -- after a read with this result
-abbrev pub after_read : Shelf → Result (List ℕ) StoreFault → Shelf
-after_read shelf (Ok _) = call_made shelf
-after_read shelf (Err Memory) = call_made shelf
-after_read shelf (Err Failed) = record (call_made shelf) { faults = counted shelf.faults }
+abbrev pub shelf_after_read : Shelf → Result (List ℕ) StoreFault → Shelf
+shelf_after_read shelf (Ok _) = shelf_after_call shelf
+shelf_after_read shelf (Err Memory) = shelf_after_call shelf
+shelf_after_read shelf (Err Failed) = record (shelf_after_call shelf) { faults = next_count shelf.faults }
 
 -- after a write of these bytes to a slot with this result
-abbrev pub after_write : Shelf → ℕ → List ℕ → Result Unit StoreFault → Shelf
-after_write shelf slot bytes (Ok _) =
-    record (call_made shelf) { slots = with_slot shelf.slots slot bytes }
-after_write shelf slot bytes (Err Memory) = call_made shelf
-after_write shelf slot bytes (Err Failed) = record (call_made shelf) {
-  slots = with_slot shelf.slots slot shelf.leaves;
-  faults = counted shelf.faults;
+abbrev pub shelf_after_write : Shelf → ℕ → List ℕ → Result Unit StoreFault → Shelf
+shelf_after_write shelf slot bytes (Ok _) =
+    record (shelf_after_call shelf) { slots = slots_with shelf.slots slot bytes }
+shelf_after_write shelf slot bytes (Err Memory) = shelf_after_call shelf
+shelf_after_write shelf slot bytes (Err Failed) = record (shelf_after_call shelf) {
+  slots = slots_with shelf.slots slot shelf.leaves;
+  faults = next_count shelf.faults;
   leaves = [];
 }

@@ -20,11 +20,11 @@ slot_in slots n =
     else slots.three
 
 -- the slots, with these bytes in place of those of one
-abbrev pub with_slot : Slots → ℕ → List ℕ → Slots
-with_slot slots n bytes =
+abbrev pub slots_with : Slots → ℕ → List ℕ → Slots
+slots_with slots n bytes =
     if n == 0 then record slots { zero = bytes } else if n == 1 then record slots { one = bytes }
     else if n == 2 then record slots { two = bytes } else record slots { three = bytes }
 
 -- what a read of the slot gives
-abbrev pub slot_read : Slots → ℕ → List ℕ
-slot_read slots n = take longest_slot (slot_in slots n)
+abbrev pub slot_front : Slots → ℕ → List ℕ
+slot_front slots n = take longest_slot (slot_in slots n)

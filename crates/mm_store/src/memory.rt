@@ -1,9 +1,9 @@
 //! A store in memory, which fails as it is told to and not otherwise.
 
 ghost use Rattle.std.specs.Prelude.{◌≡◌, ◌↔◌, ◌<◌, ◌≤◌, IsTrue, false, Err, OnOk, OnErr, length, take, if◌then◌else◌};
-ghost use Rattle.mm_base.specs.Faults.{counted};
-ghost use Rattle.mm_store.specs.Slots.{longest_slot, slot_in, with_slot};
-ghost use Rattle.mm_store.specs.Shelf.{Shelf, new_shelf, shelf_standing, call_made, after_read, after_write};
+ghost use Rattle.mm_base.specs.Faults.{next_count};
+ghost use Rattle.mm_store.specs.Slots.{longest_slot, slot_in, slots_with};
+ghost use Rattle.mm_store.specs.Shelf.{Shelf, new_shelf, shelf_standing, shelf_after_call, shelf_after_read, shelf_after_write};
 ghost use Rattle.mm_store.specs.Calls.{ReadsSlot, WritesSlot};
 
 use crate::fault::StoreFault;
@@ -59,7 +59,7 @@ impl FourSlots {
     // Puts these bytes in place of one slot's.
     fn set(&mut self, slot: u8, bytes: Bytes)
         requires { slot < 4 }
-        ensures { self.new ≡ with_slot self.old slot bytes }
+        ensures { self.new ≡ slots_with self.old slot bytes }
     {
         match slot {
             0 => self.zero = bytes,
@@ -126,7 +126,7 @@ impl MemStore {
         requires { slot < 4 }
         ensures ok { OnOk result
             (self.new ≡ record self.old {
-              slots = with_slot self.old.slots slot bytes.now;
+              slots = slots_with self.old.slots slot bytes.now;
               is_honest = false;
             }) }
         ensures err { OnErr result (self.new ≡ self.old) }
@@ -149,8 +149,8 @@ impl MemStore {
     fn is_to_fail(&mut self) -> bool
         ensures fails { IsTrue result ↔ (self.old.ahead ≡ 1) }
         ensures after { self.new
-            ≡ (if result then record (call_made self.old) { faults = counted self.old.faults }
-            else call_made self.old) }
+            ≡ (if result then record (shelf_after_call self.old) { faults = next_count self.old.faults }
+            else shelf_after_call self.old) }
     {
         let fails = self.ahead == 1;
         self.ahead = self.ahead.saturating_sub(1);
@@ -168,7 +168,7 @@ impl Store for MemStore {
         requires { slot < 4 }
         ensures reads { ReadsSlot slot (shelf_standing self.old) (shelf_standing self.new) result }
         ensures failing { (result ≡ Err StoreFault.Failed) ↔ (self.old.ahead ≡ 1) }
-        ensures after { self.new ≡ after_read self.old result }
+        ensures after { self.new ≡ shelf_after_read self.old result }
     {
         if self.is_to_fail() {
             return Err(StoreFault::Failed);
@@ -183,7 +183,7 @@ impl Store for MemStore {
         ensures writes { WritesSlot slot bytes.now (shelf_standing self.old)
             (shelf_standing self.new) result }
         ensures failing { (result ≡ Err StoreFault.Failed) ↔ (self.old.ahead ≡ 1) }
-        ensures after { self.new ≡ after_write self.old slot bytes.now result }
+        ensures after { self.new ≡ shelf_after_write self.old slot bytes.now result }
     {
         if self.is_to_fail() {
             let left = mem::replace(&mut self.leaves, Bytes::new(self.alloc));

@@ -5,7 +5,7 @@ ghost use Rattle.std.specs.Option.{option_map};
 ghost use Rattle.sha2.specs.Sha256.{sha256};
 ghost use Rattle.mm_base.specs.Lines.{MayGrow};
 ghost use Rattle.mm_base.specs.Limits.{last_position, longest_request};
-ghost use Rattle.mm_store.specs.Pending.{IsPending, record_word, pending_front, pending_spelling, ReadsPending, OneReading, SpellsRecord, SpellsNoRecord};
+ghost use Rattle.mm_store.specs.PendingRecord.{IsPending, record_word, pending_front, pending_spelling, ReadsPending, HasOneReading, SpellsRecord, SpellsNoRecord};
 ghost use Rattle.mm_store.specs.Records.{pending_of};
 
 use mm_base::{
@@ -23,7 +23,7 @@ pub struct PendingRequest<'a> {
 
 /// The bytes of a pending record (48 and the request's). The position is from 1 to 2^48 + 1, of which the
 /// last is no valid record's; the request has at most 4,096 bytes and no LF.
-#[tactic(auto, unfolding(crate::specs::Pending::pending_spelling))]
+#[tactic(auto, unfolding(crate::specs::PendingRecord::pending_spelling))]
 pub fn pending_bytes(alloc: Global, position: u64, request: &[u8]) -> Result<Bytes, Memory>
     requires least { 1 ≤ position }
     requires most { position ≤ last_position + 1 }
@@ -56,7 +56,7 @@ fn put_front(bytes: &mut Bytes, position: u64, request: &[u8]) -> Result<(), Mem
 #[tactic(auto, using(crate::proofs::PendingLaws::one_reading))]
 pub fn read_pending(slot: u8, bytes: &[u8]) -> Option<PendingRequest<'_>>
     ensures reads { ReadsPending slot bytes.now (option_map pending_of result) }
-    ensures one_reading { OneReading }
+    ensures one_reading { HasOneReading }
 {
     let (front, digest) = bytes.split_last_chunk::<32>()?;
     let pending = front_of(front)?;

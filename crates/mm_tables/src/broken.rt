@@ -3,7 +3,7 @@
 
 use crate::devices::alone;
 use crate::lines::{given, told};
-use crate::notes::Notes;
+use crate::notes::TableNotes;
 use crate::setup::Setup;
 use mm_base::{Bytes, Memory, put_decimal};
 use std::alloc::Global;
@@ -11,7 +11,7 @@ use std::alloc::Global;
 // Lines that a command plays: its word, the lines, what is written for them, and how many of them stand before the
 // first event.
 #[derive(Clone, Copy)]
-struct Played<'a> {
+struct PlayedLines<'a> {
     word: &'a str,
     lines: &'a [u8],
     replies: &'a [u8],
@@ -19,14 +19,14 @@ struct Played<'a> {
 }
 
 // Whether lines in pieces of so many bytes get the same replies.
-fn is_same_in(notes: &mut Notes, played: &Played<'_>, piece: u64) -> Result<bool, Memory> {
+fn is_same_in(notes: &mut TableNotes, played: &PlayedLines<'_>, piece: u64) -> Result<bool, Memory> {
     let mut setup = Setup::new();
     setup.piece = piece;
     let code = alone(notes, played.word, &setup, played.lines)?;
     Ok(code == 0 && notes.last.as_slice() == played.replies)
 }
 
-fn play_pieces(notes: &mut Notes, played: &Played<'_>) -> Result<(), Memory> {
+fn play_pieces(notes: &mut TableNotes, played: &PlayedLines<'_>) -> Result<(), Memory> {
     for piece in [1, 2, 7, 4096] {
         let is_so = is_same_in(notes, played, piece)?;
         notes.count(is_so, "pieces")?;
@@ -70,7 +70,7 @@ fn is_ended(
 }
 
 // Whether the first bytes of lines get the replies to the whole lines among them.
-fn is_cut(notes: &mut Notes, played: &Played<'_>, input: &[u8]) -> Result<bool, Memory> {
+fn is_cut(notes: &mut TableNotes, played: &PlayedLines<'_>, input: &[u8]) -> Result<bool, Memory> {
     let whole = input.iter().filter(|byte| **byte == b'\n').count();
     let answered = first_lines(played.replies, whole.saturating_sub(played.heads));
     let is_whole = whole >= played.heads && input.last() == Some(&b'\n');
@@ -81,7 +81,7 @@ fn is_cut(notes: &mut Notes, played: &Played<'_>, input: &[u8]) -> Result<bool, 
     }
 }
 
-fn play_cut(notes: &mut Notes, played: &Played<'_>) -> Result<(), Memory> {
+fn play_cut(notes: &mut TableNotes, played: &PlayedLines<'_>) -> Result<(), Memory> {
     for length in 0..played.lines.len() {
         let (input, _) = played.lines.split_at(length);
         let is_so = is_cut(notes, played, input)?;
@@ -100,8 +100,8 @@ fn is_stopped(written: &[u8], replies: &[u8], stop: &[u8]) -> bool {
 
 // Plays lines over streams of which one call fails, and counts that where it was made.
 fn play_failing(
-    notes: &mut Notes,
-    played: &Played<'_>,
+    notes: &mut TableNotes,
+    played: &PlayedLines<'_>,
     setup: &Setup,
     stop: &[u8],
     status: u64,
@@ -117,7 +117,7 @@ fn play_failing(
 
 // The same with the input in pieces of 7 bytes; and byte by byte where a call of the output fails, so that each reply
 // is a call of its own.
-fn play_stops(notes: &mut Notes, played: &Played<'_>) -> Result<(), Memory> {
+fn play_stops(notes: &mut TableNotes, played: &PlayedLines<'_>) -> Result<(), Memory> {
     let mut reading = Setup::new();
     reading.piece = 7;
     let mut writing = Setup::new();
@@ -137,11 +137,11 @@ fn heads_of(word: &str) -> usize {
 }
 
 /// Plays the lines behind a word in all these ways, each a case.
-pub fn play_broken(notes: &mut Notes, scene: &str) -> Result<(), Memory> {
+pub fn play_broken(notes: &mut TableNotes, scene: &str) -> Result<(), Memory> {
     let word = scene.lines().next().unwrap_or("");
     let lines = given(notes.alloc, scene)?;
     let replies = told(notes.alloc, scene, "")?;
-    let played = Played {
+    let played = PlayedLines {
         word,
         lines: lines.as_slice(),
         replies: replies.as_slice(),

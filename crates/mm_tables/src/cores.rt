@@ -1,6 +1,6 @@
 //! Calls of a core over a platform in memory, one after another, by the counter.
 
-use crate::notes::Notes;
+use crate::notes::TableNotes;
 use crate::offers::{BARRIER, KEY, batch_of, cell_of, offer_of};
 use crate::ways::{ask_in_parts, ask_in_turns, ask_many, ask_one, close_in_turns};
 use mm_base::{Bytes, CELL_LENGTH, Memory, put_decimal, read_decimal};
@@ -26,7 +26,7 @@ struct Host {
 /// A line of a table: the stop or the extension by others that is planned; what is done, with which snapshot, and the
 /// request; and what comes of it.
 #[derive(Clone, Copy)]
-struct Row<'a> {
+struct CoreCase<'a> {
     plan: &'a str,
     word: &'a str,
     number: usize,
@@ -34,13 +34,13 @@ struct Row<'a> {
     said: &'a str,
 }
 
-fn row_of(line: &str) -> Option<Row<'_>> {
+fn row_of(line: &str) -> Option<CoreCase<'_>> {
     let (asked, said) = line.split_once(" => ")?;
     let (plan, asked) = asked.split_once(" ")?;
     let (word, asked) = asked.split_once(" ")?;
     let (number, text) = asked.split_once(" ")?;
     let number = read_decimal(number.as_bytes())? as usize;
-    Some(Row {
+    Some(CoreCase {
         plan,
         word,
         number,
@@ -203,7 +203,7 @@ fn ask_refused(host: &mut Host, text: &str) -> Result<(), Memory> {
 }
 
 // Offers the snapshot of this number with a request, in the way of this name.
-fn ask(host: &mut Host, row: &Row<'_>) -> Result<(), Memory> {
+fn ask(host: &mut Host, row: &CoreCase<'_>) -> Result<(), Memory> {
     let Some(offer) = host.snapshots.get(row.number) else {
         return host.said.append(b"no snapshot");
     };
@@ -223,7 +223,7 @@ fn ask(host: &mut Host, row: &Row<'_>) -> Result<(), Memory> {
 }
 
 // The same of one request.
-fn ask_alone(host: &mut Host, row: &Row<'_>) -> Result<(), Memory> {
+fn ask_alone(host: &mut Host, row: &CoreCase<'_>) -> Result<(), Memory> {
     let Some(offer) = host.snapshots.get(row.number) else {
         return host.said.append(b"no snapshot");
     };
@@ -246,7 +246,7 @@ fn request_in(text: &str) -> Batch<'_> {
 }
 
 // The same step by step, with the digits of the steps.
-fn ask_by_steps(host: &mut Host, row: &Row<'_>) -> Result<(), Memory> {
+fn ask_by_steps(host: &mut Host, row: &CoreCase<'_>) -> Result<(), Memory> {
     let Some(offer) = host.snapshots.get(row.number) else {
         return host.said.append(b"no snapshot");
     };
@@ -279,7 +279,7 @@ fn close_by_steps(host: &mut Host) -> Result<(), Memory> {
 }
 
 // Does what a row says, and says what came of it.
-fn call(host: &mut Host, row: &Row<'_>) -> Result<(), Memory> {
+fn call(host: &mut Host, row: &CoreCase<'_>) -> Result<(), Memory> {
     host.said = Bytes::new(host.alloc);
     match row.word {
         "cell" => set_alone(host, row.text),
@@ -295,7 +295,7 @@ fn call(host: &mut Host, row: &Row<'_>) -> Result<(), Memory> {
 
 // The same under what is planned; and then the power is back, which Basic loses after each call. Where memory was
 // wanting nothing has changed, so the call is made once more.
-fn call_planned(host: &mut Host, row: &Row<'_>) -> Result<(), Memory> {
+fn call_planned(host: &mut Host, row: &CoreCase<'_>) -> Result<(), Memory> {
     host.platform
         .plan(stop_of(row.plan), &[meddle_of(row.plan)])?;
     call(host, row)?;
@@ -321,7 +321,7 @@ fn is_so(host: &mut Host, line: &str) -> Result<bool, Memory> {
 }
 
 // Plays a line, and notes whether what comes of it is what it says.
-fn play_line(notes: &mut Notes, host: &mut Host, line: &str) -> Result<(), Memory> {
+fn play_line(notes: &mut TableNotes, host: &mut Host, line: &str) -> Result<(), Memory> {
     match line {
         "" => Ok(()),
         "new" => begin(host),
@@ -338,7 +338,7 @@ fn play_line(notes: &mut Notes, host: &mut Host, line: &str) -> Result<(), Memor
     }
 }
 
-fn play_lines(notes: &mut Notes, host: &mut Host, lines: &str) -> Result<(), Memory> {
+fn play_lines(notes: &mut TableNotes, host: &mut Host, lines: &str) -> Result<(), Memory> {
     for line in lines.lines() {
         play_line(notes, host, line)?;
     }
@@ -347,7 +347,7 @@ fn play_lines(notes: &mut Notes, host: &mut Host, lines: &str) -> Result<(), Mem
 
 /// Plays the lines of a table by the core of a variant. At `new` there is another platform, and power is lost at
 /// `power`.
-pub fn play_core(notes: &mut Notes, variant: Variant, lines: &str) -> Result<(), Memory> {
+pub fn play_core(notes: &mut TableNotes, variant: Variant, lines: &str) -> Result<(), Memory> {
     let alloc = notes.alloc;
     let mut host = Host {
         alloc,

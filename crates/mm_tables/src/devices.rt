@@ -1,7 +1,7 @@
 //! The devices that a scene is played over.
 
-use crate::failing::{FailingRaw, Leaves};
-use crate::notes::Notes;
+use crate::failing::{FailingRaw, FailureEffect};
+use crate::notes::TableNotes;
 use crate::scene::{does, plays, run};
 use crate::setup::Setup;
 use mm_base::{Bytes, Memory, put_decimal, read_decimal};
@@ -13,7 +13,7 @@ use std::alloc::Global;
 
 /// Plays a scene over a platform with this cell and a store, both in memory.
 pub fn over_memory(
-    notes: &mut Notes,
+    notes: &mut TableNotes,
     cell: &[u8; 104],
     scene: &str,
     row: &str,
@@ -25,7 +25,7 @@ pub fn over_memory(
 }
 
 /// Does what a word says over a blank platform and an empty store.
-pub fn alone(notes: &mut Notes, word: &str, setup: &Setup, content: &[u8]) -> Result<u64, Memory> {
+pub fn alone(notes: &mut TableNotes, word: &str, setup: &Setup, content: &[u8]) -> Result<u64, Memory> {
     let mut platform = MemPlatform::new(notes.alloc, &[0; 104]);
     let mut store = MemStore::new(notes.alloc);
     run(notes, &[word], setup, content, &mut platform, &mut store)
@@ -39,7 +39,7 @@ fn stopping_store(alloc: Global, call: u64) -> Result<MemStore, Memory> {
 }
 
 /// Plays a scene over a platform and a store in memory of which this call fails, from 1.
-pub fn over_stopped(notes: &mut Notes, text: &str, scene: &str, row: &str) -> Result<bool, Memory> {
+pub fn over_stopped(notes: &mut TableNotes, text: &str, scene: &str, row: &str) -> Result<bool, Memory> {
     let call = read_decimal(text.as_bytes()).unwrap_or(0);
     let mut store = stopping_store(notes.alloc, call)?;
     let mut old = MemStore::new(notes.alloc);
@@ -57,7 +57,7 @@ fn set_slots(store: &mut MemStore, old: &MemStore) -> Result<(), Memory> {
 
 // Plays a scene up to where the slots are set, and from there on.
 fn plays_around(
-    notes: &mut Notes,
+    notes: &mut TableNotes,
     scene: &str,
     platform: &mut MemPlatform,
     store: &mut MemStore,
@@ -72,7 +72,7 @@ fn plays_around(
 }
 
 /// Plays a scene over a platform and a store in memory. At `set` the host sets the slots to those that were put by.
-pub fn over_set(notes: &mut Notes, scene: &str) -> Result<bool, Memory> {
+pub fn over_set(notes: &mut TableNotes, scene: &str) -> Result<bool, Memory> {
     let mut platform = MemPlatform::new(notes.alloc, &[0; 104]);
     let mut store = MemStore::new(notes.alloc);
     let mut old = MemStore::new(notes.alloc);
@@ -93,7 +93,7 @@ fn stopping_pages(alloc: Global, call: u64) -> Result<PageStore<MemPages>, Memor
 
 /// Plays a scene over two cells on a memory, and pages of which this call fails, from 1.
 pub fn over_stopping(
-    notes: &mut Notes,
+    notes: &mut TableNotes,
     text: &str,
     scene: &str,
     row: &str,
@@ -106,7 +106,7 @@ pub fn over_stopping(
 }
 
 /// Plays a scene over two cells on a memory, and pages.
-pub fn over_pages(notes: &mut Notes, scene: &str, row: &str) -> Result<bool, Memory> {
+pub fn over_pages(notes: &mut TableNotes, scene: &str, row: &str) -> Result<bool, Memory> {
     let mut store = pages(notes.alloc)?;
     let mut old = pages(notes.alloc)?;
     let mut platform = TwoCell::new(MemRaw::new(notes.alloc));
@@ -115,9 +115,9 @@ pub fn over_pages(notes: &mut Notes, scene: &str, row: &str) -> Result<bool, Mem
 
 // Plays a scene over two cells on a memory of which this call fails, and leaves that much.
 fn over_failing_at(
-    notes: &mut Notes,
+    notes: &mut TableNotes,
     call: u64,
-    leaves: Leaves,
+    leaves: FailureEffect,
     scene: &str,
     row: &str,
 ) -> Result<bool, Memory> {
@@ -128,25 +128,25 @@ fn over_failing_at(
 }
 
 // What a call of this name leaves.
-fn leaves_of(word: &str) -> Option<Leaves> {
+fn leaves_of(word: &str) -> Option<FailureEffect> {
     match word {
-        "none" => Some(Leaves::Nothing),
-        "half" => Some(Leaves::Half),
-        "all" => Some(Leaves::All),
-        "even" => Some(Leaves::Noise(0xb4)),
-        "odd" => Some(Leaves::Noise(0xb5)),
+        "none" => Some(FailureEffect::Nothing),
+        "half" => Some(FailureEffect::Half),
+        "all" => Some(FailureEffect::All),
+        "even" => Some(FailureEffect::Noise(0xb4)),
+        "odd" => Some(FailureEffect::Noise(0xb5)),
         _ => None,
     }
 }
 
 // The call that a text names, and what it leaves.
-fn failure_in(text: &str) -> Option<(u64, Leaves)> {
+fn failure_in(text: &str) -> Option<(u64, FailureEffect)> {
     let (call, word) = text.split_once(" ")?;
     Some((read_decimal(call.as_bytes())?, leaves_of(word)?))
 }
 
 /// Plays a scene over a memory of which a call fails: its number and what it leaves, as `5 half`.
-pub fn over_failing(notes: &mut Notes, text: &str, scene: &str, row: &str) -> Result<bool, Memory> {
+pub fn over_failing(notes: &mut TableNotes, text: &str, scene: &str, row: &str) -> Result<bool, Memory> {
     match failure_in(text) {
         Some((call, leaves)) => over_failing_at(notes, call, leaves, scene, row),
         None => notes.tell(false, text, 0),
@@ -162,7 +162,7 @@ fn put_count(counts: &mut Bytes, count: u64) -> Result<(), Memory> {
 // Runs the commands of a scene, and writes how often a cell was to be written after each; and then how often the
 // register was to be extended.
 fn put_counts(
-    notes: &mut Notes,
+    notes: &mut TableNotes,
     counts: &mut Bytes,
     scene: &str,
     platform: &mut TwoCell<FailingRaw>,
@@ -182,7 +182,7 @@ fn put_counts(
 
 // Whether a scene comes to these counts.
 fn comes_to_counts(
-    notes: &mut Notes,
+    notes: &mut TableNotes,
     scene: &str,
     row: &str,
     platform: &mut TwoCell<FailingRaw>,
@@ -196,9 +196,9 @@ fn comes_to_counts(
 
 /// Whether a scene over two cells on a memory comes to the counts of a row: of writes of the cell after each command,
 /// and of extensions.
-pub fn over_counted(notes: &mut Notes, scene: &str, row: &str) -> Result<bool, Memory> {
+pub fn over_counted(notes: &mut TableNotes, scene: &str, row: &str) -> Result<bool, Memory> {
     let mut store = pages(notes.alloc)?;
     let mut old = pages(notes.alloc)?;
-    let mut platform = TwoCell::new(FailingRaw::new(0, Leaves::Nothing));
+    let mut platform = TwoCell::new(FailingRaw::new(0, FailureEffect::Nothing));
     comes_to_counts(notes, scene, row, &mut platform, &mut store, &mut old)
 }

@@ -2,7 +2,7 @@
 
 ghost use Rattle.std.specs.Prelude.{◌≡◌, IfErr};
 ghost use Rattle.mm_base.specs.Faults.{CountsFaults};
-ghost use Rattle.mm_files.specs.Untold.{none_are, untold};
+ghost use Rattle.mm_files.specs.UntoldDevices.{none_are, untold_standing};
 
 use mm_base::Memory;
 use mm_digest::{Digest, extended, zero};
@@ -10,7 +10,7 @@ use mm_platform::{Device, RawNv, Register, StepFault};
 
 /// What a call that fails leaves of its effect.
 #[derive(Clone, Copy, Debug, PartialEq, Eq)]
-pub enum Leaves {
+pub enum FailureEffect {
     /// Nothing.
     Nothing,
     /// Of a write the first half of its range.
@@ -31,14 +31,14 @@ pub struct FailingRaw {
     faults: u64,
     calls: u64,
     failing: u64,
-    leaves: Leaves,
+    leaves: FailureEffect,
     cell_writes: u64,
     extensions: u64,
 }
 
 impl FailingRaw {
     /// All zero. The call with this number fails, from 1; none where it is 0.
-    pub fn new(failing: u64, leaves: Leaves) -> FailingRaw {
+    pub fn new(failing: u64, leaves: FailureEffect) -> FailingRaw {
         FailingRaw {
             bytes: [0; 209],
             register: zero(),
@@ -93,21 +93,21 @@ impl FailingRaw {
 }
 
 // What a call leaves: all of its effect where it went well.
-fn left_of(outcome: Result<(), StepFault>, leaves: Leaves) -> Leaves {
+fn left_of(outcome: Result<(), StepFault>, leaves: FailureEffect) -> FailureEffect {
     match outcome {
-        Ok(()) => Leaves::All,
+        Ok(()) => FailureEffect::All,
         Err(_) => leaves,
     }
 }
 
-// Leaves that much of a write of these bytes in its range.
-fn leave(range: &mut [u8], bytes: &[u8], leaves: Leaves) {
+// FailureEffect that much of a write of these bytes in its range.
+fn leave(range: &mut [u8], bytes: &[u8], leaves: FailureEffect) {
     let size = range.len().min(bytes.len());
     match leaves {
-        Leaves::Nothing => {}
-        Leaves::Half => put_front(range, bytes, size / 2),
-        Leaves::All => put_front(range, bytes, size),
-        Leaves::Noise(byte) => range.fill(byte),
+        FailureEffect::Nothing => {}
+        FailureEffect::Half => put_front(range, bytes, size / 2),
+        FailureEffect::All => put_front(range, bytes, size),
+        FailureEffect::Noise(byte) => range.fill(byte),
     }
 }
 
@@ -120,8 +120,8 @@ fn put_front(range: &mut [u8], bytes: &[u8], size: usize) {
 }
 
 // Gives the register a value, where the call that was to do so had its effect.
-fn settle(register: &mut Digest, outcome: Result<(), StepFault>, leaves: Leaves, value: Digest) {
-    if left_of(outcome, leaves) == Leaves::All {
+fn settle(register: &mut Digest, outcome: Result<(), StepFault>, leaves: FailureEffect, value: Digest) {
+    if left_of(outcome, leaves) == FailureEffect::All {
         *register = value;
     }
 }
@@ -134,7 +134,7 @@ fn count_cell(count: &mut u64, bytes: &[u8]) {
 }
 
 impl Device for FailingRaw {
-    ghost standing = { λ it. untold it.steps it.cycles it.faults };
+    ghost standing = { λ it. untold_standing it.steps it.cycles it.faults };
 }
 
 impl RawNv for FailingRaw {

@@ -17,7 +17,7 @@ mod table;
 mod ways;
 
 use crate::faults::put_faults;
-use crate::notes::Notes;
+use crate::notes::TableNotes;
 use crate::table::play_tables;
 use mm_base::Memory;
 use std::alloc::AllocError;
@@ -40,7 +40,7 @@ fn names(rt: &HostRuntime) -> io::Result<Vec<String>> {
 }
 
 // Plays the tables of a file.
-fn play_file(rt: &HostRuntime, notes: &mut Notes, name: &str) -> io::Result<()> {
+fn play_file(rt: &HostRuntime, notes: &mut TableNotes, name: &str) -> io::Result<()> {
     let text = text_of(rt, name)?;
     match play_tables(notes, text.as_str()) {
         Ok(()) => Ok(()),
@@ -49,7 +49,7 @@ fn play_file(rt: &HostRuntime, notes: &mut Notes, name: &str) -> io::Result<()> 
 }
 
 // Plays the tables of each file, and writes what came of them.
-fn tell_tables(rt: &HostRuntime, notes: &mut Notes) -> io::Result<()> {
+fn tell_tables(rt: &HostRuntime, notes: &mut TableNotes) -> io::Result<()> {
     let names = names(rt)?;
     for name in names.iter() {
         play_file(rt, notes, name.as_str())?;
@@ -65,7 +65,7 @@ fn tell_faults(rt: &HostRuntime) -> io::Result<()> {
 }
 
 fn main(rt: HostRuntime) -> io::Result<()> {
-    let mut notes = Notes::new(rt.alloc());
+    let mut notes = TableNotes::new(rt.alloc());
     tell_tables(&rt, &mut notes)?;
     tell_faults(&rt)
 }

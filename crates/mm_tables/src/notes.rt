@@ -5,17 +5,17 @@ use std::alloc::Global;
 
 /// What the last command wrote, how many cases came out as they stand, and what is to be written.
 #[derive(Drop)]
-pub struct Notes {
+pub struct TableNotes {
     pub alloc: Global,
     pub last: Bytes,
     pub right: u64,
     written: Bytes,
 }
 
-impl Notes {
+impl TableNotes {
     /// No case was played.
-    pub fn new(alloc: Global) -> Notes {
-        Notes {
+    pub fn new(alloc: Global) -> TableNotes {
+        TableNotes {
             alloc,
             last: Bytes::new(alloc),
             right: 0,
@@ -28,13 +28,13 @@ impl Notes {
         self.written.as_slice()
     }
 
-    /// Notes what the last command wrote.
+    /// TableNotes what the last command wrote.
     pub fn write(&mut self, bytes: &[u8]) -> Result<(), Memory> {
         self.last = Bytes::copy_of(self.alloc, bytes)?;
         Ok(())
     }
 
-    /// Notes whether a command came out as it stands.
+    /// TableNotes whether a command came out as it stands.
     pub fn tell(&mut self, is_so: bool, command: &str, code: u64) -> Result<bool, Memory> {
         if !is_so {
             self.written.append(b"not so: ")?;
@@ -48,7 +48,7 @@ impl Notes {
         Ok(is_so)
     }
 
-    /// Notes whether a case came out as it stands.
+    /// TableNotes whether a case came out as it stands.
     pub fn count(&mut self, is_so: bool, row: &str) -> Result<(), Memory> {
         if is_so {
             self.right = self.right.saturating_add(1);
@@ -59,7 +59,7 @@ impl Notes {
         self.written.push(b'\n')
     }
 
-    /// Notes a heading.
+    /// TableNotes a heading.
     pub fn head(&mut self, title: &str) -> Result<(), Memory> {
         self.written.push(b'\n')?;
         self.written

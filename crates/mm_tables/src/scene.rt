@@ -3,7 +3,7 @@
 ghost use Rattle.std.specs.Prelude.{◌<◌};
 
 use crate::lines::{given, is_told, told, without_mark};
-use crate::notes::Notes;
+use crate::notes::TableNotes;
 use crate::setup::Setup;
 use mm_app::memoir;
 use mm_base::{Bytes, MemSink, MemSource, Memory, Sink, Source, read_decimal};
@@ -46,7 +46,7 @@ fn entropy_over(alloc: Global, setup: &Setup) -> Result<MemSource, Memory> {
 
 /// Does what the words say over these devices on such an input, notes what was written, and answers the exit status.
 pub fn run<P: Platform, T: Store>(
-    notes: &mut Notes,
+    notes: &mut TableNotes,
     words: &[&str],
     setup: &Setup,
     content: &[u8],
@@ -118,7 +118,7 @@ fn head_of(command: &str) -> (&str, &str) {
 }
 
 // What a command is given.
-fn input_of(notes: &Notes, command: &str, setup: &Setup) -> Result<Bytes, Memory> {
+fn input_of(notes: &TableNotes, command: &str, setup: &Setup) -> Result<Bytes, Memory> {
     if setup.piped == 0 {
         return given(notes.alloc, command);
     }
@@ -127,7 +127,7 @@ fn input_of(notes: &Notes, command: &str, setup: &Setup) -> Result<Bytes, Memory
 
 // Runs a command with these options, and says whether it comes to what a row or else its own lines tell.
 fn does_with<P: Platform, T: Store>(
-    notes: &mut Notes,
+    notes: &mut TableNotes,
     command: &str,
     setup: &Setup,
     row: &str,
@@ -148,7 +148,7 @@ fn does_with<P: Platform, T: Store>(
 /// The same of a command whose options stand in its first line; `keep` puts the store's slots by, and `back` puts them
 // back.
 pub fn does<P: Platform, T: Store>(
-    notes: &mut Notes,
+    notes: &mut TableNotes,
     command: &str,
     row: &str,
     platform: &mut P,
@@ -169,7 +169,7 @@ pub fn does<P: Platform, T: Store>(
 
 /// Whether the commands of a scene come to what a row tells, a part for each; or else to what their own lines tell.
 pub fn plays<P: Platform, T: Store>(
-    notes: &mut Notes,
+    notes: &mut TableNotes,
     scene: &str,
     row: &str,
     platform: &mut P,

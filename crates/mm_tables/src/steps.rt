@@ -3,7 +3,7 @@
 
 use crate::devices::alone;
 use crate::lines::told;
-use crate::notes::Notes;
+use crate::notes::TableNotes;
 use crate::setup::Setup;
 use mm_base::{Bytes, Memory};
 use std::alloc::Global;
@@ -124,7 +124,7 @@ fn replies_in(alloc: Global, written: &[u8]) -> Result<Bytes, Memory> {
 }
 
 /// Whether a schedule gets the replies of a row from a slot; what a call in flight is told is left out.
-pub fn over_slot(notes: &mut Notes, scene: &str, row: &str) -> Result<bool, Memory> {
+pub fn over_slot(notes: &mut TableNotes, scene: &str, row: &str) -> Result<bool, Memory> {
     let lines = in_steps(notes.alloc, scene)?;
     let code = alone(notes, "slots", &Setup::new(), lines.as_slice())?;
     let replies = replies_in(notes.alloc, notes.last.as_slice())?;

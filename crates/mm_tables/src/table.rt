@@ -6,7 +6,7 @@ use crate::devices::{
     over_counted, over_failing, over_memory, over_pages, over_set, over_stopped, over_stopping,
 };
 use crate::lines::range_in;
-use crate::notes::Notes;
+use crate::notes::TableNotes;
 use crate::steps::over_slot;
 use mm_base::Memory;
 use mm_digest::Variant;
@@ -24,7 +24,7 @@ fn unknown_cell() -> [u8; 104] {
 
 // Plays a scene over such devices, and says whether it comes to what is told.
 fn plays_over(
-    notes: &mut Notes,
+    notes: &mut TableNotes,
     devices: &str,
     text: &str,
     scene: &str,
@@ -59,7 +59,7 @@ fn begun(scene: &str) -> &str {
 }
 
 // Plays a part with this text in the place of each star.
-fn play_with(notes: &mut Notes, part: &Part<'_>, text: &str, row: &str) -> Result<(), Memory> {
+fn play_with(notes: &mut TableNotes, part: &Part<'_>, text: &str, row: &str) -> Result<(), Memory> {
     let head = part.head;
     let scene = part.scene.replace(notes.alloc, "*", text)?;
     let scene = format!(in notes.alloc; "{head}\n{scene}")?;
@@ -69,7 +69,7 @@ fn play_with(notes: &mut Notes, part: &Part<'_>, text: &str, row: &str) -> Resul
 
 // Plays a part with each number of a range.
 fn play_range(
-    notes: &mut Notes,
+    notes: &mut TableNotes,
     part: &Part<'_>,
     first: u64,
     end: u64,
@@ -83,7 +83,7 @@ fn play_range(
 }
 
 // Plays a part with a call and each thing that it may leave.
-fn play_any(notes: &mut Notes, part: &Part<'_>, call: &str, row: &str) -> Result<(), Memory> {
+fn play_any(notes: &mut TableNotes, part: &Part<'_>, call: &str, row: &str) -> Result<(), Memory> {
     for leaves in ANY.split(" ") {
         let text = format!(in notes.alloc; "{call} {leaves}")?;
         play_with(notes, part, text.as_str(), row)?;
@@ -92,7 +92,7 @@ fn play_any(notes: &mut Notes, part: &Part<'_>, call: &str, row: &str) -> Result
 }
 
 // Plays a part with a text, or with each that it stands for.
-fn play_text(notes: &mut Notes, part: &Part<'_>, text: &str, row: &str) -> Result<(), Memory> {
+fn play_text(notes: &mut TableNotes, part: &Part<'_>, text: &str, row: &str) -> Result<(), Memory> {
     if let Some((first, end)) = range_in(text) {
         return play_range(notes, part, first, end, row);
     }
@@ -103,7 +103,7 @@ fn play_text(notes: &mut Notes, part: &Part<'_>, text: &str, row: &str) -> Resul
 }
 
 // Plays a part with each text of its rows.
-fn play_rows(notes: &mut Notes, part: &Part<'_>, rows: &str) -> Result<(), Memory> {
+fn play_rows(notes: &mut TableNotes, part: &Part<'_>, rows: &str) -> Result<(), Memory> {
     for line in rows.lines() {
         let (texts, row) = line.split_once(" | ").unwrap_or((line, "no row"));
         for text in texts.split("|") {
@@ -114,7 +114,7 @@ fn play_rows(notes: &mut Notes, part: &Part<'_>, rows: &str) -> Result<(), Memor
 }
 
 // Plays a part as it stands.
-fn play_alone(notes: &mut Notes, part: &Part<'_>) -> Result<(), Memory> {
+fn play_alone(notes: &mut TableNotes, part: &Part<'_>) -> Result<(), Memory> {
     let head = part.head;
     let scene = part.scene;
     let scene = format!(in notes.alloc; "{head}\n{scene}")?;
@@ -129,7 +129,7 @@ fn play_alone(notes: &mut Notes, part: &Part<'_>) -> Result<(), Memory> {
 }
 
 // Plays a part over such devices.
-fn play_part(notes: &mut Notes, devices: &str, head: &str, text: &str) -> Result<(), Memory> {
+fn play_part(notes: &mut TableNotes, devices: &str, head: &str, text: &str) -> Result<(), Memory> {
     let (scene, rows) = text.split_once("\nwith\n").unwrap_or((text, ""));
     let part = Part {
         devices,
@@ -143,8 +143,8 @@ fn play_part(notes: &mut Notes, devices: &str, head: &str, text: &str) -> Result
     }
 }
 
-// Plays a table, which has a line with its devices; else it is a heading. Notes how many of its cases came out as they stand.
-fn play_table(notes: &mut Notes, table: &str) -> Result<(), Memory> {
+// Plays a table, which has a line with its devices; else it is a heading. TableNotes how many of its cases came out as they stand.
+fn play_table(notes: &mut TableNotes, table: &str) -> Result<(), Memory> {
     let Some((title, rest)) = table.split_once("\n@ ") else {
         return notes.head(table);
     };
@@ -159,7 +159,7 @@ fn play_table(notes: &mut Notes, table: &str) -> Result<(), Memory> {
 }
 
 /// Plays the tables of a text, which begin behind its first line.
-pub fn play_tables(notes: &mut Notes, text: &str) -> Result<(), Memory> {
+pub fn play_tables(notes: &mut TableNotes, text: &str) -> Result<(), Memory> {
     for table in text.split("\n## ").skip(1) {
         play_table(notes, table)?;
     }

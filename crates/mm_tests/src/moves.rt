@@ -98,7 +98,7 @@ cut-2 left retire here => left 5, 0
 
 /// A line of a table.
 #[derive(Clone, Copy)]
-struct Row<'a> {
+struct MoveCase<'a> {
     variant: Variant,
     stop: Stop,
     cell: &'a str,
@@ -107,12 +107,12 @@ struct Row<'a> {
     said: &'a str,
 }
 
-fn row_of(line: &str) -> Option<Row<'_>> {
+fn row_of(line: &str) -> Option<MoveCase<'_>> {
     let (asked, said) = line.split_once(" => ")?;
     let (front, asked) = asked.split_once(' ')?;
     let (cell, asked) = asked.split_once(' ')?;
     let (word, given) = asked.split_once(' ')?;
-    Some(Row {
+    Some(MoveCase {
         variant: variant_of(front),
         stop: stop_of(front),
         cell,
@@ -208,7 +208,7 @@ fn put_accepted(said: &mut Bytes, variant: Variant, accepted: &Accepted) -> Resu
     )
 }
 
-fn put_invite(said: &mut Bytes, row: &Row<'_>, platform: &mut MemPlatform) -> Result<(), Memory> {
+fn put_invite(said: &mut Bytes, row: &MoveCase<'_>, platform: &mut MemPlatform) -> Result<(), Memory> {
     let came = invite(platform, &LINK, row.variant, 1, &NONCE, &KEY);
     put_invited(said, &came)
 }
@@ -243,7 +243,7 @@ fn put_accept(
 fn put_move(
     said: &mut Bytes,
     alloc: Global,
-    row: &Row<'_>,
+    row: &MoveCase<'_>,
     platform: &mut MemPlatform,
 ) -> Result<(), Memory> {
     match row.word {
@@ -263,7 +263,7 @@ fn put_move(
 fn put_stopped(
     said: &mut Bytes,
     alloc: Global,
-    row: &Row<'_>,
+    row: &MoveCase<'_>,
     platform: &mut MemPlatform,
 ) -> Result<(), Memory> {
     platform.plan(row.stop, &[])?;
@@ -277,7 +277,7 @@ fn put_stopped(
 fn put_made(
     said: &mut Bytes,
     alloc: Global,
-    row: &Row<'_>,
+    row: &MoveCase<'_>,
     platform: &mut MemPlatform,
 ) -> Result<(), Memory> {
     put_stopped(said, alloc, row, platform)?;
@@ -290,7 +290,7 @@ fn put_made(
 
 // Whether what comes of a row is what it says. It is played on another platform with its cell; at `same` on the one that
 // there is.
-fn is_so(alloc: Global, row: &Row<'_>, platform: &mut MemPlatform) -> Result<bool, Memory> {
+fn is_so(alloc: Global, row: &MoveCase<'_>, platform: &mut MemPlatform) -> Result<bool, Memory> {
     if row.cell != "same" {
         *platform = MemPlatform::new(alloc, &cell_of(row.variant, row.cell));
     }

@@ -2,17 +2,17 @@
 use Rattle.std.proofs.Common.{◌≡◌, ℕ, Bool, false, List, [], refl, sym, ap, ◌∙◌, arith}
 use Rattle.std.specs.Prelude.{Option, None, Some, Ok, Err}
 use Rattle.std.specs.Option.{option_map}
-use Rattle.mm_base.specs.Faults.{counted}
+use Rattle.mm_base.specs.Faults.{next_count}
 use Rattle.mm_platform.specs.declared.fault.StepFault.{StepFault}
 use Rattle.mm_platform.specs.declared.fault.StepFault.TheVariants.{Failed, Off}
 use Rattle.mm_platform.specs.Standing.{Item, Plan, Standing, plan_after}
-use Rattle.mm_platform.specs.Steps.{Act, ReadCell, WriteCell, ReadRegister, ResetRegister, ExtendRegister, EndsBy, Goes}
+use Rattle.mm_platform.specs.Steps.{Act, ReadCell, WriteCell, ReadRegister, ResetRegister, ExtendRegister, DeviceStepEnds, StepGoes}
 use Rattle.mm_platform.specs.Steps.{cell_after, items_after, writes_after}
 use Rattle.mm_platform.specs.CallLaws.{beside-none}
-use Rattle.mm_told.specs.declared.step.Made.{Made}
-use Rattle.mm_told.specs.declared.step.Made.TheVariants as made
-use Rattle.mm_told.specs.Steps.{act_made, fault_made, ReadsTrue, IsMade}
-use Rattle.mm_told.specs.Host.{bare}
+use Rattle.mm_told.specs.declared.step.MadeStep.{MadeStep}
+use Rattle.mm_told.specs.declared.step.MadeStep.TheVariants as made
+use Rattle.mm_told.specs.Steps.{made_act, fault_of_answer, ReadIsTrue, IsMade}
+use Rattle.mm_told.specs.Host.{bare_standing}
 
 cell_unmade : (act : Act) (cell : Option (List ℕ)) → cell ≡ cell_after act false cell
 cell_unmade ReadCell cell = refl
@@ -35,12 +35,12 @@ plan_untold (Some plan) e = absurd (cc)
 -- what a step leaves that has no effect and answers Off
 abbrev pub after_unmade : Act → Standing → Standing
 after_unmade act standing = record standing {
-  steps = counted standing.steps;
+  steps = next_count standing.steps;
   writes = writes_after act standing.writes;
-  faults = counted standing.faults;
+  faults = next_count standing.faults;
 }
 
-pub unmade : (act : Act) (standing : Standing) → standing.plan ≡ None → Goes act standing (after_unmade act standing) (Some Off)
+pub unmade : (act : Act) (standing : Standing) → standing.plan ≡ None → StepGoes act standing (after_unmade act standing) (Some Off)
 unmade act standing untold = record {
   is_made = false;
   others = [];
@@ -56,14 +56,14 @@ unmade act standing untold = record {
 }
 
 -- a step as hardware shows it
-ends_bare : (fault : Option StepFault) (old new : Standing) (made : Bool) → EndsBy fault old new made
-    → EndsBy fault (bare old) (bare new) made
+ends_bare : (fault : Option StepFault) (old new : Standing) (made : Bool) → DeviceStepEnds fault old new made
+    → DeviceStepEnds fault (bare_standing old) (bare_standing new) made
 ends_bare None old new made e = record { made = e.made; was_on = e.was_on; is_on = e.is_on; faults = e.faults }
 ends_bare (Some Failed) old new made e = record { was_on = e.was_on; is_on = e.is_on; faults = e.faults }
 ends_bare (Some Off) old new made e = record { faults = e.faults; still = e.still }
 
-pub goes_bare : (act : Act) (old new : Standing) (fault : Option StepFault) → Goes act old new fault
-    → Goes act (bare old) (bare new) fault
+pub goes_bare : (act : Act) (old new : Standing) (fault : Option StepFault) → StepGoes act old new fault
+    → StepGoes act (bare_standing old) (bare_standing new) fault
 goes_bare act old new fault a = record {
   is_made = a.is_made;
   others = a.others;
@@ -78,7 +78,7 @@ goes_bare act old new fault a = record {
   told = λ plan told. absurd (cc);
 }
 
-reads_bare : (it : Made) (old new : Standing) → ReadsTrue it old new → ReadsTrue it (bare old) (bare new)
+reads_bare : (it : MadeStep) (old new : Standing) → ReadIsTrue it old new → ReadIsTrue it (bare_standing old) (bare_standing new)
 reads_bare (made.ReadCell (Ok bytes)) old new r = r
 reads_bare (made.ReadCell (Err fault)) old new r = tt
 reads_bare (made.WriteCell bytes answer) old new r = tt
@@ -87,6 +87,6 @@ reads_bare (made.ReadRegister (Err fault)) old new r = tt
 reads_bare (made.ResetRegister answer) old new r = tt
 reads_bare (made.ExtendRegister value answer) old new r = tt
 
-pub made_bare : (it : Made) (old new : Standing) → IsMade it old new → IsMade it (bare old) (bare new)
+pub made_bare : (it : MadeStep) (old new : Standing) → IsMade it old new → IsMade it (bare_standing old) (bare_standing new)
 made_bare it old new m =
-    record { goes = goes_bare (act_made it) old new (fault_made it) m.goes; reads = reads_bare it old new m.reads }
+    record { goes = goes_bare (made_act it) old new (fault_of_answer it) m.goes; reads = reads_bare it old new m.reads }

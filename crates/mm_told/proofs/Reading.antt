@@ -11,7 +11,7 @@ use Rattle.mm_seal.specs.SnapshotLaws.{reads_parts-same}
 use Rattle.mm_seal.specs.declared.cell.Cell.{Cell}
 use Rattle.mm_seal.specs.declared.cell.CellFault.{CellFault}
 use Rattle.mm_seal.specs.declared.snapshot.PartsFault.{PartsFault}
-use Rattle.mm_machine.specs.declared.operation.Found.{Found}
+use Rattle.mm_machine.specs.declared.operation.OpFinding.{OpFinding}
 use Rattle.mm_machine.specs.declared.operation.Sight.{Sight}
 use Rattle.mm_machine.specs.declared.operation.Sight.TheVariants as sight
 use Rattle.mm_module.specs.Batch.{Batch}
@@ -19,18 +19,18 @@ use Rattle.mm_module.specs.Meaning.{Meaning}
 use Rattle.mm_model.specs.declared.answer.BatchAnswer.{BatchAnswer}
 use Rattle.mm_model.specs.declared.refusal.Refusal.{Refusal}
 use Rattle.mm_model.specs.declared.refusal.Refusal.TheVariants.{Memory}
-use Rattle.mm_call.specs.Refusals.{OrMemory}
+use Rattle.mm_call.specs.Refusals.{IsOrMemory}
 use Rattle.mm_basic.specs.Answers as basic
-use Rattle.mm_basic.specs.Operating.{Sees}
-use Rattle.mm_basic.specs.Seen.{Seen, IsCellOf, IsSeen, NoCell, OtherCell, NoOffer, Both}
+use Rattle.mm_basic.specs.Operation.{SeesAtCell}
+use Rattle.mm_basic.specs.BasicSight.{BasicSight, IsCellOf, IsSeen, NoCell, OtherCell, NoOffer, Both}
 use Rattle.mm_basic.specs.Steps.{FindsIn}
 use Rattle.mm_opt.specs.Answers as opt
 use Rattle.mm_opt.specs.Checkpoints.{segment_in}
-use Rattle.mm_opt.specs.Closing.{closing, sight_of, to_write}
-use Rattle.mm_opt.specs.Operating as in_opt
-use Rattle.mm_opt.specs.Seen.{SeesCell, cell_in}
+use Rattle.mm_opt.specs.ClosingOperation.{closing_operation, sight_of, write_finding}
+use Rattle.mm_opt.specs.Operation as in_opt
+use Rattle.mm_opt.specs.CellSight.{SeesCell, cell_in}
 use Rattle.mm_opt.specs.declared.segment.CheckpointRefusal.{CheckpointRefusal}
-use Rattle.mm_ask.specs.Operating.{asked_by}
+use Rattle.mm_ask.specs.Operating.{ask_operation}
 use Rattle.mm_told.proofs.Determining.{IsDetermined, Lacking, SameOrLacking}
 
 -- memory was wanting for a call; for a checkpoint it never is
@@ -43,7 +43,7 @@ never why = ⊥
 is_lacking : {T : Type 0} (f : Result T Refusal) → f ≡ Err Memory → Lacking is_memory f
 is_lacking f e = subst (Lacking is_memory) (sym e) refl
 
-or_same : {T : Type 0} (x f g : Result T Refusal) → OrMemory x f → OrMemory x g → SameOrLacking is_memory f g
+or_same : {T : Type 0} (x f g : Result T Refusal) → IsOrMemory x f → IsOrMemory x g → SameOrLacking is_memory f g
 or_same (Err why) f g o p = inl (o ∙ sym p)
 or_same (Ok it) f g (inr e) p = inr (inl (is_lacking f e))
 or_same (Ok it) f g (inl e) (inr h) = inr (inr (is_lacking g h))
@@ -60,7 +60,7 @@ cell_or_none bytes a fault s t =
 -- Basic
 
 module _ (id : ℕ) (bytes offer : List ℕ) where
-  same_seen : (s t : Seen) → IsSeen id bytes offer s → IsSeen id bytes offer t → s ≡ t
+  same_seen : (s t : BasicSight) → IsSeen id bytes offer s → IsSeen id bytes offer t → s ≡ t
   same_seen (NoCell f) (NoCell g) s t =
       let e : ◌≡◌ {A = Result Cell CellFault} (Err f) (Err g) = reads_cell-same bytes (Err f) (Err g) s t in cc
   same_seen (NoCell f) OtherCell s t = absurd (cell_or_none bytes t.0 f t.1 s)
@@ -88,29 +88,29 @@ module _ (id : ℕ) (bytes offer : List ℕ) where
       let e : ◌≡◌ {A = Result Snapshot PartsFault} (Ok a) (Ok b) = reads_parts-same offer Basic id (Ok a) (Ok b) s.2 t.2 in
       cc
 
-abbrev at_once : {T R : Type 0} → Result (Found T) R → Result (Sight T) R
+abbrev at_once : {T R : Type 0} → Result (OpFinding T) R → Result (Sight T) R
 at_once (Ok found) = Ok (sight.Found found)
 at_once (Err why) = Err why
 
-lacks_at_once : (f : Result (Found BatchAnswer) Refusal) → Lacking is_memory f → Lacking is_memory (at_once f)
+lacks_at_once : (f : Result (OpFinding BatchAnswer) Refusal) → Lacking is_memory f → Lacking is_memory (at_once f)
 lacks_at_once (Ok found) l = absurd l
 lacks_at_once (Err why) l = l
 
-at_once_same : (f g : Result (Found BatchAnswer) Refusal) → SameOrLacking is_memory f g → SameOrLacking is_memory (at_once f) (at_once g)
+at_once_same : (f g : Result (OpFinding BatchAnswer) Refusal) → SameOrLacking is_memory f g → SameOrLacking is_memory (at_once f) (at_once g)
 at_once_same f g (inl e) = inl (ap at_once e)
 at_once_same f g (inr (inl l)) = inr (inl (lacks_at_once f l))
 at_once_same f g (inr (inr l)) = inr (inr (lacks_at_once g l))
 
 module _ (meaning : Meaning) (offer : List ℕ) (b : Batch) where
-  basic_finds : (bytes : List ℕ) (f g : Result (Found BatchAnswer) Refusal) → FindsIn meaning bytes offer b f
+  basic_finds : (bytes : List ℕ) (f g : Result (OpFinding BatchAnswer) Refusal) → FindsIn meaning bytes offer b f
       → FindsIn meaning bytes offer b g → SameOrLacking is_memory (at_once f) (at_once g)
   basic_finds bytes f g s t =
       at_once_same f g
-      (or_same (basic.found_in meaning s.seen b) f g s.found_is
-      (subst (λ (x : Seen). OrMemory (basic.found_in meaning x b) g)
+      (or_same (basic.finding_in meaning s.seen b) f g s.found_is
+      (subst (λ (x : BasicSight). IsOrMemory (basic.finding_in meaning x b) g)
       (same_seen meaning.id bytes offer t.seen s.seen t.is_seen s.is_seen) t.found_is))
 
-  basic_sees : (bytes : List ℕ) (x y : Result (Sight BatchAnswer) Refusal) → Sees meaning offer b bytes x → Sees meaning offer b bytes y
+  basic_sees : (bytes : List ℕ) (x y : Result (Sight BatchAnswer) Refusal) → SeesAtCell meaning offer b bytes x → SeesAtCell meaning offer b bytes y
       → SameOrLacking is_memory x y
   basic_sees bytes (Ok (sight.Cell cell)) y s t = absurd s
   basic_sees bytes (Ok (sight.Found f)) (Ok (sight.Cell cell)) s t = absurd t
@@ -130,7 +130,7 @@ same_cell : (id : ℕ) (bytes : List ℕ) (f g : Result Cell Refusal) → SeesCe
 same_cell id bytes f g s t =
     ap as_cell (s.found_is ∙ ap (cell_in id) (reads_cell-same bytes s.read t.read s.reads t.reads) ∙ sym t.found_is)
 
-opt_sees : (id : ℕ) (bytes : List ℕ) (x y : Result (Sight BatchAnswer) Refusal) → in_opt.Sees id bytes x → in_opt.Sees id bytes y
+opt_sees : (id : ℕ) (bytes : List ℕ) (x y : Result (Sight BatchAnswer) Refusal) → in_opt.SeesAtCell id bytes x → in_opt.SeesAtCell id bytes y
     → SameOrLacking is_memory x y
 opt_sees id bytes (Ok (sight.Found found)) y s t = absurd s
 opt_sees id bytes (Ok (sight.Cell cell)) (Ok (sight.Found found)) s t = absurd t
@@ -142,7 +142,7 @@ opt_sees id bytes (Err why) (Err other) s t = inl (same_cell id bytes (Err why) 
 
 -- either
 pub determined : (variant : Variant) (meaning : Meaning) (offer : List ℕ) (b : Batch)
-    → IsDetermined is_memory (asked_by variant meaning offer b)
+    → IsDetermined is_memory (ask_operation variant meaning offer b)
 determined Basic meaning offer b = record {
   sees = basic_sees meaning offer b;
   finds = λ cell register x y s t. inl (s ∙ sym t);
@@ -150,19 +150,19 @@ determined Basic meaning offer b = record {
 determined Opt meaning offer b = record {
   sees = opt_sees meaning.id;
   finds = λ cell register x y s t.
-      or_same (opt.found_in meaning cell register s.finds.taken b) x y s.finds.found_is
-      (subst (λ (taken : Result Snapshot PartsFault). OrMemory (opt.found_in meaning cell register taken b) y)
+      or_same (opt.finding_in meaning cell register s.finds.taken b) x y s.finds.found_is
+      (subst (λ (taken : Result Snapshot PartsFault). IsOrMemory (opt.finding_in meaning cell register taken b) y)
       (reads_parts-same offer Opt meaning.id t.finds.taken s.finds.taken t.finds.reads s.finds.reads) t.finds.found_is);
 }
 
 -- a checkpoint
 
-pub closing_determined : IsDetermined never closing
+pub closing_determined : IsDetermined never closing_operation
 closing_determined = record {
   sees = λ bytes x y s t.
       inl (s.gives ∙ ap (result_map_both sight_of (λ why. why))
       (s.finds_it.found_is ∙ ap segment_in (reads_cell-same bytes s.finds_it.read t.finds_it.read s.finds_it.reads t.finds_it.reads)
       ∙ sym t.finds_it.found_is) ∙ sym t.gives);
   finds = λ cell register x y s t.
-      inl (s.gives ∙ ap (result_map_both to_write (λ why. why)) (s.finds_it ∙ sym t.finds_it) ∙ sym t.gives);
+      inl (s.gives ∙ ap (result_map_both write_finding (λ why. why)) (s.finds_it ∙ sym t.finds_it) ∙ sym t.gives);
 }

@@ -4,16 +4,16 @@ use Rattle.std.specs.Prelude.{List, ◌∷◌, Option, None, Some, Ok, Err}
 use Rattle.mm_platform.specs.declared.fault.StepFault.{StepFault}
 use Rattle.mm_platform.specs.declared.fault.StepFault.TheVariants.{Failed, Off}
 use Rattle.mm_platform.specs.Standing.{Standing}
-use Rattle.mm_platform.specs.Steps.{Act, ReadCell, WriteCell, ReadRegister, ResetRegister, ExtendRegister, EndsBy, Goes, beside}
+use Rattle.mm_platform.specs.Steps.{Act, ReadCell, WriteCell, ReadRegister, ResetRegister, ExtendRegister, DeviceStepEnds, StepGoes, items_beside}
 use Rattle.mm_platform.specs.Steps.{cell_after, items_after, writes_after}
-use Rattle.mm_told.specs.declared.step.Made.{Made}
-use Rattle.mm_told.specs.declared.step.Made.TheVariants as made
-use Rattle.mm_told.specs.Steps.{ReadsTrue, act_made, fault_made}
+use Rattle.mm_told.specs.declared.step.MadeStep.{MadeStep}
+use Rattle.mm_told.specs.declared.step.MadeStep.TheVariants as made
+use Rattle.mm_told.specs.Steps.{ReadIsTrue, made_act, fault_of_answer}
 use Rattle.mm_told.specs.Host.{Host, AreMade, IsHostOf}
 
 -- no content is told, and the counts are at their greatest
-abbrev pub worn : Standing
-worn = record {
+abbrev pub worn_standing : Standing
+worn_standing = record {
   cell = None;
   items = None;
   is_on = true;
@@ -32,7 +32,7 @@ cell_worn ReadRegister = refl
 cell_worn ResetRegister = refl
 cell_worn (ExtendRegister value) = refl
 
-items_worn : (act : Act) → None ≡ items_after act true (beside [] None)
+items_worn : (act : Act) → None ≡ items_after act true (items_beside [] None)
 items_worn ReadCell = refl
 items_worn (WriteCell bytes) = refl
 items_worn ReadRegister = refl
@@ -46,13 +46,13 @@ writes_worn ReadRegister = refl
 writes_worn ResetRegister = refl
 writes_worn (ExtendRegister value) = refl
 
-ends_worn : (fault : Option StepFault) → EndsBy fault worn worn true
+ends_worn : (fault : Option StepFault) → DeviceStepEnds fault worn_standing worn_standing true
 ends_worn None = record { made = refl; was_on = refl; is_on = refl; faults = refl }
 ends_worn (Some Failed) = record { was_on = refl; is_on = refl; faults = refl }
 ends_worn (Some Off) = record { faults = refl; still = λ off. absurd (cc) }
 
 -- any step, with any answer
-pub goes_worn : (act : Act) (fault : Option StepFault) → Goes act worn worn fault
+pub goes_worn : (act : Act) (fault : Option StepFault) → StepGoes act worn_standing worn_standing fault
 goes_worn act fault = record {
   is_made = true;
   others = [];
@@ -67,15 +67,15 @@ goes_worn act fault = record {
   told = λ plan told. absurd (cc);
 }
 
-pub worn_host : List Made → Host
+pub worn_host : List MadeStep → Host
 worn_host steps = record {
   made = steps;
-  stood = λ left. worn;
-  missed = λ left act. worn;
+  stood = λ left. worn_standing;
+  missed = λ left act. worn_standing;
   misses = λ left act. goes_worn act (Some Off);
 }
 
-reads_worn : (it : Made) → ReadsTrue it worn worn
+reads_worn : (it : MadeStep) → ReadIsTrue it worn_standing worn_standing
 reads_worn (made.ReadCell (Ok bytes)) = λ cell told. absurd (cc)
 reads_worn (made.ReadCell (Err fault)) = tt
 reads_worn (made.WriteCell bytes answer) = tt
@@ -85,13 +85,13 @@ reads_worn (made.ResetRegister answer) = tt
 reads_worn (made.ExtendRegister value answer) = tt
 
 -- any steps
-are_made : (steps : List Made) → AreMade (λ left. worn) steps
+are_made : (steps : List MadeStep) → AreMade (λ left. worn_standing) steps
 are_made [] = tt
 are_made (it ∷ more) = (
-  record { goes = goes_worn (act_made it) (fault_made it); reads = reads_worn it },
+  record { goes = goes_worn (made_act it) (fault_of_answer it); reads = reads_worn it },
   are_made more,
 )
 
-pub is_worn_host : (steps : List Made) → IsHostOf steps (worn_host steps)
+pub is_worn_host : (steps : List MadeStep) → IsHostOf steps (worn_host steps)
 unfolding worn_host
 is_worn_host steps = record { made_are = refl; are_made = are_made steps }

@@ -1,8 +1,8 @@
 pub mod Steps
 pub mod Host
 pub mod HostLaws
-pub mod Course
-pub mod Outcomes
-pub mod Asking
-pub mod Closing
-pub mod Comings
+pub mod CallPath
+pub mod CallProtocol
+pub mod ToldAskPromise
+pub mod ToldCheckpointPromise
+pub mod ToldOutcomes

@@ -1,18 +1,18 @@
 //! A call whose device steps a host makes.
 
 ghost use Rattle.std.specs.Prelude.{◌≡◌};
-ghost use Rattle.mm_call.specs.Leaving.{whole_in};
-ghost use Rattle.mm_told.specs.Asking.{AsksBy, wants_memory};
-ghost use Rattle.mm_told.specs.Comings.{IsOne, IsOneIn, IsTold, before_by, long_told};
+ghost use Rattle.mm_call.specs.Untouched.{batch_result_of};
+ghost use Rattle.mm_told.specs.ToldAskPromise.{ToldAskPromise, wants_memory};
+ghost use Rattle.mm_told.specs.ToldOutcomes.{IsOne, IsOneIn, IsTold, outcome_if_over, long_outcome};
 ghost use Rattle.mm_told.specs.Host.{Host, IsHostOf};
 
-use crate::outcome::Outcome;
-use crate::step::Made;
-use crate::told::{Came, tell};
+use crate::outcome::StepsOutcome;
+use crate::step::MadeStep;
+use crate::told::{CallProgress, tell};
 use mm_ask::Ask;
-use mm_call::{Ended, KeptKey};
+use mm_call::{AskResult, KeptKey};
 use mm_digest::Variant;
-use mm_machine::Stage;
+use mm_machine::OpStage;
 use mm_model::{Answer, BatchAnswer, Refusal};
 use mm_module::{Batch, Module};
 use std::alloc::Global;
@@ -25,14 +25,14 @@ pub fn ask<M: Module>(
     alloc: Global,
     variant: Variant,
     module: &M,
-    made: &[Made],
+    made: &[MadeStep],
     offer: &[u8],
     request: &[u8],
     keys: &mut KeptKey,
-) -> Outcome<Result<Answer, Refusal>>
+) -> StepsOutcome<Result<Answer, Refusal>>
     ghost host: { Host }
     requires { IsHostOf made.now host }
-    ensures { AsksBy variant (M.meaning «module».now) host made.now offer.now request.now result }
+    ensures { ToldAskPromise variant (M.meaning «module».now) host made.now offer.now request.now result }
 {
     let batch = Batch::One(request);
     if mm_model::is_long(&batch) {
@@ -45,37 +45,37 @@ pub fn ask<M: Module>(
         offer,
         batch,
     };
-    told(tell(&ask, Stage::Begun, made, keys))
+    told(tell(&ask, OpStage::Begun, made, keys))
 }
 
 // Too long a request is refused before the first step.
-fn too_long(made: &[Made]) -> Outcome<Result<Answer, Refusal>>
-    ensures { result ≡ long_told made.now }
+fn too_long(made: &[MadeStep]) -> StepsOutcome<Result<Answer, Refusal>>
+    ensures { result ≡ long_outcome made.now }
 {
     if made.is_empty() {
-        Outcome::Ended(Err(Refusal::Long))
+        StepsOutcome::Ended(Err(Refusal::Long))
     } else {
-        Outcome::Differs
+        StepsOutcome::Differs
     }
 }
 
 // A call of one request, as it is told.
-fn told(came: Came<BatchAnswer, Refusal>) -> Outcome<Result<Answer, Refusal>>
+fn told(came: CallProgress<BatchAnswer, Refusal>) -> StepsOutcome<Result<Answer, Refusal>>
     requires { IsOneIn came }
     ensures { IsTold came result }
 {
     match came {
-        Came::Next(step) => Outcome::Next(step),
-        Came::Over(end) => Outcome::Ended(whole(Ended::of(end).result())),
-        Came::Before(end) => before(Ended::of(end).result()),
-        Came::Elsewhere => Outcome::Differs,
+        CallProgress::Next(step) => StepsOutcome::Next(step),
+        CallProgress::Over(end) => StepsOutcome::Ended(whole(AskResult::of(end).result())),
+        CallProgress::Before(end) => before(AskResult::of(end).result()),
+        CallProgress::Elsewhere => StepsOutcome::Differs,
     }
 }
 
 // The answer to the one request.
 fn whole(given: Result<BatchAnswer, Refusal>) -> Result<Answer, Refusal>
     requires { IsOne given }
-    ensures { whole_in result ≡ given }
+    ensures { batch_result_of result ≡ given }
 {
     match given {
         Ok(answer) => Ok(answer.into_one()),
@@ -84,11 +84,11 @@ fn whole(given: Result<BatchAnswer, Refusal>) -> Result<Answer, Refusal>
 }
 
 // The call was over before, and gave this.
-fn before(given: Result<BatchAnswer, Refusal>) -> Outcome<Result<Answer, Refusal>>
-    ensures { result ≡ before_by (wants_memory given) }
+fn before(given: Result<BatchAnswer, Refusal>) -> StepsOutcome<Result<Answer, Refusal>>
+    ensures { result ≡ outcome_if_over (wants_memory given) }
 {
     match given {
-        Err(Refusal::Memory) => Outcome::Memory,
-        _ => Outcome::Differs,
+        Err(Refusal::Memory) => StepsOutcome::Memory,
+        _ => StepsOutcome::Differs,
     }
 }

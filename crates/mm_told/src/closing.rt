@@ -1,46 +1,46 @@
 //! A checkpoint whose device steps a host makes.
 
-ghost use Rattle.mm_machine.specs.declared.call.Stage.TheVariants.{Begun};
-ghost use Rattle.mm_opt.specs.Closing.{closing};
-ghost use Rattle.mm_told.specs.Closing.{ClosesBy};
-ghost use Rattle.mm_told.specs.Course.{ComesTo};
+ghost use Rattle.mm_machine.specs.declared.call.OpStage.TheVariants.{Begun};
+ghost use Rattle.mm_opt.specs.ClosingOperation.{closing_operation};
+ghost use Rattle.mm_told.specs.ToldCheckpointPromise.{ToldCheckpointPromise};
+ghost use Rattle.mm_told.specs.CallPath.{StepsComeTo};
 ghost use Rattle.mm_told.specs.Host.{Host, IsHostOf};
-ghost use Rattle.mm_told.specs.Comings.{closing_by};
+ghost use Rattle.mm_told.specs.ToldOutcomes.{closing_outcome};
 ghost use Rattle.std.specs.Prelude.{◌≡◌};
 
-use crate::outcome::Outcome;
-use crate::step::Made;
-use crate::told::{Came, tell};
-use mm_machine::Stage;
-use mm_opt::{CheckpointRefusal, Checkpointed, Close, closing_result};
+use crate::outcome::StepsOutcome;
+use crate::step::MadeStep;
+use crate::told::{CallProgress, tell};
+use mm_machine::OpStage;
+use mm_opt::{CheckpointRefusal, Checkpointed, OptCheckpoint, closing_result};
 use mm_seal::KeptKey;
 
 /// What a checkpoint comes to with these steps made, as `ask` says of a call. It is over after at most three steps.
 /// Takes no memory.
-pub fn checkpoint(made: &[Made]) -> Outcome<Result<Checkpointed, CheckpointRefusal>>
+pub fn checkpoint(made: &[MadeStep]) -> StepsOutcome<Result<Checkpointed, CheckpointRefusal>>
     ghost host: { Host }
     requires { IsHostOf made.now host }
-    ensures { ClosesBy host made.now result }
+    ensures { ToldCheckpointPromise host made.now result }
 {
     told(follow(made, &mut KeptKey::new()))
 }
 
-fn follow(made: &[Made], keys: &mut KeptKey) -> Came<Checkpointed, CheckpointRefusal>
-    ensures { ComesTo closing Begun made.now result }
+fn follow(made: &[MadeStep], keys: &mut KeptKey) -> CallProgress<Checkpointed, CheckpointRefusal>
+    ensures { StepsComeTo closing_operation Begun made.now result }
 {
-    tell(&Close, Stage::Begun, made, keys)
+    tell(&OptCheckpoint, OpStage::Begun, made, keys)
 }
 
 // As it is told.
 fn told(
-    came: Came<Checkpointed, CheckpointRefusal>,
-) -> Outcome<Result<Checkpointed, CheckpointRefusal>>
-    ensures { result ≡ closing_by came }
+    came: CallProgress<Checkpointed, CheckpointRefusal>,
+) -> StepsOutcome<Result<Checkpointed, CheckpointRefusal>>
+    ensures { result ≡ closing_outcome came }
 {
     match came {
-        Came::Next(step) => Outcome::Next(step),
-        Came::Over(end) => Outcome::Ended(closing_result(end)),
-        Came::Before(_) => Outcome::Differs,
-        Came::Elsewhere => Outcome::Differs,
+        CallProgress::Next(step) => StepsOutcome::Next(step),
+        CallProgress::Over(end) => StepsOutcome::Ended(closing_result(end)),
+        CallProgress::Before(_) => StepsOutcome::Differs,
+        CallProgress::Elsewhere => StepsOutcome::Differs,
     }
 }

@@ -3,15 +3,15 @@
 ghost use Rattle.std.specs.Prelude.{◌≡◌, ℕ, IfSome, length};
 ghost use Rattle.mm_platform.specs.Standing.{Standing};
 ghost use Rattle.mm_module.specs.Batch.{One};
-ghost use Rattle.mm_call.specs.Leaving.{whole_in};
-ghost use Rattle.mm_basic.specs.Asked.{AskedInBasic};
-ghost use Rattle.mm_told.specs.Host.{AreMade, bare};
+ghost use Rattle.mm_call.specs.Untouched.{batch_result_of};
+ghost use Rattle.mm_basic.specs.AskPromise.{BasicAskPromise};
+ghost use Rattle.mm_told.specs.Host.{AreMade, bare_standing};
 ghost use Rattle.mm_told.specs.Steps.{IsMade};
 
 use crate::asking::ask;
 use crate::making::make;
-use crate::outcome::Outcome;
-use crate::step::Made;
+use crate::outcome::StepsOutcome;
+use crate::step::MadeStep;
 use mm_call::KeptKey;
 use mm_digest::Variant;
 use mm_model::{Answer, Refusal};
@@ -28,9 +28,9 @@ pub fn ask_by_steps<M: Module, P: Platform>(
     offer: &[u8],
     request: &[u8],
 ) -> Option<Result<Answer, Refusal>>
-    ensures { IfSome result (λ gives. AskedInBasic (M.meaning «module».now)
-        (bare (P.standing platform.old)) (bare (P.standing platform.new)) offer.now
-        (One request.now) (whole_in gives)) }
+    ensures { IfSome result (λ gives. BasicAskPromise (M.meaning «module».now)
+        (bare_standing (P.standing platform.old)) (bare_standing (P.standing platform.new)) offer.now
+        (One request.now) (batch_result_of gives)) }
 {
     begin(alloc, module, platform, offer, request, &mut KeptKey::new())
 }
@@ -45,18 +45,18 @@ fn begin<M: Module, P: Platform>(
     keys: &mut KeptKey,
 ) -> Option<Result<Answer, Refusal>>
     ghost start: { Standing }
-    requires { start ≡ bare (P.standing platform.old) }
-    ensures { IfSome result (λ gives. AskedInBasic (M.meaning «module».now) start
-        (bare (P.standing platform.new)) offer.now (One request.now) (whole_in gives)) }
+    requires { start ≡ bare_standing (P.standing platform.old) }
+    ensures { IfSome result (λ gives. BasicAskPromise (M.meaning «module».now) start
+        (bare_standing (P.standing platform.new)) offer.now (One request.now) (batch_result_of gives)) }
 {
     match ask(alloc, Variant::Basic, module, &[], offer, request, keys) {
-        Outcome::Ended(gives) => Some(gives),
-        Outcome::Next(step) => match make(platform, &step) {
+        StepsOutcome::Ended(gives) => Some(gives),
+        StepsOutcome::Next(step) => match make(platform, &step) {
             Ok(one) => go_on(alloc, module, platform, &one, offer, request, keys),
             Err(_) => None,
         },
-        Outcome::Differs => None,
-        Outcome::Memory => None,
+        StepsOutcome::Differs => None,
+        StepsOutcome::Memory => None,
     }
 }
 
@@ -65,25 +65,25 @@ fn go_on<M: Module, P: Platform>(
     alloc: Global,
     module: &M,
     platform: &mut P,
-    one: &Made,
+    one: &MadeStep,
     offer: &[u8],
     request: &[u8],
     keys: &mut KeptKey,
 ) -> Option<Result<Answer, Refusal>>
     ghost start: { Standing × Standing }
-    requires here { start.1 ≡ bare (P.standing platform.old) }
+    requires here { start.1 ≡ bare_standing (P.standing platform.old) }
     requires one { IsMade one.now start.0 start.1 }
-    ensures { IfSome result (λ gives. AskedInBasic (M.meaning «module».now) (bare start.0)
-        (bare (P.standing platform.new)) offer.now (One request.now) (whole_in gives)) }
+    ensures { IfSome result (λ gives. BasicAskPromise (M.meaning «module».now) (bare_standing start.0)
+        (bare_standing (P.standing platform.new)) offer.now (One request.now) (batch_result_of gives)) }
 {
     match ask(alloc, Variant::Basic, module, &[*one], offer, request, keys) {
-        Outcome::Ended(gives) => Some(gives),
-        Outcome::Next(step) => match make(platform, &step) {
+        StepsOutcome::Ended(gives) => Some(gives),
+        StepsOutcome::Next(step) => match make(platform, &step) {
             Ok(two) => end(alloc, module, platform, &[*one, two], offer, request, keys),
             Err(_) => None,
         },
-        Outcome::Differs => None,
-        Outcome::Memory => None,
+        StepsOutcome::Differs => None,
+        StepsOutcome::Memory => None,
     }
 }
 
@@ -92,19 +92,19 @@ fn end<M: Module, P: Platform>(
     alloc: Global,
     module: &M,
     _platform: &P,
-    made: &[Made],
+    made: &[MadeStep],
     offer: &[u8],
     request: &[u8],
     keys: &mut KeptKey,
 ) -> Option<Result<Answer, Refusal>>
     ghost stood: { ℕ → Standing }
-    requires { AreMade (λ left. bare (stood left)) made.now }
-    ensures { IfSome result (λ gives. AskedInBasic (M.meaning «module».now)
-        (bare (stood (length made.now))) (bare (stood 0)) offer.now (One request.now)
-        (whole_in gives)) }
+    requires { AreMade (λ left. bare_standing (stood left)) made.now }
+    ensures { IfSome result (λ gives. BasicAskPromise (M.meaning «module».now)
+        (bare_standing (stood (length made.now))) (bare_standing (stood 0)) offer.now (One request.now)
+        (batch_result_of gives)) }
 {
     match ask(alloc, Variant::Basic, module, made, offer, request, keys) {
-        Outcome::Ended(gives) => Some(gives),
+        StepsOutcome::Ended(gives) => Some(gives),
         _ => None,
     }
 }

@@ -2,35 +2,35 @@
 
 ghost use Rattle.std.specs.Prelude.{◌≡◌, ℕ, List, Some, OnErr, IfOk};
 ghost use Rattle.std.specs.Result.{result_err};
-ghost use Rattle.mm_platform.specs.Steps.{Goes, ReadCell};
-ghost use Rattle.mm_told.specs.Host.{bare};
-ghost use Rattle.mm_told.specs.Steps.{act_of, act_made, IsMade};
+ghost use Rattle.mm_platform.specs.Steps.{StepGoes, ReadCell};
+ghost use Rattle.mm_told.specs.Host.{bare_standing};
+ghost use Rattle.mm_told.specs.Steps.{act_of, made_act, IsMade};
 
-use crate::step::{Made, Step};
+use crate::step::{MadeStep, HostStep};
 use mm_base::{CELL_LENGTH, Memory};
 use mm_digest::Digest;
 use mm_platform::{Platform, StepFault};
 
 /// Makes a step, and gives it with what the device answered. After want of memory nothing was done.
 #[tactic(auto, using(crate::proofs::Missing::made_bare))]
-pub fn make<P: Platform>(platform: &mut P, step: &Step) -> Result<Made, Memory>
-    ensures act { IfOk result (λ it. act_made it ≡ act_of step.now) }
+pub fn make<P: Platform>(platform: &mut P, step: &HostStep) -> Result<MadeStep, Memory>
+    ensures act { IfOk result (λ it. made_act it ≡ act_of step.now) }
     ensures made { IfOk result (λ it.
-        IsMade it (bare (P.standing platform.old)) (bare (P.standing platform.new))) }
+        IsMade it (bare_standing (P.standing platform.old)) (bare_standing (P.standing platform.new))) }
     ensures err { OnErr result (P.standing platform.new ≡ P.standing platform.old) }
 {
     match step {
-        Step::ReadCell => Ok(Made::ReadCell(read_cell(platform))),
-        Step::WriteCell(bytes) => Ok(Made::WriteCell(*bytes, platform.nv_write(bytes))),
-        Step::ReadRegister => Ok(Made::ReadRegister(platform.reg_read())),
-        Step::ResetRegister => Ok(Made::ResetRegister(platform.reg_reset())),
-        Step::ExtendRegister(value) => extend(platform, value),
+        HostStep::ReadCell => Ok(MadeStep::ReadCell(read_cell(platform))),
+        HostStep::WriteCell(bytes) => Ok(MadeStep::WriteCell(*bytes, platform.nv_write(bytes))),
+        HostStep::ReadRegister => Ok(MadeStep::ReadRegister(platform.reg_read())),
+        HostStep::ResetRegister => Ok(MadeStep::ResetRegister(platform.reg_reset())),
+        HostStep::ExtendRegister(value) => extend(platform, value),
     }
 }
 
 // Reads the cell.
 fn read_cell<P: Platform>(platform: &mut P) -> Result<[u8; CELL_LENGTH], StepFault>
-    ensures goes { Goes ReadCell (P.standing platform.old) (P.standing platform.new)
+    ensures goes { StepGoes ReadCell (P.standing platform.old) (P.standing platform.new)
         (result_err result) }
     ensures read { IfOk result (λ bytes. (cell : List ℕ)
         → (P.standing platform.old).cell ≡ Some cell → bytes ≡ cell) }
@@ -44,14 +44,14 @@ fn read_cell<P: Platform>(platform: &mut P) -> Result<[u8; CELL_LENGTH], StepFau
 
 // Makes room for an extension, and then the extension.
 #[tactic(auto, using(crate::proofs::Missing::made_bare))]
-fn extend<P: Platform>(platform: &mut P, value: &Digest) -> Result<Made, Memory>
-    ensures act { IfOk result (λ it. act_made it ≡ act_of (Step.ExtendRegister value.now)) }
+fn extend<P: Platform>(platform: &mut P, value: &Digest) -> Result<MadeStep, Memory>
+    ensures act { IfOk result (λ it. made_act it ≡ act_of (Step.ExtendRegister value.now)) }
     ensures made { IfOk result (λ it.
-        IsMade it (bare (P.standing platform.old)) (bare (P.standing platform.new))) }
+        IsMade it (bare_standing (P.standing platform.old)) (bare_standing (P.standing platform.new))) }
     ensures err { OnErr result (P.standing platform.new ≡ P.standing platform.old) }
 {
     match platform.reg_ready() {
         Err(_) => Err(Memory),
-        Ok(()) => Ok(Made::ExtendRegister(*value, platform.reg_extend(value))),
+        Ok(()) => Ok(MadeStep::ExtendRegister(*value, platform.reg_extend(value))),
     }
 }

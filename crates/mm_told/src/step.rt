@@ -2,7 +2,7 @@
 
 ghost use Rattle.std.specs.Prelude.{◌≡◌, ◌↔◌, IsTrue};
 ghost use Rattle.mm_platform.specs.Steps.{WriteCell, ExtendRegister};
-ghost use Rattle.mm_told.specs.Steps.{act_of, act_made};
+ghost use Rattle.mm_told.specs.Steps.{act_of, made_act};
 
 use mm_base::CELL_LENGTH;
 use mm_digest::Digest;
@@ -10,7 +10,7 @@ use mm_platform::StepFault;
 
 /// A device step.
 #[derive(Clone, Copy, Debug)]
-pub enum Step {
+pub enum HostStep {
     /// Reads the cell.
     ReadCell,
     /// Writes these bytes to the cell.
@@ -25,7 +25,7 @@ pub enum Step {
 
 /// A device step that a host has made, with what its device answered.
 #[derive(Clone, Copy, Debug)]
-pub enum Made {
+pub enum MadeStep {
     /// The cell was read.
     ReadCell(Result<[u8; CELL_LENGTH], StepFault>),
     /// These bytes were written to the cell.
@@ -39,32 +39,32 @@ pub enum Made {
 }
 
 // Whether this is the step that was made.
-pub(crate) fn is_of(it: &Made, step: &Step) -> bool
-    ensures { IsTrue result ↔ (act_made it.now ≡ act_of step.now) }
+pub(crate) fn is_of(it: &MadeStep, step: &HostStep) -> bool
+    ensures { IsTrue result ↔ (made_act it.now ≡ act_of step.now) }
 {
     match it {
-        Made::ReadCell(_) => matches!(step, Step::ReadCell),
-        Made::WriteCell(bytes, _) => is_write_of(bytes, step),
-        Made::ReadRegister(_) => matches!(step, Step::ReadRegister),
-        Made::ResetRegister(_) => matches!(step, Step::ResetRegister),
-        Made::ExtendRegister(value, _) => is_extension_by(value, step),
+        MadeStep::ReadCell(_) => matches!(step, HostStep::ReadCell),
+        MadeStep::WriteCell(bytes, _) => is_write_of(bytes, step),
+        MadeStep::ReadRegister(_) => matches!(step, HostStep::ReadRegister),
+        MadeStep::ResetRegister(_) => matches!(step, HostStep::ResetRegister),
+        MadeStep::ExtendRegister(value, _) => is_extension_by(value, step),
     }
 }
 
-fn is_write_of(bytes: &[u8; CELL_LENGTH], step: &Step) -> bool
+fn is_write_of(bytes: &[u8; CELL_LENGTH], step: &HostStep) -> bool
     ensures { IsTrue result ↔ (act_of step.now ≡ WriteCell bytes.now) }
 {
     match step {
-        Step::WriteCell(wanted) => bytes == wanted,
+        HostStep::WriteCell(wanted) => bytes == wanted,
         _ => false,
     }
 }
 
-fn is_extension_by(value: &Digest, step: &Step) -> bool
+fn is_extension_by(value: &Digest, step: &HostStep) -> bool
     ensures { IsTrue result ↔ (act_of step.now ≡ ExtendRegister value.now.bytes) }
 {
     match step {
-        Step::ExtendRegister(wanted) => value == wanted,
+        HostStep::ExtendRegister(wanted) => value == wanted,
         _ => false,
     }
 }

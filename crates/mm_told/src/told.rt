@@ -3,38 +3,38 @@
 ghost use Rattle.std.specs.Prelude.{◌≡◌, None, Ok};
 ghost use Rattle.std.specs.Result.{result_err};
 ghost use Rattle.mm_machine.specs.Acts.{act_in, change_after};
-ghost use Rattle.mm_machine.specs.Stepping as machine;
-ghost use Rattle.mm_machine.specs.Stepping.{position_if_last, step_found, step_to};
-ghost use Rattle.mm_machine.specs.declared.call.Stage.TheVariants.{Begun, Seen, Changing};
-ghost use Rattle.mm_told.specs.Course.{ComesTo, Turns, Weighs, over_before, step_seen, step_weighed, turn_by};
-ghost use Rattle.mm_told.specs.Steps.{act_of, fault_made};
+ghost use Rattle.mm_machine.specs.OpSteps as machine;
+ghost use Rattle.mm_machine.specs.OpSteps.{position_if_last, step_of_finding, step_to};
+ghost use Rattle.mm_machine.specs.declared.call.OpStage.TheVariants.{Begun, Seen, Changing};
+ghost use Rattle.mm_told.specs.CallPath.{StepsComeTo, StepHasTarget, StepsWeighRegister, progress_at_end, step_by_sight, step_by_finding, target_of_step};
+ghost use Rattle.mm_told.specs.Steps.{act_of, fault_of_answer};
 
-use crate::step::{Made, Step, is_of};
+use crate::step::{MadeStep, HostStep, is_of};
 use mm_digest::Digest;
-use mm_machine::{Change, Ended, Found, Operation, Ready, Sight, Stage};
+use mm_machine::{Change, OpResult, OpFinding, Operation, ReadyChange, Sight, OpStage};
 use mm_platform::StepFault;
 use mm_seal::{Cell, KeptKey};
 
 /// What a call comes to with the steps that were made.
 #[derive(Drop)]
-pub enum Came<A, R> {
+pub enum CallProgress<A, R> {
     /// It makes this step next.
-    Next(Step),
+    Next(HostStep),
     /// It ended at the last of them.
-    Over(Ended<A, R>),
+    Over(OpResult<A, R>),
     /// It ended before the last of them.
-    Before(Ended<A, R>),
+    Before(OpResult<A, R>),
     /// It makes another step than one of them.
     Elsewhere,
 }
 
 /// What a step that was made leads a call to.
 #[derive(Drop)]
-enum Turn<A, R> {
+enum StepTarget<A, R> {
     /// Here.
-    To(Stage<A>),
+    To(OpStage<A>),
     /// To its end.
-    End(Ended<A, R>),
+    End(OpResult<A, R>),
     /// It isn't the step that comes next.
     Other,
 }
@@ -42,80 +42,80 @@ enum Turn<A, R> {
 /// What a call comes to that stands here, with these steps made from here on.
 pub fn tell<O: Operation>(
     op: &O,
-    stage: Stage<O::Answer>,
-    made: &[Made],
+    stage: OpStage<O::Answer>,
+    made: &[MadeStep],
     keys: &mut KeptKey,
-) -> Came<O::Answer, O::Refusal>
-    ensures { ComesTo (O.asked op.now) stage made.now result }
+) -> CallProgress<O::Answer, O::Refusal>
+    ensures { StepsComeTo (O.asked op.now) stage made.now result }
 {
     match made {
-        [] => Came::Next(next(&stage)),
+        [] => CallProgress::Next(next(&stage)),
         [it, more @ ..] => match lead(op, stage, it, keys) {
-            Turn::To(stage) => tell(op, stage, more, keys),
-            Turn::End(end) => over(end, more),
-            Turn::Other => Came::Elsewhere,
+            StepTarget::To(stage) => tell(op, stage, more, keys),
+            StepTarget::End(end) => over(end, more),
+            StepTarget::Other => CallProgress::Elsewhere,
         },
     }
 }
 
 // The call ended, and these steps were made behind that.
-fn over<A: Drop, R: Drop>(end: Ended<A, R>, more: &[Made]) -> Came<A, R>
-    ensures { result ≡ over_before more.now end }
+fn over<A: Drop, R: Drop>(end: OpResult<A, R>, more: &[MadeStep]) -> CallProgress<A, R>
+    ensures { result ≡ progress_at_end more.now end }
 {
     if more.is_empty() {
-        Came::Over(end)
+        CallProgress::Over(end)
     } else {
-        Came::Before(end)
+        CallProgress::Before(end)
     }
 }
 
 // The step that comes next.
-fn next<A: Drop>(stage: &Stage<A>) -> Step
+fn next<A: Drop>(stage: &OpStage<A>) -> HostStep
     ensures { act_of result ≡ machine.act_of stage.now }
 {
     match stage {
-        Stage::Begun => Step::ReadCell,
-        Stage::Seen(_) => Step::ReadRegister,
-        Stage::Changing(ready) => step_in(&ready.change),
+        OpStage::Begun => HostStep::ReadCell,
+        OpStage::Seen(_) => HostStep::ReadRegister,
+        OpStage::Changing(ready) => step_in(&ready.change),
     }
 }
 
 // The step that a change makes.
-fn step_in(change: &Change) -> Step
+fn step_in(change: &Change) -> HostStep
     ensures { act_of result ≡ act_in change.now }
 {
     match change {
-        Change::Extending(value) => Step::ExtendRegister(*value),
-        Change::Emptying(_) => Step::ResetRegister,
-        Change::Placing(opening) => Step::ExtendRegister(opening.value),
-        Change::Writing(next) => Step::WriteCell(*next),
+        Change::Extending(value) => HostStep::ExtendRegister(*value),
+        Change::Emptying(_) => HostStep::ResetRegister,
+        Change::Placing(opening) => HostStep::ExtendRegister(opening.value),
+        Change::Writing(next) => HostStep::WriteCell(*next),
     }
 }
 
 // What this step leads to.
 fn lead<O: Operation>(
     op: &O,
-    stage: Stage<O::Answer>,
-    it: &Made,
+    stage: OpStage<O::Answer>,
+    it: &MadeStep,
     keys: &mut KeptKey,
-) -> Turn<O::Answer, O::Refusal>
-    ensures { Turns (O.asked op.now) stage it.now result }
+) -> StepTarget<O::Answer, O::Refusal>
+    ensures { StepHasTarget (O.asked op.now) stage it.now result }
 {
     match stage {
-        Stage::Begun => see(op, it, keys),
-        Stage::Seen(cell) => find(op, &cell, it, keys),
-        Stage::Changing(ready) => changed(op, ready, it),
+        OpStage::Begun => see(op, it, keys),
+        OpStage::Seen(cell) => find(op, &cell, it, keys),
+        OpStage::Changing(ready) => changed(op, ready, it),
     }
 }
 
 // The cell was read.
-fn see<O: Operation>(op: &O, it: &Made, keys: &mut KeptKey) -> Turn<O::Answer, O::Refusal>
-    ensures { Turns (O.asked op.now) Begun it.now result }
+fn see<O: Operation>(op: &O, it: &MadeStep, keys: &mut KeptKey) -> StepTarget<O::Answer, O::Refusal>
+    ensures { StepHasTarget (O.asked op.now) Begun it.now result }
 {
     match it {
-        Made::ReadCell(Ok(bytes)) => sighted(op.see(bytes, keys)),
-        Made::ReadCell(Err(fault)) => broken(*fault),
-        _ => Turn::Other,
+        MadeStep::ReadCell(Ok(bytes)) => sighted(op.see(bytes, keys)),
+        MadeStep::ReadCell(Err(fault)) => broken(*fault),
+        _ => StepTarget::Other,
     }
 }
 
@@ -123,15 +123,15 @@ fn see<O: Operation>(op: &O, it: &Made, keys: &mut KeptKey) -> Turn<O::Answer, O
 fn find<O: Operation>(
     op: &O,
     cell: &Cell,
-    it: &Made,
+    it: &MadeStep,
     keys: &mut KeptKey,
-) -> Turn<O::Answer, O::Refusal>
-    ensures { Turns (O.asked op.now) (Seen cell.now) it.now result }
+) -> StepTarget<O::Answer, O::Refusal>
+    ensures { StepHasTarget (O.asked op.now) (Seen cell.now) it.now result }
 {
     match it {
-        Made::ReadRegister(Ok(value)) => weigh(op, cell, value, keys),
-        Made::ReadRegister(Err(fault)) => broken(*fault),
-        _ => Turn::Other,
+        MadeStep::ReadRegister(Ok(value)) => weigh(op, cell, value, keys),
+        MadeStep::ReadRegister(Err(fault)) => broken(*fault),
+        _ => StepTarget::Other,
     }
 }
 
@@ -141,8 +141,8 @@ fn weigh<O: Operation>(
     cell: &Cell,
     value: &Digest,
     keys: &mut KeptKey,
-) -> Turn<O::Answer, O::Refusal>
-    ensures { Weighs (O.asked op.now) cell.now value.now result }
+) -> StepTarget<O::Answer, O::Refusal>
+    ensures { StepsWeighRegister (O.asked op.now) cell.now value.now result }
 {
     let value = copied(value);
     weighed(op.find(cell, &value, keys))
@@ -156,62 +156,62 @@ fn copied(value: &Digest) -> Digest
 }
 
 // A reading step failed.
-fn broken<A, R>(fault: StepFault) -> Turn<A, R>
+fn broken<A, R>(fault: StepFault) -> StepTarget<A, R>
     ensures { result ≡ Turn.End (Ended.Broken fault None) }
 {
-    Turn::End(Ended::Broken {
+    StepTarget::End(OpResult::Broken {
         fault,
         commits: None,
     })
 }
 
 // Behind what was seen.
-fn sighted<A: Drop, R: Drop>(seen: Result<Sight<A>, R>) -> Turn<A, R>
-    ensures { result ≡ turn_by (step_seen seen) }
+fn sighted<A: Drop, R: Drop>(seen: Result<Sight<A>, R>) -> StepTarget<A, R>
+    ensures { result ≡ target_of_step (step_by_sight seen) }
 {
     match seen {
         Ok(Sight::Found(found)) => at(found),
-        Ok(Sight::Cell(cell)) => Turn::To(Stage::Seen(cell)),
-        Err(refusal) => Turn::End(Ended::Refused(refusal)),
+        Ok(Sight::Cell(cell)) => StepTarget::To(OpStage::Seen(cell)),
+        Err(refusal) => StepTarget::End(OpResult::Refused(refusal)),
     }
 }
 
 // Behind what was found.
-fn weighed<A: Drop, R: Drop>(found: Result<Found<A>, R>) -> Turn<A, R>
-    ensures { result ≡ turn_by (step_weighed found) }
+fn weighed<A: Drop, R: Drop>(found: Result<OpFinding<A>, R>) -> StepTarget<A, R>
+    ensures { result ≡ target_of_step (step_by_finding found) }
 {
     match found {
         Ok(found) => at(found),
-        Err(refusal) => Turn::End(Ended::Refused(refusal)),
+        Err(refusal) => StepTarget::End(OpResult::Refused(refusal)),
     }
 }
 
 // Something is to be done, or nothing.
-fn at<A: Drop, R>(found: Found<A>) -> Turn<A, R>
-    ensures { result ≡ turn_by (step_found (Ok found)) }
+fn at<A: Drop, R>(found: OpFinding<A>) -> StepTarget<A, R>
+    ensures { result ≡ target_of_step (step_of_finding (Ok found)) }
 {
     match found {
-        Found::Repeat(answer) => Turn::End(Ended::Answered(answer)),
-        Found::Change(ready) => Turn::To(Stage::Changing(ready)),
+        OpFinding::Repeat(answer) => StepTarget::End(OpResult::Answered(answer)),
+        OpFinding::Change(ready) => StepTarget::To(OpStage::Changing(ready)),
     }
 }
 
 // A changing step was made.
-fn changed<O: Operation>(op: &O, ready: Ready<O::Answer>, it: &Made) -> Turn<O::Answer, O::Refusal>
-    ensures { Turns (O.asked op.now) (Changing ready) it.now result }
+fn changed<O: Operation>(op: &O, ready: ReadyChange<O::Answer>, it: &MadeStep) -> StepTarget<O::Answer, O::Refusal>
+    ensures { StepHasTarget (O.asked op.now) (Changing ready) it.now result }
 {
     if !is_of(it, &step_in(&ready.change)) {
-        return Turn::Other;
+        return StepTarget::Other;
     }
     let commits = commits(op, &ready);
     match answered(it) {
-        Err(fault) => Turn::End(Ended::Broken { fault, commits }),
+        Err(fault) => StepTarget::End(OpResult::Broken { fault, commits }),
         Ok(()) => behind(ready),
     }
 }
 
 // The position that a step commits.
-fn commits<O: Operation>(op: &O, ready: &Ready<O::Answer>) -> Option<u64>
+fn commits<O: Operation>(op: &O, ready: &ReadyChange<O::Answer>) -> Option<u64>
     ensures { result ≡ position_if_last (change_after ready.now.change)
         ((O.asked op.now).position ready.now.answer) }
 {
@@ -223,28 +223,28 @@ fn commits<O: Operation>(op: &O, ready: &Ready<O::Answer>) -> Option<u64>
 }
 
 // Whether the device failed.
-fn answered(it: &Made) -> Result<(), StepFault>
-    ensures { result_err result ≡ fault_made it.now }
+fn answered(it: &MadeStep) -> Result<(), StepFault>
+    ensures { result_err result ≡ fault_of_answer it.now }
 {
     match it {
-        Made::ReadCell(Ok(_)) => Ok(()),
-        Made::ReadCell(Err(fault)) => Err(*fault),
-        Made::ReadRegister(Ok(_)) => Ok(()),
-        Made::ReadRegister(Err(fault)) => Err(*fault),
-        Made::WriteCell(_, answer) => *answer,
-        Made::ResetRegister(answer) => *answer,
-        Made::ExtendRegister(_, answer) => *answer,
+        MadeStep::ReadCell(Ok(_)) => Ok(()),
+        MadeStep::ReadCell(Err(fault)) => Err(*fault),
+        MadeStep::ReadRegister(Ok(_)) => Ok(()),
+        MadeStep::ReadRegister(Err(fault)) => Err(*fault),
+        MadeStep::WriteCell(_, answer) => *answer,
+        MadeStep::ResetRegister(answer) => *answer,
+        MadeStep::ExtendRegister(_, answer) => *answer,
     }
 }
 
 // Behind a changing step.
-fn behind<A: Drop, R>(ready: Ready<A>) -> Turn<A, R>
-    ensures { result ≡ turn_by (step_to (change_after ready.change) ready.answer) }
+fn behind<A: Drop, R>(ready: ReadyChange<A>) -> StepTarget<A, R>
+    ensures { result ≡ target_of_step (step_to (change_after ready.change) ready.answer) }
 {
-    let Ready { change, answer } = ready;
+    let ReadyChange { change, answer } = ready;
     match change_behind(change) {
-        None => Turn::End(Ended::Answered(answer)),
-        Some(change) => Turn::To(Stage::Changing(Ready { change, answer })),
+        None => StepTarget::End(OpResult::Answered(answer)),
+        Some(change) => StepTarget::To(OpStage::Changing(ReadyChange { change, answer })),
     }
 }
 

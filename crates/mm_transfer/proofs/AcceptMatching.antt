@@ -1,19 +1,19 @@
 -- What an acceptance finds in a side's cell is what it finds by the side's role.
 use Rattle.mm_transfer.proofs.Below.{◌≡◌, ℕ, Bool, true, false, List, [], ◌∷◌, length, None, Result, Ok, Err, refl, sym, ap, ◌∙◌}
-use Rattle.mm_transfer.proofs.Below.{subst, ◌&&◌, ◌||◌, not, if◌then◌else◌, list_any, bytes_eq, Variant, zero_bytes, anchored_of}
+use Rattle.mm_transfer.proofs.Below.{subst, ◌&&◌, ◌||◌, not, if◌then◌else◌, list_any, bytes_eq, Variant, zero_bytes, anchored_digest_of}
 use Rattle.mm_transfer.proofs.Below.{Meaning, PartsFault, Form, Kind, Place, InBasic, InOpt}
-use Rattle.mm_transfer.proofs.Below.{variant_of, Instance, Digests, digest_of, Refusal, by_digests, cell_at}
-use Rattle.mm_transfer.proofs.Below.{Link, MoveRefusal, moved_of, is_barred}
-use Rattle.mm_transfer.proofs.Below.{is_other, stands_at, accepted_as}
-use Rattle.mm_transfer.proofs.Below.{arrives_by, has_arrived_by, accepts_in, refuse_if, TicketContent, TaggedTicket}
+use Rattle.mm_transfer.proofs.Below.{variant_of, Instance, Digests, digest_of, Refusal, digest_level, cell_at}
+use Rattle.mm_transfer.proofs.Below.{Link, MoveRefusal, moved_cell_of, is_barred}
+use Rattle.mm_transfer.proofs.Below.{is_other, is_place_at, acceptance_of}
+use Rattle.mm_transfer.proofs.Below.{acceptance_by, acceptance_again_by, acceptance_in, refusal_if, TicketContent, TaggedTicket}
 use Rattle.mm_transfer.proofs.Below.{IsTicket, SpellsTicket, summary_in, place_at, ticket_of, bytes_are, bytes_tell}
 use Rattle.mm_transfer.proofs.Below.{tickets_are_read, Blank, Live, Waits, Left, Enters, Refused}
-use Rattle.mm_transfer.proofs.Below.{stands_here, ticket_by, entered_as}
-use Rattle.mm_transfer.proofs.Below.{entered_again, accepted_on, waiting_at, cell_of_role}
-use Rattle.mm_transfer.proofs.Below.{GivesEntry, IsSaid, Matches, FitsCell, IsPlace, Role}
+use Rattle.mm_transfer.proofs.Below.{stands_here, ticket_by, entry_by_ticket}
+use Rattle.mm_transfer.proofs.Below.{repeated_entry, acceptance_on, waiting_cell_at, cell_of_role}
+use Rattle.mm_transfer.proofs.Below.{GivesEntry, IsSaid, MatchesRole, FitsCell, IsPlace, Role}
 use Rattle.mm_digest.specs.declared.digest.Digest.{Digest}
 use Rattle.mm_digest.specs.declared.variant.Variant.TheVariants as variants
-use Rattle.mm_model.specs.Judge.{fits_fresh}
+use Rattle.mm_model.specs.Verdicts.{fits_fresh}
 use Rattle.mm_model.specs.declared.refusal.Refusal.TheVariants as core
 use Rattle.mm_move.specs.declared.refusal.MoveRefusal.TheVariants as refusal
 use Rattle.mm_move.specs.Orders as orders
@@ -27,7 +27,7 @@ refused_core (Ok ticket) = Ok ticket
 refused_core (Err why) = Err (refusal.Core why)
 
 by_tests : (spelled tagged : Bool) (ticket : TicketContent)
-    → refuse_if (not spelled) (refusal.Core core.State) (refuse_if (not tagged) (refusal.Core core.Tag) (Ok ticket))
+    → refusal_if (not spelled) (refusal.Core core.State) (refusal_if (not tagged) (refusal.Core core.Tag) (Ok ticket))
     ≡ refused_core (if spelled then (if tagged then Ok ticket else Err core.Tag) else Err core.State)
 by_tests true true ticket = refl
 by_tests _ tagged ticket = refl
@@ -89,14 +89,14 @@ place_size (InBasic s) is = is
 place_size (InOpt a e) is = is.0
 
 entered_match : (i : Instance) (d : Digests) (awaited : List ℕ) (read : Result TicketContent Refusal) → AreFor i read
-    → Matches (GivesEntry i d) i (Waits awaited) d (arrives_by (waiting_at i awaited) (refused_core read)) (entered_as awaited read)
+    → MatchesRole (GivesEntry i d) i (Waits awaited) d (acceptance_by (waiting_cell_at i awaited) (refused_core read)) (entry_by_ticket awaited read)
 entered_match i d awaited (Err why) is = (refl, is)
 entered_match i d awaited (Ok ticket) is =
     by_not (GivesEntry i d) i (Waits awaited) d (bytes_eq ticket.nonce awaited) (bytes_eq awaited ticket.nonce) _ _ _ _
     (eq_turned ticket.nonce awaited)
     (record {
       next = refl;
-      answer = ap (accepted_as i.key) (said_content i (summary_in ticket.content.place).bytes ticket is refl);
+      answer = ap (acceptance_of i.key) (said_content i (summary_in ticket.content.place).bytes ticket is refl);
       fits = place_size ticket.content.place is.is.content.place;
       live = refl;
     }) (refl, tt)
@@ -109,33 +109,33 @@ and_or false = refl
 
 one_form : (anchor extension digest : List ℕ) (closed : Bool) → closed ≡ true → bytes_eq extension zero_bytes ≡ true
     → list_any (fits_fresh false digest zero_bytes) (record { anchor = anchor; extension = extension }
-    ∷ (if closed then [] else record { anchor = anchored_of anchor extension; extension = zero_bytes } ∷ [])) ≡ bytes_eq anchor digest
+    ∷ (if closed then [] else record { anchor = anchored_digest_of anchor extension; extension = zero_bytes } ∷ [])) ≡ bytes_eq anchor digest
 one_form anchor extension digest false e z = cc
 one_form anchor extension digest true e z = ap (λ x. (bytes_eq anchor digest && x) || false) z ∙ and_or (bytes_eq anchor digest)
 
 anchor_stands : (variant : Variant) (summary : Digest) (digest : List ℕ)
-    → stands_at (digest_of digest) (place_at variant summary) ≡ bytes_eq summary.bytes digest
+    → is_place_at (digest_of digest) (place_at variant summary) ≡ bytes_eq summary.bytes digest
 anchor_stands variants.Basic summary digest = refl
 anchor_stands variants.Opt summary digest =
     one_form summary.bytes zero_bytes digest (bytes_eq zero_bytes zero_bytes) (bytes_are zero_bytes zero_bytes refl)
     (bytes_are zero_bytes zero_bytes refl)
 
 ticket_stands : (i : Instance) (d : Digests) (ticket : TicketContent) → IsFor i ticket → d.flag ≡ false
-    → bytes_eq (summary_in ticket.content.place).bytes d.digest ≡ stands_here (by_digests i) d ticket.content
+    → bytes_eq (summary_in ticket.content.place).bytes d.digest ≡ stands_here (digest_level i) d ticket.content
 ticket_stands i d ticket is clear =
-    sym (stands_alike i d ticket.content clear ∙ ap (stands_at (digest_of d.digest)) is.is.place
+    sym (stands_alike i d ticket.content clear ∙ ap (is_place_at (digest_of d.digest)) is.is.place
     ∙ anchor_stands (variant_of ticket.content.place) (summary_in ticket.content.place) d.digest)
 
 again_by : (i : Instance) (d : Digests) (ticket : TicketContent) → IsFor i ticket → (flag here stands : Bool) → d.flag ≡ flag
-    → bytes_eq (summary_in ticket.content.place).bytes d.digest ≡ here → (flag ≡ false → here ≡ stands) → Matches (GivesEntry i d) i Live d
-    (refuse_if (flag || not here) (refusal.Core core.Stale) (Ok (record { next = None; answer = accepted_as i.key ticket.content })))
+    → bytes_eq (summary_in ticket.content.place).bytes d.digest ≡ here → (flag ≡ false → here ≡ stands) → MatchesRole (GivesEntry i d) i Live d
+    (refusal_if (flag || not here) (refusal.Core core.Stale) (Ok (record { next = None; answer = acceptance_of i.key ticket.content })))
     (if flag then Err (Refused core.Stale)
     else (if stands then Ok (record { again = true; effect = Enters ticket }) else Err (Refused core.Stale)))
 again_by i d ticket is true here stands f h s = (refl, tt)
 again_by i d ticket is false true true f h s =
     record {
       next = refl;
-      answer = ap (accepted_as i.key) (said_content i d.digest ticket is (bytes_tell (summary_in ticket.content.place).bytes d.digest h));
+      answer = ap (acceptance_of i.key) (said_content i d.digest ticket is (bytes_tell (summary_in ticket.content.place).bytes d.digest h));
       fits = place_size ticket.content.place is.is.content.place;
       live = refl;
     }
@@ -144,15 +144,15 @@ again_by i d ticket is false true false f h s = let e = s refl in cc
 again_by i d ticket is false false true f h s = let e = s refl in cc
 
 again_match : (i : Instance) (d : Digests) (read : Result TicketContent Refusal) → AreFor i read
-    → Matches (GivesEntry i d) i Live d (has_arrived_by (cell_at i d) (refused_core read)) (entered_again (by_digests i) d read)
+    → MatchesRole (GivesEntry i d) i Live d (acceptance_again_by (cell_at i d) (refused_core read)) (repeated_entry (digest_level i) d read)
 again_match i d (Err why) is = (refl, is)
 again_match i d (Ok ticket) is =
-    again_by i d ticket is d.flag (bytes_eq (summary_in ticket.content.place).bytes d.digest) (stands_here (by_digests i) d ticket.content)
+    again_by i d ticket is d.flag (bytes_eq (summary_in ticket.content.place).bytes d.digest) (stands_here (digest_level i) d ticket.content)
     refl refl (ticket_stands i d ticket is)
 
 accepts : (i : Instance) (link : Link) (role : Role) (d : Digests) (bytes : List ℕ) → FitsCell i link role d
-    → Matches (GivesEntry i d) i role d (accepts_in i.meaning i.variant link bytes (read_as i role d))
-    (accepted_on (by_digests i) role d (ticket_by i.meaning link.key (ticket_of i.variant i.meaning.id bytes)))
+    → MatchesRole (GivesEntry i d) i role d (acceptance_in i.meaning i.variant link bytes (read_as i role d))
+    (acceptance_on (digest_level i) role d (ticket_by i.meaning link.key (ticket_of i.variant i.meaning.id bytes)))
 accepts i link Blank d bytes fit = (refl, tt)
 accepts i link (Left left) d bytes fit = (refl, tt)
 accepts i link (Waits awaited) d bytes fit =
@@ -160,7 +160,7 @@ accepts i link (Waits awaited) d bytes fit =
     let read = ticket_by i.meaning link.key (ticket_of i.variant i.meaning.id bytes) in
     past gives i (Waits awaited) d (is_other i.variant i.meaning.id i.variant i.meaning.id) _ _ _ (no_other i.variant i.meaning.id)
     (past gives i (Waits awaited) d (is_barred i.variant i.barrier link) _ _ _ (not_barred i.variant i.barrier link fit.linked)
-    (subst (λ r. Matches gives i (Waits awaited) d (arrives_by (waiting_at i awaited) r) (entered_as awaited read))
+    (subst (λ r. MatchesRole gives i (Waits awaited) d (acceptance_by (waiting_cell_at i awaited) r) (entry_by_ticket awaited read))
     (sym (same_ticket i.meaning link.key (ticket_of i.variant i.meaning.id bytes)))
     (entered_match i d awaited read (ticket_for_side i link.key bytes))))
 accepts i link Live d bytes fit =
@@ -168,14 +168,14 @@ accepts i link Live d bytes fit =
     let read = ticket_by i.meaning link.key (ticket_of i.variant i.meaning.id bytes) in
     past gives i Live d (is_other i.variant i.meaning.id i.variant i.meaning.id) _ _ _ (no_other i.variant i.meaning.id)
     (past gives i Live d (is_barred i.variant i.barrier link) _ _ _ (not_barred i.variant i.barrier link fit.linked)
-    (subst (λ r. Matches gives i Live d (has_arrived_by (cell_at i d) r) (entered_again (by_digests i) d read))
+    (subst (λ r. MatchesRole gives i Live d (acceptance_again_by (cell_at i d) r) (repeated_entry (digest_level i) d read))
     (sym (same_ticket i.meaning link.key (ticket_of i.variant i.meaning.id bytes)))
     (again_match i d read (ticket_for_side i link.key bytes))))
 
 pub accepts_match : (i : Instance) (link : Link) (role : Role) (d : Digests) (bytes : List ℕ) → FitsCell i link role d
-    → Matches (GivesEntry i d) i role d (accepts_in i.meaning i.variant link bytes (moved_of (cell_of_role i role d)))
-    (accepted_on (by_digests i) role d (ticket_by i.meaning link.key (ticket_of i.variant i.meaning.id bytes)))
+    → MatchesRole (GivesEntry i d) i role d (acceptance_in i.meaning i.variant link bytes (moved_cell_of (cell_of_role i role d)))
+    (acceptance_on (digest_level i) role d (ticket_by i.meaning link.key (ticket_of i.variant i.meaning.id bytes)))
 accepts_match i link role d bytes fit =
-    subst (λ r. Matches (GivesEntry i d) i role d (accepts_in i.meaning i.variant link bytes r)
-    (accepted_on (by_digests i) role d (ticket_by i.meaning link.key (ticket_of i.variant i.meaning.id bytes))))
+    subst (λ r. MatchesRole (GivesEntry i d) i role d (acceptance_in i.meaning i.variant link bytes r)
+    (acceptance_on (digest_level i) role d (ticket_by i.meaning link.key (ticket_of i.variant i.meaning.id bytes))))
     (sym (role_read i link role d fit)) (accepts i link role d bytes fit)

@@ -1,13 +1,13 @@
 -- An acceptance on a side comes to what it comes to by digests.
 use Rattle.mm_transfer.proofs.Below.{◌≡◌, ◌&&◌, ℕ, Bool, true, false, not, List, [], ◌∷◌, ◌++◌, length, None, Some, Result, Ok}
 use Rattle.mm_transfer.proofs.Below.{Err, inl, inr, refl, sym, ap, ◌∙◌, subst, arith, length-append, MatchResult, if◌then◌else◌}
-use Rattle.mm_transfer.proofs.Below.{Memory, Meaning, Meddle, Stop, Standing, Instance, Digests, walk, by_digests, course_of, offered_bytes}
-use Rattle.mm_transfer.proofs.Below.{Offer, MoveRefusal, moved_of, accepts_in, TicketContent, ticket_of, place_at, Content, sealed_of}
+use Rattle.mm_transfer.proofs.Below.{Memory, Meaning, Meddle, Stop, Standing, Instance, Digests, walk, digest_level, course_of, offered_bytes}
+use Rattle.mm_transfer.proofs.Below.{Offer, MoveRefusal, moved_cell_of, acceptance_in, TicketContent, ticket_of, place_at, Content, sealed_snapshot_of}
 use Rattle.mm_transfer.proofs.Below.{digest_of, Role, Effect, Enters, is_live, role_after, Which, Pair, key_of, instance_on, Both}
-use Rattle.mm_transfer.proofs.Below.{digests_move, MoveCause, FoundMove, Accept, accepted_on, ticket_by, ticket_in, move_steps, effect_of}
-use Rattle.mm_transfer.proofs.Below.{handed, told, accepting, Between, MoveReply, CodeSide, EnteredAs, both_with, commanded, FitsBetween}
-use Rattle.mm_transfer.proofs.Below.{CommandDone, CommandLacks, has_moved, link_of, role_in, at_in, FitsSide, reply_said}
-use Rattle.mm_transfer.proofs.Below.{cell_of_role, stood, GivesEntry, GivesEntryBy, FitsLive, Matches, FitsCell}
+use Rattle.mm_transfer.proofs.Below.{digests_move, DenialCause, FoundMove, Accept, acceptance_on, ticket_by, ticket_in, move_steps, effect_of}
+use Rattle.mm_transfer.proofs.Below.{sides_after_issue, effect_reply, found_acceptance, IssuedTickets, MoveReply, CodeSide, TellsEntry, both_with, outcome_of_command, FitsIssuedTickets}
+use Rattle.mm_transfer.proofs.Below.{CommandDone, CommandLacks, has_moved, link_of, role_in, at_in, FitsSide, move_reply_of}
+use Rattle.mm_transfer.proofs.Below.{cell_of_role, digests_after_move, GivesEntry, GivesEntryBy, FitsLive, MatchesRole, FitsCell}
 use Rattle.mm_move.specs.declared.accepting.Accepted.{Accepted}
 use Rattle.mm_transfer.specs.declared.reply.MoveReply.TheVariants as reply
 use Rattle.mm_transfer.proofs.Commanded.{by_known, IsIdle, chosen, whole, tell, Told, told_still, move_done, Named}
@@ -41,56 +41,56 @@ said_as i x y content e = λ j. record {
 
 stood_digest : (d : Digests) (away : ℕ) (again : Bool) (ticket : TicketContent)
     → (at_then away d (if again then None else Some (Enters ticket))).digest
-    ≡ (stood d (record { again = again; effect = Enters ticket })).digest
+    ≡ (digests_after_move d (record { again = again; effect = Enters ticket })).digest
 stood_digest d away true ticket = refl
 stood_digest d away false ticket = refl
 
 handed_entry : (pair : Pair) (i : Instance) (both : Both Digests ℕ) (d : Digests) (away : ℕ) (again : Bool) (effect : Effect)
-    (accepted : Accepted) → GivesEntryBy i (stood d (record { again = again; effect = effect })) effect accepted
+    (accepted : Accepted) → GivesEntryBy i (digests_after_move d (record { again = again; effect = effect })) effect accepted
     → both.first.at.digest ≡ (at_then away d (if again then None else Some effect)).digest
-    → (reply.Entered accepted.position ≡ reply_said (told digests_move i both effect))
-    × (handed digests_move pair i both effect
+    → (reply.Entered accepted.position ≡ move_reply_of (effect_reply digests_move i both effect))
+    × (sides_after_issue digests_move pair i both effect
     ≡ record both { first = record both.first { issued = both.first.issued ++ accepted.snapshot ∷ [] } })
 handed_entry pair i both d away again (Enters ticket) accepted g at =
-    let same = said_as i both.first.at (stood d (record { again = again; effect = Enters ticket })) ticket.content
+    let same = said_as i both.first.at (digests_after_move d (record { again = again; effect = Enters ticket })) ticket.content
     (at ∙ stood_digest d away again ticket) in (
       ap (λ (a : Accepted). reply.Entered a.position) g,
-      (λ j. record both { first = record both.first { issued = both.first.issued ++ sealed_of i.key (same j) ∷ [] } })
+      (λ j. record both { first = record both.first { issued = both.first.issued ++ sealed_snapshot_of i.key (same j) ∷ [] } })
           ∙ (λ j. record both { first = record both.first { issued = both.first.issued ++ (sym g j).snapshot ∷ [] } }),
     )
 handed_entry pair i both d away again effect accepted g at = absurd g
 
 accepts_pair : (pair : Pair) (which : Which) (role : Role) (d : Digests) (bytes : List ℕ)
     → FitsCell (instance_on pair which) (link_of pair) role d → (let i = instance_on pair which in
-    Matches (GivesEntry i d) i role d (accepts_in pair.meaning pair.variant (link_of pair) bytes (moved_of (cell_of_role i role d)))
-    (accepted_on (by_digests i) role d (ticket_in pair bytes)))
+    Matches (GivesEntry i d) i role d (acceptance_in pair.meaning pair.variant (link_of pair) bytes (moved_cell_of (cell_of_role i role d)))
+    (acceptance_on (digest_level i) role d (ticket_in pair bytes)))
 accepts_pair pair which role d bytes fit =
     let i = instance_on pair which in
     let v = variant_by pair.variant pair.meaning (key_of pair which) pair.barrier in
     let m = meaning_by pair.variant pair.meaning (key_of pair which) pair.barrier in
     subst (λ variant. Matches (GivesEntry i d) i role d
-    (accepts_in pair.meaning variant (link_of pair) bytes (moved_of (cell_of_role i role d)))
-    (accepted_on (by_digests i) role d (ticket_by pair.meaning pair.link (ticket_of variant pair.meaning.id bytes)))) v
+    (acceptance_in pair.meaning variant (link_of pair) bytes (moved_cell_of (cell_of_role i role d)))
+    (acceptance_on (digest_level i) role d (ticket_by pair.meaning pair.link (ticket_of variant pair.meaning.id bytes)))) v
     (subst (λ (meaning : Meaning). Matches (GivesEntry i d) i role d
-    (accepts_in meaning i.variant (link_of pair) bytes (moved_of (cell_of_role i role d)))
-    (accepted_on (by_digests i) role d (ticket_by meaning pair.link (ticket_of i.variant meaning.id bytes)))) m
+    (acceptance_in meaning i.variant (link_of pair) bytes (moved_cell_of (cell_of_role i role d)))
+    (acceptance_on (digest_level i) role d (ticket_by meaning pair.link (ticket_of i.variant meaning.id bytes)))) m
     (accepts_match i (link_of pair) role d bytes fit))
 
 -- the platform is as the move left it, and so is what is kept of the digest
 entered_over : (live : Bool) (away : ℕ) (stop : Stop) (came : Result Accepted MoveRefusal) (mid new : CodeSide)
-    (result : Result MoveReply Memory) → EnteredAs live away stop came mid new result
+    (result : Result MoveReply Memory) → TellsEntry live away stop came mid new result
     → (new.seat.platform ≡ mid.seat.platform) × (new.digest ≡ mid.digest)
 entered_over live away stop (Ok accepted) mid new result e = (e.platform, e.digest)
 entered_over live away stop (Err why) mid new result e = (e.platform, e.digest)
 
 -- with what the offer named
 pub accepted_done : (pair : Pair) (which : Which) (offer : Offer) (stop : Stop) (meddles : List Meddle) (old mid new : CodeSide)
-    (between : Between) (live : Bool) (cell : List ℕ) (came : Result Accepted MoveRefusal) (result : Result MoveReply Memory)
-    → Named (λ bytes (cell : List ℕ). accepts_in pair.meaning pair.variant (link_of pair) bytes (moved_of cell)) stop meddles
+    (between : IssuedTickets) (live : Bool) (cell : List ℕ) (came : Result Accepted MoveRefusal) (result : Result MoveReply Memory)
+    → Named (λ bytes (cell : List ℕ). acceptance_in pair.meaning pair.variant (link_of pair) bytes (moved_cell_of cell)) stop meddles
     (offered_bytes between.tickets.items offer) old.seat.platform mid.seat.platform came → live ≡ is_live (role_in (Some cell))
-    → old.seat.platform.cell ≡ Some cell → SameSide old mid → EnteredAs live between.away stop came mid new result → FitsSide pair which old
-    → FitsBetween between
-    → MatchResult result (CommandDone pair which old new between between (commanded pair which old between meddles stop (Accept offer)))
+    → old.seat.platform.cell ≡ Some cell → SameSide old mid → TellsEntry live between.away stop came mid new result → FitsSide pair which old
+    → FitsIssuedTickets between
+    → MatchResult result (CommandDone pair which old new between between (outcome_of_command pair which old between meddles stop (Accept offer)))
     (λ _. CommandLacks pair which meddles stop old new between between)
 accepted_done pair which offer stop meddles old mid new between live cell came result named lives holds s entered fits counted =
     let i = instance_on pair which in
@@ -103,26 +103,26 @@ accepted_done pair which offer stop meddles old mid new between live cell came r
     let lives' : live ≡ is_live role = lives ∙ ap (λ x. is_live (role_in x)) (sym holds) in
     elim (named.planned i d (cell_of_role i role d) fits.stands.cell fits.stands.register fits.quiet) [
       | inl made ↦
-          let found = accepted_on (by_digests i) role d (ticket_in pair named.bytes) in
+          let found = acceptance_on (digest_level i) role d (ticket_in pair named.bytes) in
           let fates = (course_of stop meddles).fates in
           let effect = effect_of fates found in
           let c = subst (λ (x : Standing). Came gives i role d stop meddles found x came) (sym over.0)
           (came_by gives i role d stop meddles mid.seat.platform came _ found
           (accepts_pair pair which role d named.bytes fits.stands.fits) made) in
           let enters = λ (it : FoundMove) (k : Knows gives role d it).
-          is_entered i role d (stood d it) away new.digest.bytes it.again it.effect k.answer k.gave k.live in
-          let same = λ (moved : Bool) (f : Result FoundMove MoveCause) (k : KnowsOf gives role d f).
+          is_entered i role d (digests_after_move d it) away new.digest.bytes it.again it.effect k.answer k.gave k.live in
+          let same = λ (moved : Bool) (f : Result FoundMove DenialCause) (k : KnowsOf gives role d f).
           by_known gives role d (λ e. away ≡ away_then away d e) moved f k refl (λ it k. (enters it k).away_is) in
-          let count = λ (moved : Bool) (f : Result FoundMove MoveCause) (k : KnowsOf gives role d f) (idle : IsIdle moved f).
+          let count = λ (moved : Bool) (f : Result FoundMove DenialCause) (k : KnowsOf gives role d f) (idle : IsIdle moved f).
           chosen gives role d (not live) moved away d.count (λ e. (at_then away d e).count) f k idle refl
           (λ it k. (ap not lives' ∙ (enters it k).live, (enters it k).count)) in
           let t = tell gives pair i role d stop (walk fates 1 (move_steps found)).broken found effect came
           (λ b f e. Told pair i stop b f e result old new between between d) c.says (moved_by stop meddles found) c.knows
-          (λ why e r. let t = subst (λ (c : Result Accepted MoveRefusal). EnteredAs live away stop c mid new result) e entered in
+          (λ why e r. let t = subst (λ (c : Result Accepted MoveRefusal). TellsEntry live away stop c mid new result) e entered in
           told_still pair i stop _ found effect why result old new between between d r t.says (t.issued ∙ s.issued) refl
           refl counted (t.committed ∙ ap (λ n. if not live && has_moved stop why then away else n) s.committed
           ∙ count (has_moved stop why) found c.knows r.idle) (same (has_moved stop why) found c.knows))
-          (λ it accepted e g k. let t = subst (λ (c : Result Accepted MoveRefusal). EnteredAs live away stop c mid new result) e entered in
+          (λ it accepted e g k. let t = subst (λ (c : Result Accepted MoveRefusal). TellsEntry live away stop c mid new result) e entered in
           let issued = t.issued ∙ ap (λ (x : List (List ℕ)). x ++ accepted.snapshot ∷ []) s.issued in
           record {
             said = reply.Entered accepted.position;
@@ -145,10 +145,10 @@ accepted_done pair which offer stop meddles old mid new between live cell came r
             tickets = omega arith;
           }) in
           move_done gives pair which stop meddles (Accept offer) found old new between between came result fits c t keeps
-          (λ it k. (enters it k).keeps) (λ other committed. ap (accepting digests_move pair i (both_with old between other committed).first)
+          (λ it k. (enters it k).keeps) (λ other committed. ap (found_acceptance digests_move pair i (both_with old between other committed).first)
           named.names)
       | inr w ↦
-          let t = subst (λ (c : Result Accepted MoveRefusal). EnteredAs live away stop c mid new result) w.says entered in
+          let t = subst (λ (c : Result Accepted MoveRefusal). TellsEntry live away stop c mid new result) w.says entered in
           err_match _ _ result t.says
           (lacks_done pair which stop meddles old new between between old.seat.platform mid.seat.platform came fits w refl t.platform
           (t.committed ∙ never live mid.seat.committed away ∙ s.committed) keeps (t.issued ∙ s.issued) refl refl refl)
@@ -164,10 +164,10 @@ accepted_done pair which offer stop meddles old mid new between live cell came r
 
 -- a ticket that isn't issued
 pub accepted_unissued : (pair : Pair) (which : Which) (offer : Offer) (stop : Stop) (meddles : List Meddle) (old new : CodeSide)
-    (between : Between) → (offered_bytes between.tickets.items offer ≡ None) × (new.seat.platform ≡ old.seat.platform) → SameSide old new
-    → FitsSide pair which old → FitsBetween between
-    → CommandDone pair which old new between between (commanded pair which old between meddles stop (Accept offer)) reply.NoTicket
+    (between : IssuedTickets) → (offered_bytes between.tickets.items offer ≡ None) × (new.seat.platform ≡ old.seat.platform) → SameSide old new
+    → FitsSide pair which old → FitsIssuedTickets between
+    → CommandDone pair which old new between between (outcome_of_command pair which old between meddles stop (Accept offer)) reply.NoTicket
 accepted_unissued pair which offer stop meddles old new between none s fits counted =
     unissued_done pair which stop meddles (Accept offer) reply.NoTicket old new between between fits counted none.1 s
     (record { tickets = refl; kept = refl; away = refl }) refl
-    (λ other committed. ap (accepting digests_move pair (instance_on pair which) (both_with old between other committed).first) none.0)
+    (λ other committed. ap (found_acceptance digests_move pair (instance_on pair which) (both_with old between other committed).first) none.0)

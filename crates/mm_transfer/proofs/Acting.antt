@@ -1,56 +1,56 @@
 -- What happens on a side is what happens on both.
 use Rattle.mm_transfer.proofs.Below.{◌≡◌, ◌∙◌, ◌^◌, ◌<◌, ℕ, List, length, Option, None, Some, Result, Ok, Err, refl, sym, ap, subst, arith}
 use Rattle.mm_transfer.proofs.Below.{MatchResult, IfOk, OnOk, OnErr, sum_by, Memory, StepFault, Meddle, Stop, Instance, Digests, walk, course_of}
-use Rattle.mm_transfer.proofs.Below.{meddles_of, Header, Which, First, Second, Pair, instance_on, Both, turned, digests_move, Moves}
-use Rattle.mm_transfer.proofs.Below.{BothEvent, affected_if, brought_to, effect_of, finding, move_ended, move_outcome, move_steps, moved_if}
-use Rattle.mm_transfer.proofs.Below.{Command, Accept, FoundMove, MoveCause, Effect, Invites, Between, MoveReply, CodeSide}
-use Rattle.mm_transfer.proofs.Below.{Inside, both_with, commanded, FitsBetween, CommandDone, CommandLacks, Commands, act_of, command_of}
-use Rattle.mm_transfer.proofs.Below.{side_event_of, which_of, side_in, within_64, pair_of, reply_said, IsSayable}
+use Rattle.mm_transfer.proofs.Below.{meddles_of, Header, Which, First, Second, Pair, instance_on, Both, sides_swapped, digests_move, Moves}
+use Rattle.mm_transfer.proofs.Below.{BothEvent, sides_after_effect_if, state_after_steps, effect_of, found_command, move_end_outcome, move_outcome, move_steps, outcome_if_found}
+use Rattle.mm_transfer.proofs.Below.{MoveCommand, Accept, FoundMove, DenialCause, Effect, Invites, IssuedTickets, MoveReply, CodeSide}
+use Rattle.mm_transfer.proofs.Below.{Inside, both_with, outcome_of_command, FitsIssuedTickets, CommandDone, CommandLacks, CommandGoes, act_of, command_of}
+use Rattle.mm_transfer.proofs.Below.{side_event_of, which_of, side_in, within_64, pair_of, move_reply_of, IsSayable}
 use Rattle.mm_schedule.specs.declared.event.Meddles.{Meddles}
-use Rattle.mm_sides.specs.Folds.{Act}
-use Rattle.mm_transfer.specs.declared.event.Act.{Act as CodeAct}
-use Rattle.mm_transfer.specs.declared.event.Act.TheVariants as code
+use Rattle.mm_sides.specs.Folds.{BothAct}
+use Rattle.mm_transfer.specs.declared.event.SideAct.{SideAct as CodeAct}
+use Rattle.mm_transfer.specs.declared.event.SideAct.TheVariants as code
 use Rattle.mm_transfer.specs.declared.event.Command.{Command as CodeCommand}
 use Rattle.mm_transfer.specs.declared.event.SideEvent.{SideEvent}
 use Rattle.mm_transfer.specs.declared.event.Which.{Which as CodeWhich}
 use Rattle.mm_transfer.specs.declared.event.Which.TheVariants as which
-use Rattle.mm_transfer.specs.Acting.{acted, AreWithin, ActDone, ActLacks, Acts}
-use Rattle.mm_transfer.specs.Sides.{BothHeld, held_in, outcome_in}
-use Rattle.mm_transfer.specs.Wanting.{Wants}
+use Rattle.mm_transfer.specs.ActOutcome.{outcome_of_act, AreWithin, ActDone, ActLacks, ActGoes}
+use Rattle.mm_transfer.specs.Sides.{TransferSides, transfer_sides_in, outcome_in}
+use Rattle.mm_transfer.specs.MemoryWant.{BothEventWants}
 
 -- no move is answered as an event of a schedule is
 told_sayable : (pair : Pair) (i : Instance) (both : Both Digests ℕ) (stop : Stop) (found : FoundMove) (effect : Effect)
     (had : Option Effect)
-    → IsSayable (reply_said (move_ended digests_move pair i both stop None (Ok (record found { effect = effect })) had).reply)
+    → IsSayable (move_reply_of (move_end_outcome digests_move pair i both stop None (Ok (record found { effect = effect })) had).reply)
 told_sayable pair i both stop found (Invites nonce) had = tt
 told_sayable pair i both stop found _ had = tt
 
 ended_sayable : (pair : Pair) (i : Instance) (both : Both Digests ℕ) (stop : Stop) (fault : Option StepFault)
-    (found : Result FoundMove MoveCause) (effect : Option Effect)
-    → IsSayable (reply_said (move_ended digests_move pair i both stop fault found effect).reply)
+    (found : Result FoundMove DenialCause) (effect : Option Effect)
+    → IsSayable (move_reply_of (move_end_outcome digests_move pair i both stop fault found effect).reply)
 ended_sayable pair i both stop (Some fault) found effect = tt
 ended_sayable pair i both stop None (Err cause) effect = tt
 ended_sayable pair i both stop None (Ok found) effect = told_sayable pair i both stop found found.effect effect
 
-found_sayable : (pair : Pair) (i : Instance) (both : Both Digests ℕ) (meddles : List Meddle) (stop : Stop) (command : Command)
-    (found : Option (Result FoundMove MoveCause))
-    → IsSayable (reply_said (moved_if digests_move pair i both meddles stop command found).reply)
+found_sayable : (pair : Pair) (i : Instance) (both : Both Digests ℕ) (meddles : List Meddle) (stop : Stop) (command : MoveCommand)
+    (found : Option (Result FoundMove DenialCause))
+    → IsSayable (move_reply_of (outcome_if_found digests_move pair i both meddles stop command found).reply)
 found_sayable pair i both meddles stop (Accept offer) None = tt
 found_sayable pair i both meddles stop command None = tt
 found_sayable pair i both meddles stop command (Some found) =
     let fates = (course_of stop meddles).fates in
     let effect = effect_of fates found in
-    let here = record both { first = record both.first { at = brought_to digests_move i both.first.at meddles stop (move_steps found) } } in
-    ended_sayable pair i (affected_if digests_move here effect) stop (walk fates 1 (move_steps found)).broken found effect
+    let here = record both { first = record both.first { at = state_after_steps digests_move i both.first.at meddles stop (move_steps found) } } in
+    ended_sayable pair i (sides_after_effect_if digests_move here effect) stop (walk fates 1 (move_steps found)).broken found effect
 
-move_sayable : (pair : Pair) (i : Instance) (both : Both Digests ℕ) (meddles : List Meddle) (stop : Stop) (command : Command)
-    → IsSayable (reply_said (move_outcome digests_move pair i both meddles stop command).reply)
-move_sayable pair i both meddles stop command = found_sayable pair i both meddles stop command (finding digests_move pair i both command)
+move_sayable : (pair : Pair) (i : Instance) (both : Both Digests ℕ) (meddles : List Meddle) (stop : Stop) (command : MoveCommand)
+    → IsSayable (move_reply_of (move_outcome digests_move pair i both meddles stop command).reply)
+move_sayable pair i both meddles stop command = found_sayable pair i both meddles stop command (found_command digests_move pair i both command)
 
-done_acts : (pair : Pair) (which : Which) (meddles : List Meddle) (stop : Stop) (command : Command) (old new : CodeSide) (was now : Between)
+done_acts : (pair : Pair) (which : Which) (meddles : List Meddle) (stop : Stop) (command : MoveCommand) (old new : CodeSide) (was now : IssuedTickets)
     (committed : ℕ) (said : MoveReply) → AreWithin old was committed
-    → CommandDone pair which old new was now (commanded pair which old was meddles stop command) said
-    → ActDone pair which old new was now committed committed (acted pair which old was committed (Moves meddles stop command)) said
+    → CommandDone pair which old new was now (outcome_of_command pair which old was meddles stop command) said
+    → ActDone pair which old new was now committed committed (outcome_of_act pair which old was committed (Moves meddles stop command)) said
 done_acts pair which meddles stop command old new was now committed said w d =
     let counts = d.counts committed w.side w.away in
     record {
@@ -67,8 +67,8 @@ done_acts pair which meddles stop command old new was now committed said w d =
       tickets = d.tickets;
     }
 
-lacks_acts : (pair : Pair) (which : Which) (meddles : List Meddle) (stop : Stop) (command : Command) (old new : CodeSide)
-    (was now : Between) (committed : ℕ) → FitsBetween was → AreWithin old was committed
+lacks_acts : (pair : Pair) (which : Which) (meddles : List Meddle) (stop : Stop) (command : MoveCommand) (old new : CodeSide)
+    (was now : IssuedTickets) (committed : ℕ) → FitsIssuedTickets was → AreWithin old was committed
     → CommandLacks pair which meddles stop old new was now
     → ActLacks pair which (Moves meddles stop command) old new was now committed committed
 lacks_acts pair which meddles stop command old new was now committed f w l =
@@ -87,37 +87,37 @@ lacks_acts pair which meddles stop command old new was now committed f w l =
       same = refl;
     }
 
-command_acts : (pair : Pair) (which : Which) (meddles : List Meddle) (stop : Stop) (command : Command) (old new : CodeSide)
-    (was now : Between) (committed : ℕ) (result : Result MoveReply Memory) → Commands pair which meddles stop command old new was now result
-    → Acts pair which (Moves meddles stop command) old new was now committed committed result
+command_acts : (pair : Pair) (which : Which) (meddles : List Meddle) (stop : Stop) (command : MoveCommand) (old new : CodeSide)
+    (was now : IssuedTickets) (committed : ℕ) (result : Result MoveReply Memory) → CommandGoes pair which meddles stop command old new was now result
+    → ActGoes pair which (Moves meddles stop command) old new was now committed committed result
 command_acts pair which meddles stop command old new was now committed (Ok said) c =
     λ f b w few. done_acts pair which meddles stop command old new was now committed said w (c f b)
 command_acts pair which meddles stop command old new was now committed (Err fault) c =
     λ f b w few. lacks_acts pair which meddles stop command old new was now committed b w (c f b)
 
 pub moves_acts : (pair : Pair) (which : Which) (act : CodeAct) (meddles : Meddles) (listed : List Meddle) (stop : Stop)
-    (command : CodeCommand) (old new : CodeSide) (was now : Between) (committed : ℕ) (result : Result MoveReply Memory)
+    (command : CodeCommand) (old new : CodeSide) (was now : IssuedTickets) (committed : ℕ) (result : Result MoveReply Memory)
     → act ≡ code.Moves meddles stop command
-    → listed ≡ meddles_of meddles → Commands pair which listed stop (command_of command) old new was now result
-    → Acts pair which (act_of act) old new was now committed committed result
+    → listed ≡ meddles_of meddles → CommandGoes pair which listed stop (command_of command) old new was now result
+    → ActGoes pair which (act_of act) old new was now committed committed result
 moves_acts pair which act meddles listed stop command old new was now committed result is lists c =
     let done = command_acts pair which listed stop (command_of command) old new was now committed result c in
     let listing = subst (λ (m : List Meddle).
-    Acts pair which (Moves m stop (command_of command)) old new was now committed committed result) lists done in
-    subst (λ (a : CodeAct). Acts pair which (act_of a) old new was now committed committed result) (sym is) listing
+    ActGoes pair which (Moves m stop (command_of command)) old new was now committed committed result) lists done in
+    subst (λ (a : CodeAct). ActGoes pair which (act_of a) old new was now committed committed result) (sym is) listing
 
 -- An event has come to what it comes to on both sides, and was answered so.
-pub record Comes (held : BothHeld) (event : BothEvent) (new : Both Digests ℕ) (result : Result MoveReply Memory) : Type 0 where
-  pub reply : IfOk result (λ reply. reply ≡ reply_said (outcome_in held event).reply)
+pub record Comes (held : TransferSides) (event : BothEvent) (new : Both Digests ℕ) (result : Result MoveReply Memory) : Type 0 where
+  pub reply : IfOk result (λ reply. reply ≡ move_reply_of (outcome_in held event).reply)
   pub after : OnOk result (new ≡ (outcome_in held event).both)
-  pub wants : OnErr result (Wants (pair_of held.header) event held.both new)
+  pub wants : OnErr result (BothEventWants (pair_of held.header) event held.both new)
 
-first_comes : (header : Header) (first first' second : CodeSide) (between between' : Between) (committed committed' : ℕ) (act : Act)
+first_comes : (header : Header) (first first' second : CodeSide) (between between' : IssuedTickets) (committed committed' : ℕ) (act : BothAct)
     (result : Result MoveReply Memory) → MatchResult result
     (ActDone (pair_of header) First first first' between between' committed committed'
-    (acted (pair_of header) First first between committed act))
+    (outcome_of_act (pair_of header) First first between committed act))
     (λ fault. ActLacks (pair_of header) First act first first' between between' committed committed')
-    → Comes (held_in header first second between committed) (record { which = First; act = act })
+    → Comes (transfer_sides_in header first second between committed) (record { which = First; act = act })
     (both_with first' between' (side_in second) committed') result
 first_comes header first first' second between between' committed committed' act (Ok said) d =
     record { reply = d.says (side_in second); after = d.both (side_in second); wants = tt }
@@ -136,16 +136,16 @@ first_comes header first first' second between between' committed committed' act
   };
 }
 
-second_comes : (header : Header) (first second second' : CodeSide) (between between' : Between) (committed committed' : ℕ) (act : Act)
+second_comes : (header : Header) (first second second' : CodeSide) (between between' : IssuedTickets) (committed committed' : ℕ) (act : BothAct)
     (result : Result MoveReply Memory) → MatchResult result
     (ActDone (pair_of header) Second second second' between between' committed committed'
-    (acted (pair_of header) Second second between committed act))
+    (outcome_of_act (pair_of header) Second second between committed act))
     (λ fault. ActLacks (pair_of header) Second act second second' between between' committed committed')
-    → Comes (held_in header first second between committed) (record { which = Second; act = act })
+    → Comes (transfer_sides_in header first second between committed) (record { which = Second; act = act })
     (both_with first between' (side_in second') committed') result
 second_comes header first second second' between between' committed committed' act (Ok said) d = record {
   reply = d.says (side_in first);
-  after = ap (λ (both : Both Digests ℕ). turned both) (d.both (side_in first));
+  after = ap (λ (both : Both Digests ℕ). sides_swapped both) (d.both (side_in first));
   wants = tt;
 }
 second_comes header first second second' between between' committed committed' act (Err fault) d = record {
@@ -164,40 +164,40 @@ second_comes header first second second' between between' committed committed' a
 }
 
 -- an event on either side, as the code has followed it
-pub event_first : (old : Inside) (held : BothHeld) (event : SideEvent) (new : Both Digests ℕ) (here : CodeSide) (between : Between)
-    (committed : ℕ) (result came : Result MoveReply Memory) → held_in old.header old.first old.second old.between old.committed ≡ held
+pub event_first : (old : Inside) (held : TransferSides) (event : SideEvent) (new : Both Digests ℕ) (here : CodeSide) (between : IssuedTickets)
+    (committed : ℕ) (result came : Result MoveReply Memory) → transfer_sides_in old.header old.first old.second old.between old.committed ≡ held
     → held.both.committed < 2 ^ 63 → event.which ≡ which.First → result ≡ came → new ≡ both_with here between (side_in old.second) committed
-    → Acts (pair_of old.first.seat.header) First (act_of event.act) old.first here old.between between old.committed committed came
+    → ActGoes (pair_of old.first.seat.header) First (act_of event.act) old.first here old.between between old.committed committed came
     → Comes held (side_event_of event) new result
 event_first old held event new here between committed result came view few is came_is now acts =
     let act = act_of event.act in
-    let here_acts = subst (λ (h : Header). Acts (pair_of h) First act old.first here old.between between old.committed committed came)
+    let here_acts = subst (λ (h : Header). ActGoes (pair_of h) First act old.first here old.between between old.committed committed came)
     old.first_headed acts in
     let within : AreWithin old.first old.between old.committed = record { side = old.first_within; away = old.away_within } in
-    let room = subst (λ (h : BothHeld). h.both.committed < 2 ^ 63) (sym view) few in
+    let room = subst (λ (h : TransferSides). h.both.committed < 2 ^ 63) (sym view) few in
     let comes = first_comes old.header old.first here old.second old.between between old.committed committed act came
     (here_acts old.first_fits old.between_fits within room) in
     let event : BothEvent = record { which = First; act = act } in
-    let held_comes = subst (λ (h : BothHeld). Comes h event (both_with here between (side_in old.second) committed) came) view comes in
+    let held_comes = subst (λ (h : TransferSides). Comes h event (both_with here between (side_in old.second) committed) came) view comes in
     let new_comes = subst (λ (both : Both Digests ℕ). Comes held event both came) (sym now) held_comes in
     let result_comes = subst (λ (r : Result MoveReply Memory). Comes held event new r) (sym came_is) new_comes in
     subst (λ (w : CodeWhich). Comes held (record { which = which_of w; act = act }) new result) (sym is) result_comes
 
-pub event_second : (old : Inside) (held : BothHeld) (event : SideEvent) (new : Both Digests ℕ) (here : CodeSide) (between : Between)
-    (committed : ℕ) (result came : Result MoveReply Memory) → held_in old.header old.first old.second old.between old.committed ≡ held
+pub event_second : (old : Inside) (held : TransferSides) (event : SideEvent) (new : Both Digests ℕ) (here : CodeSide) (between : IssuedTickets)
+    (committed : ℕ) (result came : Result MoveReply Memory) → transfer_sides_in old.header old.first old.second old.between old.committed ≡ held
     → held.both.committed < 2 ^ 63 → event.which ≡ which.Second → result ≡ came → new ≡ both_with old.first between (side_in here) committed
-    → Acts (pair_of old.second.seat.header) Second (act_of event.act) old.second here old.between between old.committed committed came
+    → ActGoes (pair_of old.second.seat.header) Second (act_of event.act) old.second here old.between between old.committed committed came
     → Comes held (side_event_of event) new result
 event_second old held event new here between committed result came view few is came_is now acts =
     let act = act_of event.act in
-    let here_acts = subst (λ (h : Header). Acts (pair_of h) Second act old.second here old.between between old.committed committed came)
+    let here_acts = subst (λ (h : Header). ActGoes (pair_of h) Second act old.second here old.between between old.committed committed came)
     old.second_headed acts in
     let within : AreWithin old.second old.between old.committed = record { side = old.second_within; away = old.away_within } in
-    let room = subst (λ (h : BothHeld). h.both.committed < 2 ^ 63) (sym view) few in
+    let room = subst (λ (h : TransferSides). h.both.committed < 2 ^ 63) (sym view) few in
     let comes = second_comes old.header old.first old.second here old.between between old.committed committed act came
     (here_acts old.second_fits old.between_fits within room) in
     let event : BothEvent = record { which = Second; act = act } in
-    let held_comes = subst (λ (h : BothHeld). Comes h event (both_with old.first between (side_in here) committed) came) view comes in
+    let held_comes = subst (λ (h : TransferSides). Comes h event (both_with old.first between (side_in here) committed) came) view comes in
     let new_comes = subst (λ (both : Both Digests ℕ). Comes held event both came) (sym now) held_comes in
     let result_comes = subst (λ (r : Result MoveReply Memory). Comes held event new r) (sym came_is) new_comes in
     subst (λ (w : CodeWhich). Comes held (record { which = which_of w; act = act }) new result) (sym is) result_comes

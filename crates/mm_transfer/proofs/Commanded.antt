@@ -2,11 +2,11 @@
 use Rattle.mm_transfer.proofs.Below.{◌≡◌, ◌≤◌, ◌+◌, ◌&&◌, ℕ, Bool, true, false, not, List, length, Option, None, Some, Result, Ok, Err}
 use Rattle.mm_transfer.proofs.Below.{refl, sym, ap, ◌∙◌, subst, arith, MatchResult, if◌then◌else◌, is_some, sum_by, Memory, StepFault}
 use Rattle.mm_transfer.proofs.Below.{Meddle, Stop, Standing, Instance, Digests, walk, course_of, way_of, offered_bytes, Offer}
-use Rattle.mm_transfer.proofs.Below.{Link, Ready, MoveRefusal, Role, Effect, Which, Pair, instance_on, Side, Both, digests_move}
-use Rattle.mm_transfer.proofs.Below.{MoveCause, FoundMove, Command, Denied, move_steps, effect_if, effect_of, brought_to, affected_if}
-use Rattle.mm_transfer.proofs.Below.{finding, moved_if, move_ended, role_after, Between, MoveReply, CodeSide, RefusedAs, Tried}
-use Rattle.mm_transfer.proofs.Below.{both_with, commanded, FitsBetween, CommandDone, CommandLacks, has_moved, role_in, at_in}
-use Rattle.mm_transfer.proofs.Below.{within_64, FitsSide, MovesPlanned, moves_at, reply_said, refusal_of}
+use Rattle.mm_transfer.proofs.Below.{Link, ReadyMove, MoveRefusal, Role, Effect, Which, Pair, instance_on, SideState, Both, digests_move}
+use Rattle.mm_transfer.proofs.Below.{DenialCause, FoundMove, MoveCommand, Denied, move_steps, effect_if, effect_of, state_after_steps, sides_after_effect_if}
+use Rattle.mm_transfer.proofs.Below.{found_command, outcome_if_found, move_end_outcome, role_after, IssuedTickets, MoveReply, CodeSide, TellsRefusalAs, TriesMove}
+use Rattle.mm_transfer.proofs.Below.{both_with, outcome_of_command, FitsIssuedTickets, CommandDone, CommandLacks, has_moved, role_in, at_in}
+use Rattle.mm_transfer.proofs.Below.{within_64, FitsSide, MovesByPlan, has_effect_at, move_reply_of, refusal_of}
 use Rattle.mm_model.specs.declared.refusal.Refusal.TheVariants as core
 use Rattle.mm_move.specs.declared.refusal.MoveRefusal.TheVariants as refusal
 use Rattle.mm_transfer.specs.declared.reply.MoveReply.TheVariants as reply
@@ -16,18 +16,18 @@ use Rattle.mm_transfer.proofs.SideStands.{KeepsFor}
 
 -- the effect that was made, whether the move was whole or broken off
 
-record IsMade (found : Result FoundMove MoveCause) (effect : Option Effect) : Type 0 where
+record IsMade (found : Result FoundMove DenialCause) (effect : Option Effect) : Type 0 where
   moved : Bool
   is : effect ≡ made_if moved found
 
-made_as : (stop : Stop) (broken : Option StepFault) (found : Result FoundMove MoveCause) (effect : Option Effect)
+made_as : (stop : Stop) (broken : Option StepFault) (found : Result FoundMove DenialCause) (effect : Option Effect)
     → MovedBy stop broken found effect → IsMade found effect
 made_as stop None found effect e = record { moved = true; is = e }
-made_as stop (Some fault) found effect e = record { moved = moves_at stop; is = e.0 }
+made_as stop (Some fault) found effect e = record { moved = has_effect_at stop; is = e.0 }
 
 -- what holds where a move has no effect, and of the effect that was found, holds of the effect that it had
 pub by_known : {A : Type 0} (gives : FoundMove → A → Type 0) (role : Role) (d : Digests) (P : Option Effect → Type 0) (moved : Bool)
-    (found : Result FoundMove MoveCause) → KnowsOf gives role d found → P None
+    (found : Result FoundMove DenialCause) → KnowsOf gives role d found → P None
     → ((it : FoundMove) → Knows gives role d it → P (Some it.effect)) → P (made_if moved found)
 by_known gives role d P moved (Err cause) k none some = none
 by_known gives role d P moved (Ok found) k none some = by_again found.again moved
@@ -39,12 +39,12 @@ by_known gives role d P moved (Ok found) k none some = by_again found.again move
 
 -- what the code takes for a count, where it tests whether the move is a new one and has its effect
 
-abbrev pub IsIdle : Bool → Result FoundMove MoveCause → Type 0
+abbrev pub IsIdle : Bool → Result FoundMove DenialCause → Type 0
 IsIdle moved (Err cause) = moved ≡ false
 IsIdle moved (Ok found) = Unit {0}
 
 pub chosen : {A : Type 0} (gives : FoundMove → A → Type 0) (role : Role) (d : Digests) (moving moved : Bool) (new old : ℕ)
-    (value : Option Effect → ℕ) (found : Result FoundMove MoveCause) → KnowsOf gives role d found → IsIdle moved found → value None ≡ old
+    (value : Option Effect → ℕ) (found : Result FoundMove DenialCause) → KnowsOf gives role d found → IsIdle moved found → value None ≡ old
     → ((it : FoundMove) → Knows gives role d it → (moving ≡ not it.again) × (value (Some it.effect) ≡ new))
     → (if moving && moved then new else old) ≡ value (made_if moved found)
 chosen gives role d moving moved new old value (Err cause) k idle none some =
@@ -70,39 +70,39 @@ whole false new old = refl
 
 -- what a move is told as that was refused, or broken off
 
-pub record Refuses (pair : Pair) (i : Instance) (stop : Stop) (broken : Option StepFault) (found : Result FoundMove MoveCause)
+pub record Refuses (pair : Pair) (i : Instance) (stop : Stop) (broken : Option StepFault) (found : Result FoundMove DenialCause)
     (effect : Option Effect) (why : MoveRefusal) : Type 0 where
   pub said : MoveReply
-  pub is : (result : Result MoveReply Memory) → RefusedAs stop why result → result ≡ Ok said
-  pub says : (both : Both Digests ℕ) → said ≡ reply_said (move_ended digests_move pair i both stop broken found effect).reply
-  pub both : (both : Both Digests ℕ) → (move_ended digests_move pair i both stop broken found effect).both ≡ both
+  pub is : (result : Result MoveReply Memory) → TellsRefusalAs stop why result → result ≡ Ok said
+  pub says : (both : Both Digests ℕ) → said ≡ move_reply_of (move_end_outcome digests_move pair i both stop broken found effect).reply
+  pub both : (both : Both Digests ℕ) → (move_end_outcome digests_move pair i both stop broken found effect).both ≡ both
   pub made : effect ≡ made_if (has_moved stop why) found
   pub idle : IsIdle (has_moved stop why) found
 
-idle_broken : (moved : Bool) (found : Result FoundMove MoveCause) (effect : Option Effect) → effect ≡ made_if moved found
+idle_broken : (moved : Bool) (found : Result FoundMove DenialCause) (effect : Option Effect) → effect ≡ made_if moved found
     → is_some effect ≡ moved → IsIdle moved found
 idle_broken moved (Err cause) effect e some = sym some ∙ ap is_some e
 idle_broken moved (Ok found) effect e some = tt
 
 -- a move was refused or broken off, or gives its answer
 pub tell : {A : Type 0} (gives : FoundMove → A → Type 0) (pair : Pair) (i : Instance) (role : Role) (d : Digests) (stop : Stop)
-    (broken : Option StepFault) (found : Result FoundMove MoveCause) (effect : Option Effect) (came : Result A MoveRefusal)
-    (P : Option StepFault → Result FoundMove MoveCause → Option Effect → Type 0) → CameAs gives broken found came
+    (broken : Option StepFault) (found : Result FoundMove DenialCause) (effect : Option Effect) (came : Result A MoveRefusal)
+    (P : Option StepFault → Result FoundMove DenialCause → Option Effect → Type 0) → CameAs gives broken found came
     → MovedBy stop broken found effect → KnowsOf gives role d found
     → ((why : MoveRefusal) → came ≡ Err why → Refuses pair i stop broken found effect why → P broken found effect)
     → ((it : FoundMove) (answer : A) → came ≡ Ok answer → gives it answer → Knows gives role d it → P None (Ok it) (made_if true (Ok it)))
     → P broken found effect
 tell gives pair i role d stop (Some fault) found effect came P says moved knows refuse give =
     refuse (refusal.Core (core.Device fault)) says (record {
-      said = reply.Broken (way_of stop) (moves_at stop);
+      said = reply.Broken (way_of stop) (has_effect_at stop);
       is = λ result told. told;
       says = λ both. ap (λ b. reply.Broken (way_of stop) b) (sym moved.1);
       both = λ both. refl;
       made = moved.0;
-      idle = idle_broken (moves_at stop) found effect moved.0 moved.1;
+      idle = idle_broken (has_effect_at stop) found effect moved.0 moved.1;
     })
 tell gives pair i role d stop None (Err cause) effect came P says moved knows refuse give = refuse (refusal_of cause) says (record {
-  said = reply_said (Denied cause);
+  said = move_reply_of (Denied cause);
   is = λ result told. said_cause stop cause result knows told;
   says = λ both. refl;
   both = λ both. refl;
@@ -113,25 +113,25 @@ tell gives pair i role d stop None (Ok found) effect came P says moved knows ref
     subst (P None (Ok found)) (sym moved) (give found says.0 says.1 says.2 knows)
 
 -- What is told of a command that had this effect, and what it leaves.
-pub record Told (pair : Pair) (i : Instance) (stop : Stop) (broken : Option StepFault) (found : Result FoundMove MoveCause)
-    (effect : Option Effect) (result : Result MoveReply Memory) (old new : CodeSide) (was now : Between) (d : Digests) : Type 0 where
+pub record Told (pair : Pair) (i : Instance) (stop : Stop) (broken : Option StepFault) (found : Result FoundMove DenialCause)
+    (effect : Option Effect) (result : Result MoveReply Memory) (old new : CodeSide) (was now : IssuedTickets) (d : Digests) : Type 0 where
   pub said : MoveReply
   pub is : result ≡ Ok said
   pub ends : (both : Both Digests ℕ) → both.first.at.digest ≡ (at_then was.away d effect).digest → both.first.issued ≡ old.seat.issued.items
-      → both.tickets ≡ was.tickets.items → (let o = move_ended digests_move pair i both stop broken found effect in
-      (said ≡ reply_said o.reply)
+      → both.tickets ≡ was.tickets.items → (let o = move_end_outcome digests_move pair i both stop broken found effect in
+      (said ≡ move_reply_of o.reply)
       × (o.both ≡ record both { first = record both.first { issued = new.seat.issued.items }; tickets = now.tickets.items }))
   pub position : new.seat.committed ≡ (at_then was.away d effect).count
   pub away : now.away ≡ away_then was.away d effect
-  pub between : FitsBetween now
+  pub between : FitsIssuedTickets now
   pub issued : length new.seat.issued.items ≤ length old.seat.issued.items + 1
   pub tickets : length now.tickets.items ≤ length was.tickets.items + 1
 
 -- nothing was handed out
-pub told_still : (pair : Pair) (i : Instance) (stop : Stop) (broken : Option StepFault) (found : Result FoundMove MoveCause)
-    (effect : Option Effect) (why : MoveRefusal) (result : Result MoveReply Memory) (old new : CodeSide) (was now : Between) (d : Digests)
-    → Refuses pair i stop broken found effect why → RefusedAs stop why result → new.seat.issued.items ≡ old.seat.issued.items
-    → now.tickets.items ≡ was.tickets.items → now.kept ≡ was.kept → FitsBetween was → (let made = made_if (has_moved stop why) found in
+pub told_still : (pair : Pair) (i : Instance) (stop : Stop) (broken : Option StepFault) (found : Result FoundMove DenialCause)
+    (effect : Option Effect) (why : MoveRefusal) (result : Result MoveReply Memory) (old new : CodeSide) (was now : IssuedTickets) (d : Digests)
+    → Refuses pair i stop broken found effect why → TellsRefusalAs stop why result → new.seat.issued.items ≡ old.seat.issued.items
+    → now.tickets.items ≡ was.tickets.items → now.kept ≡ was.kept → FitsIssuedTickets was → (let made = made_if (has_moved stop why) found in
     new.seat.committed ≡ (at_then was.away d made).count
     → now.away ≡ away_then was.away d made → Told pair i stop broken found effect result old new was now d)
 told_still pair i stop broken found effect why result old new was now d r told issued tickets counted fits position away = record {
@@ -153,7 +153,7 @@ told_still pair i stop broken found effect why result old new was now d r told i
 
 -- a command with its move made
 pub move_done : {A : Type 0} (gives : FoundMove → A → Type 0) (pair : Pair) (which : Which) (stop : Stop) (meddles : List Meddle)
-    (command : Command) (found : Result FoundMove MoveCause) (old new : CodeSide) (was now : Between) (came : Result A MoveRefusal)
+    (command : MoveCommand) (found : Result FoundMove DenialCause) (old new : CodeSide) (was now : IssuedTickets) (came : Result A MoveRefusal)
     (result : Result MoveReply Memory) → FitsSide pair which old → (let i = instance_on pair which in
     let role = role_in old.seat.platform.cell in
     let d = at_in old in
@@ -162,8 +162,8 @@ pub move_done : {A : Type 0} (gives : FoundMove → A → Type 0) (pair : Pair) 
     → Told pair i stop (walk fates 1 (move_steps found)).broken found (effect_of fates found) result old new was now d
     → KeepsFor role new.digest.bytes d
     → ((it : FoundMove) → Knows gives role d it → KeepsFor (role_after it.effect) new.digest.bytes (at_then was.away d (Some it.effect)))
-    → ((other : Side Digests) (committed : ℕ) → finding digests_move pair i (both_with old was other committed) command ≡ Some found)
-    → MatchResult result (CommandDone pair which old new was now (commanded pair which old was meddles stop command))
+    → ((other : SideState Digests) (committed : ℕ) → found_command digests_move pair i (both_with old was other committed) command ≡ Some found)
+    → MatchResult result (CommandDone pair which old new was now (outcome_of_command pair which old was meddles stop command))
     (λ _. CommandLacks pair which meddles stop old new was now))
 move_done gives pair which stop meddles command found old new was now came result fits c t keeps next finds =
     let i = instance_on pair which in
@@ -175,13 +175,13 @@ move_done gives pair which stop meddles command found old new was now came resul
     let K : Option Effect → Type 0 = λ e. KeepsFor (role_then role e) new.digest.bytes (at_then was.away d e) in
     let then_keeps = subst K (sym m.is) (by_known gives role d K m.moved found c.knows keeps next) in
     let s = side_then gives pair which role d stop meddles found new came was.away c fits.stands.fits then_fits t.position then_keeps in
-    let brought = brought_to digests_move i d meddles stop (move_steps found) in
+    let brought = state_after_steps digests_move i d meddles stop (move_steps found) in
     let b = brought_then i d stop meddles found was.away effect in
     let gone = t.away ∙ b.away_is in
-    let is = λ (other : Side Digests) (committed : ℕ).
+    let is = λ (other : SideState Digests) (committed : ℕ).
     affected_is role brought old.seat.issued.items was.tickets.items other was.away committed effect in
-    let ends = λ (other : Side Digests) (committed : ℕ).
-    t.ends (affected_if digests_move (both_of role brought old.seat.issued.items was.tickets.items other was.away committed) effect)
+    let ends = λ (other : SideState Digests) (committed : ℕ).
+    t.ends (sides_after_effect_if digests_move (both_of role brought old.seat.issued.items was.tickets.items other was.away committed) effect)
     (ap (λ (x : Both Digests ℕ). x.first.at.digest) (is other committed) ∙ b.digest)
     (ap (λ (x : Both Digests ℕ). x.first.issued) (is other committed)) (ap (λ (x : Both Digests ℕ). x.tickets) (is other committed)) in
     ok_match _ _ result t.said t.is (record {
@@ -191,10 +191,10 @@ move_done gives pair which stop meddles command found old new was now came resul
           (λ j. both_of (s.role_is j) (s.at_is j) new.seat.issued.items now.tickets.items other (gone j) committed)
           ∙ ap (λ (x : Both Digests ℕ). record x { first = record x.first { issued = new.seat.issued.items }; tickets = now.tickets.items })
           (sym (is other committed)) ∙ sym (ends other committed).1
-          ∙ sym (ap (λ x. (moved_if digests_move pair i (both_with old was other committed) meddles stop command x).both)
+          ∙ sym (ap (λ x. (outcome_if_found digests_move pair i (both_with old was other committed) meddles stop command x).both)
           (finds other committed));
       says = λ other committed. (ends other committed).0
-          ∙ sym (ap (λ x. reply_said (moved_if digests_move pair i (both_with old was other committed) meddles stop command x).reply)
+          ∙ sym (ap (λ x. move_reply_of (outcome_if_found digests_move pair i (both_with old was other committed) meddles stop command x).reply)
           (finds other committed));
       issued = t.issued;
       tickets = t.tickets;
@@ -208,34 +208,34 @@ move_done gives pair which stop meddles command found old new was now came resul
 
 -- a move with what an offer names
 
-pub tried : {A : Type 0} (finds : Link → List ℕ → List ℕ → Result (Ready A) MoveRefusal) (stop : Stop) (meddles : List Meddle)
+pub tried : {A : Type 0} (finds : Link → List ℕ → List ℕ → Result (ReadyMove A) MoveRefusal) (stop : Stop) (meddles : List Meddle)
     (offered : Option (List ℕ)) (old new : Standing) (came : Result A MoveRefusal) (called link : Link) (lent bytes : List ℕ)
-    → called ≡ link → lent ≡ bytes → Some bytes ≡ offered → MovesPlanned (finds called lent) stop meddles old new came
-    → Tried (finds link) stop meddles offered old new (Ok (Some came))
+    → called ≡ link → lent ≡ bytes → Some bytes ≡ offered → MovesByPlan (finds called lent) stop meddles old new came
+    → TriesMove (finds link) stop meddles offered old new (Ok (Some came))
 tried finds stop meddles offered old new came called link lent bytes same are names planned =
-    subst (λ (x : Option (List ℕ)). Tried (finds link) stop meddles x old new (Ok (Some came))) names
-    (subst (λ (l : Link). MovesPlanned (finds l bytes) stop meddles old new came) same
-    (subst (λ (b : List ℕ). MovesPlanned (finds called b) stop meddles old new came) are planned))
+    subst (λ (x : Option (List ℕ)). TriesMove (finds link) stop meddles x old new (Ok (Some came))) names
+    (subst (λ (l : Link). MovesByPlan (finds l bytes) stop meddles old new came) same
+    (subst (λ (b : List ℕ). MovesByPlan (finds called b) stop meddles old new came) are planned))
 
-pub record Named {A : Type 0} (finds : List ℕ → List ℕ → Result (Ready A) MoveRefusal) (stop : Stop) (meddles : List Meddle)
+pub record Named {A : Type 0} (finds : List ℕ → List ℕ → Result (ReadyMove A) MoveRefusal) (stop : Stop) (meddles : List Meddle)
     (offered : Option (List ℕ)) (old new : Standing) (came : Result A MoveRefusal) : Type 0 where
   pub bytes : List ℕ
   pub names : offered ≡ Some bytes
-  pub planned : MovesPlanned (finds bytes) stop meddles old new came
+  pub planned : MovesByPlan (finds bytes) stop meddles old new came
 
 -- by the list that was lent, and by what came
-module _ {A : Type 0} (finds : List ℕ → List ℕ → Result (Ready A) MoveRefusal) (stop : Stop) (meddles : List Meddle)
+module _ {A : Type 0} (finds : List ℕ → List ℕ → Result (ReadyMove A) MoveRefusal) (stop : Stop) (meddles : List Meddle)
     (xs lent : List (List ℕ)) (offer : Offer) (old new : Standing) (field : Option (Result A MoveRefusal)) (same : lent ≡ xs)
-    (tries : Tried finds stop meddles (offered_bytes lent offer) old new (Ok field)) where
-  tries_by : (x : Option (Result A MoveRefusal)) → field ≡ x → Tried finds stop meddles (offered_bytes xs offer) old new (Ok x)
-  tries_by x is = subst (λ (y : Option (Result A MoveRefusal)). Tried finds stop meddles (offered_bytes xs offer) old new (Ok y)) is
-      (subst (λ (l : List (List ℕ)). Tried finds stop meddles (offered_bytes l offer) old new (Ok field)) same tries)
+    (tries : TriesMove finds stop meddles (offered_bytes lent offer) old new (Ok field)) where
+  tries_by : (x : Option (Result A MoveRefusal)) → field ≡ x → TriesMove finds stop meddles (offered_bytes xs offer) old new (Ok x)
+  tries_by x is = subst (λ (y : Option (Result A MoveRefusal)). TriesMove finds stop meddles (offered_bytes xs offer) old new (Ok y)) is
+      (subst (λ (l : List (List ℕ)). TriesMove finds stop meddles (offered_bytes l offer) old new (Ok field)) same tries)
 
   -- the offer named nothing
   pub nothing_named : field ≡ None → (offered_bytes xs offer ≡ None) × (new ≡ old)
   nothing_named is = by_offer (offered_bytes xs offer) (tries_by None is)
     where
-      by_offer : (offered : Option (List ℕ)) → Tried finds stop meddles offered old new (Ok None) → (offered ≡ None) × (new ≡ old)
+      by_offer : (offered : Option (List ℕ)) → TriesMove finds stop meddles offered old new (Ok None) → (offered ≡ None) × (new ≡ old)
       by_offer None h = (refl, h)
       by_offer (Some bytes) h = absurd h
 
@@ -243,7 +243,7 @@ module _ {A : Type 0} (finds : List ℕ → List ℕ → Result (Ready A) MoveRe
   pub named_by : (came : Result A MoveRefusal) → field ≡ Some came → Named finds stop meddles (offered_bytes xs offer) old new came
   named_by came is = by_offer (offered_bytes xs offer) (tries_by (Some came) is)
     where
-      by_offer : (offered : Option (List ℕ)) → Tried finds stop meddles offered old new (Ok (Some came))
+      by_offer : (offered : Option (List ℕ)) → TriesMove finds stop meddles offered old new (Ok (Some came))
           → Named finds stop meddles offered old new came
       by_offer None h = absurd h
       by_offer (Some bytes) h = record { bytes = bytes; names = refl; planned = h }

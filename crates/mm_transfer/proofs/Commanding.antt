@@ -1,12 +1,12 @@
 -- What a move that was found makes of a side's cell, and what it gives; where the side stands then.
 use Rattle.mm_transfer.proofs.Below.{◌≡◌, ℕ, Bool, true, false, List, Option, None, Some, Result, Ok, Err, refl, sym, ap, ◌∙◌, subst}
 use Rattle.mm_transfer.proofs.Below.{StepFault, Meddle, Stop, Standing, Instance}
-use Rattle.mm_transfer.proofs.Below.{Digests, register_reads, walk, course_of}
-use Rattle.mm_transfer.proofs.Below.{IsQuiet, Ready, MoveRefusal, Role, Effect, digests_move, MoveCause, FoundMove, move_steps}
-use Rattle.mm_transfer.proofs.Below.{is_moved, effect_if, effect_of, brought_to, written_if, ended_as, MakesMove, cell_of_role}
-use Rattle.mm_transfer.proofs.Below.{refusal_of, next_if, Matches, Memory, MoveReply, Denied, Refused, reply_said, RefusedAs, has_moved}
-use Rattle.mm_transfer.proofs.Below.{FitsEffect, FitsLive, IsSaid, by_digests, all_made, Invites, Leaves, Enters}
-use Rattle.mm_transfer.proofs.Below.{role_after, Which, Pair, instance_on, Side, stopped_moves, affected_if, any_value, found_outer}
+use Rattle.mm_transfer.proofs.Below.{Digests, register_reading, walk, course_of}
+use Rattle.mm_transfer.proofs.Below.{IsQuiet, ReadyMove, MoveRefusal, Role, Effect, digests_move, DenialCause, FoundMove, move_steps}
+use Rattle.mm_transfer.proofs.Below.{is_moved, effect_if, effect_of, state_after_steps, bytes_if_written, move_answer_of, MakesMove, cell_of_role}
+use Rattle.mm_transfer.proofs.Below.{refusal_of, next_cell_if, MatchesRole, Memory, MoveReply, Denied, Refused, move_reply_of, TellsRefusalAs, has_moved}
+use Rattle.mm_transfer.proofs.Below.{FitsEffect, FitsLive, IsSaid, digest_level, state_after_moves, Invites, Leaves, Enters}
+use Rattle.mm_transfer.proofs.Below.{role_after, Which, Pair, instance_on, SideState, stopped_moves, sides_after_effect_if, any_value, found_outer}
 use Rattle.mm_transfer.proofs.Below.{stopped_outer, CodeSide, link_of, FitsRole, FitsCell, ◌≤◌, Both}
 use Rattle.mm_model.specs.declared.refusal.Refusal.TheVariants as core
 use Rattle.mm_move.specs.declared.refusal.MoveRefusal.TheVariants as refusal
@@ -22,7 +22,7 @@ abbrev pub cell_if : Instance → Role → Digests → Option Effect → List �
 cell_if i role d None = cell_of_role i role d
 cell_if i role d (Some effect) = cell_after i d effect
 
-abbrev pub CameAs : {A : Type 0} → (FoundMove → A → Type 0) → Option StepFault → Result FoundMove MoveCause → Result A MoveRefusal → Type 0
+abbrev pub CameAs : {A : Type 0} → (FoundMove → A → Type 0) → Option StepFault → Result FoundMove DenialCause → Result A MoveRefusal → Type 0
 CameAs gives (Some fault) found came = came ≡ Err (refusal.Core (core.Device fault))
 CameAs gives None (Err cause) came = came ≡ Err (refusal_of cause)
 CameAs {A} gives None (Ok found) came = (answer : A) × (came ≡ Ok answer) × gives found answer
@@ -34,37 +34,37 @@ pub record Knows {A : Type 0} (gives : FoundMove → A → Type 0) (role : Role)
   pub fits : FitsEffect d found.effect
   pub live : FitsLive role found.again found.effect
 
-abbrev pub KnowsOf : {A : Type 0} → (FoundMove → A → Type 0) → Role → Digests → Result FoundMove MoveCause → Type 0
+abbrev pub KnowsOf : {A : Type 0} → (FoundMove → A → Type 0) → Role → Digests → Result FoundMove DenialCause → Type 0
 KnowsOf gives role d (Ok found) = Knows gives role d found
 KnowsOf gives role d (Err cause) = IsSaid cause
 
 pub record Came {A : Type 0} (gives : FoundMove → A → Type 0) (i : Instance) (role : Role) (d : Digests) (stop : Stop)
     (meddles : List Meddle)
-    (found : Result FoundMove MoveCause) (new : Standing) (came : Result A MoveRefusal) : Type 0 where
+    (found : Result FoundMove DenialCause) (new : Standing) (came : Result A MoveRefusal) : Type 0 where
   pub cell : new.cell ≡ Some (cell_if i role d (effect_of (course_of stop meddles).fates found))
-  pub register : register_reads new ≡ Some (brought_to digests_move i d meddles stop (move_steps found)).register
+  pub register : register_reading new ≡ Some (state_after_steps digests_move i d meddles stop (move_steps found)).register
   pub quiet : IsQuiet new
   pub says : CameAs gives (walk (course_of stop meddles).fates 1 (move_steps found)).broken found came
   pub knows : KnowsOf gives role d found
 
 module _ {A : Type 0} (gives : FoundMove → A → Type 0) (i : Instance) (role : Role) (d : Digests) (stop : Stop) (meddles : List Meddle)
     (new : Standing) (came : Result A MoveRefusal) where
-  refused_came : (cause : MoveCause) (broken : Option StepFault) → came ≡ ended_as broken (Err (refusal_of cause))
+  refused_came : (cause : DenialCause) (broken : Option StepFault) → came ≡ move_answer_of broken (Err (refusal_of cause))
       → CameAs gives broken (Err cause) came
   refused_came cause None e = e
   refused_came cause (Some fault) e = e
 
   found_came : (found : FoundMove) (next : Option (List ℕ)) (answer : A) (broken : Option StepFault)
-      → came ≡ ended_as broken (Ok (record { next = next; answer = answer })) → gives found answer → CameAs gives broken (Ok found) came
+      → came ≡ move_answer_of broken (Ok (record { next = next; answer = answer })) → gives found answer → CameAs gives broken (Ok found) came
   found_came found next answer None e g = (answer, e, g)
   found_came found next answer (Some fault) e g = e
 
   written_cell : (moved : Bool) (effect : Effect)
-      → Some (written_if (Some (cell_after i d effect)) moved (cell_of_role i role d)) ≡ Some (cell_if i role d (effect_if moved effect))
+      → Some (bytes_if_written (Some (cell_after i d effect)) moved (cell_of_role i role d)) ≡ Some (cell_if i role d (effect_if moved effect))
   written_cell true effect = refl
   written_cell false effect = refl
 
-  found_by : (again : Bool) (effect : Effect) (next : Option (List ℕ)) (answer : A) → next ≡ next_if again (cell_after i d effect)
+  found_by : (again : Bool) (effect : Effect) (next : Option (List ℕ)) (answer : A) → next ≡ next_cell_if again (cell_after i d effect)
       → gives (record { again = again; effect = effect }) answer → FitsEffect d effect → FitsLive role again effect
       → MakesMove i d stop meddles (cell_of_role i role d) (Ok (record { next = next; answer = answer })) new came
       → Came gives i role d stop meddles (Ok (record { again = again; effect = effect })) new came
@@ -93,7 +93,7 @@ module _ {A : Type 0} (gives : FoundMove → A → Type 0) (i : Instance) (role 
         knows = record { answer = answer; gave = g; fits = fits; live = live };
       }
 
-  pub came_by : (expected : Result (Ready A) MoveRefusal) (found : Result FoundMove MoveCause) → Matches gives i role d expected found
+  pub came_by : (expected : Result (ReadyMove A) MoveRefusal) (found : Result FoundMove DenialCause) → MatchesRole gives i role d expected found
       → MakesMove i d stop meddles (cell_of_role i role d) expected new came → Came gives i role d stop meddles found new came
   came_by (Err why) (Err cause) match made =
       let m : MakesMove i d stop meddles (cell_of_role i role d) (Err (refusal_of cause)) new came =
@@ -106,14 +106,14 @@ module _ {A : Type 0} (gives : FoundMove → A → Type 0) (i : Instance) (role 
 
 -- how a cause is told
 
-pub said_cause : (stop : Stop) (cause : MoveCause) (result : Result MoveReply Memory) → IsSaid cause
-    → RefusedAs stop (refusal_of cause) result → result ≡ Ok (reply_said (Denied cause))
+pub said_cause : (stop : Stop) (cause : DenialCause) (result : Result MoveReply Memory) → IsSaid cause
+    → TellsRefusalAs stop (refusal_of cause) result → result ≡ Ok (move_reply_of (Denied cause))
 said_cause stop (Refused core.Memory) result is e = absurd is
 said_cause stop (Refused (core.Device fault)) result is e = absurd is
 said_cause stop (Refused core.Lost) result is e = e
 said_cause stop _ result is e = e
 
-pub never_moved : (stop : Stop) (cause : MoveCause) → IsSaid cause → has_moved stop (refusal_of cause) ≡ false
+pub never_moved : (stop : Stop) (cause : DenialCause) → IsSaid cause → has_moved stop (refusal_of cause) ≡ false
 never_moved stop (Refused core.Memory) is = absurd is
 never_moved stop (Refused (core.Device fault)) is = absurd is
 never_moved stop (Refused core.Lost) is = refl
@@ -121,15 +121,15 @@ never_moved stop _ is = refl
 
 -- others change the register alone
 
-pub brought_digests : (i : Instance) (d : Digests) (stop : Stop) (meddles : List Meddle) (found : Result FoundMove MoveCause)
-    → brought_to digests_move i d meddles stop (move_steps found)
-    ≡ record d { register = (brought_to digests_move i d meddles stop (move_steps found)).register }
+pub brought_digests : (i : Instance) (d : Digests) (stop : Stop) (meddles : List Meddle) (found : Result FoundMove DenialCause)
+    → state_after_steps digests_move i d meddles stop (move_steps found)
+    ≡ record d { register = (state_after_steps digests_move i d meddles stop (move_steps found)).register }
 brought_digests i d stop meddles found =
     let P : List ℕ → Type 0 = λ v. Unit {0} in
     let fates = (course_of stop meddles).fates in
     let walked = walk fates 1 (move_steps found) in
-    let z : Digests = all_made (by_digests i) d walked.moves in
-    let end : Digests = all_made (by_digests i) z (stopped_moves stop walked.broken) in
+    let z : Digests = state_after_moves (digest_level i) d walked.moves in
+    let end : Digests = state_after_moves (digest_level i) z (stopped_moves stop walked.broken) in
     outer_digests P i (stopped_moves stop walked.broken) z (stopped_outer P stop walked.broken)
     ∙ ap (λ (x : Digests). record x { register = end.register })
     (outer_digests P i walked.moves d (found_outer P fates found (λ n. any_value (fates n).brings)))
@@ -149,7 +149,7 @@ away_then away d (Some (Leaves ticket)) = d.count
 away_then away d effect = away
 
 -- both sides, of which the first is so
-abbrev pub both_of : (role : Role) (at : Digests) (issued tickets : List (List ℕ)) (other : Side Digests) (away committed : ℕ)
+abbrev pub both_of : (role : Role) (at : Digests) (issued tickets : List (List ℕ)) (other : SideState Digests) (away committed : ℕ)
     → Both Digests ℕ
 both_of role at issued tickets other away committed = record {
   first = record { role = role; at = at; issued = issued };
@@ -159,8 +159,8 @@ both_of role at issued tickets other away committed = record {
   committed = committed;
 }
 
-pub affected_is : (role : Role) (at : Digests) (issued tickets : List (List ℕ)) (other : Side Digests) (away committed : ℕ)
-    (effect : Option Effect) → affected_if digests_move (both_of role at issued tickets other away committed) effect
+pub affected_is : (role : Role) (at : Digests) (issued tickets : List (List ℕ)) (other : SideState Digests) (away committed : ℕ)
+    (effect : Option Effect) → sides_after_effect_if digests_move (both_of role at issued tickets other away committed) effect
     ≡ both_of (role_then role effect) (at_then away at effect) issued tickets other (away_then away at effect) committed
 affected_is role at issued tickets other away committed (Some (Invites nonce)) = refl
 affected_is role at issued tickets other away committed _ = refl
@@ -209,25 +209,25 @@ same_then : (away : ℕ) (d : Digests) (register : List ℕ) (effect : Option Ef
 same_then away d register (Some (Invites nonce)) = record { digest = refl; count = refl; away_is = refl }
 same_then away d register _ = record { digest = refl; count = refl; away_is = refl }
 
-pub brought_then : (i : Instance) (d : Digests) (stop : Stop) (meddles : List Meddle) (found : Result FoundMove MoveCause) (away : ℕ)
-    (effect : Option Effect) → SameThen away d (brought_to digests_move i d meddles stop (move_steps found)) effect
+pub brought_then : (i : Instance) (d : Digests) (stop : Stop) (meddles : List Meddle) (found : Result FoundMove DenialCause) (away : ℕ)
+    (effect : Option Effect) → SameThen away d (state_after_steps digests_move i d meddles stop (move_steps found)) effect
 brought_then i d stop meddles found away effect =
-    let brought : Digests = brought_to digests_move i d meddles stop (move_steps found) in
+    let brought : Digests = state_after_steps digests_move i d meddles stop (move_steps found) in
     subst (λ (x : Digests). SameThen away d x effect) (sym (brought_digests i d stop meddles found))
     (same_then away d brought.register effect)
 
 -- a side whose move came to its effect
 pub side_then : {A : Type 0} (gives : FoundMove → A → Type 0) (pair : Pair) (which : Which) (role : Role) (d : Digests) (stop : Stop)
-    (meddles : List Meddle) (found : Result FoundMove MoveCause) (new : CodeSide) (came : Result A MoveRefusal) (away : ℕ)
+    (meddles : List Meddle) (found : Result FoundMove DenialCause) (new : CodeSide) (came : Result A MoveRefusal) (away : ℕ)
     → (let effect = effect_of (course_of stop meddles).fates found in
     Came gives (instance_on pair which) role d stop meddles found new.seat.platform came
     → FitsCell (instance_on pair which) (link_of pair) role d → FitsThen d effect → new.seat.committed ≡ (at_then away d effect).count
     → KeepsFor (role_then role effect) new.digest.bytes (at_then away d effect) → IsSide pair which (role_then role effect)
-    (at_then away (brought_to digests_move (instance_on pair which) d meddles stop (move_steps found)) effect) new)
+    (at_then away (state_after_steps digests_move (instance_on pair which) d meddles stop (move_steps found)) effect) new)
 side_then gives pair which role d stop meddles found new came away c fit fits count keeps =
     let i = instance_on pair which in
     let effect = effect_of (course_of stop meddles).fates found in
-    let brought : Digests = brought_to digests_move i d meddles stop (move_steps found) in
+    let brought : Digests = state_after_steps digests_move i d meddles stop (move_steps found) in
     let register : List ℕ = brought.register in
     let to : reading d register ≡ brought = sym (brought_digests i d stop meddles found) in
     let here : IsSide pair which (role_then role effect) (at_then away (reading d register) effect) new =

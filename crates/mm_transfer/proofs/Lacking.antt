@@ -1,13 +1,13 @@
 -- A command for which memory was wanting, or whose offer names nothing.
 use Rattle.mm_transfer.proofs.Below.{◌≡◌, ℕ, List, length, None, Some, Result, Ok, Err, IsErr}
 use Rattle.mm_transfer.proofs.Below.{inl, inr, refl, sym, ap, ◌∙◌, subst, arith, MatchResult, sum_by, Memory}
-use Rattle.mm_transfer.proofs.Below.{Meddle, Stop, Standing, Instance, Digests, register_reads, course_of}
-use Rattle.mm_transfer.proofs.Below.{IsQuiet, MoveRefusal, Which, Pair, instance_on, Side, digests_move}
-use Rattle.mm_transfer.proofs.Below.{Command}
-use Rattle.mm_transfer.proofs.Below.{finding, moved_if, unissued, Between, MoveReply, CodeSide}
-use Rattle.mm_transfer.proofs.Below.{both_with, commanded, FitsBetween, CommandDone, CommandLacks, role_in, at_by, at_in, side_in}
-use Rattle.mm_transfer.proofs.Below.{Reads, [], ◌∷◌, ◌⊎◌, seen_in, all_made, by_digests}
-use Rattle.mm_transfer.proofs.Below.{within_64, FitsSide, WantsMemory, reply_said}
+use Rattle.mm_transfer.proofs.Below.{Meddle, Stop, Standing, Instance, Digests, register_reading, course_of}
+use Rattle.mm_transfer.proofs.Below.{IsQuiet, MoveRefusal, Which, Pair, instance_on, SideState, digests_move}
+use Rattle.mm_transfer.proofs.Below.{MoveCommand}
+use Rattle.mm_transfer.proofs.Below.{found_command, outcome_if_found, unissued_reply, IssuedTickets, MoveReply, CodeSide}
+use Rattle.mm_transfer.proofs.Below.{both_with, outcome_of_command, FitsIssuedTickets, CommandDone, CommandLacks, role_in, at_by, at_in, side_in}
+use Rattle.mm_transfer.proofs.Below.{Reads, [], ◌∷◌, ◌⊎◌, moves_seen, state_after_moves, digest_level}
+use Rattle.mm_transfer.proofs.Below.{within_64, FitsSide, WantsMemory, move_reply_of}
 use Rattle.mm_transfer.proofs.SideStands.{KeepsFor, same_keeps, side_stays}
 use Rattle.mm_transfer.proofs.Vain.{seen_digests}
 
@@ -21,12 +21,12 @@ err_match P Q (Err memory) is q = q
 abbrev IsReached : Instance → Digests → List Meddle → Stop → List ℕ → Type 0
 IsReached i d meddles stop value =
     (value ≡ d.register)
-    ⊎ (value ≡ (all_made (by_digests i) d (seen_in (course_of stop meddles).fates (Reads ∷ []) 1)).register)
+    ⊎ (value ≡ (state_after_moves (digest_level i) d (moves_seen (course_of stop meddles).fates (Reads ∷ []) 1)).register)
 
 -- a side whose cell is as it was
-lacks_side : (pair : Pair) (which : Which) (stop : Stop) (meddles : List Meddle) (old new : CodeSide) (was now : Between) (value : List ℕ)
+lacks_side : (pair : Pair) (which : Which) (stop : Stop) (meddles : List Meddle) (old new : CodeSide) (was now : IssuedTickets) (value : List ℕ)
     → IsReached (instance_on pair which) (at_in old) meddles stop value → FitsSide pair which old
-    → new.seat.platform.cell ≡ old.seat.platform.cell → register_reads new.seat.platform ≡ Some value → IsQuiet new.seat.platform
+    → new.seat.platform.cell ≡ old.seat.platform.cell → register_reading new.seat.platform ≡ Some value → IsQuiet new.seat.platform
     → new.seat.committed ≡ old.seat.committed → KeepsFor (role_in old.seat.platform.cell) new.digest.bytes (at_in old)
     → new.seat.issued.items ≡ old.seat.issued.items → now.tickets.items ≡ was.tickets.items → now.kept ≡ was.kept → now.away ≡ was.away
     → CommandLacks pair which meddles stop old new was now
@@ -44,7 +44,7 @@ lacks_side pair which stop meddles old new was now value reached fits cell regis
         | inl e ↦ inl (side d (λ j. record d { register = e j }))
         | inr e ↦
             let fates = (course_of stop meddles).fates in
-            let seen : Digests = all_made (by_digests i) d (seen_in fates (Reads ∷ []) 1) in
+            let seen : Digests = state_after_moves (digest_level i) d (moves_seen fates (Reads ∷ []) 1) in
             inr (side seen ((λ j. record d { register = e j }) ∙ sym (seen_digests i d fates (Reads ∷ []) 1)))
       ];
       committed = position;
@@ -53,7 +53,7 @@ lacks_side pair which stop meddles old new was now value reached fits cell regis
       away = away;
     }
 
-pub lacks_done : {A : Type 0} (pair : Pair) (which : Which) (stop : Stop) (meddles : List Meddle) (old new : CodeSide) (was now : Between)
+pub lacks_done : {A : Type 0} (pair : Pair) (which : Which) (stop : Stop) (meddles : List Meddle) (old new : CodeSide) (was now : IssuedTickets)
     (from to : Standing) (came : Result A MoveRefusal) → FitsSide pair which old
     → WantsMemory (instance_on pair which) (at_in old) stop meddles from to came → from.cell ≡ old.seat.platform.cell
     → new.seat.platform ≡ to
@@ -63,11 +63,11 @@ pub lacks_done : {A : Type 0} (pair : Pair) (which : Which) (stop : Stop) (meddl
 lacks_done pair which stop meddles old new was now from to came fits w cell platform position keeps issued tickets counted away =
     elim w.register [ inl e ↦ reads _ (inl refl) e | inr e ↦ reads _ (inr refl) e ]
   where
-    reads : (value : List ℕ) → IsReached (instance_on pair which) (at_in old) meddles stop value → register_reads to ≡ Some value
+    reads : (value : List ℕ) → IsReached (instance_on pair which) (at_in old) meddles stop value → register_reading to ≡ Some value
         → CommandLacks pair which meddles stop old new was now
     reads value reached e = lacks_side pair which stop meddles old new was now value reached fits
         (ap (λ (s : Standing). s.cell) platform ∙ w.cell ∙ cell)
-        (ap register_reads platform ∙ e) (subst IsQuiet (sym platform) w.quiet) position keeps issued tickets counted away
+        (ap register_reading platform ∙ e) (subst IsQuiet (sym platform) w.quiet) position keeps issued tickets counted away
 
 -- nothing happened to a side, but to its platform
 
@@ -76,26 +76,26 @@ pub record SameSide (old new : CodeSide) : Type 0 where
   pub issued : new.seat.issued.items ≡ old.seat.issued.items
   pub committed : new.seat.committed ≡ old.seat.committed
 
-pub record SameBetween (was now : Between) : Type 0 where
+pub record SameBetween (was now : IssuedTickets) : Type 0 where
   pub tickets : now.tickets.items ≡ was.tickets.items
   pub kept : now.kept ≡ was.kept
   pub away : now.away ≡ was.away
 
-pub still_lacks : (pair : Pair) (which : Which) (stop : Stop) (meddles : List Meddle) (old new : CodeSide) (was now : Between)
+pub still_lacks : (pair : Pair) (which : Which) (stop : Stop) (meddles : List Meddle) (old new : CodeSide) (was now : IssuedTickets)
     → FitsSide pair which old → new.seat.platform ≡ old.seat.platform → SameSide old new → SameBetween was now
     → CommandLacks pair which meddles stop old new was now
 still_lacks pair which stop meddles old new was now fits platform s b =
     lacks_side pair which stop meddles old new was now (at_in old).register (inl refl) fits (ap (λ (x : Standing). x.cell) platform)
-    (ap register_reads platform ∙ fits.stands.register) (subst IsQuiet (sym platform) fits.quiet) s.committed (same_keeps old new s.digest)
+    (ap register_reading platform ∙ fits.stands.register) (subst IsQuiet (sym platform) fits.quiet) s.committed (same_keeps old new s.digest)
     s.issued b.tickets b.kept b.away
 
 -- a number that isn't issued: nothing is called
-pub unissued_done : (pair : Pair) (which : Which) (stop : Stop) (meddles : List Meddle) (command : Command) (said : MoveReply)
-    (old new : CodeSide) (was now : Between) → FitsSide pair which old → FitsBetween was → new.seat.platform ≡ old.seat.platform
-    → SameSide old new → SameBetween was now → said ≡ reply_said (unissued command)
-    → ((other : Side Digests) (committed : ℕ) → finding digests_move pair (instance_on pair which)
+pub unissued_done : (pair : Pair) (which : Which) (stop : Stop) (meddles : List Meddle) (command : MoveCommand) (said : MoveReply)
+    (old new : CodeSide) (was now : IssuedTickets) → FitsSide pair which old → FitsIssuedTickets was → new.seat.platform ≡ old.seat.platform
+    → SameSide old new → SameBetween was now → said ≡ move_reply_of (unissued_reply command)
+    → ((other : SideState Digests) (committed : ℕ) → found_command digests_move pair (instance_on pair which)
     (both_with old was other committed) command ≡ None)
-    → CommandDone pair which old new was now (commanded pair which old was meddles stop command) said
+    → CommandDone pair which old new was now (outcome_of_command pair which old was meddles stop command) said
 unissued_done pair which stop meddles command said old new was now fits counted platform s b says none =
     let i = instance_on pair which in
     let same : side_in new ≡ side_in old = λ j. record {
@@ -108,10 +108,10 @@ unissued_done pair which stop meddles command said old new was now fits counted 
       between = subst (λ (x : List (List ℕ)). now.kept ≡ within_64 (sum_by length x)) (sym b.tickets) (b.kept ∙ counted);
       both = λ other committed.
           (λ j. record { first = same j; second = other; away = b.away j; tickets = b.tickets j; committed = committed })
-          ∙ sym (ap (λ x. (moved_if digests_move pair i (both_with old was other committed) meddles stop command x).both)
+          ∙ sym (ap (λ x. (outcome_if_found digests_move pair i (both_with old was other committed) meddles stop command x).both)
           (none other committed));
       says = λ other committed.
-          says ∙ sym (ap (λ x. reply_said (moved_if digests_move pair i (both_with old was other committed) meddles stop command x).reply)
+          says ∙ sym (ap (λ x. move_reply_of (outcome_if_found digests_move pair i (both_with old was other committed) meddles stop command x).reply)
           (none other committed));
       issued = omega (arith, ap length s.issued);
       tickets = omega (arith, ap length b.tickets);

@@ -2,33 +2,33 @@
 use Rattle.mm_transfer.proofs.Below.{append_assoc, ◌≡◌, ℕ, Bool, true, false, List, [], ◌∷◌, ◌++◌, map, Option, None, Some, Result, Ok, Err}
 use Rattle.mm_transfer.proofs.Below.{refl, sym, ap, ◌∙◌, subst, append-nil, ◌==◌, is_some, if◌then◌else◌, StepFault}
 use Rattle.mm_transfer.proofs.Below.{Meddle, Stop, Item, foreign_item, Plan, Standing, plan_after, item_values, register_after, Act}
-use Rattle.mm_transfer.proofs.Below.{Goes, EndsBy, fault_at, is_made_at, is_on_at, cell_after, items_after}
-use Rattle.mm_transfer.proofs.Below.{items_cycled, will_answer, will_be_made, will_be_on, will_bring, Foreign, Instance, Digests}
-use Rattle.mm_transfer.proofs.Below.{made, register_reads, Reads, End, Walked, after_step, end_of, by_digests}
-use Rattle.mm_transfer.proofs.Below.{all_made, shown, plan_of, is_cut, SettlesPlan, IsQuiet, reads_none, power_if, stop_power, on_settled}
-use Rattle.mm_transfer.proofs.Below.{reads_shown, Ready, MoveRefusal}
-use Rattle.mm_transfer.proofs.Below.{stopped_moves, written_if}
-use Rattle.mm_transfer.proofs.Below.{written_by}
+use Rattle.mm_transfer.proofs.Below.{StepGoes, DeviceStepEnds, fault_at, is_made_at, is_on_at, cell_after, items_after}
+use Rattle.mm_transfer.proofs.Below.{items_after_cycle, fault_by_plan, is_made_by_plan, is_on_by_plan, values_by_plan, Foreign, Instance, Digests}
+use Rattle.mm_transfer.proofs.Below.{digests_after, register_reading, Reads, End, StepsWalk, walk_from_step, end_of, digest_level}
+use Rattle.mm_transfer.proofs.Below.{state_after_moves, items_after_moves, plan_of, is_cut, SettlesPlan, IsQuiet, reads_none, power_if, stop_power, on_settled}
+use Rattle.mm_transfer.proofs.Below.{reads_shown, ReadyMove, MoveRefusal}
+use Rattle.mm_transfer.proofs.Below.{stopped_moves, bytes_if_written}
+use Rattle.mm_transfer.proofs.Below.{bytes_after_move}
 use Rattle.std.specs.Option.{option_map}
-use Rattle.mm_base.specs.Faults.{counted}
+use Rattle.mm_base.specs.Faults.{next_count}
 use Rattle.mm_platform.specs.declared.fault.StepFault.TheVariants.{Failed}
 use Rattle.mm_platform.specs.declared.plan.Stop.TheVariants.{Quiet, Cut, Drop, Fail}
-use Rattle.mm_platform.specs.StandingWords.{due}
-use Rattle.mm_call.specs.Ended.{StaysOn}
+use Rattle.mm_platform.specs.StandingWords.{due_values}
+use Rattle.mm_call.specs.EndedCall.{StaysOn}
 
 -- what the register reads after values of others
 
 shown_foreign : (i : Instance) (d : Digests) (values : List (List ℕ)) (items : List Item)
-    → shown i d (map Foreign values) items ≡ items ++ map foreign_item values
+    → items_after_moves i d (map Foreign values) items ≡ items ++ map foreign_item values
 shown_foreign i d [] items = sym (append-nil items)
 shown_foreign i d (v ∷ values) items =
-    shown_foreign i (made i d (Foreign v)) values (items ++ foreign_item v ∷ [])
+    shown_foreign i (digests_after i d (Foreign v)) values (items ++ foreign_item v ∷ [])
     ∙ append_assoc items (foreign_item v ∷ []) (map foreign_item values)
 
 reads_on : (i : Instance) (d : Digests) (values : List (List ℕ)) (before after : Option (List Item))
     → option_map (λ xs. register_after (item_values xs)) before ≡ Some d.register
     → after ≡ option_map (λ xs. xs ++ map foreign_item values) before
-    → option_map (λ xs. register_after (item_values xs)) after ≡ Some (all_made (by_digests i) d (map Foreign values)).register
+    → option_map (λ xs. register_after (item_values xs)) after ≡ Some (state_after_moves (digest_level i) d (map Foreign values)).register
 reads_on i d values None after e is = cc
 reads_on i d values (Some xs) after e is =
     ap (λ x. option_map (λ ys. register_after (item_values ys)) x) (is ∙ ap Some (sym (shown_foreign i d values xs)))
@@ -46,7 +46,7 @@ stays_done : (stop : Stop) (new : Standing) → new.is_on ≡ true → StaysOn s
 stays_done (Cut at) new e = e
 stays_done _ new e = e
 
-ends_on : (stop : Stop) (n : ℕ) (fault : Option StepFault) (old new : Standing) (is_made : Bool) → EndsBy fault old new is_made
+ends_on : (stop : Stop) (n : ℕ) (fault : Option StepFault) (old new : Standing) (is_made : Bool) → DeviceStepEnds fault old new is_made
     → new.is_on ≡ is_on_at stop n → StaysOn stop (is_some fault) new
 ends_on stop n None old new is_made ends on = stays_done stop new ends.is_on
 ends_on stop n (Some fault) old new is_made ends on = stays_off stop n new on
@@ -56,7 +56,7 @@ pub record StepsBy (i : Instance) (d : Digests) (stop : Stop) (meddles : List Me
     (fault : Option StepFault) : Type 0 where
   pub fault_is : fault ≡ fault_at stop n
   pub cell : new.cell ≡ cell_after act (is_made_at stop n) old.cell
-  pub register : register_reads new ≡ Some (all_made (by_digests i) d (map Foreign (due n meddles))).register
+  pub register : register_reading new ≡ Some (state_after_moves (digest_level i) d (map Foreign (due_values n meddles))).register
   pub stays : StaysOn stop (is_some fault) new
   pub plan : new.plan ≡ Some (record { stop = stop; meddles = meddles; at = n })
 
@@ -66,31 +66,31 @@ module _ (i : Instance) (d : Digests) (stop : Stop) (meddles : List Meddle) wher
 
   pub step_by : (at : ℕ) (act : Act) (old new : Standing) (fault : Option StepFault)
       → ((made : Bool) (items : Option (List Item)) → items_after act made items ≡ items) → old.is_on ≡ true → old.plan ≡ Some (At at)
-      → register_reads old ≡ Some d.register → Goes act old new fault → StepsBy i d stop meddles (counted at) act old new fault
+      → register_reading old ≡ Some d.register → StepGoes act old new fault → StepsBy i d stop meddles (next_count at) act old new fault
   step_by at act old new fault reads on plan register goes =
       let told = goes.told (At at) plan in
-      let made : goes.is_made ≡ is_made_at stop (counted at) = told.makes ∙ ap (λ b. will_be_made b (At at)) on in
-      let brings : goes.others ≡ due (counted at) meddles = told.brings ∙ ap (λ b. will_bring b (At at)) on in
+      let made : goes.is_made ≡ is_made_at stop (next_count at) = told.makes ∙ ap (λ b. is_made_by_plan b (At at)) on in
+      let brings : goes.others ≡ due_values (next_count at) meddles = told.brings ∙ ap (λ b. values_by_plan b (At at)) on in
       record {
-        fault_is = told.answers ∙ ap (λ b. will_answer b (At at)) on;
+        fault_is = told.answers ∙ ap (λ b. fault_by_plan b (At at)) on;
         cell = goes.cell ∙ ap (λ b. cell_after act b old.cell) made;
-        register = reads_on i d (due (counted at) meddles) old.items new.items register
+        register = reads_on i d (due_values (next_count at) meddles) old.items new.items register
             (goes.items ∙ reads goes.is_made _ ∙ ap (λ vs. option_map (λ xs. xs ++ map foreign_item vs) old.items) brings);
-        stays = ends_on stop (counted at) fault old new goes.is_made goes.ends (told.power ∙ ap (λ b. will_be_on b (At at)) on);
+        stays = ends_on stop (next_count at) fault old new goes.is_made goes.ends (told.power ∙ ap (λ b. is_on_by_plan b (At at)) on);
         plan = goes.plan ∙ ap (option_map plan_after) plan;
       }
 
 -- a plan that is over, and perhaps power lost and back
 pub settled_by : (i : Instance) (s : Digests) (stop : Stop) (fault : Option StepFault) (mid new : Standing)
-    → register_reads mid ≡ Some s.register
-    → SettlesPlan stop (is_some fault) mid new → register_reads new ≡ Some (all_made (by_digests i) s (stopped_moves stop fault)).register
+    → register_reading mid ≡ Some s.register
+    → SettlesPlan stop (is_some fault) mid new → register_reading new ≡ Some (state_after_moves (digest_level i) s (stopped_moves stop fault)).register
 settled_by i s stop None mid new e settles = ap (λ x. option_map (λ xs. register_after (item_values xs)) x) settles.items ∙ e
 settled_by i s stop (Some fault) mid new e settles =
-    subst (λ ms. register_reads new ≡ Some (all_made (by_digests i) s ms).register) (sym (stop_power stop))
+    subst (λ ms. register_reading new ≡ Some (state_after_moves (digest_level i) s ms).register) (sym (stop_power stop))
     (cut_by (is_cut stop) settles.items)
   where
-    cut_by : (cut : Bool) → new.items ≡ items_cycled cut mid.items
-        → register_reads new ≡ Some (all_made (by_digests i) s (power_if cut)).register
+    cut_by : (cut : Bool) → new.items ≡ items_after_cycle cut mid.items
+        → register_reading new ≡ Some (state_after_moves (digest_level i) s (power_if cut)).register
     cut_by true items = ap (λ x. option_map (λ xs. register_after (item_values xs)) x) items ∙ reads_none mid.items s.register e
     cut_by false items = ap (λ x. option_map (λ xs. register_after (item_values xs)) x) items ∙ e
 
@@ -101,17 +101,17 @@ quiet_by stop fault mid new stays settles =
 
 -- the walk of one step, and of two, by how they ended
 
-abbrev pub nothing : Walked
+abbrev pub nothing : StepsWalk
 nothing = record { moves = []; steps = 0; writes = 0; broken = None }
 
-abbrev pub one_step : List (List ℕ) → End → Walked
-one_step values e = after_step Reads values e nothing
+abbrev pub one_step : List (List ℕ) → End → StepsWalk
+one_step values e = walk_from_step Reads values e nothing
 
-pub unwritten : {A : Type 0} (found : Result (Ready A) MoveRefusal) (bytes : List ℕ) → written_by found false bytes ≡ bytes
+pub unwritten : {A : Type 0} (found : Result (ReadyMove A) MoveRefusal) (bytes : List ℕ) → bytes_after_move found false bytes ≡ bytes
 unwritten (Err why) bytes = refl
 unwritten (Ok ready) bytes = never_written ready.next bytes
   where
-    never_written : (next : Option (List ℕ)) (bytes : List ℕ) → written_if next false bytes ≡ bytes
+    never_written : (next : Option (List ℕ)) (bytes : List ℕ) → bytes_if_written next false bytes ≡ bytes
     never_written None bytes = refl
     never_written (Some next) bytes = refl
 
@@ -126,7 +126,7 @@ done_made stop n e = refl
 
 -- where the register stands behind the first step; how the second ends; and a platform with its plan
 abbrev pub seen_first : Instance → Digests → List Meddle → Digests
-seen_first i d meddles = all_made (by_digests i) d (map Foreign (due 1 meddles))
+seen_first i d meddles = state_after_moves (digest_level i) d (map Foreign (due_values 1 meddles))
 
 abbrev pub second_end : Stop → End
 second_end stop = end_of (fault_at stop 2) (is_made_at stop 2)

@@ -2,29 +2,29 @@
 use Rattle.mm_transfer.proofs.Below.{◌≡◌, ℕ, Bool, true, false, List, [], ◌++◌, map, Option, None, Some, Result, Ok, Err}
 use Rattle.mm_transfer.proofs.Below.{inl, inr, refl, sym, ap, ◌∙◌, subst, append-nil, ◌⊎◌, is_some, not, if◌then◌else◌, StepFault}
 use Rattle.mm_transfer.proofs.Below.{Meddle, Stop, Standing}
-use Rattle.mm_transfer.proofs.Below.{ReadCell, WriteCell, Goes, fault_at, is_made_at, cell_after}
+use Rattle.mm_transfer.proofs.Below.{ReadCell, WriteCell, StepGoes, fault_at, is_made_at, cell_after}
 use Rattle.mm_transfer.proofs.Below.{Move, Foreign, Instance, Digests}
-use Rattle.mm_transfer.proofs.Below.{register_reads, Reads, End, Done, Fails, Walked, walk, after_step, planned, end_of, by_digests}
-use Rattle.mm_transfer.proofs.Below.{all_made, plan_of, SettlesPlan}
-use Rattle.mm_transfer.proofs.Below.{CellFault, MovedCell, Invited, Ready, MoveRefusal, same_waiting, invites_in}
-use Rattle.mm_transfer.proofs.Below.{move_fault_of, move_fault_in, OrNoMemory, is_moved, is_written, stopped_moves, later_steps, written_if}
-use Rattle.mm_transfer.proofs.Below.{written_by, ended_as, Ends, MakesMove, WantsMemory, MovesPlanned}
+use Rattle.mm_transfer.proofs.Below.{register_reading, Reads, End, Done, Fails, StepsWalk, walk, walk_from_step, fate_by_plan, end_of, digest_level}
+use Rattle.mm_transfer.proofs.Below.{state_after_moves, plan_of, SettlesPlan}
+use Rattle.mm_transfer.proofs.Below.{CellFault, MovedCell, Invited, ReadyMove, MoveRefusal, is_same_waiting, invitation_in}
+use Rattle.mm_transfer.proofs.Below.{move_fault_of, move_fault_in, IsOrNoMemory, is_moved, is_written, stopped_moves, later_steps, bytes_if_written}
+use Rattle.mm_transfer.proofs.Below.{bytes_after_move, move_answer_of, MoveEnds, MakesMove, WantsMemory, MovesByPlan}
 use Rattle.std.specs.Option.{option_map}
-use Rattle.mm_platform.specs.StandingWords.{due}
+use Rattle.mm_platform.specs.StandingWords.{due_values}
 use Rattle.mm_model.specs.declared.refusal.Refusal.TheVariants.{Memory, Device}
-use Rattle.mm_call.specs.TrailLaws.{all_made-append}
+use Rattle.mm_call.specs.TrailLaws.{state_after_moves-append}
 use Rattle.mm_seal.specs.declared.cell.CellFault.TheVariants.{Blank}
 use Rattle.mm_move.specs.declared.cell.MovedCell.TheVariants.{Waiting as Waits}
-use Rattle.mm_move.specs.declared.cell.Waiting.{Waiting}
+use Rattle.mm_move.specs.declared.cell.WaitingCell.{WaitingCell}
 use Rattle.mm_move.specs.declared.refusal.MoveRefusal.TheVariants.{Core}
-use Rattle.mm_move.specs.Moves.{answered, Makes, GoesOn, AfterRead, MovedAs}
+use Rattle.mm_move.specs.Moves.{move_answer, MakesMoveStep, MoveGoesOn, EndsAfterRead, MovePromise}
 use Rattle.mm_transfer.proofs.PlannedSteps.{StepsBy, step_by, settled_by, quiet_by, one_step, unwritten, done_made, seen_first, second_end, over}
 
 module _ {A : Type 0} (i : Instance) (d : Digests) (stop : Stop) (meddles : List Meddle) (bytes : List ℕ) where
   -- broken off at the first step
-  first_failed : (found : Result (Ready A) MoveRefusal) (rest : Walked) (fault : StepFault) (is_made : Bool) (other : End)
+  first_failed : (found : Result (ReadyMove A) MoveRefusal) (rest : StepsWalk) (fault : StepFault) (is_made : Bool) (other : End)
       (old mid new : Standing) → old.cell ≡ Some bytes → StepsBy i d stop meddles 1 ReadCell old mid (Some fault)
-      → SettlesPlan stop true mid new → Ends i d stop bytes found (after_step Reads (due 1 meddles) (Fails fault is_made) rest)
+      → SettlesPlan stop true mid new → MoveEnds i d stop bytes found (walk_from_step Reads (due_values 1 meddles) (Fails fault is_made) rest)
       (is_moved (Fails fault is_made) other) new (Err (Core (Device fault)))
   first_failed found rest fault is_made other old mid new cell s settles = record {
     cell = settles.cell ∙ s.cell ∙ cell ∙ ap Some (sym (unwritten found bytes));
@@ -34,13 +34,13 @@ module _ {A : Type 0} (i : Instance) (d : Digests) (stop : Stop) (meddles : List
   }
 
   -- done at the first step, behind which there is none
-  first_done : (found : Result (Ready A) MoveRefusal) (moved : Bool) (old mid new : Standing) → old.cell ≡ Some bytes
-      → StepsBy i d stop meddles 1 ReadCell old mid None → SettlesPlan stop false mid new → written_by found moved bytes ≡ bytes
-      → Ends i d stop bytes found (one_step (due 1 meddles) Done) moved new (ended_as None found)
+  first_done : (found : Result (ReadyMove A) MoveRefusal) (moved : Bool) (old mid new : Standing) → old.cell ≡ Some bytes
+      → StepsBy i d stop meddles 1 ReadCell old mid None → SettlesPlan stop false mid new → bytes_after_move found moved bytes ≡ bytes
+      → MoveEnds i d stop bytes found (one_step (due_values 1 meddles) Done) moved new (move_answer_of None found)
   first_done found moved old mid new cell s settles same = record {
     cell = settles.cell ∙ s.cell ∙ cell ∙ ap Some (sym same);
     register = settled_by i (seen_first i d meddles) stop None mid new s.register settles
-        ∙ ap (λ (ms : List Move). Some (all_made (by_digests i) d ms).register) (sym (append-nil (map Foreign (due 1 meddles))));
+        ∙ ap (λ (ms : List Move). Some (state_after_moves (digest_level i) d ms).register) (sym (append-nil (map Foreign (due_values 1 meddles))));
     quiet = quiet_by stop None mid new s.stays settles;
     says = refl;
   }
@@ -49,17 +49,17 @@ module _ {A : Type 0} (i : Instance) (d : Digests) (stop : Stop) (meddles : List
   second_done : (next : List ℕ) (answer : A) (old middle mid new : Standing) (fault : Option StepFault) → old.cell ≡ Some bytes
       → StepsBy i d stop meddles 1 ReadCell old middle None
       → StepsBy i (seen_first i d meddles) stop meddles 2 (WriteCell next) middle mid fault → SettlesPlan stop (is_some fault) mid new
-      → Ends i d stop bytes (Ok (record { next = Some next; answer = answer }))
-      (after_step Reads (due 1 meddles) Done (one_step (due 2 meddles) (end_of fault (is_made_at stop 2))))
-      (is_moved Done (end_of fault (is_made_at stop 2))) new (answered answer fault)
+      → MoveEnds i d stop bytes (Ok (record { next = Some next; answer = answer }))
+      (walk_from_step Reads (due_values 1 meddles) Done (one_step (due_values 2 meddles) (end_of fault (is_made_at stop 2))))
+      (is_moved Done (end_of fault (is_made_at stop 2))) new (move_answer answer fault)
   second_done next answer old middle mid new None cell s t settles = record {
     cell = settles.cell ∙ t.cell ∙ ap (λ b. cell_after (WriteCell next) b middle.cell) (done_made stop 2 t.fault_is)
         ∙ ap (option_map (λ _. next)) (s.cell ∙ cell);
     register =
-        settled_by i (all_made (by_digests i) (seen_first i d meddles) (map Foreign (due 2 meddles))) stop None mid new t.register settles
+        settled_by i (state_after_moves (digest_level i) (seen_first i d meddles) (map Foreign (due_values 2 meddles))) stop None mid new t.register settles
         ∙ ap (λ (e : Digests). Some e.register)
-        (ap (λ (ms : List Move). all_made (by_digests i) (seen_first i d meddles) ms) (sym (append-nil (map Foreign (due 2 meddles))))
-        ∙ sym (all_made-append i d (map Foreign (due 1 meddles)) (map Foreign (due 2 meddles) ++ [])));
+        (ap (λ (ms : List Move). state_after_moves (digest_level i) (seen_first i d meddles) ms) (sym (append-nil (map Foreign (due_values 2 meddles))))
+        ∙ sym (state_after_moves-append i d (map Foreign (due_values 1 meddles)) (map Foreign (due_values 2 meddles) ++ [])));
     quiet = quiet_by stop None mid new t.stays settles;
     says = refl;
   }
@@ -67,71 +67,71 @@ module _ {A : Type 0} (i : Instance) (d : Digests) (stop : Stop) (meddles : List
     cell =
         settles.cell ∙ t.cell ∙ ap (cell_after (WriteCell next) (is_made_at stop 2)) (s.cell ∙ cell) ∙ written_at next (is_made_at stop 2);
     register =
-        settled_by i (all_made (by_digests i) (seen_first i d meddles) (map Foreign (due 2 meddles))) stop (Some fault) mid new t.register
-        settles ∙ ap (λ (e : Digests). Some (all_made (by_digests i) e (stopped_moves stop (Some fault))).register)
-        (sym (all_made-append i d (map Foreign (due 1 meddles)) (map Foreign (due 2 meddles))));
+        settled_by i (state_after_moves (digest_level i) (seen_first i d meddles) (map Foreign (due_values 2 meddles))) stop (Some fault) mid new t.register
+        settles ∙ ap (λ (e : Digests). Some (state_after_moves (digest_level i) e (stopped_moves stop (Some fault))).register)
+        (sym (state_after_moves-append i d (map Foreign (due_values 1 meddles)) (map Foreign (due_values 2 meddles))));
     quiet = quiet_by stop (Some fault) mid new t.stays settles;
     says = refl;
   }
     where
       written_at : (next : List ℕ) (is_made : Bool)
-          → cell_after (WriteCell next) is_made (Some bytes) ≡ Some (written_if (Some next) is_made bytes)
+          → cell_after (WriteCell next) is_made (Some bytes) ≡ Some (bytes_if_written (Some next) is_made bytes)
       written_at next true = refl
       written_at next false = refl
 
 -- all together
 
-answered_fault : {A : Type 0} (answer : A) (fault : Option StepFault) → move_fault_in (answered answer fault) ≡ fault
+answered_fault : {A : Type 0} (answer : A) (fault : Option StepFault) → move_fault_in (move_answer answer fault) ≡ fault
 answered_fault answer None = refl
 answered_fault answer (Some fault) = refl
 
 module _ {A : Type 0} (i : Instance) (d : Digests) (stop : Stop) (meddles : List Meddle) (bytes : List ℕ) (old new : Standing) where
-  abbrev Goal : Result (Ready A) MoveRefusal → Result A MoveRefusal → Type 0
+  abbrev Goal : Result (ReadyMove A) MoveRefusal → Result A MoveRefusal → Type 0
   Goal expected result = MakesMove i d stop meddles bytes expected new result ⊎ WantsMemory i d stop meddles old new result
 
-  failed : (expected : Result (Ready A) MoveRefusal) (result : Result A MoveRefusal) (fault : StepFault) (mid : Standing)
+  failed : (expected : Result (ReadyMove A) MoveRefusal) (result : Result A MoveRefusal) (fault : StepFault) (mid : Standing)
       → old.cell ≡ Some bytes → StepsBy i d stop meddles 1 ReadCell (over old stop meddles) mid (Some fault) → SettlesPlan stop true mid new
       → result ≡ Err (Core (Device fault)) → MakesMove i d stop meddles bytes expected new result
   failed expected result fault mid cell s settles e =
-      let rest : Walked = walk (planned (plan_of stop meddles)) 2 (later_steps expected) in
+      let rest : StepsWalk = walk (fate_by_plan (plan_of stop meddles)) 2 (later_steps expected) in
       let m : Bool = is_made_at stop 1 in
       let here : MakesMove i d stop meddles bytes expected new (Err (Core (Device fault))) =
-      subst (λ f. Ends i d stop bytes expected (after_step Reads (due 1 meddles) (end_of f m) rest)
+      subst (λ f. MoveEnds i d stop bytes expected (walk_from_step Reads (due_values 1 meddles) (end_of f m) rest)
       (is_moved (end_of f m) (second_end stop)) new (Err (Core (Device fault))))
       s.fault_is (first_failed i d stop meddles bytes expected rest fault m (second_end stop) (over old stop meddles) mid new cell s
       settles) in
       subst (λ (r : Result A MoveRefusal). MakesMove i d stop meddles bytes expected new r) (sym e) here
 
-  one_made : (expected : Result (Ready A) MoveRefusal) (mid : Standing) → old.cell ≡ Some bytes
+  one_made : (expected : Result (ReadyMove A) MoveRefusal) (mid : Standing) → old.cell ≡ Some bytes
       → StepsBy i d stop meddles 1 ReadCell (over old stop meddles) mid None
-      → SettlesPlan stop false mid new → ((moved : Bool) → written_by expected moved bytes ≡ bytes)
-      → Ends i d stop bytes expected (one_step (due 1 meddles) (end_of (fault_at stop 1) (is_made_at stop 1)))
-      (is_moved (end_of (fault_at stop 1) (is_made_at stop 1)) (second_end stop)) new (ended_as None expected)
+      → SettlesPlan stop false mid new → ((moved : Bool) → bytes_after_move expected moved bytes ≡ bytes)
+      → MoveEnds i d stop bytes expected (one_step (due_values 1 meddles) (end_of (fault_at stop 1) (is_made_at stop 1)))
+      (is_moved (end_of (fault_at stop 1) (is_made_at stop 1)) (second_end stop)) new (move_answer_of None expected)
   one_made expected mid cell s settles same =
       let m : Bool = is_made_at stop 1 in
-      subst (λ f. Ends i d stop bytes expected (one_step (due 1 meddles) (end_of f m)) (is_moved (end_of f m) (second_end stop)) new
-      (ended_as None expected))
+      subst (λ f. MoveEnds i d stop bytes expected (one_step (due_values 1 meddles) (end_of f m)) (is_moved (end_of f m) (second_end stop)) new
+      (move_answer_of None expected))
       s.fault_is (first_done i d stop meddles bytes expected (is_written (second_end stop)) (over old stop meddles) mid new cell s settles
       (same (is_written (second_end stop))))
 
   two_made : (next : List ℕ) (answer : A) (fault : Option StepFault) (middle mid : Standing) → old.cell ≡ Some bytes
       → StepsBy i d stop meddles 1 ReadCell (over old stop meddles) middle None
-      → StepsBy i (all_made (by_digests i) d (map Foreign (due 1 meddles))) stop meddles 2 (WriteCell next) middle mid fault
+      → StepsBy i (state_after_moves (digest_level i) d (map Foreign (due_values 1 meddles))) stop meddles 2 (WriteCell next) middle mid fault
       → SettlesPlan stop (is_some fault) mid new
-      → MakesMove i d stop meddles bytes (Ok (record { next = Some next; answer = answer })) new (answered answer fault)
+      → MakesMove i d stop meddles bytes (Ok (record { next = Some next; answer = answer })) new (move_answer answer fault)
   two_made next answer fault middle mid cell s t settles =
-      let found : Result (Ready A) MoveRefusal = Ok (record { next = Some next; answer = answer }) in
+      let found : Result (ReadyMove A) MoveRefusal = Ok (record { next = Some next; answer = answer }) in
       let m : Bool = is_made_at stop 1 in
       let n : Bool = is_made_at stop 2 in
-      subst (λ f. Ends i d stop bytes found (after_step Reads (due 1 meddles) (end_of f m) (one_step (due 2 meddles) (second_end stop)))
-      (is_moved (end_of f m) (second_end stop)) new (answered answer fault)) s.fault_is
-      (subst (λ f. Ends i d stop bytes found (after_step Reads (due 1 meddles) Done (one_step (due 2 meddles) (end_of f n)))
-      (is_moved Done (end_of f n)) new (answered answer fault)) t.fault_is
+      subst (λ f. MoveEnds i d stop bytes found (walk_from_step Reads (due_values 1 meddles) (end_of f m) (one_step (due_values 2 meddles) (second_end stop)))
+      (is_moved (end_of f m) (second_end stop)) new (move_answer answer fault)) s.fault_is
+      (subst (λ f. MoveEnds i d stop bytes found (walk_from_step Reads (due_values 1 meddles) Done (one_step (due_values 2 meddles) (end_of f n)))
+      (is_moved Done (end_of f n)) new (move_answer answer fault)) t.fault_is
       (second_done i d stop meddles bytes next answer (over old stop meddles) middle mid new fault cell s t settles))
 
   made_by : (next : Option (List ℕ)) (answer : A) (result : Result A MoveRefusal) (middle mid : Standing) (broken : Bool)
       → old.cell ≡ Some bytes
-      → StepsBy i d stop meddles 1 ReadCell (over old stop meddles) middle None → middle.is_on ≡ true → Makes next answer middle mid result
+      → StepsBy i d stop meddles 1 ReadCell (over old stop meddles) middle None → middle.is_on ≡ true → MakesMoveStep next answer middle mid result
       → broken ≡ is_some (move_fault_in result) → SettlesPlan stop broken mid new
       → MakesMove i d stop meddles bytes (Ok (record { next = next; answer = answer })) new result
   made_by None answer result middle mid broken cell s on makes is settles =
@@ -140,7 +140,7 @@ module _ {A : Type 0} (i : Instance) (d : Digests) (stop : Stop) (meddles : List
       subst (λ (r : Result A MoveRefusal). MakesMove i d stop meddles bytes (Ok (record { next = None; answer = answer })) new r)
       (sym makes.1) (one_made (Ok (record { next = None; answer = answer })) middle cell s here (λ moved. refl))
   made_by (Some next) answer result middle mid broken cell s on makes is settles =
-      let t = step_by i (all_made (by_digests i) d (map Foreign (due 1 meddles))) stop meddles 1 (WriteCell next) middle mid makes.fault
+      let t = step_by i (state_after_moves (digest_level i) d (map Foreign (due_values 1 meddles))) stop meddles 1 (WriteCell next) middle mid makes.fault
       (λ made items. refl) on s.plan s.register makes.goes in
       let breaks : broken ≡ is_some makes.fault =
       is ∙ ap (λ (r : Result A MoveRefusal). is_some (move_fault_in r)) makes.gives ∙ ap is_some (answered_fault answer makes.fault) in
@@ -154,37 +154,37 @@ module _ {A : Type 0} (i : Instance) (d : Digests) (stop : Stop) (meddles : List
     says = e;
     cell = settles.cell ∙ s.cell;
     register =
-        inr (settled_by i (all_made (by_digests i) d (map Foreign (due 1 meddles))) stop None mid new s.register settles
-        ∙ ap (λ (ms : List Move). Some (all_made (by_digests i) d ms).register) (sym (append-nil (map Foreign (due 1 meddles)))));
+        inr (settled_by i (state_after_moves (digest_level i) d (map Foreign (due_values 1 meddles))) stop None mid new s.register settles
+        ∙ ap (λ (ms : List Move). Some (state_after_moves (digest_level i) d ms).register) (sym (append-nil (map Foreign (due_values 1 meddles)))));
     quiet = quiet_by stop None mid new s.stays settles;
   }
 
-  refused : (expected : Result (Ready A) MoveRefusal) (why : MoveRefusal) (result : Result A MoveRefusal) (middle mid : Standing)
+  refused : (expected : Result (ReadyMove A) MoveRefusal) (why : MoveRefusal) (result : Result A MoveRefusal) (middle mid : Standing)
       (broken : Bool) → move_fault_of why ≡ None → (mid ≡ middle) × (result ≡ Err why) → broken ≡ is_some (move_fault_in result)
       → SettlesPlan stop broken mid new → SettlesPlan stop false middle new
   refused expected why result middle mid broken none goes is settles =
       let whole : broken ≡ false = is ∙ ap (λ (r : Result A MoveRefusal). is_some (move_fault_in r)) goes.1 ∙ ap is_some none in
       subst (λ (m : Standing). SettlesPlan stop false m new) goes.0 (subst (λ b. SettlesPlan stop b mid new) whole settles)
 
-  found_by : (expected found : Result (Ready A) MoveRefusal) (result : Result A MoveRefusal) (middle mid : Standing) (broken : Bool)
+  found_by : (expected found : Result (ReadyMove A) MoveRefusal) (result : Result A MoveRefusal) (middle mid : Standing) (broken : Bool)
       → old.cell ≡ Some bytes → StepsBy i d stop meddles 1 ReadCell (over old stop meddles) middle None → middle.is_on ≡ true
-      → move_fault_in expected ≡ None → OrNoMemory expected found → GoesOn found middle mid result → broken ≡ is_some (move_fault_in result)
+      → move_fault_in expected ≡ None → IsOrNoMemory expected found → MoveGoesOn found middle mid result → broken ≡ is_some (move_fault_in result)
       → SettlesPlan stop broken mid new → Goal expected result
   found_by (Err why) found result middle mid broken cell s on none is goes breaks settles =
-      let ends = subst (λ (f : Result (Ready A) MoveRefusal). GoesOn f middle mid result) is goes in
+      let ends = subst (λ (f : Result (ReadyMove A) MoveRefusal). MoveGoesOn f middle mid result) is goes in
       inl (subst (λ (r : Result A MoveRefusal). MakesMove i d stop meddles bytes (Err why) new r) (sym ends.1)
       (one_made (Err why) middle cell s (refused (Err why) why result middle mid broken none ends breaks settles) (λ moved. refl)))
   found_by (Ok ready) found result middle mid broken cell s on none (inl is) goes breaks settles =
-      let ends = subst (λ (f : Result (Ready A) MoveRefusal). GoesOn f middle mid result) is goes in
+      let ends = subst (λ (f : Result (ReadyMove A) MoveRefusal). MoveGoesOn f middle mid result) is goes in
       inl (made_by ready.next ready.answer result middle mid broken cell s on ends breaks settles)
   found_by (Ok ready) found result middle mid broken cell s on none (inr is) goes breaks settles =
-      let ends = subst (λ (f : Result (Ready A) MoveRefusal). GoesOn f middle mid result) is goes in
+      let ends = subst (λ (f : Result (ReadyMove A) MoveRefusal). MoveGoesOn f middle mid result) is goes in
       inr (wants result middle s (refused (Ok ready) (Core Memory) result middle mid broken refl ends breaks settles) ends.1)
 
-  after_read : (finds : List ℕ → Result (Ready A) MoveRefusal) (result : Result A MoveRefusal) (fault : Option StepFault)
+  after_read : (finds : List ℕ → Result (ReadyMove A) MoveRefusal) (result : Result A MoveRefusal) (fault : Option StepFault)
       (middle mid : Standing) (broken : Bool) → ((xs : List ℕ) → move_fault_in (finds xs) ≡ None) → old.cell ≡ Some bytes
-      → register_reads old ≡ Some d.register → old.is_on ≡ true → Goes ReadCell (over old stop meddles) middle fault
-      → AfterRead finds fault (over old stop meddles) middle mid result → broken ≡ is_some (move_fault_in result)
+      → register_reading old ≡ Some d.register → old.is_on ≡ true → StepGoes ReadCell (over old stop meddles) middle fault
+      → EndsAfterRead finds fault (over old stop meddles) middle mid result → broken ≡ is_some (move_fault_in result)
       → SettlesPlan stop broken mid new → Goal (finds bytes) result
   after_read finds result (Some fault) middle mid broken none cell register on goes after breaks settles =
       let s = step_by i d stop meddles 0 ReadCell (over old stop meddles) middle (Some fault) (λ made items. refl) on refl register goes in
@@ -195,26 +195,26 @@ module _ {A : Type 0} (i : Instance) (d : Digests) (stop : Stop) (meddles : List
       let s = step_by i d stop meddles 0 ReadCell (over old stop meddles) middle None (λ made items. refl) on refl register goes in
       let same : after.bytes ≡ bytes = after.told bytes cell in
       found_by (finds bytes) after.found result middle mid broken cell s goes.ends.is_on (none bytes)
-      (subst (λ xs. OrNoMemory (finds xs) after.found) same after.found_is) after.goes_on breaks settles
+      (subst (λ xs. IsOrNoMemory (finds xs) after.found) same after.found_is) after.goes_on breaks settles
 
 -- a move over a planned platform, whose plan is over
-pub moves_planned : {A : Type 0} (finds : List ℕ → Result (Ready A) MoveRefusal) (stop : Stop) (meddles : List Meddle)
+pub moves_planned : {A : Type 0} (finds : List ℕ → Result (ReadyMove A) MoveRefusal) (stop : Stop) (meddles : List Meddle)
     (old at mid new : Standing) (broken : Bool) (result : Result A MoveRefusal) → ((xs : List ℕ) → move_fault_in (finds xs) ≡ None)
-    → at ≡ record old { plan = Some (plan_of stop meddles) } → MovedAs finds at mid result → broken ≡ is_some (move_fault_in result)
-    → SettlesPlan stop broken mid new → MovesPlanned finds stop meddles old new result
+    → at ≡ record old { plan = Some (plan_of stop meddles) } → MovePromise finds at mid result → broken ≡ is_some (move_fault_in result)
+    → SettlesPlan stop broken mid new → MovesByPlan finds stop meddles old new result
 moves_planned finds stop meddles old at mid new broken result none planned_at moved breaks settles = λ i d bytes cell register quiet.
-    let goes = subst (λ (s : Standing). Goes ReadCell s moved.moves.middle moved.moves.fault) planned_at moved.moves.reads in
-    let after = subst (λ (s : Standing). AfterRead finds moved.moves.fault s moved.moves.middle mid result) planned_at moved.moves.after in
+    let goes = subst (λ (s : Standing). StepGoes ReadCell s moved.moves.middle moved.moves.fault) planned_at moved.moves.reads in
+    let after = subst (λ (s : Standing). EndsAfterRead finds moved.moves.fault s moved.moves.middle mid result) planned_at moved.moves.after in
     after_read i d stop meddles bytes old new finds result moved.moves.fault moved.moves.middle mid broken none cell register quiet.is_on
     goes after breaks settles
 
 -- an invitation hands on no fault by itself
-no_fault_if : (test : Bool) (refused rest : Result (Ready Invited) MoveRefusal) → move_fault_in refused ≡ None → move_fault_in rest ≡ None
+no_fault_if : (test : Bool) (refused rest : Result (ReadyMove Invited) MoveRefusal) → move_fault_in refused ≡ None → move_fault_in rest ≡ None
     → move_fault_in (if test then refused else rest) ≡ None
 no_fault_if true refused rest p q = p
 no_fault_if false refused rest p q = q
 
-pub invites_no_fault : (next : Waiting) (read : Result MovedCell CellFault) → move_fault_in (invites_in next read) ≡ None
+pub invites_no_fault : (next : WaitingCell) (read : Result MovedCell CellFault) → move_fault_in (invitation_in next read) ≡ None
 invites_no_fault next (Err Blank) = refl
-invites_no_fault next (Ok (Waits cell)) = no_fault_if (not (same_waiting cell next)) _ _ refl refl
+invites_no_fault next (Ok (Waits cell)) = no_fault_if (not (is_same_waiting cell next)) _ _ refl refl
 invites_no_fault next _ = refl

@@ -1,12 +1,12 @@
 -- An invitation to a side, and a retirement of it, come to what they come to by digests.
 use Rattle.mm_transfer.proofs.Below.{◌≡◌, ◌+◌, ◌&&◌, ℕ, Bool, true, not, List, [], ◌∷◌, ◌++◌, length, None, Some, Result, Ok}
 use Rattle.mm_transfer.proofs.Below.{inl, inr, refl, sym, ap, ◌∙◌, subst, arith, length-append, MatchResult, if◌then◌else◌, Memory, Meaning}
-use Rattle.mm_transfer.proofs.Below.{Meddle, Stop, Standing, Digests, register_reads, walk, course_of, offered_bytes, Offer, IsQuiet}
-use Rattle.mm_transfer.proofs.Below.{Link, MoveRefusal, moved_of, waiting_for, invites_in, retires_in, Invited, Role, Effect}
-use Rattle.mm_transfer.proofs.Below.{Invites, Leaves, is_live, Which, Pair, key_of, instance_on, Both, digests_move, FoundMove, MoveCause}
-use Rattle.mm_transfer.proofs.Below.{Invite, Retire, invited_on, retired_on, move_steps, effect_of, handed, told, retiring, role_after, Between}
-use Rattle.mm_transfer.proofs.Below.{MoveReply, CodeSide, InvitedAs, KeepsDigest, LeftAs, both_with, commanded, FitsBetween, CommandDone}
-use Rattle.mm_transfer.proofs.Below.{CommandLacks, has_moved, link_of, role_in, at_in, FitsSide, MovesPlanned, reply_said, cell_of_role}
+use Rattle.mm_transfer.proofs.Below.{Meddle, Stop, Standing, Digests, register_reading, walk, course_of, offered_bytes, Offer, IsQuiet}
+use Rattle.mm_transfer.proofs.Below.{Link, MoveRefusal, moved_cell_of, waiting_for, invitation_in, retirement_in, Invited, Role, Effect}
+use Rattle.mm_transfer.proofs.Below.{Invites, Leaves, is_live, Which, Pair, key_of, instance_on, Both, digests_move, FoundMove, DenialCause}
+use Rattle.mm_transfer.proofs.Below.{Invite, Retire, invitation_on, retirement_on, move_steps, effect_of, sides_after_issue, effect_reply, found_retirement, role_after, IssuedTickets}
+use Rattle.mm_transfer.proofs.Below.{MoveReply, CodeSide, TellsInvitation, KeepsDigest, TellsRetirement, both_with, outcome_of_command, FitsIssuedTickets, CommandDone}
+use Rattle.mm_transfer.proofs.Below.{CommandLacks, has_moved, link_of, role_in, at_in, FitsSide, MovesByPlan, move_reply_of, cell_of_role}
 use Rattle.mm_transfer.proofs.Below.{GivesInvited, GivesInvitedBy, GivesTicket, GivesTicketBy, FitsLive, Instance, within_64, false, kept_more}
 use Rattle.mm_world.specs.declared.seat.Seat.{Seat}
 use Rattle.mm_transfer.specs.declared.reply.MoveReply.TheVariants as reply
@@ -30,7 +30,7 @@ waits d away kept (Invites nonce) e g = record { count = refl; away_is = refl; k
 waits d away kept effect e g = absurd g
 
 same_counts : (role : Role) (d : Digests) (away : ℕ) (kept : List ℕ) → kept ≡ d.digest → (moved : Bool)
-    (found : Result FoundMove MoveCause) → KnowsOf GivesInvited role d found
+    (found : Result FoundMove DenialCause) → KnowsOf GivesInvited role d found
     → (d.count ≡ (at_then away d (made_if moved found)).count) × (away ≡ away_then away d (made_if moved found))
 same_counts role d away kept e moved found k = (
   by_known GivesInvited role d (λ x. d.count ≡ (at_then away d x).count) moved found k refl
@@ -40,7 +40,7 @@ same_counts role d away kept e moved found k = (
 
 -- nor is anything handed out
 handed_none : (pair : Pair) (i : Instance) (both : Both Digests ℕ) (effect : Effect) → GivesInvitedBy effect
-    → (reply.Invited ≡ reply_said (told digests_move i both effect)) × (handed digests_move pair i both effect ≡ both)
+    → (reply.Invited ≡ move_reply_of (effect_reply digests_move i both effect)) × (sides_after_issue digests_move pair i both effect ≡ both)
 handed_none pair i both (Invites nonce) g = (refl, refl)
 handed_none pair i both effect g = absurd g
 
@@ -48,10 +48,10 @@ handed_none pair i both effect g = absurd g
 pub invites_planned : (pair : Pair) (which : Which) (nonce : List ℕ) (stop : Stop) (meddles : List Meddle) (link : Link) (id : ℕ)
     (key : List ℕ) (old new : Standing)
     (came : Result Invited MoveRefusal) → link ≡ link_of pair → id ≡ pair.meaning.id → key ≡ key_of pair which
-    → MovesPlanned (λ (bytes : List ℕ). invites_in (waiting_for link pair.variant id nonce key) (moved_of bytes)) stop meddles old new came
-    → MovesPlanned (λ (bytes : List ℕ). invites_in
+    → MovesByPlan (λ (bytes : List ℕ). invitation_in (waiting_for link pair.variant id nonce key) (moved_cell_of bytes)) stop meddles old new came
+    → MovesByPlan (λ (bytes : List ℕ). invitation_in
     (waiting_for (link_of pair) (instance_on pair which).variant (instance_on pair which).meaning.id nonce (instance_on pair which).key)
-    (moved_of bytes)) stop meddles old new came
+    (moved_cell_of bytes)) stop meddles old new came
 invites_planned pair which nonce stop meddles link id key old new came el ei ek planned =
     let i = instance_on pair which in
     let v = variant_by pair.variant pair.meaning (key_of pair which) pair.barrier in
@@ -59,15 +59,15 @@ invites_planned pair which nonce stop meddles link id key old new came el ei ek 
     let k = key_by pair.variant pair.meaning (key_of pair which) pair.barrier in
     let same : waiting_for link pair.variant id nonce key ≡ waiting_for (link_of pair) i.variant i.meaning.id nonce i.key =
     λ j. waiting_for (el j) (sym v j) ((ei ∙ sym (ap (λ (x : Meaning). x.id) m)) j) nonce ((ek ∙ sym k) j) in
-    subst (λ w. MovesPlanned (λ (bytes : List ℕ). invites_in w (moved_of bytes)) stop meddles old new came) same planned
+    subst (λ w. MovesByPlan (λ (bytes : List ℕ). invitation_in w (moved_cell_of bytes)) stop meddles old new came) same planned
 
 pub invited_done : (pair : Pair) (which : Which) (nonce : List ℕ) (stop : Stop) (meddles : List Meddle) (old mid new : CodeSide)
-    (between : Between) (came : Result Invited MoveRefusal) (result : Result MoveReply Memory) → length nonce ≡ 32
-    → KeepsDigest old mid → MovesPlanned (λ (bytes : List ℕ). invites_in
+    (between : IssuedTickets) (came : Result Invited MoveRefusal) (result : Result MoveReply Memory) → length nonce ≡ 32
+    → KeepsDigest old mid → MovesByPlan (λ (bytes : List ℕ). invitation_in
     (waiting_for (link_of pair) (instance_on pair which).variant (instance_on pair which).meaning.id nonce (instance_on pair which).key)
-    (moved_of bytes)) stop meddles mid.seat.platform new.seat.platform came → SameSide mid new → InvitedAs stop came result
-    → FitsSide pair which old → FitsBetween between
-    → MatchResult result (CommandDone pair which old new between between (commanded pair which old between meddles stop (Invite nonce)))
+    (moved_cell_of bytes)) stop meddles mid.seat.platform new.seat.platform came → SameSide mid new → TellsInvitation stop came result
+    → FitsSide pair which old → FitsIssuedTickets between
+    → MatchResult result (CommandDone pair which old new between between (outcome_of_command pair which old between meddles stop (Invite nonce)))
     (λ _. CommandLacks pair which meddles stop old new between between)
 invited_done pair which nonce stop meddles old mid new between came result size k planned s says fits counted =
     let i = instance_on pair which in
@@ -79,10 +79,10 @@ invited_done pair which nonce stop meddles old mid new between came result size 
     let keeps = keeps_equal role new.digest.bytes d digest in
     let issued = s.issued ∙ ap (λ (x : Seat). x.issued.items) k.seat in
     let position = s.committed ∙ ap (λ (x : Seat). x.committed) k.seat in
-    elim (planned i d (cell_of_role i role d) (same_cell ∙ fits.stands.cell) (ap register_reads platform ∙ fits.stands.register)
+    elim (planned i d (cell_of_role i role d) (same_cell ∙ fits.stands.cell) (ap register_reading platform ∙ fits.stands.register)
     (subst IsQuiet (sym platform) fits.quiet)) [
       | inl made ↦
-          let found = invited_on role nonce in
+          let found = invitation_on role nonce in
           let fates = (course_of stop meddles).fates in
           let c = came_by GivesInvited i role d stop meddles new.seat.platform came _ found
           (invites_match i (link_of pair) role d nonce fits.stands.fits size) made in
@@ -92,12 +92,12 @@ invited_done pair which nonce stop meddles old mid new between came result size 
           (λ b f e. Told pair i stop b f e result old new between between d) c.says (moved_by stop meddles found) c.knows
           (λ why e r. let m = n (has_moved stop why) found c.knows in
           told_still pair i stop _ found effect why result old new between between d r
-          (subst (λ (c : Result Invited MoveRefusal). InvitedAs stop c result) e says) issued refl refl counted
+          (subst (λ (c : Result Invited MoveRefusal). TellsInvitation stop c result) e says) issued refl refl counted
           (position ∙ m.0) m.1)
           (λ it answer e g k. let m = n true (Ok it) k in
           record {
             said = reply.Invited;
-            is = subst (λ (c : Result Invited MoveRefusal). InvitedAs stop c result) e says;
+            is = subst (λ (c : Result Invited MoveRefusal). TellsInvitation stop c result) e says;
             ends = λ both h own all. let x = handed_none pair i both it.effect g in (
               x.0,
               x.1 ∙ (λ j. record both { first = record both.first { issued = (own ∙ sym issued) j }; tickets = all j }),
@@ -111,7 +111,7 @@ invited_done pair which nonce stop meddles old mid new between came result size 
           move_done GivesInvited pair which stop meddles (Invite nonce) found old new between between came result fits c t keeps
           (λ it k. (waits d between.away new.digest.bytes it.effect digest k.gave).keeps) (λ other committed. refl)
       | inr w ↦
-          err_match _ _ result (subst (λ (c : Result Invited MoveRefusal). InvitedAs stop c result) w.says says)
+          err_match _ _ result (subst (λ (c : Result Invited MoveRefusal). TellsInvitation stop c result) w.says says)
           (lacks_done pair which stop meddles old new between between mid.seat.platform new.seat.platform came fits w same_cell refl
           position keeps issued refl refl refl)
     ]
@@ -131,34 +131,34 @@ is_left link role d away kept again (Leaves ticket) bytes g live = record { live
 is_left link role d away kept again effect bytes g live = absurd g
 
 handed_ticket : (pair : Pair) (i : Instance) (both : Both Digests ℕ) (effect : Effect) (bytes : List ℕ)
-    → GivesTicketBy pair.link effect bytes → (reply.Left (length both.tickets) ≡ reply_said (told digests_move i both effect))
-    × (handed digests_move pair i both effect ≡ record both { tickets = both.tickets ++ bytes ∷ [] })
+    → GivesTicketBy pair.link effect bytes → (reply.Left (length both.tickets) ≡ move_reply_of (effect_reply digests_move i both effect))
+    × (sides_after_issue digests_move pair i both effect ≡ record both { tickets = both.tickets ++ bytes ∷ [] })
 handed_ticket pair i both (Leaves ticket) bytes g = (refl, λ j. record both { tickets = both.tickets ++ sym g j ∷ [] })
 handed_ticket pair i both effect bytes g = absurd g
 
 retires_planned : (pair : Pair) (which : Which) (nonce bytes : List ℕ) (stop : Stop) (meddles : List Meddle) (old new : Standing)
     (came : Result (List ℕ) MoveRefusal)
-    → MovesPlanned (λ (cell : List ℕ). retires_in pair.meaning pair.variant (link_of pair) nonce bytes (moved_of cell)) stop meddles old new
+    → MovesByPlan (λ (cell : List ℕ). retirement_in pair.meaning pair.variant (link_of pair) nonce bytes (moved_cell_of cell)) stop meddles old new
     came
-    → MovesPlanned (λ (cell : List ℕ). retires_in (instance_on pair which).meaning (instance_on pair which).variant (link_of pair) nonce
-    bytes (moved_of cell)) stop meddles old new came
+    → MovesByPlan (λ (cell : List ℕ). retirement_in (instance_on pair which).meaning (instance_on pair which).variant (link_of pair) nonce
+    bytes (moved_cell_of cell)) stop meddles old new came
 retires_planned pair which nonce bytes stop meddles old new came planned =
     let v = sym (variant_by pair.variant pair.meaning (key_of pair which) pair.barrier) in
     let m = sym (meaning_by pair.variant pair.meaning (key_of pair which) pair.barrier) in
-    subst (λ variant. MovesPlanned
-    (λ (cell : List ℕ). retires_in (instance_on pair which).meaning variant (link_of pair) nonce bytes (moved_of cell)) stop meddles old
-    new came) v (subst (λ (meaning : Meaning). MovesPlanned
-    (λ (cell : List ℕ). retires_in meaning pair.variant (link_of pair) nonce bytes (moved_of cell)) stop meddles old new came) m planned)
+    subst (λ variant. MovesByPlan
+    (λ (cell : List ℕ). retirement_in (instance_on pair which).meaning variant (link_of pair) nonce bytes (moved_cell_of cell)) stop meddles old
+    new came) v (subst (λ (meaning : Meaning). MovesByPlan
+    (λ (cell : List ℕ). retirement_in meaning pair.variant (link_of pair) nonce bytes (moved_cell_of cell)) stop meddles old new came) m planned)
 
 -- with what the offer named, over a list with room for the ticket
 pub retired_done : (pair : Pair) (which : Which) (nonce : List ℕ) (offer : Offer) (stop : Stop) (meddles : List Meddle) (old new : CodeSide)
-    (was mid now : Between) (live : Bool) (cell : List ℕ) (came : Result (List ℕ) MoveRefusal) (result : Result MoveReply Memory)
+    (was mid now : IssuedTickets) (live : Bool) (cell : List ℕ) (came : Result (List ℕ) MoveRefusal) (result : Result MoveReply Memory)
     → length nonce ≡ 32
-    → Named (λ bytes (cell : List ℕ). retires_in pair.meaning pair.variant (link_of pair) nonce bytes (moved_of cell)) stop meddles
+    → Named (λ bytes (cell : List ℕ). retirement_in pair.meaning pair.variant (link_of pair) nonce bytes (moved_cell_of cell)) stop meddles
     (offered_bytes old.seat.issued.items offer) old.seat.platform new.seat.platform came → live ≡ is_live (role_in (Some cell))
-    → old.seat.platform.cell ≡ Some cell → SameSide old new → SameBetween was mid → LeftAs live old.seat.committed stop came mid now result
-    → FitsSide pair which old → FitsBetween was
-    → MatchResult result (CommandDone pair which old new was now (commanded pair which old was meddles stop (Retire nonce offer)))
+    → old.seat.platform.cell ≡ Some cell → SameSide old new → SameBetween was mid → TellsRetirement live old.seat.committed stop came mid now result
+    → FitsSide pair which old → FitsIssuedTickets was
+    → MatchResult result (CommandDone pair which old new was now (outcome_of_command pair which old was meddles stop (Retire nonce offer)))
     (λ _. CommandLacks pair which meddles stop old new was now)
 retired_done pair which nonce offer stop meddles old new was mid now live cell came result size named lives holds s b left fits counted =
     let i = instance_on pair which in
@@ -170,26 +170,26 @@ retired_done pair which nonce offer stop meddles old new was mid now live cell c
     elim (retires_planned pair which nonce named.bytes stop meddles old.seat.platform new.seat.platform came named.planned i d
     (cell_of_role i role d) fits.stands.cell fits.stands.register fits.quiet) [
       | inl made ↦
-          let found = retired_on digests_move i role d nonce named.bytes in
+          let found = retirement_on digests_move i role d nonce named.bytes in
           let fates = (course_of stop meddles).fates in
           let effect = effect_of fates found in
           let c = came_by gives i role d stop meddles new.seat.platform came _ found
           (retires_match i (link_of pair) role d nonce named.bytes fits.stands.fits size) made in
           let leaves = λ (it : FoundMove) (k : Knows gives role d it).
           is_left pair.link role d was.away new.digest.bytes it.again it.effect k.answer k.gave k.live in
-          let count = λ (moved : Bool) (f : Result FoundMove MoveCause) (k : KnowsOf gives role d f).
+          let count = λ (moved : Bool) (f : Result FoundMove DenialCause) (k : KnowsOf gives role d f).
           by_known gives role d (λ e. d.count ≡ (at_then was.away d e).count) moved f k refl (λ it k. (leaves it k).count) in
-          let gone = λ (moved : Bool) (f : Result FoundMove MoveCause) (k : KnowsOf gives role d f) (idle : IsIdle moved f).
+          let gone = λ (moved : Bool) (f : Result FoundMove DenialCause) (k : KnowsOf gives role d f) (idle : IsIdle moved f).
           chosen gives role d live moved d.count was.away (away_then was.away d) f k idle refl
           (λ it k. (lives' ∙ (leaves it k).live, (leaves it k).away_is)) in
           let t = tell gives pair i role d stop (walk fates 1 (move_steps found)).broken found effect came
           (λ b f e. Told pair i stop b f e result old new was now d) c.says (moved_by stop meddles found) c.knows
-          (λ why e r. let t = subst (λ (c : Result (List ℕ) MoveRefusal). LeftAs live old.seat.committed stop c mid now result) e left in
+          (λ why e r. let t = subst (λ (c : Result (List ℕ) MoveRefusal). TellsRetirement live old.seat.committed stop c mid now result) e left in
           told_still pair i stop _ found effect why result old new was now d r t.says s.issued (t.tickets ∙ b.tickets)
           (t.kept ∙ b.kept) counted (s.committed ∙ count (has_moved stop why) found c.knows)
           (t.away ∙ ap (λ n. if live && has_moved stop why then d.count else n) b.away ∙ gone (has_moved stop why) found c.knows r.idle))
           (λ it ticket e g k.
-          let t = subst (λ (c : Result (List ℕ) MoveRefusal). LeftAs live old.seat.committed stop c mid now result) e left in
+          let t = subst (λ (c : Result (List ℕ) MoveRefusal). TellsRetirement live old.seat.committed stop c mid now result) e left in
           let tickets = t.tickets ∙ ap (λ (x : List (List ℕ)). x ++ ticket ∷ []) b.tickets in
           record {
             said = reply.Left (length was.tickets.items);
@@ -209,10 +209,10 @@ retired_done pair which nonce offer stop meddles old new was mid now live cell c
             tickets = let n = ap length tickets in let m = length-append was.tickets.items (ticket ∷ []) in omega (arith, n, m);
           }) in
           move_done gives pair which stop meddles (Retire nonce offer) found old new was now came result fits c t keeps
-          (λ it k. (leaves it k).keeps) (λ other committed. ap (retiring digests_move i (both_with old was other committed).first nonce)
+          (λ it k. (leaves it k).keeps) (λ other committed. ap (found_retirement digests_move i (both_with old was other committed).first nonce)
           named.names)
       | inr w ↦
-          let t = subst (λ (c : Result (List ℕ) MoveRefusal). LeftAs live old.seat.committed stop c mid now result) w.says left in
+          let t = subst (λ (c : Result (List ℕ) MoveRefusal). TellsRetirement live old.seat.committed stop c mid now result) w.says left in
           err_match _ _ result t.says
           (lacks_done pair which stop meddles old new was now old.seat.platform new.seat.platform came fits w refl refl s.committed keeps
           s.issued
@@ -225,9 +225,9 @@ retired_done pair which nonce offer stop meddles old new was mid now live cell c
 
 -- a snapshot that isn't issued
 pub retired_unissued : (pair : Pair) (which : Which) (nonce : List ℕ) (offer : Offer) (stop : Stop) (meddles : List Meddle)
-    (old new : CodeSide) (was now : Between) → (offered_bytes old.seat.issued.items offer ≡ None) × (new.seat.platform ≡ old.seat.platform)
-    → SameSide old new → SameBetween was now → FitsSide pair which old → FitsBetween was
-    → CommandDone pair which old new was now (commanded pair which old was meddles stop (Retire nonce offer)) reply.NoSnapshot
+    (old new : CodeSide) (was now : IssuedTickets) → (offered_bytes old.seat.issued.items offer ≡ None) × (new.seat.platform ≡ old.seat.platform)
+    → SameSide old new → SameBetween was now → FitsSide pair which old → FitsIssuedTickets was
+    → CommandDone pair which old new was now (outcome_of_command pair which old was meddles stop (Retire nonce offer)) reply.NoSnapshot
 retired_unissued pair which nonce offer stop meddles old new was now none s b fits counted =
     unissued_done pair which stop meddles (Retire nonce offer) reply.NoSnapshot old new was now fits counted none.1 s b refl
-    (λ other committed. ap (retiring digests_move (instance_on pair which) (both_with old was other committed).first nonce) none.0)
+    (λ other committed. ap (found_retirement digests_move (instance_on pair which) (both_with old was other committed).first nonce) none.0)

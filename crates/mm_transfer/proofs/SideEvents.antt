@@ -1,16 +1,16 @@
 -- A side in code goes on as its events say.
 use Rattle.mm_transfer.proofs.Below.{◌≡◌, ◌∙◌, ◌+◌, ◌^◌, ◌≤◌, ◌<◌, ℕ, List, length, Some, Result, Ok, Err, inl, inr, refl, sym, ap, subst}
 use Rattle.mm_transfer.proofs.Below.{arith, Memory, IsLawful, meaning_of, Meddle, Stop, Standing, cell_spelling, Instance}
-use Rattle.mm_transfer.proofs.Below.{Digests, seen_in, reading_steps, by_digests, all_made, cell_at, Event, Ask, Checkpoint, Power}
+use Rattle.mm_transfer.proofs.Below.{Digests, moves_seen, reading_steps, digest_level, state_after_moves, cell_at, Event, Ask, Checkpoint, Power}
 use Rattle.mm_transfer.proofs.Below.{Extend, IsPrintable, Offer, Reply, Outcome, Batch, course_of, event_outcome, few_committed}
-use Rattle.mm_transfer.proofs.Below.{printable, issues_one, Role, Live, Which, Pair, key_of, instance_on, digests_move, plain_on, grown}
-use Rattle.mm_transfer.proofs.Below.{CodeSide, pair_of, role_in, at_in, side_in, refused_where, IsQuiet, StandsAs, FitsSide, Comes, Lacks}
+use Rattle.mm_transfer.proofs.Below.{printable, issues_one, Role, Live, Which, Pair, key_of, instance_on, digests_move, outcome_by_role, commits_between}
+use Rattle.mm_transfer.proofs.Below.{CodeSide, pair_of, role_in, at_in, side_in, refusal_for_role, IsQuiet, StandsAs, FitsSide, SideComes, SideLacks}
 use Rattle.mm_base.specs.Limits.{most_members}
 use Rattle.mm_modules.specs.ModulesLaws.{any_is_lawful}
-use Rattle.mm_world.specs.Seat.{StaysOn, WantsInVain}
+use Rattle.mm_world.specs.Seat.{SeatStaysOn, SeatLacksMemoryInVain}
 use Rattle.mm_world.specs.Seat as seat
-use Rattle.mm_transfer.specs.OneSide.{Follows, GoesOn}
-use Rattle.mm_transfer.specs.Wanting.{AskWants, PlainWants}
+use Rattle.mm_transfer.specs.OneSide.{SideFollows, SideGoesOn}
+use Rattle.mm_transfer.specs.MemoryWant.{AskWants, PlainWants}
 use Rattle.mm_transfer.proofs.SideStands.{meaning_by, live_stands, stands_live, same_keeps, side_is, side_stays, Stays, stays_same, fault_where, vain_reads}
 use Rattle.mm_transfer.proofs.Vain.{IsRegister, seen_digests, IsVain, event_vain}
 
@@ -21,7 +21,7 @@ record IsFew (committed : ℕ) (issued : List (List ℕ)) (o : Outcome Digests) 
   pub printable : IsPrintable o.reply
 
 few_live : (side : CodeSide) (which : Which) (event : Event) → (let i = instance_on (pair_of side.seat.header) which in
-    IsFew side.seat.committed side.seat.issued.items (event_outcome i (by_digests i) (at_in side) side.seat.issued.items event))
+    IsFew side.seat.committed side.seat.issued.items (event_outcome i (digest_level i) (at_in side) side.seat.issued.items event))
 few_live side which event =
     let header = side.seat.header in
     let pair = pair_of header in
@@ -36,7 +36,7 @@ few_live side which event =
 
 live_comes : (pair : Pair) (which : Which) (old new : CodeSide) (o : Outcome Digests) (said : Reply)
     → role_in old.seat.platform.cell ≡ Live → old.seat.committed < 2 ^ 63 → IsFew old.seat.committed old.seat.issued.items o
-    → seat.Comes (instance_on pair which) o old.seat new.seat said → Comes pair which old new o said
+    → seat.EventComesTo (instance_on pair which) o old.seat new.seat said → SideComes pair which old new o said
 live_comes pair which old new o said live bound few c =
     let most = few.count in
     let rises = c.rises in
@@ -55,17 +55,17 @@ live_comes pair which old new o said live bound few c =
       stands = λ j. record { role = role j; at = at j; issued = issued j };
       says = c.reply;
       printable = subst IsPrintable (sym c.reply) few.printable;
-      commits = subst (λ (r : Role). new.seat.committed ≡ old.seat.committed + grown r old.seat.committed o.state.count) (sym live)
+      commits = subst (λ (r : Role). new.seat.committed ≡ old.seat.committed + commits_between r old.seat.committed o.state.count) (sym live)
           (omega (arith, count, rises));
     }
 
-none_grown : (role : Role) (n m : ℕ) → m ≡ n → grown role n m ≡ 0
+none_grown : (role : Role) (n m : ℕ) → m ≡ n → commits_between role n m ≡ 0
 none_grown Live n m e = omega (arith, e)
 none_grown _ n m e = refl
 
 vain_comes : (pair : Pair) (which : Which) (old new : CodeSide) (o : Outcome Digests) (said : Reply) → FitsSide pair which old
-    → new.digest ≡ old.digest → IsVain (at_in old) old.seat.issued.items o → seat.ComesInVain o old.seat new.seat said
-    → Comes pair which old new o said
+    → new.digest ≡ old.digest → IsVain (at_in old) old.seat.issued.items o → seat.EventComesInVain o old.seat new.seat said
+    → SideComes pair which old new o said
 vain_comes pair which old new o said f digest v c =
     let side = side_stays pair which old new o.state.register f c.cell c.register c.quiet c.committed (same_keeps old new digest) in
     let at : at_in new ≡ o.state = side.at_is ∙ sym v.state in
@@ -90,8 +90,8 @@ vain_comes pair which old new o said f digest v c =
 -- by the role of the side
 comes_by : (which : Which) (role : Role) (event : Event) (old new : CodeSide) (said : Reply) → (let pair = pair_of old.seat.header in
     role_in old.seat.platform.cell ≡ role → FitsSide pair which old → StandsAs pair which role old.seat.platform (at_in old)
-    → old.seat.committed < 2 ^ 63 → new.digest ≡ old.digest → seat.Follows event old.seat new.seat (Ok said)
-    → Comes pair which old new (plain_on digests_move (instance_on pair which) role (side_in old) event) said)
+    → old.seat.committed < 2 ^ 63 → new.digest ≡ old.digest → seat.SeatTakesEvent event old.seat new.seat (Ok said)
+    → SideComes pair which old new (outcome_by_role digests_move (instance_on pair which) role (side_in old) event) said)
 comes_by which Live event old new said is fits s bound digest f =
     let pair = pair_of old.seat.header in
     live_comes pair which old new _ said is bound (few_live old which event)
@@ -99,7 +99,7 @@ comes_by which Live event old new said is fits s bound digest f =
 comes_by which role event old new said is fits s bound digest f =
     let pair = pair_of old.seat.header in
     let i = instance_on pair which in
-    vain_comes pair which old new _ said fits digest (event_vain i (at_in old) old.seat.issued.items (refused_where role) event)
+    vain_comes pair which old new _ said fits digest (event_vain i (at_in old) old.seat.issued.items (refusal_for_role role) event)
     (f.vain i (at_in old) (fault_where role) (vain_reads pair which role old.seat.platform (at_in old) refl s fits.quiet))
 
 -- want of memory
@@ -107,10 +107,10 @@ comes_by which role event old new said is fits s bound digest f =
 -- the side goes on, and nothing has changed but its register's value
 abbrev GoesReading : Pair → Which → CodeSide → CodeSide → List ℕ → Type 0
 GoesReading pair which old new value =
-    GoesOn pair which old new × (side_in new ≡ record (side_in old) { at = record (at_in old) { register = value } })
+    SideGoesOn pair which old new × (side_in new ≡ record (side_in old) { at = record (at_in old) { register = value } })
 
 goes_reading : (pair : Pair) (which : Which) (old new : CodeSide) (value : List ℕ) → FitsSide pair which old → new.digest ≡ old.digest
-    → StaysOn new.seat.platform old.seat new.seat → Stays old.seat.platform new.seat.platform value
+    → SeatStaysOn new.seat.platform old.seat new.seat → Stays old.seat.platform new.seat.platform value
     → GoesReading pair which old new value
 goes_reading pair which old new value f digest stays s =
     let committed = stays.committed in
@@ -126,12 +126,12 @@ goes_reading pair which old new value f digest stays s =
 
 -- what is known of a seat for whose event memory was wanting, by the role of its side
 abbrev WantsBy : Instance → Role → Digests → Event → Standing → Standing → Type 0
-WantsBy i Live d event old new = seat.Wants i d event old new
-WantsBy i role d event old new = WantsInVain event old new
+WantsBy i Live d event old new = seat.SeatLacksMemory i d event old new
+WantsBy i role d event old new = SeatLacksMemoryInVain event old new
 
 wanting_by : (which : Which) (role : Role) (event : Event) (old new : CodeSide) (memory : Memory) → (let pair = pair_of old.seat.header in
     StandsAs pair which role old.seat.platform (at_in old) → IsQuiet old.seat.platform
-    → seat.Follows event old.seat new.seat (Err memory) → StaysOn new.seat.platform old.seat new.seat
+    → seat.SeatTakesEvent event old.seat new.seat (Err memory) → SeatStaysOn new.seat.platform old.seat new.seat
     × WantsBy (instance_on pair which) role (at_in old) event old.seat.platform new.seat.platform)
 wanting_by which Live event old new memory s quiet f =
     let pair = pair_of old.seat.header in
@@ -149,19 +149,19 @@ module _ (pair : Pair) (which : Which) (old new : CodeSide) (fits : FitsSide pai
   abbrev d : Digests
   d = at_in old
 
-  same_platform : new.seat.platform ≡ old.seat.platform → GoesOn pair which old new × (side_in new ≡ side_in old)
+  same_platform : new.seat.platform ≡ old.seat.platform → SideGoesOn pair which old new × (side_in new ≡ side_in old)
   same_platform e = goes d.register (stays_same old.seat.platform new.seat.platform d.register fits.stands.register fits.quiet e)
 
   ask_wants : (role : Role) (meddles : List Meddle) (stop : Stop) (offer : Offer) (b : Batch)
       → StandsAs pair which role old.seat.platform d
       → WantsBy i role d (Ask meddles stop offer b) old.seat.platform new.seat.platform
-      → GoesOn pair which old new × AskWants i role meddles stop (side_in old) (side_in new)
+      → SideGoesOn pair which old new × AskWants i role meddles stop (side_in old) (side_in new)
   ask_wants Live meddles stop offer b s w = elim w [
     | inl e ↦ let k = same_platform e in (k.0, inl k.1)
     | inr e ↦
         let l = stands_live pair which old.seat.platform d s in
         let fates = (course_of stop meddles).fates in
-        let seen : Digests = all_made (by_digests i) d (seen_in fates (reading_steps i.variant) 1) in
+        let seen : Digests = state_after_moves (digest_level i) d (moves_seen fates (reading_steps i.variant) 1) in
         let is : IsRegister d seen = seen_digests i d fates (reading_steps i.variant) 1 in
         let k = goes seen.register (record {
           cell = e.stands.at.cell ∙ ap (λ (x : Digests). Some (cell_spelling (cell_at i x))) is ∙ sym l.at.cell;
@@ -187,14 +187,14 @@ module _ (pair : Pair) (which : Which) (old new : CodeSide) (fits : FitsSide pai
   extend_wants role value w = w
 
   plain_wants : (event : Event) → WantsBy i (role_in old.seat.platform.cell) d event old.seat.platform new.seat.platform
-      → GoesOn pair which old new × PlainWants i event (side_in old) (side_in new)
+      → SideGoesOn pair which old new × PlainWants i event (side_in old) (side_in new)
   plain_wants (Ask meddles stop offer b) w = ask_wants (role_in old.seat.platform.cell) meddles stop offer b fits.stands w
   plain_wants Power w = absurd (power_wants (role_in old.seat.platform.cell) w)
   plain_wants (Checkpoint meddles stop) w = same_platform (checkpoint_wants (role_in old.seat.platform.cell) meddles stop w)
   plain_wants (Extend value) w = same_platform (extend_wants (role_in old.seat.platform.cell) value w)
 
 lacks_by : (which : Which) (event : Event) (old new : CodeSide) (memory : Memory) → FitsSide (pair_of old.seat.header) which old
-    → new.digest ≡ old.digest → seat.Follows event old.seat new.seat (Err memory) → Lacks (pair_of old.seat.header) which event old new
+    → new.digest ≡ old.digest → seat.SeatTakesEvent event old.seat new.seat (Err memory) → SideLacks (pair_of old.seat.header) which event old new
 lacks_by which event old new memory fits digest f =
     let pair = pair_of old.seat.header in
     let w = wanting_by which (role_in old.seat.platform.cell) event old new memory fits.stands fits.quiet f in
@@ -203,7 +203,7 @@ lacks_by which event old new memory fits digest f =
 
 -- an event at the seat of a side is one on the side
 pub side_follows : (event : Event) (old new : CodeSide) (result : Result Reply Memory) → old.seat.committed < 2 ^ 63
-    → new.digest ≡ old.digest → seat.Follows event old.seat new.seat result → Follows event old new result
+    → new.digest ≡ old.digest → seat.SeatTakesEvent event old.seat new.seat result → SideFollows event old new result
 side_follows event old new (Ok said) bound digest f = record {
   headed = f.header;
   comes = λ which fits. comes_by which (role_in old.seat.platform.cell) event old new said refl fits fits.stands bound digest f;

@@ -1,12 +1,12 @@
 -- Both sides at first.
-use Rattle.mm_transfer.proofs.Below.{◌≡◌, ◌∙◌, ℕ, List, [], ◌∷◌, length, refl, sym, ap, subst, Variant, Basic, Opt, start_of, Meaning}
-use Rattle.mm_transfer.proofs.Below.{meaning_of, Standing, first_history, register_reads, cell_of, issued_bytes, instance_by, Header}
-use Rattle.mm_transfer.proofs.Below.{first_digests, world_key, world_barrier, Stands, stands_new, blank_cell, length-zero_bytes}
+use Rattle.mm_transfer.proofs.Below.{◌≡◌, ◌∙◌, ℕ, List, [], ◌∷◌, length, refl, sym, ap, subst, Variant, Basic, Opt, start_digest_of, Meaning}
+use Rattle.mm_transfer.proofs.Below.{meaning_of, Standing, first_history, register_reading, cell_of, issued_bytes, instance_by, Header}
+use Rattle.mm_transfer.proofs.Below.{first_digests, world_key, world_barrier, HasDigests, stands_new, blank_cell, length-zero_bytes}
 use Rattle.mm_transfer.proofs.Below.{Blank, Live, First, Second, first_both, key_of, instance_on, CodeSide, pair_of, StandsAs, IsNew}
 use Rattle.mm_transfer.proofs.Below.{Instance, Digests, IsQuiet}
 use Rattle.mm_platform.specs.Memory.{new_platform}
 use Rattle.mm_seal.specs.Cell.{cell_spelling}
-use Rattle.mm_run.specs.Held.{rising_from}
+use Rattle.mm_run.specs.WorldState.{rising_from}
 use Rattle.mm_world.specs.Seat.{instance_at, IsBare, IsFirst}
 use Rattle.mm_transfer.proofs.SideStands.{key_by, linked_by, live_stands, side_is}
 
@@ -16,7 +16,7 @@ barrier_by Basic meaning key barrier e = length-zero_bytes
 barrier_by Opt meaning key barrier e = e
 
 start_on : (variant : Variant) (meaning : Meaning) (key barrier : List ℕ)
-    → start_of (instance_by variant meaning key barrier).variant (instance_by variant meaning key barrier).meaning.id ≡ start_of variant
+    → start_digest_of (instance_by variant meaning key barrier).variant (instance_by variant meaning key barrier).meaning.id ≡ start_digest_of variant
     meaning.id
 start_on Basic meaning key barrier = refl
 start_on Opt meaning key barrier = refl
@@ -42,7 +42,7 @@ live_new header key barrier new same_key same_barrier is =
     let same : instance_at header key barrier ≡ i = (λ j. instance_at header (same_key j) (same_barrier j)) in
     let there : new.seat.platform ≡ new_platform (cell_spelling (cell_of i first_history)) =
     is.platform ∙ ap (λ (x : Instance). new_platform (cell_spelling (cell_of x first_history))) same in
-    let stands : Stands i new.seat.platform d = subst (λ (s : Standing). Stands i s d) (sym there)
+    let stands : HasDigests i new.seat.platform d = subst (λ (s : Standing). HasDigests i s d) (sym there)
     (stands_new header.variant (meaning_of header.«module») world_key world_barrier (cell_spelling (cell_of i first_history))
     length-first_key length-barrier refl) in
     let quiet : IsQuiet new.seat.platform =
@@ -57,7 +57,7 @@ live_new header key barrier new same_key same_barrier is =
     }
 
 pub blank_new : (header : Header) (cell : List ℕ) (new : CodeSide) → cell ≡ blank_cell → IsBare header cell new.seat
-    → new.digest.bytes ≡ start_of header.variant (meaning_of header.«module»).id
+    → new.digest.bytes ≡ start_digest_of header.variant (meaning_of header.«module»).id
     → IsNew header Second (first_both (pair_of header)).second new
 blank_new header cell new is bare starts =
     let pair = pair_of header in
@@ -74,7 +74,7 @@ blank_new header cell new is bare starts =
         fits = refl;
       };
       cell = ap (λ (s : Standing). s.cell) there;
-      register = ap register_reads there;
+      register = ap register_reading there;
     } in
     let quiet : IsQuiet new.seat.platform =
     record { is_on = ap (λ (s : Standing). s.is_on) there; plan = ap (λ (s : Standing). s.plan) there } in

@@ -1,15 +1,15 @@
 -- Where a side in code stands, by its role.
 use Rattle.mm_transfer.proofs.Below.{◌≡◌, ◌∙◌, ◌<◌, ℕ, false, List, length, get_or, Some, Err, refl, sym, ap, subst, arith, ◌≢◌}
-use Rattle.mm_transfer.proofs.Below.{Variant, Basic, Opt, Meaning, Standing, IsNoCell, Instance, Digests, register_reads, instance_by}
-use Rattle.mm_transfer.proofs.Below.{IsRead, CellFault, value_in, digest_in, Stands, IsQuiet, register_at, digests_are, WaitingCell}
+use Rattle.mm_transfer.proofs.Below.{Variant, Basic, Opt, Meaning, Standing, IsNoCell, Instance, Digests, register_reading, instance_by}
+use Rattle.mm_transfer.proofs.Below.{IsRead, CellFault, value_in, digest_in, HasDigests, IsQuiet, register_at, digests_are, WaitingCell}
 use Rattle.mm_transfer.proofs.Below.{barrier_of, three, Role, Blank, Live, Waiting, Retired, is_live, Which, Pair, key_of, instance_on}
-use Rattle.mm_transfer.proofs.Below.{CodeSide, link_of, role_in, role_of, at_by, at_in, StandsAs, FitsSide, waiting_at, retired_at}
+use Rattle.mm_transfer.proofs.Below.{CodeSide, link_of, role_in, role_of, at_by, at_in, StandsAs, FitsSide, waiting_cell_at, retired_cell_at}
 use Rattle.mm_transfer.proofs.Below.{cell_of_role}
 use Rattle.mm_seal.specs.declared.cell.Cell.{Cell}
 use Rattle.mm_seal.specs.declared.cell.CellFault.TheVariants as fault
 use Rattle.mm_seal.specs.Cell.{cell_spelling, blank_cell, ReadsCell}
 use Rattle.mm_move.specs.Cells.{waiting_spelling, retired_spelling}
-use Rattle.mm_move.specs.declared.cell.Retired.{Retired as RetiredCell}
+use Rattle.mm_move.specs.declared.cell.RetiredCell.{RetiredCell}
 use Rattle.mm_transfer.proofs.SideCells.{read_as, role_read, cell_reading, fits_reading}
 
 -- an instance by its variant
@@ -37,7 +37,7 @@ key_by Opt meaning key barrier = refl
 -- a live side stands as its platform does
 
 module _ (pair : Pair) (which : Which) (standing : Standing) (d : Digests) where
-  pub live_stands : Stands (instance_on pair which) standing d → StandsAs pair which Live standing d
+  pub live_stands : HasDigests (instance_on pair which) standing d → StandsAs pair which Live standing d
   live_stands s = record {
     fits = record {
       key = s.at.spells.key;
@@ -49,12 +49,12 @@ module _ (pair : Pair) (which : Which) (standing : Standing) (d : Digests) where
     register = s.register;
   }
 
-  pub stands_live : StandsAs pair which Live standing d → Stands (instance_on pair which) standing d
+  pub stands_live : StandsAs pair which Live standing d → HasDigests (instance_on pair which) standing d
   stands_live s = record {
     at = record {
       spells = record { summary = s.fits.fits.1; key = s.fits.key; barrier = s.fits.barrier; variant = s.fits.fits.0 };
       cell = s.cell;
-      reads = register_at (instance_on pair which).variant (register_reads standing) d.register s.register;
+      reads = register_at (instance_on pair which).variant (register_reading standing) d.register s.register;
     };
     register = s.register;
   }
@@ -88,7 +88,7 @@ keeps_reading _ d register kept k = k
 -- a side whose platform stands so fits, and is so
 
 left_digest : (i : Instance) (d : Digests) (nonce : List ℕ) → length d.digest ≡ 32 → length i.key ≡ 32 → length nonce ≡ 32
-    → digest_in (Some (retired_spelling (retired_at i d nonce))) ≡ d.digest
+    → digest_in (Some (retired_spelling (retired_cell_at i d nonce))) ≡ d.digest
 unfolding retired_spelling
 left_digest i d nonce a b c = (three d.digest i.key nonce a b c).first
 
@@ -149,7 +149,7 @@ side_is pair which role d side s quiet count keeps =
 -- a side goes on: its cell is as it was, and the register has this value
 
 pub side_stays : (pair : Pair) (which : Which) (old new : CodeSide) (value : List ℕ) → FitsSide pair which old
-    → new.seat.platform.cell ≡ old.seat.platform.cell → register_reads new.seat.platform ≡ Some value → IsQuiet new.seat.platform
+    → new.seat.platform.cell ≡ old.seat.platform.cell → register_reading new.seat.platform ≡ Some value → IsQuiet new.seat.platform
     → new.seat.committed ≡ old.seat.committed → KeepsFor (role_in old.seat.platform.cell) new.digest.bytes (at_in old)
     → IsSide pair which (role_in old.seat.platform.cell) (record (at_in old) { register = value }) new
 side_stays pair which old new value f cell register quiet position keeps =
@@ -204,10 +204,10 @@ retired_unspelled cell =
 -- the cell is as it was, the register has this value, and the platform is quiet
 pub record Stays (old new : Standing) (value : List ℕ) : Type 0 where
   pub cell : new.cell ≡ old.cell
-  pub register : register_reads new ≡ Some value
+  pub register : register_reading new ≡ Some value
   pub quiet : IsQuiet new
 
-pub stays_same : (old new : Standing) (value : List ℕ) → register_reads old ≡ Some value → IsQuiet old → new ≡ old
+pub stays_same : (old new : Standing) (value : List ℕ) → register_reading old ≡ Some value → IsQuiet old → new ≡ old
     → Stays old new value
 stays_same old new value r q e =
     subst (λ (s : Standing). Stays old s value) (sym e) (record { cell = refl; register = r; quiet = q })
@@ -222,8 +222,8 @@ unspelled : (i : Instance) (role : Role) (d : Digests) → is_live role ≡ fals
     → ReadsCell (cell_of_role i role d) (Err (fault_where role))
 unspelled i Blank d dead = refl
 unspelled i Live d dead = absurd (cc)
-unspelled i (Waiting nonce) d dead = waiting_unspelled (waiting_at i nonce)
-unspelled i (Retired nonce) d dead = retired_unspelled (retired_at i d nonce)
+unspelled i (Waiting nonce) d dead = waiting_unspelled (waiting_cell_at i nonce)
+unspelled i (Retired nonce) d dead = retired_unspelled (retired_cell_at i d nonce)
 
 pub vain_reads : (pair : Pair) (which : Which) (role : Role) (standing : Standing) (d : Digests) → is_live role ≡ false
     → StandsAs pair which role standing d → IsQuiet standing → IsRead (Err (fault_where role)) d standing

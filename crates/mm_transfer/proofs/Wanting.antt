@@ -1,37 +1,37 @@
 -- What an event leaves as it was for which memory was wanting.
 use Rattle.mm_transfer.proofs.Below.{◌≡◌, ℕ, List, [], ◌∷◌, Result, Ok, Err, OnErr, inl, inr, ap, Memory, Meddle, Stop, Instance}
-use Rattle.mm_transfer.proofs.Below.{Digests, Reads, Step, Event, Ask, Power, Header, Role, Live, Which, First, Second, Pair, instance_on, Side}
+use Rattle.mm_transfer.proofs.Below.{Digests, Reads, DeviceStep, Event, Ask, Power, Header, Role, Live, Which, First, Second, Pair, instance_on, SideState}
 use Rattle.mm_transfer.proofs.Below.{Both, BothEvent, Moves, MoveReply, pair_of}
-use Rattle.mm_sides.specs.Both.{facing}
-use Rattle.mm_sides.specs.Folds.{Act, Plain}
-use Rattle.mm_transfer.specs.Sides.{BothHeld, HeldWants}
-use Rattle.mm_transfer.specs.Wanting.{MayHaveRead, AskWants, PlainWants, ActWants, Wants}
+use Rattle.mm_sides.specs.Both.{sides_seen_from}
+use Rattle.mm_sides.specs.Folds.{BothAct, Plain}
+use Rattle.mm_transfer.specs.Sides.{TransferSides, TransferSidesWant}
+use Rattle.mm_transfer.specs.MemoryWant.{MayHaveRead, AskWants, PlainWants, ActWants, BothEventWants}
 
 -- by what both are
-pub held_wants : (old : BothHeld) (event : BothEvent) (header : Header) (new : Both Digests ℕ) (result : Result MoveReply Memory)
-    → header ≡ old.header → OnErr result (Wants (pair_of old.header) event old.both new)
-    → OnErr result (HeldWants event old (record { header = header; both = new }))
+pub held_wants : (old : TransferSides) (event : BothEvent) (header : Header) (new : Both Digests ℕ) (result : Result MoveReply Memory)
+    → header ≡ old.header → OnErr result (BothEventWants (pair_of old.header) event old.both new)
+    → OnErr result (TransferSidesWant event old (record { header = header; both = new }))
 held_wants old event header new (Ok reply) is w = tt
 held_wants old event header new (Err memory) is w = record { header = is; both = w }
 
 -- no snapshot was issued on the side
 
-read_issues : (i : Instance) (steps : List Step) (meddles : List Meddle) (stop : Stop) (old new : Side Digests)
+read_issues : (i : Instance) (steps : List DeviceStep) (meddles : List Meddle) (stop : Stop) (old new : SideState Digests)
     → MayHaveRead i steps meddles stop old new → new.issued ≡ old.issued
 read_issues i steps meddles stop old new w =
-    elim w [ inl e ↦ ap (λ (s : Side Digests). s.issued) e | inr e ↦ ap (λ (s : Side Digests). s.issued) e ]
+    elim w [ inl e ↦ ap (λ (s : SideState Digests). s.issued) e | inr e ↦ ap (λ (s : SideState Digests). s.issued) e ]
 
-ask_issues : (i : Instance) (role : Role) (meddles : List Meddle) (stop : Stop) (old new : Side Digests)
+ask_issues : (i : Instance) (role : Role) (meddles : List Meddle) (stop : Stop) (old new : SideState Digests)
     → AskWants i role meddles stop old new → new.issued ≡ old.issued
 ask_issues i Live meddles stop old new w = read_issues i _ meddles stop old new w
-ask_issues i role meddles stop old new w = ap (λ (s : Side Digests). s.issued) w
+ask_issues i role meddles stop old new w = ap (λ (s : SideState Digests). s.issued) w
 
-plain_issues : (i : Instance) (event : Event) (old new : Side Digests) → PlainWants i event old new → new.issued ≡ old.issued
+plain_issues : (i : Instance) (event : Event) (old new : SideState Digests) → PlainWants i event old new → new.issued ≡ old.issued
 plain_issues i (Ask meddles stop offer b) old new w = ask_issues i old.role meddles stop old new w
 plain_issues i Power old new w = absurd w
-plain_issues i event old new w = ap (λ (s : Side Digests). s.issued) w
+plain_issues i event old new w = ap (λ (s : SideState Digests). s.issued) w
 
-act_issues : (i : Instance) (act : Act) (old new : Side Digests) → ActWants i act old new → new.issued ≡ old.issued
+act_issues : (i : Instance) (act : BothAct) (old new : SideState Digests) → ActWants i act old new → new.issued ≡ old.issued
 act_issues i (Plain event) old new w = plain_issues i event old new w
 act_issues i (Moves meddles stop command) old new w = read_issues i (Reads ∷ []) meddles stop old new w
 
@@ -42,9 +42,9 @@ pub record CountsSame (old new : Both Digests ℕ) : Type 0 where
   pub tickets : new.tickets ≡ old.tickets
   pub committed : new.committed ≡ old.committed
 
-counts_by : (i : Instance) (which : Which) (act : Act) (old new : Both Digests ℕ)
-    → ActWants i act (facing which old).first (facing which new).first
-    → facing which new ≡ record (facing which old) { first = (facing which new).first } → CountsSame old new
+counts_by : (i : Instance) (which : Which) (act : BothAct) (old new : Both Digests ℕ)
+    → ActWants i act (sides_seen_from which old).first (sides_seen_from which new).first
+    → sides_seen_from which new ≡ record (sides_seen_from which old) { first = (sides_seen_from which new).first } → CountsSame old new
 counts_by i First act old new w e = record {
   first = act_issues i act old.first new.first w;
   second = ap (λ (b : Both Digests ℕ). b.second.issued) e;
@@ -58,5 +58,5 @@ counts_by i Second act old new w e = record {
   committed = ap (λ (b : Both Digests ℕ). b.committed) e;
 }
 
-pub counts_same : (pair : Pair) (event : BothEvent) (old new : Both Digests ℕ) → Wants pair event old new → CountsSame old new
+pub counts_same : (pair : Pair) (event : BothEvent) (old new : Both Digests ℕ) → BothEventWants pair event old new → CountsSame old new
 counts_same pair event old new w = counts_by (instance_on pair event.which) event.which event.act old new w.here w.rest

@@ -6,7 +6,7 @@ use Rattle.mm_transfer.specs.declared.reply.MoveCause.{MoveCause}
 use Rattle.mm_transfer.specs.declared.reply.MoveCause.TheVariants.{Refused, Already, Open, Gone, Nonce, Barrier}
 use Rattle.mm_transfer.specs.declared.reply.MoveReply.{MoveReply}
 use Rattle.mm_transfer.specs.declared.reply.MoveReply.TheVariants.{Said, Invited, Left, Entered, Denied, NoSnapshot, NoTicket, Broken}
-use Rattle.mm_transfer.specs.Replies.{reply_said}
+use Rattle.mm_transfer.specs.Replies.{move_reply_of}
 
 -- why a move was refused
 abbrev pub move_cause_text : MoveCause → List ℕ
@@ -18,9 +18,9 @@ move_cause_text Nonce = codes "nonce"
 move_cause_text Barrier = codes "barrier"
 
 -- what became of a move that was disturbed
-abbrev pub moved_text : Bool → List ℕ
-moved_text true = codes " moved"
-moved_text false = codes " lost"
+abbrev pub effect_text : Bool → List ℕ
+effect_text true = codes " moved"
+effect_text false = codes " lost"
 
 -- a reply, with its LF
 abbrev pub move_text : MoveReply → List ℕ
@@ -31,23 +31,23 @@ move_text (Entered position) = codes "accepted " ++ decimal position ++ 10 ∷ [
 move_text (Denied cause) = codes "no " ++ move_cause_text cause ++ 10 ∷ []
 move_text NoSnapshot = codes "no snapshot" ++ 10 ∷ []
 move_text NoTicket = codes "no ticket" ++ 10 ∷ []
-move_text (Broken way moved) = way_text way ++ moved_text moved ++ 10 ∷ []
+move_text (Broken way moved) = way_text way ++ effect_text moved ++ 10 ∷ []
 
 -- the number of a side
-abbrev pub which_text : Which → List ℕ
-which_text First = codes "0"
-which_text Second = codes "1"
+abbrev pub side_text : Which → List ℕ
+side_text First = codes "0"
+side_text Second = codes "1"
 
 -- the line of a reply stands behind its side's number and a space
 abbrev pub answer_text : Which → MoveReply → List ℕ
-answer_text which reply = which_text which ++ 32 ∷ move_text reply
+answer_text which reply = side_text which ++ 32 ∷ move_text reply
 
 -- the lines of the replies to these events
 abbrev pub answers_text : List BothEvent → List BothReply → List ℕ
 answers_text [] replies = []
 answers_text (event ∷ events) [] = []
 answers_text (event ∷ events) (reply ∷ replies) =
-    which_text event.which ++ 32 ∷ move_text (reply_said reply) ++ answers_text events replies
+    side_text event.which ++ 32 ∷ move_text (move_reply_of reply) ++ answers_text events replies
 
 -- the line `end N K0 K1 T`: so many requests were committed, so many snapshots issued on each side,
 -- and so many tickets

@@ -16,52 +16,52 @@ pub use Rattle.mm_modules.specs.Modules.{meaning_of}
 pub use Rattle.mm_model.specs.Instance.{Instance}
 pub use Rattle.mm_model.specs.Moves.{Digests}
 pub use Rattle.mm_model.specs.PlacesWords.{digest_of}
-pub use Rattle.mm_model.specs.Standing.{register_reads}
-pub use Rattle.mm_model.specs.Steps.{Reads, Step}
+pub use Rattle.mm_model.specs.Standing.{register_reading}
+pub use Rattle.mm_model.specs.Steps.{Reads, DeviceStep}
 pub use Rattle.mm_model.specs.declared.refusal.Refusal.{Refusal}
 pub use Rattle.mm_model.specs.declared.refusal.Refusal.TheVariants.{Device}
-pub use Rattle.mm_call.specs.Called.{reading_steps}
-pub use Rattle.mm_call.specs.Courses.{Walked, seen_in, walk}
-pub use Rattle.mm_call.specs.Levels.{all_made, by_digests}
+pub use Rattle.mm_call.specs.CallOutcome.{reading_steps}
+pub use Rattle.mm_call.specs.Courses.{StepsWalk, moves_seen, walk}
+pub use Rattle.mm_call.specs.Levels.{state_after_moves, digest_level}
 pub use Rattle.mm_call.specs.Standing.{cell_at}
-pub use Rattle.mm_move.specs.Cells.{moved_of, retired_spelling, waiting_spelling}
-pub use Rattle.mm_move.specs.Orders.{accepted_as, barrier_of}
+pub use Rattle.mm_move.specs.Cells.{moved_cell_of, retired_spelling, waiting_spelling}
+pub use Rattle.mm_move.specs.Orders.{acceptance_of, barrier_of}
 pub use Rattle.mm_move.specs.Refusals.{move_fault_of}
 pub use Rattle.mm_move.specs.Tickets.{sealed_ticket, summary_in}
 pub use Rattle.mm_move.specs.declared.accepting.Accepted.{Accepted}
 pub use Rattle.mm_move.specs.declared.cell.MovedCell.{MovedCell}
 pub use Rattle.mm_move.specs.declared.inviting.Invited.{Invited}
 pub use Rattle.mm_move.specs.declared.link.Link.{Link}
-pub use Rattle.mm_move.specs.declared.ready.Ready.{Ready}
+pub use Rattle.mm_move.specs.declared.ready.ReadyMove.{ReadyMove}
 pub use Rattle.mm_move.specs.declared.refusal.MoveRefusal.{MoveRefusal}
 pub use Rattle.mm_move.specs.declared.refusal.MoveRefusal.TheVariants.{Core}
 pub use Rattle.mm_schedule.specs.Events.{Ask, Checkpoint, Event, Extend, Power, event_of, meddles_of}
 pub use Rattle.mm_schedule.specs.Grammar.{meddles_at, offer_at, stop_at}
 pub use Rattle.mm_schedule.specs.Headers.{head_at}
-pub use Rattle.mm_schedule.specs.Machine.{Runs}
-pub use Rattle.mm_schedule.specs.Promises.{Promises}
+pub use Rattle.mm_schedule.specs.Machine.{IsEventRun}
+pub use Rattle.mm_schedule.specs.Promises.{ModulePromises}
 pub use Rattle.mm_schedule.specs.Replies.{IsPrintable, cause_text, way_text}
 pub use Rattle.mm_schedule.specs.Texts.{offer_of}
-pub use Rattle.mm_schedule.specs.Words.{after_prefix, bytes_at, number_at, word_at, ◌>>=◌}
+pub use Rattle.mm_schedule.specs.Words.{rest_after_prefix, bytes_at, number_at, word_at, ◌>>=◌}
 pub use Rattle.mm_schedule.specs.declared.event.Offer.{Offer}
 pub use Rattle.mm_schedule.specs.declared.event.Offer.TheVariants.{Flip, Last, Number, Raw}
 pub use Rattle.mm_schedule.specs.declared.header.Header.{Header}
 pub use Rattle.mm_schedule.specs.declared.reply.Reply.{Reply}
 pub use Rattle.mm_run.specs.Folds.{Outcome, cause_of, course_of, way_of}
-pub use Rattle.mm_run.specs.Held.{rising_from, world_barrier, world_key}
-pub use Rattle.mm_sides.specs.Both.{Both, First, Pair, Second, Side, Which, digests_move, facing, first_both, first_lists, instance_on}
-pub use Rattle.mm_sides.specs.Folds.{Act, BothEvent, BothFollowed, BothOutcome, BothReply, Moves, Plain, both_by_digests, both_expected}
-pub use Rattle.mm_sides.specs.Folds.{both_followed, both_outcome, grown, is_moved, move_outcome, outcome_here, plain_on, stopped_moves}
-pub use Rattle.mm_sides.specs.Laws.{IsOneFrom, both_continued, plain_events, plain_replies}
-pub use Rattle.mm_sides.specs.Moves.{Accept, Already, Command, FoundMove, Gone, Invite, MoveCause, Nonce, Open, Retire}
+pub use Rattle.mm_run.specs.WorldState.{rising_from, world_barrier, world_key}
+pub use Rattle.mm_sides.specs.Both.{Both, First, Pair, Second, SideState, Which, digests_move, sides_seen_from, first_both, first_lists, instance_on}
+pub use Rattle.mm_sides.specs.Folds.{BothAct, BothEvent, BothRunOutcome, BothOutcome, BothReply, Moves, Plain, both_outcome_by_digests, both_outcome_by_lists}
+pub use Rattle.mm_sides.specs.Folds.{both_outcome_of_events, both_outcome, commits_between, is_moved, move_outcome, outcome_here, outcome_by_role, stopped_moves}
+pub use Rattle.mm_sides.specs.Laws.{IsOneFrom, both_outcome_joined, plain_events, plain_replies}
+pub use Rattle.mm_sides.specs.Moves.{Accept, Already, MoveCommand, FoundMove, Gone, Invite, DenialCause, Nonce, Open, Retire}
 pub use Rattle.mm_sides.specs.Order.{AtMostOne}
 pub use Rattle.mm_sides.specs.Premises.{IsClearPair, IsFreshPair, IsGenuinePair}
 pub use Rattle.mm_sides.specs.Roles.{Blank, Effect, Enters, Invites, Leaves, Live, Retired, Retired as Left, Role, Waiting}
 pub use Rattle.mm_sides.specs.Roles.{Waiting as Waits, is_live, no_notes}
 pub use Rattle.mm_world.specs.Calls.{stopped_step, takes_effect}
-pub use Rattle.mm_world.specs.Held.{digest_in, flag_in, value_in}
-pub use Rattle.mm_world.specs.Stands.{IsQuiet}
+pub use Rattle.mm_world.specs.HeldWorld.{digest_in, flag_in, value_in}
+pub use Rattle.mm_world.specs.WorldStanding.{IsQuiet}
 pub use Rattle.mm_replay.specs.Text.{text_of_replies}
-pub use Rattle.mm_play.specs.declared.player.Refused.{Refused}
-pub use Rattle.mm_play.specs.declared.player.Refused.TheVariants.{Bad, Much}
+pub use Rattle.mm_play.specs.declared.player.LineRefusal.{LineRefusal}
+pub use Rattle.mm_play.specs.declared.player.LineRefusal.TheVariants.{Bad, Much}
 pub use Rattle.mm_play.specs.declared.player.ReplyFault.{ReplyFault}

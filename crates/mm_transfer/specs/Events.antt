@@ -3,8 +3,8 @@ use Rattle.mm_transfer.specs.Below.{event_of, meddles_of}
 use Rattle.mm_sides.specs.Both as both
 use Rattle.mm_sides.specs.Folds as folds
 use Rattle.mm_sides.specs.Moves as moves
-use Rattle.mm_transfer.specs.declared.event.Act.{Act}
-use Rattle.mm_transfer.specs.declared.event.Act.TheVariants.{Plain, Moves}
+use Rattle.mm_transfer.specs.declared.event.SideAct.{SideAct}
+use Rattle.mm_transfer.specs.declared.event.SideAct.TheVariants.{Plain, Moves}
 use Rattle.mm_transfer.specs.declared.event.Command.{Command}
 use Rattle.mm_transfer.specs.declared.event.Command.TheVariants.{Invite, Retire, Accept}
 use Rattle.mm_transfer.specs.declared.event.SideEvent.{SideEvent}
@@ -16,12 +16,12 @@ abbrev pub which_of : Which → both.Which
 which_of First = both.First
 which_of Second = both.Second
 
-abbrev pub command_of : Command → moves.Command
+abbrev pub command_of : Command → moves.MoveCommand
 command_of (Invite nonce) = moves.Invite nonce
 command_of (Retire nonce offer) = moves.Retire nonce offer
 command_of (Accept offer) = moves.Accept offer
 
-abbrev pub act_of : Act → folds.Act
+abbrev pub act_of : SideAct → folds.BothAct
 act_of (Plain event) = folds.Plain (event_of event)
 act_of (Moves meddles stop command) = folds.Moves (meddles_of meddles) stop (command_of command)
 

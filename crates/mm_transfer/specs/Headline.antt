@@ -2,22 +2,22 @@
 use Rattle.std.specs.Prelude.{◌≡◌, ℕ, ◌+◌, List, [], ◌++◌, length, ◌⊎◌}
 use Rattle.std.specs.List.{sum_by}
 use Rattle.std.specs.Option.{option_map}
-use Rattle.mm_play.specs.Headed.{Begins}
+use Rattle.mm_play.specs.HeadingStep.{Begins}
 use Rattle.mm_play.specs.Headline.{EventPlayer}
-use Rattle.mm_transfer.specs.Below.{meaning_of, Digests, Runs, Promises, Header, first_lists, BothEvent, BothFollowed, both_expected}
-use Rattle.mm_transfer.specs.Below.{both_by_digests, IsOneFrom, plain_events, plain_replies, AtMostOne, no_notes}
+use Rattle.mm_transfer.specs.Below.{meaning_of, Digests, IsEventRun, ModulePromises, Header, first_lists, BothEvent, BothRunOutcome, both_outcome_by_lists}
+use Rattle.mm_transfer.specs.Below.{both_outcome_by_digests, IsOneFrom, plain_events, plain_replies, AtMostOne, no_notes}
 use Rattle.mm_sides.specs.Evidence.{HasPairEvidence}
 use Rattle.mm_transfer.specs.Answers.{answers_text, end_line}
-use Rattle.mm_transfer.specs.Grammar.{event_at, first_at}
+use Rattle.mm_transfer.specs.Grammar.{event_at, first_header_at}
 use Rattle.mm_transfer.specs.Pairs.{pair_of}
 use Rattle.mm_transfer.specs.declared.opening.FirstLine.{FirstLine}
 
 -- The first line names a header, and events follow. What is shown of them is what they come to on
 -- both sides: the last line counts the requests, the snapshots and the tickets, and these are kept.
-abbrev pub moved : EventPlayer FirstLine Header BothEvent (BothFollowed Digests ℕ)
-moved = record {
+abbrev pub transfer_player : EventPlayer FirstLine Header BothEvent (BothRunOutcome Digests ℕ)
+transfer_player = record {
   start = record {};
-  head = λ at line. option_map (λ header. Begins header) (first_at line);
+  head = λ at line. option_map (λ header. Begins header) (first_header_at line);
   event_in = λ header. event_at;
   text = λ events shown. answers_text events shown.replies;
   last = λ shown. end_line shown.both.committed (length shown.both.first.issued)
@@ -32,22 +32,22 @@ moved = record {
 -- one side is live, and it was so at each moment; where none was, the module entered only by the
 -- ticket that it left by last. And what the module promises of a run holds.
 pub record IsOneTransfer (header : Header) (events : List BothEvent)
-    (it : BothFollowed Digests ℕ) : Type 0 where
+    (it : BothRunOutcome Digests ℕ) : Type 0 where
   pub requests : List (List ℕ)
-  pub runs : Runs (meaning_of header.«module») [] (plain_events events) (plain_replies it.replies)
+  pub runs : IsEventRun (meaning_of header.«module») [] (plain_events events) (plain_replies it.replies)
       requests
-  pub judged : it.replies ≡ (both_expected (pair_of header) events).replies
+  pub judged : it.replies ≡ (both_outcome_by_lists (pair_of header) events).replies
   pub count : it.both.committed ≡ length requests
   pub live : AtMostOne it.both.first.role it.both.second.role
   pub entered : IsOneFrom (pair_of header) (first_lists (pair_of header)) no_notes events
-  pub promised : Promises header.«module» requests (plain_replies it.replies)
+  pub promised : ModulePromises header.«module» requests (plain_replies it.replies)
 
 -- The headline. With no premise what is shown is by digests; and each first part of the events is
 -- one transfer, or one holds evidence in hand: two different messages of it with one digest, one
 -- with digest zero, a value of others that is the guard of a batch, an offer that is forged, a
 -- nonce that was invited twice, or a right ticket that the module didn't leave by.
-abbrev pub AreOneTransfer : Header → List BothEvent → (List BothEvent → BothFollowed Digests ℕ)
+abbrev pub AreOneTransfer : Header → List BothEvent → (List BothEvent → BothRunOutcome Digests ℕ)
     → Type 0
 AreOneTransfer header events shown = (front later : List BothEvent) → events ≡ front ++ later
-    → (shown front ≡ both_by_digests (pair_of header) front)
+    → (shown front ≡ both_outcome_by_digests (pair_of header) front)
     × (IsOneTransfer header front (shown front) ⊎ HasPairEvidence (pair_of header) front)

@@ -1,7 +1,7 @@
 -- What follows of what is told of a whole transfer.
 use Rattle.std.specs.Prelude.{◌≡◌, ℕ, List, ◌++◌}
-use Rattle.mm_transfer.specs.Below.{Digests, Header, BothEvent, BothFollowed, IsClearPair, IsGenuinePair, IsFreshPair}
-use Rattle.mm_transfer.specs.Below.{both_continued, both_followed, digests_move}
+use Rattle.mm_transfer.specs.Below.{Digests, Header, BothEvent, BothRunOutcome, IsClearPair, IsGenuinePair, IsFreshPair}
+use Rattle.mm_transfer.specs.Below.{both_outcome_joined, both_outcome_of_events, digests_move}
 use Rattle.mm_transfer.specs.Pairs.{pair_of}
 use Rattle.mm_transfer.specs.Headline.{AreOneTransfer, IsOneTransfer}
 
@@ -9,7 +9,7 @@ use Rattle.mm_transfer.specs.Headline.{AreOneTransfer, IsOneTransfer}
 -- premise that breaks later costs nothing of it.
 abbrev pub PremisesGiveOneTransfer : Type 0
 PremisesGiveOneTransfer =
-    (header : Header) (events : List BothEvent) (shown : List BothEvent → BothFollowed Digests ℕ)
+    (header : Header) (events : List BothEvent) (shown : List BothEvent → BothRunOutcome Digests ℕ)
     → AreOneTransfer header events shown → (front later : List BothEvent) → events ≡ front ++ later
     → IsClearPair (pair_of header) front → IsGenuinePair (pair_of header) front
     → IsFreshPair (pair_of header) front → IsOneTransfer header front (shown front)
@@ -17,7 +17,7 @@ PremisesGiveOneTransfer =
 -- The whole transfer is that of each first part of the events, and then of the rest.
 abbrev pub TransfersGoOn : Type 0
 TransfersGoOn =
-    (header : Header) (events : List BothEvent) (shown : List BothEvent → BothFollowed Digests ℕ)
+    (header : Header) (events : List BothEvent) (shown : List BothEvent → BothRunOutcome Digests ℕ)
     → AreOneTransfer header events shown → (front rest : List BothEvent) → events ≡ front ++ rest →
-    let it : BothFollowed Digests ℕ = shown front in
-    shown events ≡ both_continued it (both_followed digests_move (pair_of header) it.both rest)
+    let it : BothRunOutcome Digests ℕ = shown front in
+    shown events ≡ both_outcome_joined it (both_outcome_of_events digests_move (pair_of header) it.both rest)

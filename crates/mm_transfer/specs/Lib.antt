@@ -2,7 +2,7 @@ pub mod Below
 pub mod Pairs
 pub mod Events
 pub mod Replies
-pub mod Wanting
+pub mod MemoryWant
 pub mod OneSide
 pub mod OneProof
 pub mod Grammar
@@ -10,11 +10,11 @@ pub mod Texts
 pub mod Answers
 pub mod Stage
 pub mod RoleCells
-pub mod Planned
-pub mod Between
-pub mod Acting
+pub mod MovePlan
+pub mod SideCommands
+pub mod ActOutcome
 pub mod Sides
 pub mod Headline
 pub mod Laws
-pub mod Plays
+pub mod TransferPlay
 pub mod StageLaws

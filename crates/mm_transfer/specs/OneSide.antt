@@ -1,14 +1,14 @@
 -- One side in code, and what it is by digests.
 use Rattle.std.specs.Prelude.{◌≡◌, ◌≤◌, ◌+◌, ℕ, Bool, false, List, length, Option, None, Some, Result, Ok, Err, MatchResult}
-use Rattle.mm_transfer.specs.Below.{most_members, Memory, CellFault, Standing, Digests, register_reads}
-use Rattle.mm_transfer.specs.Below.{moved_of, MovedCell, Link, Event, IsPrintable, Header, Reply, Outcome, Which, Pair, instance_on, Side}
-use Rattle.mm_transfer.specs.Below.{digests_move, plain_on, grown, Role, Blank, Live, Waiting, Retired, digest_in, flag_in, value_in}
+use Rattle.mm_transfer.specs.Below.{most_members, Memory, CellFault, Standing, Digests, register_reading}
+use Rattle.mm_transfer.specs.Below.{moved_cell_of, MovedCell, Link, Event, IsPrintable, Header, Reply, Outcome, Which, Pair, instance_on, SideState}
+use Rattle.mm_transfer.specs.Below.{digests_move, outcome_by_role, commits_between, Role, Blank, Live, Waiting, Retired, digest_in, flag_in, value_in}
 use Rattle.mm_transfer.specs.Below.{IsQuiet}
 use Rattle.mm_move.specs.declared.cell.MovedCell.TheVariants as moved
 use Rattle.mm_transfer.specs.declared.side.Side.{Side as CodeSide}
 use Rattle.mm_transfer.specs.Pairs.{pair_of}
 use Rattle.mm_transfer.specs.RoleCells.{cell_of_role, FitsCell}
-use Rattle.mm_transfer.specs.Wanting.{PlainWants}
+use Rattle.mm_transfer.specs.MemoryWant.{PlainWants}
 
 -- what both sides share
 abbrev pub link_of : Pair → Link
@@ -23,7 +23,7 @@ role_of (Err fault) = Blank
 
 abbrev pub role_in : Option (List ℕ) → Role
 role_in None = Blank
-role_in (Some bytes) = role_of (moved_of bytes)
+role_in (Some bytes) = role_of (moved_cell_of bytes)
 
 -- The summary or anchor where a side stands or last stood, and its flag: a cell has them where the
 -- module is or left, and elsewhere the digest is kept.
@@ -40,7 +40,7 @@ abbrev pub at_by : Role → Standing → (kept : List ℕ) → (position : ℕ) 
 at_by role standing kept position = record {
   digest = digest_by role kept standing.cell;
   flag = flag_by role standing.cell;
-  register = value_in (register_reads standing);
+  register = value_in (register_reading standing);
   count = position;
 }
 
@@ -50,7 +50,7 @@ at_in side =
     at_by (role_in side.seat.platform.cell) side.seat.platform side.digest.bytes side.seat.committed
 
 -- a side as contracts see it
-abbrev pub side_in : CodeSide → Side Digests
+abbrev pub side_in : CodeSide → SideState Digests
 side_in side = record {
   role = role_in side.seat.platform.cell;
   at = at_in side;
@@ -63,7 +63,7 @@ pub record StandsAs (pair : Pair) (which : Which) (role : Role) (standing : Stan
     (d : Digests) : Type 0 where
   pub fits : FitsCell (instance_on pair which) (link_of pair) role d
   pub cell : standing.cell ≡ Some (cell_of_role (instance_on pair which) role d)
-  pub register : register_reads standing ≡ Some d.register
+  pub register : register_reading standing ≡ Some d.register
 
 -- What the fields of a side keep.
 pub record FitsSide (pair : Pair) (which : Which) (side : CodeSide) : Type 0 where
@@ -71,25 +71,25 @@ pub record FitsSide (pair : Pair) (which : Which) (side : CodeSide) : Type 0 whe
   pub quiet : IsQuiet side.seat.platform
 
 -- The same side, in which something happened: it issued one snapshot at most.
-pub record GoesOn (pair : Pair) (which : Which) (old new : CodeSide) : Type 0 where
+pub record SideGoesOn (pair : Pair) (which : Which) (old new : CodeSide) : Type 0 where
   pub fits : FitsSide pair which new
   pub few : new.seat.committed ≤ old.seat.committed + most_members
   pub one : length new.seat.issued.items ≤ length old.seat.issued.items + 1
 
 -- An event of a schedule came to this outcome, and was answered so; the requests of the side grew
 -- by what the event committed.
-pub record Comes (pair : Pair) (which : Which) (old new : CodeSide) (o : Outcome Digests)
+pub record SideComes (pair : Pair) (which : Which) (old new : CodeSide) (o : Outcome Digests)
     (said : Reply) : Type 0 where
-  pub goes : GoesOn pair which old new
+  pub goes : SideGoesOn pair which old new
   pub stands : side_in new ≡ record (side_in old) { at = o.state; issued = o.issued }
   pub says : said ≡ o.reply
   pub printable : IsPrintable said
   pub commits : new.seat.committed ≡ old.seat.committed
-      + grown (side_in old).role (at_in old).count o.state.count
+      + commits_between (side_in old).role (at_in old).count o.state.count
 
 -- Memory was wanting for an event of a schedule, and the side can go on.
-pub record Lacks (pair : Pair) (which : Which) (event : Event) (old new : CodeSide) : Type 0 where
-  pub goes : GoesOn pair which old new
+pub record SideLacks (pair : Pair) (which : Which) (event : Event) (old new : CodeSide) : Type 0 where
+  pub goes : SideGoesOn pair which old new
   pub stands : PlainWants (instance_on pair which) event (side_in old) (side_in new)
   pub digest : new.digest ≡ old.digest
   pub committed : new.seat.committed ≡ old.seat.committed
@@ -97,19 +97,19 @@ pub record Lacks (pair : Pair) (which : Which) (event : Event) (old new : CodeSi
 -- what an event of a schedule comes to on a side
 abbrev pub outcome_on : Pair → Which → CodeSide → Event → Outcome Digests
 outcome_on pair which side event =
-    plain_on digests_move (instance_on pair which) (side_in side).role (side_in side) event
+    outcome_by_role digests_move (instance_on pair which) (side_in side).role (side_in side) event
 
 -- An event of a schedule happened on a side of a transfer, which is either of the two.
-pub record Follows (event : Event) (old new : CodeSide) (result : Result Reply Memory) : Type 0
+pub record SideFollows (event : Event) (old new : CodeSide) (result : Result Reply Memory) : Type 0
   where
     pub headed : new.seat.header ≡ old.seat.header
     pub comes : (which : Which) → let pair = pair_of old.seat.header in
         FitsSide pair which old
-        → MatchResult result (Comes pair which old new (outcome_on pair which old event))
-        (λ _. Lacks pair which event old new)
+        → MatchResult result (SideComes pair which old new (outcome_on pair which old event))
+        (λ _. SideLacks pair which event old new)
 
 -- a side at first
-pub record IsNew (header : Header) (which : Which) (first : Side Digests) (side : CodeSide)
+pub record IsNew (header : Header) (which : Which) (first : SideState Digests) (side : CodeSide)
     : Type 0 where
   pub headed : side.seat.header ≡ header
   pub fits : FitsSide (pair_of header) which side

@@ -8,23 +8,23 @@ use Rattle.mm_transfer.specs.declared.reply.MoveReply.{MoveReply}
 use Rattle.mm_transfer.specs.declared.reply.MoveReply.TheVariants as reply
 
 -- the code's value for why a move is refused. No side has another barrier than the link.
-abbrev pub cause_said : moves.MoveCause → MoveCause
-cause_said (moves.Refused why) = cause.Refused (cause_of why)
-cause_said moves.Already = cause.Already
-cause_said moves.Open = cause.Open
-cause_said moves.Gone = cause.Gone
-cause_said moves.Nonce = cause.Nonce
+abbrev pub move_cause_of : moves.DenialCause → MoveCause
+move_cause_of (moves.Refused why) = cause.Refused (cause_of why)
+move_cause_of moves.Already = cause.Already
+move_cause_of moves.Open = cause.Open
+move_cause_of moves.Gone = cause.Gone
+move_cause_of moves.Nonce = cause.Nonce
 
 -- the code's value for a reply
-abbrev pub reply_said : folds.BothReply → MoveReply
-reply_said (folds.Said said) = reply.Said said
-reply_said folds.Invited = reply.Invited
-reply_said (folds.Left number) = reply.Left number
-reply_said (folds.Entered position) = reply.Entered position
-reply_said (folds.Denied why) = reply.Denied (cause_said why)
-reply_said folds.NoSnapshot = reply.NoSnapshot
-reply_said folds.NoTicket = reply.NoTicket
-reply_said (folds.Broken way moved) = reply.Broken way moved
+abbrev pub move_reply_of : folds.BothReply → MoveReply
+move_reply_of (folds.Said said) = reply.Said said
+move_reply_of folds.Invited = reply.Invited
+move_reply_of (folds.Left number) = reply.Left number
+move_reply_of (folds.Entered position) = reply.Entered position
+move_reply_of (folds.Denied why) = reply.Denied (move_cause_of why)
+move_reply_of folds.NoSnapshot = reply.NoSnapshot
+move_reply_of folds.NoTicket = reply.NoTicket
+move_reply_of (folds.Broken way moved) = reply.Broken way moved
 
 -- what a reply has to meet to be printed, as one of a schedule
 abbrev pub IsSayable : MoveReply → Type 0

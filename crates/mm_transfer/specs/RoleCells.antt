@@ -1,18 +1,18 @@
 -- What a side's cell holds, by what the side is to the module; and what a move finds there.
 use Rattle.std.specs.Prelude.{◌≡◌, ℕ, Bool, true, false, not, List, length, Option, None, Some, Result, Ok, Err, if◌then◌else◌}
 use Rattle.mm_transfer.specs.Below.{FitsVariant, cell_spelling, blank_cell, Instance, Digests, digest_of, cell_at, waiting_spelling}
-use Rattle.mm_transfer.specs.Below.{retired_spelling, barrier_of, accepted_as, sealed_ticket, summary_in, Accepted, Invited, Link, Ready}
-use Rattle.mm_transfer.specs.Below.{MoveRefusal, digests_move, MoveCause, Already, Open, Gone, Nonce, FoundMove, Role, Blank, Live, Waits}
+use Rattle.mm_transfer.specs.Below.{retired_spelling, barrier_of, acceptance_of, sealed_ticket, summary_in, Accepted, Invited, Link, ReadyMove}
+use Rattle.mm_transfer.specs.Below.{MoveRefusal, digests_move, DenialCause, Already, Open, Gone, Nonce, FoundMove, Role, Blank, Live, Waits}
 use Rattle.mm_transfer.specs.Below.{Left, is_live, Effect, Invites, Leaves, Enters}
 use Rattle.mm_model.specs.declared.refusal.Refusal.TheVariants as core
-use Rattle.mm_move.specs.declared.cell.Retired.{Retired}
-use Rattle.mm_move.specs.declared.cell.Waiting.{Waiting}
+use Rattle.mm_move.specs.declared.cell.RetiredCell.{RetiredCell}
+use Rattle.mm_move.specs.declared.cell.WaitingCell.{WaitingCell}
 use Rattle.mm_move.specs.declared.refusal.MoveRefusal.TheVariants as refusal
 use Rattle.mm_sides.specs.Moves.{Refused}
 
 -- the cell of an instance that is awaited under a nonce
-abbrev pub waiting_at : Instance → List ℕ → Waiting
-waiting_at i nonce = record {
+abbrev pub waiting_cell_at : Instance → List ℕ → WaitingCell
+waiting_cell_at i nonce = record {
   variant = i.variant;
   «module» = i.meaning.id;
   nonce = nonce;
@@ -21,8 +21,8 @@ waiting_at i nonce = record {
 }
 
 -- the cell of an instance that has left by a ticket with this nonce, from where it stood
-abbrev pub retired_at : Instance → Digests → List ℕ → Retired
-retired_at i d nonce = record {
+abbrev pub retired_cell_at : Instance → Digests → List ℕ → RetiredCell
+retired_cell_at i d nonce = record {
   variant = i.variant;
   «module» = i.meaning.id;
   summary = digest_of d.digest;
@@ -35,21 +35,21 @@ retired_at i d nonce = record {
 abbrev pub cell_of_role : Instance → Role → Digests → List ℕ
 cell_of_role i Blank d = blank_cell
 cell_of_role i Live d = cell_spelling (cell_at i d)
-cell_of_role i (Waits nonce) d = waiting_spelling (waiting_at i nonce)
-cell_of_role i (Left nonce) d = retired_spelling (retired_at i d nonce)
+cell_of_role i (Waits nonce) d = waiting_spelling (waiting_cell_at i nonce)
+cell_of_role i (Left nonce) d = retired_spelling (retired_cell_at i d nonce)
 
 -- where a side stands after an effect, as far as its cell goes
-abbrev pub at_after : Digests → Effect → Digests
-at_after d (Enters ticket) = digests_move.enters d d.count ticket.content
-at_after d effect = d
+abbrev pub digests_after_effect : Digests → Effect → Digests
+digests_after_effect d (Enters ticket) = digests_move.enters d d.count ticket.content
+digests_after_effect d effect = d
 
 abbrev pub cell_after : Instance → Digests → Effect → List ℕ
 cell_after i d (Invites nonce) = cell_of_role i (Waits nonce) d
 cell_after i d (Leaves ticket) = cell_of_role i (Left ticket.nonce) d
-cell_after i d (Enters ticket) = cell_of_role i Live (at_after d (Enters ticket))
+cell_after i d (Enters ticket) = cell_of_role i Live (digests_after_effect d (Enters ticket))
 
 -- the refusal of a cause. That a cell has another barrier than the link is the refusal of none.
-abbrev pub refusal_of : MoveCause → MoveRefusal
+abbrev pub refusal_of : DenialCause → MoveRefusal
 refusal_of (Refused why) = refusal.Core why
 refusal_of Already = refusal.Already
 refusal_of Open = refusal.Open
@@ -57,13 +57,13 @@ refusal_of Gone = refusal.Gone
 refusal_of Nonce = refusal.Nonce
 
 -- the cell that a move writes, unless it was made before
-abbrev pub next_if : Bool → List ℕ → Option (List ℕ)
-next_if true bytes = None
-next_if false bytes = Some bytes
+abbrev pub next_cell_if : Bool → List ℕ → Option (List ℕ)
+next_cell_if true bytes = None
+next_cell_if false bytes = Some bytes
 
 -- where a side stands once a move that was found is made, as far as its cell goes
-abbrev pub stood : Digests → FoundMove → Digests
-stood d found = if found.again then d else at_after d found.effect
+abbrev pub digests_after_move : Digests → FoundMove → Digests
+digests_after_move d found = if found.again then d else digests_after_effect d found.effect
 
 -- The answers: an invitation says nothing more; a retirement gives its ticket, sealed under the
 -- link's key; an acceptance the snapshot of where the module stands, sealed under the side's.
@@ -83,11 +83,11 @@ GivesTicket link found bytes = GivesTicketBy link found.effect bytes
 
 abbrev pub GivesEntryBy : Instance → Digests → Effect → Accepted → Type 0
 GivesEntryBy i d (Enters ticket) accepted =
-    accepted ≡ accepted_as i.key (digests_move.says i d ticket.content)
+    accepted ≡ acceptance_of i.key (digests_move.says i d ticket.content)
 GivesEntryBy i d effect accepted = ⊥
 
 abbrev pub GivesEntry : Instance → Digests → FoundMove → Accepted → Type 0
-GivesEntry i d found accepted = GivesEntryBy i (stood d found) found.effect accepted
+GivesEntry i d found accepted = GivesEntryBy i (digests_after_move d found) found.effect accepted
 
 -- A cell that waits, or that the module left, has a clear flag and a nonce of 32 bytes; and where
 -- it left, as where it enters, there is a digest.
@@ -105,25 +105,25 @@ FitsLive role again (Enters ticket) = not (is_live role) ≡ not again
 
 -- What is ready is what was found: by the cell that it writes, if any, and by its answer.
 pub record IsReady {A : Type 0} (gives : FoundMove → A → Type 0) (i : Instance) (role : Role)
-    (d : Digests) (ready : Ready A) (found : FoundMove) : Type 0 where
-  pub next : ready.next ≡ next_if found.again (cell_after i d found.effect)
+    (d : Digests) (ready : ReadyMove A) (found : FoundMove) : Type 0 where
+  pub next : ready.next ≡ next_cell_if found.again (cell_after i d found.effect)
   pub answer : gives found ready.answer
   pub fits : FitsEffect d found.effect
   pub live : FitsLive role found.again found.effect
 
 -- no move finds want of memory, nor a device's fault
-abbrev pub IsSaid : MoveCause → Type 0
+abbrev pub IsSaid : DenialCause → Type 0
 IsSaid (Refused core.Memory) = ⊥
 IsSaid (Refused (core.Device fault)) = ⊥
 IsSaid cause = Unit {0}
 
 -- what a move finds in the cell is what it finds by the role
-abbrev pub Matches : {A : Type 0} → (FoundMove → A → Type 0) → Instance → Role → Digests
-    → Result (Ready A) MoveRefusal → Result FoundMove MoveCause → Type 0
-Matches gives i role d (Err why) (Err cause) = (why ≡ refusal_of cause) × IsSaid cause
-Matches gives i role d (Err why) (Ok found) = ⊥
-Matches gives i role d (Ok ready) (Err cause) = ⊥
-Matches gives i role d (Ok ready) (Ok found) = IsReady gives i role d ready found
+abbrev pub MatchesRole : {A : Type 0} → (FoundMove → A → Type 0) → Instance → Role → Digests
+    → Result (ReadyMove A) MoveRefusal → Result FoundMove DenialCause → Type 0
+MatchesRole gives i role d (Err why) (Err cause) = (why ≡ refusal_of cause) × IsSaid cause
+MatchesRole gives i role d (Err why) (Ok found) = ⊥
+MatchesRole gives i role d (Ok ready) (Err cause) = ⊥
+MatchesRole gives i role d (Ok ready) (Ok found) = IsReady gives i role d ready found
 
 -- a role with where its side stands: nonces have 32 bytes, and digests where a cell has one; a
 -- segment is open on a live side alone, and in Opt

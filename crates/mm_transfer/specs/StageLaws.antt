@@ -2,38 +2,38 @@
 use Rattle.std.specs.Prelude.{◌≡◌, ℕ, ◌+◌, ◌<◌, ◌^◌, List, Option, None, Some}
 use Rattle.std.specs.Option.{option_map}
 use Rattle.std.proofs.Common.{sym, ap, arith}
-use Rattle.mm_play.specs.Headed.{Headed, More, Begins}
-use Rattle.mm_play.specs.Shown.{begun_by}
+use Rattle.mm_play.specs.HeadingStep.{HeadingStep, More, Begins}
+use Rattle.mm_play.specs.StageShows.{heading_step_by}
 use Rattle.mm_play.specs.Stage.{answer_by}
 use Rattle.mm_play.specs.StageLaws.{same_stage}
 use Rattle.mm_transfer.specs.Below.{BothEvent, Header}
-use Rattle.mm_transfer.specs.Grammar.{first_at, event_at}
-use Rattle.mm_transfer.specs.Stage.{Running, after, begun, playing, transfer_heads, transfer_stage}
+use Rattle.mm_transfer.specs.Grammar.{first_header_at, event_at}
+use Rattle.mm_transfer.specs.Stage.{TransferState, transfer_after, first_transfer, transfer_steps, transfer_heads, transfer_stage}
 use Rattle.mm_transfer.specs.declared.opening.FirstLine.{FirstLine}
 
 -- no line of it leads to more lines of it
 never_more : (found : Option Header) (next : FirstLine)
-    → (let x : Option (Headed FirstLine Running) =
-    begun_by begun (option_map (λ header. Begins header) found) in x ≡ Some (More next)) → ⊥
+    → (let x : Option (HeadingStep FirstLine TransferState) =
+    heading_step_by first_transfer (option_map (λ header. Begins header) found) in x ≡ Some (More next)) → ⊥
 never_more None next h = cc
 never_more (Some header) next h = cc
 
 pub leads_nowhere : (it next : FirstLine) (line : List ℕ)
     → transfer_heads.behind it line ≡ Some (More next)
     → transfer_heads.left next < transfer_heads.left it
-leads_nowhere it next line h = absurd (never_more (first_at line) next h)
+leads_nowhere it next line h = absurd (never_more (first_header_at line) next h)
 
 pub leaves_none : (it : FirstLine) → transfer_heads.left it < 2 ^ 30
 leaves_none it = omega arith
 
-counts_by : (it next : Running) (found : Option BothEvent) (reply : List ℕ)
-    → answer_by playing it found ≡ Some (reply, next) → next.events ≡ it.events + 1
+counts_by : (it next : TransferState) (found : Option BothEvent) (reply : List ℕ)
+    → answer_by transfer_steps it found ≡ Some (reply, next) → next.events ≡ it.events + 1
 counts_by it next None reply h = cc
 counts_by it next (Some event) reply h =
-    ap (λ (r : Running). r.events)
-    (sym (same_stage (playing.reply it event) reply (after it event) next h))
+    ap (λ (r : TransferState). r.events)
+    (sym (same_stage (transfer_steps.reply it event) reply (transfer_after it event) next h))
 
-pub counts_on : (it next : Running) (line reply : List ℕ)
+pub counts_on : (it next : TransferState) (line reply : List ℕ)
     → transfer_stage.answer it line ≡ Some (reply, next)
     → transfer_stage.events next ≡ transfer_stage.events it + 1
 counts_on it next line reply h = counts_by it next (event_at line) reply h

@@ -11,7 +11,7 @@ use std::alloc::Global;
 
 /// The tickets handed out, and what is kept of where the module left last.
 #[derive(Drop)]
-pub struct Between {
+pub struct IssuedTickets {
     pub tickets: Vec<Bytes>,
     /// The bytes of the tickets, all together.
     pub kept: u64,
@@ -19,18 +19,18 @@ pub struct Between {
     pub away: u64,
 }
 
-impl Between {
+impl IssuedTickets {
     ghost use Rattle.std.specs.Prelude.{◌≡◌, ◌<◌, ◌^◌, [], length, vec_len, vec_capacity, ◌+◌, ◌++◌, ◌∷◌};
     ghost use Rattle.mm_world.specs.Lengths.{within_64};
-    ghost use Rattle.mm_transfer.specs.Between.{LeftAs};
+    ghost use Rattle.mm_transfer.specs.SideCommands.{TellsRetirement};
 
     /// No ticket was handed out, and the module hasn't left.
-    pub fn new(alloc: Global) -> Between
+    pub fn new(alloc: Global) -> IssuedTickets
         ensures tickets { result.tickets.items ≡ [] }
         ensures kept { result.kept ≡ 0 }
         ensures away { result.away ≡ 0 }
     {
-        Between {
+        IssuedTickets {
             tickets: Vec::new(alloc),
             kept: 0,
             away: 0,
@@ -63,7 +63,7 @@ impl Between {
     ) -> Result<MoveReply, Memory>
         requires room { vec_len self.old.tickets < vec_capacity self.old.tickets }
         requires few { vec_len self.old.tickets < 2 ^ 32 }
-        ensures { LeftAs was_live position stop came self.old self.new result }
+        ensures { TellsRetirement was_live position stop came self.old self.new result }
     {
         match came {
             Ok(ticket) => {

@@ -1,23 +1,23 @@
 //! Commands that move the module, on one side.
 
 ghost use Rattle.std.specs.Prelude.{◌≡◌, ◌<◌, ◌^◌, Some, vec_len, vec_capacity, take, drop};
-ghost use Rattle.mm_move.specs.Cells.{moved_of};
-ghost use Rattle.mm_move.specs.Orders.{retires_in, accepts_in};
+ghost use Rattle.mm_move.specs.Cells.{moved_cell_of};
+ghost use Rattle.mm_move.specs.Orders.{retirement_in, acceptance_in};
 ghost use Rattle.mm_modules.specs.Modules.{meaning_of};
-ghost use Rattle.mm_run.specs.Offered.{offered_bytes};
+ghost use Rattle.mm_run.specs.EventOffers.{offered_bytes};
 ghost use Rattle.mm_schedule.specs.declared.header.Header.{Header};
 ghost use Rattle.mm_move.specs.declared.link.Link.{Link};
 ghost use Rattle.mm_sides.specs.Both.{key_of};
 ghost use Rattle.mm_sides.specs.Both as both;
 ghost use Rattle.mm_sides.specs.Moves.{Invite, Retire, Accept};
 ghost use Rattle.mm_sides.specs.Roles.{is_live};
-ghost use Rattle.mm_transfer.specs.declared.between.Between.{Between};
-ghost use Rattle.mm_transfer.specs.Between.{InvitedAs, EnteredAs, KeepsDigest, Tried, Commands};
+ghost use Rattle.mm_transfer.specs.declared.between.IssuedTickets.{IssuedTickets};
+ghost use Rattle.mm_transfer.specs.SideCommands.{TellsInvitation, TellsEntry, KeepsDigest, TriesMove, CommandGoes};
 ghost use Rattle.mm_transfer.specs.Events.{which_of, command_of};
 ghost use Rattle.mm_transfer.specs.OneSide.{link_of, role_in, digest_by};
 ghost use Rattle.mm_transfer.specs.Pairs.{pair_of};
 
-use crate::between::{Between, either};
+use crate::between::{IssuedTickets, either};
 use crate::event::{Command, Which};
 use crate::moving::{Mover, has_moved, planned_accept, planned_invite, planned_retire, refused};
 use crate::reply::MoveReply;
@@ -26,7 +26,7 @@ use mm_base::{Bytes, CELL_LENGTH, Memory};
 use mm_digest::Digest;
 use mm_move::{Accepted, Invited, Link, MoveRefusal, MovedCell, read_moved};
 use mm_platform::{MemPlatform, Stop};
-use mm_run::{Course, offered, rising, world_barrier, world_key};
+use mm_run::{CallPlan, offered, rising, world_barrier, world_key};
 use mm_schedule::Offer;
 use std::alloc::Global;
 
@@ -87,7 +87,7 @@ fn keep_digest(here: &mut Side)
 
 // What an invitation is told as.
 fn invited(stop: Stop, came: Result<Invited, MoveRefusal>) -> Result<MoveReply, Memory>
-    ensures { InvitedAs stop came result }
+    ensures { TellsInvitation stop came result }
 {
     match came {
         Ok(_) => Ok(MoveReply::Invited),
@@ -100,9 +100,9 @@ fn invite(
     which: Which,
     here: &mut Side,
     nonce: &[u8; 32],
-    course: &Course<'_>,
+    course: &CallPlan<'_>,
 ) -> Result<MoveReply, Memory>
-    ensures made { (between : Between) → Commands (pair_of here.old.seat.header) (which_of which)
+    ensures made { (between : IssuedTickets) → CommandGoes (pair_of here.old.seat.header) (which_of which)
         course.now.meddles.now course.now.stop (Invite nonce.now) here.old here.new between between
         result }
     ensures headed { here.new.seat.header ≡ here.old.seat.header }
@@ -127,11 +127,11 @@ fn try_retire(
     issued: &[Bytes],
     nonce: &[u8; 32],
     offer: &Offer,
-    course: &Course<'_>,
+    course: &CallPlan<'_>,
 ) -> Result<Option<Result<Bytes, MoveRefusal>>, Memory>
-    ensures { (link : Link) → link ≡ link_of (pair_of mover.now.header) → Tried (λ bytes cell.
-        retires_in (meaning_of mover.now.header.«module») mover.now.header.variant link nonce.now
-        bytes (moved_of cell)) course.now.stop course.now.meddles.now
+    ensures { (link : Link) → link ≡ link_of (pair_of mover.now.header) → TriesMove (λ bytes cell.
+        retirement_in (meaning_of mover.now.header.«module») mover.now.header.variant link nonce.now
+        bytes (moved_cell_of cell)) course.now.stop course.now.meddles.now
         (offered_bytes issued.now offer.now) platform.old platform.new result }
 {
     match offered(mover.alloc, issued, offer) {
@@ -152,13 +152,13 @@ fn try_retire(
 fn retire(
     alloc: Global,
     here: &mut Side,
-    between: &mut Between,
+    between: &mut IssuedTickets,
     nonce: &[u8; 32],
     offer: &Offer,
-    course: &Course<'_>,
+    course: &CallPlan<'_>,
 ) -> Result<MoveReply, Memory>
     requires { vec_len between.old.tickets < 2 ^ 32 }
-    ensures made { (which : both.Which) → Commands (pair_of here.old.seat.header) which
+    ensures made { (which : both.Which) → CommandGoes (pair_of here.old.seat.header) which
         course.now.meddles.now course.now.stop (Retire nonce.now offer.now) here.old here.new
         between.old between.new result }
     ensures headed { here.new.seat.header ≡ here.old.seat.header }
@@ -190,11 +190,11 @@ fn try_accept(
     platform: &mut MemPlatform,
     tickets: &[Bytes],
     offer: &Offer,
-    course: &Course<'_>,
+    course: &CallPlan<'_>,
 ) -> Result<Option<Result<Accepted, MoveRefusal>>, Memory>
-    ensures { (link : Link) → link ≡ link_of (pair_of mover.now.header) → Tried (λ bytes cell.
-        accepts_in (meaning_of mover.now.header.«module») mover.now.header.variant link bytes
-        (moved_of cell)) course.now.stop course.now.meddles.now
+    ensures { (link : Link) → link ≡ link_of (pair_of mover.now.header) → TriesMove (λ bytes cell.
+        acceptance_in (meaning_of mover.now.header.«module») mover.now.header.variant link bytes
+        (moved_cell_of cell)) course.now.stop course.now.meddles.now
         (offered_bytes tickets.now offer.now) platform.old platform.new result }
 {
     match offered(mover.alloc, tickets, offer) {
@@ -219,7 +219,7 @@ fn enter(
     came: Result<Accepted, MoveRefusal>,
 ) -> Result<MoveReply, Memory>
     requires { vec_len here.old.seat.issued < vec_capacity here.old.seat.issued }
-    ensures entered { EnteredAs was_live away stop came here.old here.new result }
+    ensures entered { TellsEntry was_live away stop came here.old here.new result }
     ensures headed { here.new.seat.header ≡ here.old.seat.header }
 {
     match came {
@@ -241,11 +241,11 @@ fn enter(
 fn accept(
     alloc: Global,
     here: &mut Side,
-    between: &Between,
+    between: &IssuedTickets,
     offer: &Offer,
-    course: &Course<'_>,
+    course: &CallPlan<'_>,
 ) -> Result<MoveReply, Memory>
-    ensures made { (which : both.Which) → Commands (pair_of here.old.seat.header) which
+    ensures made { (which : both.Which) → CommandGoes (pair_of here.old.seat.header) which
         course.now.meddles.now course.now.stop (Accept offer.now) here.old here.new
         between.now between.now result }
     ensures headed { here.new.seat.header ≡ here.old.seat.header }
@@ -275,12 +275,12 @@ pub fn command(
     alloc: Global,
     which: Which,
     here: &mut Side,
-    between: &mut Between,
-    course: &Course<'_>,
+    between: &mut IssuedTickets,
+    course: &CallPlan<'_>,
     command: &Command,
 ) -> Result<MoveReply, Memory>
     requires { vec_len between.old.tickets < 2 ^ 32 }
-    ensures made { Commands (pair_of here.old.seat.header) (which_of which) course.now.meddles.now
+    ensures made { CommandGoes (pair_of here.old.seat.header) (which_of which) course.now.meddles.now
         course.now.stop (command_of command.now) here.old here.new between.old between.new result }
     ensures headed { here.new.seat.header ≡ here.old.seat.header }
 {

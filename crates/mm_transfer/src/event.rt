@@ -23,7 +23,7 @@ pub enum Command {
 
 /// What happens on a side.
 #[derive(Debug, Drop)]
-pub enum Act {
+pub enum SideAct {
     /// An event of a schedule.
     Plain(Event),
     /// A command. Others extend the register just before certain steps of it, and it may be stopped at a step.
@@ -38,5 +38,5 @@ pub enum Act {
 #[derive(Debug, Drop)]
 pub struct SideEvent {
     pub which: Which,
-    pub act: Act,
+    pub act: SideAct,
 }

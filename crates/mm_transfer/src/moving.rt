@@ -2,11 +2,11 @@
 
 ghost use Rattle.std.specs.Prelude.{◌≡◌, ℕ, is_some};
 ghost use Rattle.mm_modules.specs.Modules.{meaning_of};
-ghost use Rattle.mm_move.specs.Cells.{moved_of};
-ghost use Rattle.mm_move.specs.Orders.{waiting_for, invites_in, retires_in, accepts_in};
+ghost use Rattle.mm_move.specs.Cells.{moved_cell_of};
+ghost use Rattle.mm_move.specs.Orders.{waiting_for, invitation_in, retirement_in, acceptance_in};
 ghost use Rattle.mm_move.specs.Refusals.{move_fault_in};
-ghost use Rattle.mm_transfer.specs.Between.{RefusedAs, has_moved};
-ghost use Rattle.mm_transfer.specs.Planned.{MovesPlanned, moves_at};
+ghost use Rattle.mm_transfer.specs.SideCommands.{TellsRefusalAs, has_moved};
+ghost use Rattle.mm_transfer.specs.MovePlan.{MovesByPlan, has_effect_at};
 
 use crate::reply::{MoveCause, MoveReply};
 use mm_base::{Bytes, Memory};
@@ -14,7 +14,7 @@ use mm_model::Refusal;
 use mm_module::Module;
 use mm_move::{Accepted, Invited, Link, MoveRefusal};
 use mm_platform::{MemPlatform, Stop};
-use mm_run::{Course, cause, way};
+use mm_run::{CallPlan, cause, way};
 use mm_schedule::Header;
 use mm_world::settle;
 use std::alloc::Global;
@@ -30,7 +30,7 @@ pub fn is_broken<A>(came: &Result<A, MoveRefusal>) -> bool
 
 /// Whether a move that was broken off, and stopped so, has its effect: its second step has that, by writing the cell.
 pub fn moves_at(stop: Stop) -> bool
-    ensures { result ≡ moves_at stop }
+    ensures { result ≡ has_effect_at stop }
 {
     match stop {
         Stop::Quiet => false,
@@ -51,7 +51,7 @@ pub fn has_moved(stop: Stop, why: MoveRefusal) -> bool
 
 /// What is told of a move that was refused, or broken off. Memory exactly where it was refused for that.
 pub fn refused(stop: Stop, why: MoveRefusal) -> Result<MoveReply, Memory>
-    ensures { RefusedAs stop why result }
+    ensures { TellsRefusalAs stop why result }
 {
     match why {
         MoveRefusal::Core(Refusal::Memory) => Err(Memory),
@@ -82,10 +82,10 @@ pub fn planned_invite(
     link: &Link,
     nonce: &[u8; 32],
     key: &[u8; 32],
-    course: &Course<'_>,
+    course: &CallPlan<'_>,
 ) -> Result<Invited, MoveRefusal>
-    ensures { (id : ℕ) → id ≡ (meaning_of header.now.«module»).id → MovesPlanned (λ bytes.
-        invites_in (waiting_for link.now header.now.variant id nonce.now key.now) (moved_of bytes))
+    ensures { (id : ℕ) → id ≡ (meaning_of header.now.«module»).id → MovesByPlan (λ bytes.
+        invitation_in (waiting_for link.now header.now.variant id nonce.now key.now) (moved_cell_of bytes))
         course.now.stop course.now.meddles.now platform.old platform.new result }
 {
     match platform.plan(course.stop, course.meddles) {
@@ -112,11 +112,11 @@ pub fn planned_retire(
     link: &Link,
     nonce: &[u8; 32],
     offer: &[u8],
-    course: &Course<'_>,
+    course: &CallPlan<'_>,
 ) -> Result<Bytes, MoveRefusal>
-    ensures { MovesPlanned (λ bytes.
-        retires_in (meaning_of mover.now.header.«module») mover.now.header.variant link.now
-        nonce.now offer.now (moved_of bytes))
+    ensures { MovesByPlan (λ bytes.
+        retirement_in (meaning_of mover.now.header.«module») mover.now.header.variant link.now
+        nonce.now offer.now (moved_cell_of bytes))
         course.now.stop course.now.meddles.now platform.old platform.new result }
 {
     match platform.plan(course.stop, course.meddles) {
@@ -143,11 +143,11 @@ pub fn planned_accept(
     platform: &mut MemPlatform,
     link: &Link,
     ticket: &[u8],
-    course: &Course<'_>,
+    course: &CallPlan<'_>,
 ) -> Result<Accepted, MoveRefusal>
-    ensures { MovesPlanned (λ bytes.
-        accepts_in (meaning_of mover.now.header.«module») mover.now.header.variant link.now
-        ticket.now (moved_of bytes))
+    ensures { MovesByPlan (λ bytes.
+        acceptance_in (meaning_of mover.now.header.«module») mover.now.header.variant link.now
+        ticket.now (moved_cell_of bytes))
         course.now.stop course.now.meddles.now platform.old platform.new result }
 {
     match platform.plan(course.stop, course.meddles) {

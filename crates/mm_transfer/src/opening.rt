@@ -5,7 +5,7 @@ ghost use Rattle.mm_transfer.specs.StageLaws.{leads_nowhere, leaves_none};
 
 use crate::read::read_first;
 use crate::stage::TransferStage;
-use mm_play::{Heading, Refused, ReplyFault};
+use mm_play::{Heading, LineRefusal, ReplyFault};
 use std::alloc::Global;
 
 /// A transfer before its first line.
@@ -22,7 +22,7 @@ impl Heading<TransferStage> for FirstLine {
     ) -> Result<Option<TransferStage>, ReplyFault> {
         let header = match read_first(line) {
             Some(header) => header,
-            None => return Err(ReplyFault::Refused(Refused::Bad)),
+            None => return Err(ReplyFault::Refused(LineRefusal::Bad)),
         };
         match TransferStage::new(alloc, &header) {
             Ok(stage) => Ok(Some(stage)),

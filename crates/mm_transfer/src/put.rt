@@ -2,7 +2,7 @@
 
 ghost use Rattle.std.specs.Prelude.{◌≡◌, ◌++◌, [], ◌∷◌, codes, OnOk};
 ghost use Rattle.std.specs.Fmt.{decimal};
-ghost use Rattle.mm_transfer.specs.Answers.{answer_text, end_line, move_cause_text, move_text, moved_text, which_text};
+ghost use Rattle.mm_transfer.specs.Answers.{answer_text, end_line, move_cause_text, move_text, effect_text, side_text};
 ghost use Rattle.mm_transfer.specs.Events.{which_of};
 ghost use Rattle.mm_transfer.specs.Replies.{IsSayable};
 
@@ -30,7 +30,7 @@ impl MoveCause {
 impl Which {
     /// The number of a side.
     pub fn text(self) -> &'static [u8]
-        ensures { result.now ≡ which_text (which_of self) }
+        ensures { result.now ≡ side_text (which_of self) }
     {
         match self {
             Which::First => b"0",
@@ -41,7 +41,7 @@ impl Which {
 
 // What became of a move that was disturbed.
 fn moved_word(moved: bool) -> &'static [u8]
-    ensures { result.now ≡ moved_text moved }
+    ensures { result.now ≡ effect_text moved }
 {
     if moved { b" moved" } else { b" lost" }
 }

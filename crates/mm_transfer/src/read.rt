@@ -7,11 +7,11 @@ ghost use Rattle.mm_schedule.specs.Events.{meddles_of};
 ghost use Rattle.mm_schedule.specs.Headers.{head_at};
 ghost use Rattle.mm_schedule.specs.Texts.{offer_of};
 ghost use Rattle.mm_transfer.specs.Events.{which_of, side_event_of};
-ghost use Rattle.mm_transfer.specs.Grammar.{first_at, which_at, named_at, raw_at, flipped_at, whole_offer_at, retire_at, command_at, ask_at, call_at, prefixed_at, act_at, event_at};
+ghost use Rattle.mm_transfer.specs.Grammar.{first_header_at, side_at, named_offer_at, raw_offer_at, flipped_offer_at, whole_offer_at, retirement_at, command_at, ask_at, call_at, prefixed_act_at, act_at, event_at};
 ghost use Rattle.mm_transfer.specs.Texts as texts;
 
 use crate::event::{SideEvent, Which};
-use crate::text::{ActText, CommandText, EventText, owned};
+use crate::text::{ActText, CommandText, SideEventText, owned};
 use mm_platform::Stop;
 use mm_schedule::{
     EventFault, Header, Meddles, OfferText, after, is_text, meddles_in, number_in, offer_in,
@@ -20,9 +20,9 @@ use mm_schedule::{
 use std::alloc::Global;
 
 /// What the first line names, as `memoir transfer 1 basic counter`. None where the line is outside the grammar.
-#[tactic(auto, unfolding(crate::specs::Grammar::first_at))]
+#[tactic(auto, unfolding(crate::specs::Grammar::first_header_at))]
 pub fn read_first(line: &[u8]) -> Option<Header>
-    ensures { result ≡ first_at line.now }
+    ensures { result ≡ first_header_at line.now }
 {
     let words = after(b"memoir transfer 1 ", line)?;
     head_in(words)
@@ -49,19 +49,19 @@ pub fn read_side_event(alloc: Global, line: &[u8]) -> Result<SideEvent, EventFau
 
 // The event of a line.
 #[tactic(auto, unfolding(crate::specs::Grammar::event_at))]
-fn event_in(line: &[u8]) -> Option<EventText<'_>>
+fn event_in(line: &[u8]) -> Option<SideEventText<'_>>
     ensures { option_map texts.event_in result ≡ event_at line.now }
 {
     let (word, line) = word_in(line)?;
     let which = which_in(word)?;
     let act = act_in(line)?;
-    Some(EventText { which, act })
+    Some(SideEventText { which, act })
 }
 
 // A side, by its number.
-#[tactic(auto, unfolding(crate::specs::Grammar::which_at))]
+#[tactic(auto, unfolding(crate::specs::Grammar::side_at))]
 fn which_in(word: &[u8]) -> Option<Which>
-    ensures { option_map which_of result ≡ which_at word.now }
+    ensures { option_map which_of result ≡ side_at word.now }
 {
     if is_text(word, b"0") {
         return Some(Which::First);
@@ -88,9 +88,9 @@ fn act_in(line: &[u8]) -> Option<ActText<'_>>
 }
 
 // A call or a command with what comes before it.
-#[tactic(auto, unfolding(crate::specs::Grammar::prefixed_at))]
+#[tactic(auto, unfolding(crate::specs::Grammar::prefixed_act_at))]
 fn prefixed_in(line: &[u8]) -> Option<ActText<'_>>
-    ensures { option_map texts.act_in result ≡ prefixed_at line.now }
+    ensures { option_map texts.act_in result ≡ prefixed_act_at line.now }
 {
     let (meddles, line) = meddles_in(line)?;
     let (stop, line) = stop_in(line)?;
@@ -157,9 +157,9 @@ fn nonce_in(word: &[u8]) -> Option<[u8; 32]>
 }
 
 // A nonce and an offer behind `retire`.
-#[tactic(auto, unfolding(crate::specs::Grammar::retire_at))]
+#[tactic(auto, unfolding(crate::specs::Grammar::retirement_at))]
 fn retire_in(line: &[u8]) -> Option<CommandText<'_>>
-    ensures { option_map texts.command_in result ≡ retire_at line.now }
+    ensures { option_map texts.command_in result ≡ retirement_at line.now }
 {
     let (word, line) = word_in(line)?;
     let nonce = nonce_in(word)?;
@@ -179,9 +179,9 @@ fn whole_offer_in(line: &[u8]) -> Option<OfferText<'_>>
 }
 
 // Two numbers behind `flip`, up to the end of the line.
-#[tactic(auto, unfolding(crate::specs::Grammar::flipped_at))]
+#[tactic(auto, unfolding(crate::specs::Grammar::flipped_offer_at))]
 fn flipped_in(line: &[u8]) -> Option<OfferText<'_>>
-    ensures { option_map offer_of result ≡ flipped_at line.now }
+    ensures { option_map offer_of result ≡ flipped_offer_at line.now }
 {
     let (word, line) = word_in(line)?;
     let number = number_in(word)?;
@@ -190,9 +190,9 @@ fn flipped_in(line: &[u8]) -> Option<OfferText<'_>>
 }
 
 // A number, `last`, or bytes behind `raw`, up to the end of the line.
-#[tactic(auto, unfolding(crate::specs::Grammar::named_at))]
+#[tactic(auto, unfolding(crate::specs::Grammar::named_offer_at))]
 fn named_in(line: &[u8]) -> Option<OfferText<'_>>
-    ensures { option_map offer_of result ≡ named_at line.now }
+    ensures { option_map offer_of result ≡ named_offer_at line.now }
 {
     if is_text(line, b"last") {
         return Some(OfferText::Last);
@@ -205,9 +205,9 @@ fn named_in(line: &[u8]) -> Option<OfferText<'_>>
 }
 
 // Bytes behind `raw`, up to the end of the line.
-#[tactic(auto, unfolding(crate::specs::Grammar::raw_at))]
+#[tactic(auto, unfolding(crate::specs::Grammar::raw_offer_at))]
 fn raw_in(word: &[u8]) -> Option<OfferText<'_>>
-    ensures { option_map offer_of result ≡ raw_at word.now }
+    ensures { option_map offer_of result ≡ raw_offer_at word.now }
 {
     if !spells_bytes(word) {
         return None;

@@ -1,7 +1,7 @@
 //! One side of a transfer: a seat, whose module may be awaited there, or may have left.
 
 ghost use Rattle.std.specs.Prelude.{◌≡◌};
-ghost use Rattle.mm_digest.specs.Messages.{start_of};
+ghost use Rattle.mm_digest.specs.Messages.{start_digest_of};
 ghost use Rattle.mm_seal.specs.Cell.{blank_cell};
 ghost use Rattle.mm_modules.specs.Modules.{meaning_of};
 
@@ -32,7 +32,7 @@ fn blank_bytes() -> [u8; CELL_LENGTH]
 
 // Where a side stands at first.
 fn first_digest(header: &Header) -> Digest
-    ensures { result.bytes ≡ start_of header.now.variant (meaning_of header.now.«module»).id }
+    ensures { result.bytes ≡ start_digest_of header.now.variant (meaning_of header.now.«module»).id }
 {
     start(header.variant, header.module.id())
 }
@@ -42,7 +42,7 @@ impl Side {
     ghost use Rattle.mm_schedule.specs.Events.{event_of};
     ghost use Rattle.mm_sides.specs.Both.{First, Second, first_both};
     ghost use Rattle.mm_transfer.specs.Pairs.{pair_of};
-    ghost use Rattle.mm_transfer.specs.OneSide.{IsNew, Follows};
+    ghost use Rattle.mm_transfer.specs.OneSide.{IsNew, SideFollows};
 
     /// The side that the module is on at first: provisioned for the header's module, with its first snapshot.
     pub fn live(alloc: Global, header: &Header) -> Result<Side, Memory>
@@ -71,7 +71,7 @@ impl Side {
     /// call may have made its reading steps.
     pub fn event(&mut self, event: &Event) -> Result<Reply, Memory>
         requires { self.old.seat.committed < 2 ^ 63 }
-        ensures { Follows (event_of event.now) self.old self.new result }
+        ensures { SideFollows (event_of event.now) self.old self.new result }
     {
         self.seat.follow(owned_view(event))
     }

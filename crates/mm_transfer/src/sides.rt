@@ -5,21 +5,21 @@ ghost use Rattle.mm_schedule.specs.Events.{event_of};
 ghost use Rattle.mm_sides.specs.Both.{First, Second};
 ghost use Rattle.mm_sides.specs.Both as both;
 ghost use Rattle.mm_sides.specs.Folds as folds;
-ghost use Rattle.mm_transfer.specs.declared.between.Between.{Between};
-ghost use Rattle.mm_transfer.specs.Acting.{Acts};
-ghost use Rattle.mm_transfer.specs.Between.{FitsBetween};
+ghost use Rattle.mm_transfer.specs.declared.between.IssuedTickets.{IssuedTickets};
+ghost use Rattle.mm_transfer.specs.ActOutcome.{ActGoes};
+ghost use Rattle.mm_transfer.specs.SideCommands.{FitsIssuedTickets};
 ghost use Rattle.mm_transfer.specs.Events.{act_of, which_of};
 ghost use Rattle.mm_transfer.specs.OneSide.{FitsSide};
 ghost use Rattle.mm_transfer.specs.OneProof.{fits_prop};
 ghost use Rattle.mm_transfer.specs.Pairs.{pair_of};
 
-use crate::between::Between;
+use crate::between::IssuedTickets;
 use crate::commands;
-use crate::event::{Act, SideEvent, Which};
+use crate::event::{SideAct, SideEvent, Which};
 use crate::reply::MoveReply;
 use crate::side::Side;
 use mm_base::Memory;
-use mm_run::Course;
+use mm_run::CallPlan;
 use mm_schedule::{Event, Header};
 use mm_world::listed;
 use std::alloc::Global;
@@ -31,14 +31,14 @@ pub struct Sides {
     header: Header,
     first: Side,
     second: Side,
-    between: Between,
+    between: IssuedTickets,
     /// How many requests were committed, on either side.
     committed: u64,
     ghost first_headed: { first.seat.header ≡ header },
     ghost second_headed: { second.seat.header ≡ header },
     ghost first_fits: { FitsSide (pair_of header) First first } by { fits_prop (pair_of header) First first },
     ghost second_fits: { FitsSide (pair_of header) Second second } by { fits_prop (pair_of header) Second second },
-    ghost between_fits: { FitsBetween between },
+    ghost between_fits: { FitsIssuedTickets between },
     ghost first_within: { first.seat.committed ≤ committed },
     ghost second_within: { second.seat.committed ≤ committed },
     ghost away_within: { between.away ≤ committed },
@@ -48,18 +48,18 @@ pub struct Sides {
 }
 
 impl Model for Sides {
-    ghost use Rattle.mm_transfer.specs.Sides.{BothHeld, held_in};
+    ghost use Rattle.mm_transfer.specs.Sides.{TransferSides, transfer_sides_in};
 
-    ghost Value = { BothHeld };
+    ghost Value = { TransferSides };
 
-    ghost view = { λ s. held_in s.header s.first s.second s.between s.committed };
+    ghost view = { λ s. transfer_sides_in s.header s.first s.second s.between s.committed };
 }
 
 // Follows an event of a schedule on a side, and counts what it committed.
 fn play(here: &mut Side, committed: &mut u64, event: &Event) -> Result<MoveReply, Memory>
     requires { here.old.seat.committed < 2 ^ 63 }
-    ensures acts { (which : both.Which) (between : Between)
-        → Acts (pair_of here.old.seat.header) which (folds.Plain (event_of event.now))
+    ensures acts { (which : both.Which) (between : IssuedTickets)
+        → ActGoes (pair_of here.old.seat.header) which (folds.Plain (event_of event.now))
         here.old here.new between between committed.old committed.new result }
     ensures headed { here.new.seat.header ≡ here.old.seat.header }
 {
@@ -78,25 +78,25 @@ fn act(
     alloc: Global,
     which: Which,
     here: &mut Side,
-    between: &mut Between,
+    between: &mut IssuedTickets,
     committed: &mut u64,
-    act: &Act,
+    act: &SideAct,
 ) -> Result<MoveReply, Memory>
     requires position { here.old.seat.committed < 2 ^ 63 }
     requires tickets { vec_len between.old.tickets < 2 ^ 32 }
-    ensures acts { Acts (pair_of here.old.seat.header) (which_of which) (act_of act.now)
+    ensures acts { ActGoes (pair_of here.old.seat.header) (which_of which) (act_of act.now)
         here.old here.new between.old between.new committed.old committed.new result }
     ensures headed { here.new.seat.header ≡ here.old.seat.header }
 {
     match act {
-        Act::Plain(event) => play(here, committed, event),
-        Act::Moves {
+        SideAct::Plain(event) => play(here, committed, event),
+        SideAct::Moves {
             meddles,
             stop,
             command,
         } => {
             let meddles = listed(meddles);
-            let course = Course {
+            let course = CallPlan {
                 stop: *stop,
                 meddles,
             };
@@ -108,20 +108,20 @@ fn act(
 impl Sides {
     ghost use Rattle.std.specs.Prelude.{IfOk, OnErr, OnOk};
     ghost use Rattle.mm_transfer.specs.Events.{side_event_of};
-    ghost use Rattle.mm_transfer.specs.Replies.{reply_said, IsSayable};
-    ghost use Rattle.mm_transfer.specs.Sides.{first_held, outcome_in, HasRoom, GrowsByOne, HeldWants};
-    ghost use Rattle.mm_transfer.specs.Stage.{kept_in};
-    ghost use Rattle.mm_sides.specs.Both.{facing};
+    ghost use Rattle.mm_transfer.specs.Replies.{move_reply_of, IsSayable};
+    ghost use Rattle.mm_transfer.specs.Sides.{first_transfer_sides, outcome_in, HasRoom, GrowsByOne, TransferSidesWant};
+    ghost use Rattle.mm_transfer.specs.Stage.{kept_size_of};
+    ghost use Rattle.mm_sides.specs.Both.{sides_seen_from};
 
     /// New sides: the first is provisioned for the header's module, and its first snapshot has number 0; the second is blank.
     pub fn new(alloc: Global, header: &Header) -> Result<Sides, Memory>
-        ensures { IfOk result (λ sides. sides ≡ first_held header.now) }
+        ensures { IfOk result (λ sides. sides ≡ first_transfer_sides header.now) }
     {
         Ok(Sides {
             header: *header,
             first: Side::live(alloc, header)?,
             second: Side::blank(alloc, header),
-            between: Between::new(alloc),
+            between: IssuedTickets::new(alloc),
             committed: 0,
         })
     }
@@ -131,11 +131,11 @@ impl Sides {
     pub fn event(&mut self, alloc: Global, event: &SideEvent) -> Result<MoveReply, Memory>
         requires { HasRoom self.old }
         ensures reply { IfOk result
-            (λ reply. reply ≡ reply_said (outcome_in self.old (side_event_of event.now)).reply) }
+            (λ reply. reply ≡ move_reply_of (outcome_in self.old (side_event_of event.now)).reply) }
         ensures sayable { IfOk result IsSayable }
         ensures after { OnOk result (self.new.both ≡ (outcome_in self.old (side_event_of event.now)).both) }
         ensures grows { OnOk result (GrowsByOne self.old self.new) }
-        ensures wants { OnErr result (HeldWants (side_event_of event.now) self.old self.new) }
+        ensures wants { OnErr result (TransferSidesWant (side_event_of event.now) self.old self.new) }
     {
         let Sides {
             header: _,
@@ -152,7 +152,7 @@ impl Sides {
 
     /// The bytes of the snapshots issued on both sides, and of the tickets.
     pub fn kept(&self) -> u64
-        ensures { result ≡ min (kept_in self.now.both) (2 ^ 64 - 1) }
+        ensures { result ≡ min (kept_size_of self.now.both) (2 ^ 64 - 1) }
     {
         self.first
             .seat
@@ -170,7 +170,7 @@ impl Sides {
 
     /// How many snapshots were issued on a side.
     pub fn issued(&self, which: Which) -> u32
-        ensures { result ≡ length (facing (which_of which) self.now.both).first.issued }
+        ensures { result ≡ length (sides_seen_from (which_of which) self.now.both).first.issued }
     {
         match which {
             Which::First => self.first.seat.issued.len() as u32,

@@ -10,7 +10,7 @@ use crate::reply::MoveReply;
 use crate::report::TransferReport;
 use crate::sides::Sides;
 use mm_base::{Bytes, Memory};
-use mm_play::{Refused, ReplyFault, Stage};
+use mm_play::{LineRefusal, ReplyFault, PlayStage};
 use mm_schedule::{EventFault, Header};
 use std::alloc::Global;
 use std::marker::Model;
@@ -24,9 +24,9 @@ pub struct TransferStage {
 }
 
 impl Model for TransferStage {
-    ghost use Rattle.mm_transfer.specs.Stage.{KeepsSides, Running};
+    ghost use Rattle.mm_transfer.specs.Stage.{KeepsSides, TransferState};
 
-    ghost Value = { Running };
+    ghost Value = { TransferState };
 
     ghost view = { λ p. record { header = p.sides.header; both = p.sides.both; events = p.events } };
 
@@ -35,12 +35,12 @@ impl Model for TransferStage {
 
 impl TransferStage {
     ghost use Rattle.mm_transfer.specs.Events.{side_event_of};
-    ghost use Rattle.mm_transfer.specs.Replies.{reply_said, IsSayable};
-    ghost use Rattle.mm_transfer.specs.Stage.{WantsEvent, after, begun, both_end_line, running_outcome};
+    ghost use Rattle.mm_transfer.specs.Replies.{move_reply_of, IsSayable};
+    ghost use Rattle.mm_transfer.specs.Stage.{WantsEvent, transfer_after, first_transfer, both_end_line, transfer_outcome};
 
     /// Both sides at their first event.
     pub fn new(alloc: Global, header: &Header) -> Result<TransferStage, Memory>
-        ensures { IfOk result (λ it. it ≡ begun header.now) }
+        ensures { IfOk result (λ it. it ≡ first_transfer header.now) }
     {
         let sides = Sides::new(alloc, header)?;
         Ok(TransferStage { sides, events: 0 })
@@ -50,9 +50,9 @@ impl TransferStage {
     fn event(&mut self, alloc: Global, event: &SideEvent) -> Result<MoveReply, Memory>
         requires { self.old.events < most_events }
         ensures reply { IfOk result (λ reply. reply
-            ≡ reply_said (running_outcome self.old (side_event_of event.now)).reply) }
+            ≡ move_reply_of (transfer_outcome self.old (side_event_of event.now)).reply) }
         ensures sayable { IfOk result IsSayable }
-        ensures after { OnOk result (self.new ≡ after self.old (side_event_of event.now)) }
+        ensures after { OnOk result (self.new ≡ transfer_after self.old (side_event_of event.now)) }
         ensures wants { OnErr result (WantsEvent self.old (side_event_of event.now) self.new) }
     {
         let reply = self.sides.event(alloc, event)?;
@@ -91,14 +91,14 @@ impl TransferStage {
     }
 }
 
-impl Stage for TransferStage {
-    ghost use Rattle.mm_play.specs.Stage.{wants_in};
-    ghost use Rattle.mm_transfer.specs.Stage.{WantsEvent, playing, transfer_stage};
+impl PlayStage for TransferStage {
+    ghost use Rattle.mm_play.specs.Stage.{EventLacksMemory};
+    ghost use Rattle.mm_transfer.specs.Stage.{WantsEvent, transfer_steps, transfer_stage};
     ghost use Rattle.mm_transfer.specs.StageLaws.{counts_on};
 
     ghost plays = { transfer_stage };
 
-    ghost wants = { wants_in playing WantsEvent };
+    ghost wants = { EventLacksMemory transfer_steps WantsEvent };
 
     fn events(&self) -> u32 {
         self.events
@@ -120,7 +120,7 @@ impl Stage for TransferStage {
         let event = match read_side_event(alloc, line) {
             Ok(event) => event,
             Err(EventFault::Memory) => return Err(ReplyFault::Memory),
-            Err(EventFault::Bad) => return Err(ReplyFault::Refused(Refused::Bad)),
+            Err(EventFault::Bad) => return Err(ReplyFault::Refused(LineRefusal::Bad)),
         };
         let reply = match self.event(alloc, &event) {
             Ok(reply) => reply,

@@ -4,7 +4,7 @@ ghost use Rattle.std.specs.Prelude.{◌≡◌, IfOk};
 ghost use Rattle.mm_transfer.specs.Events.{command_of, act_of, side_event_of};
 ghost use Rattle.mm_transfer.specs.Texts as texts;
 
-use crate::event::{Act, Command, SideEvent, Which};
+use crate::event::{SideAct, Command, SideEvent, Which};
 use mm_base::{Bytes, Memory};
 use mm_digest::Digest;
 use mm_platform::Stop;
@@ -49,21 +49,21 @@ pub enum ActText<'a> {
 }
 
 /// An event as it lies in its line.
-pub struct EventText<'a> {
+pub struct SideEventText<'a> {
     pub which: Which,
     pub act: ActText<'a>,
 }
 
 /// The event with bytes of its own.
-pub fn owned(alloc: Global, event: EventText<'_>) -> Result<SideEvent, Memory>
+pub fn owned(alloc: Global, event: SideEventText<'_>) -> Result<SideEvent, Memory>
     ensures { IfOk result (λ own. side_event_of own ≡ texts.event_in event.entry) }
 {
-    let EventText { which, act } = event;
+    let SideEventText { which, act } = event;
     let act = owned_act(alloc, act)?;
     Ok(SideEvent { which, act })
 }
 
-fn owned_act(alloc: Global, act: ActText<'_>) -> Result<Act, Memory>
+fn owned_act(alloc: Global, act: ActText<'_>) -> Result<SideAct, Memory>
     ensures { IfOk result (λ own. act_of own ≡ texts.act_in act.entry) }
 {
     match act {
@@ -75,7 +75,7 @@ fn owned_act(alloc: Global, act: ActText<'_>) -> Result<Act, Memory>
         } => {
             let offer = owned_offer(alloc, from)?;
             let request = Bytes::copy_of(alloc, request)?;
-            Ok(Act::Plain(Event::Ask {
+            Ok(SideAct::Plain(Event::Ask {
                 meddles,
                 stop,
                 offer,
@@ -83,17 +83,17 @@ fn owned_act(alloc: Global, act: ActText<'_>) -> Result<Act, Memory>
             }))
         }
         ActText::Checkpoint { meddles, stop } => {
-            Ok(Act::Plain(Event::Checkpoint { meddles, stop }))
+            Ok(SideAct::Plain(Event::Checkpoint { meddles, stop }))
         }
-        ActText::Power => Ok(Act::Plain(Event::Power)),
-        ActText::Extend { value } => Ok(Act::Plain(Event::Extend { value })),
+        ActText::Power => Ok(SideAct::Plain(Event::Power)),
+        ActText::Extend { value } => Ok(SideAct::Plain(Event::Extend { value })),
         ActText::Moves {
             meddles,
             stop,
             command,
         } => {
             let command = owned_command(alloc, command)?;
-            Ok(Act::Moves {
+            Ok(SideAct::Moves {
                 meddles,
                 stop,
                 command,

@@ -1,10 +1,10 @@
 //! A transfer, from the first line to the last.
 
 ghost use Rattle.std.specs.Prelude.{◌≡◌, ℕ, List, Some, Ok};
-ghost use Rattle.mm_play.specs.Play.{run_of};
-ghost use Rattle.mm_play.specs.Plays.{IsBlamed, IsUnrefused, is_read_fault, is_write_fault};
-ghost use Rattle.mm_transfer.specs.Plays.{PlaysTransfer, Reports};
-ghost use Rattle.mm_transfer.specs.Stage.{TransferStage as Stands, at_first, transfer_answer, transfer_closing};
+ghost use Rattle.mm_play.specs.Play.{outcome_of_input};
+ghost use Rattle.mm_play.specs.PlaysInput.{IsBlamed, IsUnrefused, is_read_fault, is_write_fault};
+ghost use Rattle.mm_transfer.specs.TransferPlay.{PlaysTransfer, ReportsTransfer};
+ghost use Rattle.mm_transfer.specs.Stage.{TransferLineStage as Stands, first_transfer_stage, transfer_answer, transfer_closing};
 
 use crate::opening::FirstLine;
 use crate::report::TransferReport;
@@ -16,7 +16,7 @@ use std::alloc::Global;
 
 /// What stands behind the last line.
 fn report_of(player: &LinePlayer<FirstLine, TransferStage>) -> TransferReport
-    ensures { Reports player.now result }
+    ensures { ReportsTransfer player.now result }
 {
     match player.stage() {
         Some(stage) => stage.report(),
@@ -48,7 +48,7 @@ pub fn transfer<S: Source, K: Sink>(
 
     // A schedule of both sides within the grammar and the limits is not refused.
     ensures complete { (bytes : List ℕ) → (next : Stands) → S.left input.old ≡ Some bytes
-        → (run_of transfer_answer transfer_closing at_first bytes).outcome ≡ Ok next
+        → (outcome_of_input transfer_answer transfer_closing first_transfer_stage bytes).outcome ≡ Ok next
         → IsUnrefused result }
 {
     both_sides_agree();

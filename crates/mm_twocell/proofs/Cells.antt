@@ -1,7 +1,7 @@
 -- Two cells and a selector as one list of bytes, and what is put in place of a part.
 use Rattle.mm_twocell.proofs.Below.{ℕ, ◌≡◌, ◌+◌, ◌*◌, ◌≤◌, ◌⊎◌, inl, inr, zero, suc, List, [], ◌∷◌, ◌++◌, length, take, drop, get_or, refl}
 use Rattle.mm_twocell.proofs.Below.{sym, ap, ◌∙◌, arith, lit<, length-append, append_assoc, length-drop, ◌%◌, slice_index, take-append-drop}
-use Rattle.mm_twocell.proofs.Below.{length-take-le, get_or-append-add, drop-drop, cell_length, range_of, spliced, picked, Bool, true, false}
+use Rattle.mm_twocell.proofs.Below.{length-take-le, get_or-append-add, drop-drop, cell_length, range_of, bytes_with_part, picked_cell, Bool, true, false}
 use Rattle.std.specs.Prelude.{not}
 use Rattle.std.proofs.Math.Seq.{take-append_seam, drop-append_seam, drop-append-add}
 use Rattle.std.proofs.lemmas.Bool.{cases_lt}
@@ -68,19 +68,19 @@ selector_of a b n la lb =
     at_past cell_length cell_length a (b ++ n ∷ []) la ∙ at_past cell_length 0 b (n ∷ []) lb
 
 picks : (a b : List ℕ) (n k : ℕ) → length a ≡ cell_length → length b ≡ cell_length → n % 2 ≡ k
-    → picked (three a b n) ≡ take cell_length (drop (cell_length * k) (three a b n))
+    → picked_cell (three a b n) ≡ take cell_length (drop (cell_length * k) (three a b n))
 picks a b n k la lb e =
     ap (λ (m : ℕ). take cell_length (drop (cell_length * (m % 2)) (three a b n))) (selector_of a b n la lb)
     ∙ ap (λ (m : ℕ). take cell_length (drop (cell_length * m) (three a b n))) e
 
 pub picks_own : (second : Bool) (x y : List ℕ) (n : ℕ) → length x ≡ cell_length → length y ≡ cell_length → n % 2 ≡ number second
-    → picked (pair second x y n) ≡ x
+    → picked_cell (pair second x y n) ≡ x
 picks_own false x y n lx ly e = picks x y n 0 lx ly e ∙ take_front cell_length x (y ++ n ∷ []) lx
 picks_own true x y n lx ly e =
     picks y x n 1 ly lx e ∙ ap (take cell_length) (drop_front cell_length y (x ++ n ∷ []) ly) ∙ take_front cell_length x (n ∷ []) lx
 
 pub picks_other : (second : Bool) (x y : List ℕ) (n : ℕ) → length x ≡ cell_length → length y ≡ cell_length → n % 2 ≡ number (not second)
-    → picked (pair second x y n) ≡ y
+    → picked_cell (pair second x y n) ≡ y
 picks_other false x y n lx ly e = picks_own true y x n ly lx e
 picks_other true x y n lx ly e = picks_own false y x n ly lx e
 
@@ -92,7 +92,7 @@ parity n = elim (cases_lt (n % 2) 1) [
 
 -- a part in place of one as long
 put_in_place : (at : ℕ) (front part range rest : List ℕ) → length front ≡ at → length range ≡ length part
-    → spliced at part (front ++ (range ++ rest)) ≡ front ++ (part ++ rest)
+    → bytes_with_part at part (front ++ (range ++ rest)) ≡ front ++ (part ++ rest)
 put_in_place at front part range rest l m =
     let all : List ℕ = front ++ (range ++ rest) in
     ap (λ (f : List ℕ). (f ++ part) ++ drop (at + length part) all) (take_front at front (range ++ rest) l)
@@ -100,19 +100,19 @@ put_in_place at front part range rest l m =
     ∙ append_assoc front part rest
 
 pub put_other : (second : Bool) (x y w : List ℕ) (n : ℕ) → length x ≡ cell_length → length y ≡ cell_length → length w ≡ cell_length
-    → spliced (cell_length * number (not second)) w (pair second x y n) ≡ pair second x w n
+    → bytes_with_part (cell_length * number (not second)) w (pair second x y n) ≡ pair second x w n
 put_other true x y w n lx ly lw = put_in_place 0 [] w y (x ++ n ∷ []) refl (ly ∙ sym lw)
 put_other false x y w n lx ly lw = put_in_place cell_length x w y (n ∷ []) lx (ly ∙ sym lw)
 
 put_at_end : (a b : List ℕ) (m n : ℕ) → length a ≡ cell_length → length b ≡ cell_length
-    → spliced 208 (m ∷ []) (three a b n) ≡ three a b m
+    → bytes_with_part 208 (m ∷ []) (three a b n) ≡ three a b m
 put_at_end a b m n la lb =
-    ap (spliced 208 (m ∷ [])) (sym (append_assoc a b (n ∷ [])))
+    ap (bytes_with_part 208 (m ∷ [])) (sym (append_assoc a b (n ∷ [])))
     ∙ put_in_place 208 (a ++ b) (m ∷ []) (n ∷ []) [] (length-append a b ∙ omega (arith, la, lb)) refl
     ∙ append_assoc a b (m ∷ [])
 
 pub put_selector : (second : Bool) (x y : List ℕ) (m n : ℕ) → length x ≡ cell_length → length y ≡ cell_length
-    → spliced 208 (m ∷ []) (pair second x y n) ≡ pair second x y m
+    → bytes_with_part 208 (m ∷ []) (pair second x y n) ≡ pair second x y m
 put_selector true x y m n lx ly = put_at_end y x m n ly lx
 put_selector false x y m n lx ly = put_at_end x y m n lx ly
 
@@ -130,7 +130,7 @@ pub length-behind : (part range : List ℕ) → length part ≤ length range →
 length-behind part range h = length-append part (drop (length part) range) ∙ omega (arith, length-drop (length part) range, h)
 
 pub put_behind : (at n : ℕ) (part bytes : List ℕ) → length part ≤ n → at + n ≤ length bytes
-    → spliced at part bytes ≡ spliced at (behind part (range_of at n bytes)) bytes
+    → bytes_with_part at part bytes ≡ bytes_with_part at (behind part (range_of at n bytes)) bytes
 put_behind at n part bytes h within =
     let xs : List ℕ = drop at bytes in
     let lx : n ≤ length xs = omega (arith, length-drop at bytes, within) in
@@ -149,7 +149,7 @@ put_behind at n part bytes h within =
     ∙ sym (append_assoc front (part ++ old) rest)
 
 -- what is put in place of a part leaves the number of bytes
-pub length-spliced : (at : ℕ) (part bytes : List ℕ) → at + length part ≤ length bytes → length (spliced at part bytes) ≡ length bytes
+pub length-spliced : (at : ℕ) (part bytes : List ℕ) → at + length part ≤ length bytes → length (bytes_with_part at part bytes) ≡ length bytes
 length-spliced at part bytes h =
     length-append (take at bytes ++ part) (drop (at + length part) bytes)
     ∙ omega (arith, length-append (take at bytes) part, length-take-le at bytes (omega (arith, h)), length-drop (at + length part) bytes, h)

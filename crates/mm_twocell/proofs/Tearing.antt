@@ -1,8 +1,8 @@
 -- A write that fails, of which a part is left.
 use Rattle.mm_twocell.proofs.Below.{ℕ, ◌≡◌, ◌+◌, ◌≤◌, Bool, true, false, List, [], length, take, drop, None, Some, refl, sym, ap, ◌∙◌}
-use Rattle.mm_twocell.proofs.Below.{subst, arith, ◌==◌, if◌then◌else◌, option_map, nat_tests, length-take, length-take-le, counted, Rose}
-use Rattle.mm_twocell.proofs.Below.{Failed, range_of, spliced, WritesRaw, beside-none, Torn, whole_bytes, told_by, IsUsable, will_fail}
-use Rattle.mm_twocell.proofs.Below.{call_made, put_in}
+use Rattle.mm_twocell.proofs.Below.{subst, arith, ◌==◌, if◌then◌else◌, option_map, nat_tests, length-take, length-take-le, next_count, CountRose}
+use Rattle.mm_twocell.proofs.Below.{Failed, range_of, bytes_with_part, WritesRaw, beside-none, TornMemory, whole_bytes, told_standing, IsUsable, will_fail}
+use Rattle.mm_twocell.proofs.Below.{memory_after_call, memory_with_part}
 use Rattle.std.proofs.lemmas.List.{length-drop}
 use Rattle.mm_twocell.proofs.Cells.{behind, length-behind, put_behind, length-spliced}
 
@@ -12,28 +12,28 @@ size_test bytes e = grind (arith, nat_tests)
 pub whole_is : (bytes : List ℕ) → length bytes ≡ 209 → whole_bytes (Some bytes) ≡ Some bytes
 whole_is bytes e = ap (λ (b : Bool). if b then Some bytes else None) (size_test bytes e)
 
-pub told_is : (it : Torn) (r : IsUsable it) → whole_bytes it.standing.cell ≡ Some r.bytes
+pub told_is : (it : TornMemory) (r : IsUsable it) → whole_bytes it.standing.cell ≡ Some r.bytes
 told_is it r = ap whole_bytes r.cell ∙ whole_is r.bytes r.size
 
-faults_rose : (it : Torn) → will_fail it ≡ true → Rose it.standing.faults (call_made it).standing.faults
+faults_rose : (it : TornMemory) → will_fail it ≡ true → CountRose it.standing.faults (memory_after_call it).standing.faults
 faults_rose it w =
     let f : ℕ = it.standing.faults in
-    ap (λ (b : Bool). if b then counted f else f) w
+    ap (λ (b : Bool). if b then next_count f else f) w
 
 -- the told bytes once a part was put in place
-told_put : (at : ℕ) (part : List ℕ) (it : Torn) (r : IsUsable it) → at + length part ≤ 209
-    → whole_bytes (option_map (spliced at part) it.standing.cell) ≡ option_map (spliced at part) (whole_bytes it.standing.cell)
+told_put : (at : ℕ) (part : List ℕ) (it : TornMemory) (r : IsUsable it) → at + length part ≤ 209
+    → whole_bytes (option_map (bytes_with_part at part) it.standing.cell) ≡ option_map (bytes_with_part at part) (whole_bytes it.standing.cell)
 told_put at part it r h =
-    ap (λ c. whole_bytes (option_map (spliced at part) c)) r.cell
-    ∙ whole_is (spliced at part r.bytes) (length-spliced at part r.bytes (omega (arith, h, r.size)) ∙ r.size)
-    ∙ ap (option_map (spliced at part)) (sym (told_is it r))
+    ap (λ c. whole_bytes (option_map (bytes_with_part at part) c)) r.cell
+    ∙ whole_is (bytes_with_part at part r.bytes) (length-spliced at part r.bytes (omega (arith, h, r.size)) ∙ r.size)
+    ∙ ap (option_map (bytes_with_part at part)) (sym (told_is it r))
 
 part_within : (n : ℕ) (leaves : List ℕ) → length (take n leaves) ≤ n
 part_within n leaves = omega (arith, length-take n leaves)
 
-pub write_fails : (at : ℕ) (bytes : List ℕ) (old mid new : Torn) → at + length bytes ≤ 209 → IsUsable old → will_fail old ≡ true
-    → mid ≡ call_made old → new ≡ put_in at (take (length bytes) mid.leaves) mid
-    → WritesRaw at bytes (told_by old) (told_by new) (Some Failed)
+pub write_fails : (at : ℕ) (bytes : List ℕ) (old mid new : TornMemory) → at + length bytes ≤ 209 → IsUsable old → will_fail old ≡ true
+    → mid ≡ memory_after_call old → new ≡ memory_with_part at (take (length bytes) mid.leaves) mid
+    → WritesRaw at bytes (told_standing old) (told_standing new) (Some Failed)
 write_fails at bytes old mid new h r w e f =
     let n : ℕ = length bytes in
     let part : List ℕ = take n old.leaves in
@@ -42,14 +42,14 @@ write_fails at bytes old mid new h r w e f =
     let size : length range ≡ n = length-take-le n (drop at r.bytes) (omega (arith, length-drop at r.bytes, within)) in
     let fits : length part ≤ n = part_within n old.leaves in
     let all : length (behind part range) ≡ n = length-behind part range (omega (arith, size, fits)) ∙ size in
-    let after : new ≡ put_in at part (call_made old) = f ∙ ap (λ (t : Torn). put_in at (take n t.leaves) t) e in
-    subst (λ (t : Torn). WritesRaw at bytes (told_by old) (told_by t) (Some Failed)) (sym after) (record {
+    let after : new ≡ memory_with_part at part (memory_after_call old) = f ∙ ap (λ (t : TornMemory). memory_with_part at (take n t.leaves) t) e in
+    subst (λ (t : TornMemory). WritesRaw at bytes (told_standing old) (told_standing t) (Some Failed)) (sym after) (record {
       written = behind part range;
       size = all;
       cell = told_put at part old r (omega (arith, h, fits))
-          ∙ ap (option_map (spliced at part)) (told_is old r)
+          ∙ ap (option_map (bytes_with_part at part)) (told_is old r)
           ∙ ap Some (put_behind at n part r.bytes fits within)
-          ∙ ap (option_map (spliced at (behind part range))) (sym (told_is old r));
+          ∙ ap (option_map (bytes_with_part at (behind part range))) (sym (told_is old r));
       whole = λ none. absurd (cc);
       still = λ off. let g : false ≡ true = sym off ∙ r.on in absurd (cc);
       rest = record {

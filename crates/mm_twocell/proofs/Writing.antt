@@ -1,23 +1,23 @@
 -- What a read and a write over two cells do to the one cell.
 use Rattle.mm_twocell.proofs.Below.{nat_tests, ℕ, ◌≡◌, ◌-◌, ◌*◌, ◌⊎◌, inl, inr, Bool, true, false, List, [], ◌∷◌, ◌++◌, length, get_or}
 use Rattle.mm_twocell.proofs.Below.{Some, refl, sym, ap, ◌∙◌, arith, ◌%◌, ◌==◌, slice_index, option_map, cell_length, Option, None}
-use Rattle.mm_twocell.proofs.Below.{StepFault, Standing, WriteCell, beside, cell_after, EndsBy, spliced, LeavesRest, ReadsRaw}
-use Rattle.mm_twocell.proofs.Below.{WritesRaw, beside-beside, picked, WritesPicked}
+use Rattle.mm_twocell.proofs.Below.{StepFault, Standing, WriteCell, items_beside, cell_after, DeviceStepEnds, bytes_with_part, LeavesRest, ReadsRaw}
+use Rattle.mm_twocell.proofs.Below.{WritesRaw, beside-beside, picked_cell, WritesOtherCell}
 use Rattle.mm_twocell.proofs.Cells.{in_three, pair, number, one_item, parity, picks_own, picks_other, put_other, put_selector, selector_of}
 use Rattle.std.specs.Prelude.{not}
 
 -- how a call ends that went on from a call that was done
 pub ends_with : (fault : Option StepFault) (old two three : Standing) (made any : Bool) → old.is_on ≡ true → two.faults ≡ old.faults
-    → (fault ≡ None → made ≡ true) → EndsBy fault two three any → EndsBy fault old three made
+    → (fault ≡ None → made ≡ true) → DeviceStepEnds fault two three any → DeviceStepEnds fault old three made
 ends_with fault old two three made any on same m e = grind (arith, on, same, m, e)
 
-done_made : (fault : Option StepFault) (old new : Standing) (made : Bool) → EndsBy fault old new made → fault ≡ None → made ≡ true
+done_made : (fault : Option StepFault) (old new : Standing) (made : Bool) → DeviceStepEnds fault old new made → fault ≡ None → made ≡ true
 done_made fault old new made e none = grind (arith, e, none)
 
 pub leaves_then : (old one two : Standing) → LeavesRest old one → LeavesRest one two → LeavesRest old two
 leaves_then old one two a b = record {
   others = a.others ++ b.others;
-  items = b.items ∙ ap (beside b.others) a.items ∙ beside-beside a.others b.others old.items;
+  items = b.items ∙ ap (items_beside b.others) a.items ∙ beside-beside a.others b.others old.items;
   steps = b.steps ∙ a.steps;
   writes = b.writes ∙ a.writes;
   cycles = b.cycles ∙ a.cycles;
@@ -59,10 +59,10 @@ picks_of bytes selector other l s o =
 
 -- a write of the other cell leaves the picked one
 other_left : (bytes w : List ℕ) (other : ℕ) → Picks bytes other → length w ≡ cell_length
-    → picked (spliced (cell_length * other) w bytes) ≡ picked bytes
+    → picked_cell (bytes_with_part (cell_length * other) w bytes) ≡ picked_cell bytes
 other_left bytes w other (picks second x y n whole lx ly e o) lw =
     rw (whole, o)
-    (ap picked (put_other second x y w n lx ly lw) ∙ picks_own second x w n lx lw e ∙ sym (picks_own second x y n lx ly e))
+    (ap picked_cell (put_other second x y w n lx ly lw) ∙ picks_own second x w n lx lw e ∙ sym (picks_own second x y n lx ly e))
 
 -- the one cell by whether a write is made
 cell_by : List ℕ → List ℕ → Bool → Option (List ℕ)
@@ -75,30 +75,30 @@ picks_by second m = grind (arith, nat_tests)
 
 -- a selector that is written then picks the written cell or the old one
 selector_picks : (bytes w : List ℕ) (other m : ℕ) → Picks bytes other → length w ≡ cell_length
-    → Some (picked (spliced 208 (m ∷ []) (spliced (cell_length * other) w bytes))) ≡ cell_by w (picked bytes) (m % 2 == other)
+    → Some (picked_cell (bytes_with_part 208 (m ∷ []) (bytes_with_part (cell_length * other) w bytes))) ≡ cell_by w (picked_cell bytes) (m % 2 == other)
 unfolding cell_by
 selector_picks bytes w other m (picks second x y n whole lx ly e o) lw =
     rw (whole, o)
-    (ap (λ (z : List ℕ). Some (picked (spliced 208 (m ∷ []) z))) (put_other second x y w n lx ly lw)
-    ∙ ap (λ (z : List ℕ). Some (picked z)) (put_selector second x w m n lx lw)
+    (ap (λ (z : List ℕ). Some (picked_cell (bytes_with_part 208 (m ∷ []) z))) (put_other second x y w n lx ly lw)
+    ∙ ap (λ (z : List ℕ). Some (picked_cell z)) (put_selector second x w m n lx lw)
     ∙ elim (picks_by second m) [
-      | inl new ↦ ap Some (picks_other second x w m lx lw new.0) ∙ ap (cell_by w (picked (pair second x y n))) (sym new.1)
+      | inl new ↦ ap Some (picks_other second x w m lx lw new.0) ∙ ap (cell_by w (picked_cell (pair second x y n))) (sym new.1)
       | inr old ↦ ap Some (picks_own second x w m lx lw old.0 ∙ sym (picks_own second x y n lx ly e))
-          ∙ ap (cell_by w (picked (pair second x y n))) (sym old.1)
+          ∙ ap (cell_by w (picked_cell (pair second x y n))) (sym old.1)
     ])
 
 none_after : (w : List ℕ) (made : Bool) → None ≡ cell_after (WriteCell w) made None
 none_after w made = grind arith
 
 told_left : (cell : Option (List ℕ)) (w : List ℕ) (selector other : ℕ) → IsRead cell selector other → length w ≡ cell_length
-    → option_map picked (option_map (spliced (cell_length * other) w) cell) ≡ option_map picked cell
+    → option_map picked_cell (option_map (bytes_with_part (cell_length * other) w) cell) ≡ option_map picked_cell cell
 told_left None w selector other r lw = refl
 told_left (Some bytes) w selector other r lw =
     ap Some (other_left bytes w other (picks_of bytes selector other (r.size bytes refl) (r.read bytes refl) r.other_is) lw)
 
 told_picks : (cell : Option (List ℕ)) (w : List ℕ) (selector other m : ℕ) → IsRead cell selector other → length w ≡ cell_length
-    → option_map picked (option_map (spliced 208 (m ∷ [])) (option_map (spliced (cell_length * other) w) cell))
-    ≡ cell_after (WriteCell w) (m % 2 == other) (option_map picked cell)
+    → option_map picked_cell (option_map (bytes_with_part 208 (m ∷ [])) (option_map (bytes_with_part (cell_length * other) w) cell))
+    ≡ cell_after (WriteCell w) (m % 2 == other) (option_map picked_cell cell)
 unfolding cell_by
 told_picks None w selector other m r lw = none_after w (m % 2 == other)
 told_picks (Some bytes) w selector other m r lw =
@@ -107,10 +107,10 @@ told_picks (Some bytes) w selector other m r lw =
 -- the other cell was torn
 pub write_torn : {bytes : List ℕ} {selector other : ℕ} {old one two : Standing} {fault : StepFault} → IsRead old.cell selector other
     → ReadsRaw old one None → WritesRaw (cell_length * other) bytes one two (Some fault) → length bytes ≡ cell_length
-    → WritesPicked bytes old two (Some fault)
+    → WritesOtherCell bytes old two (Some fault)
 write_torn {selector = selector} {other = other} {old = old} {one = one} {two = two} {fault = fault} r a b l = record {
   is_made = false;
-  cell = ap (option_map picked) (b.cell ∙ ap (option_map (spliced (cell_length * other) b.written)) a.cell)
+  cell = ap (option_map picked_cell) (b.cell ∙ ap (option_map (bytes_with_part (cell_length * other) b.written)) a.cell)
       ∙ told_left old.cell b.written selector other r (b.size ∙ l);
   rest = leaves_then old one two a.rest b.rest;
   ends = ends_with (Some fault) old one two false b.is_made a.ends.was_on a.ends.faults (λ none. absurd (cc)) b.ends;
@@ -125,18 +125,18 @@ other_below selector other o = elim (parity selector) [
 -- the selector was written, or torn
 pub write_ends : {bytes : List ℕ} {selector other value : ℕ} {old one two three : Standing} {fault : Option StepFault}
     → IsRead old.cell selector other → ReadsRaw old one None → WritesRaw (cell_length * other) bytes one two None
-    → WritesRaw 208 (value ∷ []) two three fault → value ≡ other → length bytes ≡ cell_length → WritesPicked bytes old three fault
+    → WritesRaw 208 (value ∷ []) two three fault → value ≡ other → length bytes ≡ cell_length → WritesOtherCell bytes old three fault
 write_ends {bytes} {selector} {other} {old = old} {one = one} {two = two} {three = three} {fault = fault} r a b c same l =
     let m : ℕ = get_or c.written 0 0 in
     let byte : c.written ≡ m ∷ [] = one_item c.written c.size in
-    let cells : three.cell ≡ option_map (spliced 208 (m ∷ [])) (option_map (spliced (cell_length * other) bytes) old.cell) =
-    c.cell ∙ ap (λ (w : List ℕ). option_map (spliced 208 w) two.cell) byte
-    ∙ ap (option_map (spliced 208 (m ∷ [])))
-    (b.cell ∙ ap (λ (w : List ℕ). option_map (spliced (cell_length * other) w) one.cell) (b.whole refl)
-    ∙ ap (option_map (spliced (cell_length * other) bytes)) a.cell) in
+    let cells : three.cell ≡ option_map (bytes_with_part 208 (m ∷ [])) (option_map (bytes_with_part (cell_length * other) bytes) old.cell) =
+    c.cell ∙ ap (λ (w : List ℕ). option_map (bytes_with_part 208 w) two.cell) byte
+    ∙ ap (option_map (bytes_with_part 208 (m ∷ [])))
+    (b.cell ∙ ap (λ (w : List ℕ). option_map (bytes_with_part (cell_length * other) w) one.cell) (b.whole refl)
+    ∙ ap (option_map (bytes_with_part (cell_length * other) bytes)) a.cell) in
     record {
       is_made = m % 2 == other;
-      cell = ap (option_map picked) cells ∙ told_picks old.cell bytes selector other m r l;
+      cell = ap (option_map picked_cell) cells ∙ told_picks old.cell bytes selector other m r l;
       rest = leaves_then old one three a.rest (leaves_then one two three b.rest c.rest);
       ends = ends_with fault old two three (m % 2 == other) c.is_made a.ends.was_on (b.ends.faults ∙ a.ends.faults)
           (λ none. ap (λ (w : List ℕ). get_or w 0 0 % 2 == other) (c.whole none) ∙ ap (λ (v : ℕ). v % 2 == other) same

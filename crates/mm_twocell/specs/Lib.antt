@@ -1,3 +1,3 @@
 pub mod Pairs
-pub mod Torn
+pub mod TornMemory
 pub mod Wholes

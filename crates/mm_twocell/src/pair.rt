@@ -3,7 +3,7 @@
 ghost use Rattle.std.specs.Prelude.{◌≡◌, ◌*◌, ◌%◌, ℕ, List, Some, IfOk, OnOk, OnErr, slice_index};
 ghost use Rattle.std.specs.Result.{result_err};
 ghost use Rattle.mm_platform.specs.Raw.{ReadsRaw};
-ghost use Rattle.mm_twocell.specs.Pairs.{as_one, picked, WritesPicked};
+ghost use Rattle.mm_twocell.specs.Pairs.{standing_as_one, picked_cell, WritesOtherCell};
 
 use mm_base::{CELL_LENGTH, Memory};
 use mm_digest::Digest;
@@ -43,7 +43,7 @@ impl<R: RawNv + Register> TwoCell<R> {
 }
 
 impl<R: RawNv + Register> Device for TwoCell<R> {
-    ghost standing = { λ it. as_one (R.standing it.raw) it.steps it.writes };
+    ghost standing = { λ it. standing_as_one (R.standing it.raw) it.steps it.writes };
 }
 
 impl<R: RawNv + Register> Nv for TwoCell<R> {
@@ -102,7 +102,7 @@ fn read_selector<R: RawNv>(raw: &mut R) -> Result<u8, StepFault>
 fn read_picked<R: RawNv>(raw: &mut R, into: &mut [u8; CELL_LENGTH]) -> Result<(), StepFault>
     ensures goes { ReadsRaw (R.standing raw.old) (R.standing raw.new) (result_err result) }
     ensures read { OnOk result ((bytes : List ℕ) → (R.standing raw.old).cell ≡ Some bytes
-        → into.new ≡ picked bytes) }
+        → into.new ≡ picked_cell bytes) }
     ensures unread { OnErr result (into.new ≡ into.old) }
 {
     let selector = read_selector(raw)?;
@@ -111,7 +111,7 @@ fn read_picked<R: RawNv>(raw: &mut R, into: &mut [u8; CELL_LENGTH]) -> Result<()
 
 // Writes the cell that the selector doesn't pick, and then lets it pick that one.
 fn write_other<R: RawNv>(raw: &mut R, bytes: &[u8; CELL_LENGTH]) -> Result<(), StepFault>
-    ensures { WritesPicked bytes.now (R.standing raw.old) (R.standing raw.new) (result_err result) }
+    ensures { WritesOtherCell bytes.now (R.standing raw.old) (R.standing raw.new) (result_err result) }
 {
     let selector = read_selector(raw)?;
     let other = 1 - selector % 2;

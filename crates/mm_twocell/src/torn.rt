@@ -3,9 +3,9 @@
 ghost use Rattle.std.specs.Prelude.{◌≡◌, ◌↔◌, ◌≤◌, ◌+◌, ◌-◌, ℕ, List, Some, None, IsOk, IsErr, IfOk, OnOk, OnErr, length, take};
 ghost use Rattle.std.specs.Result.{result_err};
 ghost use Rattle.mm_platform.specs.Standing.{Item, register_after, item_values};
-ghost use Rattle.mm_platform.specs.Steps.{Cycles, Goes, Readies, ReadRegister, ResetRegister, ExtendRegister};
-ghost use Rattle.mm_platform.specs.Raw.{range_of, spliced, ReadsRaw, WritesRaw};
-ghost use Rattle.mm_twocell.specs.Torn.{Torn, IsUsable, IsSteady, first_torn, told_by, will_fail, call_made, cycle_called, put_in, torn_after, StepsRegister};
+ghost use Rattle.mm_platform.specs.Steps.{PowerCycles, StepGoes, RoomGrows, ReadRegister, ResetRegister, ExtendRegister};
+ghost use Rattle.mm_platform.specs.Raw.{range_of, bytes_with_part, ReadsRaw, WritesRaw};
+ghost use Rattle.mm_twocell.specs.TornMemory.{TornMemory, IsUsable, IsSteady, first_memory, told_standing, will_fail, memory_after_call, memory_after_cycle, memory_with_part, memory_after_write, StepsRegister};
 ghost use Rattle.mm_twocell.specs.Wholes.{told_size};
 
 use mm_base::{CELL_LENGTH, Memory};
@@ -27,7 +27,7 @@ pub struct MemRaw {
 }
 
 impl Model for MemRaw {
-    ghost Value = { Torn };
+    ghost Value = { TornMemory };
 
     ghost view = { λ it. record {
       standing = record it.register {
@@ -46,7 +46,7 @@ impl Model for MemRaw {
 impl MemRaw {
     /// A memory of 209 zero bytes: on, with an empty register, and no call is to fail.
     pub fn new(alloc: Global) -> MemRaw
-        ensures { result ≡ first_torn }
+        ensures { result ≡ first_memory }
     {
         MemRaw {
             bytes: [0; 209],
@@ -82,7 +82,7 @@ impl MemRaw {
     fn fails(&mut self) -> bool
         ensures ready { IsUsable self.old }
         ensures fails { result ≡ will_fail self.old }
-        ensures after { self.new ≡ call_made self.old }
+        ensures after { self.new ≡ memory_after_call self.old }
     {
         let is_failing = self.ahead == 1;
         self.ahead = self.ahead.saturating_sub(1);
@@ -95,7 +95,7 @@ impl MemRaw {
     // Puts these bytes in place of those from `at` on.
     fn put(&mut self, at: u16, bytes: &[u8])
         requires { at + length bytes.now ≤ 209 }
-        ensures { self.new ≡ put_in at bytes.now self.old }
+        ensures { self.new ≡ memory_with_part at bytes.now self.old }
     {
         put_at(&mut self.bytes, at, bytes);
     }
@@ -103,7 +103,7 @@ impl MemRaw {
     // Puts what a failed write leaves in front of this many bytes from `at` on.
     fn put_leaves(&mut self, at: u16, size: usize)
         requires { at + size ≤ 209 }
-        ensures { self.new ≡ put_in at (take size self.old.leaves) self.old }
+        ensures { self.new ≡ memory_with_part at (take size self.old.leaves) self.old }
     {
         let count = size.min(self.leaves.len());
         put_at(&mut self.bytes, at, &self.leaves[..count]);
@@ -113,7 +113,7 @@ impl MemRaw {
 // Puts these bytes in place of those from `at` on.
 fn put_at(into: &mut [u8; 209], at: u16, bytes: &[u8])
     requires { at + length bytes.now ≤ 209 }
-    ensures { into.new ≡ spliced at bytes.now into.old }
+    ensures { into.new ≡ bytes_with_part at bytes.now into.old }
 {
     let (_, rest) = into.split_at_mut(usize::from(at));
     let (range, _) = rest.split_at_mut(bytes.len());
@@ -121,18 +121,18 @@ fn put_at(into: &mut [u8; 209], at: u16, bytes: &[u8])
 }
 
 impl Device for MemRaw {
-    ghost standing = { told_by };
+    ghost standing = { told_standing };
 }
 
 impl RawNv for MemRaw {
     fn raw_read(&mut self, at: u16, into: &mut [u8]) -> Result<(), StepFault>
         requires { at + length into.old ≤ 209 }
-        ensures goes { ReadsRaw (told_by self.old) (told_by self.new) (result_err result) }
-        ensures read { OnOk result ((bytes : List ℕ) → (told_by self.old).cell ≡ Some bytes
+        ensures goes { ReadsRaw (told_standing self.old) (told_standing self.new) (result_err result) }
+        ensures read { OnOk result ((bytes : List ℕ) → (told_standing self.old).cell ≡ Some bytes
             → into.new ≡ range_of at (length into.old) bytes) }
         ensures unread { OnErr result (into.new ≡ into.old) }
         ensures failing { IsErr result ↔ (self.old.ahead ≡ 1) }
-        ensures after { self.new ≡ call_made self.old }
+        ensures after { self.new ≡ memory_after_call self.old }
     {
         if self.fails() {
             return Err(StepFault::Failed);
@@ -144,10 +144,10 @@ impl RawNv for MemRaw {
 
     fn raw_write(&mut self, at: u16, bytes: &[u8]) -> Result<(), StepFault>
         requires { at + length bytes.now ≤ 209 }
-        ensures goes { WritesRaw at bytes.now (told_by self.old) (told_by self.new)
+        ensures goes { WritesRaw at bytes.now (told_standing self.old) (told_standing self.new)
             (result_err result) }
         ensures failing { IsErr result ↔ (self.old.ahead ≡ 1) }
-        ensures after { self.new ≡ torn_after at bytes.now self.old }
+        ensures after { self.new ≡ memory_after_write at bytes.now self.old }
     {
         if self.fails() {
             self.put_leaves(at, bytes.len());
@@ -158,9 +158,9 @@ impl RawNv for MemRaw {
     }
 
     fn raw_cycle(&mut self) -> Result<(), StepFault>
-        ensures goes { Cycles (told_by self.old) (told_by self.new) (result_err result) }
+        ensures goes { PowerCycles (told_standing self.old) (told_standing self.new) (result_err result) }
         ensures failing { IsErr result ↔ (self.old.ahead ≡ 1) }
-        ensures failed { OnErr result (self.new ≡ cycle_called self.old) }
+        ensures failed { OnErr result (self.new ≡ memory_after_cycle self.old) }
         ensures ahead { self.new.ahead ≡ self.old.ahead - 1 }
         ensures leaves { self.new.leaves ≡ self.old.leaves }
     {
@@ -176,8 +176,8 @@ impl RawNv for MemRaw {
 
 impl Register for MemRaw {
     fn reg_ready(&mut self) -> Result<(), Memory>
-        ensures ok { OnOk result (Readies (told_by self.old) (told_by self.new)) }
-        ensures err { OnErr result (told_by self.new ≡ told_by self.old) }
+        ensures ok { OnOk result (RoomGrows (told_standing self.old) (told_standing self.new)) }
+        ensures err { OnErr result (told_standing self.new ≡ told_standing self.old) }
         ensures ahead { self.new.ahead ≡ self.old.ahead }
         ensures leaves { self.new.leaves ≡ self.old.leaves }
     {
@@ -186,9 +186,9 @@ impl Register for MemRaw {
 
     #[tactic(auto, using(crate::proofs::Steadying::read_steps))]
     fn reg_read(&mut self) -> Result<Digest, StepFault>
-        ensures goes { Goes ReadRegister (told_by self.old) (told_by self.new) (result_err result) }
+        ensures goes { StepGoes ReadRegister (told_standing self.old) (told_standing self.new) (result_err result) }
         ensures read { IfOk result (λ value. (items : List Item)
-            → (told_by self.new).items ≡ Some items
+            → (told_standing self.new).items ≡ Some items
             → value.bytes ≡ register_after (item_values items)) }
         ensures done { IsOk result }
         ensures steps { StepsRegister ReadRegister self.old self.new }
@@ -198,7 +198,7 @@ impl Register for MemRaw {
 
     #[tactic(auto, using(crate::proofs::Steadying::reset_steps))]
     fn reg_reset(&mut self) -> Result<(), StepFault>
-        ensures goes { Goes ResetRegister (told_by self.old) (told_by self.new)
+        ensures goes { StepGoes ResetRegister (told_standing self.old) (told_standing self.new)
             (result_err result) }
         ensures done { IsOk result }
         ensures steps { StepsRegister ResetRegister self.old self.new }
@@ -208,8 +208,8 @@ impl Register for MemRaw {
 
     #[tactic(auto, using(crate::proofs::Steadying::extend_steps))]
     fn reg_extend(&mut self, value: &Digest) -> Result<(), StepFault>
-        requires { 1 ≤ (told_by self.old).spare }
-        ensures goes { Goes (ExtendRegister value.now.bytes) (told_by self.old) (told_by self.new)
+        requires { 1 ≤ (told_standing self.old).spare }
+        ensures goes { StepGoes (ExtendRegister value.now.bytes) (told_standing self.old) (told_standing self.new)
             (result_err result) }
         ensures done { IsOk result }
         ensures steps { StepsRegister (ExtendRegister value.now.bytes) self.old self.new }

@@ -4,7 +4,7 @@ use mm_base::read_decimal;
 
 /// A word, and the numbers behind it, 0 where there is none.
 #[derive(Drop)]
-pub struct Asked<'a> {
+pub struct WatchCommand<'a> {
     pub word: &'a str,
     pub first: u16,
     pub second: u16,
@@ -12,11 +12,11 @@ pub struct Asked<'a> {
 }
 
 /// What this line asks.
-pub fn read_line(line: &str) -> Asked<'_> {
+pub fn read_line(line: &str) -> WatchCommand<'_> {
     let (word, rest) = front_of(line);
     let (first, rest) = front_of(rest);
     let (second, third) = front_of(rest);
-    Asked {
+    WatchCommand {
         word,
         first: number(first),
         second: number(second),

@@ -12,7 +12,7 @@ mod watched;
 use crate::memory::remember_over;
 use crate::mount::Mount;
 use crate::slots::keep_over;
-use crate::watched::Watched;
+use crate::watched::WatchedFolder;
 use std::io;
 
 // Plays the calls of one part.
@@ -37,7 +37,7 @@ fn play_parts(mount: &Mount<'_>, text: &str) -> io::Result<()> {
 
 fn main(rt: HostRuntime) -> io::Result<()> {
     let text = io::read_to_string(rt.alloc(), rt.reader())?;
-    let watched = Watched::new(&rt)?;
+    let watched = WatchedFolder::new(&rt)?;
     play_parts(&Mount(&watched), text.as_str())?;
     watched.end()
 }

@@ -4,7 +4,7 @@
 //! `register N` and `register.new N`, put another `nv` of N in its place by `swap N`, another `register` by `turn N`, and
 //! in the place of `nv` a device by `device`, and nothing by `remove`.
 
-use crate::line::{Asked, byte_in, done, read_line};
+use crate::line::{WatchCommand, byte_in, done, read_line};
 use crate::mount::Mount;
 use mm_digest::Digest;
 use mm_files::FilePlatform;
@@ -34,7 +34,7 @@ fn remember_lines<P: RawNv + Register>(
 fn answer<P: RawNv + Register>(
     mount: &Mount<'_>,
     platform: &mut P,
-    asked: &Asked<'_>,
+    asked: &WatchCommand<'_>,
 ) -> Option<u64> {
     match asked.word {
         "cell" | "pick" | "byte" => on_memory(platform, asked),
@@ -44,7 +44,7 @@ fn answer<P: RawNv + Register>(
 }
 
 // A call on the memory.
-fn on_memory<P: RawNv>(platform: &mut P, asked: &Asked<'_>) -> Option<u64> {
+fn on_memory<P: RawNv>(platform: &mut P, asked: &WatchCommand<'_>) -> Option<u64> {
     match asked.word {
         "cell" => done(platform.raw_write(asked.first.min(105), &[7; 104])),
         "pick" => done(platform.raw_write(208, &[1])),
@@ -61,7 +61,7 @@ fn byte_of<P: RawNv>(platform: &mut P, at: u16) -> Option<u64> {
 }
 
 // A call on the register.
-fn on_register<P: RawNv + Register>(platform: &mut P, asked: &Asked<'_>) -> Option<u64> {
+fn on_register<P: RawNv + Register>(platform: &mut P, asked: &WatchCommand<'_>) -> Option<u64> {
     match asked.word {
         "extend" => extend(platform, asked.first),
         "reset" => done(platform.reg_reset()),
@@ -86,7 +86,7 @@ fn shown<P: Register>(platform: &mut P, at: u16) -> Option<u64> {
 }
 
 // What is done beside the platform.
-fn meddle(mount: &Mount<'_>, asked: &Asked<'_>) -> Option<u64> {
+fn meddle(mount: &Mount<'_>, asked: &WatchCommand<'_>) -> Option<u64> {
     match asked.word {
         "swap" => done(mount.0.swap("nv", asked.first)),
         "turn" => done(mount.0.swap("register", asked.first)),

@@ -1,6 +1,6 @@
 //! The file system that the adapters see: the system's below a folder, watched.
 
-use crate::watched::Watched;
+use crate::watched::WatchedFolder;
 use mm_files::Lock;
 use std::alloc::Allocator;
 use std::fs::{File, Metadata, OpenFile, OpenOptions};
@@ -11,7 +11,7 @@ use std::rt::Files;
 
 /// The file system that the adapters see.
 #[derive(Clone, Copy)]
-pub struct Mount<'a>(pub &'a Watched<'a>);
+pub struct Mount<'a>(pub &'a WatchedFolder<'a>);
 
 impl<'a> Files for Mount<'a> {
     type File = WatchedFile<'a>;
@@ -97,7 +97,7 @@ fn name_of(path: &str) -> &'static str {
 pub struct WatchedFile<'a> {
     file: File,
     name: &'static str,
-    watched: &'a Watched<'a>,
+    watched: &'a WatchedFolder<'a>,
 }
 
 impl Read for WatchedFile<'_> {

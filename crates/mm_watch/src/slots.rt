@@ -5,7 +5,7 @@
 //! a file of N bytes; and by `same S T` and `second S T` a link to a file, and that file by another name: slot T below 4,
 //! `nv` for 4, `register` for 5, `register.new` for 6.
 
-use crate::line::{Asked, byte_in, done, read_line};
+use crate::line::{WatchCommand, byte_in, done, read_line};
 use crate::mount::Mount;
 use mm_base::{Failed, Memory};
 use mm_files::FilePages;
@@ -32,7 +32,7 @@ fn keep_lines<D: PageDevice>(mount: &Mount<'_>, pages: &mut D, lines: &str) -> i
 }
 
 // Does what a line asks.
-fn answer<D: PageDevice>(mount: &Mount<'_>, pages: &mut D, asked: &Asked<'_>) -> Option<u64> {
+fn answer<D: PageDevice>(mount: &Mount<'_>, pages: &mut D, asked: &WatchCommand<'_>) -> Option<u64> {
     match asked.word {
         "page" | "byte" => on_page(pages, asked),
         "length" | "set" | "sync" => on_slot(pages, asked),
@@ -41,7 +41,7 @@ fn answer<D: PageDevice>(mount: &Mount<'_>, pages: &mut D, asked: &Asked<'_>) ->
 }
 
 // A call on a page.
-fn on_page<D: PageDevice>(pages: &mut D, asked: &Asked<'_>) -> Option<u64> {
+fn on_page<D: PageDevice>(pages: &mut D, asked: &WatchCommand<'_>) -> Option<u64> {
     let slot = asked.first.min(3) as u8;
     let page = asked.second.min(4296);
     if asked.word == "page" {
@@ -63,7 +63,7 @@ fn page_of(count: u16) -> [u8; 256] {
 }
 
 // A call on a whole slot.
-fn on_slot<D: PageDevice>(pages: &mut D, asked: &Asked<'_>) -> Option<u64> {
+fn on_slot<D: PageDevice>(pages: &mut D, asked: &WatchCommand<'_>) -> Option<u64> {
     let slot = asked.first.min(3) as u8;
     match asked.word {
         "set" => done(pages.set_length(slot, u32::from(asked.second))),
@@ -72,7 +72,7 @@ fn on_slot<D: PageDevice>(pages: &mut D, asked: &Asked<'_>) -> Option<u64> {
     }
 }
 
-fn length_of<D: PageDevice>(pages: &mut D, asked: &Asked<'_>) -> Option<u64> {
+fn length_of<D: PageDevice>(pages: &mut D, asked: &WatchCommand<'_>) -> Option<u64> {
     match pages.length(asked.first.min(3) as u8) {
         Ok(length) => Some(u64::from(length)),
         Err(Failed) => None,
@@ -80,7 +80,7 @@ fn length_of<D: PageDevice>(pages: &mut D, asked: &Asked<'_>) -> Option<u64> {
 }
 
 // What others do.
-fn meddle(mount: &Mount<'_>, asked: &Asked<'_>) -> Option<u64> {
+fn meddle(mount: &Mount<'_>, asked: &WatchCommand<'_>) -> Option<u64> {
     let name = name_of(asked.first);
     match asked.word {
         "fill" => done(mount.0.put(name, asked.second)),
@@ -93,7 +93,7 @@ fn meddle(mount: &Mount<'_>, asked: &Asked<'_>) -> Option<u64> {
 }
 
 // What others do by links.
-fn link(mount: &Mount<'_>, asked: &Asked<'_>) -> Option<u64> {
+fn link(mount: &Mount<'_>, asked: &WatchCommand<'_>) -> Option<u64> {
     let name = name_of(asked.first);
     match asked.word {
         "link" => done(mount.0.put_link(name, name_behind(asked.first))),

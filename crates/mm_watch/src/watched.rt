@@ -12,15 +12,15 @@ use std::rt::Files;
 /// A folder below `/tmp`, with a folder `other` in it. Each call on its files is written as it comes, and the one with a given
 /// number fails.
 #[derive(Drop)]
-pub struct Watched<'r> {
+pub struct WatchedFolder<'r> {
     rt: &'r HostRuntime,
     id: u32,
     failing: Cell<u16>,
 }
 
-impl<'r> Watched<'r> {
-    pub fn new(rt: &'r HostRuntime) -> io::Result<Watched<'r>> {
-        let watched = Watched {
+impl<'r> WatchedFolder<'r> {
+    pub fn new(rt: &'r HostRuntime) -> io::Result<WatchedFolder<'r>> {
+        let watched = WatchedFolder {
             rt,
             id: process::id(rt.process()),
             failing: Cell::new(0),

@@ -20,7 +20,7 @@ pub use Rattle.mm_base.specs.Limits.{most_events}
 pub use Rattle.mm_digest.specs.declared.variant.Variant.{Variant}
 pub use Rattle.mm_digest.specs.declared.variant.Variant.TheVariants.{Basic, Opt}
 pub use Rattle.mm_module.specs.Values.{value_at}
-pub use Rattle.mm_modules.specs.Modules.{any_is_found, any_is_listed, module_named, name_of}
+pub use Rattle.mm_modules.specs.Modules.{any_is_found, any_is_listed, module_of_name, name_of}
 pub use Rattle.mm_modules.specs.declared.any.AnyModule.{AnyModule}
 pub use Rattle.mm_schedule.specs.Headers.{variant_text}
 pub use Rattle.mm_schedule.specs.HeadersWords.{variant_at}
@@ -28,7 +28,7 @@ pub use Rattle.mm_schedule.specs.declared.header.Header.{Header}
 pub use Rattle.mm_words.specs.App.{generating_app, header_app, key_app, the_app, with_host_forms}
 pub use Rattle.mm_words.specs.Commands.{AreReceiptsWords, AreWordsOf, generated_words, header_words, IsGenerated, SpellsCommand}
 pub use Rattle.mm_words.specs.Forms.{is_refused, IsMatched}
-pub use Rattle.mm_words.specs.declared.command.Command.{Command}
-pub use Rattle.mm_words.specs.declared.command.Command.TheVariants.{Bulk, Check, Checkpoint, Gen, Help, Init, Power, Receipts, Replay, Run}
-pub use Rattle.mm_words.specs.declared.command.Command.TheVariants.{Slots, Transfer}
-pub use Rattle.mm_words.specs.declared.command.Generated.{Generated}
+pub use Rattle.mm_words.specs.declared.command.CommandLine.{CommandLine}
+pub use Rattle.mm_words.specs.declared.command.CommandLine.TheVariants.{Bulk, Check, Checkpoint, Gen, Help, Init, Power, Receipts, Replay, Run}
+pub use Rattle.mm_words.specs.declared.command.CommandLine.TheVariants.{Slots, Transfer}
+pub use Rattle.mm_words.specs.declared.command.GeneratedSchedule.{GeneratedSchedule}

@@ -3,8 +3,8 @@ use Rattle.mm_words.proofs.Below.{◌≡◌, ◌∙◌, ◌<◌, ◌≤◌, ◌^
 use Rattle.mm_words.proofs.Below.{None, Result, Ok, Err, ◌==◌, decimal, AllPass, list_any, all_ascii_digits, bytes_eq, nat_tests}
 use Rattle.mm_words.proofs.Below.{decode_of-ok, decode_sized-ok, decode_sized-twice, Variant, Basic, Opt, AnyModule, name_of, any_is_listed}
 use Rattle.mm_words.proofs.Below.{variant_text, Header, IsGenerated, SpellsCommand, generated_words, header_words, IsMatched, is_refused}
-use Rattle.mm_words.proofs.Below.{Command, Init, Gen, Bulk, Receipts, Help}
-use Rattle.mm_words.proofs.Below.{Generated}
+use Rattle.mm_words.proofs.Below.{CommandLine, Init, Gen, Bulk, Receipts, Help}
+use Rattle.mm_words.proofs.Below.{GeneratedSchedule}
 use Rattle.std.specs.Char.{is_ascii_digit}
 use Rattle.std.specs.Result.{result_ok}
 use Rattle.std.proofs.lemmas.Bool.{or_parts}
@@ -83,7 +83,7 @@ pub record AreKept (words : List (List ℕ)) : Type 0 where
   pub few : length words ≤ 5
   pub kept : list_any is_refused words ≡ false
 
-generated_kept : (word : List ℕ) (it : Generated) → is_refused word ≡ false → IsGenerated it → AreKept (word ∷ generated_words it)
+generated_kept : (word : List ℕ) (it : GeneratedSchedule) → is_refused word ≡ false → IsGenerated it → AreKept (word ∷ generated_words it)
 generated_kept word it first allowed = record {
   few = omega arith;
   kept = rw (
@@ -101,7 +101,7 @@ header_kept header = record { few = omega arith; kept = rw (variant_kept header.
 receipts_kept : (digits key : List ℕ) → value_at digits ≡ Some key → AreKept (codes "receipts" ∷ digits ∷ [])
 receipts_kept digits key gives = record { few = omega arith; kept = rw (key_kept digits key gives) refl }
 
-pub are_kept : (command : Command) (words : List (List ℕ)) → SpellsCommand command words → IsMatched command → AreKept words
+pub are_kept : (command : CommandLine) (words : List (List ℕ)) → SpellsCommand command words → IsMatched command → AreKept words
 are_kept (Init header) words spells matched = rw spells.spelled (header_kept header)
 are_kept (Gen it) words spells matched = rw spells.spelled (generated_kept (codes "gen") it refl spells.allowed)
 are_kept (Bulk it) words spells matched = rw spells.spelled (generated_kept (codes "bulk") it refl spells.allowed)

@@ -1,13 +1,13 @@
 -- The words of a command are taken, and what is matched is the command's.
 use Rattle.mm_words.proofs.Below.{◌≡◌, ◌≤◌, ◌∙◌, ℕ, true, false, List, [], ◌∷◌, refl, sym, ap, arith, codes, Option, Some, nat_lt}
 use Rattle.mm_words.proofs.Below.{option_map, decimal, option_map_or, nat_tests, subcommand_of, takes, Text, first_of, rows_of}
-use Rattle.mm_words.proofs.Below.{first_value-rows, read_by_spelling, most_events, Variant, Basic, Opt, value_at, AnyModule, module_named}
+use Rattle.mm_words.proofs.Below.{first_value-rows, read_by_spelling, most_events, Variant, Basic, Opt, value_at, AnyModule, module_of_name}
 use Rattle.mm_words.proofs.Below.{name_of, any_is_found, variant_text, variant_at, Header, the_app, IsGenerated, SpellsCommand}
-use Rattle.mm_words.proofs.Below.{generated_words, header_words, IsMatched, Command, Init, Gen, Bulk}
-use Rattle.mm_words.proofs.Below.{Receipts, Help, Generated}
+use Rattle.mm_words.proofs.Below.{generated_words, header_words, IsMatched, CommandLine, Init, Gen, Bulk}
+use Rattle.mm_words.proofs.Below.{Receipts, Help, GeneratedSchedule}
 use Rattle.clap.specs.declared.parser.matches.Found.{Found}
 use Rattle.clap.proofs.OnLiterals.{clap_on_literals}
-use Rattle.mm_words.specs.Forms.{command_in, generated_in, header_in, key_found}
+use Rattle.mm_words.specs.Forms.{command_in, schedule_in, header_in, key_of_words}
 use Rattle.mm_words.proofs.Kept.{key_kept, name_kept, number_kept, plain_word, variant_kept}
 use Rattle.mm_words.proofs.Taken.{AreGeneratedTaken, Given, IsTaken, alone, generated_taken, generating, given_in, init_taken, receipts_taken, with_header, with_key}
 
@@ -15,7 +15,7 @@ pub variant-read : (variant : Variant) → variant_at (variant_text variant) ≡
 variant-read Basic = refl
 variant-read Opt = refl
 
-pub name-read : (it : AnyModule) → module_named (name_of it) ≡ Some it
+pub name-read : (it : AnyModule) → module_of_name (name_of it) ≡ Some it
 name-read it = (any_is_found it).by_name
 
 -- what was given, as the rows of what was found have it
@@ -35,11 +35,11 @@ header_again header found variant named =
     ) refl
 
 -- the words of a generated schedule, read
-given_generated : (name : List ℕ) (it : Generated) (given_name : Text) (found : Found) → IsGenerated it
+given_generated : (name : List ℕ) (it : GeneratedSchedule) (given_name : Text) (found : Found) → IsGenerated it
     → given_by given_name found ≡ generating name (decimal it.number) (decimal it.count) (variant_text it.header.variant)
     (name_of it.header.module)
-    → (given_name ≡ name) × (generated_in found ≡ Some it)
-unfolding generated_in
+    → (given_name ≡ name) × (schedule_in found ≡ Some it)
+unfolding schedule_in
 given_generated name it given_name found allowed is =
     let few : it.count ≤ most_events = allowed.count in
     let test : nat_lt most_events it.count ≡ false = grind (arith, nat_tests) in (
@@ -56,12 +56,12 @@ given_generated name it given_name found allowed is =
 
 -- a key, read
 given_key : (digits key : List ℕ) (it : Text) (found : Found) → value_at digits ≡ Some key
-    → given_by it found ≡ with_key (codes "receipts") digits → key_found found ≡ Some key
-unfolding key_found
+    → given_by it found ≡ with_key (codes "receipts") digits → key_of_words found ≡ Some key
+unfolding key_of_words
 given_key digits key it found gives is = rw (first_value-rows found (codes "KEY") ∙ ap (λ (g : Given). g.key) is, gives) refl
 
 -- the words are taken, and what is given is the command
-pub record Brings (command : Command) (words : List (List ℕ)) : Type 0 where
+pub record Brings (command : CommandLine) (words : List (List ℕ)) : Type 0 where
   pub given : Given
   pub is : IsTaken words given
   pub matched : (name : Text) (found : Found) → given_by name found ≡ given → command_in name found ≡ Some command
@@ -81,7 +81,7 @@ init_brings header =
     }
 
 -- a command of one word
-alone_brings : (command : Command) (name : Text) → IsTaken (name ∷ []) (alone name)
+alone_brings : (command : CommandLine) (name : Text) → IsTaken (name ∷ []) (alone name)
     → ((found : Found) → command_in name found ≡ Some command)
     → Brings command (name ∷ [])
 alone_brings command name taken is = record {
@@ -91,10 +91,10 @@ alone_brings command name taken is = record {
 }
 
 -- a command on a schedule that is made from a number
-generated_brings : (command : Command) (name : Text) (it : Generated) → IsGenerated it
+generated_brings : (command : CommandLine) (name : Text) (it : GeneratedSchedule) → IsGenerated it
     → IsTaken (name ∷ generated_words it)
     (generating name (decimal it.number) (decimal it.count) (variant_text it.header.variant) (name_of it.header.module))
-    → ((found : Found) → generated_in found ≡ Some it → command_in name found ≡ Some command)
+    → ((found : Found) → schedule_in found ≡ Some it → command_in name found ≡ Some command)
     → Brings command (name ∷ generated_words it)
 generated_brings command name it allowed taken is = record {
   given = generating name (decimal it.number) (decimal it.count) (variant_text it.header.variant) (name_of it.header.module);
@@ -104,7 +104,7 @@ generated_brings command name it allowed taken is = record {
       ap (λ (n : Text). command_in n found) read.0 ∙ is found read.1;
 }
 
-both_taken : (it : Generated) → IsGenerated it
+both_taken : (it : GeneratedSchedule) → IsGenerated it
     → AreGeneratedTaken (decimal it.number) (decimal it.count) (variant_text it.header.variant) (name_of it.header.module) (codes "gen")
     × AreGeneratedTaken (decimal it.number) (decimal it.count) (variant_text it.header.variant) (name_of it.header.module) (codes "bulk")
 both_taken it allowed =
@@ -120,7 +120,7 @@ receipts_brings digits key gives = record {
   matched = λ name found same. rw (ap (λ (g : Given). g.name) same, given_key digits key name found gives same) refl;
 }
 
-pub brings : (command : Command) (words : List (List ℕ)) → SpellsCommand command words → IsMatched command → Brings command words
+pub brings : (command : CommandLine) (words : List (List ℕ)) → SpellsCommand command words → IsMatched command → Brings command words
 unfolding command_in clap_on_literals
 brings (Init header) words spells matched = rw spells.spelled (init_brings header)
 brings (Gen it) words spells matched =
@@ -134,14 +134,14 @@ brings (Receipts key) words spells matched =
 brings Help words spells matched = absurd matched
 brings command words spells matched = rw spells.spelled (alone_brings command _ (refl, refl) (λ found. refl))
 
-pub is_taken : (command : Command) (words : List (List ℕ)) → SpellsCommand command words → IsMatched command → takes the_app words ≡ true
+pub is_taken : (command : CommandLine) (words : List (List ℕ)) → SpellsCommand command words → IsMatched command → takes the_app words ≡ true
 is_taken command words spells matched = (brings command words spells matched).is.0
 
 same_given : (one other : Given) → Some one ≡ Some other → one ≡ other
 same_given one other is = ap (λ (o : Option Given). option_map_or (λ (g : Given). g) o one) is
 
 -- what is matched of a command's words is the command
-pub is_matched : (command : Command) (words : List (List ℕ)) (name : Text) (found : Found) → SpellsCommand command words → IsMatched command
+pub is_matched : (command : CommandLine) (words : List (List ℕ)) (name : Text) (found : Found) → SpellsCommand command words → IsMatched command
     → subcommand_of the_app words ≡ Some (name, rows_of found) → command_in name found ≡ Some command
 is_matched command words name found spells matched is =
     let it = brings command words spells matched in

@@ -1,21 +1,21 @@
 -- Words spell one command.
 use Rattle.mm_words.proofs.Below.{◌≡◌, ◌≤◌, ◌∙◌, ℕ, List, [], ◌∷◌, refl, sym, ap, arith, codes, Option, Some, None, if◌then◌else◌, decimal}
-use Rattle.mm_words.proofs.Below.{option_map_or, bytes_eq, read_by_spelling, most_events, value_at, module_named, name_of, variant_text}
-use Rattle.mm_words.proofs.Below.{variant_at, Header, IsGenerated, SpellsCommand, Command, Init, Run, Checkpoint, Power, Replay, Check, Gen}
-use Rattle.mm_words.proofs.Below.{Bulk, Slots, Receipts, Transfer, Help, Generated}
+use Rattle.mm_words.proofs.Below.{option_map_or, bytes_eq, read_by_spelling, most_events, value_at, module_of_name, name_of, variant_text}
+use Rattle.mm_words.proofs.Below.{variant_at, Header, IsGenerated, SpellsCommand, CommandLine, Init, Run, Checkpoint, Power, Replay, Check, Gen}
+use Rattle.mm_words.proofs.Below.{Bulk, Slots, Receipts, Transfer, Help, GeneratedSchedule}
 use Rattle.mm_base.specs.Decimals.{decimal_number}
 use Rattle.mm_schedule.specs.Words.{◌>>=◌}
 use Rattle.mm_words.proofs.Matched.{name-read, variant-read}
 
 abbrev header_by : List ℕ → List ℕ → Option Header
-header_by v m = variant_at v >>= λ variant. module_named m >>= λ module_read. Some (record { variant = variant; «module» = module_read })
+header_by v m = variant_at v >>= λ variant. module_of_name m >>= λ module_read. Some (record { variant = variant; «module» = module_read })
 
-abbrev generated_by : List ℕ → List ℕ → List ℕ → List ℕ → Option Generated
+abbrev generated_by : List ℕ → List ℕ → List ℕ → List ℕ → Option GeneratedSchedule
 generated_by n c v m =
     decimal_number n >>= λ number. decimal_number c >>= λ count. header_by v m >>= λ header.
     Some (record { number = number; count = count; header = header })
 
-abbrev alone_by : List ℕ → Command
+abbrev alone_by : List ℕ → CommandLine
 alone_by word =
     if bytes_eq word (codes "run") then Run
     else if bytes_eq word (codes "checkpoint") then Checkpoint
@@ -27,7 +27,7 @@ alone_by word =
     else Help
 
 -- the command of words that spell one
-abbrev command_by : List (List ℕ) → Option Command
+abbrev command_by : List (List ℕ) → Option CommandLine
 command_by [] = None
 command_by (w ∷ []) = Some (alone_by w)
 command_by (w ∷ k ∷ []) = value_at k >>= λ key. Some (Receipts key)
@@ -39,7 +39,7 @@ command_by (w ∷ n ∷ c ∷ v ∷ m ∷ rest) =
 header-again : (header : Header) → header_by (variant_text header.variant) (name_of header.module) ≡ Some header
 header-again header = rw (variant-read header.variant, name-read header.module) refl
 
-generated-again : (it : Generated) → IsGenerated it
+generated-again : (it : GeneratedSchedule) → IsGenerated it
     → generated_by (decimal it.number) (decimal it.count) (variant_text it.header.variant) (name_of it.header.module) ≡ Some it
 generated-again it allowed =
     let few : it.count ≤ most_events = allowed.count in
@@ -49,15 +49,15 @@ generated-again it allowed =
       header-again it.header,
     ) refl
 
-command-again : (command : Command) (words : List (List ℕ)) → SpellsCommand command words → command_by words ≡ Some command
+command-again : (command : CommandLine) (words : List (List ℕ)) → SpellsCommand command words → command_by words ≡ Some command
 command-again (Init header) words spells = ap command_by spells.spelled ∙ rw (header-again header) refl
 command-again (Gen it) words spells = ap command_by spells.spelled ∙ rw (generated-again it spells.allowed) refl
 command-again (Bulk it) words spells = ap command_by spells.spelled ∙ rw (generated-again it spells.allowed) refl
 command-again (Receipts key) words spells = let given = spells.spelled in ap command_by given.2 ∙ rw given.1 refl
 command-again command words spells = ap command_by spells.spelled
 
-pub one_command : (words : List (List ℕ)) (command other : Command) → SpellsCommand command words → SpellsCommand other words
+pub one_command : (words : List (List ℕ)) (command other : CommandLine) → SpellsCommand command words → SpellsCommand other words
     → command ≡ other
 one_command words command other one two =
-    ap (λ (o : Option Command). option_map_or (λ (it : Command). it) o command)
+    ap (λ (o : Option CommandLine). option_map_or (λ (it : CommandLine). it) o command)
     (sym (command-again command words one) ∙ command-again other words two)

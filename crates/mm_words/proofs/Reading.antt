@@ -2,7 +2,7 @@
 use Rattle.mm_words.proofs.Below.{◌≡◌, ◌<◌, ◌≤◌, ◌∙◌, ℕ, Bool, true, false, List, [], ◌∷◌, length, get_or, refl, sym, ap, subst, arith}
 use Rattle.mm_words.proofs.Below.{codes, Option, Some, None, IsTrue, ◌↔◌, option_map, map, ◌||◌, Bor, list_any, option_map_or, bytes_eq}
 use Rattle.mm_words.proofs.Below.{bytes_eq-Decides, Row, Text, value_at, AreReceiptsWords, AreWordsOf, SpellsCommand, IsMatched, is_refused}
-use Rattle.mm_words.proofs.Below.{Command, Help}
+use Rattle.mm_words.proofs.Below.{CommandLine, Help}
 use Rattle.std.specs.Cmp.Lexicographic.{pointwise, pointwise_decides}
 use Rattle.std.proofs.lemmas.List.{length-map}
 use Rattle.mm_words.proofs.Kept.{are_kept}
@@ -19,9 +19,9 @@ tells_words result words others is = (
 )
 
 -- the same, of a command that is another's equal
-pub tells_command : {P : Type 0} (command other : Command) (words : List (List ℕ)) → command ≡ other → P ↔ AreWordsOf other words
+pub tells_command : {P : Type 0} (command other : CommandLine) (words : List (List ℕ)) → command ≡ other → P ↔ AreWordsOf other words
     → P ↔ AreWordsOf command words
-tells_command {P} command other words same is = let Q : Command → Type 0 = λ it. P ↔ AreWordsOf it words in subst Q (sym same) is
+tells_command {P} command other words same is = let Q : CommandLine → Type 0 = λ it. P ↔ AreWordsOf it words in subst Q (sym same) is
 
 digits_in : List (List ℕ) → List ℕ
 digits_in [] = []
@@ -54,13 +54,13 @@ other_words words others is same =
     let clash : false ≡ true = sym is ∙ (pointwise_decides bytes_eq-Decides words others).1 same in cc
 
 -- where `--help` doesn't stand alone the command has a subcommand
-pub no_help : (words : List (List ℕ)) (command : Command) → SpellsCommand command words
+pub no_help : (words : List (List ℕ)) (command : CommandLine) → SpellsCommand command words
     → pointwise bytes_eq words (codes "--help" ∷ []) ≡ false → IsMatched command
 no_help words Help spells is = other_words words (codes "--help" ∷ []) is spells.spelled
 no_help words command spells is = tt
 
 -- words that are refused spell none
-pub too_many : (words : List (Bor (List ℕ))) (command : Command) → SpellsCommand command (map (λ (word : Bor (List ℕ)). word.now) words)
+pub too_many : (words : List (Bor (List ℕ))) (command : CommandLine) → SpellsCommand command (map (λ (word : Bor (List ℕ)). word.now) words)
     → IsMatched command → 5 < length words → ⊥
 too_many words command spells matched many =
     let texts : List (List ℕ) = map (λ (word : Bor (List ℕ)). word.now) words in
@@ -68,7 +68,7 @@ too_many words command spells matched many =
     let same : length texts ≡ length words = length-map words (λ (word : Bor (List ℕ)). word.now) in
     absurd (omega arith)
 
-pub one_refused : (words : List (List ℕ)) (command : Command) → SpellsCommand command words → IsMatched command
+pub one_refused : (words : List (List ℕ)) (command : CommandLine) → SpellsCommand command words → IsMatched command
     → list_any is_refused words ≡ true → ⊥
 one_refused words command spells matched is =
     let clash : true ≡ false = sym is ∙ (are_kept command words spells matched).kept in cc
@@ -92,8 +92,8 @@ both_of name_in rows_in (Some b) name rows one two =
     let second : rows_in b ≡ rows = ap (λ (o : Option (List Row)). option_map_or (λ (r : List Row). r) o []) two in
     rw (first, second) refl
 
-pub same_some : (one other : Command) → Some one ≡ Some other → one ≡ other
-same_some one other is = ap (λ (o : Option Command). option_map_or (λ (it : Command). it) o one) is
+pub same_some : (one other : CommandLine) → Some one ≡ Some other → one ≡ other
+same_some one other is = ap (λ (o : Option CommandLine). option_map_or (λ (it : CommandLine). it) o one) is
 
-pub none_some : (it : Command) → None ≡ Some it → ⊥
+pub none_some : (it : CommandLine) → None ≡ Some it → ⊥
 none_some it is = cc

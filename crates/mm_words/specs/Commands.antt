@@ -1,22 +1,22 @@
 -- The commands and the words that spell them.
 use Rattle.std.specs.Prelude.{◌≡◌, ◌<◌, ◌≤◌, ◌^◌, ℕ, List, [], ◌∷◌, ◌++◌, Some, codes}
 use Rattle.std.specs.Fmt.{decimal}
-use Rattle.mm_base.specs.Input.{lines_joined}
+use Rattle.mm_base.specs.Input.{joined_lines}
 use Rattle.mm_base.specs.Limits.{most_events}
 use Rattle.mm_module.specs.Values.{value_at}
 use Rattle.mm_modules.specs.Modules.{name_of, names_text}
 use Rattle.mm_schedule.specs.Headers.{variant_text}
 use Rattle.mm_schedule.specs.declared.header.Header.{Header}
-use Rattle.mm_words.specs.declared.command.Command.{Command}
-use Rattle.mm_words.specs.declared.command.Command.TheVariants.{Init, Run, Checkpoint, Power, Replay, Check, Gen, Bulk, Slots, Receipts, Transfer, Help}
-use Rattle.mm_words.specs.declared.command.Generated.{Generated}
+use Rattle.mm_words.specs.declared.command.CommandLine.{CommandLine}
+use Rattle.mm_words.specs.declared.command.CommandLine.TheVariants.{Init, Run, Checkpoint, Power, Replay, Check, Gen, Bulk, Slots, Receipts, Transfer, Help}
+use Rattle.mm_words.specs.declared.command.GeneratedSchedule.{GeneratedSchedule}
 
 -- a variant and a module
 abbrev pub header_words : Header → List (List ℕ)
 header_words header = variant_text header.variant ∷ name_of header.module ∷ []
 
 -- a number, a count, a variant and a module
-abbrev pub generated_words : Generated → List (List ℕ)
+abbrev pub generated_words : GeneratedSchedule → List (List ℕ)
 generated_words it = decimal it.number ∷ decimal it.count ∷ header_words it.header
 
 -- `receipts`, and 64 hexadecimal digits of either case that give the key
@@ -25,7 +25,7 @@ AreReceiptsWords key words =
     (digits : List ℕ) × (value_at digits ≡ Some key) × (words ≡ codes "receipts" ∷ digits ∷ [])
 
 -- the words are the command's
-abbrev pub AreWordsOf : Command → List (List ℕ) → Type 0
+abbrev pub AreWordsOf : CommandLine → List (List ℕ) → Type 0
 AreWordsOf (Init header) words = words ≡ codes "init" ∷ header_words header
 AreWordsOf Run words = words ≡ codes "run" ∷ []
 AreWordsOf Checkpoint words = words ≡ codes "checkpoint" ∷ []
@@ -40,12 +40,12 @@ AreWordsOf Transfer words = words ≡ codes "transfer" ∷ []
 AreWordsOf Help words = words ≡ codes "--help" ∷ []
 
 -- a number of 64 bits, and at most 20,000 events
-pub record IsGenerated (it : Generated) : Type 0 where
+pub record IsGenerated (it : GeneratedSchedule) : Type 0 where
   pub number : it.number < 2 ^ 64
   pub count : it.count ≤ most_events
 
 -- the numbers of a command are within their bounds
-abbrev pub IsInBounds : Command → Type 0
+abbrev pub IsInBounds : CommandLine → Type 0
 IsInBounds (Init header) = Unit {0}
 IsInBounds Run = Unit {0}
 IsInBounds Checkpoint = Unit {0}
@@ -60,7 +60,7 @@ IsInBounds Transfer = Unit {0}
 IsInBounds Help = Unit {0}
 
 -- the words spell the command
-pub record SpellsCommand (command : Command) (words : List (List ℕ)) : Type 0 where
+pub record SpellsCommand (command : CommandLine) (words : List (List ℕ)) : Type 0 where
   pub allowed : IsInBounds command
   pub spelled : AreWordsOf command words
 

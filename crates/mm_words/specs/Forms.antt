@@ -6,13 +6,13 @@ use Rattle.clap.specs.declared.parser.matches.Found.{Found}
 use Rattle.mm_base.specs.Decimals.{decimal_number}
 use Rattle.mm_base.specs.Limits.{most_events}
 use Rattle.mm_module.specs.Values.{value_at}
-use Rattle.mm_modules.specs.Modules.{module_named}
+use Rattle.mm_modules.specs.Modules.{module_of_name}
 use Rattle.mm_schedule.specs.HeadersWords.{variant_at}
 use Rattle.mm_schedule.specs.Words.{◌>>=◌}
 use Rattle.mm_schedule.specs.declared.header.Header.{Header}
-use Rattle.mm_words.specs.declared.command.Command.{Command}
-use Rattle.mm_words.specs.declared.command.Command.TheVariants.{Init, Run, Checkpoint, Power, Replay, Check, Gen, Bulk, Slots, Receipts, Transfer, Help}
-use Rattle.mm_words.specs.declared.command.Generated.{Generated}
+use Rattle.mm_words.specs.declared.command.CommandLine.{CommandLine}
+use Rattle.mm_words.specs.declared.command.CommandLine.TheVariants.{Init, Run, Checkpoint, Power, Replay, Check, Gen, Bulk, Slots, Receipts, Transfer, Help}
+use Rattle.mm_words.specs.declared.command.GeneratedSchedule.{GeneratedSchedule}
 use Rattle.mm_words.specs.declared.fault.WordsFault.{WordsFault}
 use Rattle.mm_words.specs.declared.fault.WordsFault.TheVariants as fault
 
@@ -32,12 +32,12 @@ header_in found =
     first_value found (codes "VARIANT") >>= λ variant_word.
     first_value found (codes "MODULE") >>= λ module_word.
     variant_at variant_word >>= λ variant.
-    module_named module_word >>= λ module_read.
+    module_of_name module_word >>= λ module_read.
     Some (record { variant = variant; «module» = module_read })
 
 -- the four words of a generated schedule, each read as what it has to be
-unfoldable pub generated_in : Found → Option Generated
-generated_in found =
+unfoldable pub schedule_in : Found → Option GeneratedSchedule
+schedule_in found =
     first_value found (codes "NUMBER") >>= λ number_word.
     first_value found (codes "COUNT") >>= λ count_word.
     decimal_number number_word >>= λ number.
@@ -46,11 +46,11 @@ generated_in found =
     Some (record { number = number; count = count; header = header })
 
 -- the key of a word of 64 hexadecimal digits
-unfoldable pub key_found : Found → Option (List ℕ)
-key_found found = first_value found (codes "KEY") >>= value_at
+unfoldable pub key_of_words : Found → Option (List ℕ)
+key_of_words found = first_value found (codes "KEY") >>= value_at
 
 -- the command of a subcommand with this name, and what was matched behind it
-unfoldable pub command_in : List ℕ → Found → Option Command
+unfoldable pub command_in : List ℕ → Found → Option CommandLine
 command_in name found =
     if bytes_eq name (codes "init") then (header_in found >>= λ header. Some (Init header))
     else if bytes_eq name (codes "run") then Some Run
@@ -59,16 +59,16 @@ command_in name found =
     else if bytes_eq name (codes "replay") then Some Replay
     else if bytes_eq name (codes "check") then Some Check
     else if bytes_eq name (codes "gen")
-    then (generated_in found >>= λ generated. Some (Gen generated))
+    then (schedule_in found >>= λ generated. Some (Gen generated))
     else if bytes_eq name (codes "bulk")
-    then (generated_in found >>= λ generated. Some (Bulk generated))
+    then (schedule_in found >>= λ generated. Some (Bulk generated))
     else if bytes_eq name (codes "slots") then Some Slots
-    else if bytes_eq name (codes "receipts") then (key_found found >>= λ key. Some (Receipts key))
+    else if bytes_eq name (codes "receipts") then (key_of_words found >>= λ key. Some (Receipts key))
     else if bytes_eq name (codes "transfer") then Some Transfer
     else None
 
 -- the command has a subcommand
-abbrev pub IsMatched : Command → Type 0
+abbrev pub IsMatched : CommandLine → Type 0
 IsMatched (Init header) = Unit {0}
 IsMatched Run = Unit {0}
 IsMatched Checkpoint = Unit {0}
@@ -83,7 +83,7 @@ IsMatched Transfer = Unit {0}
 IsMatched Help = ⊥
 
 -- this command comes, or memory was wanting
-abbrev pub Gets : Command → Result Command WordsFault → Type 0
-Gets command (Ok it) = it ≡ command
-Gets command (Err fault.Memory) = Unit {0}
-Gets command (Err fault.Usage) = ⊥
+abbrev pub GetsCommand : CommandLine → Result CommandLine WordsFault → Type 0
+GetsCommand command (Ok it) = it ≡ command
+GetsCommand command (Err fault.Memory) = Unit {0}
+GetsCommand command (Err fault.Usage) = ⊥

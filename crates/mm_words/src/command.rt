@@ -14,7 +14,7 @@ use mm_schedule::{Header, variant_word};
 
 /// A schedule that is made from a number.
 #[derive(Clone, Copy, Debug, PartialEq, Eq)]
-pub struct Generated {
+pub struct GeneratedSchedule {
     pub number: u64,
     /// The number of event lines, at most 20,000.
     pub count: u32,
@@ -23,7 +23,7 @@ pub struct Generated {
 
 /// A command: what one form of words asks for.
 #[derive(Clone, Copy, Debug, PartialEq, Eq)]
-pub enum Command {
+pub enum CommandLine {
     /// `init VARIANT MODULE`
     Init(Header),
     /// `run`
@@ -37,9 +37,9 @@ pub enum Command {
     /// `check`
     Check,
     /// `gen NUMBER COUNT VARIANT MODULE`
-    Gen(Generated),
+    Gen(GeneratedSchedule),
     /// `bulk NUMBER COUNT VARIANT MODULE`
-    Bulk(Generated),
+    Bulk(GeneratedSchedule),
     /// `slots`
     Slots,
     /// `receipts KEY`, where KEY is 64 hexadecimal digits.
@@ -50,24 +50,24 @@ pub enum Command {
     Help,
 }
 
-impl Command {
+impl CommandLine {
     /// Whether these words spell the command.
     pub(crate) fn is_spelled(&self, words: &[&str]) -> bool
         ensures { IsTrue result ↔ AreWordsOf self.now (map (λ s. s.now) words.now) }
     {
         match self {
-            Command::Init(header) => are_header_words(words, "init", header),
-            Command::Run => is_alone(words, "run"),
-            Command::Checkpoint => is_alone(words, "checkpoint"),
-            Command::Power => is_alone(words, "power"),
-            Command::Replay => is_alone(words, "replay"),
-            Command::Check => is_alone(words, "check"),
-            Command::Gen(generated) => are_generated_words(words, "gen", generated),
-            Command::Bulk(generated) => are_generated_words(words, "bulk", generated),
-            Command::Slots => is_alone(words, "slots"),
-            Command::Receipts { key } => are_receipts_words(words, key),
-            Command::Transfer => is_alone(words, "transfer"),
-            Command::Help => is_alone(words, "--help"),
+            CommandLine::Init(header) => are_header_words(words, "init", header),
+            CommandLine::Run => is_alone(words, "run"),
+            CommandLine::Checkpoint => is_alone(words, "checkpoint"),
+            CommandLine::Power => is_alone(words, "power"),
+            CommandLine::Replay => is_alone(words, "replay"),
+            CommandLine::Check => is_alone(words, "check"),
+            CommandLine::Gen(generated) => are_generated_words(words, "gen", generated),
+            CommandLine::Bulk(generated) => are_generated_words(words, "bulk", generated),
+            CommandLine::Slots => is_alone(words, "slots"),
+            CommandLine::Receipts { key } => are_receipts_words(words, key),
+            CommandLine::Transfer => is_alone(words, "transfer"),
+            CommandLine::Help => is_alone(words, "--help"),
         }
     }
 }
@@ -96,7 +96,7 @@ fn are_header_words(words: &[&str], form: &str, header: &Header) -> bool
 }
 
 /// Whether the words are this one, and those of a generated schedule.
-fn are_generated_words(words: &[&str], form: &str, it: &Generated) -> bool
+fn are_generated_words(words: &[&str], form: &str, it: &GeneratedSchedule) -> bool
     ensures { result ≡ pointwise bytes_eq (map (λ s. s.now) words.now)
         (form.now ∷ generated_words it.now) }
 {

@@ -4,9 +4,9 @@ ghost use Rattle.std.specs.Prelude.{◌≡◌, ◌≤◌, IfSome};
 ghost use Rattle.clap.specs.Words.{found_of};
 ghost use Rattle.mm_base.specs.Limits.{most_events};
 ghost use Rattle.mm_words.specs.Commands.{IsInBounds, IsGenerated};
-ghost use Rattle.mm_words.specs.Forms.{command_in, count_at, generated_in, header_in, key_found};
+ghost use Rattle.mm_words.specs.Forms.{command_in, count_at, schedule_in, header_in, key_of_words};
 
-use crate::command::{Command, Generated};
+use crate::command::{CommandLine, GeneratedSchedule};
 use clap::ArgMatches;
 use mm_base::{MOST_EVENTS, read_decimal};
 use mm_module::value_in;
@@ -15,50 +15,50 @@ use mm_schedule::{Header, read_variant};
 
 /// The command of a subcommand with this name and these matches.
 #[tactic(auto, unfolding(crate::specs::Forms::command_in))]
-pub fn command_in(name: &str, matches: &ArgMatches<'_>) -> Option<Command>
+pub fn command_in(name: &str, matches: &ArgMatches<'_>) -> Option<CommandLine>
     ensures allowed { IfSome result IsInBounds }
     ensures matched { result ≡ command_in name.now (found_of matches.now) }
 {
     match name {
         "init" => {
             let header = header_in(matches)?;
-            Some(Command::Init(header))
+            Some(CommandLine::Init(header))
         }
-        "run" => Some(Command::Run),
-        "checkpoint" => Some(Command::Checkpoint),
-        "power" => Some(Command::Power),
-        "replay" => Some(Command::Replay),
-        "check" => Some(Command::Check),
+        "run" => Some(CommandLine::Run),
+        "checkpoint" => Some(CommandLine::Checkpoint),
+        "power" => Some(CommandLine::Power),
+        "replay" => Some(CommandLine::Replay),
+        "check" => Some(CommandLine::Check),
         "gen" => {
             let generated = generated_in(matches)?;
-            Some(Command::Gen(generated))
+            Some(CommandLine::Gen(generated))
         }
         "bulk" => {
             let generated = generated_in(matches)?;
-            Some(Command::Bulk(generated))
+            Some(CommandLine::Bulk(generated))
         }
-        "slots" => Some(Command::Slots),
+        "slots" => Some(CommandLine::Slots),
         "receipts" => {
             let key = key_in(matches)?;
-            Some(Command::Receipts { key })
+            Some(CommandLine::Receipts { key })
         }
-        "transfer" => Some(Command::Transfer),
+        "transfer" => Some(CommandLine::Transfer),
         _ => None,
     }
 }
 
 /// A generated schedule's words, None where one of them is not what it has to be.
-#[tactic(auto, unfolding(crate::specs::Forms::generated_in))]
-fn generated_in(matches: &ArgMatches<'_>) -> Option<Generated>
+#[tactic(auto, unfolding(crate::specs::Forms::schedule_in))]
+fn generated_in(matches: &ArgMatches<'_>) -> Option<GeneratedSchedule>
     ensures allowed { IfSome result IsGenerated }
-    ensures matched { result ≡ generated_in (found_of matches.now) }
+    ensures matched { result ≡ schedule_in (found_of matches.now) }
 {
     let number = matches.get_str("NUMBER")?;
     let count = matches.get_str("COUNT")?;
     let number = read_decimal(number.as_bytes())?;
     let count = read_count(count)?;
     let header = header_in(matches)?;
-    Some(Generated {
+    Some(GeneratedSchedule {
         number,
         count,
         header,
@@ -78,9 +78,9 @@ fn header_in(matches: &ArgMatches<'_>) -> Option<Header>
 }
 
 /// The key of a word, None where the word is not 64 hexadecimal digits.
-#[tactic(auto, unfolding(crate::specs::Forms::key_found))]
+#[tactic(auto, unfolding(crate::specs::Forms::key_of_words))]
 fn key_in(matches: &ArgMatches<'_>) -> Option<[u8; 32]>
-    ensures { result ≡ key_found (found_of matches.now) }
+    ensures { result ≡ key_of_words (found_of matches.now) }
 {
     let digits = matches.get_str("KEY")?;
     value_in(digits.as_bytes())

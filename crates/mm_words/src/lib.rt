@@ -8,7 +8,7 @@ mod form;
 mod help;
 mod read;
 
-pub use command::{Command, Generated};
+pub use command::{CommandLine, GeneratedSchedule};
 pub use fault::WordsFault;
 pub use help::help_text;
 pub use read::read_words;

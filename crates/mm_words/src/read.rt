@@ -4,12 +4,12 @@ ghost use Rattle.std.specs.Prelude.{◌≡◌, Err, IfOk, map};
 ghost use Rattle.std.specs.List.{list_any};
 ghost use Rattle.clap.specs.Words.{kind_of};
 ghost use Rattle.mm_words.specs.Commands.{IsInBounds, SpellsCommand};
-ghost use Rattle.mm_words.specs.Forms.{Gets, IsMatched, is_refused};
-ghost use Rattle.mm_words.specs.declared.command.Command.{Command as Told};
+ghost use Rattle.mm_words.specs.Forms.{GetsCommand, IsMatched, is_refused};
+ghost use Rattle.mm_words.specs.declared.command.CommandLine.{CommandLine as Told};
 ghost use Rattle.mm_words.specs.declared.fault.WordsFault.TheVariants as fault;
 
 use crate::app::command_line;
-use crate::command::{Command, is_alone};
+use crate::command::{CommandLine, is_alone};
 use crate::fault::WordsFault;
 use crate::form::command_in;
 use clap::Error;
@@ -21,7 +21,7 @@ const LONGEST: usize = 5;
 
 /// The command that these words spell, those after the program's name; words spell at most one. `Usage` comes exactly
 /// where they spell none, but for want of memory.
-pub fn read_words(alloc: Global, words: &[&str]) -> Result<Command, WordsFault>
+pub fn read_words(alloc: Global, words: &[&str]) -> Result<CommandLine, WordsFault>
     ensures ok { IfOk result (λ command. SpellsCommand command (map (λ s. s.now) words.now)) }
     ensures one { IfOk result (λ command. (other : Told)
         → SpellsCommand other (map (λ s. s.now) words.now) → other ≡ command) }
@@ -29,7 +29,7 @@ pub fn read_words(alloc: Global, words: &[&str]) -> Result<Command, WordsFault>
         → SpellsCommand command (map (λ s. s.now) words.now) → ⊥ }
 {
     if is_alone(words, "--help") {
-        return Ok(Command::Help);
+        return Ok(CommandLine::Help);
     }
     if words.len() > LONGEST || has_refused(words) {
         return Err(WordsFault::Usage);
@@ -55,10 +55,10 @@ fn is_refused(word: &str) -> bool
 }
 
 /// The command that `clap` finds in the words.
-fn parsed(alloc: Global, words: &[&str]) -> Result<Command, WordsFault>
+fn parsed(alloc: Global, words: &[&str]) -> Result<CommandLine, WordsFault>
     ensures allowed { IfOk result IsInBounds }
     ensures gets { (command : Told) → SpellsCommand command (map (λ s. s.now) words.now)
-        → IsMatched command → Gets command result }
+        → IsMatched command → GetsCommand command result }
 {
     let Ok(line) = command_line(alloc) else {
         return Err(WordsFault::Memory);

@@ -4,4 +4,4 @@ pub use Rattle.mm_world.proofs.OnPlan.{asks_broken, asks_came, closes_broken, cl
 pub use Rattle.mm_world.proofs.Asking.{count_none, reads_shown, stopped_at}
 pub use Rattle.mm_world.proofs.Seating.{kept_more, stands_extended}
 pub use Rattle.mm_world.proofs.Worlds.{counting, digests_are, stands_new}
-pub use Rattle.mm_world.specs.Seat.{extended_by}
+pub use Rattle.mm_world.specs.Seat.{extended_standing}

@@ -1,52 +1,52 @@
 -- A planned call, and a planned checkpoint, however it ended, comes to what it does by digests.
 use Rattle.mm_world.proofs.Below.{◌≡◌, ℕ, ◌+◌, Bool, true, false, List, length, Option, None, Some, Result, Ok, Err, inr, refl, sym, ap}
-use Rattle.mm_world.proofs.Below.{◌∙◌, subst, arith, if◌then◌else◌, MatchResult, Memory, Variant, Meaning, Batch, size_of, normal}
-use Rattle.mm_world.proofs.Below.{StepFault, Meddle, Stop, Standing, Instance, Move, is_long, Digests, register_reads, ask_steps, Refusal}
-use Rattle.mm_world.proofs.Below.{Ended, Answered, Refused, Broken, by_digests, all_made, Found, found_at, found_unless_wanting, is_fresh}
-use Rattle.mm_world.proofs.Below.{End, Done, Fails, Fate, Course, walk, planned, seen_in, Ending, Answers, Refuses, Breaks, Called, called}
-use Rattle.mm_world.proofs.Below.{ended_by, seen_at, reading_steps, instance_by, StandsAt, counted_by, result_of, kept_by, KeepsAs}
-use Rattle.mm_world.proofs.Below.{is_broken, StaysOn, CallsTo, way_of, course_of, cause_of, outcome_by, uncalled, plan_of, broken_reply}
-use Rattle.mm_world.proofs.Below.{Stands, IsQuiet, refused_call, answered_call, broken_as, takes_effect, size_if, RefusedAs, CalledAs, SettlesPlan}
-use Rattle.mm_world.proofs.Below.{Came, HasRead, AsksAs, call_commits, ◌&&◌, ◌++◌, reply_of, snapshots_of, moves_then, is_cut, [], ◌∷◌, map}
+use Rattle.mm_world.proofs.Below.{◌∙◌, subst, arith, if◌then◌else◌, MatchResult, Memory, Variant, Meaning, Batch, size_of, normal_batch}
+use Rattle.mm_world.proofs.Below.{StepFault, Meddle, Stop, Standing, Instance, Move, is_long, Digests, register_reading, ask_steps, Refusal}
+use Rattle.mm_world.proofs.Below.{AskResult, Answered, Refused, Broken, digest_level, state_after_moves, CallFinding, finding_at, finding_unless_wanting, is_fresh}
+use Rattle.mm_world.proofs.Below.{End, Done, Fails, StepFate, Course, walk, fate_by_plan, moves_seen, CallEnding, Answers, Refuses, Breaks, CallOutcome, call_outcome}
+use Rattle.mm_world.proofs.Below.{call_ending_by, state_seen, reading_steps, instance_by, StandsAt, count_after_more, result_of, kept_position, KeepsPosition}
+use Rattle.mm_world.proofs.Below.{is_broken, StaysOn, EndsAsCall, way_of, course_of, cause_of, outcome_by, outcome_without_call, plan_of, broken_reply}
+use Rattle.mm_world.proofs.Below.{HasDigests, IsQuiet, refused_call, answered_call, broken_call, takes_effect, size_if, IsRefusalResult, IsCallResult, SettlesPlan}
+use Rattle.mm_world.proofs.Below.{CallComesTo, HasRead, AsksOwnCell, call_commits, ◌&&◌, ◌++◌, reply_of, snapshots_of, moves_after_call, is_cut, [], ◌∷◌, map}
 use Rattle.mm_world.proofs.Below.{append-nil, ◌==◌, Basic, Opt, fault_at, is_made_at, Foreign, Close, Reads, Writes, checkpoint_steps, Said}
-use Rattle.mm_world.proofs.Below.{CheckpointRefusal, closing_told, ChecksBy, ChecksOn, Walked, after_step, closes, end_of, made_move}
-use Rattle.mm_world.proofs.Below.{closes-foreign, closes_first, checkpoint_none, closing_reply, closing_then, closed_outcome, stopped_reply}
+use Rattle.mm_world.proofs.Below.{CheckpointRefusal, checkpoint_result, CheckpointGoesBy, IsCheckpointOnCourse, StepsWalk, walk_from_step, has_close, end_of, made_move}
+use Rattle.mm_world.proofs.Below.{closes-foreign, closes_first, checkpoint_none, closing_reply, moves_after_checkpoint, checkpoint_event_outcome, stopped_reply}
 use Rattle.mm_world.proofs.ClosedAt.{closes_at}
-use Rattle.mm_world.proofs.Below.{told_closing, stops_in, ChecksAs, quiet_as, reads_of}
+use Rattle.mm_world.proofs.Below.{checkpoint_reply, has_closing_fault, ChecksOwnCell, quiet_call, register_of_items}
 use Rattle.std.specs.Prelude.{◌⊎◌}
 use Rattle.mm_module.specs.BatchLaws.{members_of-normal}
-use Rattle.mm_run.specs.Folds.{asked}
-use Rattle.mm_call.specs.CallsOn.{GoesBy}
+use Rattle.mm_run.specs.Folds.{ask_event_outcome}
+use Rattle.mm_call.specs.CallOnCourse.{CallGoesBy}
 use Rattle.mm_world.proofs.Asking.{committed_by, counted_end, stopped_at, breaks_at, refuses, same, lacks_or_same, refused_read, told_ok}
 use Rattle.mm_world.proofs.Asking.{told_err, breaks, stands_settled, on_settled, Tells, came_register, power_if, power_count, moves_power}
 use Rattle.mm_world.proofs.Asking.{reads_shown, count_none, stop_power}
-use Rattle.mm_call.specs.Checkpoints.{closing_of, checkpointed}
-use Rattle.mm_call.specs.CheckpointsWords.{closed_by}
+use Rattle.mm_call.specs.Checkpoints.{checkpoint_ending, checkpoint_outcome}
+use Rattle.mm_call.specs.CheckpointsWords.{checkpoint_ending_by}
 use Rattle.mm_model.specs.declared.refusal.Refusal.TheVariants as refusal
 use Rattle.mm_schedule.specs.declared.reply.Reply.TheVariants as reply
 use Rattle.mm_schedule.specs.declared.reply.Cause.TheVariants as cause
-use Rattle.mm_world.specs.declared.call.Called as code
+use Rattle.mm_world.specs.declared.call.CallReport as code
 
 -- A call over a planned platform, that ended so.
 pub record Over (i : Instance) (d : Digests) (stop : Stop) (meddles : List Meddle) (bytes : List ℕ) (b : Batch) (old mid new : Standing)
-    (ended : Ended) : Type 0 where
+    (ended : AskResult) : Type 0 where
   pub course : Course
-  pub fates : (n : ℕ) → course.fates n ≡ planned (plan_of stop meddles) n
-  pub goes : GoesBy i d (called i (by_digests i) d course bytes b) (record old { plan = Some (plan_of stop meddles) }) mid (result_of ended)
-  pub keeps : KeepsAs course.fates (called i (by_digests i) d course bytes b) ended
-  pub register : register_reads old ≡ Some d.register
+  pub fates : (n : ℕ) → course.fates n ≡ fate_by_plan (plan_of stop meddles) n
+  pub goes : CallGoesBy i d (call_outcome i (digest_level i) d course bytes b) (record old { plan = Some (plan_of stop meddles) }) mid (result_of ended)
+  pub keeps : KeepsPosition course.fates (call_outcome i (digest_level i) d course bytes b) ended
+  pub register : register_reading old ≡ Some d.register
   pub settles : SettlesPlan stop (is_broken ended) mid new
   pub stays : StaysOn stop (is_broken ended) mid
 
 -- with memory at hand a course with the planned fates is the planned one
-course_told : (fates : ℕ → Fate) (stop : Stop) (meddles : List Meddle) → ((n : ℕ) → fates n ≡ planned (plan_of stop meddles) n)
+course_told : (fates : ℕ → StepFate) (stop : Stop) (meddles : List Meddle) → ((n : ℕ) → fates n ≡ fate_by_plan (plan_of stop meddles) n)
     → record { fates = fates; lacks = false } ≡ course_of stop meddles
 course_told fates stop meddles told = λ j. record { fates = λ n. told n j; lacks = false }
 
 -- the position that was kept
 
-ended_broken : (i : Instance) (seen s : Digests) (b : Batch) (found : Result Found Refusal) (moves : List Move)
-    (broken : Option StepFault) (fault : StepFault) (kept : Option ℕ) → ended_by (by_digests i) seen s b found moves broken ≡ Breaks fault
+ended_broken : (i : Instance) (seen s : Digests) (b : Batch) (found : Result CallFinding Refusal) (moves : List Move)
+    (broken : Option StepFault) (fault : StepFault) (kept : Option ℕ) → call_ending_by (digest_level i) seen s b found moves broken ≡ Breaks fault
     kept
     → broken ≡ Some fault
 ended_broken i seen s b found moves (Some f) fault kept e = let x : f ≡ fault = cc in ap Some x
@@ -54,35 +54,35 @@ ended_broken i seen s b (Err why) moves None fault kept e = cc
 ended_broken i seen s b _ moves None fault kept e = cc
 
 kept_made : (e : End) (fault : StepFault) (made : Bool) (commits : Option ℕ) → e ≡ Fails fault made
-    → kept_by e commits ≡ (if made then commits else None)
+    → kept_position e commits ≡ (if made then commits else None)
 kept_made Done fault made commits e = cc
 kept_made (Fails f true) fault made commits e = let x : true ≡ made = cc in ap (λ m. if m then commits else None) x
 kept_made (Fails f false) fault made commits e = let x : false ≡ made = cc in ap (λ m. if m then commits else None) x
 
 module _ (i : Instance) (d : Digests) (stop : Stop) (meddles : List Meddle) (bytes : List ℕ) (b : Batch) (old mid new : Standing)
     (issued : List (List ℕ)) where
-  abbrev on : Course → Called Digests
-  on c = called i (by_digests i) d c bytes b
+  abbrev on : Course → CallOutcome Digests
+  on c = call_outcome i (digest_level i) d c bytes b
 
   -- the call that is planned came to this, or what it came to
   abbrev Comes : code.Called → Type 0
-  Comes it = Came i (outcome_by (by_digests i) stop issued (on (course_of stop meddles))) d.count issued old new it
+  Comes it = CallComesTo i (outcome_by (digest_level i) stop issued (on (course_of stop meddles))) d.count issued old new it
 
   abbrev Ends : Result code.Called Memory → Type 0
   Ends result = MatchResult result Comes (λ _. HasRead i d meddles stop old new)
 
-  abbrev OverAs : Ended → Type 0
+  abbrev OverAs : AskResult → Type 0
   OverAs ended = Over i d stop meddles bytes b old mid new ended
 
   call_count : (c : Course) → (on c).state.count ≡ d.count + committed_by (on c).ending (size_of b)
   call_count c =
-      let seen = seen_at i (by_digests i) d c in
-      let found = found_unless_wanting (found_at i (by_digests i) seen b bytes) c.lacks in
+      let seen = state_seen i (digest_level i) d c in
+      let found = finding_unless_wanting (finding_at i (digest_level i) seen b bytes) c.lacks in
       let w = walk c.fates 1 (ask_steps i.variant d.flag (is_fresh found) b) in
       counted_end i d seen b found w w.broken refl (call_commits i.variant c.fates d.flag (is_fresh found) b)
 
   -- the call that is planned is the call that was made, where that wasn't refused for want of memory
-  planned_by : (c : Course) → ((n : ℕ) → c.fates n ≡ planned (plan_of stop meddles) n) → ((on c).ending ≡ Refuses refusal.Memory → ⊥)
+  planned_by : (c : Course) → ((n : ℕ) → c.fates n ≡ fate_by_plan (plan_of stop meddles) n) → ((on c).ending ≡ Refuses refusal.Memory → ⊥)
       → on c ≡ on (course_of stop meddles)
   planned_by c told never = elim (lacks_or_same i d c.fates c.lacks bytes b) [
     | refuses e ↦ absurd (never e)
@@ -90,60 +90,60 @@ module _ (i : Instance) (d : Digests) (stop : Stop) (meddles : List Meddle) (byt
   ]
 
   -- a call that was answered, refused for another reason than want of memory, or broken off
-  came_call : (ended : Ended) (r : OverAs ended) (it : code.Called) (ending : Ending) → (on r.course).ending ≡ ending
+  came_call : (ended : AskResult) (r : OverAs ended) (it : code.Called) (ending : CallEnding) → (on r.course).ending ≡ ending
       → breaks ending ≡ is_broken ended → (ending ≡ Refuses refusal.Memory → ⊥) → Tells stop (size_of b) ending it → Comes it
   came_call ended r it ending e alike never tells =
       let o = on r.course in let lost = is_broken ended && is_cut stop in
       let is : o ≡ on (course_of stop meddles) = planned_by r.course r.fates (λ x. never (sym e ∙ x)) in
-      let power : moves_then stop o.ending ≡ power_if lost = ap (moves_then stop) e ∙ moves_power stop ending
+      let power : moves_after_call stop o.ending ≡ power_if lost = ap (moves_after_call stop) e ∙ moves_power stop ending
       ∙ ap (λ x. power_if (x && is_cut stop)) alike in
       let read = came_register i d o (record old { plan = Some (plan_of stop meddles) }) mid r.goes.items refl r.register in
-      subst (λ x. Came i (outcome_by (by_digests i) stop issued x) d.count issued old new it) is (record {
+      subst (λ x. CallComesTo i (outcome_by (digest_level i) stop issued x) d.count issued old new it) is (record {
         reply = tells.reply ∙ ap (reply_of (way_of stop)) (sym e);
         issues = ap (λ x. issued ++ x) (tells.snapshot ∙ ap snapshots_of (sym e));
-        stands = subst (λ ms. Stands i new (all_made (by_digests i) o.state ms)) (sym power)
+        stands = subst (λ ms. HasDigests i new (state_after_moves (digest_level i) o.state ms)) (sym power)
             (stands_settled i o.state mid new lost (record { at = r.goes.stands; register = read }) r.settles.cell r.settles.items);
-        counts = ap (λ ms. (all_made (by_digests i) o.state ms).count) power ∙ power_count i o.state lost ∙ call_count r.course
+        counts = ap (λ ms. (state_after_moves (digest_level i) o.state ms).count) power ∙ power_count i o.state lost ∙ call_count r.course
             ∙ ap (λ x. d.count + committed_by x (size_of b)) e ∙ ap (λ n. d.count + n) (sym tells.committed);
         quiet = record { is_on = on_settled stop (is_broken ended) mid new r.stays r.settles.is_on; plan = r.settles.plan };
         steps = r.settles.steps ∙ r.goes.steps;
         writes = r.settles.writes ∙ r.goes.writes;
       })
 
-  kept_planned : (c : Course) (fault : StepFault) (kept commits : Option ℕ) → ((n : ℕ) → c.fates n ≡ planned (plan_of stop meddles) n)
+  kept_planned : (c : Course) (fault : StepFault) (kept commits : Option ℕ) → ((n : ℕ) → c.fates n ≡ fate_by_plan (plan_of stop meddles) n)
       → (on c).ending ≡ Breaks fault kept
-      → kept_by (c.fates (on c).steps).ends commits ≡ (if takes_effect stop then commits else None)
+      → kept_position (c.fates (on c).steps).ends commits ≡ (if takes_effect stop then commits else None)
   kept_planned c fault kept commits told e =
-      let seen = seen_at i (by_digests i) d c in
-      let found = found_unless_wanting (found_at i (by_digests i) seen b bytes) c.lacks in
+      let seen = state_seen i (digest_level i) d c in
+      let found = finding_unless_wanting (finding_at i (digest_level i) seen b bytes) c.lacks in
       let steps = ask_steps i.variant d.flag (is_fresh found) b in let w = walk c.fates 1 steps in
       let at = breaks_at c.fates 1 steps fault
-      (ended_broken i seen (all_made (by_digests i) d w.moves) b found w.moves w.broken fault kept e) in
+      (ended_broken i seen (state_after_moves (digest_level i) d w.moves) b found w.moves w.broken fault kept e) in
       let fails : (c.fates w.steps).ends ≡ Fails at.fault at.made = at.fails w.steps (omega arith) in
-      let stopped = stopped_at stop w.steps at.fault at.made (ap (λ (f : Fate). f.ends) (sym (told w.steps)) ∙ fails) in
+      let stopped = stopped_at stop w.steps at.fault at.made (ap (λ (f : StepFate). f.ends) (sym (told w.steps)) ∙ fails) in
       kept_made (c.fates w.steps).ends at.fault at.made commits fails ∙ ap (λ m. if m then commits else None) stopped.effect
 
   -- want of memory
-  lacks_call : (ended : Ended) (r : OverAs ended) → is_broken ended ≡ false → (on r.course).ending ≡ Refuses refusal.Memory
+  lacks_call : (ended : AskResult) (r : OverAs ended) → is_broken ended ≡ false → (on r.course).ending ≡ Refuses refusal.Memory
       → HasRead i d meddles stop old new
   lacks_call ended r unbroken e =
-      let c = r.course in let o = on c in let seen = seen_at i (by_digests i) d c in
-      let found = found_unless_wanting (found_at i (by_digests i) seen b bytes) c.lacks in
+      let c = r.course in let o = on c in let seen = state_seen i (digest_level i) d c in
+      let found = finding_unless_wanting (finding_at i (digest_level i) seen b bytes) c.lacks in
       let h = refused_read i d seen b c.fates found refusal.Memory e in
       let settles = subst (λ x. SettlesPlan stop x mid new) unbroken r.settles in
       let stays = subst (λ x. StaysOn stop x mid) unbroken r.stays in
       let read = came_register i d o (record old { plan = Some (plan_of stop meddles) }) mid r.goes.items refl r.register in
-      let stands : Stands i new o.state = stands_settled i o.state mid new false (record { at = r.goes.stands; register = read })
+      let stands : HasDigests i new o.state = stands_settled i o.state mid new false (record { at = r.goes.stands; register = read })
       settles.cell settles.items in
-      let to : o.state ≡ seen_at i (by_digests i) d (course_of stop meddles) =
-      h.state ∙ ap (λ x. all_made (by_digests i) d (seen_in x (reading_steps i.variant) 1)) (λ j. λ n. r.fates n j) in record {
-        stands = subst (Stands i new) to stands;
+      let to : o.state ≡ state_seen i (digest_level i) d (course_of stop meddles) =
+      h.state ∙ ap (λ x. state_after_moves (digest_level i) d (moves_seen x (reading_steps i.variant) 1)) (λ j. λ n. r.fates n j) in record {
+        stands = subst (HasDigests i new) to stands;
         quiet = record { is_on = on_settled stop false mid new stays settles.is_on; plan = settles.plan };
-        steps = settles.steps ∙ r.goes.steps ∙ ap (λ n. counted_by n old.steps) h.steps;
-        writes = settles.writes ∙ r.goes.writes ∙ ap (λ n. counted_by n old.writes) h.writes;
+        steps = settles.steps ∙ r.goes.steps ∙ ap (λ n. count_after_more n old.steps) h.steps;
+        writes = settles.writes ∙ r.goes.writes ∙ ap (λ n. count_after_more n old.writes) h.writes;
       }
 
-  ends_why : (why : Refusal) (result : Result code.Called Memory) → OverAs (Refused why) → RefusedAs why result → Ends result
+  ends_why : (why : Refusal) (result : Result code.Called Memory) → OverAs (Refused why) → IsRefusalResult why result → Ends result
   ends_why refusal.Memory (Ok it) r e = absurd (cc)
   ends_why refusal.Memory (Err memory) r e =
       lacks_call (Refused refusal.Memory) r refl (told_err (on r.course).ending refusal.Memory (sym r.goes.gives) r.keeps)
@@ -151,15 +151,15 @@ module _ (i : Instance) (d : Digests) (stop : Stop) (meddles : List Meddle) (byt
       (told_err (on r.course).ending why (sym r.goes.gives) r.keeps) refl (λ x. cc)
       (record { reply = refl; snapshot = refl; committed = refl }))
 
-  ends_all : (size : ℕ) (ended : Ended) (result : Result code.Called Memory) → OverAs ended → size ≡ size_of b
-      → CalledAs stop size ended result → Ends result
+  ends_all : (size : ℕ) (ended : AskResult) (result : Result code.Called Memory) → OverAs ended → size ≡ size_of b
+      → IsCallResult stop size ended result → Ends result
   ends_all size (Answered answer) result r n e = subst Ends (sym e) (came_call (Answered answer) r (answered_call answer) (Answers answer)
       (told_ok (on r.course).ending answer (sym r.goes.gives)) refl (λ x. cc) (record { reply = refl; snapshot = refl; committed = refl }))
   ends_all size (Refused why) result r n e = ends_why why result r e
   ends_all size (Broken fault commits) result r n e =
-      let kept = kept_by (r.course.fates (on r.course).steps).ends commits in
+      let kept = kept_position (r.course.fates (on r.course).steps).ends commits in
       let made : kept ≡ (if takes_effect stop then commits else None) = kept_planned r.course fault kept commits r.fates r.keeps in
-      subst Ends (sym e) (came_call (Broken fault commits) r (broken_as stop (if takes_effect stop then commits else None) size)
+      subst Ends (sym e) (came_call (Broken fault commits) r (broken_call stop (if takes_effect stop then commits else None) size)
       (Breaks fault kept) r.keeps refl (λ x. cc) (record {
         reply = ap (broken_reply (way_of stop)) (sym made);
         snapshot = refl;
@@ -173,20 +173,20 @@ or_read P Q R (Ok it) h = h
 or_read P Q R (Err memory) h = inr h
 
 module _ (variant : Variant) (meaning : Meaning) (old mid new : Standing) (meddles : List Meddle) (stop : Stop) (bytes : List ℕ) (b : Batch)
-    (size : ℕ) (ended : Ended) (result : Result code.Called Memory) (short : is_long b ≡ false) (n : size ≡ size_of b)
-    (calls : CallsTo variant meaning (record old { plan = Some (plan_of stop meddles) }) mid bytes b ended)
-    (settles : SettlesPlan stop (is_broken ended) mid new) (told : CalledAs stop size ended result) (issued : List (List ℕ)) where
+    (size : ℕ) (ended : AskResult) (result : Result code.Called Memory) (short : is_long b ≡ false) (n : size ≡ size_of b)
+    (calls : EndsAsCall variant meaning (record old { plan = Some (plan_of stop meddles) }) mid bytes b ended)
+    (settles : SettlesPlan stop (is_broken ended) mid new) (told : IsCallResult stop size ended result) (issued : List (List ℕ)) where
   -- a call that isn't too long, over a planned platform: where memory is wanting it has read
   pub asks_planned : (key barrier : List ℕ) (d : Digests) → (let i = instance_by variant meaning key barrier in
-      Stands i old d → IsQuiet old → MatchResult result
-      (Came i (asked i (by_digests i) d issued meddles stop (Some bytes) b) d.count issued old new)
+      HasDigests i old d → IsQuiet old → MatchResult result
+      (CallComesTo i (ask_event_outcome i (digest_level i) d issued meddles stop (Some bytes) b) d.count issued old new)
       (λ _. HasRead i d meddles stop old new))
   asks_planned key barrier d s q =
       let i = instance_by variant meaning key barrier in
       let at : Standing = record old { plan = Some (plan_of stop meddles) } in
       let planned_stands : StandsAt i at d = record { spells = s.at.spells; cell = s.at.cell; reads = s.at.reads } in
       let stays = calls.plans (plan_of stop meddles) q.is_on refl refl in
-      let r : Over i d stop meddles bytes (normal b) old mid new ended = record {
+      let r : Over i d stop meddles bytes (normal_batch b) old mid new ended = record {
         course = calls.calls.course;
         fates = calls.calls.tells (plan_of stop meddles) q.is_on refl refl;
         goes = calls.calls.goes key barrier d planned_stands;
@@ -195,40 +195,40 @@ module _ (variant : Variant) (meaning : Meaning) (old mid new : Standing) (meddl
         settles = settles;
         stays = stays.0;
       } in
-      subst (λ x. MatchResult result (Came i (if x then uncalled d issued (reply.No cause.Long) else outcome_by (by_digests i) stop issued
-      (called i (by_digests i) d (course_of stop meddles) bytes (normal b))) d.count issued old new) (λ _. HasRead i d meddles stop old
+      subst (λ x. MatchResult result (CallComesTo i (if x then outcome_without_call d issued (reply.No cause.Long) else outcome_by (digest_level i) stop issued
+      (call_outcome i (digest_level i) d (course_of stop meddles) bytes (normal_batch b))) d.count issued old new) (λ _. HasRead i d meddles stop old
       new)) (sym short)
-      (ends_all i d stop meddles bytes (normal b) old mid new issued size ended result r (n ∙ ap (λ xs. length xs)
+      (ends_all i d stop meddles bytes (normal_batch b) old mid new issued size ended result r (n ∙ ap (λ xs. length xs)
       (sym (members_of-normal b))) told)
 
-  pub asks_as : AsksAs variant meaning old new issued meddles stop (Some bytes) b result
+  pub asks_as : AsksOwnCell variant meaning old new issued meddles stop (Some bytes) b result
   asks_as = λ key barrier d s q.
       let i = instance_by variant meaning key barrier in
-      or_read (λ it. Came i (asked i (by_digests i) d issued meddles stop (Some bytes) b) d.count issued old new it) (new ≡ old)
+      or_read (λ it. CallComesTo i (ask_event_outcome i (digest_level i) d issued meddles stop (Some bytes) b) d.count issued old new it) (new ≡ old)
       (HasRead i d meddles stop old new) result (asks_planned key barrier d s q)
 
 -- whether the segment was closed
 
-closes_write : (made : Bool) (values : List (List ℕ)) → closes (made_move made Close ++ map Foreign values) ≡ made
+closes_write : (made : Bool) (values : List (List ℕ)) → has_close (made_move made Close ++ map Foreign values) ≡ made
 closes_write true values = refl
 closes_write false values = closes-foreign values
 
-abbrev Planned : (ℕ → Fate) → Stop → Type 0
+abbrev Planned : (ℕ → StepFate) → Stop → Type 0
 Planned fates stop = (n : ℕ) → (fates n).ends ≡ end_of (fault_at stop n) (is_made_at stop n)
 
 -- a reading step, before a walk of which this holds
-read_closes : (fates : ℕ → Fate) (stop : Stop) (n : ℕ) (values : List (List ℕ)) (e : End) (rest : Walked) (fault : StepFault)
-    → e ≡ end_of (fault_at stop n) (is_made_at stop n) → (n == 3) ≡ false → (after_step Reads values e rest).broken ≡ Some fault
-    → (rest.broken ≡ Some fault → closes rest.moves ≡ closes_at stop) → closes (after_step Reads values e rest).moves ≡ closes_at stop
+read_closes : (fates : ℕ → StepFate) (stop : Stop) (n : ℕ) (values : List (List ℕ)) (e : End) (rest : StepsWalk) (fault : StepFault)
+    → e ≡ end_of (fault_at stop n) (is_made_at stop n) → (n == 3) ≡ false → (walk_from_step Reads values e rest).broken ≡ Some fault
+    → (rest.broken ≡ Some fault → has_close rest.moves ≡ closes_at stop) → has_close (walk_from_step Reads values e rest).moves ≡ closes_at stop
 read_closes fates stop n values Done rest fault ends other broken later = closes_first values rest.moves ∙ later broken
 read_closes fates stop n values (Fails f made) rest fault ends other broken later =
     let at = stopped_at stop n f made (sym ends) in
     closes-foreign values ∙ sym (ap (λ k. (k == 3) && takes_effect stop) at.number ∙ ap (λ x. x && takes_effect stop) other)
 
 -- the step that closes
-write_closes : (stop : Stop) (values : List (List ℕ)) (e : End) (rest : Walked) (fault : StepFault)
-    → e ≡ end_of (fault_at stop 3) (is_made_at stop 3) → rest.broken ≡ None → (after_step (Writes Close) values e rest).broken ≡ Some fault
-    → closes (after_step (Writes Close) values e rest).moves ≡ closes_at stop
+write_closes : (stop : Stop) (values : List (List ℕ)) (e : End) (rest : StepsWalk) (fault : StepFault)
+    → e ≡ end_of (fault_at stop 3) (is_made_at stop 3) → rest.broken ≡ None → (walk_from_step (Writes Close) values e rest).broken ≡ Some fault
+    → has_close (walk_from_step (Writes Close) values e rest).moves ≡ closes_at stop
 write_closes stop values Done rest fault ends none broken = cc
 write_closes stop values (Fails f made) rest fault ends none broken =
     let at = stopped_at stop 3 f made (sym ends) in
@@ -237,9 +237,9 @@ write_closes stop values (Fails f made) rest fault ends none broken =
 nothing_more : (broken : Option StepFault) (fault : StepFault) (stop : Stop) → broken ≡ None → broken ≡ Some fault → false ≡ closes_at stop
 nothing_more broken fault stop none some = cc
 
-closes_planned : (fates : ℕ → Fate) (stop : Stop) (variant : Variant) (is_open is_lost : Bool) (fault : StepFault) → Planned fates stop
+closes_planned : (fates : ℕ → StepFate) (stop : Stop) (variant : Variant) (is_open is_lost : Bool) (fault : StepFault) → Planned fates stop
     → (walk fates 1 (checkpoint_steps variant is_open is_lost)).broken ≡ Some fault
-    → closes (walk fates 1 (checkpoint_steps variant is_open is_lost)).moves ≡ closes_at stop
+    → has_close (walk fates 1 (checkpoint_steps variant is_open is_lost)).moves ≡ closes_at stop
 closes_planned fates stop Opt true true fault told broken =
     read_closes fates stop 1 (fates 1).brings (fates 1).ends (walk fates 2 (Reads ∷ [])) fault (told 1) refl broken (λ later.
     read_closes fates stop 2 (fates 2).brings (fates 2).ends (walk fates 3 []) fault (told 2) refl later
@@ -257,9 +257,9 @@ closes_planned fates stop _ _ is_lost fault told broken =
 -- what is told of it, and the moves that follow
 closing_said : (stop : Stop) (variant : Variant) (is_open is_lost closed : Bool) (broken : Option StepFault)
     → ((fault : StepFault) → broken ≡ Some fault → closed ≡ closes_at stop)
-    → (let closing = closed_by broken closed (closing_of variant is_open is_lost) in
-    (told_closing stop (closes_at stop) (closing_told closing) ≡ closing_reply (way_of stop) closing)
-    × (closing_then stop closing ≡ power_if (stops_in (closing_told closing) && is_cut stop)))
+    → (let closing = checkpoint_ending_by broken closed (checkpoint_ending variant is_open is_lost) in
+    (checkpoint_reply stop (closes_at stop) (checkpoint_result closing) ≡ closing_reply (way_of stop) closing)
+    × (moves_after_checkpoint stop closing ≡ power_if (has_closing_fault (checkpoint_result closing) && is_cut stop)))
 closing_said stop variant is_open is_lost closed (Some fault) known =
     (ap (stopped_reply (way_of stop)) (sym (known fault refl)), stop_power stop)
 closing_said stop Basic is_open is_lost closed None known = (refl, refl)
@@ -270,23 +270,23 @@ closing_said stop _ _ _ closed None known = (refl, refl)
 -- a checkpoint on the planned course
 closed_came : (i : Instance) (d : Digests) (stop : Stop) (meddles : List Meddle) (old mid new : Standing)
     (result : Result Said CheckpointRefusal) (issued : List (List ℕ))
-    → ChecksBy i d (checkpointed i (by_digests i) d (course_of stop meddles)) (record old { plan = Some (plan_of stop meddles) }) mid result
-    → register_reads old ≡ Some d.register → SettlesPlan stop (stops_in result) mid new → StaysOn stop (stops_in result) mid
-    → Came i (closed_outcome (by_digests i) stop issued (checkpointed i (by_digests i) d (course_of stop meddles))) d.count issued old new
-    (quiet_as (told_closing stop (closes_at stop) result))
+    → CheckpointGoesBy i d (checkpoint_outcome i (digest_level i) d (course_of stop meddles)) (record old { plan = Some (plan_of stop meddles) }) mid result
+    → register_reading old ≡ Some d.register → SettlesPlan stop (has_closing_fault result) mid new → StaysOn stop (has_closing_fault result) mid
+    → CallComesTo i (checkpoint_event_outcome (digest_level i) stop issued (checkpoint_outcome i (digest_level i) d (course_of stop meddles))) d.count issued old new
+    (quiet_call (checkpoint_reply stop (closes_at stop) result))
 closed_came i d stop meddles old mid new result issued goes register settles stays =
-    let c = course_of stop meddles in let is_lost = (by_digests i).is_lost (seen_at i (by_digests i) d c) in
-    let o = checkpointed i (by_digests i) d c in let w = walk c.fates 1 (checkpoint_steps i.variant d.flag is_lost) in
-    let read : register_reads mid ≡ Some o.state.register =
-    ap reads_of goes.items ∙ reads_shown i o.moves d old.items register in
-    let lost = stops_in result && is_cut stop in
-    let said = closing_said stop i.variant d.flag is_lost (closes w.moves) w.broken
+    let c = course_of stop meddles in let is_lost = (digest_level i).is_lost (state_seen i (digest_level i) d c) in
+    let o = checkpoint_outcome i (digest_level i) d c in let w = walk c.fates 1 (checkpoint_steps i.variant d.flag is_lost) in
+    let read : register_reading mid ≡ Some o.state.register =
+    ap register_of_items goes.items ∙ reads_shown i o.moves d old.items register in
+    let lost = has_closing_fault result && is_cut stop in
+    let said = closing_said stop i.variant d.flag is_lost (has_close w.moves) w.broken
     (λ fault broken. closes_planned c.fates stop i.variant d.flag is_lost fault (λ n. refl) broken) in
-    let power = said.1 ∙ ap (λ x. power_if (stops_in x && is_cut stop)) (sym goes.gives) in
-    let P : List Move → Type 0 = λ ms. Stands i new (all_made (by_digests i) o.state ms) in
-    let C : List Move → Type 0 = λ ms. (all_made (by_digests i) o.state ms).count ≡ d.count + 0 in
+    let power = said.1 ∙ ap (λ x. power_if (has_closing_fault x && is_cut stop)) (sym goes.gives) in
+    let P : List Move → Type 0 = λ ms. HasDigests i new (state_after_moves (digest_level i) o.state ms) in
+    let C : List Move → Type 0 = λ ms. (state_after_moves (digest_level i) o.state ms).count ≡ d.count + 0 in
     record {
-      reply = ap (told_closing stop (closes_at stop)) goes.gives ∙ said.0;
+      reply = ap (checkpoint_reply stop (closes_at stop)) goes.gives ∙ said.0;
       issues = append-nil issued;
       stands =
           subst P (sym power) (stands_settled i o.state mid new lost (record { at = goes.stands; register = read }) settles.cell
@@ -294,23 +294,23 @@ closed_came i d stop meddles old mid new result issued goes register settles sta
       counts =
           subst C (sym power) (power_count i o.state lost ∙ count_none i w.moves d (checkpoint_none i.variant d.flag is_lost c.fates)
           ∙ omega arith);
-      quiet = record { is_on = on_settled stop (stops_in result) mid new stays settles.is_on; plan = settles.plan };
+      quiet = record { is_on = on_settled stop (has_closing_fault result) mid new stays settles.is_on; plan = settles.plan };
       steps = settles.steps ∙ goes.steps;
       writes = settles.writes ∙ goes.writes;
     }
 
 -- a checkpoint over a planned platform
 pub checks_planned : (old mid new : Standing) (meddles : List Meddle) (stop : Stop) (result : Result Said CheckpointRefusal)
-    → ChecksOn (record old { plan = Some (plan_of stop meddles) }) mid result → SettlesPlan stop (stops_in result) mid new
+    → IsCheckpointOnCourse (record old { plan = Some (plan_of stop meddles) }) mid result → SettlesPlan stop (has_closing_fault result) mid new
     → (variant : Variant) (meaning : Meaning) (issued : List (List ℕ))
-    → ChecksAs variant meaning old new issued meddles stop (Ok (told_closing stop (closes_at stop) result))
+    → ChecksOwnCell variant meaning old new issued meddles stop (Ok (checkpoint_reply stop (closes_at stop) result))
 checks_planned old mid new meddles stop result checks settles variant meaning issued = λ key barrier d s q.
     let i = instance_by variant meaning key barrier in
     let at : Standing = record old { plan = Some (plan_of stop meddles) } in
     let stands : StandsAt i at d = record { spells = s.at.spells; cell = s.at.cell; reads = s.at.reads } in
     let stays = checks.plans (plan_of stop meddles) q.is_on refl refl in
     let told = checks.tells (plan_of stop meddles) q.is_on refl refl in
-    let goes : ChecksBy i d (checkpointed i (by_digests i) d (course_of stop meddles)) at mid result = subst (λ (f : ℕ → Fate). ChecksBy i d
-    (checkpointed i (by_digests i) d (record { fates = f; lacks = false })) at mid result) (λ j. λ n. told n j) (checks.goes variant meaning
+    let goes : CheckpointGoesBy i d (checkpoint_outcome i (digest_level i) d (course_of stop meddles)) at mid result = subst (λ (f : ℕ → StepFate). CheckpointGoesBy i d
+    (checkpoint_outcome i (digest_level i) d (record { fates = f; lacks = false })) at mid result) (λ j. λ n. told n j) (checks.goes variant meaning
     key barrier d stands) in
     closed_came i d stop meddles old mid new result issued goes s.register settles stays.0

@@ -1,18 +1,18 @@
 -- What happens at a seat, by what its platform came to.
 use Rattle.mm_world.proofs.Below.{◌≡◌, ℕ, ◌+◌, ◌-◌, ◌≤◌, ◌^◌, List, [], ◌∷◌, ◌++◌, length, Option, None, Some, Result, Ok, Err, refl, sym, ap, ◌∙◌, IfOk}
 use Rattle.mm_world.proofs.Below.{subst, arith, append-nil, option_to_list, Memory, Batch, meaning_of, Meddle, Stop, Standing}
-use Rattle.mm_world.proofs.Below.{Instance, Digests, made, Foreign, Reply, Ask, Checkpoint}
-use Rattle.mm_world.proofs.Below.{Stands, AsksPlanned, ChecksPlanned, missing}
+use Rattle.mm_world.proofs.Below.{Instance, Digests, digests_after, Foreign, Reply, Ask, Checkpoint}
+use Rattle.mm_world.proofs.Below.{HasDigests, AsksPlanned, ChecksPlanned, refusal_of_fault}
 use Rattle.mm_world.proofs.Below.{reads_beside}
 use Rattle.std.specs.List.{sum_by}
 use Rattle.std.proofs.lemmas.List.Sums.{sum_by-append}
 use Rattle.mm_schedule.specs.declared.event.Offer.{Offer}
 use Rattle.mm_schedule.specs.declared.header.Header.{Header}
-use Rattle.mm_run.specs.Offered.{offered_bytes}
-use Rattle.mm_world.specs.declared.call.Called.{Called}
+use Rattle.mm_run.specs.EventOffers.{offered_bytes}
+use Rattle.mm_world.specs.declared.call.CallReport.{CallReport}
 use Rattle.mm_world.specs.declared.seat.Seat.{Seat}
 use Rattle.mm_world.specs.Lengths.{length_if, within_64}
-use Rattle.mm_world.specs.Seat.{IsOver, EndsCall, StaysOn, Follows, extended_by}
+use Rattle.mm_world.specs.Seat.{IsOver, EndsCall, SeatStaysOn, SeatTakesEvent, extended_standing}
 use Rattle.mm_world.proofs.Asking.{stands_read}
 
 -- the bytes that are kept, with one more snapshot
@@ -41,30 +41,30 @@ over_same h cell cell' snapshot snapshot' result c s is =
 counted_same : (was count now : ℕ) → was ≤ 2 ^ 64 - 1 → count ≡ was → now ≡ was → now ≡ within_64 count
 counted_same was count now fits same is = omega (arith, fits, same, is)
 
-pub stands_extended : (i : Instance) (d : Digests) (value : List ℕ) (old : Standing) → Stands i old d
-    → Stands i (extended_by old value) (made i d (Foreign value))
+pub stands_extended : (i : Instance) (d : Digests) (value : List ℕ) (old : Standing) → HasDigests i old d
+    → HasDigests i (extended_standing old value) (digests_after i d (Foreign value))
 stands_extended i d value old s =
-    stands_read i d old (extended_by old value) _ s refl (reads_beside old.items (value ∷ []) d.register s.register)
+    stands_read i d old (extended_standing old value) _ s refl (reads_beside old.items (value ∷ []) d.register s.register)
 
 -- a call that asks
 
 module _ (meddles : List Meddle) (stop : Stop) (offer : Offer) (b : Batch) where
-  abbrev Planned : Header → Standing → Standing → List (List ℕ) → Result Called Memory → Type 0
+  abbrev Planned : Header → Standing → Standing → List (List ℕ) → Result CallReport Memory → Type 0
   Planned h old new lent result =
       AsksPlanned h.variant (meaning_of h.«module») old new lent meddles stop (offered_bytes lent offer) b result
 
   -- a planned call in the words of the seat as it was before room was made
-  planned_here : (old mid : Seat) (new new' : Standing) (lent : List (List ℕ)) (result : Result Called Memory)
-      → StaysOn old.platform old mid → lent ≡ mid.issued.items → new' ≡ new → Planned mid.header mid.platform new lent result
+  planned_here : (old mid : Seat) (new new' : Standing) (lent : List (List ℕ)) (result : Result CallReport Memory)
+      → SeatStaysOn old.platform old mid → lent ≡ mid.issued.items → new' ≡ new → Planned mid.header mid.platform new lent result
       → Planned old.header old.platform new' old.issued.items result
   planned_here old mid new new' lent result s same at asks =
       let issued = same ∙ s.issued in
       subst (λ (x : Header × Standing × Standing × List (List ℕ)). Planned x.0 x.1 x.2 x.3 result)
       (λ j. (s.header j, s.platform j, sym at j, issued j)) asks
 
-  pub ask_comes : (old mid at new : Seat) (lent : List (List ℕ)) (it : Called) (said : Reply) → StaysOn old.platform old mid
-      → StaysOn at.platform mid at → lent ≡ mid.issued.items → Planned mid.header mid.platform at.platform lent (Ok it)
-      → EndsCall it at new said → Follows (Ask meddles stop offer b) old new (Ok said)
+  pub ask_comes : (old mid at new : Seat) (lent : List (List ℕ)) (it : CallReport) (said : Reply) → SeatStaysOn old.platform old mid
+      → SeatStaysOn at.platform mid at → lent ≡ mid.issued.items → Planned mid.header mid.platform at.platform lent (Ok it)
+      → EndsCall it at new said → SeatTakesEvent (Ask meddles stop offer b) old new (Ok said)
   ask_comes old mid at new lent it said s t same asks ends =
       let there = planned_here old mid at.platform new.platform lent (Ok it) s same ends.platform asks in
       let header = ends.header ∙ t.header ∙ s.header in
@@ -85,7 +85,7 @@ module _ (meddles : List Meddle) (stop : Stop) (offer : Offer) (b : Batch) where
               writes = came.writes;
             };
         vain = λ i d fault read.
-            let came = there.vain i d (Err fault) (missing fault) read refl in record {
+            let came = there.vain i d (Err fault) (refusal_of_fault fault) read refl in record {
               reply = ends.says ∙ came.reply;
               issued = issued ∙ came.issues;
               committed = (let fits = old.fits in let none = came.committed in let now = ends.committed in
@@ -98,7 +98,7 @@ module _ (meddles : List Meddle) (stop : Stop) (offer : Offer) (b : Batch) where
             };
       }
 
-  stays_past : (old mid at : Seat) → StaysOn old.platform old mid → StaysOn at.platform mid at → StaysOn at.platform old at
+  stays_past : (old mid at : Seat) → SeatStaysOn old.platform old mid → SeatStaysOn at.platform mid at → SeatStaysOn at.platform old at
   stays_past old mid at s t = record {
     header = t.header ∙ s.header;
     platform = refl;
@@ -107,21 +107,21 @@ module _ (meddles : List Meddle) (stop : Stop) (offer : Offer) (b : Batch) where
     committed = t.committed ∙ s.committed;
   }
 
-  pub ask_lacks : (old mid at : Seat) (lent : List (List ℕ)) (memory : Memory) → StaysOn old.platform old mid
-      → StaysOn at.platform mid at → lent ≡ mid.issued.items → Planned mid.header mid.platform at.platform lent (Err memory)
-      → Follows (Ask meddles stop offer b) old at (Err memory)
+  pub ask_lacks : (old mid at : Seat) (lent : List (List ℕ)) (memory : Memory) → SeatStaysOn old.platform old mid
+      → SeatStaysOn at.platform mid at → lent ≡ mid.issued.items → Planned mid.header mid.platform at.platform lent (Err memory)
+      → SeatTakesEvent (Ask meddles stop offer b) old at (Err memory)
   ask_lacks old mid at lent memory s t same asks =
       let there = planned_here old mid at.platform at.platform lent (Err memory) s same refl asks in
       let stays = stays_past old mid at s t in
       record {
         header = stays.header;
         own = λ key barrier d stands quiet count. (stays, there.own key barrier d stands quiet);
-        vain = λ i d fault read. (stays, there.vain i d (Err fault) (missing fault) read refl);
+        vain = λ i d fault read. (stays, there.vain i d (Err fault) (refusal_of_fault fault) read refl);
       }
 
 -- a checkpoint
-pub checks : (meddles : List Meddle) (stop : Stop) (old new : Seat) (result : Result Reply Memory) → StaysOn new.platform old new
-    → ChecksPlanned old.platform new.platform old.issued.items meddles stop result → Follows (Checkpoint meddles stop) old new result
+pub checks : (meddles : List Meddle) (stop : Stop) (old new : Seat) (result : Result Reply Memory) → SeatStaysOn new.platform old new
+    → ChecksPlanned old.platform new.platform old.issued.items meddles stop result → SeatTakesEvent (Checkpoint meddles stop) old new result
 checks meddles stop old new (Ok said) s planned =
     let fits = old.fits in
     record {

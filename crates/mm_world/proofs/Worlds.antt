@@ -2,21 +2,21 @@
 use Rattle.mm_world.proofs.Below.{◌≡◌, ℕ, ◌+◌, ◌-◌, ◌<◌, ◌≤◌, ◌^◌, Bool, true, false, List, [], ◌∷◌, ◌++◌, length, take, drop}
 use Rattle.mm_world.proofs.Below.{Result, Ok, Err, IfOk, OnErr, inl, inr, refl, sym, ap, ◌∙◌, subst, arith, ◌==◌}
 use Rattle.mm_world.proofs.Below.{slice_index, Memory, Variant, Basic, Opt, Meaning, Cell, flag_byte, Standing, Instance, first_history}
-use Rattle.mm_world.proofs.Below.{Digests, cell_of, issued_bytes, register_reads, by_digests, seen_in, seen_at, reading_steps, instance_by}
+use Rattle.mm_world.proofs.Below.{Digests, cell_of, issued_bytes, register_reading, digest_level, moves_seen, state_seen, reading_steps, instance_by}
 use Rattle.mm_world.proofs.Below.{cell_at, anchor-nil, summary-nil, seen_none, meaning_of, Reply, Ask, Checkpoint, course_of}
-use Rattle.mm_world.proofs.Below.{first_digests, Held, world_of, first_held, outcome_in, Follows, Wants, Stands, IsQuiet, Event, printed}
+use Rattle.mm_world.proofs.Below.{first_digests, WorldState, world_of, first_world_state, outcome_in, WorldFollows, EventWantsMemory, HasDigests, IsQuiet, Event, printed}
 use Rattle.mm_world.proofs.Below.{grown}
-use Rattle.mm_digest.specs.LengthLaws.{length-zero_bytes, length-start_of}
+use Rattle.mm_digest.specs.LengthLaws.{length-zero_bytes, length-start_digest_of}
 use Rattle.mm_seal.specs.Cell.{cell_spelling}
 use Rattle.mm_seal.specs.FieldLaws.{take_front}
 use Rattle.mm_platform.specs.Memory.{new_platform}
 use Rattle.mm_schedule.specs.declared.header.Header.{Header}
 use Rattle.mm_schedule.specs.Events.{Power, Extend}
 use Rattle.mm_schedule.specs.Replies.{IsPrintable}
-use Rattle.mm_run.specs.Held.{having_read, rising_from, world_key, world_barrier}
+use Rattle.mm_run.specs.WorldState.{world_after_reading, rising_from, world_key, world_barrier}
 use Rattle.mm_world.specs.declared.seat.Seat.{Seat}
-use Rattle.mm_world.specs.Held.{digest_in, flag_in, value_in, digests_in, held_in, KeepsWorld}
-use Rattle.mm_world.specs.Seat.{instance_at, IsFirst, StaysOn, Follows as SeatFollows, Wants as SeatWants}
+use Rattle.mm_world.specs.HeldWorld.{digest_in, flag_in, value_in, digests_in, world_in, KeepsWorld}
+use Rattle.mm_world.specs.Seat.{instance_at, IsFirst, SeatStaysOn, SeatTakesEvent as SeatFollows, SeatLacksMemory as SeatWants}
 use Rattle.mm_world.proofs.Asking.{count_none}
 
 -- what a cell and a register show
@@ -33,45 +33,45 @@ flag_spelled : (c : Cell) → (slice_index (cell_spelling c) 6 == 1) ≡ c.flag
 unfolding cell_spelling
 flag_spelled c = flag_told c.flag
 
-pub digests_are : (i : Instance) (d : Digests) (s : Standing) (committed : ℕ) → Stands i s d
+pub digests_are : (i : Instance) (d : Digests) (s : Standing) (committed : ℕ) → HasDigests i s d
     → digests_in s committed ≡ record d { count = committed }
 digests_are i d s committed a =
     let cell = cell_at i d in
     let digest : digest_in s.cell ≡ d.digest = ap digest_in a.at.cell ∙ digest_spelled cell a.at.spells.summary in
     let flag : flag_in s.cell ≡ d.flag = ap flag_in a.at.cell ∙ flag_spelled cell in
-    let register : value_in (register_reads s) ≡ d.register = ap value_in a.register in
+    let register : value_in (register_reading s) ≡ d.register = ap value_in a.register in
     λ j. record { digest = digest j; flag = flag j; register = register j; count = committed }
 
-pub counting : (i : Instance) (d : Digests) (s : Standing) (count : ℕ) → Stands i s d → Stands i s (record d { count = count })
+pub counting : (i : Instance) (d : Digests) (s : Standing) (count : ℕ) → HasDigests i s d → HasDigests i s (record d { count = count })
 counting i d s count a = record { at = record { spells = a.at.spells; cell = a.at.cell; reads = a.at.reads }; register = a.register }
 
 -- the seat of a world, by an event
 
-module _ (old new : Seat) (world : Held) (is : held_in old ≡ world) (k : KeepsWorld old) where
+module _ (old new : Seat) (world : WorldState) (is : world_in old ≡ world) (k : KeepsWorld old) where
   abbrev i : Instance
   i = world_of old.header
 
   abbrev d : Digests
   d = digests_in old.platform old.committed
 
-  keeps_so : (at : Digests) → new.header ≡ old.header → Stands i new.platform at → IsQuiet new.platform
+  keeps_so : (at : Digests) → new.header ≡ old.header → HasDigests i new.platform at → IsQuiet new.platform
       → length new.issued.items ≤ 2 ^ 32 - 1 → KeepsWorld new
   keeps_so at header a q few =
-      let there : Stands i new.platform (digests_in new.platform new.committed) =
-      subst (Stands i new.platform) (sym (digests_are i at new.platform new.committed a)) (counting i at new.platform new.committed a) in
+      let there : HasDigests i new.platform (digests_in new.platform new.committed) =
+      subst (HasDigests i new.platform) (sym (digests_are i at new.platform new.committed a)) (counting i at new.platform new.committed a) in
       record {
-        stands = subst (λ (h : Header). Stands (world_of h) new.platform (digests_in new.platform new.committed)) (sym header) there;
+        stands = subst (λ (h : Header). HasDigests (world_of h) new.platform (digests_in new.platform new.committed)) (sym header) there;
         quiet = q;
         few = few;
       }
 
-  keeps_same : StaysOn new.platform old new → new.platform ≡ old.platform → KeepsWorld new
+  keeps_same : SeatStaysOn new.platform old new → new.platform ≡ old.platform → KeepsWorld new
   keeps_same s e =
-      let there = subst (λ (x : Standing). Stands i x d) (sym e) k.stands in
+      let there = subst (λ (x : Standing). HasDigests i x d) (sym e) k.stands in
       keeps_so d s.header there (subst IsQuiet (sym e) k.quiet)
       (subst (λ (x : List (List ℕ)). length x ≤ 2 ^ 32 - 1) (sym s.issued) k.few)
 
-  keeps_wanting : (event : Event) → StaysOn new.platform old new → SeatWants i d event old.platform new.platform → KeepsWorld new
+  keeps_wanting : (event : Event) → SeatStaysOn new.platform old new → SeatWants i d event old.platform new.platform → KeepsWorld new
   keeps_wanting (Ask meddles stop offer b) s w = elim w [
     | inl e ↦ keeps_same s e
     | inr e ↦ keeps_so _ s.header e.stands e.quiet (subst (λ (x : List (List ℕ)). length x ≤ 2 ^ 32 - 1) (sym s.issued) k.few)
@@ -85,17 +85,17 @@ module _ (old new : Seat) (world : Held) (is : held_in old ≡ world) (k : Keeps
   keeps_world event (Ok said) f room =
       let c = f.own world_key world_barrier d k.stands k.quiet refl in
       let more = ap (λ (x : List (List ℕ)). length x) c.issued in
-      keeps_so _ f.header c.stands c.quiet (omega (arith, room, ap (λ (w : Held). length w.issued) is, more, grown (held_in old) event))
+      keeps_so _ f.header c.stands c.quiet (omega (arith, room, ap (λ (w : WorldState). length w.issued) is, more, grown (world_in old) event))
   keeps_world event (Err memory) f room =
       let w = f.own world_key world_barrier d k.stands k.quiet refl in keeps_wanting event w.0 w.1
 
   pub follows_world : (event : Event) (result : Result Reply Memory) → SeatFollows event old new result
-      → IfOk result (Follows (outcome_in world event) world (held_in new))
+      → IfOk result (WorldFollows (outcome_in world event) world (world_in new))
   follows_world event (Ok said) f =
       let c = f.own world_key world_barrier d k.stands k.quiet refl in
-      let o = outcome_in (held_in old) event in
+      let o = outcome_in (world_in old) event in
       let count = c.committed in
-      subst (λ (w : Held). Follows (outcome_in w event) w (held_in new) said) is (record {
+      subst (λ (w : WorldState). WorldFollows (outcome_in w event) w (world_in new) said) is (record {
         reply = c.reply;
         header = f.header;
         digests = digests_are i o.state new.platform new.committed c.stands ∙ (λ j. record o.state { count = count j });
@@ -107,12 +107,12 @@ module _ (old new : Seat) (world : Held) (is : held_in old ≡ world) (k : Keeps
 
   -- memory was wanting
 
-  same_world : StaysOn new.platform old new → new.platform ≡ old.platform → held_in new ≡ world
+  same_world : SeatStaysOn new.platform old new → new.platform ≡ old.platform → world_in new ≡ world
   same_world s e =
       let header = s.header in
       let issued = s.issued in
       let committed = s.committed in
-      let there : held_in new ≡ held_in old = λ j. record {
+      let there : world_in new ≡ world_in old = λ j. record {
         header = header j;
         digests = digests_in (e j) (committed j);
         issued = issued j;
@@ -121,14 +121,14 @@ module _ (old new : Seat) (world : Held) (is : held_in old ≡ world) (k : Keeps
       } in
       there ∙ is
 
-  wanting : (event : Event) → StaysOn new.platform old new → SeatWants i d event old.platform new.platform
-      → Wants event world (held_in new)
+  wanting : (event : Event) → SeatStaysOn new.platform old new → SeatWants i d event old.platform new.platform
+      → EventWantsMemory event world (world_in new)
   wanting (Ask meddles stop offer b) s w = elim w [
     | inl e ↦ inl (same_world s e)
     | inr e ↦
         let c = course_of stop meddles in
-        let seen = seen_at i (by_digests i) d c in
-        let n : seen.count ≡ old.committed = count_none i (seen_in c.fates (reading_steps i.variant) 1) d
+        let seen = state_seen i (digest_level i) d c in
+        let n : seen.count ≡ old.committed = count_none i (moves_seen c.fates (reading_steps i.variant) 1) d
         (seen_none c.fates (reading_steps i.variant) 1) in
         let header = s.header in
         let issued = s.issued in
@@ -137,21 +137,21 @@ module _ (old new : Seat) (world : Held) (is : held_in old ≡ world) (k : Keeps
         ∙ (λ j. record seen { count = count j }) in
         let steps = e.steps in
         let writes = e.writes in
-        let read : held_in new ≡ having_read stop meddles (held_in old) = λ j. record {
+        let read : world_in new ≡ world_after_reading stop meddles (world_in old) = λ j. record {
           header = header j;
           digests = there j;
           issued = issued j;
           steps = steps j;
           writes = writes j;
         } in
-        inr (read ∙ ap (having_read stop meddles) is)
+        inr (read ∙ ap (world_after_reading stop meddles) is)
   ]
   wanting Power s w = absurd w
   wanting (Checkpoint meddles stop) s w = same_world s w
   wanting (Extend value) s w = same_world s w
 
   pub wants_world : (event : Event) (result : Result Reply Memory) → SeatFollows event old new result
-      → OnErr result (Wants event world (held_in new))
+      → OnErr result (EventWantsMemory event world (world_in new))
   wants_world event (Ok said) f = tt
   wants_world event (Err memory) f =
       let w = f.own world_key world_barrier d k.stands k.quiet refl in wanting event w.0 w.1
@@ -160,7 +160,7 @@ module _ (old new : Seat) (world : Held) (is : held_in old ≡ world) (k : Keeps
   pub printed_world : (event : Event) (result : Result Reply Memory) → SeatFollows event old new result → IfOk result IsPrintable
   printed_world event (Ok said) f =
       let c = f.own world_key world_barrier d k.stands k.quiet refl in
-      subst (λ (r : Reply). IsPrintable r) (sym c.reply) (printed (held_in old) event)
+      subst (λ (r : Reply). IsPrintable r) (sym c.reply) (printed (world_in old) event)
   printed_world event (Err memory) f = tt
 
   pub grown_world : (event : Event) (result : Result Reply Memory) → SeatFollows event old new result
@@ -168,11 +168,11 @@ module _ (old new : Seat) (world : Held) (is : held_in old ≡ world) (k : Keeps
   grown_world event (Ok said) f =
       let c = f.own world_key world_barrier d k.stands k.quiet refl in
       let more = ap (λ (x : List (List ℕ)). length x) c.issued in
-      omega (arith, ap (λ (w : Held). length w.issued) is, more, grown (held_in old) event)
+      omega (arith, ap (λ (w : WorldState). length w.issued) is, more, grown (world_in old) event)
   grown_world event (Err memory) f =
       let w = f.own world_key world_barrier d k.stands k.quiet refl in
       let same = ap (λ (x : List (List ℕ)). length x) w.0.issued in
-      omega (arith, ap (λ (w : Held). length w.issued) is, same)
+      omega (arith, ap (λ (w : WorldState). length w.issued) is, same)
 
 -- a new world
 
@@ -186,13 +186,13 @@ length-world_barrier = refl
 
 pub stands_new : (variant : Variant) (meaning : Meaning) (key barrier cell : List ℕ) → length key ≡ 32 → length barrier ≡ 32
     → cell ≡ cell_spelling (cell_of (instance_by variant meaning key barrier) first_history)
-    → Stands (instance_by variant meaning key barrier) (new_platform cell) (first_digests (instance_by variant meaning key barrier))
+    → HasDigests (instance_by variant meaning key barrier) (new_platform cell) (first_digests (instance_by variant meaning key barrier))
 stands_new Basic meaning key barrier cell length-key length-barrier e =
     let i = instance_by Basic meaning key barrier in
     record {
       at = record {
         spells =
-            record { summary = length-start_of Basic meaning.id; key = length-key; barrier = length-zero_bytes; variant = (refl, refl) };
+            record { summary = length-start_digest_of Basic meaning.id; key = length-key; barrier = length-zero_bytes; variant = (refl, refl) };
         cell = rw (e, summary-nil meaning.id) refl;
         reads = tt;
       };
@@ -202,7 +202,7 @@ stands_new Opt meaning key barrier cell length-key length-barrier e =
     let i = instance_by Opt meaning key barrier in
     record {
       at = record {
-        spells = record { summary = length-start_of Opt meaning.id; key = length-key; barrier = length-barrier; variant = tt };
+        spells = record { summary = length-start_digest_of Opt meaning.id; key = length-key; barrier = length-barrier; variant = tt };
         cell = rw (e, anchor-nil meaning.id) refl;
         reads = refl;
       };
@@ -220,19 +220,19 @@ module _ (h : Header) (key barrier : List ℕ) (seat : Seat) (same_key : key ≡
   platform_same : seat.platform ≡ new_platform (cell_by (world_of h))
   platform_same = first.platform ∙ ap (λ (i : Instance). new_platform (cell_by i)) instance_same
 
-  stands_first : Stands (world_of h) seat.platform (first_digests (world_of h))
-  stands_first = subst (λ (x : Standing). Stands (world_of h) x (first_digests (world_of h))) (sym platform_same)
+  stands_first : HasDigests (world_of h) seat.platform (first_digests (world_of h))
+  stands_first = subst (λ (x : Standing). HasDigests (world_of h) x (first_digests (world_of h))) (sym platform_same)
       (stands_new h.variant (meaning_of h.«module») world_key world_barrier (cell_by (world_of h)) length-world_key
       length-world_barrier refl)
 
   pub first_keeps : KeepsWorld seat
   first_keeps =
       let at = first_digests (world_of h) in
-      let there : Stands (world_of h) seat.platform (digests_in seat.platform seat.committed) =
-      subst (Stands (world_of h) seat.platform) (sym (digests_are (world_of h) at seat.platform seat.committed stands_first))
+      let there : HasDigests (world_of h) seat.platform (digests_in seat.platform seat.committed) =
+      subst (HasDigests (world_of h) seat.platform) (sym (digests_are (world_of h) at seat.platform seat.committed stands_first))
       (counting (world_of h) at seat.platform seat.committed stands_first) in
       record {
-        stands = subst (λ (x : Header). Stands (world_of x) seat.platform (digests_in seat.platform seat.committed))
+        stands = subst (λ (x : Header). HasDigests (world_of x) seat.platform (digests_in seat.platform seat.committed))
             (sym first.headed) there;
         quiet = record {
           is_on = ap (λ (x : Standing). x.is_on) platform_same;
@@ -241,7 +241,7 @@ module _ (h : Header) (key barrier : List ℕ) (seat : Seat) (same_key : key ≡
         few = omega (arith, ap (λ (x : List (List ℕ)). length x) first.issued);
       }
 
-  pub first_world : held_in seat ≡ first_held h
+  pub first_world : world_in seat ≡ first_world_state h
   first_world =
       let at = first_digests (world_of h) in
       let count = first.committed in

@@ -6,15 +6,15 @@ use Rattle.mm_base.specs.declared.fault.Memory.{Memory}
 use Rattle.mm_platform.specs.declared.plan.Stop.{Stop}
 use Rattle.mm_platform.specs.declared.plan.Stop.TheVariants as stop
 use Rattle.mm_platform.specs.Standing.{Standing}
-use Rattle.mm_platform.specs.Steps.{items_cycled}
-use Rattle.mm_platform.specs.Told.{quiet_plan}
+use Rattle.mm_platform.specs.Steps.{items_after_cycle}
+use Rattle.mm_platform.specs.PlannedSteps.{quiet_plan}
 use Rattle.mm_model.specs.declared.answer.BatchAnswer.{BatchAnswer}
 use Rattle.mm_model.specs.declared.refusal.Refusal.{Refusal}
 use Rattle.mm_model.specs.declared.refusal.Refusal.TheVariants as refusal
-use Rattle.mm_machine.specs.declared.call.Ended.{Ended as End}
-use Rattle.mm_machine.specs.declared.call.Ended.TheVariants as end
-use Rattle.mm_call.specs.declared.ended.Ended.{Ended}
-use Rattle.mm_call.specs.declared.ended.Ended.TheVariants.{Answered, Refused, Broken}
+use Rattle.mm_machine.specs.declared.call.OpResult.{OpResult as End}
+use Rattle.mm_machine.specs.declared.call.OpResult.TheVariants as end
+use Rattle.mm_call.specs.declared.ended.AskResult.{AskResult}
+use Rattle.mm_call.specs.declared.ended.AskResult.TheVariants.{Answered, Refused, Broken}
 use Rattle.mm_opt.specs.declared.segment.Checkpointed.{Checkpointed}
 use Rattle.mm_opt.specs.declared.segment.Checkpointed.TheVariants.{Done, NoSegment}
 use Rattle.mm_opt.specs.declared.segment.CheckpointRefusal.{CheckpointRefusal}
@@ -25,14 +25,14 @@ use Rattle.mm_schedule.specs.declared.reply.Cause.TheVariants as cause
 use Rattle.mm_schedule.specs.declared.reply.Reply.{Reply}
 use Rattle.mm_schedule.specs.declared.reply.Reply.TheVariants as reply
 use Rattle.mm_run.specs.Folds.{way_of, cause_of}
-use Rattle.mm_world.specs.declared.call.Called.{Called}
+use Rattle.mm_world.specs.declared.call.CallReport.{CallReport}
 
 -- a call that was refused
-abbrev pub refused_call : Cause → Called
+abbrev pub refused_call : Cause → CallReport
 refused_call cause = record { reply = reply.No cause; snapshot = None; committed = 0 }
 
 -- a call that was answered
-abbrev pub answered_call : BatchAnswer → Called
+abbrev pub answered_call : BatchAnswer → CallReport
 answered_call answer = record {
   reply = reply.Told answer.again (answer.position - length answer.outputs) answer.outputs;
   snapshot = Some answer.snapshot;
@@ -45,8 +45,8 @@ size_if (Some position) size = size
 size_if None size = 0
 
 -- a call that was broken off: whether it had committed its batch of this size, up to a position
-abbrev pub broken_as : Stop → Option ℕ → ℕ → Called
-broken_as stop kept size = record {
+abbrev pub broken_call : Stop → Option ℕ → ℕ → CallReport
+broken_call stop kept size = record {
   reply = option_map_or (λ position. reply.Kept (way_of stop) position) kept
       (reply.Nothing (way_of stop));
   snapshot = None;
@@ -61,16 +61,16 @@ takes_effect (stop.Drop step) = true
 takes_effect (stop.Fail step done) = done
 
 -- what a call came to that was refused: want of memory is the caller's
-abbrev pub RefusedAs : Refusal → Result Called Memory → Type 0
-RefusedAs refusal.Memory result = IsErr result
-RefusedAs why result = result ≡ Ok (refused_call (cause_of why))
+abbrev pub IsRefusalResult : Refusal → Result CallReport Memory → Type 0
+IsRefusalResult refusal.Memory result = IsErr result
+IsRefusalResult why result = result ≡ Ok (refused_call (cause_of why))
 
 -- what a call of a batch of this size came to, that ended so
-abbrev pub CalledAs : Stop → ℕ → Ended → Result Called Memory → Type 0
-CalledAs stop size (Answered answer) result = result ≡ Ok (answered_call answer)
-CalledAs stop size (Refused why) result = RefusedAs why result
-CalledAs stop size (Broken fault commits) result =
-    result ≡ Ok (broken_as stop (if takes_effect stop then commits else None) size)
+abbrev pub IsCallResult : Stop → ℕ → AskResult → Result CallReport Memory → Type 0
+IsCallResult stop size (Answered answer) result = result ≡ Ok (answered_call answer)
+IsCallResult stop size (Refused why) result = IsRefusalResult why result
+IsCallResult stop size (Broken fault commits) result =
+    result ≡ Ok (broken_call stop (if takes_effect stop then commits else None) size)
 
 -- a cut call leaves power off, which then comes back
 abbrev pub is_cut : Stop → Bool
@@ -79,9 +79,9 @@ is_cut (stop.Cut step) = true
 is_cut (stop.Drop step) = false
 is_cut (stop.Fail step done) = false
 
-pub record Restores (stop : Stop) (old new : Standing) : Type 0 where
+pub record PowerComesBack (stop : Stop) (old new : Standing) : Type 0 where
   pub cell : new.cell ≡ old.cell
-  pub items : new.items ≡ items_cycled (is_cut stop) old.items
+  pub items : new.items ≡ items_after_cycle (is_cut stop) old.items
   pub is_on : new.is_on ≡ (if is_cut stop then true else old.is_on)
   pub plan : new.plan ≡ old.plan
   pub steps : new.steps ≡ old.steps
@@ -90,7 +90,7 @@ pub record Restores (stop : Stop) (old new : Standing) : Type 0 where
 -- The plan is over, and where the call was broken off by a cut power was lost and is back.
 pub record SettlesPlan (stop : Stop) (is_broken : Bool) (old new : Standing) : Type 0 where
   pub cell : new.cell ≡ old.cell
-  pub items : new.items ≡ items_cycled (is_broken && is_cut stop) old.items
+  pub items : new.items ≡ items_after_cycle (is_broken && is_cut stop) old.items
   pub is_on : new.is_on ≡ (if is_broken && is_cut stop then true else old.is_on)
   pub plan : new.plan ≡ Some quiet_plan
   pub steps : new.steps ≡ old.steps
@@ -105,22 +105,22 @@ stopped_step (stop.Fail step done) = step
 
 -- whether a checkpoint that ended so and was stopped so has closed its segment: its last step does
 -- that
-abbrev pub closes_in : Stop → End Checkpointed CheckpointRefusal → Bool
-closes_in stop (end.Broken fault commits) = is_some commits && takes_effect stop
-closes_in stop _ = false
+abbrev pub has_closed_segment : Stop → End Checkpointed CheckpointRefusal → Bool
+has_closed_segment stop (end.Broken fault commits) = is_some commits && takes_effect stop
+has_closed_segment stop _ = false
 
 -- what a checkpoint that gave this and was stopped so is told as, by whether it has closed its
 -- segment
-abbrev pub told_closing : Stop → Bool → Result Checkpointed CheckpointRefusal → Reply
-told_closing stop closed (Ok Done) = reply.Checkpointed
-told_closing stop closed (Ok NoSegment) = reply.No cause.Segment
-told_closing stop closed (Err closing.Lost) = reply.No cause.Lost
-told_closing stop closed (Err (closing.Device fault)) =
+abbrev pub checkpoint_reply : Stop → Bool → Result Checkpointed CheckpointRefusal → Reply
+checkpoint_reply stop closed (Ok Done) = reply.Checkpointed
+checkpoint_reply stop closed (Ok NoSegment) = reply.No cause.Segment
+checkpoint_reply stop closed (Err closing.Lost) = reply.No cause.Lost
+checkpoint_reply stop closed (Err (closing.Device fault)) =
     if closed then reply.Closed (way_of stop) else reply.Nothing (way_of stop)
-told_closing stop closed (Err closing.Kind) = reply.No cause.Kind
-told_closing stop closed (Err closing.Blank) = reply.No cause.Blank
-told_closing stop closed (Err closing.Cell) = reply.No cause.Cell
+checkpoint_reply stop closed (Err closing.Kind) = reply.No cause.Kind
+checkpoint_reply stop closed (Err closing.Blank) = reply.No cause.Blank
+checkpoint_reply stop closed (Err closing.Cell) = reply.No cause.Cell
 
 -- whether a checkpoint was broken off by a fault
-abbrev pub stops_in : Result Checkpointed CheckpointRefusal → Bool
-stops_in ended = is_some (closing_fault_in ended)
+abbrev pub has_closing_fault : Result Checkpointed CheckpointRefusal → Bool
+has_closing_fault ended = is_some (closing_fault_in ended)

@@ -1,9 +1,9 @@
-pub mod Stands
+pub mod WorldStanding
 pub mod Calls
 pub mod Lengths
 pub mod Views
-pub mod Held
-pub mod Asks
-pub mod InVain
-pub mod Planned
+pub mod HeldWorld
+pub mod OwnCalls
+pub mod VainCalls
+pub mod PlannedCall
 pub mod Seat

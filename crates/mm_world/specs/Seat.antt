@@ -5,24 +5,24 @@ use Rattle.mm_seal.specs.Cell.{cell_spelling}
 use Rattle.mm_seal.specs.declared.cell.CellFault.{CellFault}
 use Rattle.mm_platform.specs.Memory.{new_platform}
 use Rattle.mm_platform.specs.Standing.{Standing}
-use Rattle.mm_platform.specs.Steps.{beside}
+use Rattle.mm_platform.specs.Steps.{items_beside}
 use Rattle.mm_modules.specs.Modules.{meaning_of}
 use Rattle.mm_model.specs.History.{first_history}
 use Rattle.mm_model.specs.Instance.{Instance}
 use Rattle.mm_model.specs.Moves.{Digests}
-use Rattle.mm_model.specs.Standing.{cell_of, issued_bytes, register_reads}
-use Rattle.mm_call.specs.Levels.{by_digests}
-use Rattle.mm_call.specs.Standing.{instance_by, counted_by}
+use Rattle.mm_model.specs.Standing.{cell_of, issued_bytes, register_reading}
+use Rattle.mm_call.specs.Levels.{digest_level}
+use Rattle.mm_call.specs.Standing.{instance_by, count_after_more}
 use Rattle.mm_schedule.specs.Events.{Event, Ask, Power}
 use Rattle.mm_schedule.specs.declared.header.Header.{Header}
 use Rattle.mm_schedule.specs.declared.reply.Reply.{Reply}
-use Rattle.mm_run.specs.Folds.{Outcome, event_outcome, event_in_vain}
-use Rattle.mm_world.specs.declared.call.Called.{Called}
+use Rattle.mm_run.specs.Folds.{Outcome, event_outcome, vain_event_outcome}
+use Rattle.mm_world.specs.declared.call.CallReport.{CallReport}
 use Rattle.mm_world.specs.declared.seat.Seat.{Seat}
-use Rattle.mm_world.specs.Asks.{Lacks}
-use Rattle.mm_world.specs.InVain.{IsRead, missing}
+use Rattle.mm_world.specs.OwnCalls.{CallLacksMemory}
+use Rattle.mm_world.specs.VainCalls.{IsRead, refusal_of_fault}
 use Rattle.mm_world.specs.Lengths.{length_if, within_64}
-use Rattle.mm_world.specs.Stands.{Stands, IsQuiet}
+use Rattle.mm_world.specs.WorldStanding.{HasDigests, IsQuiet}
 
 -- the instance of a header's variant and module that has this key and barrier
 abbrev pub instance_at : Header → (key barrier : List ℕ) → Instance
@@ -51,7 +51,7 @@ IsFirst header key barrier seat =
     IsOver header (cell_spelling (cell_of i first_history)) (issued_bytes i first_history) seat
 
 -- The seat keeps the snapshot that was handed out, if one was.
-pub record Keeps (snapshot : Option (List ℕ)) (old new : Seat) : Type 0 where
+pub record SeatKeeps (snapshot : Option (List ℕ)) (old new : Seat) : Type 0 where
   pub header : new.header ≡ old.header
   pub platform : new.platform ≡ old.platform
   pub issued : new.issued.items ≡ old.issued.items ++ option_to_list snapshot
@@ -59,7 +59,7 @@ pub record Keeps (snapshot : Option (List ℕ)) (old new : Seat) : Type 0 where
   pub committed : new.committed ≡ old.committed
 
 -- A call is over that came to this, and was answered so.
-pub record EndsCall (it : Called) (old new : Seat) (said : Reply) : Type 0 where
+pub record EndsCall (it : CallReport) (old new : Seat) (said : Reply) : Type 0 where
   pub header : new.header ≡ old.header
   pub platform : new.platform ≡ old.platform
   pub issued : new.issued.items ≡ old.issued.items ++ option_to_list it.snapshot
@@ -68,11 +68,11 @@ pub record EndsCall (it : Called) (old new : Seat) (said : Reply) : Type 0 where
   pub says : said ≡ it.reply
 
 -- a platform whose register others extend by this value
-abbrev pub extended_by : Standing → List ℕ → Standing
-extended_by old value = record old { items = beside (value ∷ []) old.items }
+abbrev pub extended_standing : Standing → List ℕ → Standing
+extended_standing old value = record old { items = items_beside (value ∷ []) old.items }
 
 -- Nothing was issued or committed, and the platform stands so.
-pub record StaysOn (standing : Standing) (old new : Seat) : Type 0 where
+pub record SeatStaysOn (standing : Standing) (old new : Seat) : Type 0 where
   pub header : new.header ≡ old.header
   pub platform : new.platform ≡ standing
   pub issued : new.issued.items ≡ old.issued.items
@@ -81,52 +81,52 @@ pub record StaysOn (standing : Standing) (old new : Seat) : Type 0 where
 
 -- An event came to this outcome, and was answered so: the platform is quiet, and stands as the
 -- outcome says.
-pub record Comes (i : Instance) (o : Outcome Digests) (old new : Seat) (said : Reply) : Type 0 where
+pub record EventComesTo (i : Instance) (o : Outcome Digests) (old new : Seat) (said : Reply) : Type 0 where
   pub reply : said ≡ o.reply
   pub issued : new.issued.items ≡ o.issued
   pub committed : new.committed ≡ within_64 o.state.count
   pub rises : old.committed ≤ o.state.count
-  pub stands : Stands i new.platform o.state
+  pub stands : HasDigests i new.platform o.state
   pub quiet : IsQuiet new.platform
-  pub steps : new.platform.steps ≡ counted_by o.steps old.platform.steps
-  pub writes : new.platform.writes ≡ counted_by o.writes old.platform.writes
+  pub steps : new.platform.steps ≡ count_after_more o.steps old.platform.steps
+  pub writes : new.platform.writes ≡ count_after_more o.writes old.platform.writes
 
 -- An event came to this outcome, and was answered so, where the cell is none that a call goes on
 -- with: the cell is as it was, and nothing was committed.
-pub record ComesInVain (o : Outcome Digests) (old new : Seat) (said : Reply) : Type 0 where
+pub record EventComesInVain (o : Outcome Digests) (old new : Seat) (said : Reply) : Type 0 where
   pub reply : said ≡ o.reply
   pub issued : new.issued.items ≡ o.issued
   pub committed : new.committed ≡ old.committed
   pub cell : new.platform.cell ≡ old.platform.cell
-  pub register : register_reads new.platform ≡ Some o.state.register
+  pub register : register_reading new.platform ≡ Some o.state.register
   pub quiet : IsQuiet new.platform
-  pub steps : new.platform.steps ≡ counted_by o.steps old.platform.steps
-  pub writes : new.platform.writes ≡ counted_by o.writes old.platform.writes
+  pub steps : new.platform.steps ≡ count_after_more o.steps old.platform.steps
+  pub writes : new.platform.writes ≡ count_after_more o.writes old.platform.writes
 
 -- Memory was wanting for an event: nothing has changed, but that a call that asks may have made its
 -- reading steps. A loss of power wants none.
-abbrev pub Wants : Instance → Digests → Event → Standing → Standing → Type 0
-Wants i d (Ask meddles stop offer b) old new = Lacks i d meddles stop old new
-Wants i d Power old new = ⊥
-Wants i d event old new = new ≡ old
+abbrev pub SeatLacksMemory : Instance → Digests → Event → Standing → Standing → Type 0
+SeatLacksMemory i d (Ask meddles stop offer b) old new = CallLacksMemory i d meddles stop old new
+SeatLacksMemory i d Power old new = ⊥
+SeatLacksMemory i d event old new = new ≡ old
 
 -- where the cell is none that a call goes on with, no call has then made a step
-abbrev pub WantsInVain : Event → Standing → Standing → Type 0
-WantsInVain Power old new = ⊥
-WantsInVain event old new = new ≡ old
+abbrev pub SeatLacksMemoryInVain : Event → Standing → Standing → Type 0
+SeatLacksMemoryInVain Power old new = ⊥
+SeatLacksMemoryInVain event old new = new ≡ old
 
 -- An event happened at a seat, over the cell of its variant and module, under any key and barrier,
 -- and over one that is blank or spells none.
-pub record Follows (event : Event) (old new : Seat) (result : Result Reply Memory) : Type 0 where
+pub record SeatTakesEvent (event : Event) (old new : Seat) (result : Result Reply Memory) : Type 0 where
   pub header : new.header ≡ old.header
   pub own : (key barrier : List ℕ) (d : Digests)
       → let i = instance_at old.header key barrier in
-      Stands i old.platform d → IsQuiet old.platform → d.count ≡ old.committed
+      HasDigests i old.platform d → IsQuiet old.platform → d.count ≡ old.committed
       → MatchResult result
-      (Comes i (event_outcome i (by_digests i) d old.issued.items event) old new)
-      (λ _. StaysOn new.platform old new × Wants i d event old.platform new.platform)
+      (EventComesTo i (event_outcome i (digest_level i) d old.issued.items event) old new)
+      (λ _. SeatStaysOn new.platform old new × SeatLacksMemory i d event old.platform new.platform)
   pub vain : (i : Instance) (d : Digests) (fault : CellFault)
       → IsRead (Err fault) d old.platform
       → MatchResult result
-      (ComesInVain (event_in_vain (by_digests i) d old.issued.items (missing fault) event) old new)
-      (λ _. StaysOn new.platform old new × WantsInVain event old.platform new.platform)
+      (EventComesInVain (vain_event_outcome (digest_level i) d old.issued.items (refusal_of_fault fault) event) old new)
+      (λ _. SeatStaysOn new.platform old new × SeatLacksMemoryInVain event old.platform new.platform)

@@ -8,13 +8,13 @@ use Rattle.mm_world.specs.declared.views.EventView.TheVariants as seen
 use Rattle.mm_world.specs.declared.views.OfferView.{OfferView}
 use Rattle.mm_world.specs.declared.views.OfferView.TheVariants as offered
 
-abbrev pub offer_seen : OfferView → Offer
-offer_seen (offered.Owned offer) = offer.now
-offer_seen (offered.Text from) = offer_of from
+abbrev pub offer_of_view : OfferView → Offer
+offer_of_view (offered.Owned offer) = offer.now
+offer_of_view (offered.Text from) = offer_of from
 
-abbrev pub event_seen : EventView → Event
-event_seen (seen.Ask course from batch) =
-    Ask course.meddles.now course.stop (offer_seen from) (batch_of batch)
-event_seen (seen.Checkpoint course) = Checkpoint course.meddles.now course.stop
-event_seen seen.Power = Power
-event_seen (seen.Extend value) = Extend value.bytes
+abbrev pub event_of_view : EventView → Event
+event_of_view (seen.Ask course from batch) =
+    Ask course.meddles.now course.stop (offer_of_view from) (batch_of batch)
+event_of_view (seen.Checkpoint course) = Checkpoint course.meddles.now course.stop
+event_of_view seen.Power = Power
+event_of_view (seen.Extend value) = Extend value.bytes

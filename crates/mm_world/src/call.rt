@@ -4,29 +4,29 @@ ghost use Rattle.std.specs.Prelude.{◌≡◌, ℕ, List, Some};
 ghost use Rattle.mm_module.specs.Batches.{batch_of};
 ghost use Rattle.mm_module.specs.Meaning.{Meaning};
 ghost use Rattle.mm_digest.specs.declared.variant.Variant.{Variant};
-ghost use Rattle.mm_run.specs.Offered.{offered_bytes};
-ghost use Rattle.mm_world.specs.InVain.{AsksPlanned, ChecksPlanned};
-ghost use Rattle.mm_world.specs.Calls.{refused_call, answered_call, broken_as, takes_effect, CalledAs, Restores, SettlesPlan, closes_in, told_closing};
-ghost use Rattle.mm_world.specs.Planned.{IsPlanned, tells_close};
-ghost use Rattle.mm_opt.specs.Closing.{closing};
+ghost use Rattle.mm_run.specs.EventOffers.{offered_bytes};
+ghost use Rattle.mm_world.specs.VainCalls.{AsksPlanned, ChecksPlanned};
+ghost use Rattle.mm_world.specs.Calls.{refused_call, answered_call, broken_call, takes_effect, IsCallResult, PowerComesBack, SettlesPlan, has_closed_segment, checkpoint_reply};
+ghost use Rattle.mm_world.specs.PlannedCall.{IsPlanned, TellsCheckpoint};
+ghost use Rattle.mm_opt.specs.ClosingOperation.{closing_operation};
 
 use crate::planning::planned;
 use mm_ask::Ask;
 use mm_base::{Bytes, Memory};
-use mm_call::{Ended, KeptKey};
+use mm_call::{AskResult, KeptKey};
 use mm_digest::Variant;
-use mm_machine::Ended as End;
+use mm_machine::OpResult as End;
 use mm_model::{BatchAnswer, Refusal};
 use mm_module::{Batch, Module};
-use mm_opt::{CheckpointRefusal, Checkpointed, Close};
+use mm_opt::{CheckpointRefusal, Checkpointed, OptCheckpoint};
 use mm_platform::{Meddle, MemPlatform, Stop};
-use mm_run::{Course, cause, offered, way};
+use mm_run::{CallPlan, cause, offered, way};
 use mm_schedule::{Cause, Offer, Reply};
 use std::alloc::Global;
 
 /// What a call came to.
 #[derive(Drop)]
-pub struct Called {
+pub struct CallReport {
     pub reply: Reply,
     /// The snapshot that the call hands out.
     pub snapshot: Option<Bytes>,
@@ -34,29 +34,29 @@ pub struct Called {
     pub committed: u64,
 }
 
-impl Called {
+impl CallReport {
     ghost use Rattle.std.specs.Prelude.{◌≡◌};
-    ghost use Rattle.mm_world.specs.Asks.{quiet_as};
-    ghost use Rattle.mm_world.specs.Calls.{refused_call, answered_call, broken_as};
+    ghost use Rattle.mm_world.specs.OwnCalls.{quiet_call};
+    ghost use Rattle.mm_world.specs.Calls.{refused_call, answered_call, broken_call};
 
-    fn refused(cause: Cause) -> Called
+    fn refused(cause: Cause) -> CallReport
         ensures { result ≡ refused_call cause }
     {
-        Called::quiet(Reply::No(cause))
+        CallReport::quiet(Reply::No(cause))
     }
 
     // A call that hands out no snapshot and commits nothing.
-    pub(crate) fn quiet(reply: Reply) -> Called
-        ensures { result ≡ quiet_as reply }
+    pub(crate) fn quiet(reply: Reply) -> CallReport
+        ensures { result ≡ quiet_call reply }
     {
-        Called {
+        CallReport {
             reply,
             snapshot: None,
             committed: 0,
         }
     }
 
-    fn told(answer: BatchAnswer) -> Called
+    fn told(answer: BatchAnswer) -> CallReport
         ensures { result ≡ answered_call answer }
     {
         let BatchAnswer {
@@ -66,7 +66,7 @@ impl Called {
             snapshot,
         } = answer;
         let size = outputs.len() as u64;
-        Called {
+        CallReport {
             reply: Reply::Told {
                 again,
                 before: position.saturating_sub(size),
@@ -78,17 +78,17 @@ impl Called {
     }
 
     // A call that was broken off: it has committed its batch of this size up to this position, if there is one.
-    fn broken(stop: Stop, kept: Option<u64>, size: u64) -> Called
-        ensures { result ≡ broken_as stop kept size }
+    fn broken(stop: Stop, kept: Option<u64>, size: u64) -> CallReport
+        ensures { result ≡ broken_call stop kept size }
     {
         let way = way(stop);
         match kept {
-            Some(position) => Called {
+            Some(position) => CallReport {
                 reply: Reply::Kept { way, position },
                 snapshot: None,
                 committed: size,
             },
-            None => Called {
+            None => CallReport {
                 reply: Reply::Nothing { way },
                 snapshot: None,
                 committed: 0,
@@ -118,23 +118,23 @@ pub fn settle(platform: &mut MemPlatform, stop: Stop, is_broken: bool)
 }
 
 // What a call of a batch of this size came to, that was stopped so. Memory exactly where it was refused for that.
-pub(crate) fn came_to(stop: Stop, ended: Ended, size: u64) -> Result<Called, Memory>
-    ensures { CalledAs stop size ended result }
+pub(crate) fn came_to(stop: Stop, ended: AskResult, size: u64) -> Result<CallReport, Memory>
+    ensures { IsCallResult stop size ended result }
 {
     match ended {
-        Ended::Answered(answer) => Ok(Called::told(answer)),
-        Ended::Refused(Refusal::Memory) => Err(Memory),
-        Ended::Refused(refusal) => Ok(Called::refused(cause(refusal))),
-        Ended::Broken { commits, .. } => {
+        AskResult::Answered(answer) => Ok(CallReport::told(answer)),
+        AskResult::Refused(Refusal::Memory) => Err(Memory),
+        AskResult::Refused(refusal) => Ok(CallReport::refused(cause(refusal))),
+        AskResult::Broken { commits, .. } => {
             let kept = if takes_effect(stop) { commits } else { None };
-            Ok(Called::broken(stop, kept, size))
+            Ok(CallReport::broken(stop, kept, size))
         }
     }
 }
 
 // Power comes back after a call that was cut.
 fn restore(platform: &mut MemPlatform, stop: Stop)
-    ensures { Restores stop platform.old platform.new }
+    ensures { PowerComesBack stop platform.old platform.new }
 {
     if let Stop::Cut(_) = stop {
         platform.lose_power();
@@ -155,16 +155,16 @@ fn planned_call<M: Module>(
     platform: &mut MemPlatform,
     offer: &[u8],
     batch: Batch<'_>,
-    course: &Course<'_>,
+    course: &CallPlan<'_>,
     keys: &mut KeptKey,
-) -> Result<Called, Memory>
+) -> Result<CallReport, Memory>
     ensures { (issued : List (List ℕ))
         → AsksPlanned caller.now.variant (M.meaning caller.now.«module».now) platform.old
         platform.new issued course.now.meddles.now course.now.stop (Some offer.now)
         (batch_of batch.entry) result }
 {
     if mm_model::is_long(&batch) {
-        return Ok(Called::refused(Cause::Long));
+        return Ok(CallReport::refused(Cause::Long));
     }
     let ask = Ask {
         variant: caller.variant,
@@ -184,23 +184,23 @@ pub fn call_by_offer<M: Module>(
     issued: &[Bytes],
     offer: &Offer,
     batch: Batch<'_>,
-    course: &Course<'_>,
+    course: &CallPlan<'_>,
     keys: &mut KeptKey,
-) -> Result<Called, Memory>
+) -> Result<CallReport, Memory>
     ensures { AsksPlanned caller.now.variant (M.meaning caller.now.«module».now) platform.old
         platform.new issued.now course.now.meddles.now course.now.stop
         (offered_bytes issued.now offer.now) (batch_of batch.entry) result }
 {
     match offered(caller.alloc, issued, offer) {
         Err(memory) => Err(memory),
-        Ok(None) => Ok(Called::refused(Cause::Snapshot)),
+        Ok(None) => Ok(CallReport::refused(Cause::Snapshot)),
         Ok(Some(offered)) => planned_call(caller, platform, offered.bytes(), batch, course, keys),
     }
 }
 
 // Whether a checkpoint that ended so and was stopped so has closed its segment: its last step does that.
 pub(crate) fn closes(stop: Stop, ended: &End<Checkpointed, CheckpointRefusal>) -> bool
-    ensures { result ≡ closes_in stop ended.now }
+    ensures { result ≡ has_closed_segment stop ended.now }
 {
     match ended {
         End::Broken { commits, .. } => commits.is_some() && takes_effect(stop),
@@ -214,7 +214,7 @@ pub(crate) fn told_closing(
     closed: bool,
     given: Result<Checkpointed, CheckpointRefusal>,
 ) -> Reply
-    ensures { result ≡ told_closing stop closed given }
+    ensures { result ≡ checkpoint_reply stop closed given }
 {
     match given {
         Ok(Checkpointed::Done) => Reply::Checkpointed,
@@ -229,11 +229,11 @@ pub(crate) fn told_closing(
 }
 
 // A checkpoint under a plan.
-fn close(platform: &mut MemPlatform, course: &Course<'_>) -> Result<Called, Memory>
-    ensures { IsPlanned closing tells_close course.now.meddles.now course.now.stop platform.old
+fn close(platform: &mut MemPlatform, course: &CallPlan<'_>) -> Result<CallReport, Memory>
+    ensures { IsPlanned closing_operation TellsCheckpoint course.now.meddles.now course.now.stop platform.old
         platform.new result }
 {
-    planned(&Close, platform, course, &mut KeptKey::new())
+    planned(&OptCheckpoint, platform, course, &mut KeptKey::new())
 }
 
 /// Makes a checkpoint under such a plan, which closes the open segment. In Basic there is none, and its first step finds that.
@@ -245,7 +245,7 @@ pub fn planned_checkpoint(
     ensures { (issued : List (List ℕ)) → ChecksPlanned platform.old platform.new issued meddles.now
         stop result }
 {
-    match close(platform, &Course { stop, meddles }) {
+    match close(platform, &CallPlan { stop, meddles }) {
         Err(memory) => Err(memory),
         Ok(called) => Ok(called.reply),
     }

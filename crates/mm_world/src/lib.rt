@@ -8,9 +8,9 @@ mod seat;
 mod views;
 mod world;
 
-pub use call::{Called, Caller, call_by_offer, planned_checkpoint, settle, takes_effect};
+pub use call::{CallReport, Caller, call_by_offer, planned_checkpoint, settle, takes_effect};
 pub use parts::{listed, provisioned};
-pub use planning::{Telling, planned, settled};
+pub use planning::{CallTeller, planned, settled};
 pub use seat::Seat;
 pub use views::{EventView, OfferView, line_view, owned_view};
 pub use world::World;

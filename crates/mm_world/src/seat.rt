@@ -4,7 +4,7 @@ ghost use Rattle.std.specs.Prelude.{◌≡◌, ◌≤◌, ◌-◌, ◌^◌, leng
 ghost use Rattle.std.specs.List.{sum_by};
 ghost use Rattle.mm_world.specs.Lengths.{within_64};
 
-use crate::call::{Called, Caller, call_by_offer, planned_checkpoint};
+use crate::call::{CallReport, Caller, call_by_offer, planned_checkpoint};
 use crate::parts::{length_if, provisioned};
 use crate::views::{EventView, OfferView};
 use mm_base::{Bytes, CELL_LENGTH, Memory};
@@ -12,7 +12,7 @@ use mm_call::{KeptKey, Provisioned};
 use mm_digest::Digest;
 use mm_module::Batch;
 use mm_platform::MemPlatform;
-use mm_run::Course;
+use mm_run::CallPlan;
 use mm_schedule::{Header, Offer, Reply, owned_offer};
 use std::alloc::Global;
 
@@ -33,10 +33,10 @@ pub struct Seat {
 impl Seat {
     ghost use Rattle.std.specs.Prelude.{◌≡◌, ◌<◌, IfOk, OnOk, OnErr, IsSome, vec_len, vec_capacity};
     ghost use Rattle.mm_module.specs.Batches.{batch_of};
-    ghost use Rattle.mm_platform.specs.Memory.{cycled};
+    ghost use Rattle.mm_platform.specs.Memory.{standing_after_cycle};
     ghost use Rattle.mm_schedule.specs.Events.{Ask, Checkpoint};
-    ghost use Rattle.mm_world.specs.Seat.{IsBare, IsOver, IsFirst, Keeps, EndsCall, StaysOn, Follows, extended_by};
-    ghost use Rattle.mm_world.specs.Views.{event_seen, offer_seen};
+    ghost use Rattle.mm_world.specs.Seat.{IsBare, IsOver, IsFirst, SeatKeeps, EndsCall, SeatStaysOn, SeatTakesEvent, extended_standing};
+    ghost use Rattle.mm_world.specs.Views.{event_of_view, offer_of_view};
 
     /// A seat over a new platform with this cell, on which nothing was issued.
     pub fn bare(alloc: Global, header: Header, cell: &[u8; CELL_LENGTH]) -> Seat
@@ -81,7 +81,7 @@ impl Seat {
 
     /// Makes room for one more snapshot.
     pub fn make_room(&mut self) -> Result<(), Memory>
-        ensures stays { StaysOn self.old.platform self.old self.new }
+        ensures stays { SeatStaysOn self.old.platform self.old self.new }
         ensures room { OnOk result (vec_len self.new.issued < vec_capacity self.new.issued) }
     {
         self.issued.reserve(1)?;
@@ -91,7 +91,7 @@ impl Seat {
     /// Keeps the snapshot that was handed out, if one was.
     pub fn keep(&mut self, snapshot: Option<Bytes>)
         requires { IsSome snapshot → vec_len self.old.issued < vec_capacity self.old.issued }
-        ensures { Keeps snapshot self.old self.new }
+        ensures { SeatKeeps snapshot self.old self.new }
     {
         self.kept = self.kept.saturating_add(length_if(&snapshot));
         if let Some(snapshot) = snapshot {
@@ -100,11 +100,11 @@ impl Seat {
     }
 
     /// A call is over: counts what it committed, and keeps the snapshot that it hands out.
-    pub fn end(&mut self, called: Called) -> Reply
+    pub fn end(&mut self, called: CallReport) -> Reply
         requires { IsSome called.snapshot → vec_len self.old.issued < vec_capacity self.old.issued }
         ensures { EndsCall called self.old self.new result }
     {
-        let Called {
+        let CallReport {
             reply,
             snapshot,
             committed,
@@ -118,7 +118,7 @@ impl Seat {
     /// its reading steps.
     #[inline(always)]
     pub fn follow(&mut self, event: EventView<'_>) -> Result<Reply, Memory>
-        ensures { Follows (event_seen event.entry) self.old self.new result }
+        ensures { SeatTakesEvent (event_of_view event.entry) self.old self.new result }
     {
         match event {
             EventView::Ask {
@@ -138,9 +138,9 @@ impl Seat {
         &mut self,
         from: OfferView<'_>,
         batch: Batch<'_>,
-        course: &Course<'_>,
+        course: &CallPlan<'_>,
     ) -> Result<Reply, Memory>
-        ensures { Follows (Ask course.now.meddles.now course.now.stop (offer_seen from.entry)
+        ensures { SeatTakesEvent (Ask course.now.meddles.now course.now.stop (offer_of_view from.entry)
             (batch_of batch.entry)) self.old self.new result }
     {
         match from {
@@ -158,9 +158,9 @@ impl Seat {
         &mut self,
         offer: &Offer,
         batch: Batch<'_>,
-        course: &Course<'_>,
+        course: &CallPlan<'_>,
     ) -> Result<Reply, Memory>
-        ensures { Follows (Ask course.now.meddles.now course.now.stop offer.now
+        ensures { SeatTakesEvent (Ask course.now.meddles.now course.now.stop offer.now
             (batch_of batch.entry)) self.old self.new result }
     {
         self.make_room()?;
@@ -184,8 +184,8 @@ impl Seat {
     }
 
     /// Closes the open segment.
-    pub fn checkpoint(&mut self, course: &Course<'_>) -> Result<Reply, Memory>
-        ensures { Follows (Checkpoint course.now.meddles.now course.now.stop) self.old self.new
+    pub fn checkpoint(&mut self, course: &CallPlan<'_>) -> Result<Reply, Memory>
+        ensures { SeatTakesEvent (Checkpoint course.now.meddles.now course.now.stop) self.old self.new
             result }
     {
         planned_checkpoint(&mut self.platform, course.meddles, course.stop)
@@ -193,7 +193,7 @@ impl Seat {
 
     /// Power is lost and comes back.
     pub fn lose_power(&mut self) -> Reply
-        ensures stays { StaysOn (cycled self.old.platform) self.old self.new }
+        ensures stays { SeatStaysOn (standing_after_cycle self.old.platform) self.old self.new }
         ensures says { result ≡ Reply.Power }
     {
         self.platform.lose_power();
@@ -204,8 +204,8 @@ impl Seat {
     pub fn extend(&mut self, value: &Digest) -> Result<Reply, Memory>
         ensures ok { IfOk result (λ said. said ≡ Reply.Extended) }
         ensures stays { OnOk result
-            (StaysOn (extended_by self.old.platform value.now.bytes) self.old self.new) }
-        ensures err { OnErr result (StaysOn self.old.platform self.old self.new) }
+            (SeatStaysOn (extended_standing self.old.platform value.now.bytes) self.old self.new) }
+        ensures err { OnErr result (SeatStaysOn self.old.platform self.old self.new) }
     {
         self.platform.foreign(value)?;
         Ok(Reply::Extended)

@@ -3,12 +3,12 @@
 ghost use Rattle.std.specs.Prelude.{◌≡◌};
 ghost use Rattle.mm_schedule.specs.Events.{event_of, meddles_of};
 ghost use Rattle.mm_schedule.specs.Texts.{event_in};
-ghost use Rattle.mm_world.specs.Views.{event_seen};
+ghost use Rattle.mm_world.specs.Views.{event_of_view};
 
 use crate::parts::listed;
 use mm_digest::Digest;
 use mm_module::Batch;
-use mm_run::Course;
+use mm_run::CallPlan;
 use mm_schedule::{Event, EventText, Meddles, Offer, OfferText};
 
 /// The snapshot that an event offers, where it lies.
@@ -22,12 +22,12 @@ pub enum OfferView<'a> {
 #[derive(Drop)]
 pub enum EventView<'a> {
     Ask {
-        course: Course<'a>,
+        course: CallPlan<'a>,
         from: OfferView<'a>,
         batch: Batch<'a>,
     },
     Checkpoint {
-        course: Course<'a>,
+        course: CallPlan<'a>,
     },
     Power,
     Extend {
@@ -38,7 +38,7 @@ pub enum EventView<'a> {
 /// An event with bytes of its own.
 #[inline(always)]
 pub fn owned_view(event: &Event) -> EventView<'_>
-    ensures { event_seen result ≡ event_of event.now }
+    ensures { event_of_view result ≡ event_of event.now }
 {
     match event {
         Event::Ask {
@@ -47,7 +47,7 @@ pub fn owned_view(event: &Event) -> EventView<'_>
             offer,
             request,
         } => EventView::Ask {
-            course: Course {
+            course: CallPlan {
                 stop: *stop,
                 meddles: listed(meddles),
             },
@@ -60,7 +60,7 @@ pub fn owned_view(event: &Event) -> EventView<'_>
             offer,
             text,
         } => EventView::Ask {
-            course: Course {
+            course: CallPlan {
                 stop: *stop,
                 meddles: listed(meddles),
             },
@@ -68,7 +68,7 @@ pub fn owned_view(event: &Event) -> EventView<'_>
             batch: Batch::Many(text.as_slice()),
         },
         Event::Checkpoint { meddles, stop } => EventView::Checkpoint {
-            course: Course {
+            course: CallPlan {
                 stop: *stop,
                 meddles: listed(meddles),
             },
@@ -81,7 +81,7 @@ pub fn owned_view(event: &Event) -> EventView<'_>
 /// An event in its line, with its meddles.
 #[inline(always)]
 pub fn line_view<'a>(meddles: &'a Meddles, text: EventText<'a>) -> EventView<'a>
-    ensures { event_seen result ≡ event_in (meddles_of meddles.now) text.entry }
+    ensures { event_of_view result ≡ event_in (meddles_of meddles.now) text.entry }
 {
     let meddles = listed(meddles);
     match text {
@@ -90,7 +90,7 @@ pub fn line_view<'a>(meddles: &'a Meddles, text: EventText<'a>) -> EventView<'a>
             from,
             request,
         } => EventView::Ask {
-            course: Course { stop, meddles },
+            course: CallPlan { stop, meddles },
             from: OfferView::Text(from),
             batch: Batch::One(request),
         },
@@ -99,12 +99,12 @@ pub fn line_view<'a>(meddles: &'a Meddles, text: EventText<'a>) -> EventView<'a>
             from,
             members,
         } => EventView::Ask {
-            course: Course { stop, meddles },
+            course: CallPlan { stop, meddles },
             from: OfferView::Text(from),
             batch: Batch::Many(members),
         },
         EventText::Checkpoint { stop } => EventView::Checkpoint {
-            course: Course { stop, meddles },
+            course: CallPlan { stop, meddles },
         },
         EventText::Power => EventView::Power,
         EventText::Extend { value } => EventView::Extend { value },

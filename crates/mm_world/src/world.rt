@@ -17,12 +17,12 @@ pub struct World {
 }
 
 impl Model for World {
-    ghost use Rattle.mm_run.specs.Held.{Held};
-    ghost use Rattle.mm_world.specs.Held.{held_in, KeepsWorld};
+    ghost use Rattle.mm_run.specs.WorldState.{WorldState};
+    ghost use Rattle.mm_world.specs.HeldWorld.{world_in, KeepsWorld};
 
-    ghost Value = { Held };
+    ghost Value = { WorldState };
 
-    ghost view = { λ w. held_in w.seat };
+    ghost view = { λ w. world_in w.seat };
 
     ghost invariant = { λ w. KeepsWorld w.seat };
 }
@@ -34,14 +34,14 @@ impl World {
     ghost use Rattle.mm_schedule.specs.Events.{event_of, meddles_of};
     ghost use Rattle.mm_schedule.specs.Texts as texts;
     ghost use Rattle.mm_schedule.specs.Replies.{IsPrintable};
-    ghost use Rattle.mm_run.specs.Held.{first_held, outcome_in, Follows, Wants};
-    ghost use Rattle.mm_world.specs.Held.{HoldsWorld};
+    ghost use Rattle.mm_run.specs.WorldState.{first_world_state, outcome_in, WorldFollows, EventWantsMemory};
+    ghost use Rattle.mm_world.specs.HeldWorld.{HoldsWorld};
     ghost use Rattle.mm_world.specs.Lengths.{within_64};
-    ghost use Rattle.mm_world.specs.Views.{event_seen};
+    ghost use Rattle.mm_world.specs.Views.{event_of_view};
 
     /// A new world: the platform is provisioned for the header's module, and its first snapshot has number 0.
     pub fn new(alloc: Global, header: &Header) -> Result<World, Memory>
-        ensures { IfOk result (λ world. world ≡ first_held header.now) }
+        ensures { IfOk result (λ world. world ≡ first_world_state header.now) }
     {
         match Seat::first(alloc, *header, &world_key(), &world_barrier()) {
             Err(memory) => Err(memory),
@@ -54,8 +54,8 @@ impl World {
     pub fn event(&mut self, event: &Event) -> Result<Reply, Memory>
         requires { length self.old.issued < 2 ^ 32 - 1 }
         ensures ok { IfOk result
-            (Follows (outcome_in self.old (event_of event.now)) self.old self.new) }
-        ensures wants { OnErr result (Wants (event_of event.now) self.old self.new) }
+            (WorldFollows (outcome_in self.old (event_of event.now)) self.old self.new) }
+        ensures wants { OnErr result (EventWantsMemory (event_of event.now) self.old self.new) }
 
         // The reply can be printed; at most one snapshot is issued, and at most 64 requests are committed.
         ensures printable { IfOk result IsPrintable }
@@ -69,11 +69,11 @@ impl World {
     /// Follows one event as it lies in its line, with its meddles, and answers it, as `event` does.
     pub fn event_in_line(&mut self, meddles: &Meddles, text: EventText<'_>) -> Result<Reply, Memory>
         requires { length self.old.issued < 2 ^ 32 - 1 }
-        ensures ok { IfOk result (Follows
+        ensures ok { IfOk result (WorldFollows
             (outcome_in self.old (texts.event_in (meddles_of meddles.now) text.entry))
             self.old self.new) }
         ensures wants { OnErr result
-            (Wants (texts.event_in (meddles_of meddles.now) text.entry) self.old self.new) }
+            (EventWantsMemory (texts.event_in (meddles_of meddles.now) text.entry) self.old self.new) }
         ensures printable { IfOk result IsPrintable }
         ensures grows { length self.new.issued ≤ length self.old.issued + 1 }
         ensures few { (outcome_in self.old
@@ -88,11 +88,11 @@ impl World {
     pub fn follow(&mut self, event: EventView<'_>) -> Result<Reply, Memory>
         requires { length self.old.issued < 2 ^ 32 - 1 }
         ensures ok { IfOk result
-            (Follows (outcome_in self.old (event_seen event.entry)) self.old self.new) }
-        ensures wants { OnErr result (Wants (event_seen event.entry) self.old self.new) }
+            (WorldFollows (outcome_in self.old (event_of_view event.entry)) self.old self.new) }
+        ensures wants { OnErr result (EventWantsMemory (event_of_view event.entry) self.old self.new) }
         ensures printable { IfOk result IsPrintable }
         ensures grows { length self.new.issued ≤ length self.old.issued + 1 }
-        ensures few { (outcome_in self.old (event_seen event.entry)).state.count
+        ensures few { (outcome_in self.old (event_of_view event.entry)).state.count
             ≤ self.old.digests.count + most_members }
     {
         self.seat.follow(event)

@@ -1,4 +1,4 @@
-use Rattle.mm_app.proofs.Below.{◌≡◌, ◌∙◌, ℕ, List, Option, ap, map, refl, subst, inr, Result, Err, Command, Replay, Slots, Transfer, one_command}
+use Rattle.mm_app.proofs.Below.{◌≡◌, ◌∙◌, ℕ, List, Option, ap, map, refl, subst, inr, Result, Err, CommandLine, Replay, Slots, Transfer, one_command}
 use Rattle.mm_app.proofs.Below.{BlamesSource, DoesOrLacks, Outside, outside, Status, Usage, Memory, StopsAs}
 use Rattle.mm_words.specs.declared.fault.WordsFault.{WordsFault}
 use Rattle.mm_words.specs.declared.fault.WordsFault.TheVariants as words
@@ -10,7 +10,7 @@ use Rattle.mm_app.proofs.OutputBlame.{output_blamed}
 use Rattle.mm_app.proofs.Completing.{may_be_done}
 use Rattle.mm_app.proofs.Holding.{Holding, spelled, spelled_where, unheld, unspelled, unspelled_where}
 use Rattle.mm_app.proofs.HoldingAll.{holding, much}
-use Rattle.mm_app.specs.Holding.{CantRead, FindsBasic, MayBeLost, NeedsInstance, RunsShort, StartsOne}
+use Rattle.mm_app.specs.StatusFacts.{CantRead, FindsBasic, MayBeLost, NeedsInstance, RunsShort, StartsOne}
 use Rattle.mm_app.specs.declared.status.Status.TheVariants.{Already, Blank, Cell, Kind, Lost, Refused, Short}
 use Rattle.mm_seal.specs.Cell.{blank_cell}
 use Rattle.std.specs.Prelude.{◌≢◌}
@@ -33,10 +33,10 @@ told_after g c =
     (g.K.Sink.received c.done.new.out) (g.K.Sink.faults c.done.new.out)
 
 -- what the command did that these words spell
-did : (g : Over) (c : After-done g) (command : Command) → SpellsCommand command (map (λ s. s.now) c.args.words.now)
+did : (g : Over) (c : After-done g) (command : CommandLine) → SpellsCommand command (map (λ s. s.now) c.args.words.now)
     → DoesOrLacks command (told_before g c) (told_after g c) c.done.result
 did g c command spells =
-    subst (λ (it : Command). DoesOrLacks it (told_before g c) (told_after g c) c.done.result)
+    subst (λ (it : CommandLine). DoesOrLacks it (told_before g c) (told_after g c) c.done.result)
     (one_command _ c.in-Ok.command command c.in-Ok.ensures.ok spells) c.done.ensures.does
 
 -- whom its status blames
@@ -78,7 +78,7 @@ returns-in-Ok-clause-disk g c = (blames g (goal.at.returns-in-Ok-clause-disk g c
 pub returns-in-Ok-clause-source : goal.returns-in-Ok-clause-source
 returns-in-Ok-clause-source g c command spells =
     let it = (goal.at.returns-in-Ok-clause-source g c).After-done in
-    subst (λ (said : Command). BlamesSource said (told_before g it) (told_after g it) c.done.result)
+    subst (λ (said : CommandLine). BlamesSource said (told_before g it) (told_after g it) c.done.result)
     (one_command _ c.in-Ok.command command c.in-Ok.ensures.ok spells) (blames g it).source
 
 pub returns-in-Ok-clause-wrote : goal.returns-in-Ok-clause-wrote
@@ -142,7 +142,7 @@ returns-in-Ok-clause-much g c it spells =
     much it (told_before g here) (told_after g here) c.done.result (did g here (Bulk it) spells)
 
 -- words that spell a command, but memory was wanting
-is_memory : (fault : WordsFault) → ((let r : Result Command WordsFault = Err fault in r ≡ Err words.Usage) → ⊥)
+is_memory : (fault : WordsFault) → ((let r : Result CommandLine WordsFault = Err fault in r ≡ Err words.Usage) → ⊥)
     → words_status fault ≡ Memory
 is_memory words.Usage other = absurd (other refl)
 is_memory words.Memory other = refl
@@ -153,7 +153,7 @@ only_out g c received writes =
     outside (g.P.Device.standing c.args.platform.now) (g.T.Store.kept c.args.store.now) (g.S.Source.left c.args.input.now)
     (g.S.Source.faults c.args.input.now) (g.E.Source.left c.args.entropy.now) (g.E.Source.faults c.args.entropy.now) received writes
 
-lacked : (g : Over) (c : After-stopped g) (command : Command) → SpellsCommand command (map (λ s. s.now) c.args.words.now)
+lacked : (g : Over) (c : After-stopped g) (command : CommandLine) → SpellsCommand command (map (λ s. s.now) c.args.words.now)
     → DoesOrLacks command (only_out g c (g.K.Sink.received c.args.out.now) (g.K.Sink.faults c.args.out.now))
     (only_out g c (g.K.Sink.received c.stopped.new.out) (g.K.Sink.faults c.stopped.new.out)) c.stopped.result
 lacked g c command spells = inr (record {

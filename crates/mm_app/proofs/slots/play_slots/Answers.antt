@@ -1,4 +1,4 @@
-use Rattle.mm_slots.specs.Plays.{PlaysSlots}
+use Rattle.mm_slots.specs.WholeSlots.{PlaysSlots}
 use Rattle.mm_app.proofs.Stopping.{plays_and_stops}
 use Rattle.mm_app.proofs.slots.play_slots.Goals as goal
 

@@ -1,4 +1,4 @@
-use Rattle.mm_transfer.specs.Plays.{PlaysTransfer}
+use Rattle.mm_transfer.specs.TransferPlay.{PlaysTransfer}
 use Rattle.mm_app.proofs.Stopping.{plays_and_stops}
 use Rattle.mm_app.proofs.transfer.play_transfer.Goals as goal
 

@@ -1,9 +1,9 @@
-use Rattle.mm_base.proofs.Below.{◌≡◌, length, GoesOut}
+use Rattle.mm_base.proofs.Below.{◌≡◌, length, FrontGoesOut}
 use Rattle.mm_base.proofs.sink.write_all.Given as goal
 
 abbrev pub invariant-pieces : goal.invariant-pieces
 invariant-pieces g l = record {
-  gone : GoesOut (g.K.Sink.received l.fn.sink) (g.K.Sink.received l.sink) l.bytes l.rest;
+  gone : FrontGoesOut (g.K.Sink.received l.fn.sink) (g.K.Sink.received l.sink) l.bytes l.rest;
   kept : g.K.Sink.faults l.sink ≡ g.K.Sink.faults l.fn.sink;
 }
 

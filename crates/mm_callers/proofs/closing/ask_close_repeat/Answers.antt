@@ -1,4 +1,4 @@
-use Rattle.mm_callers.proofs.Below.{refl, whole, replied}
+use Rattle.mm_callers.proofs.Below.{refl, batch_answer_of, replied}
 use Rattle.mm_callers.specs.Counts.{in_first, in_closing, in_second}
 use Rattle.mm_callers.proofs.Counting.{counts_call}
 use Rattle.mm_callers.proofs.OptRepeating.{repeats_behind, never_twice, refused_first, refused_closing, refused_again}
@@ -19,14 +19,14 @@ returns-in-Err-clause-counts g c = in_first c.in-Err.refusal refl (counts_call c
 
 pub returns-in-Err-checkpoint-clause-counts : goal.returns-in-Err-checkpoint-clause-counts
 returns-in-Err-checkpoint-clause-counts g c =
-    in_closing c.in-Err-checkpoint.refusal refl (g.P.Device.standing c.ask.new.platform) (whole c.in-Ok.first)
+    in_closing c.in-Err-checkpoint.refusal refl (g.P.Device.standing c.ask.new.platform) (batch_answer_of c.in-Ok.first)
     (counts_call c.in-Ok.ensures)
     (record { steps = c.in-Err-checkpoint.ensures.steps; faults = c.in-Err-checkpoint.ensures.faults })
 
 pub returns-in-Err-ask-clause-counts : goal.returns-in-Err-ask-clause-counts
 returns-in-Err-ask-clause-counts g c =
     in_second c.in-Err-ask.refusal refl (g.P.Device.standing c.ask.new.platform) (g.P.Device.standing c.checkpoint.new.platform)
-    (whole c.in-Ok.first) c.in-Ok-checkpoint.field-0 (counts_call c.in-Ok.ensures)
+    (batch_answer_of c.in-Ok.first) c.in-Ok-checkpoint.field-0 (counts_call c.in-Ok.ensures)
     (record { steps = c.in-Ok-checkpoint.ensures.steps; faults = c.in-Ok-checkpoint.ensures.faults })
     (counts_call c.in-Err-ask.ensures)
 

@@ -1,9 +1,9 @@
-use Rattle.mm_callers.proofs.Below.{basic, opt}
+use Rattle.mm_callers.proofs.Below.{basic_instance, opt_instance}
 use Rattle.mm_callers.proofs.Completing.{complete}
 use Rattle.mm_callers.proofs.laws.calls_are_complete.Goals as goal
 
 pub returns-clause-basic : goal.returns-clause-basic
-returns-clause-basic c meaning key = complete (basic meaning key)
+returns-clause-basic c meaning key = complete (basic_instance meaning key)
 
 pub returns-clause-opt : goal.returns-clause-opt
-returns-clause-opt c meaning key barrier = complete (opt meaning key barrier)
+returns-clause-opt c meaning key barrier = complete (opt_instance meaning key barrier)

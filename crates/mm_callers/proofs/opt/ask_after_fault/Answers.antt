@@ -1,4 +1,4 @@
-use Rattle.mm_callers.proofs.Below.{whole_in}
+use Rattle.mm_callers.proofs.Below.{batch_result_of}
 use Rattle.mm_callers.proofs.OptCalls.{asked_once, asked_after_fault}
 use Rattle.mm_callers.proofs.Counting.{counts_call, counted_again}
 use Rattle.mm_callers.proofs.OptComplete.{asked_quietly, asked_faultless}
@@ -23,7 +23,7 @@ returns-in-Ok-clause-complete g c = asked_quietly c.in-Ok.ensures
 
 pub returns-in-Err-Device-clause-complete : goal.returns-in-Err-Device-clause-complete
 returns-in-Err-Device-clause-complete g c =
-    asked_faultless (g.P.Device.standing c.ask-in-Err-Device.new.platform) (whole_in c.ask-in-Err-Device.result) c.in-Err-Device.field-0-is
+    asked_faultless (g.P.Device.standing c.ask-in-Err-Device.new.platform) (batch_result_of c.ask-in-Err-Device.result) c.in-Err-Device.field-0-is
     c.in-Err-Device.ensures
 
 pub returns-in-Err-clause-complete : goal.returns-in-Err-clause-complete

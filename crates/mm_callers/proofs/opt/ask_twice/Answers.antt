@@ -1,4 +1,4 @@
-use Rattle.mm_callers.proofs.Below.{refl, whole, alone, both}
+use Rattle.mm_callers.proofs.Below.{refl, batch_answer_of, alone, both}
 use Rattle.mm_callers.proofs.OptCalls.{refused_first, asked_twice}
 use Rattle.mm_callers.proofs.Counting.{counts_call}
 use Rattle.mm_callers.proofs.opt.ask_twice.Goals as goal
@@ -9,7 +9,7 @@ returns-in-Ok-clause-twice g c =
 
 pub returns-in-Ok-clause-counts : goal.returns-in-Ok-clause-counts
 returns-in-Ok-clause-counts g c =
-    both (g.P.Device.standing c.ask.new.platform) (whole c.in-Ok.answer) (counts_call c.in-Ok.ensures)
+    both (g.P.Device.standing c.ask.new.platform) (batch_answer_of c.in-Ok.answer) (counts_call c.in-Ok.ensures)
     (counts_call c.ask-in-Ok.ensures)
 
 pub returns-in-Err-clause-twice : goal.returns-in-Err-clause-twice

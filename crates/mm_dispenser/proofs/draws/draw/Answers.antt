@@ -1,4 +1,4 @@
-use Rattle.mm_dispenser.proofs.Below.{◌+◌, ◌-◌, ◌++◌, List, ℕ, ap, ◌∙◌, arith, add_assoc, key_of, word_text, words_text, drawn_text}
+use Rattle.mm_dispenser.proofs.Below.{◌+◌, ◌-◌, ◌++◌, List, ℕ, ap, ◌∙◌, arith, add_assoc, key_of, word_text, words_text, text_of_draw}
 use Rattle.mm_dispenser.proofs.DrawLaws.{next-drawn, drawn-step}
 use Rattle.mm_dispenser.proofs.draws.draw.Goals as goal
 
@@ -13,6 +13,6 @@ words-preserved c =
       drawn =
           ap (λ (t : List ℕ). t ++ words_text c.args.seed.now (c.args.place + (i + 1)) (c.args.count - (i + 1)))
           (c.in_ok-put_word.ensures ∙ ap (λ (w : ℕ). c.words.text ++ word_text w) n.is)
-          ∙ drawn-step c.args.seed.now c.words.text (drawn_text c.args.seed.now c.args.place c.args.count) c.args.place c.args.count i
+          ∙ drawn-step c.args.seed.now c.words.text (text_of_draw c.args.seed.now c.args.place c.args.count) c.args.place c.args.count i
           c.words-test.true c.words.invariant.drawn;
     }

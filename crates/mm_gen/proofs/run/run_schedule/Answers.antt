@@ -1,4 +1,4 @@
-use Rattle.mm_gen.proofs.Below.{◌∙◌, sym, ap, Err, sha256, running, Running, line_at}
+use Rattle.mm_gen.proofs.Below.{◌∙◌, sym, ap, Err, sha256, running_replay, RunningReplay, line_at}
 use Rattle.std.proofs.lemmas.Result.{err_from_is_err_and}
 use Rattle.mm_gen.proofs.Tallying.{behind_first, ended, goes_on, next, starts, stops, within}
 use Rattle.mm_gen.proofs.run.run_schedule.Goals as goal
@@ -9,9 +9,9 @@ lines-init c =
     ∙ behind_first c.args.number c.args.count c.args.header.now in
     let rest = c.behind_header-rest.ensures _ _ found in
     record {
-      going = starts c.args.number c.args.count c.args.header.now _ (running c.in_ok-progress.progress) _ _ c.requires.count rest
+      going = starts c.args.number c.args.count c.args.header.now _ (running_replay c.in_ok-progress.progress) _ _ c.requires.count rest
           c.in_ok-progress.ensures c.none-counts.ensures c.new-replies.ensures;
-      header = ap (λ (r : Running). r.header) c.in_ok-progress.ensures;
+      header = ap (λ (r : RunningReplay). r.header) c.in_ok-progress.ensures;
     }
 
 pub answered-requires-clause-short : goal.answered-requires-clause-short
@@ -33,23 +33,23 @@ pub lines-preserved-in_ok-put_reply : goal.lines-preserved-in_ok-put_reply
 lines-preserved-in_ok-put_reply c =
     let step = next _ _ _ _ _ _ _ c.lines.invariant.going (sym c.in-Some.ensures) in
     record {
-      going = goes_on _ _ _ (running c.answered.new.progress) _ _ _ _ c.in-Some.line.now c.in-Some.behind.now c.in_ok-reply.reply step
+      going = goes_on _ _ _ (running_replay c.answered.new.progress) _ _ _ _ c.in-Some.line.now c.in-Some.behind.now c.in_ok-reply.reply step
           c.in_ok-reply.ensures.reply c.count.ensures.counted c.in_ok-put_reply.ensures;
-      header = step.header c.in_ok-reply.reply (running c.answered.new.progress) c.in_ok-reply.ensures.reply ∙ c.lines.invariant.header;
+      header = step.header c.in_ok-reply.reply (running_replay c.answered.new.progress) c.in_ok-reply.ensures.reply ∙ c.lines.invariant.header;
     }
 
 pub lines-preserved : goal.lines-preserved
 lines-preserved c =
     let step = next _ _ _ _ _ _ _ c.lines.invariant.going (sym c.in-Some.ensures) in
     record {
-      going = goes_on _ _ _ (running c.answered.new.progress) _ _ _ _ c.in-Some.line.now c.in-Some.behind.now c.in_ok-reply.reply step
+      going = goes_on _ _ _ (running_replay c.answered.new.progress) _ _ _ _ c.in-Some.line.now c.in-Some.behind.now c.in_ok-reply.reply step
           c.in_ok-reply.ensures.reply c.count.ensures.counted c.in_ok-put_reply.ensures;
-      header = step.header c.in_ok-reply.reply (running c.answered.new.progress) c.in_ok-reply.ensures.reply ∙ c.lines.invariant.header;
+      header = step.header c.in_ok-reply.reply (running_replay c.answered.new.progress) c.in_ok-reply.ensures.reply ∙ c.lines.invariant.header;
     }
 
 pub returns-clause-sums : goal.returns-clause-sums
 returns-clause-sums c =
-    ended _ _ (running c.lines.progress) _ _ _ _ _ c.digest_of.result c.lines.invariant.going (sym c.in_default.ensures)
+    ended _ _ (running_replay c.lines.progress) _ _ _ _ _ c.digest_of.result c.lines.invariant.going (sym c.in_default.ensures)
     c.lines.invariant.header c.report-report.ensures.committed c.report-report.ensures.issued
     (c.digest_of.ensures ∙ ap sha256 (c.as_slice-2.ensures.value ∙ c.in_ok-put_last_line.ensures))
 

@@ -1,10 +1,10 @@
-use Rattle.mm_gen.proofs.Below.{◌≡◌, ℕ, List, [], ◌∷◌, ◌++◌, refl, append_assoc, rules, lines_joined}
+use Rattle.mm_gen.proofs.Below.{◌≡◌, ℕ, List, [], ◌∷◌, ◌++◌, refl, append_assoc, rules, joined_lines}
 use Rattle.mm_gen.specs.Summaries.{end_text, events_text, other_counts, replies_text, told_counts}
 use Rattle.mm_gen.proofs.summary.summary_text.Goals as goal
 
 -- five lines put one after another
 five_lines : (a b c d e one two three four five : List ℕ) → one ≡ a ++ 10 ∷ [] → two ≡ one ++ b ++ 10 ∷ [] → three ≡ two ++ c ++ 10 ∷ []
-    → four ≡ three ++ d ++ 10 ∷ [] → five ≡ four ++ e ++ 10 ∷ [] → five ≡ lines_joined (a ∷ b ∷ c ∷ d ∷ e ∷ [])
+    → four ≡ three ++ d ++ 10 ∷ [] → five ≡ four ++ e ++ 10 ∷ [] → five ≡ joined_lines (a ∷ b ∷ c ∷ d ∷ e ∷ [])
 five_lines a b c d e one two three four five is1 is2 is3 is4 is5 = rw (is5, is4, is3, is2, is1) (simp append_assoc refl)
 
 pub returns : goal.returns

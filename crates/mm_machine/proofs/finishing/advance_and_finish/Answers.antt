@@ -1,5 +1,5 @@
 use Rattle.std.specs.Prelude.{refl}
-use Rattle.mm_machine.specs.declared.call.Step.TheVariants.{Going, Over}
+use Rattle.mm_machine.specs.declared.call.StepResult.TheVariants.{Going, Over}
 use Rattle.mm_machine.proofs.Joining.{joins}
 use Rattle.mm_machine.proofs.finishing.advance_and_finish.Goals as goal
 

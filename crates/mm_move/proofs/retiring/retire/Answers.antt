@@ -1,11 +1,11 @@
-use Rattle.mm_move.proofs.Below.{List, ℕ, moved_of, retires_in}
+use Rattle.mm_move.proofs.Below.{List, ℕ, moved_cell_of, retirement_in}
 use Rattle.mm_move.proofs.Moving.{moved_as}
 use Rattle.mm_move.proofs.Orders.{retires_no_fault}
 use Rattle.mm_move.proofs.retiring.retire.Goals as goal
 
 pub returns : goal.returns
 returns g c =
-    moved_as (λ (bytes : List ℕ). retires_in (g.M.Module.meaning c.args.module.now) c.args.variant c.args.link.now c.args.nonce.now
-    c.args.offer.now (moved_of bytes)) (λ (bytes : List ℕ). retires_no_fault (g.M.Module.meaning c.args.module.now) c.args.variant
-    c.args.link.now c.args.nonce.now c.args.offer.now (moved_of bytes)) (g.P.Device.standing c.args.platform.now)
+    moved_as (λ (bytes : List ℕ). retirement_in (g.M.Module.meaning c.args.module.now) c.args.variant c.args.link.now c.args.nonce.now
+    c.args.offer.now (moved_cell_of bytes)) (λ (bytes : List ℕ). retires_no_fault (g.M.Module.meaning c.args.module.now) c.args.variant
+    c.args.link.now c.args.nonce.now c.args.offer.now (moved_cell_of bytes)) (g.P.Device.standing c.args.platform.now)
     (g.P.Device.standing c.retire_by.new.platform) c.retire_by.result c.retire_by.ensures

@@ -1,4 +1,4 @@
-use Rattle.mm_quota.proofs.Below.{arith, sym, ap, ◌∙◌, are_bytes-Fits, of_count_bytes}
+use Rattle.mm_quota.proofs.Below.{arith, sym, ap, ◌∙◌, are_bytes-Fits, count_of_bytes}
 use Rattle.mm_quota.proofs.PlaceLaws.{is_state-short, state-within, state-beyond}
 use Rattle.mm_quota.proofs.place.state_is_spelled.Goals as goal
 
@@ -10,11 +10,11 @@ returns-then-count-most c =
     let front = c.in-Some.ensures.cases in
     c.accounts_are_spelled.ensures
     ∙ state-within c.args.most c.count_at-count.result c.args.state.now c.in-Some.body.now (omega (arith, front.2))
-    (are_bytes-Fits c.args.state.now c.type_inv.state) (c.count_at-count.ensures ∙ ap of_count_bytes front.0) front.1
+    (are_bytes-Fits c.args.state.now c.type_inv.state) (c.count_at-count.ensures ∙ ap count_of_bytes front.0) front.1
     c.if-count-most.true
 
 pub returns-else-count-most : goal.returns-else-count-most
 returns-else-count-most c =
     let front = c.in-Some.ensures.cases in
     state-beyond c.args.most c.count_at-count.result c.args.state.now (omega (arith, front.2))
-    (are_bytes-Fits c.args.state.now c.type_inv.state) (c.count_at-count.ensures ∙ ap of_count_bytes front.0) c.if-count-most.false
+    (are_bytes-Fits c.args.state.now c.type_inv.state) (c.count_at-count.ensures ∙ ap count_of_bytes front.0) c.if-count-most.false

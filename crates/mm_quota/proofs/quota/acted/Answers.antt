@@ -1,4 +1,4 @@
-use Rattle.mm_quota.proofs.Below.{ap, sym, ◌∙◌, arith, ℕ, min, Option, option_map, is_some, if◌then◌else◌, Account, Says, settled}
+use Rattle.mm_quota.proofs.Below.{ap, sym, ◌∙◌, arith, ℕ, min, Option, option_map, is_some, if◌then◌else◌, LedgerAccount, LedgerOutput, accounts_after}
 use Rattle.mm_quota.proofs.Below.{spelling_of, ledger_of, IsAccount-from, as_account, as_action, as_says}
 use Rattle.std.proofs.Common.{◌+◌}
 use Rattle.mm_quota.proofs.ActLaws.{found-within, put-is, put-spelled, decided, is_some-as_account}
@@ -16,7 +16,7 @@ with_account-requires c =
     (as_action c.args.action) (option_map as_account c.decision-says.result.0, as_says c.decision-says.result.1) c.decision-says.ensures
     (c.parts-count.ensures.count ∙ c.requires.spelled.counted) c.of-place.ensures.account in
     let puts = put-is c.args.most c.args.state.now c.args.name.now (as_action c.args.action) (as_account c.in-Some.account)
-    c.requires.spelled c.requires.named c.requires.action (sym (ap (λ (d : Option Account × Says). d.0) is)
+    c.requires.spelled c.requires.named c.requires.action (sym (ap (λ (d : Option LedgerAccount × LedgerOutput). d.0) is)
     ∙ ap (option_map as_account) c.in-Some.is) in
     let kept = IsAccount-from (as_account c.in-Some.account) puts.good in
     omega (arith, kept.named.short)
@@ -28,14 +28,14 @@ returns-in_ok-output-in-Some-clause-state c =
     let is = decided c.args.most c.parts-count.result.0 c.args.state.now c.args.name.now (option_map as_account c.of-place.result.found)
     (as_action c.args.action) (option_map as_account c.decision-says.result.0, as_says c.decision-says.result.1) c.decision-says.ensures
     count_is c.of-place.ensures.account in
-    let change_is = sym (ap (λ (d : Option Account × Says). d.0) is) ∙ ap (option_map as_account) c.in-Some.is in
+    let change_is = sym (ap (λ (d : Option LedgerAccount × LedgerOutput). d.0) is) ∙ ap (option_map as_account) c.in-Some.is in
     let puts = put-is c.args.most c.args.state.now c.args.name.now (as_action c.args.action) (as_account c.in-Some.account)
     c.requires.spelled c.requires.named c.requires.action change_is in
     c.in_ok-state-in-Some.ensures ∙
     put-spelled c.args.most c.count_with-count.result c.args.state.now c.args.name.now c.of-place.result.front.now
     c.of-place.result.back.now (as_account c.in-Some.account) (is_some c.of-place.result.found)
     (omega (arith, c.ranges.most.fits)) c.requires.spelled puts
-    (is_some-as_account c.of-place.result.found ∙ ap (λ (f : Option Account). is_some f) c.of-place.ensures.account)
+    (is_some-as_account c.of-place.result.found ∙ ap (λ (f : Option LedgerAccount). is_some f) c.of-place.ensures.account)
     (c.count_with-count.ensures ∙ ap (λ (n : ℕ). if is_some c.of-place.result.found then n else min (n + 1) 65535) count_is)
     c.of-place.ensures.puts ∙
-    ap (λ (change : Option Account). spelling_of (settled (ledger_of c.args.state.now) change)) (sym change_is)
+    ap (λ (change : Option LedgerAccount). spelling_of (accounts_after (ledger_of c.args.state.now) change)) (sym change_is)

@@ -1,5 +1,5 @@
 use Rattle.mm_recovery.proofs.Below.{BatchAnswer, Ok, ap, refl}
-use Rattle.mm_call.specs.LeavingLaws.{wholly}
+use Rattle.mm_call.specs.UntouchedLaws.{wholly}
 use Rattle.mm_recovery.proofs.OneCall.{is_call}
 use Rattle.mm_recovery.proofs.asking.ask.Goals as goal
 

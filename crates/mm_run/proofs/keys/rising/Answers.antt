@@ -2,7 +2,7 @@ use Rattle.mm_run.proofs.Below.{◌≡◌, ℕ, List, ◌+◌, ◌<◌, get_or, 
 use Rattle.std.proofs.Math.ListN.{length-set}
 use Rattle.std.proofs.lemmas.List.Edits.{fill_by_more}
 use Rattle.std.proofs.lemmas.List.FromFn.{length-range_with_len, get_or-range_with_len}
-use Rattle.mm_run.specs.Held.{rising_from}
+use Rattle.mm_run.specs.WorldState.{rising_from}
 use Rattle.mm_run.proofs.keys.rising.Goals as goal
 
 is_rising : (bytes : List ℕ) (first : ℕ) → length bytes ≡ 32 → ((k : ℕ) → k < 32 → get_or bytes k 0 ≡ first + k) → bytes ≡ rising_from first

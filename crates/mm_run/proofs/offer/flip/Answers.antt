@@ -1,5 +1,5 @@
 use Rattle.mm_run.proofs.Below.{◌≡◌, ℕ, ◌+◌, ◌-◌, ◌<◌, ◌%◌, List, ◌∷◌, ◌++◌, length, take, drop, get_or, sym, ap, ◌∙◌, add-one, length-drop}
-use Rattle.mm_run.proofs.Below.{bit_xor, set_split, flipped}
+use Rattle.mm_run.proofs.Below.{bit_xor, set_split, bytes_with_flipped_bit}
 use Rattle.std.proofs.Common.{rules}
 use Rattle.std.proofs.lemmas.Nat.{mod_below}
 use Rattle.std.proofs.Math.Seq.{take-length}
@@ -12,7 +12,7 @@ drop_whole n bytes = ap (λ (m : ℕ). take m (drop n bytes)) (sym (length-drop 
 
 flipped_is : (offset : ℕ) (bytes : List ℕ) → 0 < length bytes → take (offset % length bytes) bytes
     ++ (bit_xor (get_or bytes (offset % length bytes) 0) 1 ∷ take (length bytes - (offset % length bytes + 1))
-    (drop (offset % length bytes + 1) bytes)) ≡ flipped offset bytes
+    (drop (offset % length bytes + 1) bytes)) ≡ bytes_with_flipped_bit offset bytes
 flipped_is offset bytes h =
     let at : ℕ = offset % length bytes in
     let byte : ℕ = bit_xor (get_or bytes at 0) 1 in

@@ -1,4 +1,4 @@
-use Rattle.mm_store.specs.Pending.{pending_front}
+use Rattle.mm_store.specs.PendingRecord.{pending_front}
 use Rattle.mm_store.proofs.PendingLaws.{put_in_parts}
 use Rattle.mm_store.proofs.pending.put_front.Goals as goal
 

@@ -1,4 +1,4 @@
-use Rattle.mm_told.specs.Host.{bare}
+use Rattle.mm_told.specs.Host.{bare_standing}
 use Rattle.mm_told.proofs.Standings.{host_of}
 use Rattle.mm_told.proofs.hosting.begin.Given as goal
 
@@ -6,4 +6,4 @@ abbrev pub ghost-ask : goal.ghost-ask
 ghost-ask g a = host_of a.made.now (λ left. g.start)
 
 abbrev pub ghost-go_on : goal.ghost-go_on
-ghost-go_on g a = (g.start, bare (g.P.Device.standing a.platform.now))
+ghost-go_on g a = (g.start, bare_standing (g.P.Device.standing a.platform.now))

@@ -1,6 +1,6 @@
 use Rattle.std.proofs.Common.{rules, sym, subst}
 use Rattle.mm_platform.specs.Standing.{Standing}
-use Rattle.mm_told.specs.Host.{bare}
+use Rattle.mm_told.specs.Host.{bare_standing}
 use Rattle.mm_told.specs.Steps.{IsMade}
 use Rattle.mm_told.proofs.Missing.{made_bare}
 use Rattle.mm_told.proofs.hosting.go_on.Goals as goal
@@ -15,8 +15,8 @@ end-requires g c κs within =
         (
           made_bare c.args.one.now g.start.0 g.start.1 c.requires.1.1.1,
           (
-            subst (λ (at : Standing). IsMade c.in-Ok.two (bare at) (bare (bare new))) (sym c.requires.1.1.0)
-                (made_bare c.in-Ok.two (bare old) (bare new) c.in-Ok.ensures.made),
+            subst (λ (at : Standing). IsMade c.in-Ok.two (bare_standing at) (bare_standing (bare_standing new))) (sym c.requires.1.1.0)
+                (made_bare c.in-Ok.two (bare_standing old) (bare_standing new) c.in-Ok.ensures.made),
             tt,
           ),
         ),

@@ -1,4 +1,4 @@
-use Rattle.mm_transfer.proofs.Below.{List, ℕ, refl, moved_of, accepts_in, link_of, pair_of}
+use Rattle.mm_transfer.proofs.Below.{List, ℕ, refl, moved_cell_of, acceptance_in, link_of, pair_of}
 use Rattle.mm_transfer.proofs.Commanded.{nothing_named, named_by}
 use Rattle.mm_transfer.proofs.Lacking.{still_lacks}
 use Rattle.mm_transfer.proofs.Accepting.{accepted_done, accepted_unissued}
@@ -17,7 +17,7 @@ returns-in-Ok-None-clause-made c = λ which fits counted.
     let pair = pair_of c.args.here.now.seat.header in
     accepted_unissued pair which c.args.offer.now c.args.course.now.stop c.args.course.now.meddles.now c.args.here.now _
     c.args.between.now (nothing_named
-    (λ bytes (cell : List ℕ). accepts_in pair.meaning pair.variant (link_of pair) bytes (moved_of cell)) c.args.course.now.stop
+    (λ bytes (cell : List ℕ). acceptance_in pair.meaning pair.variant (link_of pair) bytes (moved_cell_of cell)) c.args.course.now.stop
     c.args.course.now.meddles.now c.args.between.now.tickets.items c.as_slice.result.now c.args.offer.now c.args.here.now.seat.platform _
     c.in-Ok-None.field-0 c.as_slice.ensures.value (c.in-Ok-None.ensures (link_of pair) refl) c.in-Ok-None.field-0-is)
     (record { digest = refl; issued = c.reserve.ensures.items; committed = refl }) fits counted
@@ -27,7 +27,7 @@ returns-in-Ok-Some-clause-made c = λ which fits counted.
     let pair = pair_of c.args.here.now.seat.header in
     accepted_done pair which c.args.offer.now c.args.course.now.stop c.args.course.now.meddles.now c.args.here.now _ c.enter.new.here
     c.args.between.now c.is_live-was_live.result c.cell.result.now c.in-Ok-Some.came c.enter.result (named_by
-    (λ bytes (cell : List ℕ). accepts_in pair.meaning pair.variant (link_of pair) bytes (moved_of cell)) c.args.course.now.stop
+    (λ bytes (cell : List ℕ). acceptance_in pair.meaning pair.variant (link_of pair) bytes (moved_cell_of cell)) c.args.course.now.stop
     c.args.course.now.meddles.now c.args.between.now.tickets.items c.as_slice.result.now c.args.offer.now c.args.here.now.seat.platform _
     c.in-Ok-Some.field-0 c.as_slice.ensures.value (c.in-Ok-Some.ensures (link_of pair) refl) c.in-Ok-Some.came c.in-Ok-Some.field-0-is)
     c.is_live-was_live.ensures c.cell.ensures (record { digest = refl; issued = c.reserve.ensures.items; committed = refl })

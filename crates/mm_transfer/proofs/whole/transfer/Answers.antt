@@ -1,7 +1,7 @@
-use Rattle.mm_transfer.proofs.Below.{begun, events_err, events_ok, playing, plays_err, unrefused, PairsAgreeThroughout, OneIsLive, SidesRunAsOne}
+use Rattle.mm_transfer.proofs.Below.{first_transfer, events_err, events_ok, transfer_steps, plays_err, unrefused, PairsAgreeThroughout, OneIsLive, SidesRunAsOne}
 use Rattle.mm_sides.specs.Evidence.{PairsAreDecided}
-use Rattle.mm_transfer.specs.Headline.{AreOneTransfer, moved}
-use Rattle.mm_transfer.specs.Plays.{Reports}
+use Rattle.mm_transfer.specs.Headline.{AreOneTransfer, transfer_player}
+use Rattle.mm_transfer.specs.TransferPlay.{ReportsTransfer}
 use Rattle.mm_transfer.specs.Stage.{transfer_heads, transfer_stage}
 use Rattle.mm_transfer.specs.declared.report.TransferReport.{TransferReport}
 use Rattle.mm_transfer.proofs.Telling.{SideLaws, are_one_transfer, shown_in, shows}
@@ -12,16 +12,16 @@ by_laws agree live run decided = record { agree = agree; live = live; run = run;
 
 pub returns-clause-plays : goal.returns-clause-plays
 returns-clause-plays g c =
-    events_err moved transfer_heads transfer_stage playing begun shown_in shows AreOneTransfer
+    events_err transfer_player transfer_heads transfer_stage transfer_steps first_transfer shown_in shows AreOneTransfer
     (are_one_transfer (by_laws c.both_sides_agree.ensures c.one_side_is_live.ensures c.sides_run_as_one.ensures
-    c.pairs_are_decided.ensures)) Reports
+    c.pairs_are_decided.ensures)) ReportsTransfer
     c.new-player.ensures c.play.ensures.plays c.in-Err.fault c.in-Err.is
 
 pub returns-in-Ok-clause-plays : goal.returns-in-Ok-clause-plays
 returns-in-Ok-clause-plays g c =
-    events_ok moved transfer_heads transfer_stage playing begun shown_in shows AreOneTransfer
+    events_ok transfer_player transfer_heads transfer_stage transfer_steps first_transfer shown_in shows AreOneTransfer
     (are_one_transfer (by_laws c.both_sides_agree.ensures c.one_side_is_live.ensures c.sides_run_as_one.ensures
-    c.pairs_are_decided.ensures)) Reports
+    c.pairs_are_decided.ensures)) ReportsTransfer
     c.new-player.ensures c.play.ensures.plays tt c.in-Ok.is c.report_of.result c.report_of.ensures
 
 pub returns-clause-complete : goal.returns-clause-complete

@@ -1,4 +1,4 @@
-use Rattle.mm_twocell.proofs.Below.{rules, ◌≡◌, sym, subst, Option, Some, StepFault, WritesPicked}
+use Rattle.mm_twocell.proofs.Below.{rules, ◌≡◌, sym, subst, Option, Some, StepFault, WritesOtherCell}
 use Rattle.std.specs.Result.{result_err}
 use Rattle.mm_twocell.proofs.Writing.{IsRead, write_torn, write_ends}
 use Rattle.mm_twocell.proofs.pair.write_other.Goals as goal
@@ -11,7 +11,7 @@ returns-in_err-raw_write g c =
       other_is = c.from.ensures;
     } in
     let failed : result_err c.from_residual-in_err-raw_write.result ≡ Some c.in_err-raw_write.field-0.0 = search rules in
-    subst (λ (fault : Option StepFault). WritesPicked c.args.bytes.now (g.R.Device.standing c.args.raw.now)
+    subst (λ (fault : Option StepFault). WritesOtherCell c.args.bytes.now (g.R.Device.standing c.args.raw.now)
     (g.R.Device.standing c.raw_write.new.self) fault) (sym failed)
     (write_torn read c.in_ok-selector.ensures.goes c.in_err-raw_write.ensures (search rules))
 

@@ -1,4 +1,4 @@
-use Rattle.mm_expect.proofs.Below.{map, take, ◌+◌, [], subst, sym, Foreign, due, Recorded, Went}
+use Rattle.mm_expect.proofs.Below.{map, take, ◌+◌, [], subst, sym, Foreign, due_values, ChronicleView, ChronicleGoes}
 use Rattle.mm_expect.proofs.Walking.{bring_one, bring_none}
 use Rattle.mm_expect.proofs.chronicle.Chronicle.bring_due.Goals as goal
 use Rattle.mm_expect.proofs.chronicle.Chronicle.bring_due.Goals.{then-meddle-step+in_ok-bring, else-meddle-step}
@@ -7,7 +7,7 @@ pub meddles-preserved : goal.meddles-preserved
 meddles-preserved c =
     let all = c.args.course.now.meddles.now in
     let n = c.meddles.meddle-index in
-    let So : Recorded → Type 0 = λ r. Went c.args.self.now r (map Foreign (due c.args.step (take (n + 1) all))) in
+    let So : ChronicleView → Type 0 = λ r. ChronicleGoes c.args.self.now r (map Foreign (due_values c.args.step (take (n + 1) all))) in
     elim c.if-meddle-step.branch [
       | then-meddle-step+in_ok-bring w ↦
           subst So (sym w.self-is)

@@ -1,5 +1,5 @@
 use Rattle.std.proofs.Common.{◌∙◌}
-use Rattle.mm_model.proofs.Runs.{spelled_at, IsRun-push}
+use Rattle.mm_model.proofs.Runs.{spelled_at, IsStateOfRun-push}
 use Rattle.mm_model.proofs.machine.Machine.accept.Goals as goal
 
 pub step-requires-clause-spelled : goal.step-requires-clause-spelled

@@ -1,6 +1,6 @@
 use Rattle.mm_pages.proofs.Below.{◌≡◌, ℕ, ◌*◌, ◌++◌, List, length, take, drop, ap, ◌∙◌, arith, refl, subst, length-append, take-append_seam}
-use Rattle.mm_pages.proofs.Below.{resized, with_page}
-use Rattle.mm_pages.proofs.BytesLaws.{with_page-amid, with_page-end, length-resized}
+use Rattle.mm_pages.proofs.Below.{resized_bytes, bytes_with_page}
+use Rattle.mm_pages.proofs.BytesLaws.{bytes_with_page-amid, bytes_with_page-end, length-resized}
 use Rattle.mm_pages.proofs.memory.Sheet.put_page.Goals as goal
 
 seamless : (n : ℕ) (bytes rest : List ℕ) → length bytes ≡ n → take n (bytes ++ rest) ≡ bytes
@@ -12,10 +12,10 @@ returns-then-start-len c =
     let same : there ≡ c.args.self.now = c.as_mut_slice.ensures.value ∙ c.self.view_is in
     seamless _ c.put_at.new.bytes _ (omega arith)
     ∙ c.put_at.ensures
-    ∙ with_page-amid c.args.page (256 * c.from-start.result) c.args.part.now there
+    ∙ bytes_with_page-amid c.args.page (256 * c.from-start.result) c.args.part.now there
     (take (256 * c.from-start.result) there) (drop (256 * c.from-start.result) there) _
     (ap (λ n. 256 * n) c.from-start.ensures) (omega arith) refl refl refl
-    ∙ ap (λ (x : List ℕ). with_page c.args.page c.args.part.now x) same
+    ∙ ap (λ (x : List ℕ). bytes_with_page c.args.page c.args.part.now x) same
 
 pub unwrap-requires : goal.unwrap-requires
 unwrap-requires c =
@@ -48,5 +48,5 @@ pub returns : goal.returns
 returns c =
     let items = rw c.unwrap.ensures at c.extend_from_slice.ensures.items in
     items ∙ ap (λ (x : List ℕ). x ++ c.args.part.now) (c.self-2.view_is ∙ c.resize.ensures
-    ∙ ap (λ n. resized (256 * n) c.args.self.now) c.from-start.ensures)
-    ∙ with_page-end c.args.page c.args.part.now c.args.self.now (omega (arith, ap length c.self.view_is))
+    ∙ ap (λ n. resized_bytes (256 * n) c.args.self.now) c.from-start.ensures)
+    ∙ bytes_with_page-end c.args.page c.args.part.now c.args.self.now (omega (arith, ap length c.self.view_is))

@@ -1,4 +1,4 @@
-use Rattle.mm_receipted.specs.Views.{as_kept}
+use Rattle.mm_receipted.specs.Views.{kept_state_of}
 use Rattle.mm_receipted.proofs.StateLaws.{long-at, room-at, inside-at}
 use Rattle.mm_receipted.proofs.receipted.ReceiptedModule.step.Goals as goal
 
@@ -7,15 +7,15 @@ read_kept-kept-requires g c = long-at (g.M.Module.meaning c.args.self.now.inner)
 
 pub step_unkeyed-requires : goal.step_unkeyed-requires
 step_unkeyed-requires g c =
-    room-at (g.M.Module.meaning c.args.self.now.inner) c.args.state.now (as_kept c.read_kept-kept.result) c.requires.spelled
+    room-at (g.M.Module.meaning c.args.self.now.inner) c.args.state.now (kept_state_of c.read_kept-kept.result) c.requires.spelled
     c.read_kept-kept.ensures c.if-kept-eq-LAST_POSITION.false
 
 pub step_keyed-requires-clause-spelled : goal.step_keyed-requires-clause-spelled
 step_keyed-requires-clause-spelled g c =
-    inside-at (g.M.Module.meaning c.args.self.now.inner) c.args.state.now (as_kept c.read_kept-kept.result) c.requires.spelled
+    inside-at (g.M.Module.meaning c.args.self.now.inner) c.args.state.now (kept_state_of c.read_kept-kept.result) c.requires.spelled
     c.read_kept-kept.ensures
 
 pub step_keyed-requires-clause-room : goal.step_keyed-requires-clause-room
 step_keyed-requires-clause-room g c =
-    room-at (g.M.Module.meaning c.args.self.now.inner) c.args.state.now (as_kept c.read_kept-kept.result) c.requires.spelled
+    room-at (g.M.Module.meaning c.args.self.now.inner) c.args.state.now (kept_state_of c.read_kept-kept.result) c.requires.spelled
     c.read_kept-kept.ensures c.if-kept-eq-LAST_POSITION.false

@@ -1,5 +1,5 @@
 use Rattle.std.proofs.Common.{ap, ◌∙◌, ℕ}
-use Rattle.mm_machine.specs.Stepping.{number_of}
+use Rattle.mm_machine.specs.OpSteps.{number_of}
 use Rattle.mm_slots.proofs.Stepping.{ask_broken, ask_next, breaks_next}
 use Rattle.mm_slots.specs.declared.flight.Flight.TheVariants as code
 use Rattle.mm_slots.proofs.parts.Parts.break_asking.Goals as goal

@@ -1,5 +1,5 @@
 use Rattle.std.proofs.Common.{ap, ◌∙◌, ℕ}
-use Rattle.mm_machine.specs.Stepping.{number_of}
+use Rattle.mm_machine.specs.OpSteps.{number_of}
 use Rattle.mm_slots.proofs.Stepping.{breaks_next, broken_quiet, close_broken, close_next, needs_none}
 use Rattle.mm_slots.specs.declared.flight.Flight.TheVariants as code
 use Rattle.mm_slots.proofs.parts.Parts.break_closing.Goals as goal

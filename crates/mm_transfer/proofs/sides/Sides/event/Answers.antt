@@ -1,7 +1,7 @@
 use Rattle.mm_transfer.proofs.Below.{◌≡◌, ◌∙◌, ℕ, ap, Digests, Both, Inside, both_with, side_event_of, side_in}
 use Rattle.mm_transfer.proofs.Acting.{Comes, event_first, event_second}
 use Rattle.mm_transfer.proofs.Wanting.{held_wants}
-use Rattle.mm_transfer.specs.Sides.{BothHeld}
+use Rattle.mm_transfer.specs.Sides.{TransferSides}
 use Rattle.mm_transfer.proofs.sides.Sides.event.Goals as goal
 use Rattle.mm_transfer.proofs.sides.Sides.event.Goals.{in-First, in-Second}
 
@@ -28,8 +28,8 @@ returns-clause-after c = (comes c).after
 
 header_is : (c : goal.Joined-event) → c.match-event.self-inside.header ≡ c.args.self.now.header
 header_is c = elim c.match-event.branch [
-  | in-First w ↦ ap (λ (s : Inside). s.header) w.self-inside-is ∙ ap (λ (h : BothHeld). h.header) c.self.view_is
-  | in-Second w ↦ ap (λ (s : Inside). s.header) w.self-inside-is ∙ ap (λ (h : BothHeld). h.header) c.self.view_is
+  | in-First w ↦ ap (λ (s : Inside). s.header) w.self-inside-is ∙ ap (λ (h : TransferSides). h.header) c.self.view_is
+  | in-Second w ↦ ap (λ (s : Inside). s.header) w.self-inside-is ∙ ap (λ (h : TransferSides). h.header) c.self.view_is
 ]
 
 pub returns-clause-wants : goal.returns-clause-wants

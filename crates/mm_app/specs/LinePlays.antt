@@ -1,0 +1,33 @@
+-- What a command does that answers the lines of the input.
+use Rattle.std.specs.Prelude.{◌≡◌, ℕ, List, Option, Result}
+use Rattle.mm_base.specs.declared.replay_fault.ReplayFault.{ReplayFault}
+use Rattle.mm_play.specs.PlaysInput.{IsBlamed, is_read_fault, is_write_fault}
+use Rattle.mm_app.specs.Status.{status_of}
+use Rattle.mm_app.specs.CommandOutput.{TellsStop}
+use Rattle.mm_app.specs.declared.status.Status.{Status}
+
+-- A play of the lines, which ended with an answer of this status; `Plays` says what was read and
+-- written with which answer. The input's count rose exactly where the input is to blame for it, and
+-- the output's exactly where the output is.
+pub record PlaysLines {R : Type 0}
+    (Plays : (left left' received received' : Option (List ℕ)) → Result R ReplayFault → Type 0)
+    (left left' received received' : Option (List ℕ))
+    (reads reads' writes writes' : ℕ)
+    (status : Status) : Type 0 where
+  pub answer : Result R ReplayFault
+  pub plays : Plays left left' received received' answer
+  pub read : IsBlamed (is_read_fault answer) reads reads'
+  pub wrote : IsBlamed (is_write_fault answer) writes writes'
+  pub ends : status ≡ status_of answer
+
+-- Such a play, and then its stop line. `middle` is what the output had received between the two,
+-- and `count` its count.
+pub record PlaysAndStops {R : Type 0}
+    (Plays : (left left' received received' : Option (List ℕ)) → Result R ReplayFault → Type 0)
+    (left left' received received' : Option (List ℕ))
+    (reads reads' writes writes' : ℕ)
+    (status : Status) : Type 0 where
+  pub middle : Option (List ℕ)
+  pub count : ℕ
+  pub played : PlaysLines Plays left left' received middle reads reads' writes count status
+  pub stops : TellsStop middle received' count writes' status

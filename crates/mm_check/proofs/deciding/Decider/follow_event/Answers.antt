@@ -1,0 +1,44 @@
+use Rattle.mm_check.proofs.Below.{◌∙◌, ℕ, ◌≡◌, ◌+◌, List, length, take, ap, subst, arith, length-map, length-take, fold, world_of, Event}
+use Rattle.mm_check.proofs.Below.{event_of, events_of, messages_with, ListsMessages, numbered_messages, StandsBehind}
+use Rattle.mm_check.specs.PremiseDecision.{LooksAtEvent}
+use Rattle.mm_check.specs.declared.deciding.Decider.{Decider}
+use Rattle.mm_check.proofs.DecidingLaws.{heard_after, room_for, stands_next}
+use Rattle.mm_check.proofs.GuardLaws.{events_more}
+use Rattle.mm_check.proofs.deciding.Decider.follow_event.Goals as goal
+
+pub list_all-requires : goal.list_all-requires
+list_all-requires c =
+    let header = c.args.header.now in
+    let before = events_of (take c.args.index c.args.events.now) in
+    let told = c.in_ok-heard.ensures in
+    let after = c.requires.stands.after in
+    omega (
+      arith,
+      room_for header c.args.events.now c.args.index c.index-events-index.result c.args.self.now c.in_ok-heard.heard c.requires.few
+          c.requires.stands (heard_after header before _ _ _ after told.hears),
+      ap length c.as_slice.ensures.value,
+    )
+
+pub returns : goal.returns
+returns c =
+    let header = c.args.header.now in
+    let all = c.args.events.now in
+    let index = c.args.index in
+    let event = c.index-events-index.result in
+    let before = events_of (take index all) in
+    let count : index ≡ length before = omega (arith, c.requires.within, length-map (take index all) event_of, length-take index all) in
+    let told = c.in_ok-heard.ensures in
+    let after = c.requires.stands.after in
+    let new : Decider = record {
+      expecting = c.event.new.self;
+      numbers = c.list_all.new.self;
+      forged = c.in_ok-forged.forged;
+      lines = c.put_reply.new.lines;
+    } in
+    subst (λ (l : List Event). StandsBehind header l new) (events_more all index event c.requires.within c.index-events-index.is)
+    (stands_next header before (event_of event) c.args.self.now new c.in_ok-heard.heard c.requires.stands
+    (heard_after header before _ _ _ after told.hears) (told.after header before after) told.grows
+    (subst (λ (l : List (List ℕ)). ListsMessages (fold messages_with (numbered_messages (world_of header) before) l) c.list_all.new.self) c.as_slice.ensures.value
+    (c.in_ok-list_all.ensures (numbered_messages (world_of header) before) c.requires.stands.lists)) c.in_ok-put_reply.ensures
+    (subst (λ (n : ℕ). LooksAtEvent c.args.self.now.expecting c.args.self.now.forged (event_of event) n c.in_ok-forged.forged)
+    (ap (λ (n : ℕ). n + 1) count) c.in_ok-forged.ensures))

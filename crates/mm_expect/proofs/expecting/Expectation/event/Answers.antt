@@ -1,0 +1,18 @@
+use Rattle.mm_expect.proofs.Below.{sym, ap, ◌∙◌, subst, any_is_lawful, event_of, IsPrintable, chronicle_instance, ExpectedState, expected_state_after}
+use Rattle.mm_schedule.specs.declared.reply.Reply.{Reply}
+use Rattle.mm_expect.proofs.AfterLaws.{event_state, goes_after}
+use Rattle.mm_expect.proofs.EventLaws.{printable}
+use Rattle.mm_expect.proofs.expecting.Expectation.event.Goals as goal
+
+pub returns-clause-state : goal.returns-clause-state
+returns-clause-state c = event_state (rw c.as_slice.ensures.value at c.in_ok-reply.ensures.went) c.in_ok-keep.ensures
+    ∙ ap (λ (t : ExpectedState). expected_state_after t (event_of c.args.event.now)) c.self.view_is
+
+pub returns-clause-after : goal.returns-clause-after
+returns-clause-after c = λ header events at.
+    goes_after header events (event_of c.args.event.now) c.args.self.now _ at (returns-clause-state c)
+
+pub returns-clause-printable : goal.returns-clause-printable
+returns-clause-printable c = subst (λ (r : Reply). IsPrintable r) (sym c.in_ok-reply.ensures.went.reply)
+    (printable (chronicle_instance c.self.inside.chronicle) (any_is_lawful c.self.inside.chronicle.«module») c.self.inside.chronicle.history
+    c.as_slice.result.now (event_of c.args.event.now))

@@ -1,0 +1,129 @@
+-- What a session comes to by lists alone, in either variant: its replies are those of one run of
+-- the module, and the slots that it leaves fit the history that the platform stands for.
+use Rattle.std.specs.Prelude.{◌≡◌, ◌≢◌, ◌+◌, ◌-◌, ◌≤◌, ℕ, List, [], ◌∷◌, ◌++◌, Option, None, Some, Result, Ok, Err, false, true, nat_eq}
+use Rattle.std.specs.Prelude.{◌⊎◌}
+use Rattle.std.proofs.Common.{inl, inr}
+use Rattle.mm_host.specs.Below.{last_position, WriteFault, Variant, Standing, Batch, One, Meaning, History}
+use Rattle.mm_host.specs.Below.{requests_of, total_of, Instance, Spoiled, LostLife}
+use Rattle.mm_host.specs.Below.{life_of, StandsFor, Answer, IsWithin, IsBatchStep}
+use Rattle.mm_host.specs.Below.{Reply, Told, StoreStanding, PendingRecord, Slots, slot_front, FitsHistory, IsRefusedAs}
+use Rattle.mm_host.specs.Below.{MayHaveCommitted, IsWaiting, HostFault, Store, Refused, Resumed, Answered}
+use Rattle.mm_model.specs.declared.refusal.Refusal.TheVariants.{Full}
+use Rattle.mm_host.specs.declared.fault.SessionFault.{SessionFault}
+use Rattle.mm_host.specs.declared.fault.SessionFault.TheVariants.{Host, Lines}
+use Rattle.mm_host.specs.Sessions.{ServedCall, GoesAfterResume, BeginsWith}
+
+-- the position of what waits, and 0 where nothing does
+abbrev pub waiting_position : Option PendingRecord → ℕ
+waiting_position None = 0
+waiting_position (Some p) = p.position
+
+-- What waits says no later position than this. A write of a record that failed may leave any bytes:
+-- this asks that they aren't by chance a record of a later position.
+pub record IsNotBeyond (slots : Slots) (position : ℕ) : Type 0 where
+  pub waiting : Option PendingRecord
+  pub is_waiting : IsWaiting (slot_front slots 2) (slot_front slots 3) waiting
+  pub most : waiting_position waiting ≤ position
+
+-- the reply that an answer is
+abbrev pub answer_reply : Answer → Reply
+answer_reply answer = Told answer.again (answer.position - 1) (answer.output ∷ [])
+
+-- Requests are asked one after another, and these answers are the replies of one run of the module,
+-- from some requests to others.
+abbrev pub CallsRunOver : Meaning → List (List ℕ) → List ServedCall → List (List ℕ) → Type 0
+CallsRunOver meaning requests [] after = after ≡ requests
+CallsRunOver meaning requests (c ∷ calls) after =
+    (between : List (List ℕ)) × IsBatchStep meaning requests (One c.line) (answer_reply c.answer)
+    between × CallsRunOver meaning between calls after
+
+-- what waited, with its answer
+abbrev pub first_served_call : Option PendingRecord → Resumed → List ServedCall
+first_served_call (Some p) (Answered answer) = record { line = p.request; answer = answer } ∷ []
+first_served_call _ _ = []
+
+module _ {variant : Variant} {meaning : Meaning} {begun : Result Resumed HostFault}
+    {platform after : Standing} {store new : StoreStanding} {left : Option (List ℕ)}
+    {taken sent : List ℕ} {result : Result Unit SessionFault} (waiting : Option PendingRecord) where
+  -- the requests that a session told, each with its answer
+  abbrev pub served_calls_in : GoesAfterResume variant meaning begun platform after store new left taken sent
+      result → List ServedCall
+  served_calls_in (inl stops) = []
+  served_calls_in (inr goes) = first_served_call waiting goes.first ++ goes.lines.calls
+
+  -- the request in hand where a session stopped: what waited, or the line after those that were
+  -- told
+  abbrev pub IsInHand : GoesAfterResume variant meaning begun platform after store new left taken sent
+      result → List ℕ → Type 0
+  IsInHand (inl stops) request = (p : PendingRecord) × (waiting ≡ Some p) × (p.request ≡ request)
+  IsInHand (inr goes) request = (held : List ℕ) × BeginsWith goes.lines.more request held
+
+-- A request may be committed and not told where memory, the store, a device or the output failed.
+abbrev pub MayBeUntold : {T : Type 0} → Result T SessionFault → Type 0
+MayBeUntold (Ok it) = ⊥
+MayBeUntold {T} (Err (Host fault)) = MayHaveCommitted {T = T} (Err fault)
+MayBeUntold (Err (Lines fault)) = fault ≡ WriteFault
+
+-- Each of these is new, at the next position, behind so many.
+abbrev pub AreNewFrom : ℕ → List ServedCall → Type 0
+AreNewFrom total [] = Unit {0}
+AreNewFrom total (c ∷ calls) =
+    (c.answer.again ≡ false) × (c.answer.position ≡ total + 1) × AreNewFrom (total + 1) calls
+
+-- Behind so many requests: what waited is told first, at its position, and again exactly where it
+-- was committed before; each line behind it is new.
+abbrev pub AreToldOnce : ℕ → Option PendingRecord → List ServedCall → Type 0
+AreToldOnce total None told = AreNewFrom total told
+AreToldOnce total (Some p) [] = Unit {0}
+AreToldOnce total (Some p) (c ∷ calls) =
+    (c.line ≡ p.request) × (c.answer.position ≡ p.position)
+    × (c.answer.again ≡ nat_eq p.position total) × AreNewFrom p.position calls
+
+-- A refusal is a device's fault; or it is Full, and every position is used up; or in Opt it tells
+-- how the history has ended.
+abbrev pub RefusesAs : {T : Type 0} → Result T SessionFault → Variant → History → Type 0
+RefusesAs (Err (Host (Refused Full))) variant after = total_of after.batches ≡ last_position
+RefusesAs (Err (Host (Refused why))) variant after = IsRefusedAs why (life_of variant after)
+RefusesAs _ variant after = Unit {0}
+
+-- one request more than those told is committed, the one in hand
+pub record HasUntold (hand : List ℕ → Type 0) (result : Result Unit SessionFault)
+    (requests after : List (List ℕ)) : Type 0 where
+  pub request : List ℕ
+  pub in_hand : hand request
+  pub untold : MayBeUntold result
+  pub grown : after ≡ requests ++ request ∷ []
+
+module _ (all others : List (List ℕ)) (asked : List Batch) (i : Instance) (y : History) where
+  -- From a history: what was told is one run of the module behind the history's requests. The
+  -- platform stands for a history of that run's requests, or of those and the one in hand. It isn't
+  -- spoiled where no value of others counts, nor lost where it wasn't before.
+  pub record RunsTo (standing : Standing) (told : List ServedCall) (hand : List ℕ → Type 0)
+      (result : Result Unit SessionFault) : Type 0 where
+    pub after : History
+    pub stands : StandsFor i standing after
+    pub within : IsWithin all others asked i after
+    pub requests : List (List ℕ)
+    pub run : CallsRunOver i.meaning (requests_of y.batches) told requests
+    pub committed : (requests_of after.batches ≡ requests)
+        ⊎ HasUntold hand result requests (requests_of after.batches)
+    pub unspoiled : others ≡ [] → life_of i.variant after ≢ Spoiled
+    pub powered : life_of i.variant y ≢ LostLife → life_of i.variant after ≢ LostLife
+
+  -- What waited is told first, and each line once; no request is behind the last position. The
+  -- slots fit that history too, so that the session may be gone on with. A refusal is a device's
+  -- fault, or Full where every position is used up, or tells how that history has ended.
+  pub record ContinuesTo (waiting : Option PendingRecord) (standing : Standing) (kept : StoreStanding)
+      (told : List ServedCall) (hand : List ℕ → Type 0) (result : Result Unit SessionFault) : Type 0
+    where
+      pub runs : RunsTo standing told hand result
+      pub open runs use *
+      pub once : AreToldOnce (total_of y.batches) waiting told
+      pub room : total_of runs.after.batches ≤ last_position
+      pub slots_after : Slots
+      pub honest : kept.is_honest ≡ true
+      pub slots_told : kept.slots ≡ Some slots_after
+      pub fits : IsNotBeyond slots_after (total_of runs.after.batches + 1) →
+          FitsHistory i slots_after runs.after
+      pub whole : result ≢ Err (Host Store) → FitsHistory i slots_after runs.after
+      pub refuses : RefusesAs result i.variant runs.after

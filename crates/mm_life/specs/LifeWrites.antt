@@ -1,0 +1,123 @@
+-- How often the cell is written over a life.
+use Rattle.std.specs.Prelude.{◌≡◌, ◌+◌, ◌≤◌, ℕ, zero, suc, Bool, true, false, List, [], ◌∷◌, Option, None, Some, Result, Ok, Err, length}
+use Rattle.mm_base.specs.declared.replay_fault.ReplayFault.TheVariants.{WriteFault}
+use Rattle.mm_opt.specs.declared.segment.CheckpointRefusal.TheVariants.{Device}
+use Rattle.mm_recovery.specs.declared.fault.HostFault.TheVariants.{Refused}
+use Rattle.mm_host.specs.declared.fault.SessionFault.TheVariants.{Host, Lines}
+use Rattle.mm_schedule.specs.declared.reply.Reply.TheVariants.{Told}
+use Rattle.mm_call.specs.Standing.{count_after_more}
+use Rattle.mm_platform.specs.declared.fault.StepFault.{StepFault}
+use Rattle.mm_recovery.specs.CellWrites.{new_requests_by}
+use Rattle.mm_life.specs.Below.{Basic, Opt, Standing, Meaning, History, StandsFor, basic_instance, opt_instance, Answer, Refusal, fault_of}
+use Rattle.mm_life.specs.Below.{CheckpointRefusal, Checkpointed, HostFault, Reply, SessionFault}
+use Rattle.mm_life.specs.Deeds.{Calls, Checkpoints, Extends, LosesPower}
+use Rattle.mm_life.specs.IdleParts.{has_open}
+use Rattle.mm_life.specs.OneList.{LifeFollows, life_replies}
+use Rattle.mm_life.specs.Stages.{Does, Holds, IsLife, LifePart, LifeStage}
+
+-- The cell was to be written so often in a part of a life, by the platform's count; others, and a
+-- loss of power, write none.
+abbrev pub PartWrites : Standing → LifePart → Standing → ℕ → Type 0
+PartWrites old (Does (Extends values)) new times = times ≡ 0
+PartWrites old (Does LosesPower) new times = times ≡ 0
+PartWrites old _ new times = new.writes ≡ count_after_more times old.writes
+
+-- so often in all of its parts
+abbrev pub LifeWrites : Standing → List LifeStage → ℕ → Type 0
+LifeWrites start [] times = times ≡ 0
+LifeWrites start (stage ∷ stages) times =
+    (here : ℕ) × (later : ℕ) × (times ≡ here + later)
+    × PartWrites start stage.part stage.after here × LifeWrites stage.after stages later
+
+-- A stop, behind which a request may be in hand: 1 where memory, the store, a device or the output
+-- failed, and else 0.
+abbrev pub fault_stop : Option StepFault → ℕ
+fault_stop None = 0
+fault_stop (Some fault) = 1
+
+abbrev pub refusal_stop : Refusal → ℕ
+refusal_stop why = fault_stop (fault_of why)
+
+abbrev pub host_stop : HostFault → ℕ
+host_stop (Refused why) = refusal_stop why
+host_stop _ = 1
+
+abbrev pub session_stop : Result Unit SessionFault → ℕ
+session_stop (Err (Host fault)) = host_stop fault
+session_stop (Err (Lines WriteFault)) = 1
+session_stop _ = 0
+
+abbrev pub call_stop : Result Answer Refusal → ℕ
+call_stop (Ok answer) = 0
+call_stop (Err why) = refusal_stop why
+
+abbrev pub checkpoint_stop : Result Checkpointed CheckpointRefusal → ℕ
+checkpoint_stop (Err (Device fault)) = 1
+checkpoint_stop _ = 0
+
+abbrev pub part_stop : LifePart → ℕ
+part_stop (Holds p) = session_stop p.result
+part_stop (Does (Calls c)) = call_stop c.gives
+part_stop (Does (Checkpoints said)) = checkpoint_stop said
+part_stop (Does _) = 0
+
+abbrev pub stops_in : List LifeStage → ℕ
+stops_in [] = 0
+stops_in (stage ∷ stages) = part_stop stage.part + stops_in stages
+
+-- the requests that are told for the first time
+abbrev pub new_reply : Reply → ℕ
+new_reply (Told again before outputs) = new_requests_by again
+new_reply _ = 0
+
+abbrev pub new_replies : List Reply → ℕ
+new_replies [] = 0
+new_replies (reply ∷ replies) = new_reply reply + new_replies replies
+
+-- the segments that were opened or closed: the parts without a stop that leave another flag
+abbrev pub turns_between : Bool → Bool → ℕ
+turns_between true false = 1
+turns_between false true = 1
+turns_between before after = 0
+
+abbrev pub turns_unless_stopped : ℕ → Bool → Bool → ℕ
+turns_unless_stopped zero before after = turns_between before after
+turns_unless_stopped (suc stops) before after = 0
+
+abbrev pub segment_turns : Standing → List LifeStage → ℕ
+segment_turns start [] = 0
+segment_turns start (stage ∷ stages) =
+    turns_unless_stopped (part_stop stage.part) (has_open start) (has_open stage.after)
+    + segment_turns stage.after stages
+
+-- The cell was to be written once for each of so many that are due, and at most once for what was
+-- in hand at each stop.
+pub record WritesOnceEach (start : Standing) (stages : List LifeStage) (due : ℕ) : Type 0 where
+  pub in_hand : ℕ
+  pub few : in_hand ≤ stops_in stages
+  pub writes : LifeWrites start stages (due + in_hand)
+
+-- In Basic it is due for each request that was told for the first time. Those are on the list, and
+-- besides them at most the one in hand at each stop.
+pub record BasicWrites (meaning : Meaning) (start : Standing) (stages : List LifeStage)
+    (f : IsLife Basic meaning start stages) (requests : List (List ℕ)) : Type 0 where
+  pub once : WritesOnceEach start stages (new_replies (life_replies Basic meaning start stages f))
+  pub kept : ℕ
+  pub few : kept ≤ stops_in stages
+  pub listed : length requests ≡ new_replies (life_replies Basic meaning start stages f) + kept
+
+abbrev pub BasicLivesWriteOnce : Type 0
+BasicLivesWriteOnce =
+    (meaning : Meaning) (key : List ℕ) (y : History) (start : Standing) (stages : List LifeStage)
+    (f : IsLife Basic meaning start stages) (requests : List (List ℕ)) →
+    StandsFor (basic_instance meaning key) start y → LifeFollows Basic meaning start stages f [] requests →
+    BasicWrites meaning start stages f requests
+
+-- In Opt for each segment that was opened, and for each that was closed; however many requests were
+-- told.
+abbrev pub OptLivesWriteOnce : Type 0
+OptLivesWriteOnce =
+    (meaning : Meaning) (key barrier : List ℕ) (y : History) (start : Standing)
+    (stages : List LifeStage) → IsLife Opt meaning start stages →
+    StandsFor (opt_instance meaning key barrier) start y →
+    WritesOnceEach start stages (segment_turns start stages)

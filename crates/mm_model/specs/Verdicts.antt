@@ -1,0 +1,82 @@
+-- The verdict on an offered position: from a history, which knows no digest, and from digests
+-- alone.
+use Rattle.std.specs.Prelude.{ℕ, Bool, true, false, List, [], ◌∷◌, if◌then◌else◌, nat_eq, ◌+◌, ◌&&◌}
+use Rattle.std.specs.List.{list_any}
+use Rattle.std.specs.Str.{bytes_eq}
+use Rattle.mm_model.specs.Below.{zero_bytes, anchored_digest_of, extended_digest_of, Variant, Place, InBasic, InOpt, Batch, size_of}
+use Rattle.mm_model.specs.Chains.{link, guard}
+use Rattle.mm_model.specs.History.{History, total_of}
+use Rattle.mm_model.specs.Life.{Life, Live, Lost as LostLife, life_of, is_same_batch}
+use Rattle.mm_model.specs.declared.verdict.Verdict.{Verdict}
+use Rattle.mm_model.specs.declared.verdict.Verdict.TheVariants.{Fresh, Again, Lost, Stale}
+
+-- the last of the batches is b
+abbrev pub is_last : List Batch → Batch → Bool
+is_last [] b = false
+is_last (c ∷ []) b = is_same_batch c b
+is_last (c ∷ d ∷ batches) b = is_last (d ∷ batches) b
+
+-- Lost where the history is, Stale where it is Spoiled. Else, by whether the position is the last,
+-- and whether it is the one before the last batch, which is the one asked
+abbrev pub verdict_by_tests : Life → Bool → Bool → Verdict
+verdict_by_tests LostLife is_here is_repeat = Lost
+verdict_by_tests Live true is_repeat = Fresh
+verdict_by_tests Live false true = Again
+verdict_by_tests _ _ _ = Stale
+
+-- the verdict on position p and batch b
+abbrev pub verdict_on : Variant → History → ℕ → Batch → Verdict
+verdict_on variant y p b =
+    verdict_by_tests (life_of variant y) (nat_eq p (total_of y.batches))
+    (nat_eq (p + size_of b) (total_of y.batches) && is_last y.batches b)
+
+-- Fresh is tried before the repeat
+abbrev pub verdict_by : Bool → Bool → Bool → Verdict
+verdict_by true is_fresh is_repeat = Lost
+verdict_by false true is_repeat = Fresh
+verdict_by false false true = Again
+verdict_by false false false = Stale
+
+-- Basic: the cell has the summary s, the offer the summary o
+abbrev pub basic_verdict : List ℕ → List ℕ → Batch → Verdict
+basic_verdict s o b = verdict_by false (bytes_eq o s) (bytes_eq (link o b) s)
+
+-- a form of an offered place of Opt
+pub record Point : Type 0 where
+  pub anchor : List ℕ
+  pub extension : List ℕ
+
+-- an offered place, and the same place after its segment was closed
+abbrev pub forms_of : List ℕ → List ℕ → List Point
+forms_of a e =
+    record { anchor = a; extension = e } ∷
+    (if bytes_eq e zero_bytes then []
+    else record { anchor = anchored_digest_of a e; extension = zero_bytes } ∷ [])
+
+-- A form fits as fresh: it is where the platform stands. By: a segment is open; the cell's anchor;
+-- the register's value.
+abbrev pub fits_fresh : Bool → List ℕ → List ℕ → Point → Bool
+fits_fresh true anchor register x = bytes_eq x.anchor anchor && bytes_eq x.extension register
+fits_fresh false anchor register x = bytes_eq x.anchor anchor && bytes_eq x.extension zero_bytes
+
+-- a form fits as a repeat: the batch with the guard v leads from it to where the platform stands
+abbrev pub fits_again : Bool → List ℕ → List ℕ → List ℕ → Point → Bool
+fits_again true anchor register v x =
+    bytes_eq x.anchor anchor && bytes_eq (extended_digest_of x.extension v) register
+fits_again false anchor register v x =
+    bytes_eq (anchored_digest_of x.anchor (extended_digest_of x.extension v)) anchor
+
+-- Opt: by the cell's flag and anchor, the register's value, the forms offered, and the guard of the
+-- batch
+abbrev pub opt_verdict : Bool → List ℕ → List ℕ → List Point → List ℕ → Verdict
+opt_verdict flag anchor register forms v =
+    verdict_by (flag && bytes_eq register zero_bytes)
+    (list_any (fits_fresh flag anchor register) forms)
+    (list_any (fits_again flag anchor register v) forms)
+
+-- the verdict from digests: by the barrier, the cell's flag and its summary or anchor, the
+-- register's value, the offered place and the batch. A place of the other variant is never offered.
+abbrev pub verdict_by_digests : List ℕ → Bool → List ℕ → List ℕ → Place → Batch → Verdict
+verdict_by_digests barrier flag digest register (InBasic s) b = basic_verdict digest s.bytes b
+verdict_by_digests barrier flag digest register (InOpt a e) b =
+    opt_verdict flag digest register (forms_of a.bytes e.bytes) (guard barrier b)

@@ -1,0 +1,41 @@
+-- A store over a device of pages.
+use Rattle.std.specs.Prelude.{◌≡◌, ℕ, true, List, [], length, Some, Result, Ok, Err}
+use Rattle.mm_store.specs.declared.fault.StoreFault.{StoreFault}
+use Rattle.mm_store.specs.declared.fault.StoreFault.TheVariants.{Memory, Failed}
+use Rattle.mm_store.specs.Slots.{Slots}
+use Rattle.mm_pages.specs.Bytes.{page_count}
+use Rattle.mm_pages.specs.PageStanding.{PageStanding}
+use Rattle.mm_pages.specs.Rows.{Rows, rows_with, digests_of_pages}
+use Rattle.mm_pages.specs.SlotWrites.{AreDigestsOf}
+
+-- the device, and the digests that are kept of its pages
+pub record CachedDevice (D : Type 0) : Type 0 where
+  pub device : D
+  pub rows : Rows
+
+-- the digests kept after a write: those of the pages of the bytes and no other of their slot, or
+-- none of it
+abbrev pub rows_after_write : {T : Type 0} → ℕ → List ℕ → Rows → Result T StoreFault → Rows
+rows_after_write slot bytes rows (Ok _) =
+    rows_with rows slot (digests_of_pages bytes (page_count (length bytes)))
+rows_after_write slot bytes rows (Err _) = rows_with rows slot []
+
+-- the digests kept after a read: all of them, or none of its slot where the device failed
+abbrev pub rows_after_read : {T : Type 0} → ℕ → Rows → Result T StoreFault → Rows
+rows_after_read slot rows (Ok _) = rows
+rows_after_read slot rows (Err Memory) = rows
+rows_after_read slot rows (Err Failed) = rows_with rows slot []
+
+-- the same of all slots
+pub record AreInStep (rows : Rows) (slots : Slots) : Type 0 where
+  pub at_zero : AreDigestsOf rows.zero slots.zero
+  pub at_one : AreDigestsOf rows.one slots.one
+  pub at_two : AreDigestsOf rows.two slots.two
+  pub at_three : AreDigestsOf rows.three slots.three
+
+-- digests in step with what an honest device has stay so
+abbrev pub KeepsStep : PageStanding → PageStanding → Rows → Rows → Type 0
+KeepsStep old new rows after =
+    old.is_honest ≡ true → (was now : Slots) → old.slots ≡ Some was → new.slots ≡ Some now
+    → AreInStep rows was
+    → AreInStep after now

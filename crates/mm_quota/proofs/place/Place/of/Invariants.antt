@@ -1,5 +1,0 @@
-use Rattle.mm_quota.proofs.PlaceLaws.{Finding}
-use Rattle.mm_quota.proofs.place.Place.of.Given as goal
-
-abbrev pub invariant-accounts : goal.invariant-accounts
-invariant-accounts l = Finding l.state l.name l.body l.rest l.count l._number

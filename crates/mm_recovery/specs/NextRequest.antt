@@ -1,0 +1,32 @@
+-- One more request is asked: its record is written before, and the answer's snapshot after. Nothing
+-- is asked for these steps.
+use Rattle.std.specs.Prelude.{◌≡◌, ◌+◌, ◌%◌, ℕ, List, Result, Ok, Err}
+use Rattle.mm_recovery.specs.Below.{Variant, Standing, Meaning, WritesSlot, StoreStanding, PendingRecord, pending_spelling, StoreFault}
+use Rattle.mm_recovery.specs.declared.fault.HostFault.{HostFault}
+use Rattle.mm_recovery.specs.declared.resuming.Resumed.{Resumed}
+use Rattle.mm_recovery.specs.Faults.{store_fault_as}
+use Rattle.mm_recovery.specs.LastAnswer.{position_at, snapshot_at}
+use Rattle.mm_recovery.specs.Resumption.{AsksAndKeeps}
+
+-- the record of a request, which is to take the position after the last one
+abbrev pub record_for : Resumed → List ℕ → PendingRecord
+record_for last request = record { position = position_at last + 1; request = request }
+
+-- The request is asked with the last snapshot, and the answer's snapshot is kept.
+abbrev pub GoesAfterRecord : Variant → Meaning → Standing → Standing → Result Unit StoreFault
+    → StoreStanding → StoreStanding → Resumed → List ℕ
+    → Result Resumed HostFault → Type 0
+GoesAfterRecord variant meaning before after (Err why) old new last request result =
+    (after ≡ before) × (new ≡ old) × (result ≡ Err (store_fault_as why))
+GoesAfterRecord variant meaning before after (Ok _) old new last request result =
+    AsksAndKeeps variant meaning before after old new (snapshot_at last) request result
+
+pub record AsksNext (variant : Variant) (meaning : Meaning) (before after : Standing)
+    (old new : StoreStanding) (last : Resumed)
+    (request : List ℕ)
+    (result : Result Resumed HostFault) : Type 0 where
+  pub middle : StoreStanding
+  pub recorded : Result Unit StoreFault
+  pub records : WritesSlot (2 + (position_at last + 1) % 2)
+      (pending_spelling (record_for last request)) old middle recorded
+  pub goes : GoesAfterRecord variant meaning before after recorded middle new last request result
