@@ -42,14 +42,14 @@ pub use Rattle.mm_schedule.specs.Replies.{end_line, lines_of_reply, told_lines}
 pub use Rattle.mm_schedule.specs.declared.event.Event.{Event as CodeEvent}
 pub use Rattle.mm_schedule.specs.declared.header.Header.{Header}
 pub use Rattle.mm_schedule.specs.declared.reply.Reply.{Reply}
-pub use Rattle.mm_run.specs.Folds.{event_outcome, outcome_by_lists, first_digests, first_issued, RunOutcome, outcome_of_events, Outcome, outcome_by_digests}
-pub use Rattle.mm_run.specs.Folds.{closing_reply, course_of, reply_of, way_of}
-pub use Rattle.mm_run.specs.WorldState.{world_of, world_barrier, world_key}
-pub use Rattle.mm_run.specs.Premises.{AreGenuine, batches_of, event_messages, event_foreign_values, IsClearRun, IsGenuineEvent, IsGenuineRun}
-pub use Rattle.mm_run.specs.Premises.{messages_from, moves_of}
-pub use Rattle.mm_run.specs.Premises.{AreApart, asked_batches, foreign_values, run_messages}
-pub use Rattle.mm_run.proofs.Above.{ask_moves, asking_messages}
-pub use Rattle.mm_run.proofs.Above.{goes_on, in_any_way, short_size}
+pub use Rattle.mm_outcome.specs.Folds.{event_outcome, outcome_by_lists, first_digests, first_issued, RunOutcome, outcome_of_events, Outcome, outcome_by_digests}
+pub use Rattle.mm_outcome.specs.Folds.{closing_reply, course_of, reply_of, way_of}
+pub use Rattle.mm_outcome.specs.WorldState.{world_of, world_barrier, world_key}
+pub use Rattle.mm_outcome.specs.Premises.{AreGenuine, batches_of, event_messages, event_foreign_values, IsClearRun, IsGenuineEvent, IsGenuineRun}
+pub use Rattle.mm_outcome.specs.Premises.{messages_from, moves_of}
+pub use Rattle.mm_outcome.specs.Premises.{AreApart, asked_batches, foreign_values, run_messages}
+pub use Rattle.mm_outcome.proofs.Above.{ask_moves, asking_messages}
+pub use Rattle.mm_outcome.proofs.Above.{goes_on, in_any_way, short_size}
 pub use Rattle.mm_evidence.proofs.Above.{any_in, any_some, event_apart, event_offer, event_or, genuine_or, names_by}
 pub use Rattle.mm_expect.specs.NumberedMessages.{messages_if, messages_where, numbered_event_messages}
 pub use Rattle.mm_play.proofs.Above.{for_whole, not_ok, ok_same, outcome_of, plays_err, plays_ok}
@@ -72,4 +72,4 @@ pub use Rattle.mm_model.specs.Long.{is_long}
 pub use Rattle.mm_model.specs.Steps.{ask_steps, Changes, checkpoint_steps, Reads, DeviceStep, Writes}
 pub use Rattle.mm_call.specs.Courses.{walk_from_step, has_commit, Course, Done, End, Fails, StepFate, step_moves, walk, StepsWalk}
 pub use Rattle.mm_call.specs.CallFinding.{CallFinding, finding_at, right_content}
-pub use Rattle.mm_run.specs.EventOffers.{offered_bytes}
+pub use Rattle.mm_outcome.specs.EventOffers.{offered_bytes}

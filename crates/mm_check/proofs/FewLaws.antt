@@ -27,7 +27,7 @@ use Rattle.mm_call.specs.CallOutcome.{call_ending_by, position_of, state_seen, c
 use Rattle.mm_call.specs.CallOutcomeWords.{position_if_committed}
 use Rattle.mm_call.specs.Checkpoints.{CheckpointEnding, Stops, checkpoint_outcome}
 use Rattle.mm_schedule.specs.declared.reply.Way.{Way}
-use Rattle.mm_run.proofs.Above.{broken_reply}
+use Rattle.mm_outcome.proofs.Above.{broken_reply}
 
 -- none, or few
 unless_few : {A : Type 0} (long : Bool) (xs : List A) (n : ℕ) → length xs ≤ n → length (cond long [] xs) ≤ n

@@ -13,8 +13,8 @@ ghost use Rattle.mm_model.specs.Chains.{guard};
 ghost use Rattle.mm_model.specs.ChainsWords.{own_values};
 ghost use Rattle.mm_model.specs.Long.{is_long};
 ghost use Rattle.mm_schedule.specs.Events.{event_of, meddles_of};
-ghost use Rattle.mm_run.specs.WorldState.{world_barrier};
-ghost use Rattle.mm_run.specs.Premises.{batches_of, event_foreign_values, asked_batches};
+ghost use Rattle.mm_outcome.specs.WorldState.{world_barrier};
+ghost use Rattle.mm_outcome.specs.Premises.{batches_of, event_foreign_values, asked_batches};
 ghost use Rattle.mm_check.specs.Listing.{number_of_first};
 ghost use Rattle.mm_check.specs.Numbering.{is_secured};
 ghost use Rattle.mm_check.specs.Guards.{events_of, batches_unless_long, digest_items, HasAll, secured_event_by};
@@ -29,7 +29,7 @@ use std::alloc::Global;
 use std::collections::BTreeSet;
 
 /// The barrier of each world: the bytes 20 to 3f.
-#[tactic(auto, unfolding(mm_run::specs::WorldState::rising_from))]
+#[tactic(auto, unfolding(mm_outcome::specs::WorldState::rising_from))]
 fn barrier() -> [u8; 32]
     ensures { result ≡ world_barrier }
 {

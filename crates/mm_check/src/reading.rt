@@ -4,7 +4,7 @@ ghost use Rattle.std.specs.Prelude.{◌≡◌, ◌≤◌, ◌++◌, ◌∷◌, [
 ghost use Rattle.mm_base.specs.Limits.{longest_line};
 ghost use Rattle.mm_schedule.specs.Grammar.{event_at};
 ghost use Rattle.mm_schedule.specs.Replies.{IsPrintable, lines_of_reply};
-ghost use Rattle.mm_run.specs.WorldState.{world_of};
+ghost use Rattle.mm_outcome.specs.WorldState.{world_of};
 ghost use Rattle.mm_check.specs.CheckStage.{RecordedRun, InEvents, first_recorded_run, answer_to_event};
 ghost use Rattle.mm_check.specs.Verdicts.{AreVerdicts, run_lines};
 ghost use Rattle.mm_check.specs.Steps.{LineComesTo, IsEventOf};

@@ -35,12 +35,12 @@ pub use Rattle.mm_schedule.specs.Events.{Ask, Checkpoint, Event, Extend, Power}
 pub use Rattle.mm_schedule.specs.declared.event.Offer.{Offer}
 pub use Rattle.mm_schedule.specs.declared.event.Offer.TheVariants.{Flip, Last, Number, Raw}
 pub use Rattle.mm_history.specs.Naming.{BasicNamesAreDecided, is_named, IsDecided, OptNamesAreDecided}
-pub use Rattle.mm_run.specs.Folds.{event_outcome, outcome_by_lists, first_issued, outcome_of_events, RunOutcome}
-pub use Rattle.mm_run.specs.Laws.{IsIssued, IssuedNamePositions}
-pub use Rattle.mm_run.specs.EventOffers.{offered_bytes}
-pub use Rattle.mm_run.specs.OneRun.{FrontsAreOneRun}
-pub use Rattle.mm_run.specs.Premises.{AreApartIn, AreGenuine, asked_batches, foreign_values, IsClearRun, IsGenuineEvent}
-pub use Rattle.mm_run.specs.Premises.{IsGenuineOffer, IsGenuineRun, run_messages}
+pub use Rattle.mm_outcome.specs.Folds.{event_outcome, outcome_by_lists, first_issued, outcome_of_events, RunOutcome}
+pub use Rattle.mm_outcome.specs.Laws.{IsIssued, IssuedNamePositions}
+pub use Rattle.mm_outcome.specs.EventOffers.{offered_bytes}
+pub use Rattle.mm_outcome.specs.OneRun.{FrontsAreOneRun}
+pub use Rattle.mm_outcome.specs.Premises.{AreApartIn, AreGenuine, asked_batches, foreign_values, IsClearRun, IsGenuineEvent}
+pub use Rattle.mm_outcome.specs.Premises.{IsGenuineOffer, IsGenuineRun, run_messages}
 pub use Rattle.mm_evidence.specs.Evidence.{clash, collision, forgery, guarded, HasClash, HasEvidence, IsForged, zero_digest}
 pub use Rattle.mm_evidence.specs.Laws.{ForgedAreNew, FrontsAreLongest, IsDecidedRun, IsMadeUp, IsOneRunOrEvidence}
 pub use Rattle.mm_evidence.specs.Laws.{IsFrontWithoutEvidence, RunsUntil, StopsAt}

@@ -9,7 +9,7 @@ use Rattle.mm_evidence.proofs.Below.{Power, is_named, IsDecided, BasicNamesAreDe
 use Rattle.mm_evidence.proofs.Below.{outcome_by_lists, first_issued, outcome_of_events, RunOutcome, AreApartIn, AreGenuine, asked_batches, foreign_values, IsClearRun}
 use Rattle.mm_evidence.proofs.Below.{IsGenuineEvent, IsGenuineOffer, IsGenuineRun, run_messages, clash, collision, forgery, guarded}
 use Rattle.mm_evidence.proofs.Below.{HasClash, HasEvidence, IsForged, offered_bytes, zero_digest, IsDecidedRun}
-use Rattle.mm_run.proofs.Above.{said_of}
+use Rattle.mm_outcome.proofs.Above.{said_of}
 use Rattle.mm_evidence.proofs.Search.{found_or_none, pair_or_none}
 
 -- the digests of messages

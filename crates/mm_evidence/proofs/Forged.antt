@@ -7,7 +7,7 @@ use Rattle.mm_evidence.proofs.Below.{History}
 use Rattle.mm_evidence.proofs.Below.{total_of, Instance, Event, Offer}
 use Rattle.mm_evidence.proofs.Below.{Flip, Last, Number, Raw, ◌-◌, outcome_by_lists, IsIssued, IssuedNamePositions, offered_bytes, IsForged}
 use Rattle.mm_evidence.proofs.Below.{ForgedAreNew, IsMadeUp}
-use Rattle.mm_run.proofs.Above.{issued_names}
+use Rattle.mm_outcome.proofs.Above.{issued_names}
 
 module _ (i : Instance) (y : History) (lawful : IsLawful i.meaning) (few : total_of y.batches ≤ last_position) where
   module _ (issued : List (List ℕ)) (all : AllByRecursion (IsIssued i y) issued) where

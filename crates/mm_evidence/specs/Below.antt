@@ -14,7 +14,7 @@ pub use Rattle.mm_platform.specs.declared.plan.Stop.{Stop}
 pub use Rattle.mm_schedule.specs.Events.{Ask, Event}
 pub use Rattle.mm_schedule.specs.declared.event.Offer.{Offer}
 pub use Rattle.mm_schedule.specs.declared.event.Offer.TheVariants.{Flip, Raw}
-pub use Rattle.mm_run.specs.Folds.{outcome_by_lists, outcome_by_digests}
-pub use Rattle.mm_run.specs.EventOffers.{offered_bytes}
-pub use Rattle.mm_run.specs.OneRun.{IsOneRun}
-pub use Rattle.mm_run.specs.Premises.{IsClearRun, IsGenuineRun, asked_batches, foreign_values, run_messages}
+pub use Rattle.mm_outcome.specs.Folds.{outcome_by_lists, outcome_by_digests}
+pub use Rattle.mm_outcome.specs.EventOffers.{offered_bytes}
+pub use Rattle.mm_outcome.specs.OneRun.{IsOneRun}
+pub use Rattle.mm_outcome.specs.Premises.{IsClearRun, IsGenuineRun, asked_batches, foreign_values, run_messages}

@@ -7,11 +7,11 @@ ghost use Rattle.mm_module.specs.Meaning.{IsLawful, Meaning};
 ghost use Rattle.mm_model.specs.History.{total_of};
 ghost use Rattle.mm_call.specs.Standing.{instance_by};
 ghost use Rattle.mm_schedule.specs.Events.{Event};
-ghost use Rattle.mm_run.specs.Folds.{outcome_by_lists};
+ghost use Rattle.mm_outcome.specs.Folds.{outcome_by_lists};
 ghost use Rattle.mm_evidence.specs.Laws.{IsDecidedRun, IsOneRunOrEvidence, FrontsAreLongest, ForgedAreNew};
 
 use mm_history::names_are_decided;
-use mm_run::{fronts_are_one_run, issued_snapshots_name_positions};
+use mm_outcome::{fronts_are_one_run, issued_snapshots_name_positions};
 
 /// A run meets the premises, or one holds evidence in hand; and never both.
 pub fn premises_or_evidence()

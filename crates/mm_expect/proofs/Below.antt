@@ -68,14 +68,14 @@ pub use Rattle.mm_schedule.specs.declared.header.Header.{Header}
 pub use Rattle.mm_history.specs.Marks.{closed_marks, emptied_marks, grown_marks, linked_marks, marks_of, opened_marks, with_value}
 pub use Rattle.mm_history.specs.Naming.{IsDecided}
 pub use Rattle.mm_history.specs.declared.marks.HistoryMarks.{HistoryMarks}
-pub use Rattle.mm_run.specs.Folds.{moves_after_stop, moves_after_checkpoint, course_of, event_outcome, outcome_by_lists, first_issued, RunOutcome, outcome_of_events}
-pub use Rattle.mm_run.specs.Folds.{moves_after_call, Outcome, reply_of, snapshots_of, way_of, plan_of}
-pub use Rattle.mm_run.specs.WorldState.{world_of, world_barrier, world_key}
-pub use Rattle.mm_run.specs.Laws.{IsIssued}
-pub use Rattle.mm_run.specs.EventOffers.{offered_bytes}
-pub use Rattle.mm_run.specs.Premises.{IsGenuineEvent}
-pub use Rattle.mm_run.proofs.Above.{basic_issued_named, closing_all, goes_on, in_any_way, last_steps, opt_issued_named, printed_closing}
-pub use Rattle.mm_run.proofs.Above.{short_outputs, then_all, broken_reply, told_reply}
+pub use Rattle.mm_outcome.specs.Folds.{moves_after_stop, moves_after_checkpoint, course_of, event_outcome, outcome_by_lists, first_issued, RunOutcome, outcome_of_events}
+pub use Rattle.mm_outcome.specs.Folds.{moves_after_call, Outcome, reply_of, snapshots_of, way_of, plan_of}
+pub use Rattle.mm_outcome.specs.WorldState.{world_of, world_barrier, world_key}
+pub use Rattle.mm_outcome.specs.Laws.{IsIssued}
+pub use Rattle.mm_outcome.specs.EventOffers.{offered_bytes}
+pub use Rattle.mm_outcome.specs.Premises.{IsGenuineEvent}
+pub use Rattle.mm_outcome.proofs.Above.{basic_issued_named, closing_all, goes_on, in_any_way, last_steps, opt_issued_named, printed_closing}
+pub use Rattle.mm_outcome.proofs.Above.{short_outputs, then_all, broken_reply, told_reply}
 pub use Rattle.mm_expect.specs.Calls.{AdmitsBatch, repeat_in, ChronicleCalls, changes_on, ChronicleChanges, first_changing_step, changing_steps, ending_of, NewCallGoesOn}
 pub use Rattle.mm_expect.specs.Calls.{new_ending, count_after_batch}
 pub use Rattle.mm_expect.specs.ChronicleEvents.{call_outcome_on, moves_if, ChronicleGoesByCall, ChronicleGoesByEvent}

@@ -5,7 +5,7 @@ use Rattle.mm_expect.proofs.Below.{parts_of, Content}
 use Rattle.mm_expect.proofs.Below.{Instance, History}
 use Rattle.mm_expect.proofs.Below.{NamesPosition, IsGenuine, right_content, IsIssued}
 use Rattle.mm_expect.proofs.Below.{IsDecided, EachOfferIsDecided, IssuedAreGenuine}
-use Rattle.mm_run.proofs.Above.{issued_names, said_of}
+use Rattle.mm_outcome.proofs.Above.{issued_names, said_of}
 use Rattle.mm_call.specs.OfferLaws.{one_content, right_of}
 
 -- A right offer says one thing, and what is said of an offer is right.

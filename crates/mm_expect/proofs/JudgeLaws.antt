@@ -7,7 +7,7 @@ use Rattle.mm_expect.proofs.Below.{opt_issued_named, AreIssued, IsAmong, Decides
 use Rattle.mm_expect.proofs.Below.{DecidesEvent, IsDecided, ChronicleView, barrier_of, instance_with, chronicle_instance, ExpectedState, IsAfter}
 use Rattle.std.specs.Prelude.{Result}
 use Rattle.mm_schedule.specs.declared.event.Offer.{Offer}
-use Rattle.mm_run.specs.Premises.{IsGenuineOffer}
+use Rattle.mm_outcome.specs.Premises.{IsGenuineOffer}
 use Rattle.mm_expect.proofs.AfterLaws.{header_of, traced, instance_is}
 use Rattle.mm_expect.proofs.EventLaws.{few_expected}
 use Rattle.std.proofs.lemmas.Result.{IfOk-weaker}

@@ -39,9 +39,9 @@ pub use Rattle.mm_schedule.specs.declared.header.Header.{Header}
 pub use Rattle.mm_history.specs.Marks.{marks_of}
 pub use Rattle.mm_history.specs.Naming.{IsDecided}
 pub use Rattle.mm_history.specs.declared.marks.HistoryMarks.{HistoryMarks}
-pub use Rattle.mm_run.specs.Folds.{Outcome, course_of, event_outcome, outcome_by_lists, first_issued, moves_after_call, reply_of, snapshots_of, way_of}
-pub use Rattle.mm_run.specs.Folds.{plan_of}
-pub use Rattle.mm_run.specs.WorldState.{world_of, world_barrier, world_key}
-pub use Rattle.mm_run.specs.Laws.{IsIssued}
-pub use Rattle.mm_run.specs.EventOffers.{offered_bytes}
-pub use Rattle.mm_run.specs.Premises.{IsGenuineEvent, event_messages, moves_of, IsGenuineOffer}
+pub use Rattle.mm_outcome.specs.Folds.{Outcome, course_of, event_outcome, outcome_by_lists, first_issued, moves_after_call, reply_of, snapshots_of, way_of}
+pub use Rattle.mm_outcome.specs.Folds.{plan_of}
+pub use Rattle.mm_outcome.specs.WorldState.{world_of, world_barrier, world_key}
+pub use Rattle.mm_outcome.specs.Laws.{IsIssued}
+pub use Rattle.mm_outcome.specs.EventOffers.{offered_bytes}
+pub use Rattle.mm_outcome.specs.Premises.{IsGenuineEvent, event_messages, moves_of, IsGenuineOffer}

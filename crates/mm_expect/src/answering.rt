@@ -36,7 +36,7 @@ impl Chronicle {
     ghost use Rattle.mm_model.specs.Standing.{issued_bytes};
     ghost use Rattle.mm_call.specs.Answers.{answer_on};
     ghost use Rattle.mm_call.specs.declared.ended.AskResult.TheVariants.{Answered};
-    ghost use Rattle.mm_run.specs.WorldState.{world_key};
+    ghost use Rattle.mm_outcome.specs.WorldState.{world_key};
     ghost use Rattle.mm_expect.specs.ChronicleView.{chronicle_instance};
 
     // Where the snapshot of an answer stands.

@@ -9,7 +9,7 @@ use mm_call::AskResult;
 use mm_digest::Variant;
 use mm_module::Batch;
 use mm_platform::StepFault;
-use mm_run::CallPlan;
+use mm_outcome::CallPlan;
 use mm_seal::SealingKey;
 
 impl Chronicle {
@@ -22,8 +22,8 @@ impl Chronicle {
     ghost use Rattle.mm_call.specs.Courses.{fate_by_plan, walk};
     ghost use Rattle.mm_call.specs.Checkpoints.{checkpoint_outcome};
     ghost use Rattle.mm_call.specs.Levels.{list_level};
-    ghost use Rattle.mm_run.specs.Folds.{course_of, plan_of};
-    ghost use Rattle.mm_run.specs.WorldState.{world_key};
+    ghost use Rattle.mm_outcome.specs.Folds.{course_of, plan_of};
+    ghost use Rattle.mm_outcome.specs.WorldState.{world_key};
     ghost use Rattle.mm_expect.specs.ChronicleView.{chronicle_instance};
     ghost use Rattle.mm_expect.specs.ChronicleSteps.{ChronicleWalks};
     ghost use Rattle.mm_expect.specs.Calls.{AdmitsBatch, ChronicleCalls, NewCallGoesOn, ChronicleChanges};

@@ -8,7 +8,7 @@ use mm_digest::{Digest, Variant, zero};
 use mm_history::{HistoryLists, HistoryMarks, Waymarks, anchored_message, guard, joined};
 use mm_module::{Batch, Module, Outputs};
 use mm_modules::AnyModule;
-use mm_run::world_barrier;
+use mm_outcome::world_barrier;
 use std::alloc::Global;
 use std::marker::Model;
 

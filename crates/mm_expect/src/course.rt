@@ -7,7 +7,7 @@ use crate::chronicle::Chronicle;
 use mm_base::Memory;
 use mm_module::Batch;
 use mm_platform::{StepFault, Stop};
-use mm_run::CallPlan;
+use mm_outcome::CallPlan;
 
 /// What a step of the core does to a history.
 #[derive(Clone, Copy)]
@@ -53,7 +53,7 @@ impl Chronicle {
     ghost use Rattle.mm_platform.specs.StandingWords.{due_values};
     ghost use Rattle.mm_call.specs.Courses.{fate_by_plan, walk, step_moves};
     ghost use Rattle.mm_call.specs.CoursesWords.{made_move};
-    ghost use Rattle.mm_run.specs.Folds.{plan_of};
+    ghost use Rattle.mm_outcome.specs.Folds.{plan_of};
     ghost use Rattle.mm_expect.specs.ChronicleView.{ChronicleGoes};
     ghost use Rattle.mm_expect.specs.ChronicleSteps.{move_of, model_step_of, steps_of, IsShortMove, IsShortStep, AreShort, ChronicleWalks};
 

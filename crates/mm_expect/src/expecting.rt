@@ -7,8 +7,8 @@ ghost use Rattle.mm_call.specs.CallPremises.{right_messages};
 ghost use Rattle.mm_call.specs.EndedCall.{is_broken};
 ghost use Rattle.mm_call.specs.CallFinding.{right_content};
 ghost use Rattle.mm_schedule.specs.Events.{Ask, Checkpoint, Power, Extend, meddles_of, event_of};
-ghost use Rattle.mm_run.specs.Folds.{moves_after_stop};
-ghost use Rattle.mm_run.specs.WorldState.{world_key};
+ghost use Rattle.mm_outcome.specs.Folds.{moves_after_stop};
+ghost use Rattle.mm_outcome.specs.WorldState.{world_key};
 ghost use Rattle.mm_expect.specs.ChronicleEvents.{ChronicleGoesByCall, ChronicleGoesByEvent, moves_if};
 ghost use Rattle.mm_expect.specs.ChronicleView.{ChronicleGoes, chronicle_instance};
 
@@ -23,7 +23,7 @@ use mm_history::list_place;
 use mm_model::{is_long, normal};
 use mm_module::Batch;
 use mm_platform::{Meddle, Stop};
-use mm_run::{CallPlan, offered, way, world_key};
+use mm_outcome::{CallPlan, offered, way, world_key};
 use mm_schedule::{Cause, Event, Header, Meddles, Offer, Reply};
 use mm_seal::SealingKey;
 use std::alloc::Global;
@@ -49,7 +49,7 @@ pub struct Expectation {
 
 impl Model for Expectation {
     ghost use Rattle.std.specs.Prelude.{◌≡◌};
-    ghost use Rattle.mm_run.specs.WorldState.{world_key};
+    ghost use Rattle.mm_outcome.specs.WorldState.{world_key};
     ghost use Rattle.mm_expect.specs.ExpectedState.{ExpectedState};
 
     ghost Value = { ExpectedState };
@@ -286,7 +286,7 @@ impl Expectation {
     ghost use Rattle.mm_model.specs.History.{total_of};
     ghost use Rattle.mm_schedule.specs.Events.{event_of};
     ghost use Rattle.mm_schedule.specs.Replies.{IsPrintable};
-    ghost use Rattle.mm_run.specs.WorldState.{world_of};
+    ghost use Rattle.mm_outcome.specs.WorldState.{world_of};
     ghost use Rattle.mm_expect.specs.ExpectedState.{IsAfter, StandsLater, first_expected_state, expected_state_after};
     ghost use Rattle.mm_expect.specs.HeardEvent.{HearsEvent};
     ghost use Rattle.mm_expect.specs.OfferDecision.{DecidesLater};

@@ -19,7 +19,7 @@ impl Chronicle {
     ghost use Rattle.mm_model.specs.Long.{is_long};
     ghost use Rattle.mm_call.specs.CallFinding.{finding_at};
     ghost use Rattle.mm_call.specs.Levels.{list_level};
-    ghost use Rattle.mm_run.specs.WorldState.{world_key};
+    ghost use Rattle.mm_outcome.specs.WorldState.{world_key};
     ghost use Rattle.mm_expect.specs.ChronicleView.{chronicle_instance};
     ghost use Rattle.mm_expect.specs.Calls.{repeat_in, AdmitsBatch};
 

@@ -6,7 +6,7 @@ ghost use Rattle.mm_seal.specs.Parts.{parts_of};
 ghost use Rattle.mm_model.specs.Standing.{IsGenuine};
 ghost use Rattle.mm_call.specs.CallFinding.{right_content};
 ghost use Rattle.mm_schedule.specs.Events.{event_of};
-ghost use Rattle.mm_run.specs.WorldState.{world_key};
+ghost use Rattle.mm_outcome.specs.WorldState.{world_key};
 ghost use Rattle.mm_history.specs.Naming.{IsDecided};
 ghost use Rattle.mm_expect.specs.GenuineOffers.{EachOfferIsDecided, BasicIssuedAreGenuine, OptIssuedAreGenuine};
 ghost use Rattle.mm_expect.specs.OfferDecision.{position_in, is_found, IsAmong, DecidesBytes, DecidesOffer, DecidesEvent};
@@ -16,7 +16,7 @@ use crate::chronicle::Chronicle;
 use mm_base::{Bytes, Memory};
 use mm_history::is_named;
 use mm_module::Module;
-use mm_run::offered;
+use mm_outcome::offered;
 use mm_schedule::{Event, Offer};
 use mm_seal::{Body, SealingKey, parts};
 

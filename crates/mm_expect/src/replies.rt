@@ -3,7 +3,7 @@
 ghost use Rattle.std.specs.Prelude.{◌≡◌, ◌∷◌, [], None, option_to_list};
 ghost use Rattle.mm_call.specs.CallOutcome.{Answers};
 ghost use Rattle.mm_schedule.specs.declared.reply.Way.TheVariants.{Fault};
-ghost use Rattle.mm_run.specs.Folds.{reply_of, snapshots_of, closing_reply};
+ghost use Rattle.mm_outcome.specs.Folds.{reply_of, snapshots_of, closing_reply};
 ghost use Rattle.mm_expect.specs.Calls.{ending_of};
 ghost use Rattle.mm_expect.specs.Closings.{ending_of_closing};
 
@@ -11,7 +11,7 @@ use crate::calls::ClosingResult;
 use mm_base::Bytes;
 use mm_call::AskResult;
 use mm_model::{BatchAnswer, Refusal};
-use mm_run::cause;
+use mm_outcome::cause;
 use mm_schedule::{Cause, Reply, Way};
 
 /// A reply, and the snapshot that is handed out with it.

@@ -23,8 +23,8 @@ pub use Rattle.mm_schedule.specs.Headers.{header_at, header_text, variant_text}
 pub use Rattle.mm_schedule.specs.Replies.{end_line}
 pub use Rattle.mm_schedule.specs.declared.header.Header.{Header}
 pub use Rattle.mm_schedule.proofs.Above.{header-read, spelled_is_read}
-pub use Rattle.mm_run.specs.Folds.{RunOutcome, outcome_of_events, outcome_by_digests}
-pub use Rattle.mm_run.specs.WorldState.{world_of}
+pub use Rattle.mm_outcome.specs.Folds.{RunOutcome, outcome_of_events, outcome_by_digests}
+pub use Rattle.mm_outcome.specs.WorldState.{world_of}
 pub use Rattle.mm_replay.specs.Progress.{running_replay}
 pub use Rattle.mm_replay.specs.Schedule.{running_replay_after, stage_among_events, header_stage, first_running_replay, is_too_much, ReplayStage, RunningReplay, running_outcome}
 pub use Rattle.mm_replay.specs.Schedule.{schedule_answer, schedule_closing}

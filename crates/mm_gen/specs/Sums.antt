@@ -8,8 +8,8 @@ use Rattle.mm_schedule.specs.Grammar.{event_at}
 use Rattle.mm_schedule.specs.Replies.{end_line}
 use Rattle.mm_schedule.specs.declared.reply.Reply.{Reply}
 use Rattle.mm_schedule.specs.declared.reply.Reply.TheVariants.{Told, No, Kept, Nothing}
-use Rattle.mm_run.specs.Folds.{RunOutcome, outcome_by_digests}
-use Rattle.mm_run.specs.WorldState.{world_of}
+use Rattle.mm_outcome.specs.Folds.{RunOutcome, outcome_by_digests}
+use Rattle.mm_outcome.specs.WorldState.{world_of}
 use Rattle.mm_model.specs.Moves.{Digests}
 use Rattle.mm_replay.specs.Text.{text_of_replies}
 use Rattle.mm_gen.specs.declared.counts.ReplyCounts.{ReplyCounts}

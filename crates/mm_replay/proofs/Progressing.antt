@@ -16,7 +16,7 @@ use Rattle.std.proofs.Math.Nat.{min-eq_left}
 use Rattle.mm_base.specs.Limits.{most_events, most_members}
 use Rattle.mm_call.specs.Courses.{moves_seen}
 use Rattle.mm_call.specs.WalkLaws.{seen_none}
-use Rattle.mm_run.specs.WorldState as held
+use Rattle.mm_outcome.specs.WorldState as held
 
 -- what an event leaves where memory was wanting
 pub record Stays (old new : WorldState) : Type 0 where

@@ -16,10 +16,10 @@ use Rattle.mm_play.specs.HeadingStep.{HeadingStep, Begins}
 use Rattle.mm_play.specs.StageShows.{state_behind_events, heading_step_by, replies, StageShows}
 use Rattle.mm_schedule.specs.Headers.{header_at}
 use Rattle.mm_schedule.specs.Machine.{IsEventRun}
-use Rattle.mm_run.specs.Folds.{event_outcome, first_digests, first_issued}
-use Rattle.mm_run.specs.WorldState.{world_key, world_barrier}
-use Rattle.mm_run.specs.Laws.{SchedulesGoOn}
-use Rattle.mm_run.specs.OneRun.{IsOneRun, FrontsAreOneRun}
+use Rattle.mm_outcome.specs.Folds.{event_outcome, first_digests, first_issued}
+use Rattle.mm_outcome.specs.WorldState.{world_key, world_barrier}
+use Rattle.mm_outcome.specs.Laws.{SchedulesGoOn}
+use Rattle.mm_outcome.specs.OneRun.{IsOneRun, FrontsAreOneRun}
 use Rattle.mm_call.specs.Levels.{Level}
 use Rattle.mm_evidence.proofs.Above.{none_is_one, runs_until}
 use Rattle.mm_evidence.specs.Laws.{IsDecidedRun}

@@ -12,9 +12,9 @@ use Rattle.mm_schedule.specs.Headers.{header_at}
 use Rattle.mm_schedule.specs.Promises.{ModulePromises}
 use Rattle.mm_schedule.specs.Replies.{end_line}
 use Rattle.mm_schedule.specs.declared.reply.Reply.{Reply}
-use Rattle.mm_run.specs.Folds.{RunOutcome, outcome_by_digests}
-use Rattle.mm_run.specs.WorldState.{world_of}
-use Rattle.mm_run.specs.OneRun.{IsOneRun}
+use Rattle.mm_outcome.specs.Folds.{RunOutcome, outcome_by_digests}
+use Rattle.mm_outcome.specs.WorldState.{world_of}
+use Rattle.mm_outcome.specs.OneRun.{IsOneRun}
 use Rattle.mm_evidence.specs.Evidence.{HasEvidence}
 use Rattle.mm_play.specs.HeadingStep.{Begins}
 use Rattle.mm_play.specs.Headline.{EventPlayer}

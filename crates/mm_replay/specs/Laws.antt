@@ -4,10 +4,10 @@ use Rattle.mm_schedule.specs.declared.header.Header.{Header}
 use Rattle.mm_schedule.specs.Events.{Event}
 use Rattle.mm_model.specs.Moves.{Digests}
 use Rattle.mm_call.specs.Levels.{digest_level}
-use Rattle.mm_run.specs.Folds.{RunOutcome, outcome_of_events, outcome_by_digests}
-use Rattle.mm_run.specs.WorldState.{world_of}
-use Rattle.mm_run.specs.Laws.{outcome_joined_to}
-use Rattle.mm_run.specs.Premises.{IsClearRun, IsGenuineRun}
+use Rattle.mm_outcome.specs.Folds.{RunOutcome, outcome_of_events, outcome_by_digests}
+use Rattle.mm_outcome.specs.WorldState.{world_of}
+use Rattle.mm_outcome.specs.Laws.{outcome_joined_to}
+use Rattle.mm_outcome.specs.Premises.{IsClearRun, IsGenuineRun}
 use Rattle.mm_evidence.specs.Laws.{RunsUntil}
 use Rattle.mm_replay.specs.Headline.{AreOneRun, IsByDigests, IsPromisedRun, RunResult, run_result_of}
 

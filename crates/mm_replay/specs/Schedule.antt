@@ -9,8 +9,8 @@ use Rattle.mm_schedule.specs.Headers.{header_at}
 use Rattle.mm_schedule.specs.Replies.{end_line}
 use Rattle.mm_model.specs.Moves.{Digests}
 use Rattle.mm_call.specs.Levels.{digest_level}
-use Rattle.mm_run.specs.Folds.{Outcome, event_outcome, first_issued, first_digests}
-use Rattle.mm_run.specs.WorldState.{world_of}
+use Rattle.mm_outcome.specs.Folds.{Outcome, event_outcome, first_issued, first_digests}
+use Rattle.mm_outcome.specs.WorldState.{world_of}
 use Rattle.mm_play.specs.HeadingStep.{Begins}
 use Rattle.mm_play.specs.Stage.{EventStage, EventSteps, HeadStage, LineStage, AtHeading, InEvents, answer_to, is_over, line_answer, closing_lines, play_state}
 use Rattle.mm_play.specs.declared.player.LineRefusal.{LineRefusal}

@@ -3,7 +3,7 @@
 ghost use Rattle.mm_replay.specs.Laws.{PremisesGiveOneRun, OneRunUntilEvidence, ReplaysGoOn};
 
 use mm_evidence::premises_or_evidence;
-use mm_run::schedules_go_on;
+use mm_outcome::schedules_go_on;
 
 /// What is told of a replay is one run of the module on one list of requests: of each first part of the events that meets the
 /// premises, and of each up to the first event at which one holds evidence in hand.

@@ -15,8 +15,8 @@ use Rattle.mm_model.specs.Sound.{batches_in, IsMarred, IsSound}
 use Rattle.mm_model.proofs.Above.{shut_current}
 use Rattle.mm_call.specs.CallOutcome.{CallOutcome, call_outcome}
 use Rattle.mm_call.specs.Checkpoints.{CheckpointOutcome, checkpoint_outcome}
-use Rattle.mm_run.specs.Folds.{moves_after_checkpoint, course_of, moves_after_call}
-use Rattle.mm_run.proofs.Above.{in_any_way}
+use Rattle.mm_outcome.specs.Folds.{moves_after_checkpoint, course_of, moves_after_call}
+use Rattle.mm_outcome.proofs.Above.{in_any_way}
 use Rattle.mm_module.specs.Batch.{normal_batch}
 use Rattle.mm_sides.proofs.Outer.{IsAlike, same_batches, same_open}
 use Rattle.mm_sides.proofs.Rests.{holding, IsAtEnd, names_cross}

@@ -47,14 +47,14 @@ pub use Rattle.mm_call.proofs.Above.{lives, plain_outside, sound_shut, within_it
 pub use Rattle.mm_move.specs.Tickets.{IsTicket, place_at, summary_in, TaggedTicket, ticket_of, ticket_tag, TicketContent}
 pub use Rattle.mm_move.proofs.Above.{bytes_are, tickets_are_read}
 pub use Rattle.mm_schedule.specs.Events.{Ask, Checkpoint, Event, Extend, Power}
-pub use Rattle.mm_run.specs.Folds.{moves_after_stop, vain_ask_outcome, course_of, vain_event_outcome, event_outcome, first_digests, Outcome, outcome_by}
-pub use Rattle.mm_run.specs.Folds.{read_only_outcome, outcome_without_call, way_of}
-pub use Rattle.mm_run.specs.Laws.{IsIssued, one_ask}
-pub use Rattle.mm_run.specs.EventOffers.{offered_bytes}
-pub use Rattle.mm_run.specs.OneEvent.{EventsAgree, EventsKeepNames, IsSoundIn, KeepsHistory}
-pub use Rattle.mm_run.specs.Premises.{batches_of, event_messages, event_foreign_values, moves_of, AreApartIn, run_messages}
-pub use Rattle.mm_run.proofs.Above.{basic_begins, opt_begins, anchor_nil, basic_events_agree, basic_events_keep_names, clear_within}
-pub use Rattle.mm_run.proofs.Above.{event_steps, opt_events_agree, opt_events_keep_names}
+pub use Rattle.mm_outcome.specs.Folds.{moves_after_stop, vain_ask_outcome, course_of, vain_event_outcome, event_outcome, first_digests, Outcome, outcome_by}
+pub use Rattle.mm_outcome.specs.Folds.{read_only_outcome, outcome_without_call, way_of}
+pub use Rattle.mm_outcome.specs.Laws.{IsIssued, one_ask}
+pub use Rattle.mm_outcome.specs.EventOffers.{offered_bytes}
+pub use Rattle.mm_outcome.specs.OneEvent.{EventsAgree, EventsKeepNames, IsSoundIn, KeepsHistory}
+pub use Rattle.mm_outcome.specs.Premises.{batches_of, event_messages, event_foreign_values, moves_of, AreApartIn, run_messages}
+pub use Rattle.mm_outcome.proofs.Above.{basic_begins, opt_begins, anchor_nil, basic_events_agree, basic_events_keep_names, clear_within}
+pub use Rattle.mm_outcome.proofs.Above.{event_steps, opt_events_agree, opt_events_keep_names}
 pub use Rattle.mm_sides.specs.Both.{Both, digests_move, First, first_both, first_lists, instance_on, key_of, lists_move, Mover, Pair}
 pub use Rattle.mm_sides.specs.Both.{Second, SideState, sides_swapped, Which, history_at, history_now}
 pub use Rattle.mm_sides.specs.Folds.{found_acceptance, BothAct, sides_after_effect_if, both_outcome_by_lists, both_outcome_of_events, both_outcome, BothEvent, BothRunOutcome}

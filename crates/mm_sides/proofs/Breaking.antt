@@ -19,7 +19,7 @@ use Rattle.mm_platform.specs.declared.plan.Meddle.{Meddle}
 use Rattle.mm_platform.specs.declared.plan.Stop.{Stop}
 use Rattle.mm_schedule.specs.Events.{Ask, Checkpoint, Extend, Power}
 use Rattle.mm_schedule.specs.declared.event.Offer.{Offer}
-use Rattle.mm_run.specs.Premises.{IsGenuineOffer}
+use Rattle.mm_outcome.specs.Premises.{IsGenuineOffer}
 use Rattle.mm_evidence.specs.Evidence.{IsForged}
 use Rattle.mm_evidence.proofs.Above.{clash_apart, clash_or, found_or_none, names_by, offer_apart, offer_or}
 use Rattle.mm_sides.specs.Both.{sides_seen_from}

@@ -19,7 +19,7 @@ use Rattle.mm_seal.specs.SealLaws.{sealed_parts, sealed_once}
 use Rattle.mm_call.specs.MoveLaws.{summary-nil}
 use Rattle.mm_move.specs.Tickets.{sealed_ticket}
 use Rattle.mm_schedule.specs.declared.event.Offer.TheVariants.{Last}
-use Rattle.mm_run.specs.WorldState.{world_barrier}
+use Rattle.mm_outcome.specs.WorldState.{world_barrier}
 use Rattle.mm_sides.proofs.Rests.{issued_here}
 use Rattle.mm_sides.proofs.SideNames.{first_sound_in, first_lives}
 

@@ -13,7 +13,7 @@ use Rattle.mm_platform.specs.StandingWords.{due_values}
 use Rattle.mm_call.specs.CallOutcomeWords.{position_if_committed}
 use Rattle.mm_schedule.specs.Machine.{IsBatchStep, IsStepWithoutBatch, IsRunStep}
 use Rattle.mm_schedule.specs.declared.reply.Way.{Way}
-use Rattle.mm_run.proofs.Above.{broken_reply}
+use Rattle.mm_outcome.proofs.Above.{broken_reply}
 use Rattle.mm_sides.proofs.Below.{way_of}
 use Rattle.mm_model.specs.MessagesWords.{move_messages}
 

@@ -5,7 +5,7 @@ ghost use Rattle.mm_sides.specs.Evidence.{PairsAreDecided};
 ghost use Rattle.mm_sides.specs.Laws.{PairsAgreeThroughout, OneIsLive, SidesRunAsOne, PairsGoOn, SidesIssueNames, PremisesAreMet};
 
 use mm_history::names_are_decided;
-use mm_run::premises_are_met;
+use mm_outcome::premises_are_met;
 
 /// The roles of two sides alone, where each nonce is invited once and each accepted ticket is one that the module left
 /// by: at most one side is live, and the module enters one only where none is, by the ticket that it left by last.

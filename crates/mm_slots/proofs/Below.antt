@@ -39,10 +39,10 @@ pub use Rattle.mm_schedule.specs.declared.reply.Reply.{Reply}
 pub use Rattle.mm_schedule.proofs.Above.{promises-kept}
 pub use Rattle.mm_flight.specs.Flight.{plan_by}
 pub use Rattle.mm_flight.proofs.Above.{meddled}
-pub use Rattle.mm_run.specs.Folds.{course_of, outcome_by_lists, first_digests, RunOutcome, outcome_of_events, Outcome, outcome_by_digests}
-pub use Rattle.mm_run.specs.WorldState.{rising_from}
-pub use Rattle.mm_run.specs.EventOffers.{offered_bytes}
-pub use Rattle.mm_run.proofs.Above.{few_committed, issues_one, printable}
+pub use Rattle.mm_outcome.specs.Folds.{course_of, outcome_by_lists, first_digests, RunOutcome, outcome_of_events, Outcome, outcome_by_digests}
+pub use Rattle.mm_outcome.specs.WorldState.{rising_from}
+pub use Rattle.mm_outcome.specs.EventOffers.{offered_bytes}
+pub use Rattle.mm_outcome.proofs.Above.{few_committed, issues_one, printable}
 pub use Rattle.mm_world.specs.OwnCalls.{CallComesTo, quiet_call}
 pub use Rattle.mm_world.specs.HeldWorld.{digest_in, flag_in, value_in}
 pub use Rattle.mm_world.specs.WorldStanding.{IsQuiet, HasDigests}

@@ -8,8 +8,8 @@ use Rattle.mm_slots.proofs.Alone.{followed_by}
 use Rattle.mm_slots.proofs.Below.{flat_map, flat_map-append, Ask, Reply, Begun, Going, Asks, first_flight, with_flight, turn_saying, event_turn}
 use Rattle.mm_slots.specs.declared.event.SlotAction.TheVariants as action
 use Rattle.mm_platform.specs.declared.plan.Stop.TheVariants as stop
-use Rattle.mm_run.specs.Premises.{IsClearRun, IsGenuineRun}
-use Rattle.mm_run.specs.Laws.{AgreesThroughout, BasicIsExpected, OptIsExpected, ExpectedRuns, SchedulesGoOn, outcome_joined_to}
+use Rattle.mm_outcome.specs.Premises.{IsClearRun, IsGenuineRun}
+use Rattle.mm_outcome.specs.Laws.{AgreesThroughout, BasicIsExpected, OptIsExpected, ExpectedRuns, SchedulesGoOn, outcome_joined_to}
 use Rattle.mm_slots.specs.Laws.{SlotsTellReplies, call_replies_in, call_replies_of}
 
 abbrev told_from : Instance → Tenant → List Event → RunOutcome Digests

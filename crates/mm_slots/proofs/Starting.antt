@@ -6,7 +6,7 @@ use Rattle.mm_slots.proofs.Below.{IsFirst, digests_in, flight_in, instance_in, P
 use Rattle.mm_slots.proofs.Below.{tenant_instance, items_by_place, first_row, first_rows, Row}
 use Rattle.std.proofs.lemmas.List.FromFn.{length-range_with_len}
 use Rattle.mm_digest.specs.Messages.{zero_bytes}
-use Rattle.mm_run.specs.WorldState.{rising_from}
+use Rattle.mm_outcome.specs.WorldState.{rising_from}
 use Rattle.mm_slots.proofs.Fitting.{settled, mine_are}
 
 length-rising : (n : ℕ) → length (rising_from n) ≡ 32

@@ -10,7 +10,7 @@ use Rattle.mm_call.specs.Standing.{instance_by}
 use Rattle.mm_digest.specs.declared.variant.Variant.{Variant}
 use Rattle.mm_evidence.specs.Laws.{IsDecidedRun}
 use Rattle.mm_module.specs.Meaning.{Meaning}
-use Rattle.mm_run.specs.Premises.{IsClearRun, IsGenuineRun}
+use Rattle.mm_outcome.specs.Premises.{IsClearRun, IsGenuineRun}
 use Rattle.mm_schedule.specs.Events.{Event}
 use Rattle.std.proofs.Common.{append_assoc, inl, inr}
 use Rattle.mm_slots.specs.Headline.{AreSlotRuns, IsRunOfSlot, IsSlotRun, slots_player}

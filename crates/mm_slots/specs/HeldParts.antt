@@ -12,7 +12,7 @@ use Rattle.mm_model.specs.Standing.{register_reading}
 use Rattle.mm_world.specs.declared.call.CallReport.{CallReport}
 use Rattle.mm_schedule.specs.declared.event.Offer.{Offer}
 use Rattle.mm_schedule.specs.declared.header.Header.{Header}
-use Rattle.mm_run.specs.EventOffers.{offered_bytes}
+use Rattle.mm_outcome.specs.EventOffers.{offered_bytes}
 use Rattle.mm_platform.specs.declared.plan.Meddle.{Meddle}
 use Rattle.mm_steps.specs.FlightKind.{IsInFlight, ask_kind as asks_so, checkpoint_kind}
 use Rattle.mm_world.specs.HeldWorld.{digest_in, flag_in}

@@ -8,8 +8,8 @@ use Rattle.mm_schedule.specs.declared.reply.Reply.TheVariants as reply
 use Rattle.mm_call.specs.Standing.{instance_by}
 use Rattle.mm_digest.specs.declared.variant.Variant.{Variant}
 use Rattle.mm_module.specs.Meaning.{Meaning}
-use Rattle.mm_run.specs.OneRun.{IsOneRun}
-use Rattle.mm_run.specs.Premises.{IsClearRun, IsGenuineRun}
+use Rattle.mm_outcome.specs.OneRun.{IsOneRun}
+use Rattle.mm_outcome.specs.Premises.{IsClearRun, IsGenuineRun}
 use Rattle.mm_slots.specs.declared.event.SlotEvent.{SlotEvent}
 use Rattle.mm_slots.specs.declared.said.SlotReply.{SlotReply}
 use Rattle.mm_slots.specs.declared.said.SlotReply.TheVariants.{Replied}

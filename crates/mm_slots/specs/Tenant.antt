@@ -17,9 +17,9 @@ use Rattle.mm_schedule.specs.declared.event.Offer.{Offer}
 use Rattle.mm_schedule.specs.declared.header.Header.{Header}
 use Rattle.mm_schedule.specs.declared.reply.Reply.{Reply}
 use Rattle.mm_schedule.specs.declared.reply.Reply.TheVariants as reply
-use Rattle.mm_run.specs.Folds.{Outcome, course_of, event_outcome, first_issued, first_digests}
-use Rattle.mm_run.specs.WorldState.{rising_from}
-use Rattle.mm_run.specs.EventOffers.{offered_bytes}
+use Rattle.mm_outcome.specs.Folds.{Outcome, course_of, event_outcome, first_issued, first_digests}
+use Rattle.mm_outcome.specs.WorldState.{rising_from}
+use Rattle.mm_outcome.specs.EventOffers.{offered_bytes}
 use Rattle.mm_steps.specs.FlightStop.{is_nothing, stop_behind}
 use Rattle.mm_slots.specs.declared.event.SlotAction.{SlotAction}
 use Rattle.mm_slots.specs.declared.event.SlotAction.TheVariants as action

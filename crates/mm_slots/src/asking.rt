@@ -1,7 +1,7 @@
 //! A call of a slot that asks a request: it begins, makes its steps, and is over.
 
 ghost use Rattle.std.specs.Prelude.{◌≡◌, IfOk};
-ghost use Rattle.mm_run.specs.EventOffers.{offered_bytes};
+ghost use Rattle.mm_outcome.specs.EventOffers.{offered_bytes};
 
 use crate::event::CallBreak;
 use crate::flight::{AskInFlight, Flight};
@@ -12,7 +12,7 @@ use mm_base::{Bytes, Memory};
 use mm_machine::{OpCall, Operation};
 use mm_model::is_long;
 use mm_module::Batch;
-use mm_run::{OfferedBytes, offered};
+use mm_outcome::{OfferedBytes, offered};
 use mm_schedule::{Cause, Offer, Reply};
 use mm_steps::{FlightOutcome, break_off, step};
 use std::alloc::Global;
@@ -34,7 +34,7 @@ fn bytes_offered(alloc: Global, issued: &[Bytes], offer: &Offer) -> Result<Optio
 
 impl Parts {
     ghost use Rattle.std.specs.Prelude.{◌≡◌, ◌<◌, ◌^◌, None, IfOk, OnErr, Some, vec_len, vec_capacity};
-    ghost use Rattle.mm_run.specs.EventOffers.{offered_bytes};
+    ghost use Rattle.mm_outcome.specs.EventOffers.{offered_bytes};
     ghost use Rattle.mm_slots.specs.HeldParts.{instance_in, slot_in, parts_with_flight, PartsFit, SlotComesTo, SlotLacksMemory};
     ghost use Rattle.mm_slots.specs.declared.event.SlotAction.{SlotAction};
     ghost use Rattle.mm_slots.specs.Tenant.{turn_by_action};

@@ -4,7 +4,7 @@ ghost use Rattle.mm_slots.specs.Laws.{SlotsAreAlone, SlotsRun};
 ghost use Rattle.mm_slots.specs.Laws.{PremisesGiveSlotRuns, SlotsGoOn, SlotsTellReplies};
 
 use mm_evidence::premises_or_evidence;
-use mm_run::{basic_is_expected, expected_runs, opt_is_expected, schedules_go_on};
+use mm_outcome::{basic_is_expected, expected_runs, opt_is_expected, schedules_go_on};
 
 /// Each slot is where its own fold leaves it, over what it meets itself, and so is what is said for it: whatever happens
 /// in the slots beside it, but that power is common.

@@ -5,7 +5,7 @@ use crate::parts::Parts;
 use crate::said::SlotReply;
 use mm_base::Memory;
 use mm_digest::zero;
-use mm_run::rising;
+use mm_outcome::rising;
 use mm_schedule::Header;
 use mm_world::Seat;
 use std::alloc::Global;

@@ -23,9 +23,9 @@ use Rattle.mm_opt.specs.ClosingOperation.{closing_operation, result_of_end}
 use Rattle.mm_opt.proofs.Above.{closing_steps_as}
 use Rattle.mm_schedule.specs.declared.event.Offer.{Offer}
 use Rattle.mm_schedule.specs.declared.reply.Way.TheVariants as way
-use Rattle.mm_run.specs.Folds.{ask_event_outcome, Outcome}
-use Rattle.mm_run.specs.EventOffers.{offered_bytes}
-use Rattle.mm_run.proofs.Above.{stopped_reply}
+use Rattle.mm_outcome.specs.Folds.{ask_event_outcome, Outcome}
+use Rattle.mm_outcome.specs.EventOffers.{offered_bytes}
+use Rattle.mm_outcome.proofs.Above.{stopped_reply}
 use Rattle.mm_ask.specs.Operating.{ask_operation, write_step_of}
 use Rattle.mm_ask.proofs.Above.{counts_by, steps_stay}
 use Rattle.mm_world.specs.OwnCalls.{quiet_call}

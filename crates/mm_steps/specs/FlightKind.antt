@@ -21,7 +21,7 @@ use Rattle.mm_opt.specs.declared.segment.CheckpointRefusal.{CheckpointRefusal}
 use Rattle.mm_opt.specs.ClosingOperation.{IsClosing, closing_operation}
 use Rattle.mm_schedule.specs.declared.event.Offer.{Offer}
 use Rattle.mm_schedule.specs.Events.{Ask, Checkpoint}
-use Rattle.mm_run.specs.Folds.{Outcome, event_outcome}
+use Rattle.mm_outcome.specs.Folds.{Outcome, event_outcome}
 use Rattle.mm_ask.specs.Operating.{IsStageOf, ask_operation, write_step_of}
 use Rattle.mm_flight.specs.Machine.{CallFlies}
 use Rattle.mm_world.specs.OwnCalls.{CallComesTo, HasRead}

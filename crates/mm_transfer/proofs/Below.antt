@@ -58,12 +58,12 @@ pub use Rattle.mm_schedule.specs.declared.event.Offer.{Offer}
 pub use Rattle.mm_schedule.specs.declared.header.Header.{Header}
 pub use Rattle.mm_schedule.specs.declared.reply.Reply.{Reply}
 pub use Rattle.mm_schedule.proofs.Above.{promises-kept}
-pub use Rattle.mm_run.specs.Folds.{moves_after_stop, vain_ask_outcome, course_of, vain_event_outcome, event_outcome, first_digests, Outcome, outcome_by}
-pub use Rattle.mm_run.specs.Folds.{read_only_outcome, outcome_without_call, way_of, plan_of}
-pub use Rattle.mm_run.proofs.Above.{broken_reply}
-pub use Rattle.mm_run.specs.WorldState.{world_barrier, world_key}
-pub use Rattle.mm_run.specs.EventOffers.{offered_bytes}
-pub use Rattle.mm_run.proofs.Above.{few_committed, issues_one, printable}
+pub use Rattle.mm_outcome.specs.Folds.{moves_after_stop, vain_ask_outcome, course_of, vain_event_outcome, event_outcome, first_digests, Outcome, outcome_by}
+pub use Rattle.mm_outcome.specs.Folds.{read_only_outcome, outcome_without_call, way_of, plan_of}
+pub use Rattle.mm_outcome.proofs.Above.{broken_reply}
+pub use Rattle.mm_outcome.specs.WorldState.{world_barrier, world_key}
+pub use Rattle.mm_outcome.specs.EventOffers.{offered_bytes}
+pub use Rattle.mm_outcome.proofs.Above.{few_committed, issues_one, printable}
 pub use Rattle.mm_sides.specs.Both.{Both, digests_move, First, first_both, first_lists, instance_on, key_of, lists_move, Pair, Second, SideState}
 pub use Rattle.mm_sides.specs.Both.{sides_swapped, Which}
 pub use Rattle.mm_sides.specs.Folds.{found_acceptance, sides_after_effect_if, both_outcome_by_digests, both_outcome_by_lists, both_outcome_of_events, both_outcome, BothEvent}

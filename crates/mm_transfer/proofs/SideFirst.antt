@@ -6,7 +6,7 @@ use Rattle.mm_transfer.proofs.Below.{Blank, Live, First, Second, first_both, key
 use Rattle.mm_transfer.proofs.Below.{Instance, Digests, IsQuiet}
 use Rattle.mm_platform.specs.Memory.{new_platform}
 use Rattle.mm_seal.specs.Cell.{cell_spelling}
-use Rattle.mm_run.specs.WorldState.{rising_from}
+use Rattle.mm_outcome.specs.WorldState.{rising_from}
 use Rattle.mm_world.specs.Seat.{instance_at, IsBare, IsFirst}
 use Rattle.mm_transfer.proofs.SideStands.{key_by, linked_by, live_stands, side_is}
 

@@ -47,8 +47,8 @@ pub use Rattle.mm_schedule.specs.declared.event.Offer.{Offer}
 pub use Rattle.mm_schedule.specs.declared.event.Offer.TheVariants.{Flip, Last, Number, Raw}
 pub use Rattle.mm_schedule.specs.declared.header.Header.{Header}
 pub use Rattle.mm_schedule.specs.declared.reply.Reply.{Reply}
-pub use Rattle.mm_run.specs.Folds.{Outcome, cause_of, course_of, way_of}
-pub use Rattle.mm_run.specs.WorldState.{rising_from, world_barrier, world_key}
+pub use Rattle.mm_outcome.specs.Folds.{Outcome, cause_of, course_of, way_of}
+pub use Rattle.mm_outcome.specs.WorldState.{rising_from, world_barrier, world_key}
 pub use Rattle.mm_sides.specs.Both.{Both, First, Pair, Second, SideState, Which, digests_move, sides_seen_from, first_both, first_lists, instance_on}
 pub use Rattle.mm_sides.specs.Folds.{BothAct, BothEvent, BothRunOutcome, BothOutcome, BothReply, Moves, Plain, both_outcome_by_digests, both_outcome_by_lists}
 pub use Rattle.mm_sides.specs.Folds.{both_outcome_of_events, both_outcome, commits_between, is_moved, move_outcome, outcome_here, outcome_by_role, stopped_moves}

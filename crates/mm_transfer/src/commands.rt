@@ -4,7 +4,7 @@ ghost use Rattle.std.specs.Prelude.{◌≡◌, ◌<◌, ◌^◌, Some, vec_len, 
 ghost use Rattle.mm_move.specs.Cells.{moved_cell_of};
 ghost use Rattle.mm_move.specs.Orders.{retirement_in, acceptance_in};
 ghost use Rattle.mm_modules.specs.Modules.{meaning_of};
-ghost use Rattle.mm_run.specs.EventOffers.{offered_bytes};
+ghost use Rattle.mm_outcome.specs.EventOffers.{offered_bytes};
 ghost use Rattle.mm_schedule.specs.declared.header.Header.{Header};
 ghost use Rattle.mm_move.specs.declared.link.Link.{Link};
 ghost use Rattle.mm_sides.specs.Both.{key_of};
@@ -26,7 +26,7 @@ use mm_base::{Bytes, CELL_LENGTH, Memory};
 use mm_digest::Digest;
 use mm_move::{Accepted, Invited, Link, MoveRefusal, MovedCell, read_moved};
 use mm_platform::{MemPlatform, Stop};
-use mm_run::{CallPlan, offered, rising, world_barrier, world_key};
+use mm_outcome::{CallPlan, offered, rising, world_barrier, world_key};
 use mm_schedule::Offer;
 use std::alloc::Global;
 

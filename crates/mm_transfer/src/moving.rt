@@ -14,7 +14,7 @@ use mm_model::Refusal;
 use mm_module::Module;
 use mm_move::{Accepted, Invited, Link, MoveRefusal};
 use mm_platform::{MemPlatform, Stop};
-use mm_run::{CallPlan, cause, way};
+use mm_outcome::{CallPlan, cause, way};
 use mm_schedule::Header;
 use mm_world::settle;
 use std::alloc::Global;

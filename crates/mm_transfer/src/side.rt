@@ -8,7 +8,7 @@ ghost use Rattle.mm_modules.specs.Modules.{meaning_of};
 use mm_base::{CELL_LENGTH, Memory};
 use mm_digest::{Digest, start};
 use mm_module::Module;
-use mm_run::{world_barrier, world_key};
+use mm_outcome::{world_barrier, world_key};
 use mm_schedule::{Event, Header, Reply};
 use mm_world::{Seat, owned_view};
 use std::alloc::Global;

@@ -19,7 +19,7 @@ use crate::event::{SideAct, SideEvent, Which};
 use crate::reply::MoveReply;
 use crate::side::Side;
 use mm_base::Memory;
-use mm_run::CallPlan;
+use mm_outcome::CallPlan;
 use mm_schedule::{Event, Header};
 use mm_world::listed;
 use std::alloc::Global;

@@ -55,12 +55,12 @@ pub use Rattle.mm_opt.specs.declared.segment.CheckpointRefusal.{CheckpointRefusa
 pub use Rattle.mm_opt.specs.declared.segment.Checkpointed.{Checkpointed as Said}
 pub use Rattle.mm_schedule.specs.Events.{Ask, Checkpoint, Event, event_of, meddles_of}
 pub use Rattle.mm_schedule.specs.declared.reply.Reply.{Reply}
-pub use Rattle.mm_run.specs.Folds.{moves_after_stop, cause_of, checkpoint_event_outcome, closing_reply, moves_after_checkpoint, course_of, first_digests}
-pub use Rattle.mm_run.specs.Folds.{moves_after_call, Outcome, outcome_by, read_only_outcome, reply_of, snapshots_of, outcome_without_call, way_of}
-pub use Rattle.mm_run.proofs.Above.{broken_reply, stopped_reply}
-pub use Rattle.mm_run.specs.Folds.{plan_of}
-pub use Rattle.mm_run.specs.WorldState.{first_world_state, WorldFollows, WorldState, outcome_in, EventWantsMemory, world_of}
-pub use Rattle.mm_run.proofs.Above.{count-made, grown, printed, sizes_of, world_few}
+pub use Rattle.mm_outcome.specs.Folds.{moves_after_stop, cause_of, checkpoint_event_outcome, closing_reply, moves_after_checkpoint, course_of, first_digests}
+pub use Rattle.mm_outcome.specs.Folds.{moves_after_call, Outcome, outcome_by, read_only_outcome, reply_of, snapshots_of, outcome_without_call, way_of}
+pub use Rattle.mm_outcome.proofs.Above.{broken_reply, stopped_reply}
+pub use Rattle.mm_outcome.specs.Folds.{plan_of}
+pub use Rattle.mm_outcome.specs.WorldState.{first_world_state, WorldFollows, WorldState, outcome_in, EventWantsMemory, world_of}
+pub use Rattle.mm_outcome.proofs.Above.{count-made, grown, printed, sizes_of, world_few}
 pub use Rattle.mm_world.specs.OwnCalls.{AsksOwnCell, CallComesTo, ChecksOwnCell, HasRead, CallLacksMemory, quiet_call}
 pub use Rattle.mm_world.specs.Calls.{answered_call, broken_call, IsCallResult, is_cut, refused_call, IsRefusalResult, SettlesPlan, size_if}
 pub use Rattle.mm_world.specs.Calls.{stopped_step, has_closing_fault, takes_effect, checkpoint_reply}

@@ -15,7 +15,7 @@ use Rattle.mm_world.proofs.ClosedAt.{closes_at}
 use Rattle.mm_world.proofs.Below.{checkpoint_reply, has_closing_fault, ChecksOwnCell, quiet_call, register_of_items}
 use Rattle.std.specs.Prelude.{◌⊎◌}
 use Rattle.mm_module.specs.BatchLaws.{members_of-normal}
-use Rattle.mm_run.specs.Folds.{ask_event_outcome}
+use Rattle.mm_outcome.specs.Folds.{ask_event_outcome}
 use Rattle.mm_call.specs.CallOnCourse.{CallGoesBy}
 use Rattle.mm_world.proofs.Asking.{committed_by, counted_end, stopped_at, breaks_at, refuses, same, lacks_or_same, refused_read, told_ok}
 use Rattle.mm_world.proofs.Asking.{told_err, breaks, stands_settled, on_settled, Tells, came_register, power_if, power_count, moves_power}

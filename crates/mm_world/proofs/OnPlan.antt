@@ -14,7 +14,7 @@ use Rattle.mm_call.specs.Machine.{end_of_machine}
 use Rattle.mm_opt.specs.Checkpoints.{closing_fault_in, closing_fault_of}
 use Rattle.mm_opt.specs.ClosingOperation.{closing_operation, result_of_end, GivesAs}
 use Rattle.mm_opt.proofs.Above.{checks_on, closes_whole}
-use Rattle.mm_run.specs.Folds.{ask_event_outcome}
+use Rattle.mm_outcome.specs.Folds.{ask_event_outcome}
 use Rattle.mm_ask.specs.Operating.{ask_operation}
 use Rattle.mm_ask.proofs.Above.{calls_by, quiet_by}
 use Rattle.mm_flight.specs.Machine as flight
@@ -22,7 +22,7 @@ use Rattle.mm_flight.proofs.Above.{finish_refuses}
 use Rattle.mm_world.specs.declared.call.CallReport.{CallReport}
 use Rattle.mm_world.specs.PlannedCall.{WasPlanned, TellsAsk, TellsCheckpoint}
 use Rattle.mm_call.specs.Checkpoints.{checkpoint_outcome}
-use Rattle.mm_run.specs.Folds.{checkpoint_event_outcome, course_of}
+use Rattle.mm_outcome.specs.Folds.{checkpoint_event_outcome, course_of}
 use Rattle.mm_schedule.specs.declared.reply.Reply.{Reply}
 use Rattle.mm_world.specs.OwnCalls.{quiet_call}
 use Rattle.mm_world.specs.Calls.{has_closed_segment}

@@ -8,7 +8,7 @@ use Rattle.std.specs.List.{sum_by}
 use Rattle.std.proofs.lemmas.List.Sums.{sum_by-append}
 use Rattle.mm_schedule.specs.declared.event.Offer.{Offer}
 use Rattle.mm_schedule.specs.declared.header.Header.{Header}
-use Rattle.mm_run.specs.EventOffers.{offered_bytes}
+use Rattle.mm_outcome.specs.EventOffers.{offered_bytes}
 use Rattle.mm_world.specs.declared.call.CallReport.{CallReport}
 use Rattle.mm_world.specs.declared.seat.Seat.{Seat}
 use Rattle.mm_world.specs.Lengths.{length_if, within_64}

@@ -13,7 +13,7 @@ use Rattle.mm_platform.specs.Memory.{new_platform}
 use Rattle.mm_schedule.specs.declared.header.Header.{Header}
 use Rattle.mm_schedule.specs.Events.{Power, Extend}
 use Rattle.mm_schedule.specs.Replies.{IsPrintable}
-use Rattle.mm_run.specs.WorldState.{world_after_reading, rising_from, world_key, world_barrier}
+use Rattle.mm_outcome.specs.WorldState.{world_after_reading, rising_from, world_key, world_barrier}
 use Rattle.mm_world.specs.declared.seat.Seat.{Seat}
 use Rattle.mm_world.specs.HeldWorld.{digest_in, flag_in, value_in, digests_in, world_in, KeepsWorld}
 use Rattle.mm_world.specs.Seat.{instance_at, IsFirst, SeatStaysOn, SeatTakesEvent as SeatFollows, SeatLacksMemory as SeatWants}

@@ -24,7 +24,7 @@ use Rattle.mm_schedule.specs.declared.reply.Cause.{Cause}
 use Rattle.mm_schedule.specs.declared.reply.Cause.TheVariants as cause
 use Rattle.mm_schedule.specs.declared.reply.Reply.{Reply}
 use Rattle.mm_schedule.specs.declared.reply.Reply.TheVariants as reply
-use Rattle.mm_run.specs.Folds.{way_of, cause_of}
+use Rattle.mm_outcome.specs.Folds.{way_of, cause_of}
 use Rattle.mm_world.specs.declared.call.CallReport.{CallReport}
 
 -- a call that was refused

@@ -3,7 +3,7 @@ use Rattle.std.specs.Prelude.{◌≡◌, ◌≤◌, ◌-◌, ◌^◌, ◌==◌, 
 use Rattle.mm_platform.specs.Standing.{Standing}
 use Rattle.mm_model.specs.Moves.{Digests}
 use Rattle.mm_model.specs.Standing.{register_reading}
-use Rattle.mm_run.specs.WorldState.{WorldState, world_of, instance_of}
+use Rattle.mm_outcome.specs.WorldState.{WorldState, world_of, instance_of}
 use Rattle.mm_world.specs.declared.seat.Seat.{Seat}
 use Rattle.mm_world.specs.WorldStanding.{HasDigests, IsQuiet}
 

@@ -13,7 +13,7 @@ use Rattle.mm_call.specs.Levels.{digest_level}
 use Rattle.mm_call.specs.CallOutcome.{state_seen, reading_steps}
 use Rattle.mm_call.specs.Standing.{instance_by, count_after_more}
 use Rattle.mm_schedule.specs.declared.reply.Reply.{Reply}
-use Rattle.mm_run.specs.Folds.{Outcome, course_of, ask_event_outcome, checkpoint_event_outcome}
+use Rattle.mm_outcome.specs.Folds.{Outcome, course_of, ask_event_outcome, checkpoint_event_outcome}
 use Rattle.mm_call.specs.Checkpoints.{checkpoint_outcome}
 use Rattle.mm_world.specs.declared.call.CallReport.{CallReport}
 use Rattle.mm_world.specs.WorldStanding.{HasDigests, IsQuiet}

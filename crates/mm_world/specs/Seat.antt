@@ -16,7 +16,7 @@ use Rattle.mm_call.specs.Standing.{instance_by, count_after_more}
 use Rattle.mm_schedule.specs.Events.{Event, Ask, Power}
 use Rattle.mm_schedule.specs.declared.header.Header.{Header}
 use Rattle.mm_schedule.specs.declared.reply.Reply.{Reply}
-use Rattle.mm_run.specs.Folds.{Outcome, event_outcome, vain_event_outcome}
+use Rattle.mm_outcome.specs.Folds.{Outcome, event_outcome, vain_event_outcome}
 use Rattle.mm_world.specs.declared.call.CallReport.{CallReport}
 use Rattle.mm_world.specs.declared.seat.Seat.{Seat}
 use Rattle.mm_world.specs.OwnCalls.{CallLacksMemory}

@@ -21,7 +21,7 @@ use Rattle.mm_model.specs.declared.refusal.Refusal.TheVariants as refusal
 use Rattle.mm_call.specs.Levels.{digest_level}
 use Rattle.mm_call.specs.Standing.{count_after_more}
 use Rattle.mm_schedule.specs.declared.reply.Reply.{Reply}
-use Rattle.mm_run.specs.Folds.{Outcome, read_only_outcome, vain_ask_outcome}
+use Rattle.mm_outcome.specs.Folds.{Outcome, read_only_outcome, vain_ask_outcome}
 use Rattle.mm_world.specs.declared.call.CallReport.{CallReport}
 use Rattle.mm_world.specs.OwnCalls.{quiet_call, AsksOwnCell, ChecksOwnCell}
 use Rattle.mm_world.specs.WorldStanding.{IsQuiet}

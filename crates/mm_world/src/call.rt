@@ -4,7 +4,7 @@ ghost use Rattle.std.specs.Prelude.{◌≡◌, ℕ, List, Some};
 ghost use Rattle.mm_module.specs.Batches.{batch_of};
 ghost use Rattle.mm_module.specs.Meaning.{Meaning};
 ghost use Rattle.mm_digest.specs.declared.variant.Variant.{Variant};
-ghost use Rattle.mm_run.specs.EventOffers.{offered_bytes};
+ghost use Rattle.mm_outcome.specs.EventOffers.{offered_bytes};
 ghost use Rattle.mm_world.specs.VainCalls.{AsksPlanned, ChecksPlanned};
 ghost use Rattle.mm_world.specs.Calls.{refused_call, answered_call, broken_call, takes_effect, IsCallResult, PowerComesBack, SettlesPlan, has_closed_segment, checkpoint_reply};
 ghost use Rattle.mm_world.specs.PlannedCall.{IsPlanned, TellsCheckpoint};
@@ -20,7 +20,7 @@ use mm_model::{BatchAnswer, Refusal};
 use mm_module::{Batch, Module};
 use mm_opt::{CheckpointRefusal, Checkpointed, OptCheckpoint};
 use mm_platform::{Meddle, MemPlatform, Stop};
-use mm_run::{CallPlan, cause, offered, way};
+use mm_outcome::{CallPlan, cause, offered, way};
 use mm_schedule::{Cause, Offer, Reply};
 use std::alloc::Global;
 

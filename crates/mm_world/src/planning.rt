@@ -14,7 +14,7 @@ use mm_model::{BatchAnswer, Refusal};
 use mm_module::Module;
 use mm_opt::{CheckpointRefusal, Checkpointed, OptCheckpoint, closing_result};
 use mm_platform::{MemPlatform, Stop};
-use mm_run::CallPlan;
+use mm_outcome::CallPlan;
 
 /// An operation whose calls are told.
 pub trait CallTeller: Operation {

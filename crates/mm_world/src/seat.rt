@@ -12,7 +12,7 @@ use mm_call::{KeptKey, Provisioned};
 use mm_digest::Digest;
 use mm_module::Batch;
 use mm_platform::MemPlatform;
-use mm_run::CallPlan;
+use mm_outcome::CallPlan;
 use mm_schedule::{Header, Offer, Reply, owned_offer};
 use std::alloc::Global;
 

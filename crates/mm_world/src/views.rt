@@ -8,7 +8,7 @@ ghost use Rattle.mm_world.specs.Views.{event_of_view};
 use crate::parts::listed;
 use mm_digest::Digest;
 use mm_module::Batch;
-use mm_run::CallPlan;
+use mm_outcome::CallPlan;
 use mm_schedule::{Event, EventText, Meddles, Offer, OfferText};
 
 /// The snapshot that an event offers, where it lies.

@@ -4,7 +4,7 @@ use crate::seat::Seat;
 use crate::views::{EventView, line_view, owned_view};
 use mm_base::Memory;
 use mm_platform::MemPlatform;
-use mm_run::{world_barrier, world_key};
+use mm_outcome::{world_barrier, world_key};
 use mm_schedule::{Event, EventText, Header, Meddles, Reply};
 use std::alloc::Global;
 use std::marker::Model;
@@ -17,7 +17,7 @@ pub struct World {
 }
 
 impl Model for World {
-    ghost use Rattle.mm_run.specs.WorldState.{WorldState};
+    ghost use Rattle.mm_outcome.specs.WorldState.{WorldState};
     ghost use Rattle.mm_world.specs.HeldWorld.{world_in, KeepsWorld};
 
     ghost Value = { WorldState };
@@ -34,7 +34,7 @@ impl World {
     ghost use Rattle.mm_schedule.specs.Events.{event_of, meddles_of};
     ghost use Rattle.mm_schedule.specs.Texts as texts;
     ghost use Rattle.mm_schedule.specs.Replies.{IsPrintable};
-    ghost use Rattle.mm_run.specs.WorldState.{first_world_state, outcome_in, WorldFollows, EventWantsMemory};
+    ghost use Rattle.mm_outcome.specs.WorldState.{first_world_state, outcome_in, WorldFollows, EventWantsMemory};
     ghost use Rattle.mm_world.specs.HeldWorld.{HoldsWorld};
     ghost use Rattle.mm_world.specs.Lengths.{within_64};
     ghost use Rattle.mm_world.specs.Views.{event_of_view};

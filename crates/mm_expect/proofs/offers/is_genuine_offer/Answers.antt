@@ -1,5 +1,5 @@
 use Rattle.mm_expect.proofs.Below.{sym, ap, ◌∙◌, option_map, chronicle_instance, offered_bytes}
-use Rattle.mm_run.specs.OfferedBytes.{bytes_in}
+use Rattle.mm_outcome.specs.OfferedBytes.{bytes_in}
 use Rattle.mm_expect.proofs.JudgeLaws.{decided_issued, decided_none, decided_some}
 use Rattle.mm_expect.proofs.offers.is_genuine_offer.Goals as goal
 

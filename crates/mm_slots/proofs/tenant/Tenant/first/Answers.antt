@@ -1,5 +1,5 @@
 use Rattle.mm_slots.proofs.Below.{List, ℕ, refl, subst, None, Parts, IsFirst}
-use Rattle.mm_run.specs.WorldState.{rising_from}
+use Rattle.mm_outcome.specs.WorldState.{rising_from}
 use Rattle.mm_slots.proofs.Starting.{fits_there, row_there}
 use Rattle.mm_slots.proofs.tenant.Tenant.first.Goals as goal
 

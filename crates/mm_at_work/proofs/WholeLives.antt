@@ -1,0 +1,221 @@
+-- Lives over devices in memory are wholes: the slots of the first start are offered first, and of a copy what is asked.
+use Rattle.std.specs.List.{Contains}
+use Rattle.std.proofs.Common.{◌≡◌, ◌≤◌, ◌∙◌, ℕ, List, [], ◌∷◌, Option, None, Some, Result, arith, drop, length, refl, sym, ap, subst, take, inl, inr}
+use Rattle.std.proofs.lemmas.List.{append-nil, take_all}
+use Rattle.mm_digest.specs.declared.variant.Variant.{Variant}
+use Rattle.mm_digest.specs.declared.variant.Variant.TheVariants.{Basic, Opt}
+use Rattle.mm_platform.specs.Standing.{Standing}
+use Rattle.mm_module.specs.Meaning.{IsLawful, Meaning}
+use Rattle.mm_model.specs.History.{History, first_history}
+use Rattle.mm_model.specs.Instance.{Instance}
+use Rattle.mm_model.specs.InstanceWords.{basic_instance, opt_instance}
+use Rattle.mm_model.specs.FitLaws.{sealed_snapshot_of-most}
+use Rattle.mm_model.specs.Standing.{issued_bytes}
+use Rattle.mm_call.specs.OfferLaws.{basic_content, opt_content}
+use Rattle.mm_opt.specs.declared.segment.CheckpointRefusal.{CheckpointRefusal}
+use Rattle.mm_opt.specs.declared.segment.Checkpointed.{Checkpointed}
+use Rattle.mm_store.specs.Slots.{Slots, longest_slot, slot_front}
+use Rattle.mm_store.proofs.Above.{longest_slot-is}
+use Rattle.mm_recovery.specs.FirstStart.{IsFirstStore, ShowsValues, first_history_on, first_slots}
+use Rattle.mm_recovery.specs.SlotFit.{first_offer}
+use Rattle.mm_recovery.proofs.Above.{one_waiting}
+use Rattle.mm_host.specs.Sessions.{IsSession}
+use Rattle.mm_host.specs.declared.fault.SessionFault.{SessionFault}
+use Rattle.mm_pages.specs.CachedDevice.{CachedDevice}
+use Rattle.mm_pages.specs.Sheets.{Sheets}
+use Rattle.mm_twocell.specs.TornMemory.{TornMemory}
+use Rattle.mm_twocell.specs.declared.pair.TwoCell.{TwoCell}
+use Rattle.mm_evidence.proofs.Above.{clash_or}
+use Rattle.mm_life.specs.Deeds.{LifeCall, Checkpoints, Deed, LosesPower}
+use Rattle.mm_life.specs.Laws.{BasicLifeIsOne, OptLifeIsOne, SessionsOfferSlots}
+use Rattle.mm_life.specs.Premises.{IsFirstUntagged, IsUntagged, life_batches, life_messages, opt_messages, others_values, snapshots_of}
+use Rattle.mm_life.specs.SessionCalls.{IsFirstOffered, session_calls}
+use Rattle.mm_life.specs.Stages.{Does, IsLife, LifeStage}
+use Rattle.mm_at_work.specs.Devices.{store_in_pages, two_cells}
+use Rattle.mm_at_work.specs.Lives.{BeginsLife, FirstSlotsAreOld, IsOldCopy, IsWholeInBasic, IsWholeInOpt, LivesCheckpointed, LivesOnCopy, LivesWithoutPower}
+use Rattle.mm_at_work.specs.Lives.{session_stage}
+use Rattle.mm_at_work.specs.MemoryStart.{StartsInMemory}
+
+-- The first slots offer the first snapshot, as nothing waits in them.
+fits_slot : (size limit : ℕ) → size ≤ 1048690 → limit ≡ 1100000 → size ≤ limit
+fits_slot size limit h e = omega (arith, h, e)
+
+first_seen : (i : Instance) → length (issued_bytes i first_history) ≤ 1048690 → slot_front (first_slots i) 0 ≡ issued_bytes i first_history
+first_seen i short = take_all longest_slot (issued_bytes i first_history) (fits_slot _ longest_slot short longest_slot-is)
+
+first_in : (bytes : List ℕ) (more : List (List ℕ)) → Contains (bytes ∷ more) bytes
+first_in bytes more = (0, omega arith, refl)
+
+pub first_is_old : (i : Instance) → length (issued_bytes i first_history) ≤ 1048690 → (y : History) → IsFirstStore i y → FirstSlotsAreOld i
+first_is_old i short y first more waiting w content right =
+    let slots : Slots = first_slots i in
+    let none : waiting ≡ None = one_waiting (slot_front slots 2) (slot_front slots 3) waiting first.fits.waiting w first.fits.is_waiting
+    ∙ first.nothing_waits in
+    let offers : first_offer slots waiting ≡ issued_bytes i first_history = ap (first_offer slots) none ∙ first_seen i short in
+    rw offers (first_in (issued_bytes i first_history) more)
+
+-- what a session offers first is what its slots show
+pub first_by : (i : Instance) (issued : List (List ℕ)) (bytes : List ℕ) (calls : List LifeCall) → IsUntagged i issued bytes
+    → IsFirstOffered bytes calls → IsFirstUntagged i issued calls
+first_by i issued bytes [] u o = tt
+first_by i issued bytes (c ∷ calls) u o = rw o u
+
+-- a session over a copy, or over the slots of the first start
+module _ (offers : SessionsOfferSlots) (i : Instance) (issued : List (List ℕ)) (before after : Standing) (pages new : CachedDevice Sheets)
+    (left left' received received' : Option (List ℕ)) (result : Result Unit SessionFault)
+    (s : IsSession i.variant i.meaning before after (store_in_pages pages) (store_in_pages new) left left' received received' result) where
+  copy_untagged : IsOldCopy i issued pages.device.slots → IsFirstUntagged i issued (session_calls s)
+  copy_untagged old =
+      elim (offers i.variant i.meaning before after (store_in_pages pages) (store_in_pages new) left left' received received' result s
+      pages.device.slots refl) [
+        | inl none ↦ rw none tt
+        | inr shown ↦
+            first_by i issued (first_offer pages.device.slots shown.waiting) (session_calls s) (old shown.waiting shown.is_waiting)
+            shown.offered
+      ]
+
+  start_untagged : (slots : Slots) → pages.device.slots ≡ slots → IsOldCopy i issued slots → IsFirstUntagged i issued (session_calls s)
+  start_untagged slots is old = copy_untagged (subst (λ (x : Slots). IsOldCopy i issued x) (sym is) old)
+
+-- the first snapshots are short
+pub basic_short : (meaning : Meaning) → IsLawful meaning → (key : List ℕ) → length (issued_bytes (basic_instance meaning key) first_history) ≤ 1048690
+basic_short meaning lawful key = sealed_snapshot_of-most _ _ (basic_content meaning lawful key first_history (omega arith))
+
+pub opt_short : (meaning : Meaning) → IsLawful meaning → (key barrier : List ℕ)
+    → length (issued_bytes (opt_instance meaning key barrier) first_history) ≤ 1048690
+opt_short meaning lawful key barrier = sealed_snapshot_of-most _ _ (opt_content meaning lawful key barrier first_history (omega arith))
+
+-- what stands behind a loss of power, or a checkpoint
+abbrev deed_stage : Deed → Standing → LifeStage
+deed_stage deed after = record { part = Does deed; after = after }
+
+module _ (meaning : Meaning) (lawful : IsLawful meaning) (offers : SessionsOfferSlots) (start middle after : TwoCell TornMemory)
+    (pages left_pages copy new : CachedDevice Sheets) (entropy entropy' first first' second second' received between received' : List ℕ)
+    (one two : Result Unit SessionFault) where
+  abbrev One : LifeStage
+  One = session_stage pages left_pages first first' received between one middle
+
+  abbrev Two : LifeStage
+  Two = session_stage copy new second second' between received' two after
+
+  abbrev begins : (variant : Variant) → StartsInMemory variant meaning start pages entropy entropy' → BeginsLife entropy entropy'
+  begins variant starts = record {
+    secrets = starts.secrets;
+    counted = starts.counted;
+    taken = starts.taken;
+    start = start;
+    pages = pages;
+    middle = middle;
+    left_pages = left_pages;
+    between = between;
+  }
+
+  module _ (basic_one : BasicLifeIsOne) (starts : StartsInMemory Basic meaning start pages entropy entropy') where
+    abbrev key : List ℕ
+    key = take 32 starts.secrets
+
+    abbrev B : Instance
+    B = basic_instance meaning key
+
+    abbrev Issued : List (List ℕ) → List (List ℕ)
+    Issued more = issued_bytes B first_history ∷ more
+
+    basic_old : FirstSlotsAreOld B
+    basic_old = first_is_old B (basic_short meaning lawful key) first_history (starts.first [])
+
+    first_session : (s : IsSession Basic meaning (two_cells start) (two_cells middle) (store_in_pages pages) (store_in_pages left_pages)
+        (Some first) (Some first') (Some received) (Some between) one) → IsFirstUntagged B (Issued []) (session_calls s)
+    first_session s =
+        start_untagged offers B (Issued []) (two_cells start) (two_cells middle) pages left_pages (Some first) (Some first') (Some received)
+        (Some between) one s (first_slots B) starts.slots (basic_old [])
+
+    second_session : (before : Standing) (issued : List (List ℕ)) (s : IsSession Basic meaning before (two_cells after) (store_in_pages copy)
+        (store_in_pages new) (Some second) (Some second') (Some between) (Some received') two) → IsOldCopy B issued copy.device.slots
+        → IsFirstUntagged B issued (session_calls s)
+    second_session before issued s old =
+        copy_untagged offers B issued before (two_cells after) copy new (Some second) (Some second') (Some between) (Some received') two s
+        old
+
+    whole_on_copy : (f : IsLife Basic meaning (two_cells start) (One ∷ Two ∷ []))
+        → IsWholeInBasic B start One (Two ∷ []) copy.device.slots f
+    whole_on_copy f old =
+        let issued : List (List ℕ) = Issued (snapshots_of (session_calls f.0)) in
+        elim (clash_or B (life_messages B (two_cells start) (One ∷ Two ∷ []) f) [] (life_batches B (two_cells start) (One ∷ Two ∷ []) f)) [
+          | inl clash ↦ inr clash
+          | inr fine ↦
+              inl (basic_one meaning lawful key (two_cells start) (One ∷ Two ∷ []) f (starts.stands [] refl) fine.0
+              (first_session f.0, (second_session (two_cells middle) issued f.1.0 old, tt)))
+        ]
+
+    pub lives_on_copy : IsLife Basic meaning (two_cells start) (One ∷ Two ∷ [])
+        → LivesOnCopy meaning after copy new entropy entropy' first first' second second' received received' one two
+    lives_on_copy f =
+        record { begun = begins Basic starts; life = f; whole = whole_on_copy f; first_is_old = basic_old }
+
+    whole_without_power : (empty : Standing) (f : IsLife Basic meaning (two_cells start) (One ∷ deed_stage LosesPower empty ∷ Two ∷ []))
+        → IsWholeInBasic B start One (deed_stage LosesPower empty ∷ Two ∷ []) copy.device.slots f
+    whole_without_power empty f old =
+        let stages : List LifeStage = One ∷ deed_stage LosesPower empty ∷ Two ∷ [] in
+        let issued : List (List ℕ) = Issued (snapshots_of (session_calls f.0)) in
+        elim (clash_or B (life_messages B (two_cells start) stages f) [] (life_batches B (two_cells start) stages f)) [
+          | inl clash ↦ inr clash
+          | inr fine ↦
+              inl (basic_one meaning lawful key (two_cells start) stages f (starts.stands [] refl) fine.0
+              (first_session f.0, (tt, (rw (append-nil issued) (second_session empty issued f.1.1.0 old), tt))))
+        ]
+
+    pub lives_without_power : (empty : Standing)
+        → IsLife Basic meaning (two_cells start) (One ∷ deed_stage LosesPower empty ∷ Two ∷ [])
+        → LivesWithoutPower meaning after copy new entropy entropy' first first' second second' received received' one two
+    lives_without_power empty f = record {
+      begun = begins Basic starts;
+      empty = empty;
+      life = f;
+      whole = whole_without_power empty f;
+      first_is_old = basic_old;
+    }
+
+  module _ (opt_one : OptLifeIsOne) (starts : StartsInMemory Opt meaning start pages entropy entropy') where
+    abbrev O : Instance
+    O = opt_instance meaning (take 32 starts.secrets) (drop 32 starts.secrets)
+
+    opt_old : FirstSlotsAreOld O
+    opt_old = first_is_old O (opt_short meaning lawful (take 32 starts.secrets) (drop 32 starts.secrets)) (first_history_on []) (starts.first [])
+
+    whole_checkpointed : (said : Result Checkpointed CheckpointRefusal) (closed : Standing)
+        (f : IsLife Opt meaning (two_cells start) (One ∷ deed_stage (Checkpoints said) closed ∷ Two ∷ [])) (values : List (List ℕ))
+        → ShowsValues Opt (two_cells start) values
+        → IsWholeInOpt O start One (deed_stage (Checkpoints said) closed ∷ Two ∷ []) copy.device.slots f
+    whole_checkpointed said closed f values shows old =
+        let stages : List LifeStage = One ∷ deed_stage (Checkpoints said) closed ∷ Two ∷ [] in
+        let none : List (List ℕ) = issued_bytes O first_history ∷ [] in
+        let issued : List (List ℕ) = issued_bytes O first_history ∷ snapshots_of (session_calls f.0) in
+        elim (clash_or O (opt_messages O (two_cells start) stages f) (others_values O (two_cells start) stages f)
+        (life_batches O (two_cells start) stages f)) [
+          | inl clash ↦ inr clash
+          | inr fine ↦
+              inl (opt_one meaning lawful (take 32 starts.secrets) (drop 32 starts.secrets) values (two_cells start) stages f
+              (starts.stands values shows) fine.0 (fine.1 refl) (
+                start_untagged offers O none (two_cells start) (two_cells middle) pages left_pages (Some first) (Some first')
+                    (Some received) (Some between) one f.0 (first_slots O) starts.slots (opt_old []),
+                (
+                  tt,
+                  (
+                    rw (append-nil issued) (copy_untagged offers O issued closed (two_cells after) copy new (Some second) (Some second')
+                        (Some between) (Some received') two f.1.1.0 old),
+                    tt,
+                  ),
+                ),
+              ))
+        ]
+
+    pub lives_checkpointed : (said : Result Checkpointed CheckpointRefusal) (closed : Standing)
+        → IsLife Opt meaning (two_cells start) (One ∷ deed_stage (Checkpoints said) closed ∷ Two ∷ [])
+        → LivesCheckpointed meaning after copy new entropy entropy' first first' second second' received received' one said two
+    lives_checkpointed said closed f = record {
+      begun = begins Opt starts;
+      closed = closed;
+      life = f;
+      whole = whole_checkpointed said closed f;
+      first_is_old = opt_old;
+    }

@@ -1,0 +1,187 @@
+//! Lives over two cells and pages in memory: a first start, and two sessions, the second over a copy in the pages' place.
+
+ghost use Rattle.std.specs.Prelude.{IfOk};
+ghost use Rattle.mm_at_work.specs.Lives.{LivesOnCopy, LivesWithoutPower, LivesCheckpointed};
+
+use crate::calls::close_segment;
+use crate::sessions::{serve, start};
+use mm_base::{MemSink, MemSource};
+use mm_digest::Variant;
+use mm_host::SessionFault;
+use mm_life::{basic_life_is_one, device_calls_are_deeds, opt_life_is_one, sessions_offer_slots};
+use mm_module::Module;
+use mm_opt::{CheckpointRefusal, Checkpointed};
+use mm_pages::{MemPages, PageStore};
+use mm_platform::{Platform, StepFault};
+use mm_recovery::InitFault;
+use mm_twocell::{MemRaw, TwoCell};
+use std::alloc::Global;
+
+/// How two sessions ended.
+#[derive(Debug, Drop)]
+pub struct TwoSessions {
+    pub first: Result<(), SessionFault>,
+    pub second: Result<(), SessionFault>,
+}
+
+/// How two sessions ended, and what the checkpoint between them said.
+#[derive(Debug, Drop)]
+pub struct Checkpoint {
+    pub sessions: TwoSessions,
+    pub said: Result<Checkpointed, CheckpointRefusal>,
+}
+
+/// Why there weren't two sessions.
+#[derive(Clone, Copy, Debug, PartialEq, Eq)]
+pub enum TwoSessionsFault {
+    /// The first start failed.
+    Starting(InitFault),
+    /// The platform failed when it was to lose its power.
+    LosingPower(StepFault),
+}
+
+/// A first start of an instance of Basic, and a session; then, with a copy in the pages' place, however old or
+/// altered it is, a session over it.
+pub fn live_on_copy<M: Module>(
+    alloc: Global,
+    module: &M,
+    platform: &mut TwoCell<MemRaw>,
+    store: &mut PageStore<MemPages>,
+    entropy: &mut MemSource,
+    copy: &mut PageStore<MemPages>,
+    first_input: &mut MemSource,
+    second_input: &mut MemSource,
+    out: &mut MemSink,
+) -> Result<TwoSessions, InitFault>
+    ensures { IfOk result (λ both. LivesOnCopy (M.meaning «module».now) platform.new copy.old copy.new
+        entropy.old.left entropy.new.left first_input.old.left first_input.new.left
+        second_input.old.left second_input.new.left out.old.received out.new.received both.first
+        both.second) }
+{
+    basic_life_is_one();
+    sessions_offer_slots();
+    match start(alloc, Variant::Basic, module, platform, store, entropy) {
+        Err(fault) => Err(fault),
+        Ok(()) => {
+            let first = serve(
+                alloc,
+                Variant::Basic,
+                module,
+                platform,
+                store,
+                first_input,
+                out,
+            );
+            let second = serve(
+                alloc,
+                Variant::Basic,
+                module,
+                platform,
+                copy,
+                second_input,
+                out,
+            );
+            Ok(TwoSessions { first, second })
+        }
+    }
+}
+
+/// A first start of an instance of Basic, and a session; then power is lost and comes back; and, with a copy in the
+/// pages' place, a session over it.
+pub fn live_without_power<M: Module>(
+    alloc: Global,
+    module: &M,
+    platform: &mut TwoCell<MemRaw>,
+    store: &mut PageStore<MemPages>,
+    entropy: &mut MemSource,
+    copy: &mut PageStore<MemPages>,
+    first_input: &mut MemSource,
+    second_input: &mut MemSource,
+    out: &mut MemSink,
+) -> Result<TwoSessions, TwoSessionsFault>
+    ensures { IfOk result (λ both. LivesWithoutPower (M.meaning «module».now) platform.new copy.old
+        copy.new entropy.old.left entropy.new.left first_input.old.left first_input.new.left
+        second_input.old.left second_input.new.left out.old.received out.new.received both.first
+        both.second) }
+{
+    basic_life_is_one();
+    sessions_offer_slots();
+    device_calls_are_deeds();
+    match start(alloc, Variant::Basic, module, platform, store, entropy) {
+        Err(fault) => Err(TwoSessionsFault::Starting(fault)),
+        Ok(()) => {
+            let first = serve(
+                alloc,
+                Variant::Basic,
+                module,
+                platform,
+                store,
+                first_input,
+                out,
+            );
+            match platform.cycle() {
+                Err(fault) => Err(TwoSessionsFault::LosingPower(fault)),
+                Ok(()) => {
+                    let second = serve(
+                        alloc,
+                        Variant::Basic,
+                        module,
+                        platform,
+                        copy,
+                        second_input,
+                        out,
+                    );
+                    Ok(TwoSessions { first, second })
+                }
+            }
+        }
+    }
+}
+
+/// A first start of an instance of Opt, and a session; then the segment is closed, if one is open; and, with a copy in
+/// the pages' place, a session over it.
+pub fn live_checkpointed<M: Module>(
+    alloc: Global,
+    module: &M,
+    platform: &mut TwoCell<MemRaw>,
+    store: &mut PageStore<MemPages>,
+    entropy: &mut MemSource,
+    copy: &mut PageStore<MemPages>,
+    first_input: &mut MemSource,
+    second_input: &mut MemSource,
+    out: &mut MemSink,
+) -> Result<Checkpoint, InitFault>
+    ensures { IfOk result (λ all. LivesCheckpointed (M.meaning «module».now) platform.new copy.old
+        copy.new entropy.old.left entropy.new.left first_input.old.left first_input.new.left
+        second_input.old.left second_input.new.left out.old.received out.new.received
+        all.sessions.first all.said all.sessions.second) }
+{
+    opt_life_is_one();
+    sessions_offer_slots();
+    match start(alloc, Variant::Opt, module, platform, store, entropy) {
+        Err(fault) => Err(fault),
+        Ok(()) => {
+            let first = serve(
+                alloc,
+                Variant::Opt,
+                module,
+                platform,
+                store,
+                first_input,
+                out,
+            );
+            let said = close_segment(platform);
+            let second = serve(
+                alloc,
+                Variant::Opt,
+                module,
+                platform,
+                copy,
+                second_input,
+                out,
+            );
+            let sessions = TwoSessions { first, second };
+            Ok(Checkpoint { sessions, said })
+        }
+    }
+}

@@ -1,0 +1,162 @@
+-- A schedule gives the same by digests as by lists: one induction over events, for both variants.
+use Rattle.mm_outcome.proofs.Below.{ℕ, ◌+◌, Bool, true, false, List, [], ◌∷◌, ◌++◌, map, Option, None, Some, refl, sym, ap, subst}
+use Rattle.mm_outcome.proofs.Below.{if◌then◌else◌, AllByRecursion, Contains, Meddle, Stop, Batch, normal_batch, Instance, History, Foreign}
+use Rattle.mm_outcome.proofs.Below.{PowerMove, history_after, is_long, AreMessagesIn, Digests, digests_after, IsGenuine, each_left, each_right, list_level, digest_level}
+use Rattle.mm_outcome.proofs.Below.{state_after_moves, right_content, CallOutcome, call_outcome, CheckpointOutcome, checkpoint_outcome}
+use Rattle.mm_outcome.proofs.Below.{IsSameCheckpoint, messages_of_moves, right_messages, IsSameCall, Event, Ask, Checkpoint, Power, Extend, Reply}
+use Rattle.mm_outcome.proofs.Below.{offered_bytes, Outcome, way_of, course_of, reply_of, snapshots_of, outcome_by}
+use Rattle.mm_outcome.proofs.Below.{outcome_without_call, ask_event_outcome, closing_reply, checkpoint_event_outcome, event_outcome, outcome_of_events, moves_of}
+use Rattle.mm_outcome.proofs.Below.{event_messages, messages_from, event_foreign_values, batches_of, AreGenuine}
+use Rattle.mm_outcome.proofs.Below.{foreign_values, asked_batches, IsGenuineOffer, AgreesThroughout, KeepsHistory, IsSameOutcome}
+use Rattle.mm_outcome.proofs.Parts.{ask_moves, asking_messages}
+use Rattle.mm_outcome.proofs.Below.{start_message, first_history, first_digests, first_issued, run_messages, outcome_by_lists, outcome_by_digests}
+use Rattle.mm_outcome.proofs.Below.{IsGenuineRun, each_self}
+use Rattle.mm_outcome.specs.OneEvent.{IsEventWithin}
+use Rattle.mm_outcome.proofs.Below.{Move}
+use Rattle.mm_outcome.proofs.EachWay.{then_all, closing_all}
+use Rattle.mm_schedule.specs.declared.reply.Reply.TheVariants as reply
+use Rattle.mm_schedule.specs.declared.reply.Cause.TheVariants as cause
+
+-- What is asked of a call of an event: the values of others are among those told, the batch is asked, the messages of a right offer,
+-- which names a position, are listed, and those of the moves.
+pub record IsCallWithin (all others : List (List ℕ)) (asked_for : List Batch) (i : Instance) (y : History) (stop : Stop)
+    (meddles : List Meddle) (bytes : List ℕ) (b : Batch) : Type 0 where
+  pub outside : AllByRecursion (Contains others) (map (λ m. m.value.bytes) meddles)
+  pub is_asked : Contains asked_for b
+  pub listed : Within (right_messages i b (right_content i bytes)) all
+  pub genuine : IsGenuine i y bytes
+  pub messages : Within (messages_of_moves i y (call_outcome i (list_level i) y (course_of stop meddles) bytes b).moves) all
+
+-- What one variant gives: the laws of calls and of checkpoints on a planned course, by the moves by lists; that a loss of
+-- power and a value of others keep what holds; and that it holds at the start.
+pub record Variants (all others : List (List ℕ)) (asked_for : List Batch) (i : Instance) : Type 0 where
+  pub calls : (y : History) (d : Digests) (stop : Stop) (meddles : List Meddle) (bytes : List ℕ) (b : Batch)
+      → KeepsHistory all others asked_for i y d → IsCallWithin all others asked_for i y stop meddles bytes b
+      → IsSameCall all others asked_for i (call_outcome i (list_level i) y (course_of stop meddles) bytes b)
+      (call_outcome i (digest_level i) d (course_of stop meddles) bytes b)
+  pub checkpoints : (y : History) (d : Digests) (stop : Stop) (meddles : List Meddle) → KeepsHistory all others asked_for i y d
+      → AllByRecursion (Contains others) (map (λ m. m.value.bytes) meddles)
+      → Within (messages_of_moves i y (checkpoint_outcome i (list_level i) y (course_of stop meddles)).moves) all
+      → IsSameCheckpoint all others asked_for i (checkpoint_outcome i (list_level i) y (course_of stop meddles))
+      (checkpoint_outcome i (digest_level i) d (course_of stop meddles))
+  pub power : (y : History) (d : Digests) → KeepsHistory all others asked_for i y d
+      → KeepsHistory all others asked_for i (history_after i y PowerMove) (digests_after i d PowerMove)
+  pub foreign : (y : History) (d : Digests) (v : List ℕ) → KeepsHistory all others asked_for i y d → Contains others v
+      → Within (messages_of_moves i y (Foreign v ∷ [])) all → KeepsHistory all others asked_for i (history_after i y (Foreign v)) (digests_after i d (Foreign v))
+  pub starts : Contains all (start_message i.variant i.meaning.id) → KeepsHistory all others asked_for i first_history (first_digests i)
+
+module _ (all others : List (List ℕ)) (asked_for : List Batch) (i : Instance) (v : Variants all others asked_for i) where
+  abbrev Kept : History → Digests → Type 0
+  Kept y d = KeepsHistory all others asked_for i y d
+
+  abbrev Same : Outcome History → Outcome Digests → Type 0
+  Same o p = IsSameOutcome all others asked_for i o p
+
+  abbrev Then : History → Digests → List Move → Type 0
+  Then y d moves = Kept (state_after_moves (list_level i) y moves) (state_after_moves (digest_level i) d moves)
+
+  outcome_same : (stop : Stop) (issued : List (List ℕ)) (o : CallOutcome History) (p : CallOutcome Digests) → IsSameCall all others asked_for i o p
+      → Same (outcome_by (list_level i) stop issued o) (outcome_by (digest_level i) stop issued p)
+  outcome_same stop issued o p s =
+      let k : Kept o.state p.state = record { agrees = s.agrees; within = s.within } in record {
+        reply = ap (reply_of (way_of stop)) s.ending;
+        issued = ap (λ e. issued ++ snapshots_of e) s.ending;
+        steps = s.steps;
+        writes = s.writes;
+        keeps = rw s.ending (then_all (Then o.state p.state) k (v.power o.state p.state k) stop o.ending);
+      }
+
+  closed_same : (stop : Stop) (issued : List (List ℕ)) (o : CheckpointOutcome History) (p : CheckpointOutcome Digests)
+      → IsSameCheckpoint all others asked_for i o p
+      → Same (checkpoint_event_outcome (list_level i) stop issued o) (checkpoint_event_outcome (digest_level i) stop issued p)
+  closed_same stop issued o p s =
+      let k : Kept o.state p.state = record { agrees = s.agrees; within = s.within } in record {
+        reply = ap (closing_reply (way_of stop)) s.ending;
+        issued = refl;
+        steps = s.steps;
+        writes = s.writes;
+        keeps = rw s.ending (closing_all (Then o.state p.state) k (v.power o.state p.state k) stop o.ending);
+      }
+
+  uncalled_same : (y : History) (d : Digests) (issued : List (List ℕ)) (said : Reply) → Kept y d
+      → Same (outcome_without_call y issued said) (outcome_without_call d issued said)
+  uncalled_same y d issued said k = record { reply = refl; issued = refl; steps = refl; writes = refl; keeps = k }
+
+  -- a call, unless its batch is too long
+  asked_same : (y : History) (d : Digests) (issued : List (List ℕ)) (meddles : List Meddle) (stop : Stop) (bytes : List ℕ) (b : Batch)
+      (long : Bool) → Kept y d → AllByRecursion (Contains others) (map (λ m. m.value.bytes) meddles)
+      → AllByRecursion (Contains asked_for) (if long then [] else b ∷ [])
+      → Within (if long then [] else right_messages i b (right_content i bytes)) all → IsGenuine i y bytes
+      → (let lists : CallOutcome History = call_outcome i (list_level i) y (course_of stop meddles) bytes b in
+      let digests : CallOutcome Digests = call_outcome i (digest_level i) d (course_of stop meddles) bytes b in
+      Within (messages_of_moves i y (if long then [] else lists.moves)) all
+      → Same (if long then outcome_without_call y issued (reply.No cause.Long) else outcome_by (list_level i) stop issued lists)
+      (if long then outcome_without_call d issued (reply.No cause.Long) else outcome_by (digest_level i) stop issued digests))
+  asked_same y d issued meddles stop bytes b true k outside batches listed genuine messages =
+      uncalled_same y d issued (reply.No cause.Long) k
+  asked_same y d issued meddles stop bytes b false k outside batches listed genuine messages = outcome_same stop issued _ _
+      (v.calls y d stop meddles bytes b k
+      (record { outside = outside; is_asked = batches.0; listed = listed; genuine = genuine; messages = messages }))
+
+  offered_same : (y : History) (d : Digests) (issued : List (List ℕ)) (meddles : List Meddle) (stop : Stop) (bytes : Option (List ℕ))
+      (b : Batch) → Kept y d → AllByRecursion (Contains others) (map (λ m. m.value.bytes) meddles)
+      → AllByRecursion (Contains asked_for) (if is_long b then [] else normal_batch b ∷ []) → Within (asking_messages i bytes b) all
+      → IsGenuineOffer i y bytes → Within (messages_of_moves i y (ask_moves i y meddles stop bytes b)) all
+      → Same (ask_event_outcome i (list_level i) y issued meddles stop bytes b) (ask_event_outcome i (digest_level i) d issued meddles stop bytes b)
+  offered_same y d issued meddles stop None b k outside batches listed genuine messages =
+      uncalled_same y d issued (reply.No cause.Snapshot) k
+  offered_same y d issued meddles stop (Some bytes) b k outside batches listed genuine messages =
+      asked_same y d issued meddles stop bytes (normal_batch b) (is_long b) k outside batches listed genuine messages
+
+  pub event_same : (y : History) (d : Digests) (issued : List (List ℕ)) (event : Event) → Kept y d
+      → IsEventWithin all others asked_for i y issued event
+      → Same (event_outcome i (list_level i) y issued event) (event_outcome i (digest_level i) d issued event)
+  event_same y d issued (Ask meddles stop offer b) k w =
+      offered_same y d issued meddles stop (offered_bytes issued offer) b k w.outside w.batches w.listed w.genuine w.messages
+  event_same y d issued (Checkpoint meddles stop) k w =
+      closed_same stop issued _ _ (v.checkpoints y d stop meddles k w.outside w.messages)
+  event_same y d issued Power k w = uncalled_same _ _ issued reply.Power (v.power y d k)
+  event_same y d issued (Extend value) k w = uncalled_same _ _ issued reply.Extended (v.foreign y d value k w.outside.0 w.messages)
+
+  pub follow_same : (events : List Event) (y : History) (d : Digests) (issued : List (List ℕ)) → Kept y d
+      → AllByRecursion (Contains others) (foreign_values events) → AllByRecursion (Contains asked_for) (asked_batches events)
+      → Within (messages_from i y issued events) all → AreGenuine i y issued events
+      → AgreesThroughout i (outcome_of_events i (list_level i) y issued events) (outcome_of_events i (digest_level i) d issued events)
+  follow_same [] y d issued k outside among listed genuine =
+      record { replies = refl; issued = refl; steps = refl; writes = refl; stands = k.agrees }
+  follow_same (event ∷ events) y d issued k outside among listed genuine =
+      let o : Outcome History = event_outcome i (list_level i) y issued event in
+      let p : Outcome Digests = event_outcome i (digest_level i) d issued event in
+      let C : List ℕ → Type 0 = Contains all in
+      let here : List (List ℕ) = event_messages i issued event ++ messages_of_moves i y (moves_of i y issued event) in
+      let front = each_left C here (messages_from i o.state o.issued events) listed in
+      let back = each_right C here (messages_from i o.state o.issued events) listed in
+      let same = event_same y d issued event k (record {
+        outside = each_left (Contains others) (event_foreign_values event) (foreign_values events) outside;
+        batches = each_left (Contains asked_for) (batches_of event) (asked_batches events) among;
+        listed = each_left C (event_messages i issued event) (messages_of_moves i y (moves_of i y issued event)) front;
+        genuine = genuine.0;
+        messages = each_right C (event_messages i issued event) (messages_of_moves i y (moves_of i y issued event)) front;
+      }) in
+      let rest = follow_same events o.state p.state o.issued same.keeps
+      (each_right (Contains others) (event_foreign_values event) (foreign_values events) outside)
+      (each_right (Contains asked_for) (batches_of event) (asked_batches events) among) back genuine.1 in
+      let P : List (List ℕ)
+      → Type 0 = λ w. AgreesThroughout i (outcome_of_events i (list_level i) o.state o.issued events) (outcome_of_events i (digest_level i) p.state w events) in
+      let later = subst P (sym same.issued) rest in
+      record {
+        replies = λ j. same.reply j ∷ later.replies j;
+        issued = later.issued;
+        steps = λ j. same.steps j + later.steps j;
+        writes = λ j. same.writes j + later.writes j;
+        stands = later.stands;
+      }
+
+-- a run from the start, within its own messages, values and batches
+pub expected_from : (i : Instance) (events : List Event)
+    → Variants (run_messages i events) (foreign_values events) (asked_batches events) i → IsGenuineRun i events
+    → AgreesThroughout i (outcome_by_lists i events) (outcome_by_digests i events)
+expected_from i events v genuine =
+    let self = each_self [] (run_messages i events) in
+    follow_same (run_messages i events) (foreign_values events) (asked_batches events) i v events first_history (first_digests i)
+    (first_issued i) (v.starts self.0) (each_self [] (foreign_values events)) (each_self [] (asked_batches events)) self.1 genuine

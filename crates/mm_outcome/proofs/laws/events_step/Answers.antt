@@ -1,0 +1,5 @@
+use Rattle.mm_outcome.proofs.Running.{event_steps}
+use Rattle.mm_outcome.proofs.laws.events_step.Goals as goal
+
+pub returns : goal.returns
+returns c = event_steps

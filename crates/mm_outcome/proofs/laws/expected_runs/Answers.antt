@@ -1,0 +1,5 @@
+use Rattle.mm_outcome.proofs.Running.{expected_runs}
+use Rattle.mm_outcome.proofs.laws.expected_runs.Goals as goal
+
+pub returns : goal.returns
+returns c = expected_runs

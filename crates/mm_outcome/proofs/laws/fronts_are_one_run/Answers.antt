@@ -1,0 +1,5 @@
+use Rattle.mm_outcome.proofs.FrontRuns.{clear_fronts, fronts_run, genuine_fronts}
+use Rattle.mm_outcome.proofs.laws.fronts_are_one_run.Goals as goal
+
+pub returns : goal.returns
+returns c = record { one = fronts_run; clear = clear_fronts; genuine = genuine_fronts }

@@ -1,6 +1,0 @@
-use Rattle.std.proofs.Common.{refl}
-use Rattle.mm_rows.proofs.HostRuns.{one_more_run}
-use Rattle.mm_rows.proofs.hosts.run_rounds.Goals as goal
-
-pub loop-round-preserved : goal.loop-round-preserved
-loop-round-preserved g c = one_more_run _ _ c.loop-round.round _ c.loop-round.invariant refl c.run_verb.ensures

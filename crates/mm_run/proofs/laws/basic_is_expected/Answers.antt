@@ -1,6 +1,0 @@
-use Rattle.mm_run.proofs.Below.{Basic, zero_bytes}
-use Rattle.mm_run.proofs.Expecting.{is_expected}
-use Rattle.mm_run.proofs.laws.basic_is_expected.Goals as goal
-
-pub returns : goal.returns
-returns c = λ meaning key. is_expected Basic meaning key zero_bytes

@@ -1,5 +1,0 @@
-use Rattle.mm_run.proofs.Naming.{events_keep_names}
-use Rattle.mm_run.proofs.laws.events_keep_names.Goals as goal
-
-pub returns : goal.returns
-returns c = events_keep_names

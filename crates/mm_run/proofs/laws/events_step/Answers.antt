@@ -1,5 +1,0 @@
-use Rattle.mm_run.proofs.Running.{event_steps}
-use Rattle.mm_run.proofs.laws.events_step.Goals as goal
-
-pub returns : goal.returns
-returns c = event_steps

@@ -1,5 +1,0 @@
-use Rattle.mm_run.proofs.Running.{expected_runs}
-use Rattle.mm_run.proofs.laws.expected_runs.Goals as goal
-
-pub returns : goal.returns
-returns c = expected_runs
