@@ -67,7 +67,8 @@ pub record TellsNextStep (step : Step) (left : ReplyState) : Type 0 where
   pub room : left.after ≡ left.before
 
 -- what it tells of a call that came to this, or of what was passed that is no call
-abbrev pub TellsCallOutcome : Result (StepsOutcome (Result Answer Refusal)) ReturnStatus → ReplyState → Type 0
+abbrev pub TellsCallOutcome : Result (StepsOutcome (Result Answer Refusal)) ReturnStatus
+    → ReplyState → Type 0
 TellsCallOutcome (Err why) left = SaysOnly why left
 TellsCallOutcome (Ok (outcome.Ended (Ok answer))) left = TellsAnswer answer left
 TellsCallOutcome (Ok (outcome.Ended (Err why))) left = SaysOnly (said.Refused why) left
@@ -85,7 +86,8 @@ checkpoint_status (Err why) = closing_status why
 abbrev pub TellsClosing : Result (StepsOutcome (Result Checkpointed CheckpointRefusal)) ReturnStatus
     → Step → Step → ReturnStatus → Type 0
 TellsClosing (Err why) old new says = (says ≡ why) × (new ≡ old)
-TellsClosing (Ok (outcome.Ended gives)) old new says = (says ≡ checkpoint_status gives) × (new ≡ old)
+TellsClosing (Ok (outcome.Ended gives)) old new says = (says ≡ checkpoint_status gives)
+    × (new ≡ old)
 TellsClosing (Ok (outcome.Next step)) old new says = (says ≡ said.Next) × (new ≡ next_step_of step)
 TellsClosing (Ok outcome.Differs) old new says = (says ≡ said.Differs) × (new ≡ old)
 TellsClosing (Ok outcome.Memory) old new says = (says ≡ said.Differs) × (new ≡ old)

@@ -65,16 +65,19 @@ pub record IsTold (instance : Instance) (steps : List Step) (offer request : Lis
   pub says : ReturnStatus
   pub number_is : number ≡ number_of says
   pub tells :
-      TellsCallOutcome asked (record { old = old; new = new; before = before; after = after; says = says })
+      TellsCallOutcome asked
+          (record { old = old; new = new; before = before; after = after; says = says })
 
 -- The same of a checkpoint.
-pub record IsClosing (steps : List Step) (outcome : StepsOutcome (Result Checkpointed CheckpointRefusal))
+pub record IsClosing (steps : List Step)
+    (outcome : StepsOutcome (Result Checkpointed CheckpointRefusal))
     : Type 0 where
   pub made : List MadeStep
   pub are_steps : AreSteps steps made
   pub closes : ToldCheckpointPromise (worn_host made) made outcome
 
-abbrev pub ClosesTo : List Step → Result (StepsOutcome (Result Checkpointed CheckpointRefusal)) ReturnStatus
+abbrev pub ClosesTo : List Step
+    → Result (StepsOutcome (Result Checkpointed CheckpointRefusal)) ReturnStatus
     → Type 0
 ClosesTo steps (Ok outcome) = IsClosing steps outcome
 ClosesTo steps (Err why) = AreNoSteps steps why

@@ -49,7 +49,8 @@ pub record IsMeant (instance : Instance) (keys : Keys) (i : model.Instance) : Ty
   pub is : i ≡ instance_by parts.0 (meaning_of parts.1) keys.key keys.barrier
 
 -- it is made, and what is written is its first cell and snapshot
-pub record PutsInstance (instance : Instance) (keys : Keys) (it : ProvisionMemory) (says : ReturnStatus) : Type 0
+pub record PutsInstance (instance : Instance) (keys : Keys) (it : ProvisionMemory)
+    (says : ReturnStatus) : Type 0
   where
     pub meant : model.Instance
     pub is_meant : IsMeant instance keys meant
@@ -59,7 +60,8 @@ pub record PutsInstance (instance : Instance) (keys : Keys) (it : ProvisionMemor
 abbrev pub IsUnmade : Instance → ReturnStatus → Type 0
 IsUnmade instance says = IsNoInstance instance says ⊎ (says ≡ said.Refused refusal.Memory)
 
-pub record ProvisionsInstance (instance : Instance) (keys : Keys) (it : ProvisionMemory) (number : ℕ) : Type 0 where
+pub record ProvisionsInstance (instance : Instance) (keys : Keys) (it : ProvisionMemory)
+    (number : ℕ) : Type 0 where
   pub says : ReturnStatus
   pub number_is : number ≡ number_of says
   pub puts : PutsInstance instance keys it says ⊎ (IsUnmade instance says × IsUnwritten it)

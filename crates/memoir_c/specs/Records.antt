@@ -34,14 +34,17 @@ HasNoRecord position request says =
     ⊎ (says ≡ said.Refused refusal.Memory))
 
 -- The record of a request is written, or it has none.
-pub record RecordsRequest (position : ℕ) (request : List ℕ) (it : RoomState) (number : ℕ) : Type 0 where
+pub record RecordsRequest (position : ℕ) (request : List ℕ) (it : RoomState)
+    (number : ℕ) : Type 0 where
   pub says : ReturnStatus
   pub number_is : number ≡ number_of says
-  pub puts : PutsInFront (pending_spelling (record { position = position; request = request })) it says
+  pub puts : PutsInFront (pending_spelling (record { position = position; request = request })) it
+      says
       ⊎ (HasNoRecord position request says × IsUnchanged it)
 
 -- a slot's bytes are this record, and its request is written; where it is, its position too
-pub record ReadsRecord (slot : ℕ) (bytes : List ℕ) (it : RoomState) (position : ℕ) (says : ReturnStatus)
+pub record ReadsRecord (slot : ℕ) (bytes : List ℕ) (it : RoomState) (position : ℕ)
+    (says : ReturnStatus)
     : Type 0 where
   pub read : PendingRecord
   pub reads : ReadsPending slot bytes (Some read)
@@ -49,16 +52,19 @@ pub record ReadsRecord (slot : ℕ) (bytes : List ℕ) (it : RoomState) (positio
   pub numbers : says ≡ said.Done → position ≡ read.position
 
 -- a slot's bytes are no valid record
-pub record ReadsNone (slot : ℕ) (bytes : List ℕ) (it : RoomState) (says : ReturnStatus) : Type 0 where
+pub record ReadsNone (slot : ℕ) (bytes : List ℕ) (it : RoomState)
+    (says : ReturnStatus) : Type 0 where
   pub reads : ReadsPending slot bytes None
   pub told : says ≡ said.Refused refusal.Form
   pub kept : IsUnchanged it
 
-abbrev pub ReadsRecordOrNone : (slot : ℕ) (bytes : List ℕ) → RoomState → (position : ℕ) → ReturnStatus → Type 0
+abbrev pub ReadsRecordOrNone : (slot : ℕ) (bytes : List ℕ) → RoomState → (position : ℕ)
+    → ReturnStatus → Type 0
 ReadsRecordOrNone slot bytes it position says =
     ReadsRecord slot bytes it position says ⊎ ReadsNone slot bytes it says
 
-pub record ReadsBack (slot : ℕ) (bytes : List ℕ) (it : RoomState) (position number : ℕ) : Type 0 where
+pub record ReadsBack (slot : ℕ) (bytes : List ℕ) (it : RoomState)
+    (position number : ℕ) : Type 0 where
   pub says : ReturnStatus
   pub number_is : number ≡ number_of says
   pub reads : ReadsRecordOrNone slot bytes it position says

@@ -140,7 +140,8 @@ fn come_to<M: Module>(
     request: &[u8],
     keys: &mut KeptKey,
 ) -> StepsOutcome<Result<Answer, Refusal>>
-    ensures { ToldAskPromise variant (M.meaning «module».now) (worn_host made.now) made.now offer.now request.now result }
+    ensures { ToldAskPromise variant (M.meaning «module».now) (worn_host made.now) made.now
+        offer.now request.now result }
 {
     ask(alloc, variant, module, made, offer, request, keys)
 }

@@ -110,7 +110,8 @@ fn put_key(key: &SealingKey, memory: &mut [u8]) -> Kept
 // Writes a text to the front of a memory.
 fn put_text(tagged: Option<&TaggedText>, memory: &mut [u8]) -> Text
     ensures length { length memory.new ≡ length memory.old }
-    ensures text { (key : List ℕ) → IfSome tagged.entry (λ it. it.now.tag.bytes ≡ hmac_of key it.now.text.items)
+    ensures text { (key : List ℕ)
+        → IfSome tagged.entry (λ it. it.now.tag.bytes ≡ hmac_of key it.now.text.items)
         → IsText key result memory.new }
 {
     match tagged {

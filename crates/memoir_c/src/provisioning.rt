@@ -70,8 +70,10 @@ fn made(alloc: Global, instance: &Instance, keys: &Keys) -> Result<Made, ReturnS
 
 fn first(alloc: Global, variant: Variant, module: &AnyModule, keys: &Keys) -> Result<Made, Memory>
     ensures { IfOk result (λ made.
-        (made.cell ≡ first_cell (instance_by variant (meaning_of «module».now) keys.now.key keys.now.barrier))
-        × (made.snapshot ≡ first_snapshot (instance_by variant (meaning_of «module».now) keys.now.key
+        (made.cell ≡ first_cell (instance_by variant (meaning_of «module».now) keys.now.key
+        keys.now.barrier))
+        × (made.snapshot ≡ first_snapshot
+        (instance_by variant (meaning_of «module».now) keys.now.key
         keys.now.barrier))) }
 {
     match variant {

@@ -27,13 +27,15 @@ pub use Rattle.mm_play.specs.PlaysInput.{HoldsOfWhole, is_read_fault, is_write_f
 pub use Rattle.mm_play.specs.Fronts.{IsFrontOf}
 pub use Rattle.mm_store.specs.StoreStanding.{StoreStanding}
 pub use Rattle.mm_words.specs.declared.command.CommandLine.{CommandLine}
-pub use Rattle.mm_words.specs.declared.command.CommandLine.TheVariants.{Bulk, Check, Checkpoint, Gen, Help, Init, Power, Receipts, Replay, Run}
+pub use Rattle.mm_words.specs.declared.command.CommandLine.TheVariants.{Bulk, Check, Checkpoint, Gen, Help, Init, Power, Receipts, Replay}
+pub use Rattle.mm_words.specs.declared.command.CommandLine.TheVariants.{Run}
 pub use Rattle.mm_words.specs.declared.command.CommandLine.TheVariants.{Slots, Transfer}
 pub use Rattle.mm_words.proofs.Above.{one_command}
 pub use Rattle.mm_gen.specs.declared.fault.BulkFault.{BulkFault}
 pub use Rattle.mm_gen.specs.declared.summary.Summary.{Summary}
 pub use Rattle.mm_recovery.specs.FirstStart.{BlamesDevice, TellsUse}
-pub use Rattle.mm_recovery.specs.Init.{GoesAfterLooking, GoesAfterAllPuts, GoesAfterTaking, Devices, devices, instance_from, SetsUp, TakesBytes, result_of_write}
+pub use Rattle.mm_recovery.specs.Init.{GoesAfterLooking, GoesAfterAllPuts, GoesAfterTaking, Devices, devices, instance_from, SetsUp}
+pub use Rattle.mm_recovery.specs.Init.{TakesBytes, result_of_write}
 pub use Rattle.mm_recovery.specs.declared.init_fault.InitFault.{InitFault}
 pub use Rattle.mm_host.specs.declared.fault.SessionFault.{SessionFault}
 pub use Rattle.mm_host.proofs.Above.{continues_from, runs_once_from}
@@ -44,7 +46,8 @@ pub use Rattle.mm_app.specs.Commands.{CommandDoes, DoesOrLacks, ReadsInput, Uses
 pub use Rattle.mm_app.specs.Completeness.{CanBeDone, CanClose, CanRun, IsDoneOrFailed, ShowsPower}
 pub use Rattle.mm_app.specs.Outside.{IsStill, Outside, outside}
 pub use Rattle.mm_app.specs.Power.{power_line}
-pub use Rattle.mm_app.specs.Run.{ContinuesIfFound, FindsInstance, found_header, found_instance, LooksAtInstance, RunsOnceIfFound, SeesInstance}
+pub use Rattle.mm_app.specs.Run.{ContinuesIfFound, FindsInstance, found_header, found_instance, LooksAtInstance, RunsOnceIfFound}
+pub use Rattle.mm_app.specs.Run.{SeesInstance}
 pub use Rattle.mm_app.specs.Run.{ServesAndStops, ServesIfFound, session_status}
 pub use Rattle.mm_app.specs.Init.{init_line}
 pub use Rattle.mm_app.specs.Status.{EndsUnrefused, status_of, stop_line}

@@ -2,9 +2,11 @@
 use Rattle.mm_app.proofs.Below.{◌≡◌, ◌∙◌, ℕ, Bool, true, false, List, Option, None, Some, Result, Ok, Err, refl, sym, ap, subst, inl, inr}
 use Rattle.mm_app.proofs.Below.{arith, is_some, CountRose, ReplayFault, BulkFault, Summary, BlamesDevice, Devices, InitFault, SessionFault}
 use Rattle.mm_app.proofs.Below.{Checkpointed, CheckpointRefusal, closing_fault_in, StepFault}
-use Rattle.mm_app.proofs.Below.{Standing, Header, Held, CellFault, CommandLine, Init, Run, Checkpoint, Power, Replay, Check, Gen, Bulk, Slots}
+use Rattle.mm_app.proofs.Below.{Standing, Header, Held, CellFault, CommandLine, Init, Run, Checkpoint, Power, Replay, Check, Gen, Bulk}
+use Rattle.mm_app.proofs.Below.{Slots}
 use Rattle.mm_app.proofs.Below.{Receipts, Transfer, Help, BlamesSource, source_faults, tells_platform_fault, tells_read_fault}
-use Rattle.mm_app.proofs.Below.{tells_store_fault, bulk_lines, checkpoint_line, CommandDoes, DoesOrLacks, ReadsInput, UsesPlatform, UsesStore}
+use Rattle.mm_app.proofs.Below.{tells_store_fault, bulk_lines, checkpoint_line, CommandDoes, DoesOrLacks, ReadsInput, UsesPlatform}
+use Rattle.mm_app.proofs.Below.{UsesStore}
 use Rattle.mm_app.proofs.Below.{StoreStanding, Outside, IsStill, power_line, ServesIfFound, FindsInstance, found_instance}
 use Rattle.mm_app.proofs.Below.{session_status, init_line, status_of, GivesText, StopsAs, TellsLines, status_by, Status}
 use Rattle.mm_app.proofs.Below.{Done, Memory, WriteFault, PlatformFault}
@@ -69,7 +71,8 @@ checkpoint_as : (answer : Result Checkpointed CheckpointRefusal)
     → BlamesAs (end_of (checkpoint_line answer)) (is_some (closing_fault_in answer)) false false
 checkpoint_as answer = grind arith
 
-blames_some : (fault : Option StepFault) (before after : ℕ) → CountsHandedFault fault before after → plays.IsBlamed (is_some fault) before after
+blames_some : (fault : Option StepFault) (before after : ℕ) → CountsHandedFault fault before after
+    → plays.IsBlamed (is_some fault) before after
 blames_some None before after b = b
 blames_some (Some fault) before after b = b
 
@@ -188,7 +191,8 @@ module _ (command : CommandLine) (old new : Outside) (status : Status) where
       (subst (λ (s : Standing). CountRose old.standing.faults s.faults) (sym a.standing) (failed_rose fault old.standing middle made e))
       (same_kept old new a.kept) (rw (read, read') a.unfailed)
 
-pub done_blamed : (command : CommandLine) (old new : Outside) (status : Status) → Frames command old new → CommandDoes command old new status
+pub done_blamed : (command : CommandLine) (old new : Outside) (status : Status) → Frames command old new
+    → CommandDoes command old new status
     → Blamed command old new status
 done_blamed (Init header) old new status f d =
     let b = start_blames d.answer _ _ d.faults in

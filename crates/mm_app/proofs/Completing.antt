@@ -2,13 +2,16 @@
 use Rattle.mm_app.proofs.Below.{◌≡◌, ◌∙◌, ◌+◌, ◌≤◌, ◌<◌, ℕ, Bool, true, false, List, length, Option, None, Some, Result}
 use Rattle.mm_app.proofs.Below.{Ok, Err, refl, sym, ap, subst, inl, inr, arith, length-append, Consumes, IsAtEnd, Variant, TellsUse}
 use Rattle.mm_app.proofs.Below.{GoesAfterLooking, GoesAfterAllPuts, GoesAfterTaking, Devices, SetsUp, TakesBytes, devices, instance_from}
-use Rattle.mm_app.proofs.Below.{result_of_write, SessionFault, InitFault, Instance, Refusal, meaning_of, module_of_id, any_is_found, AnyModule}
-use Rattle.mm_app.proofs.Below.{ClosesSegment, EndsClosing, EndsLooking, FindsClosing, FindsSegment, LooksAtSegment, WeighsRegister, closing_by}
+use Rattle.mm_app.proofs.Below.{result_of_write, SessionFault, InitFault, Instance, Refusal, meaning_of, module_of_id, any_is_found}
+use Rattle.mm_app.proofs.Below.{AnyModule}
+use Rattle.mm_app.proofs.Below.{ClosesSegment, EndsClosing, EndsLooking, FindsClosing, FindsSegment, LooksAtSegment, WeighsRegister}
+use Rattle.mm_app.proofs.Below.{closing_by}
 use Rattle.mm_app.proofs.Below.{result_of_closing_write, segment_by, segment_in, Checkpointed, CheckpointRefusal, StepFault, Standing}
 use Rattle.mm_app.proofs.Below.{Header, StoreStanding, CommandLine, Init, Run, Checkpoint, Power, Gen}
 use Rattle.mm_app.proofs.Below.{Help, checkpoint_line, CommandDoes, DoesOrLacks, IsDoneOrFailed}
 use Rattle.mm_app.proofs.Below.{CanClose, CanBeDone, ContinuesIfFound, Held, ShowsPower, Outside, power_line, FindsInstance}
-use Rattle.mm_app.proofs.Below.{SeesInstance, ServesAndStops, ServesIfFound, found_header, found_instance, session_status, init_line, TellsLines}
+use Rattle.mm_app.proofs.Below.{SeesInstance, ServesAndStops, ServesIfFound, found_header, found_instance, session_status, init_line}
+use Rattle.mm_app.proofs.Below.{TellsLines}
 use Rattle.mm_app.proofs.Below.{status_by, Status}
 use Rattle.std.specs.Str.{bytes_eq}
 use Rattle.std.proofs.lemmas.Slice.Eq.{bytes_eq-Decides}
@@ -105,7 +108,8 @@ set_whole i before after old new result got up s = elim up [
 ]
 
 taken_whole : (variant : Variant) (meaning : Meaning) (middle after : Devices) (taken : Result (List ℕ) Failed) (result : Result (Unit {0})
-    InitFault) (got : ℕ) → ((bytes : List ℕ) → taken ≡ Ok bytes → length bytes < 64 → ⊥) → GoesAfterTaking variant meaning middle after taken
+    InitFault) (got : ℕ) → ((bytes : List ℕ) → taken ≡ Ok bytes → length bytes < 64 → ⊥)
+    → GoesAfterTaking variant meaning middle after taken
     result → Shorts result got → ⊥
 taken_whole variant meaning middle after (Err why) result got enough a s = let e = a.1 in cc
 taken_whole variant meaning middle after (Ok bytes) result got enough a s = elim a [
@@ -272,7 +276,8 @@ module _ (old new : Outside) (status : Status) (middle : Standing) where
       let none = subst (λ (r : Result Header Status). Serves r) f s in subst IsDoneOrFailed (sym none.0.stops.ends) tt
   run_ends None found (in_basic it key can) f s =
       let at = can.may.stands in
-      basic_ends it key can (subst (λ (r : Result Header Status). Serves r) (found_is Basic it (cell_of (basic_instance (meaning_of it) key) can.y)
+      basic_ends it key can
+          (subst (λ (r : Result Header Status). Serves r) (found_is Basic it (cell_of (basic_instance (meaning_of it) key) can.y)
       found f.0 refl refl at.spells at.cell f.1 f.2) s)
   run_ends None found (in_opt it key barrier can) f s =
       let at = can.may.stands in
@@ -303,7 +308,8 @@ does_end (Gen it) old new status can d = written_ends d.given.result status d.gi
 does_end Help old new status can d = written_ends d.given.result status d.given.ends
 does_end _ old new status can d = absurd can
 
-pub may_be_done : (command : CommandLine) (old new : Outside) (status : Status) → CanBeDone command old new → DoesOrLacks command old new status
+pub may_be_done : (command : CommandLine) (old new : Outside) (status : Status) → CanBeDone command old new
+    → DoesOrLacks command old new status
     → IsDoneOrFailed status
 may_be_done command old new status can d = elim d [
   | inl does ↦ does_end command old new status can does

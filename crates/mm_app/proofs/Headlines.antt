@@ -1,5 +1,6 @@
 -- What is out of a command that plays events, drawn from its play and its stop line.
-use Rattle.mm_app.proofs.Below.{◌≡◌, ◌∙◌, ℕ, List, [], Option, Result, Ok, Err, refl, sym, ap, subst, SinkSends, ReplayFault, status_of, stop_line}
+use Rattle.mm_app.proofs.Below.{◌≡◌, ◌∙◌, ℕ, List, [], Option, Result, Ok, Err, refl, sym, ap, subst, SinkSends, ReplayFault, status_of}
+use Rattle.mm_app.proofs.Below.{stop_line}
 use Rattle.mm_app.proofs.Below.{Memory, Outside, EndsAtOnce, Status}
 use Rattle.mm_base.specs.declared.fault.WriteFault as write
 use Rattle.mm_base.specs.declared.replay_fault.ReplayFault.TheVariants as fault
@@ -25,7 +26,8 @@ module _ {G H E S : Type 0} (p : EventPlayer G H E S) (All Less : H → List E �
     (less : (header : H) (events : List E) (shown : List E → S) → All header events shown → Less header events shown) where
   pub told_by : {T : Type 0} {left left' received middle received' : Option (List ℕ)} {answer : Result T ReplayFault}
       {wrote : Result (Unit {0}) write.WriteFault} {status : Status} → TellsEvents p All left left' received middle [] answer
-      → status ≡ status_of answer → SinkSends middle received' (stop_line status) wrote → TellsByStatus p Less left left' received received' status
+      → status ≡ status_of answer → SinkSends middle received' (stop_line status) wrote
+      → TellsByStatus p Less left left' received received' status
   told_by {answer = answer} {status = status} tells ends sends = (
     bare answer,
     ends ∙ bare_status answer,

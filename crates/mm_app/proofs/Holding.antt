@@ -60,7 +60,8 @@ TellsOffer command old new status cell why =
     (Refused why) status)
 
 -- another command, or another status
-pub none_offered : (command : CommandLine) (old new : Outside) (status : Status) (cell : List ℕ) (why : Refusal) → (status ≡ Refused why → ⊥)
+pub none_offered : (command : CommandLine) (old new : Outside) (status : Status) (cell : List ℕ) (why : Refusal)
+    → (status ≡ Refused why → ⊥)
     → (command ≡ Run → ⊥) → TellsOffer command old new status cell why
 none_offered command old new status cell why not other =
     (λ is. absurd (not is), λ slots waiting input slots_told w left. nowhere not (λ h. other h.0))

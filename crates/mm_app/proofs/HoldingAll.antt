@@ -1,6 +1,7 @@
 -- What each command tells of what a device held.
 use Rattle.mm_app.proofs.Below.{◌≡◌, refl, subst, inl, inr, CommandLine, Init, Run, Checkpoint, Power, Replay, Check, Gen, Bulk, Slots}
-use Rattle.mm_app.proofs.Below.{Receipts, Transfer, Help, CommandDoes, DoesOrLacks, Outside, Status, Option, Bool, false, ap, Result, Err, Ok}
+use Rattle.mm_app.proofs.Below.{Receipts, Transfer, Help, CommandDoes, DoesOrLacks, Outside, Status, Option, Bool, false, ap, Result, Err}
+use Rattle.mm_app.proofs.Below.{Ok}
 use Rattle.mm_app.proofs.Below.{bulk_lines, power_line, Summary, BulkFault, StepFault, TellsLines, ℕ, List, arith, ReplayFault, status_of}
 use Rattle.mm_app.specs.StatusFacts.{EndsByFault}
 use Rattle.mm_app.proofs.Below.{◌∙◌, sym, status_by, Memory, TooMuch}
@@ -13,7 +14,8 @@ use Rattle.mm_gen.specs.Replay.{IsReplayed, replay_of}
 use Rattle.mm_gen.specs.declared.fault.BulkFault.TheVariants as bulk
 use Rattle.mm_words.specs.declared.command.GeneratedSchedule.{GeneratedSchedule}
 use Rattle.mm_app.proofs.Blame.{end_of}
-use Rattle.mm_app.proofs.Holding.{by_fault_where, exactly_here, fault_holding, Holding, nowhere, played_unheld, quiet_holding, tells_held, text_quiet}
+use Rattle.mm_app.proofs.Holding.{by_fault_where, exactly_here, fault_holding, Holding, nowhere, played_unheld, quiet_holding, tells_held}
+use Rattle.mm_app.proofs.Holding.{text_quiet}
 use Rattle.mm_app.proofs.HoldingClosing.{checkpoint_holding}
 use Rattle.mm_app.proofs.HoldingRun.{run_holding}
 use Rattle.mm_app.proofs.HoldingStart.{start_holding}
@@ -32,7 +34,8 @@ power_quiet fault = grind arith
 played_quiet : {T : Type 0} (answer : Result T ReplayFault) (status : Status) → status ≡ status_of answer → tells_held status ≡ false
 played_quiet answer status e = ap tells_held e ∙ played_unheld answer
 
-does_hold : (command : CommandLine) (old new : Outside) (status : Status) → CommandDoes command old new status → Holding command old new status
+does_hold : (command : CommandLine) (old new : Outside) (status : Status) → CommandDoes command old new status
+    → Holding command old new status
 does_hold (Init header) old new status d = start_holding header old new status d
 does_hold Run old new status d = run_holding old new status d
 does_hold Checkpoint old new status d = checkpoint_holding old new status d
@@ -71,7 +74,8 @@ holding command old new status (inr e) = fault_holding command old new status (s
 
 -- a run in bulk is too much where its replay is
 
-much_where : (replayed : PlayOutcome ReplayStage) (count : ℕ) (answer : Result Summary BulkFault) (status : Status) → IsReplayed replayed answer
+much_where : (replayed : PlayOutcome ReplayStage) (count : ℕ) (answer : Result Summary BulkFault) (status : Status)
+    → IsReplayed replayed answer
     → ((end : Status) → bulk_lines count answer ≡ Err end → status ≡ end) → (status ≡ TooMuch → bulk_lines count answer ≡ Err TooMuch)
     → IsExactlyWhere (replayed.outcome ≡ Err replay.TooMuch) TooMuch status
 much_where replayed count (Err bulk.Memory) status r so only = by_fault_where (subst EndsByFault (sym (so Memory refl)) tt) (λ h. h)
@@ -91,6 +95,7 @@ pub much : (it : GeneratedSchedule) (old new : Outside) (status : Status) → Do
     → IsExactlyWhere ((replay_of it.number it.count it.header).outcome ≡ Err replay.TooMuch) TooMuch status
 much it old new status (inl d) =
     much_where (replay_of it.number it.count it.header) it.count d.1.answer status d.1.replayed
-    (λ end e. (subst (λ (r : Result (List ℕ) Status). TellsLines r old.received new.received old.writes new.writes status) e d.1.tells).ends)
+    (λ end e. (subst (λ (r : Result (List ℕ) Status). TellsLines r old.received new.received old.writes new.writes status)
+    e d.1.tells).ends)
     (much_only (bulk_lines it.count d.1.answer) old.received new.received old.writes new.writes status d.1.tells)
 much it old new status (inr e) = by_fault_where (subst EndsByFault (sym e.stops.ends) tt) (λ h. h)

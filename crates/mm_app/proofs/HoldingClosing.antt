@@ -1,7 +1,9 @@
 -- What `checkpoint` tells of what the cell and the register held.
-use Rattle.mm_app.proofs.Below.{◌≡◌, ◌∙◌, ℕ, Bool, true, false, List, Option, None, Some, Result, Ok, Err, refl, sym, ap, subst, inl, inr, ◌⊎◌}
+use Rattle.mm_app.proofs.Below.{◌≡◌, ◌∙◌, ℕ, Bool, true, false, List, Option, None, Some, Result, Ok, Err, refl, sym, ap, subst, inl, inr}
+use Rattle.mm_app.proofs.Below.{◌⊎◌}
 use Rattle.mm_app.proofs.Below.{arith, Held, CellFault, Checkpoint, Checkpointed, CheckpointRefusal, ClosesSegment, closing_by}
-use Rattle.mm_app.proofs.Below.{result_of_closing_write, EndsClosing, EndsLooking, FindsClosing, FindsSegment, LooksAtSegment, segment_by, segment_in, WeighsRegister}
+use Rattle.mm_app.proofs.Below.{result_of_closing_write, EndsClosing, EndsLooking, FindsClosing, FindsSegment, LooksAtSegment, segment_by}
+use Rattle.mm_app.proofs.Below.{segment_in, WeighsRegister}
 use Rattle.mm_app.proofs.Below.{checkpoint_line, CommandDoes, Outside, Standing, Status, StepFault, TellsLines, Variant}
 use Rattle.std.specs.Prelude.{◌≢◌, ◌++◌, map}
 use Rattle.std.proofs.Common.{get_or}
@@ -58,7 +60,8 @@ closed_by false cell register next e = cc
 
 module _ (cell : List ℕ) (new : Standing) (answer : Result Checkpointed CheckpointRefusal) where
   written_closed : (held : Held) (register next : List ℕ) (old : Standing) (written : Result Checkpointed StepFault)
-      → old.cell ≡ Some cell → next ≡ closed_cell held register → WritesClosing next old new written → answer ≡ result_of_closing_write written
+      → old.cell ≡ Some cell → next ≡ closed_cell held register → WritesClosing next old new written
+      → answer ≡ result_of_closing_write written
       → Closed cell new answer (Ok (Open held))
   written_closed held register next old (Ok it) same is c e =
       done held register refl (e ∙ ap (λ (x : Checkpointed). Ok x) c.gives) (c.goes.cell
@@ -80,7 +83,8 @@ module _ (cell : List ℕ) (new : Standing) (answer : Result Checkpointed Checkp
       written_closed held f.register next middle e.written (w.goes.cell ∙ same)
       (closed_by (bytes_eq f.register zero_bytes) held f.register next f.found_is) e.closes e.gives
 
-  looked_closed : (old middle : Standing) (found : Result Segment CheckpointRefusal) → old.cell ≡ Some cell → LooksAtSegment old middle found
+  looked_closed : (old middle : Standing) (found : Result Segment CheckpointRefusal) → old.cell ≡ Some cell
+      → LooksAtSegment old middle found
       → EndsLooking found middle new answer → Closed cell new answer found
   looked_closed old middle (Err (refusal.Device fault)) same l e = failed fault e.1
   looked_closed old middle (Err why) same l e =
@@ -316,7 +320,8 @@ module _ (old new : Outside) (status : Status) (answer : Result Checkpointed Che
 -- what was read of the cell before, unless the device failed
 read_of : (old : Outside) (new : Outside) (status : Status) (answer : Result Checkpointed CheckpointRefusal)
     (t : TellsLines (checkpoint_line answer) old.received new.received old.writes new.writes status) (cell : List ℕ)
-    (same : old.standing.cell ≡ Some cell) (middle : Standing) (found : Result Segment CheckpointRefusal) → LooksAtSegment old.standing middle found
+    (same : old.standing.cell ≡ Some cell) (middle : Standing) (found : Result Segment CheckpointRefusal)
+    → LooksAtSegment old.standing middle found
     → Closed cell new.standing answer found → At old new status answer t cell same
 read_of old new status answer t cell same middle (Err (refusal.Device fault)) l (failed broken e) =
     failed_at old new status answer t cell same broken e

@@ -1,6 +1,8 @@
 -- What `run` tells of what the cell, the register and the slots held.
-use Rattle.mm_app.proofs.Below.{◌≡◌, ◌∙◌, ℕ, Bool, true, false, List, Option, None, Some, Result, Ok, Err, refl, sym, ap, subst, inl, inr, ◌⊎◌}
-use Rattle.mm_app.proofs.Below.{arith, Held, CellFault, Run, CommandDoes, Outside, Standing, Status, StepFault, Variant, FindsInstance, found_header}
+use Rattle.mm_app.proofs.Below.{◌≡◌, ◌∙◌, ℕ, Bool, true, false, List, Option, None, Some, Result, Ok, Err, refl, sym, ap, subst, inl, inr}
+use Rattle.mm_app.proofs.Below.{◌⊎◌}
+use Rattle.mm_app.proofs.Below.{arith, Held, CellFault, Run, CommandDoes, Outside, Standing, Status, StepFault, Variant, FindsInstance}
+use Rattle.mm_app.proofs.Below.{found_header}
 use Rattle.mm_app.proofs.Below.{found_instance, Header, Instance, Refusal, ServesAndStops, ServesIfFound, session_status, SessionFault}
 use Rattle.mm_app.proofs.Below.{AnyModule, meaning_of, module_of_id, ReplayFault}
 use Rattle.std.specs.Prelude.{◌≢◌, ◌&&◌, IsSome}
@@ -234,7 +236,8 @@ module _ (old new : Outside) (status : Status) (middle : Standing) (cell : List 
         let c = chain_of ran slots waiting slots_told w in
         let r = refused_as (offer_after (first_offer slots waiting) (served_calls_in waiting ran.goes)) (IsInHand waiting ran.goes)
         (chain_ends held.variant (meaning_of it) held.key held.barrier (first_offer slots waiting) middle new.standing
-        (served_calls_in waiting ran.goes) (IsInHand waiting ran.goes) s.served.answer c first.digests first.stands) (Refused why) is refl in
+        (served_calls_in waiting ran.goes) (IsInHand waiting ran.goes) s.served.answer c first.digests first.stands)
+        (Refused why) is refl in
         record {
           served = record {
             held = held;

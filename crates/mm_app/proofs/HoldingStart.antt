@@ -1,7 +1,10 @@
 -- What `init` tells of what the cell and the source of entropy held.
-use Rattle.mm_app.proofs.Below.{◌≡◌, ◌∙◌, ◌+◌, ◌≤◌, ◌<◌, ℕ, Bool, true, false, List, length, Option, None, Some, Result, Ok, Err, refl, sym, ap}
-use Rattle.mm_app.proofs.Below.{subst, inl, inr, ◌⊎◌, arith, length-append, append-nil, Consumes, IsAtEnd, Variant, TellsUse, GoesAfterLooking}
-use Rattle.mm_app.proofs.Below.{GoesAfterTaking, Devices, devices, TakesBytes, instance_from, InitFault, Header, Init, CommandDoes, Outside, init_line}
+use Rattle.mm_app.proofs.Below.{◌≡◌, ◌∙◌, ◌+◌, ◌≤◌, ◌<◌, ℕ, Bool, true, false, List, length, Option, None, Some, Result, Ok, Err, refl, sym}
+use Rattle.mm_app.proofs.Below.{ap}
+use Rattle.mm_app.proofs.Below.{subst, inl, inr, ◌⊎◌, arith, length-append, append-nil, Consumes, IsAtEnd, Variant, TellsUse}
+use Rattle.mm_app.proofs.Below.{GoesAfterLooking}
+use Rattle.mm_app.proofs.Below.{GoesAfterTaking, Devices, devices, TakesBytes, instance_from, InitFault, Header, Init, CommandDoes, Outside}
+use Rattle.mm_app.proofs.Below.{init_line}
 use Rattle.mm_app.proofs.Below.{[], Status, StepFault, TellsLines, meaning_of}
 use Rattle.std.specs.Prelude.{◌≢◌}
 use Rattle.mm_base.specs.declared.fault.Failed.{Failed}
@@ -10,7 +13,8 @@ use Rattle.mm_recovery.specs.FirstStart.{TellsByCell}
 use Rattle.mm_recovery.specs.declared.init_fault.InitFault.TheVariants as init
 use Rattle.mm_seal.specs.Cell.{blank_cell}
 use Rattle.mm_app.specs.StatusFacts.{EndsByFault, IsExactlyWhere, RunsShort, StartsOne}
-use Rattle.mm_app.specs.declared.status.Status.TheVariants.{Already, Blank, Cell, Kind, Lost, Refused, Short, Memory, PlatformFault, ReadFault, StoreFault}
+use Rattle.mm_app.specs.declared.status.Status.TheVariants.{Already, Blank, Cell, Kind, Lost, Refused, Short, Memory, PlatformFault}
+use Rattle.mm_app.specs.declared.status.Status.TheVariants.{ReadFault, StoreFault}
 use Rattle.mm_app.proofs.Completing.{Shorts, set_whole}
 use Rattle.mm_app.proofs.Holding.{by_fault_where, exactly_here, held_told, Holding, none_offered, nowhere, tells_held}
 

@@ -1,5 +1,6 @@
 -- What the status of each command tells of the output.
-use Rattle.mm_app.proofs.Below.{◌≡◌, ◌∙◌, ℕ, List, Option, None, Some, Result, Ok, Err, refl, sym, ap, subst, inl, inr, ◌⊎◌, next_count, arith}
+use Rattle.mm_app.proofs.Below.{◌≡◌, ◌∙◌, ℕ, List, Option, None, Some, Result, Ok, Err, refl, sym, ap, subst, inl, inr, ◌⊎◌, next_count}
+use Rattle.mm_app.proofs.Below.{arith}
 use Rattle.mm_app.proofs.Below.{CountsFaults, CountRose, ReplayFault, BulkFault, Summary, SessionFault, Checkpointed, CheckpointRefusal}
 use Rattle.mm_app.proofs.Below.{StepFault, Standing, Header, CommandLine, Init, Run, Checkpoint, Power, Gen, Bulk}
 use Rattle.mm_app.proofs.Below.{Help, BlamesOutput, bulk_lines, checkpoint_line, CommandDoes, DoesOrLacks, StoreStanding}

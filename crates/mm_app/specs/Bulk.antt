@@ -22,7 +22,8 @@ bulk_lines count (Err fault.TooMuch) = Err TooMuch
 
 -- The schedule was run, and what came of it was told: TooMuch exactly where the limits of a replay
 -- are passed. The digest is that of all that a replay of the same schedule writes.
-pub record RunsInBulk (it : GeneratedSchedule) (received received' : Option (List ℕ)) (writes writes' : ℕ)
+pub record RunsInBulk (it : GeneratedSchedule) (received received' : Option (List ℕ))
+    (writes writes' : ℕ)
     (status : Status) : Type 0 where
   pub answer : Result Summary BulkFault
   pub sums : IfOk answer (SumsUp it.header (schedule_lines it.number it.count it.header))

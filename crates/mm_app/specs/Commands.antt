@@ -4,7 +4,8 @@ use Rattle.mm_check.specs.Checks.{ChecksRun}
 use Rattle.mm_gen.specs.Schedules.{schedule_text}
 use Rattle.mm_words.specs.Commands.{SpellsCommand, help_text}
 use Rattle.mm_words.specs.declared.command.CommandLine.{CommandLine}
-use Rattle.mm_words.specs.declared.command.CommandLine.TheVariants.{Init, Run, Checkpoint, Power, Replay, Check, Gen, Bulk, Slots, Receipts, Transfer, Help}
+use Rattle.mm_words.specs.declared.command.CommandLine.TheVariants.{Init, Run, Checkpoint, Power, Replay, Check, Gen, Bulk, Slots, Receipts}
+use Rattle.mm_words.specs.declared.command.CommandLine.TheVariants.{Transfer, Help}
 use Rattle.mm_recovery.specs.Init.{devices}
 use Rattle.mm_receipt.specs.Reports.{ChecksHonestly}
 use Rattle.mm_replay.specs.WholeReplay.{ReplaysSchedule}
@@ -32,7 +33,8 @@ CommandDoes Run old new status =
     new.received old.reads new.reads old.writes
     new.writes status
 CommandDoes Checkpoint old new status =
-    CheckpointsInstance old.standing new.standing old.received new.received old.writes new.writes status
+    CheckpointsInstance old.standing new.standing old.received new.received old.writes
+    new.writes status
 CommandDoes Power old new status =
     LosesPower old.standing new.standing old.received new.received old.writes new.writes status
 CommandDoes Replay old new status =
@@ -41,7 +43,8 @@ CommandDoes Replay old new status =
 CommandDoes Check old new status =
     PlaysAndStops ChecksRun old.left new.left old.received new.received old.reads new.reads
     old.writes new.writes status
-CommandDoes (Gen it) old new status = GivesText (schedule_text it.number it.count it.header) old new status
+CommandDoes (Gen it) old new status =
+    GivesText (schedule_text it.number it.count it.header) old new status
 CommandDoes (Bulk it) old new status =
     IsStill old new × RunsInBulk it old.received new.received old.writes new.writes status
 CommandDoes Slots old new status =
@@ -57,7 +60,8 @@ CommandDoes Help old new status = GivesText help_text old new status
 
 -- The command was done, or memory was wanting before it.
 abbrev pub DoesOrLacks : CommandLine → (old new : Outside) → Status → Type 0
-DoesOrLacks command old new status = CommandDoes command old new status ⊎ EndsAtOnce old new Memory status
+DoesOrLacks command old new status = CommandDoes command old new status
+    ⊎ EndsAtOnce old new Memory status
 
 -- these words spell no such command
 abbrev pub SpellNo : (CommandLine → Type 0) → List (List ℕ) → Type 0

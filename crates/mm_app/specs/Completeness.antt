@@ -33,7 +33,8 @@ use Rattle.mm_store.specs.Slots as kept
 use Rattle.mm_transfer.specs.Stage as moved
 use Rattle.mm_words.specs.declared.command.CommandLine.{CommandLine}
 use Rattle.mm_words.specs.declared.command.GeneratedSchedule.{GeneratedSchedule}
-use Rattle.mm_words.specs.declared.command.CommandLine.TheVariants.{Init, Run, Checkpoint, Power, Gen, Bulk, Help, Replay, Check, Slots, Receipts, Transfer}
+use Rattle.mm_words.specs.declared.command.CommandLine.TheVariants.{Init, Run, Checkpoint, Power, Gen, Bulk, Help, Replay, Check, Slots}
+use Rattle.mm_words.specs.declared.command.CommandLine.TheVariants.{Receipts, Transfer}
 use Rattle.mm_app.specs.Outside.{Outside}
 use Rattle.mm_app.specs.declared.status.Status.{Status}
 use Rattle.mm_app.specs.declared.status.Status.TheVariants.{Done, ReadFault, WriteFault, Memory, PlatformFault, StoreFault}

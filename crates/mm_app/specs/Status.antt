@@ -6,7 +6,8 @@ use Rattle.mm_base.specs.declared.replay_fault.ReplayFault.TheVariants as fault
 use Rattle.mm_words.specs.declared.fault.WordsFault.{WordsFault}
 use Rattle.mm_words.specs.declared.fault.WordsFault.TheVariants as words
 use Rattle.mm_app.specs.declared.status.Status.{Status}
-use Rattle.mm_app.specs.declared.status.Status.TheVariants.{Done, Usage, ReadFault, WriteFault, Memory, PlatformFault, StoreFault, Blank, Already, Cell, Lost, Refused, BadLine, LineLong, TooMuch, Short, Kind}
+use Rattle.mm_app.specs.declared.status.Status.TheVariants.{Done, Usage, ReadFault, WriteFault, Memory, PlatformFault, StoreFault, Blank}
+use Rattle.mm_app.specs.declared.status.Status.TheVariants.{Already, Cell, Lost, Refused, BadLine, LineLong, TooMuch, Short, Kind}
 
 -- the exit status
 abbrev pub exit_code : Status → ℕ

@@ -35,7 +35,8 @@ use Rattle.mm_words.specs.declared.command.GeneratedSchedule.{GeneratedSchedule}
 use Rattle.mm_app.specs.Commands.{SpellSome}
 use Rattle.mm_app.specs.Run.{session_status}
 use Rattle.mm_app.specs.declared.status.Status.{Status}
-use Rattle.mm_app.specs.declared.status.Status.TheVariants.{ReadFault, WriteFault, Memory, PlatformFault, StoreFault, Blank, Already, Cell, Lost, Refused, TooMuch, Short, Kind}
+use Rattle.mm_app.specs.declared.status.Status.TheVariants.{ReadFault, WriteFault, Memory, PlatformFault, StoreFault, Blank, Already, Cell}
+use Rattle.mm_app.specs.declared.status.Status.TheVariants.{Lost, Refused, TooMuch, Short, Kind}
 
 -- memory was wanting, or an object that was handed in failed
 abbrev pub EndsByFault : Status → Type 0
@@ -115,7 +116,8 @@ pub record HasServed (cell : List ℕ) (before after : Standing) (old new : Stor
   pub looked : IsUntouched before start
   pub received' : Option (List ℕ)
   pub answer : Result (Unit {0}) SessionFault
-  pub went : IsSession held.variant (meaning_of it) start after old new left left' received received'
+  pub went : IsSession held.variant (meaning_of it) start after old new left left'
+      received received'
       answer
   pub ended : status ≡ session_status answer
 

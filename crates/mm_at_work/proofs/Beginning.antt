@@ -11,11 +11,13 @@ use Rattle.mm_store.specs.PendingRecord.{PendingRecord}
 use Rattle.mm_at_work.specs.FirstSession.{BeginsAndServes, CanBegin}
 
 -- what is asked of a session holds
-may_go_on : (all others : List (List ℕ)) (asked : List Batch) (meaning : Meaning) (middle : TwoCell TornMemory) (store : CachedDevice Sheets)
+may_go_on : (all others : List (List ℕ)) (asked : List Batch) (meaning : Meaning) (middle : TwoCell TornMemory)
+    (store : CachedDevice Sheets)
     (left left' : List ℕ) (lines : List (List ℕ))
     (s : StartsInMemory Basic meaning middle store left left') →
     CanBegin all others asked (basic_instance meaning (take 32 s.secrets)) lines →
-    MayGoOn all others asked (basic_instance meaning (take 32 s.secrets)) first_history (first_slots (basic_instance meaning (take 32 s.secrets)))
+    MayGoOn all others asked (basic_instance meaning (take 32 s.secrets)) first_history
+    (first_slots (basic_instance meaning (take 32 s.secrets)))
     (two_cells middle) (store_in_pages store)
 may_go_on all others asked meaning middle store left left' lines s can =
     let first : IsFirstStore (basic_instance meaning (take 32 s.secrets)) first_history = s.first [] in
@@ -30,7 +32,8 @@ may_go_on all others asked meaning middle store left left' lines s can =
     }
 
 -- a session's clauses
-record Served (meaning : Meaning) (middle after : TwoCell TornMemory) (store new : CachedDevice Sheets) (input input' received received' : List ℕ)
+record Served (meaning : Meaning) (middle after : TwoCell TornMemory) (store new : CachedDevice Sheets)
+    (input input' received received' : List ℕ)
     (result : Result Unit SessionFault) : Type 0 where
   session : IsSession Basic meaning (two_cells middle) (two_cells after) (store_in_pages store) (store_in_pages new) (Some input)
       (Some input') (Some received) (Some received') result
@@ -78,9 +81,11 @@ pub begins_and_serves : (meaning : Meaning) (middle after : TwoCell TornMemory) 
     StartsInMemory Basic meaning middle store left left' →
     IsSession Basic meaning (two_cells middle) (two_cells after) (store_in_pages store) (store_in_pages new) (Some input) (Some input')
     (Some received) (Some received') result →
-    SessionContinues Basic meaning (two_cells middle) (two_cells after) (store_in_pages store) (store_in_pages new) (Some input) (Some input')
+    SessionContinues Basic meaning (two_cells middle) (two_cells after) (store_in_pages store) (store_in_pages new)
+    (Some input) (Some input')
     (Some received) (Some received') result →
-    SessionRunsOnce Basic meaning (two_cells middle) (two_cells after) (store_in_pages store) (store_in_pages new) (Some input) (Some input')
+    SessionRunsOnce Basic meaning (two_cells middle) (two_cells after) (store_in_pages store) (store_in_pages new)
+    (Some input) (Some input')
     (Some received) (Some received') result →
     BeginsAndServes meaning after new left left' input input' received received' result
 begins_and_serves meaning middle after store new left left' input input' received received' result s session continues once = record {

@@ -106,7 +106,8 @@ module _ (reads : ReadsAreDeeds) (cycles : CyclesAreDeeds) (it : AnyModule) (var
     ends : end_of r.old.standing here ≡ r.new.standing
     stages_of : AreStagesOf r command here
 
-  quiet_ran : (r : CommandRun) (command : CommandLine) → QuietOf r command → (deed : Deed) → IsNoCall deed → DeedLeads variant M r.old.standing deed r.new.standing
+  quiet_ran : (r : CommandRun) (command : CommandLine) → QuietOf r command → (deed : Deed) → IsNoCall deed
+      → DeedLeads variant M r.old.standing deed r.new.standing
       → OneRan r command
   quiet_ran r command says deed quiet f =
       let stages : List LifeStage = record { part = Does deed; after = r.new.standing } ∷ [] in
@@ -197,7 +198,8 @@ module _ (reads : ReadsAreDeeds) (cycles : CyclesAreDeeds) (it : AnyModule) (var
       (λ header e. found_is (cell_at I d) x.looks.fault r.old.standing header (variant_is variant M key barrier)
       (ap (λ (m : Meaning). m.id) (meaning_is variant M key barrier)) (stands.spells, refl) stands.cell (rw e at x.looks.finds)) x.goes
 
-  power_ran : (r : CommandRun) → CommandLosesPower r.old.standing r.new.standing r.old.received r.new.received r.old.writes r.new.writes r.status
+  power_ran : (r : CommandRun) → CommandLosesPower r.old.standing r.new.standing r.old.received r.new.received r.old.writes
+      r.new.writes r.status
       → OneRan r Power
   power_ran r l = elim (cycles variant M r.old.standing r.new.standing l.fault l.cycles).failed [
     | inl lost ↦ quiet_ran r Power (λ stages q. q) LosesPower tt lost
@@ -320,7 +322,8 @@ module _ (r : CommandRun) (blank : r.old.standing.cell ≡ Some blank_cell) wher
   blank_by Run (inl does) unused =
       inl (run_blank does.found does.middle does.looks.fault does.looks.goes.cell does.looks.finds does.goes)
   blank_by Checkpoint (inl does) unused =
-      inl (checked_blank does.closes.found does.closes.middle does.answer does.closes.looks.goes.cell does.closes.looks.finds does.closes.ends)
+      inl (checked_blank does.closes.found does.closes.middle does.answer does.closes.looks.goes.cell does.closes.looks.finds
+      does.closes.ends)
   blank_by Power (inl does) unused = inl does.cycles.cell
   blank_by command (inl does) unused = inl (ap (λ (x : Standing). x.cell) (unused (λ used. used)))
 

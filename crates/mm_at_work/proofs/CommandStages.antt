@@ -19,7 +19,8 @@ use Rattle.mm_life.specs.DeviceDeeds.{CyclesAreDeeds, ReadsAreDeeds}
 use Rattle.mm_module.specs.Meaning.{Meaning}
 use Rattle.mm_modules.specs.Modules.{meaning_of}
 use Rattle.mm_platform.specs.Standing.{Standing}
-use Rattle.mm_at_work.specs.CommandLives.{CheckpointsArePartsOfLife, IsRunOfLife, LossesArePartsOfLife, RunsArePartsOfLife, RunsFindTheInstance, InitBeginsLife}
+use Rattle.mm_at_work.specs.CommandLives.{CheckpointsArePartsOfLife, IsRunOfLife, LossesArePartsOfLife, RunsArePartsOfLife}
+use Rattle.mm_at_work.specs.CommandLives.{RunsFindTheInstance, InitBeginsLife}
 use Rattle.mm_schedule.specs.declared.header.Header.{Header}
 use Rattle.mm_store.specs.StoreStanding.{StoreStanding}
 
@@ -55,7 +56,8 @@ sees_it variant it held found bytes same id formed spelled sees =
     sees.found_is ∙ ap found_instance read ∙ (λ j. found_header (same j) (module_of_id (id j)))
     ∙ ap (found_header variant) (any_is_found it).by_id
 
-pub finds_it : (variant : Variant) (it : AnyModule) (held : Held) (fault : Option StepFault) (before : Standing) (found : Result Header Status)
+pub finds_it : (variant : Variant) (it : AnyModule) (held : Held) (fault : Option StepFault) (before : Standing)
+    (found : Result Header Status)
     → held.variant ≡ variant → held.«module» ≡ (meaning_of it).id → IsCell held → before.cell ≡ Some (cell_spelling held) → fault ≡ None
     → FindsInstance fault before found → found ≡ Ok (record { variant = variant; «module» = it })
 finds_it variant it held (Some fault) before found same id formed told none finds = cc

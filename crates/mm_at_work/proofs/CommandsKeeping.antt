@@ -43,7 +43,8 @@ module _ (slots : Slots) where
   all_quiet [] q = tt
   all_quiet (stage ∷ stages) q = (quiet_over stage q.0, all_quiet stages q.1)
 
-  one_over : (r : CommandRun) (command : CommandLine) (stages : List LifeStage) → AreStagesOf r command stages → r.old.kept.slots ≡ Some slots
+  one_over : (r : CommandRun) (command : CommandLine) (stages : List LifeStage) → AreStagesOf r command stages → r.old.kept.slots
+      ≡ Some slots
       → StartOver slots stages
   one_over r Run stages (inl none) told = all_quiet stages none.quiet
   one_over r Run stages (inr session) told = rw session.are (tt, (told, tt))
@@ -65,7 +66,8 @@ module _ (offers : SessionsOfferSlots) (i : Instance) (slots : Slots)
   abbrev Issued : List (List ℕ) → List (List ℕ)
   Issued more = issued_bytes i first_history ∷ more
 
-  part_untagged : (more : List (List ℕ)) (old : Standing) (part : LifePart) (new : Standing) (f : PartLeads i.variant i.meaning old part new)
+  part_untagged : (more : List (List ℕ)) (old : Standing) (part : LifePart) (new : Standing)
+      (f : PartLeads i.variant i.meaning old part new)
       → StartsOver slots part → IsFirstUntagged i (Issued more) (part_calls i.variant i.meaning old part new f)
   part_untagged more old (Holds p) new f told =
       elim (offers i.variant i.meaning old new p.old p.new p.left p.left' p.received p.received' p.result f slots told) [

@@ -1,6 +1,7 @@
 -- What is asked of devices in memory, which tell what they hold, is what is asked of any.
 use Rattle.mm_at_work.proofs.Below.{◌≡◌, List, ℕ, Result, Ok, Err, Option, Some, length, OnOk, refl, ap, ◌∙◌, Variant, Basic, Opt, Meaning}
-use Rattle.mm_at_work.proofs.Below.{Batch, Instance, History, InstanceBegins, InitLeaves, CanRecover, HostRecovers, CachedDevice, Sheets, Slots, TornMemory, whole_bytes}
+use Rattle.mm_at_work.proofs.Below.{Batch, Instance, History, InstanceBegins, InitLeaves, CanRecover, HostRecovers, CachedDevice, Sheets}
+use Rattle.mm_at_work.proofs.Below.{Slots, TornMemory, whole_bytes}
 use Rattle.mm_at_work.proofs.Below.{TwoCell, first_devices, store_in_pages, two_cells, StartsInMemory}
 use Rattle.std.specs.Option.{option_map}
 use Rattle.mm_base.specs.Streams.{Supply}
@@ -11,7 +12,8 @@ use Rattle.mm_store.specs.UnsyncedSlots.{UnsyncedSlots}
 use Rattle.mm_twocell.specs.Pairs.{picked_cell}
 use Rattle.mm_at_work.specs.MemoryRecovery.{CanRecoverInMemory, RecoversInMemory}
 
-can_recover : {all others : List (List ℕ)} {asked : List Batch} {i : Instance} {y : History} {it : TwoCell TornMemory} {store : CachedDevice Sheets} →
+can_recover : {all others : List (List ℕ)} {asked : List Batch} {i : Instance} {y : History} {it : TwoCell TornMemory}
+    {store : CachedDevice Sheets} →
     CanRecoverInMemory all others asked i y it store
     → CanRecover all others asked i y store.device.slots (two_cells it) (store_in_pages store)
 can_recover can = record {
@@ -42,7 +44,8 @@ told_whole bytes e = rw e
 pub tells_picked : (it : TwoCell TornMemory) (bytes : List ℕ) → it.raw.standing.cell ≡ Some bytes → length bytes ≡ 209 →
     (cell : List ℕ) × ((two_cells it).cell ≡ Some cell)
 tells_picked it bytes e size =
-    (picked_cell bytes, ap (λ (c : Option (List ℕ)). option_map picked_cell (whole_bytes c)) e ∙ ap (option_map picked_cell) (told_whole bytes size))
+    (picked_cell bytes, ap (λ (c : Option (List ℕ)). option_map picked_cell (whole_bytes c)) e ∙ ap (option_map picked_cell)
+    (told_whole bytes size))
 
 some_same : (a b : Slots) → (let o : Option Slots = Some a in o ≡ Some b) → a ≡ b
 some_same a b h = cc
@@ -50,7 +53,8 @@ some_same a b h = cc
 some_marks : (a b : UnsyncedSlots) → (let o : Option UnsyncedSlots = Some a in o ≡ Some b) → a ≡ b
 some_marks a b h = cc
 
-starts : (variant : Variant) (meaning : Meaning) (before after : TwoCell TornMemory) (old new : CachedDevice Sheets) (entropy entropy' : Supply)
+starts : (variant : Variant) (meaning : Meaning) (before after : TwoCell TornMemory) (old new : CachedDevice Sheets)
+    (entropy entropy' : Supply)
     (cell : List ℕ) →
     (two_cells before).cell ≡ Some cell →
     InstanceBegins variant meaning (first_devices before old entropy) (first_devices after new entropy') →

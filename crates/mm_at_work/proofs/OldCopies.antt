@@ -1,10 +1,12 @@
 -- A session over an old copy of the pages is one run, as one over any slots is.
-use Rattle.mm_at_work.proofs.Below.{ℕ, List, Some, Result, refl, lines_of, Variant, Basic, Opt, Batch, Meaning, Instance, basic_instance, opt_instance, History}
+use Rattle.mm_at_work.proofs.Below.{ℕ, List, Some, Result, refl, lines_of, Variant, Basic, Opt, Batch, Meaning, Instance, basic_instance}
+use Rattle.mm_at_work.proofs.Below.{opt_instance, History}
 use Rattle.mm_at_work.proofs.Below.{IsSession, SessionFault, CachedDevice, Sheets, TornMemory, TwoCell, store_in_pages, two_cells}
 use Rattle.mm_host.specs.AnySlots.{MayStart, SessionRunsOnce, requests_with}
 use Rattle.mm_at_work.specs.OldCopy.{CanServeCopy, CopyRunsOnce, ServesCopy}
 
-may_start : (all others : List (List ℕ)) (asked : List Batch) (i : Instance) (y : History) (it : TwoCell TornMemory) (copy : CachedDevice Sheets)
+may_start : (all others : List (List ℕ)) (asked : List Batch) (i : Instance) (y : History) (it : TwoCell TornMemory)
+    (copy : CachedDevice Sheets)
     (lines : List (List ℕ)) → CanServeCopy all others asked i y it copy.device.slots lines
     → MayStart all others asked i y copy.device.slots (two_cells it) (store_in_pages copy)
 may_start all others asked i y it copy lines can = record {

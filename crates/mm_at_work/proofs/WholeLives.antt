@@ -1,6 +1,7 @@
 -- Lives over devices in memory are wholes: the slots of the first start are offered first, and of a copy what is asked.
 use Rattle.std.specs.List.{Contains}
-use Rattle.std.proofs.Common.{◌≡◌, ◌≤◌, ◌∙◌, ℕ, List, [], ◌∷◌, Option, None, Some, Result, arith, drop, length, refl, sym, ap, subst, take, inl, inr}
+use Rattle.std.proofs.Common.{◌≡◌, ◌≤◌, ◌∙◌, ℕ, List, [], ◌∷◌, Option, None, Some, Result, arith, drop, length, refl, sym, ap, subst, take}
+use Rattle.std.proofs.Common.{inl, inr}
 use Rattle.std.proofs.lemmas.List.{append-nil, take_all}
 use Rattle.mm_digest.specs.declared.variant.Variant.{Variant}
 use Rattle.mm_digest.specs.declared.variant.Variant.TheVariants.{Basic, Opt}
@@ -32,7 +33,8 @@ use Rattle.mm_life.specs.Premises.{IsFirstUntagged, IsUntagged, life_batches, li
 use Rattle.mm_life.specs.SessionCalls.{IsFirstOffered, session_calls}
 use Rattle.mm_life.specs.Stages.{Does, IsLife, LifeStage}
 use Rattle.mm_at_work.specs.Devices.{store_in_pages, two_cells}
-use Rattle.mm_at_work.specs.Lives.{BeginsLife, FirstSlotsAreOld, IsOldCopy, IsWholeInBasic, IsWholeInOpt, LivesCheckpointed, LivesOnCopy, LivesWithoutPower}
+use Rattle.mm_at_work.specs.Lives.{BeginsLife, FirstSlotsAreOld, IsOldCopy, IsWholeInBasic, IsWholeInOpt, LivesCheckpointed, LivesOnCopy}
+use Rattle.mm_at_work.specs.Lives.{LivesWithoutPower}
 use Rattle.mm_at_work.specs.Lives.{session_stage}
 use Rattle.mm_at_work.specs.MemoryStart.{StartsInMemory}
 
@@ -78,7 +80,8 @@ module _ (offers : SessionsOfferSlots) (i : Instance) (issued : List (List ℕ))
   start_untagged slots is old = copy_untagged (subst (λ (x : Slots). IsOldCopy i issued x) (sym is) old)
 
 -- the first snapshots are short
-pub basic_short : (meaning : Meaning) → IsLawful meaning → (key : List ℕ) → length (issued_bytes (basic_instance meaning key) first_history) ≤ 1048690
+pub basic_short : (meaning : Meaning) → IsLawful meaning → (key : List ℕ) → length (issued_bytes (basic_instance meaning key) first_history)
+    ≤ 1048690
 basic_short meaning lawful key = sealed_snapshot_of-most _ _ (basic_content meaning lawful key first_history (omega arith))
 
 pub opt_short : (meaning : Meaning) → IsLawful meaning → (key barrier : List ℕ)
@@ -129,7 +132,8 @@ module _ (meaning : Meaning) (lawful : IsLawful meaning) (offers : SessionsOffer
         start_untagged offers B (Issued []) (two_cells start) (two_cells middle) pages left_pages (Some first) (Some first') (Some received)
         (Some between) one s (first_slots B) starts.slots (basic_old [])
 
-    second_session : (before : Standing) (issued : List (List ℕ)) (s : IsSession Basic meaning before (two_cells after) (store_in_pages copy)
+    second_session : (before : Standing) (issued : List (List ℕ))
+        (s : IsSession Basic meaning before (two_cells after) (store_in_pages copy)
         (store_in_pages new) (Some second) (Some second') (Some between) (Some received') two) → IsOldCopy B issued copy.device.slots
         → IsFirstUntagged B issued (session_calls s)
     second_session before issued s old =
@@ -180,7 +184,8 @@ module _ (meaning : Meaning) (lawful : IsLawful meaning) (offers : SessionsOffer
     O = opt_instance meaning (take 32 starts.secrets) (drop 32 starts.secrets)
 
     opt_old : FirstSlotsAreOld O
-    opt_old = first_is_old O (opt_short meaning lawful (take 32 starts.secrets) (drop 32 starts.secrets)) (first_history_on []) (starts.first [])
+    opt_old = first_is_old O (opt_short meaning lawful (take 32 starts.secrets) (drop 32 starts.secrets)) (first_history_on [])
+        (starts.first [])
 
     whole_checkpointed : (said : Result Checkpointed CheckpointRefusal) (closed : Standing)
         (f : IsLife Opt meaning (two_cells start) (One ∷ deed_stage (Checkpoints said) closed ∷ Two ∷ [])) (values : List (List ℕ))

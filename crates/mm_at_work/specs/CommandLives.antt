@@ -30,7 +30,8 @@ abbrev pub look_stage : List (List ℕ) → Standing → LifeStage
 look_stage values after = record { part = Does (Extends values); after = after }
 
 -- a session was held over these objects
-abbrev pub session_stage : (old new : StoreStanding) (left left' received received' : Option (List ℕ))
+abbrev pub session_stage : (old new : StoreStanding)
+    (left left' received received' : Option (List ℕ))
     → Result (Unit {0}) SessionFault → Standing → LifeStage
 session_stage old new left left' received received' result after = record {
   part = Holds (record {

@@ -52,7 +52,8 @@ pub record LivesWell (it : AnyModule) (i : Instance) (start : Standing) (command
 -- In Basic, behind a first start that began an instance, whatever commands are run.
 abbrev pub BasicCommandsKeepPromises : Type 0
 BasicCommandsKeepPromises =
-    (it : AnyModule) (before after : Devices) (begins : InstanceBegins Basic (meaning_of it) before after)
+    (it : AnyModule) (before after : Devices)
+    (begins : InstanceBegins Basic (meaning_of it) before after)
     (cell : List ℕ) (commands : List CommandRun) → before.platform.cell ≡ Some cell →
     AreRun after.platform commands →
     (let i = instance_from Basic (meaning_of it) begins.secrets in
@@ -62,7 +63,8 @@ BasicCommandsKeepPromises =
 -- In Opt too, from the values that the register showed.
 abbrev pub OptCommandsKeepPromises : Type 0
 OptCommandsKeepPromises =
-    (it : AnyModule) (before after : Devices) (begins : InstanceBegins Opt (meaning_of it) before after)
+    (it : AnyModule) (before after : Devices)
+    (begins : InstanceBegins Opt (meaning_of it) before after)
     (cell : List ℕ) (values : List (List ℕ)) (commands : List CommandRun) →
     before.platform.cell ≡ Some cell → ShowsValues Opt after.platform values →
     AreRun after.platform commands →

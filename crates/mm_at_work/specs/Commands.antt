@@ -92,7 +92,8 @@ AreStagesOf r _ stages = AllByRecursion IsQuiet stages
 abbrev pub AreStagesOfAll : List CommandRun → List LifeStage → Type 0
 AreStagesOfAll [] stages = stages ≡ []
 AreStagesOfAll (r ∷ commands) stages =
-    (met : LifeStage) × (here : List LifeStage) × (later : List LifeStage) × (stages ≡ met ∷ here ++ later)
+    (met : LifeStage) × (here : List LifeStage) × (later : List LifeStage)
+    × (stages ≡ met ∷ here ++ later)
     × IsQuiet met × AreStagesOf r r.command here × AreStagesOfAll commands later
 
 -- They are one life of this variant and module, from this standing on.

@@ -33,7 +33,8 @@ pub record CanBegin (all others : List (List ℕ)) (asked : List Batch) (i : Ins
 
 -- 64 bytes were taken, of which the first 32 are the key; and a session of Basic was held. What it
 -- told is one run of the module from the empty list, and so on. Nothing is asked of the devices.
-pub record BeginsAndServes (meaning : Meaning) (after : TwoCell TornMemory) (new : CachedDevice Sheets)
+pub record BeginsAndServes (meaning : Meaning) (after : TwoCell TornMemory)
+    (new : CachedDevice Sheets)
     (entropy entropy' input input' received received' : List ℕ)
     (result : Result Unit SessionFault) : Type 0 where
   pub secrets : List ℕ

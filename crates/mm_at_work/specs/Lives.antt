@@ -29,7 +29,8 @@ use Rattle.mm_life.specs.Stages.{Does, Holds, IsLife, LifeStage, part_calls}
 use Rattle.mm_at_work.specs.Devices.{store_in_pages, two_cells}
 
 -- a session over pages, on an input and an output in memory
-abbrev pub session_stage : CachedDevice Sheets → CachedDevice Sheets → List ℕ → List ℕ → List ℕ → List ℕ
+abbrev pub session_stage : CachedDevice Sheets → CachedDevice Sheets → List ℕ → List ℕ → List ℕ
+    → List ℕ
     → Result Unit SessionFault → TwoCell TornMemory → LifeStage
 session_stage old new left left' received received' result after = record {
   part = Holds (record {
@@ -102,7 +103,8 @@ FirstSlotsAreOld i =
     (more : List (List ℕ)) → IsOldCopy i (issued_bytes i first_history ∷ more) (first_slots i)
 
 -- A life of Basic over a copy: a session, and one over the copy.
-pub record LivesOnCopy (meaning : Meaning) (after : TwoCell TornMemory) (copy new : CachedDevice Sheets)
+pub record LivesOnCopy (meaning : Meaning) (after : TwoCell TornMemory)
+    (copy new : CachedDevice Sheets)
     (entropy entropy' first first' second second' received received' : List ℕ)
     (one two : Result Unit SessionFault) : Type 0 where
   pub begun : BeginsLife entropy entropy'
@@ -112,11 +114,13 @@ pub record LivesOnCopy (meaning : Meaning) (after : TwoCell TornMemory) (copy ne
       ∷ session_stage copy new second second' between received' two after ∷ [])
   pub whole : IsWholeInBasic (instance_from Basic meaning secrets) start
       (session_stage pages left_pages first first' received between one middle)
-      (session_stage copy new second second' between received' two after ∷ []) copy.device.slots life
+      (session_stage copy new second second' between received' two after ∷ [])
+      copy.device.slots life
   pub first_is_old : FirstSlotsAreOld (instance_from Basic meaning secrets)
 
 -- The same with a loss of power between the two.
-pub record LivesWithoutPower (meaning : Meaning) (after : TwoCell TornMemory) (copy new : CachedDevice Sheets)
+pub record LivesWithoutPower (meaning : Meaning) (after : TwoCell TornMemory)
+    (copy new : CachedDevice Sheets)
     (entropy entropy' first first' second second' received received' : List ℕ)
     (one two : Result Unit SessionFault) : Type 0 where
   pub begun : BeginsLife entropy entropy'
@@ -135,7 +139,8 @@ pub record LivesWithoutPower (meaning : Meaning) (after : TwoCell TornMemory) (c
 
 -- A life of Opt with a checkpoint between the two, from the values that the register showed at the
 -- first start.
-pub record LivesCheckpointed (meaning : Meaning) (after : TwoCell TornMemory) (copy new : CachedDevice Sheets)
+pub record LivesCheckpointed (meaning : Meaning) (after : TwoCell TornMemory)
+    (copy new : CachedDevice Sheets)
     (entropy entropy' first first' second second' received received' : List ℕ)
     (one : Result Unit SessionFault) (said : Result Checkpointed CheckpointRefusal)
     (two : Result Unit SessionFault) : Type 0 where

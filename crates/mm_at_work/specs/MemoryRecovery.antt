@@ -38,7 +38,8 @@ pub record CanRecoverInMemory (all others : List (List ℕ)) (asked : List Batch
 
 -- From every history, under every key, and in Opt under every barrier, where what others did is
 -- known by the register's items, unless it asks idly.
-abbrev pub RecoversInMemory : Variant → Meaning → TwoCell TornMemory → TwoCell TornMemory → CachedDevice Sheets
+abbrev pub RecoversInMemory : Variant → Meaning → TwoCell TornMemory → TwoCell TornMemory
+    → CachedDevice Sheets
     → CachedDevice Sheets → Result Resumed HostFault
     → Type 0
 RecoversInMemory Basic meaning before after old new result =
@@ -54,5 +55,6 @@ RecoversInMemory Opt meaning before after old new result =
     → (two_cells after).items ≡ Some (standing_items y.is_open items ++ more) →
     ((AsksIdly (opt_instance meaning key barrier) y old.device.slots can.fits.waiting → ⊥)
     → AreShown all others (opt_instance meaning key barrier) y more) →
-    RecoversTo all others asked (opt_instance meaning key barrier) y old.device.slots can.fits.waiting
+    RecoversTo all others asked (opt_instance meaning key barrier) y
+    old.device.slots can.fits.waiting
     (two_cells after) (store_in_pages new) result

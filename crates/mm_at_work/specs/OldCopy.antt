@@ -45,7 +45,8 @@ pub record CanServeCopy (all others : List (List ℕ)) (asked : List Batch) (i :
 
 -- What it told is one run of the module from the history on, whatever the copy holds. In Opt what
 -- others did is known by the register's items, unless nothing new is asked.
-abbrev pub CopyRunsOnce : (variant : Variant) (meaning : Meaning) (before after : TwoCell TornMemory)
+abbrev pub CopyRunsOnce : (variant : Variant) (meaning : Meaning)
+    (before after : TwoCell TornMemory)
     (copy new : CachedDevice Sheets) (input input' received received' : List ℕ)
     (result : Result Unit SessionFault)
     → IsSession variant meaning (two_cells before) (two_cells after) (store_in_pages copy)
@@ -55,16 +56,19 @@ CopyRunsOnce Basic meaning before after copy new input input' received received'
     (key : List ℕ) (y : History) (all others : List (List ℕ)) (asked : List Batch) →
     (can : CanServeCopy all others asked (basic_instance meaning key) y before copy.device.slots
     (lines_of input)) →
-    EndsRun all others asked (basic_instance meaning key) y (first_offer copy.device.slots can.waiting)
+    EndsRun all others asked (basic_instance meaning key) y
+    (first_offer copy.device.slots can.waiting)
     (two_cells after) (served_calls_in can.waiting s.goes) (IsInHand can.waiting s.goes) result
 CopyRunsOnce Opt meaning before after copy new input input' received received' result s =
     (key barrier : List ℕ) (y : History) (all others : List (List ℕ)) (asked : List Batch)
     (items more : List Item) →
-    (can : CanServeCopy all others asked (opt_instance meaning key barrier) y before copy.device.slots
+    (can : CanServeCopy all others asked (opt_instance meaning key barrier) y before
+    copy.device.slots
     (lines_of input)) →
     (two_cells before).items ≡ Some items
     → (two_cells after).items ≡ Some (standing_items y.is_open items ++ more) →
-    ((AsksNothingNew (opt_instance meaning key barrier) y (first_offer copy.device.slots can.waiting)
+    ((AsksNothingNew (opt_instance meaning key barrier) y
+    (first_offer copy.device.slots can.waiting)
     (requests_with can.waiting (lines_of input)) → ⊥)
     → AreShown all others (opt_instance meaning key barrier) y more) →
     EndsRun all others asked (opt_instance meaning key barrier) y

@@ -53,7 +53,8 @@ pub fn live_on_copy<M: Module>(
     second_input: &mut MemSource,
     out: &mut MemSink,
 ) -> Result<TwoSessions, InitFault>
-    ensures { IfOk result (λ both. LivesOnCopy (M.meaning «module».now) platform.new copy.old copy.new
+    ensures { IfOk result (λ both. LivesOnCopy (M.meaning «module».now) platform.new
+        copy.old copy.new
         entropy.old.left entropy.new.left first_input.old.left first_input.new.left
         second_input.old.left second_input.new.left out.old.received out.new.received both.first
         both.second) }

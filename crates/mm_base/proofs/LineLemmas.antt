@@ -41,7 +41,8 @@ unbroken-before xs s m e at low high front breaks =
     unbroken-joined xs s m (m + at) low (omega arith) front (rw same breaks.line)
 
 -- a break behind unbroken bytes
-pub HasBreakAt-behind : (front back : List ℕ) (at : ℕ) → IsUnbroken front → HasBreakAt back at → HasBreakAt (front ++ back) (length front + at)
+pub HasBreakAt-behind : (front back : List ℕ) (at : ℕ) → IsUnbroken front → HasBreakAt back at
+    → HasBreakAt (front ++ back) (length front + at)
 HasBreakAt-behind front back at unbroken breaks =
     let counts : length front + at + 1 ≡ length front + (at + 1) = omega arith in
     let behind : drop (length front + at + 1) (front ++ back) ≡ drop (at + 1) back =
@@ -70,7 +71,8 @@ SourceRefills-none left left' held held' fault kept same = record {
   gives = refl;
 }
 
-pub SourceRefills-some : (left left' : Option (List ℕ)) (xs ys held : List ℕ) (s e count : ℕ) → s ≤ e → e + count ≤ length ys → e < length ys
+pub SourceRefills-some : (left left' : Option (List ℕ)) (xs ys held : List ℕ) (s e count : ℕ) → s ≤ e → e + count ≤ length ys
+    → e < length ys
     → take e ys ≡ take e xs → held ≡ slice_range xs s e
     → Consumes left left' (take count (drop e ys)) → (count ≡ 0 → 0 < length (drop e ys) → IsAtEnd left')
     → SourceRefills left left' held (slice_range ys s (e + count)) (Ok count)

@@ -19,7 +19,8 @@ lines_with_front-nil [] = refl
 lines_with_front-nil (line ∷ lines) = refl
 
 tail_with_front-cons : (byte : ℕ) (bytes : List ℕ) (lines : List (List ℕ)) (tail : List ℕ)
-    → tail_with_front (byte ∷ []) (lines_with_front bytes lines) (tail_with_front bytes lines tail) ≡ tail_with_front (byte ∷ bytes) lines tail
+    → tail_with_front (byte ∷ []) (lines_with_front bytes lines) (tail_with_front bytes lines tail)
+    ≡ tail_with_front (byte ∷ bytes) lines tail
 tail_with_front-cons byte bytes [] tail = refl
 tail_with_front-cons byte bytes (line ∷ lines) tail = refl
 
@@ -36,13 +37,16 @@ lines_of-append (byte ∷ bytes) rest h =
     ∙ ap (lines_with_front (byte ∷ [])) (lines_of-append bytes rest (All-tail IsNoBreak byte bytes h))
     ∙ lines_with_front-cons byte bytes (lines_of rest)
 
-pub tail_of-append : (bytes rest : List ℕ) → IsUnbroken bytes → tail_of (bytes ++ rest) ≡ tail_with_front bytes (lines_of rest) (tail_of rest)
+pub tail_of-append : (bytes rest : List ℕ) → IsUnbroken bytes → tail_of (bytes ++ rest) ≡ tail_with_front bytes
+    (lines_of rest) (tail_of rest)
 tail_of-append [] rest h = sym (tail_with_front-nil (lines_of rest) (tail_of rest))
 tail_of-append (byte ∷ bytes) rest h =
     ap (λ b. cond b (tail_of (bytes ++ rest)) (tail_with_front (byte ∷ []) (lines_of (bytes ++ rest)) (tail_of (bytes ++ rest))))
     (ne_eqb byte 10 (All-head IsNoBreak byte bytes h))
-    ∙ ap (λ lines. tail_with_front (byte ∷ []) lines (tail_of (bytes ++ rest))) (lines_of-append bytes rest (All-tail IsNoBreak byte bytes h))
-    ∙ ap (tail_with_front (byte ∷ []) (lines_with_front bytes (lines_of rest))) (tail_of-append bytes rest (All-tail IsNoBreak byte bytes h))
+    ∙ ap (λ lines. tail_with_front (byte ∷ []) lines (tail_of (bytes ++ rest)))
+    (lines_of-append bytes rest (All-tail IsNoBreak byte bytes h))
+    ∙ ap (tail_with_front (byte ∷ []) (lines_with_front bytes (lines_of rest)))
+    (tail_of-append bytes rest (All-tail IsNoBreak byte bytes h))
     ∙ tail_with_front-cons byte bytes (lines_of rest) (tail_of rest)
 
 -- a line goes first

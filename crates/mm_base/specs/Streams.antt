@@ -47,7 +47,8 @@ intake_after_give s piece (Ok count) =
       calls = next_count
           s.calls;
     }
-intake_after_give s piece (Err _) = record s { calls = next_count s.calls; faults = next_count s.faults }
+intake_after_give s piece (Err _) =
+    record s { calls = next_count s.calls; faults = next_count s.faults }
 
 -- what went out of these bytes: all of them after Ok, and else a prefix
 pub record SinkSends (received now : Option (List ℕ)) (bytes : List ℕ)

@@ -167,7 +167,8 @@ impl HeldBytes {
     /// Takes bytes until a line, the end of the input or a fault is seen.
     fn see<S: Source>(&mut self, source: &mut S, limit: usize) -> Result<SeenLine, LineFault>
         requires { limit ≤ longest_line }
-        ensures seen { ReaderSees limit (S.left source.old) (S.left source.new) (held_bytes self.old)
+        ensures seen { ReaderSees limit (S.left source.old) (S.left source.new)
+            (held_bytes self.old)
             (held_bytes self.new) result }
         ensures counted { CountsReads (S.faults source.old) (S.faults source.new) result }
     {
@@ -209,7 +210,8 @@ impl HeldBytes {
     /// Takes more bytes from the source, and answers how many.
     fn refill<S: Source>(&mut self, source: &mut S) -> Result<usize, Failed>
         requires { length (held_bytes self.old) ≤ longest_line }
-        ensures refilled { SourceRefills (S.left source.old) (S.left source.new) (held_bytes self.old)
+        ensures refilled { SourceRefills (S.left source.old) (S.left source.new)
+            (held_bytes self.old)
             (held_bytes self.new) result }
         ensures counted { CountsFaults (S.faults source.old) (S.faults source.new) result }
     {

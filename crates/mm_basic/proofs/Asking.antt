@@ -1,7 +1,8 @@
 -- What a whole call counts, and the sizes of its answer.
 use Rattle.mm_basic.proofs.Below.{◌≡◌, ℕ, Bool, true, false, List, [], length, None, Result, Ok, Err, IfOk, refl, sym, ap, ◌∙◌}
 use Rattle.mm_basic.proofs.Below.{subst, inl, inr, Standing, ReadCell, StepGoes, Meaning, IsLawful, Batch, One, IsFit}
-use Rattle.mm_basic.proofs.Below.{is_long, BatchAnswer, Refusal, remaining_acts, is_extension_left, Deed, Writing, OpFinding, Repeat, Change, AskResult, goes_on, breaks_off, EndsByFinding}
+use Rattle.mm_basic.proofs.Below.{is_long, BatchAnswer, Refusal, remaining_acts, is_extension_left, Deed, Writing, OpFinding, Repeat}
+use Rattle.mm_basic.proofs.Below.{Change, AskResult, goes_on, breaks_off, EndsByFinding}
 use Rattle.mm_basic.proofs.Below.{IsCallToEnd, IsWholeCall, result_of, fault_in, steps_give, each_call, ends_result}
 use Rattle.mm_basic.proofs.Below.{given_all, basic_call}
 use Rattle.mm_basic.proofs.Below.{Basic}
@@ -16,10 +17,12 @@ use Rattle.mm_basic.proofs.Telling.{reads_told}
 module _ (meaning : Meaning) (old middle new : Standing) (ended : AskResult) where
   -- what is counted of a call that commits its batch
   writes_stepped : (change : Deed) (answer : BatchAnswer) → answer.again ≡ false → is_extension_left change ≡ false
-      → StepGoes ReadCell old middle None → AreStepsToEnd (remaining_acts change) answer middle new ended → StepsBy Basic (result_of ended) old new
+      → StepGoes ReadCell old middle None → AreStepsToEnd (remaining_acts change) answer middle new ended
+      → StepsBy Basic (result_of ended) old new
   writes_stepped (Writing bytes) answer new_one none g (goes_on next h e) =
       answered_result (λ (s : Standing) (r : Result BatchAnswer Refusal). StepsBy Basic r old s) answer next new ended e
-      (subst (λ (t : Bool). StepsAnswered Basic t old next) (sym new_one) (h.steps ∙ ap next_count g.steps, h.writes ∙ ap next_count g.writes))
+      (subst (λ (t : Bool). StepsAnswered Basic t old next) (sym new_one) (h.steps ∙ ap next_count g.steps, h.writes
+      ∙ ap next_count g.writes))
   writes_stepped (Writing bytes) answer new_one none g (breaks_off fault h e) =
       subst (λ (v : AskResult). StepsBy Basic (result_of v) old new) (sym e)
       (inr (h.steps ∙ ap next_count g.steps, h.writes ∙ ap next_count g.writes))
@@ -32,7 +35,8 @@ module _ (meaning : Meaning) (old middle new : Standing) (ended : AskResult) whe
   once_refused b _ shape r = r
 
   -- what is counted of a call, by what it found
-  ends_stepped : (b : Batch) (found : Result (OpFinding BatchAnswer) Refusal) → IsShaped meaning b found → StepGoes ReadCell old middle (fault_in found)
+  ends_stepped : (b : Batch) (found : Result (OpFinding BatchAnswer) Refusal) → IsShaped meaning b found
+      → StepGoes ReadCell old middle (fault_in found)
       → EndsByFinding basic_call found middle new ended → StepsBy Basic (result_of ended) old new
   ends_stepped b (Err why) shape g e =
       ends_result basic_call (λ (s : Standing) (r : Result BatchAnswer Refusal). StepsBy Basic r old s) why middle new ended e
@@ -76,13 +80,15 @@ module _ (meaning : Meaning) (old new : Standing) (offer : List ℕ) (b : Batch)
   pub writes : (result : Result BatchAnswer Refusal) → IsWholeCall basic_call meaning old new offer b result → WritesAtMostOnce old new
   writes result c =
       each_call basic_call meaning old new offer b (λ (s : Standing) (r : Result BatchAnswer Refusal). WritesAtMostOnce old s) result
-      (inl refl) (λ (ended : AskResult) (a : IsCallToEnd basic_call meaning old new offer b ended). once (result_of ended) (ask_stepped ended a)) c
+      (inl refl) (λ (ended : AskResult) (a : IsCallToEnd basic_call meaning old new offer b ended). once (result_of ended)
+      (ask_stepped ended a)) c
 
 -- an answer is fit
 abbrev pub IsFitIn : Batch → Result BatchAnswer Refusal → Type 0
 IsFitIn b result = IfOk result (λ answer. IsFit b answer)
 
-ends_fit : (meaning : Meaning) → IsLawful meaning → (b : Batch) (found : Result (OpFinding BatchAnswer) Refusal) (old new : Standing) (ended : AskResult)
+ends_fit : (meaning : Meaning) → IsLawful meaning → (b : Batch) (found : Result (OpFinding BatchAnswer) Refusal) (old new : Standing)
+    (ended : AskResult)
     → IsShaped meaning b found → EndsByFinding basic_call found old new ended → IsFitIn b (result_of ended)
 ends_fit meaning lawful b (Err why) old new ended shape e =
     ends_result basic_call (λ (s : Standing) (r : Result BatchAnswer Refusal). IsFitIn b r) why old new ended e tt

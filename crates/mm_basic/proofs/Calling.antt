@@ -1,11 +1,16 @@
 -- What a call finds over the platform is what is found by digests, but for want of memory.
 use Rattle.mm_basic.proofs.Below.{◌≡◌, ℕ, ◌+◌, Bool, true, false, List, [], ◌∷◌, map, length, Some, Result, Ok, Err, inl, inr, refl, sym}
-use Rattle.mm_basic.proofs.Below.{ap, ◌∙◌, subst, nat_le, bytes_eq, bytes_eq-Decides, last_position, Basic, Meaning, Batch, size_of, normal_batch}
+use Rattle.mm_basic.proofs.Below.{ap, ◌∙◌, subst, nat_le, bytes_eq, bytes_eq-Decides, last_position, Basic, Meaning, Batch, size_of}
+use Rattle.mm_basic.proofs.Below.{normal_batch}
 use Rattle.mm_basic.proofs.Below.{Cell, IsCell, cell_spelling, PartsFault, Form, Kind, Place, InBasic, InOpt, Content, Snapshot, ReadsParts}
-use Rattle.mm_basic.proofs.Below.{variant_of, tag_of, extended_digest_of, Item, Standing, length-link, DeviceStep, Writes, link, Instance, basic_instance, Commit}
-use Rattle.mm_basic.proofs.Below.{Foreign, Digests, digests_after, verdict_by, basic_verdict, digest_of, BatchAnswer, Refusal, Verdict, IsOrMemory}
-use Rattle.mm_basic.proofs.Below.{state_after_moves, digest_level, AsFound, lacks_in, brought_digests, cell_at, StandsAt, weighed_only, OpFinding, Repeat}
-use Rattle.mm_basic.proofs.Below.{Change, Writing, BasicSight, finding_in, finding_from, answer_of, committed_cell, basic_call, SpellsCell, ReadsCell}
+use Rattle.mm_basic.proofs.Below.{variant_of, tag_of, extended_digest_of, Item, Standing, length-link, DeviceStep, Writes, link, Instance}
+use Rattle.mm_basic.proofs.Below.{basic_instance, Commit}
+use Rattle.mm_basic.proofs.Below.{Foreign, Digests, digests_after, verdict_by, basic_verdict, digest_of, BatchAnswer, Refusal, Verdict}
+use Rattle.mm_basic.proofs.Below.{IsOrMemory}
+use Rattle.mm_basic.proofs.Below.{state_after_moves, digest_level, AsFound, lacks_in, brought_digests, cell_at, StandsAt, weighed_only}
+use Rattle.mm_basic.proofs.Below.{OpFinding, Repeat}
+use Rattle.mm_basic.proofs.Below.{Change, Writing, BasicSight, finding_in, finding_from, answer_of, committed_cell, basic_call, SpellsCell}
+use Rattle.mm_basic.proofs.Below.{ReadsCell}
 use Rattle.mm_basic.proofs.Below.{IsCellOf, NoCell, OtherCell, NoOffer, Both, IsSeen as IsSight, if◌then◌else◌, linked_summary, summary_in}
 use Rattle.mm_basic.proofs.Below.{verdict_by_digests, zero_bytes}
 use Rattle.std.specs.List.{fold}
@@ -88,7 +93,8 @@ again_summary o summary b e =
 
 -- an answer depends on the members of the batch alone
 answer_is : (meaning : Meaning) (key : List ℕ) (offered : Content) (s t : List ℕ) (b : Batch) (again : Bool) → s ≡ t
-    → answer_at meaning key offered (InBasic (digest_of s)) b again ≡ answer_at meaning key offered (InBasic (digest_of t)) (normal_batch b) again
+    → answer_at meaning key offered (InBasic (digest_of s)) b again ≡ answer_at meaning key offered (InBasic (digest_of t))
+    (normal_batch b) again
 answer_is meaning key offered s t b again e =
     ap (λ (x : List ℕ). answer_at meaning key offered (InBasic (digest_of x)) b again) e
     ∙ rw (members_of-normal b) refl
@@ -104,7 +110,8 @@ module _ (meaning : Meaning) (key : List ℕ) (d : Digests) (b : Batch) where
   i = basic_instance meaning key
 
   -- by what the offer is examined to
-  found_examined : (offered : Content) (e : Result Bool Refusal) → (e ≡ Ok false → linked_summary offered b ≡ link d.digest (normal_batch b))
+  found_examined : (offered : Content) (e : Result Bool Refusal)
+      → (e ≡ Ok false → linked_summary offered b ≡ link d.digest (normal_batch b))
       → (e ≡ Ok true → linked_summary offered b ≡ d.digest)
       → finding_from e (committed_cell (cell_at i d) offered b) (answer_of meaning key offered b)
       ≡ given i d (normal_batch b) (call_words.finding_with offered e)
@@ -144,7 +151,8 @@ found_here : (meaning : Meaning) (key : List ℕ) (d : Digests) (register : List
     → IsCell (cell_at (basic_instance meaning key) d) → old.cell ≡ Some (cell_spelling (cell_at (basic_instance meaning key) d))
     → (f : Finds meaning old offer b found) → finding_in meaning f.said.seen b
     ≡ given (basic_instance meaning key) (record d { register = register }) (normal_batch b)
-    (call.finding_at (basic_instance meaning key) (digest_level (basic_instance meaning key)) (record d { register = register }) (normal_batch b) offer)
+    (call.finding_at (basic_instance meaning key) (digest_level (basic_instance meaning key)) (record d { register = register })
+    (normal_batch b) offer)
 found_here meaning key d register old offer b found spells cell f =
     let i : Instance = basic_instance meaning key in
     let seen : Digests = record d { register = register } in
@@ -165,7 +173,8 @@ writing true b = Writes (Commit b) ∷ []
 
 -- The writing step commits the batch.
 is_write : (meaning : Meaning) (key : List ℕ) (d : Digests) (b : Batch) → IsCell (cell_at (basic_instance meaning key) d)
-    → IsWrite (basic_instance meaning key) d (cell_spelling (cell_at (basic_instance meaning key) (digests_after (basic_instance meaning key) d (Commit b)))) (Commit b)
+    → IsWrite (basic_instance meaning key) d
+    (cell_spelling (cell_at (basic_instance meaning key) (digests_after (basic_instance meaning key) d (Commit b)))) (Commit b)
 is_write meaning key d b is = record {
   spells = record { summary = length-link d.digest b; key = is.key; barrier = is.barrier; variant = is.variant };
   cell = refl;
@@ -191,8 +200,10 @@ IsSeen meaning key d b x found =
     let y : Result call.CallFinding Refusal = call_words.finding_unless_wanting x (lacks_in found) in
     AsFound basic_call (basic_instance meaning key) d b y found (writing (call_words.is_fresh y) b)
 
-as_found : (meaning : Meaning) (key : List ℕ) (d : Digests) (b : Batch) (x : Result call.CallFinding Refusal) (found : Result (OpFinding BatchAnswer) Refusal)
-    → IsCell (cell_at (basic_instance meaning key) d) → IsOrMemory (given (basic_instance meaning key) d b x) found → IsSeen meaning key d b x found
+as_found : (meaning : Meaning) (key : List ℕ) (d : Digests) (b : Batch) (x : Result call.CallFinding Refusal)
+    (found : Result (OpFinding BatchAnswer) Refusal)
+    → IsCell (cell_at (basic_instance meaning key) d) → IsOrMemory (given (basic_instance meaning key) d b x) found
+    → IsSeen meaning key d b x found
 as_found meaning key d b (Err why) found is f = rw f (refl, refl)
 as_found meaning key d b (Ok it) found is (inl f) = rw f (as_given meaning key d b it.offered it.again is)
 as_found meaning key d b (Ok it) found is (inr f) = rw f (refl, refl)
@@ -201,7 +212,8 @@ as_found meaning key d b (Ok it) found is (inr f) = rw f (refl, refl)
 pub seen_here : (meaning : Meaning) (key : List ℕ) (d : Digests) (values : List (List ℕ)) (old : Standing) (offer : List ℕ) (b : Batch)
     (found : Result (OpFinding BatchAnswer) Refusal) → StandsAt (basic_instance meaning key) old d → Finds meaning old offer b found
     → let seen : Digests = state_after_moves (digest_level (basic_instance meaning key)) d (map Foreign values) in
-    IsSeen meaning key seen (normal_batch b) (call.finding_at (basic_instance meaning key) (digest_level (basic_instance meaning key)) seen (normal_batch b) offer) found
+    IsSeen meaning key seen (normal_batch b) (call.finding_at (basic_instance meaning key) (digest_level (basic_instance meaning key)) seen
+    (normal_batch b) offer) found
 seen_here meaning key d values old offer b found s f =
     let i : Instance = basic_instance meaning key in
     let r : List ℕ = fold extended_digest_of d.register values in
@@ -209,5 +221,6 @@ seen_here meaning key d values old offer b found s f =
     (sym (brought_digests i d values))
     (as_found meaning key (record d { register = r }) (normal_batch b)
     (call.finding_at i (digest_level i) (record d { register = r }) (normal_batch b) offer) found s.spells
-    (subst (λ (x : Result (OpFinding BatchAnswer) Refusal). IsOrMemory x found) (found_here meaning key d r old offer b found s.spells s.cell f)
+    (subst (λ (x : Result (OpFinding BatchAnswer) Refusal). IsOrMemory x found)
+    (found_here meaning key d r old offer b found s.spells s.cell f)
     f.said.found_is))

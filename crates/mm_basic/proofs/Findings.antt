@@ -1,8 +1,11 @@
 -- What is found, by what the offer is examined to.
 use Rattle.mm_basic.proofs.Below.{◌≡◌, ℕ, Bool, true, false, List, Result, Ok, Err, IsTrue, refl, sym, ap, subst, inl, inr, arith, Meaning}
-use Rattle.mm_basic.proofs.Below.{IsLawful, Batch, normal_batch, Blank, Form, InBasic, Content, Snapshot, IsFit, length-link, Refusal, Verdict}
-use Rattle.mm_basic.proofs.Below.{digest_of, BatchAnswer, is_extension_left, OpFinding, Repeat, Change, BasicSight, NoCell, NoOffer, Both, check_of_offer, summary_in, verdict_of, linked_summary}
-use Rattle.mm_basic.proofs.Below.{answer_of, committed_cell, finding_from, finding_in, IsOrMemory, FindsIn, weighed_only, Basic, Cell, IsCellOf}
+use Rattle.mm_basic.proofs.Below.{IsLawful, Batch, normal_batch, Blank, Form, InBasic, Content, Snapshot, IsFit, length-link, Refusal}
+use Rattle.mm_basic.proofs.Below.{Verdict}
+use Rattle.mm_basic.proofs.Below.{digest_of, BatchAnswer, is_extension_left, OpFinding, Repeat, Change, BasicSight, NoCell, NoOffer, Both}
+use Rattle.mm_basic.proofs.Below.{check_of_offer, summary_in, verdict_of, linked_summary}
+use Rattle.mm_basic.proofs.Below.{answer_of, committed_cell, finding_from, finding_in, IsOrMemory, FindsIn, weighed_only, Basic, Cell}
+use Rattle.mm_basic.proofs.Below.{IsCellOf}
 use Rattle.mm_basic.proofs.Below.{PartsFault, ReadsParts, SpellsCell}
 use Rattle.mm_basic.proofs.Below.{None, Standing, StepGoes, ReadCell, fault_in}
 use Rattle.std.proofs.lemmas.Bool.Decides.{nat_tests}
@@ -39,7 +42,8 @@ accepted_fit : (meaning : Meaning) (key : List ℕ) (offered : Snapshot) (b : Ba
     → check_of_offer meaning key offered b verdict ≡ Ok again → IsLawful meaning → IsFit b (answer_of meaning key offered.content b again)
 accepted_fit meaning key offered b verdict again e lawful =
     let a = weighed_only _ _ _ _ again e in
-    is_fit meaning lawful key offered.content.state offered.content.position (InBasic (digest_of (linked_summary offered.content b))) b again
+    is_fit meaning lawful key offered.content.state offered.content.position (InBasic (digest_of (linked_summary offered.content b))) b
+    again
     (length-link (summary_in offered.content.place) (normal_batch b))
     (subst (λ (t : Bool). IsTrue t) (sym a.spelled) refl)
     (grind (arith, nat_tests, a.fitting))
@@ -75,7 +79,8 @@ extends_none meaning b (Change ready) s = s.2
 abbrev pub Finds : Meaning → Standing → List ℕ → Batch → Result (OpFinding BatchAnswer) Refusal → Type 0
 Finds meaning old offer b found = CellSays old (λ bytes. FindsIn meaning bytes offer b found)
 
-pub record Finding (meaning : Meaning) (old new : Standing) (offer : List ℕ) (b : Batch) (found : Result (OpFinding BatchAnswer) Refusal) : Type 0
+pub record Finding (meaning : Meaning) (old new : Standing) (offer : List ℕ) (b : Batch)
+    (found : Result (OpFinding BatchAnswer) Refusal) : Type 0
   where
     pub goes : StepGoes ReadCell old new (fault_in found)
     pub finds : fault_in found ≡ None → Finds meaning old offer b found
@@ -87,7 +92,8 @@ finding_shaped meaning old new offer b found r = let f = r.finds refl in shaped 
 
 -- an offer that is none to this module
 pub no_offer : (meaning : Meaning) (bytes offer : List ℕ) (b : Batch) (id : ℕ) (cell : Cell) (fault : PartsFault)
-    (found : Result (OpFinding BatchAnswer) Refusal) → id ≡ meaning.id → SpellsCell bytes cell → IsCellOf id cell → ReadsParts offer Basic id (Err fault)
+    (found : Result (OpFinding BatchAnswer) Refusal) → id ≡ meaning.id → SpellsCell bytes cell → IsCellOf id cell
+    → ReadsParts offer Basic id (Err fault)
     → IsOrMemory (finding_in meaning (NoOffer fault) b) found → FindsIn meaning bytes offer b found
 no_offer meaning bytes offer b id cell fault found e spells is reads o = record {
   seen = NoOffer fault;

@@ -1,9 +1,12 @@
 -- A call of Basic is the walk of its steps on a course, by digests and by lists.
 use Rattle.mm_basic.proofs.Below.{◌≡◌, ℕ, Bool, true, false, List, ◌∷◌, length, map, None, Result, refl, sym, ap, subst}
-use Rattle.mm_basic.proofs.Below.{arith, Basic, Standing, ReadCell, Meaning, Batch, normal_batch, Instance, basic_instance, Move, Foreign, Digests, DeviceStep}
-use Rattle.mm_basic.proofs.Below.{Reading, ask_steps, Refusal, AskResult, EndsByFinding, IsCallToEnd, IsCallSoFar, EndsAsCall, state_after_moves, digest_level, fault_in}
+use Rattle.mm_basic.proofs.Below.{arith, Basic, Standing, ReadCell, Meaning, Batch, normal_batch, Instance, basic_instance, Move, Foreign}
+use Rattle.mm_basic.proofs.Below.{Digests, DeviceStep}
+use Rattle.mm_basic.proofs.Below.{Reading, ask_steps, Refusal, AskResult, EndsByFinding, IsCallToEnd, IsCallSoFar, EndsAsCall}
+use Rattle.mm_basic.proofs.Below.{state_after_moves, digest_level, fault_in}
 use Rattle.mm_basic.proofs.Below.{StandsAt, basic_calls_agree, fate_of, ends_fates, reading_tale, Told, GoesTo, course_by, lacks_in}
-use Rattle.mm_basic.proofs.Below.{told_reading, so_far, BatchAnswer, Deed, Extending, Emptying, Placing, Writing, OpFinding, Repeat, Change, acts_for, remaining_acts}
+use Rattle.mm_basic.proofs.Below.{told_reading, so_far, BatchAnswer, Deed, Extending, Emptying, Placing, Writing, OpFinding, Repeat, Change}
+use Rattle.mm_basic.proofs.Below.{acts_for, remaining_acts}
 use Rattle.mm_basic.proofs.Below.{basic_call, BasicAskPromise, IsLawful, is_long, calls_from, result_of}
 use Rattle.std.specs.Prelude.{◌≤◌}
 use Rattle.std.proofs.lemmas.List.{append-nil}
@@ -36,7 +39,8 @@ few_acts (Repeat answer) = omega arith
 few_acts (Change ready) = few_left ready.change
 
 -- what a call that found this came to from digests that the platform stood at
-module _ (meaning : Meaning) (offer : List ℕ) (b : Batch) (old middle new : Standing) (found : Result (OpFinding BatchAnswer) Refusal) (ended : AskResult)
+module _ (meaning : Meaning) (offer : List ℕ) (b : Batch) (old middle new : Standing) (found : Result (OpFinding BatchAnswer) Refusal)
+    (ended : AskResult)
     (r : Finding meaning old middle offer b found) (e : EndsByFinding basic_call found middle new ended) where
   abbrev fates : List StepFate
   fates = fate_of ReadCell old middle (fault_in found) r.goes ∷ ends_fates basic_call found middle new ended e
@@ -49,11 +53,13 @@ module _ (meaning : Meaning) (offer : List ℕ) (b : Batch) (old middle new : St
       let seen : Digests = state_after_moves (digest_level i) d (map Foreign r.goes.others) in
       let x : Digests → Result call.CallFinding Refusal = λ y.
       found_unless_wanting (call.finding_at i (digest_level i) y (normal_batch b) offer) (lacks_in found) in
-      subst (λ (y : Digests). Told i d y c.fates 1 (ask_steps Basic d.flag (is_fresh (x y)) (normal_batch b)) (normal_batch b) (x y) old new ended)
+      subst (λ (y : Digests). Told i d y c.fates 1 (ask_steps Basic d.flag (is_fresh (x y)) (normal_batch b)) (normal_batch b)
+          (x y) old new ended)
       (sym (ap (λ (ms : List Move). state_after_moves (digest_level i) d ms) (append-nil (map Foreign r.goes.others))))
       (subst (λ (st : List DeviceStep). Told i d seen c.fates 1 st (normal_batch b) (x seen) old new ended)
       (sym (asks_writing d.flag (is_fresh (x seen)) (normal_batch b)))
-      (told_reading i d (next_plan old) 1 (writing (is_fresh (x seen)) (normal_batch b)) (normal_batch b) (x seen) ReadCell tt old middle middle new
+      (told_reading i d (next_plan old) 1 (writing (is_fresh (x seen)) (normal_batch b)) (normal_batch b) (x seen) ReadCell tt old
+      middle middle new
       refl basic_call found ended r.goes e
       (λ (quiet : fault_in found ≡ None). seen_here meaning key d r.goes.others old offer b found s (r.finds quiet))))
 
@@ -87,7 +93,8 @@ module _ (meaning : Meaning) (offer : List ℕ) (b : Batch) where
       → CallFinishes (basic_operation meaning offer b) call old new ended → call ≡ Begun → EndsAsCall Basic meaning old new offer b ended
   finished_to call old new ended f e =
       calls_to meaning old new offer b ended
-      (finished_asks old new ended (subst (λ (s : OpStage BatchAnswer). CallFinishes (basic_operation meaning offer b) s old new ended) e f))
+      (finished_asks old new ended (subst (λ (s : OpStage BatchAnswer). CallFinishes (basic_operation meaning offer b) s old new ended) e
+      f))
 
 -- a whole call, by how it ended
 pub asked_by : (meaning : Meaning) → IsLawful meaning → (old new : Standing) (offer : List ℕ) (b : Batch) (ended : AskResult)

@@ -1,6 +1,7 @@
 -- What the machine tells of a call of Basic: its reading step, and where each step leads.
 use Rattle.mm_basic.proofs.Below.{◌≡◌, ◌+◌, ℕ, Bool, true, false, List, Option, None, Some, Result, Ok, Err, refl, sym, ap, subst}
-use Rattle.mm_basic.proofs.Below.{Standing, ReadCell, StepGoes, StepFault, Meaning, Batch, BatchAnswer, Refusal, Deed, Writing, is_extension_left}
+use Rattle.mm_basic.proofs.Below.{Standing, ReadCell, StepGoes, StepFault, Meaning, Batch, BatchAnswer, Refusal, Deed, Writing}
+use Rattle.mm_basic.proofs.Below.{is_extension_left}
 use Rattle.mm_basic.proofs.Below.{OpFinding, Repeat, Change, ReadyChange, Halt, Cell, fault_in, finding_of_machine, basic_operation}
 use Rattle.mm_basic.proofs.Below.{ExtendsNothing}
 use Rattle.mm_model.specs.declared.refusal.Refusal.TheVariants as refusal
@@ -21,7 +22,8 @@ use Rattle.mm_basic.proofs.Findings.{Finding, Finds, extends_none, finding_shape
 
 -- no room is made then, and none is taken
 
-roomless : (e : Bool) (found : OpFinding BatchAnswer) (old new : Standing) (given : Result (OpFinding BatchAnswer) (Halt Refusal)) → e ≡ false
+roomless : (e : Bool) (found : OpFinding BatchAnswer) (old new : Standing) (given : Result (OpFinding BatchAnswer) (Halt Refusal))
+    → e ≡ false
     → RoomIsMadeIf e found old new given → (new ≡ old) × (given ≡ Ok found)
 roomless false found old new given none r = r
 roomless true found old new given none r = absurd (cc)
@@ -31,7 +33,8 @@ abbrev GoesFrom : OpStage BatchAnswer → StepResult BatchAnswer Refusal → Typ
 GoesFrom call (Going on) = ExtendsNothing on × (number_of 2 on ≡ 2) × (call ≡ stage.Begun)
 GoesFrom call (Over end) = Unit {0}
 
-change_goes : (change : Deed) (answer : BatchAnswer) → is_extension_left change ≡ false → GoesFrom stage.Begun (step_to (Some change) answer)
+change_goes : (change : Deed) (answer : BatchAnswer) → is_extension_left change ≡ false
+    → GoesFrom stage.Begun (step_to (Some change) answer)
 change_goes (Writing next) answer none = (refl, refl, refl)
 change_goes _ answer none = absurd (cc)
 
@@ -71,7 +74,8 @@ module _ (meaning : Meaning) (offer : List ℕ) (b : Batch) where
       rw (r.0, r.1) (record { goes = l.0; finds = λ quiet. l.1 })
   told_on old after new (Ok (sight.Cell cell)) given l f = absurd l.1.said
 
-  pub reads_told : (old new : Standing) (found : Result (OpFinding BatchAnswer) Refusal) → CallReads (basic_operation meaning offer b) old new found
+  pub reads_told : (old new : Standing) (found : Result (OpFinding BatchAnswer) Refusal)
+      → CallReads (basic_operation meaning offer b) old new found
       → Finding meaning old new offer b found
   reads_told old new found r =
       let m = r.reads in rw r.gives (told_on old m.middle new m.seen r.given m.looks m.on)
@@ -93,7 +97,8 @@ module _ (meaning : Meaning) (offer : List ℕ) (b : Batch) where
   sight_goes old after new (Ok (sight.Cell cell)) step l s = absurd l.1.said
 
   weigh_goes : (cell : Cell) (old mid new : Standing) (found given : Result (OpFinding BatchAnswer) (Halt Refusal))
-      (step : StepResult BatchAnswer Refusal) → OpWeighs (basic_operation meaning offer b) cell old mid found → RoomIsMadeFor found mid new given
+      (step : StepResult BatchAnswer Refusal) → OpWeighs (basic_operation meaning offer b) cell old mid found
+      → RoomIsMadeFor found mid new given
       → step ≡ step_of_finding given → GoesFrom (stage.Seen cell) step
   weigh_goes cell old mid new (Err why) given step w r e = rw (e, r.1) tt
   weigh_goes cell old mid new (Ok found) given step w r e = let never : Ok found ≡ Err refusal.Cell = w.1.said in absurd (cc)
@@ -122,7 +127,8 @@ module _ (meaning : Meaning) (offer : List ℕ) (b : Batch) where
 
   -- what a turn gives
   pub advanced : (call : OpStage BatchAnswer) (old new : Standing) (step : StepResult BatchAnswer Refusal) (turn : CallTurn)
-      → OpSteps (basic_operation meaning offer b) call old new step → turn ≡ turn_of step → BasicTurnPromise meaning call old new offer b turn
+      → OpSteps (basic_operation meaning offer b) call old new step → turn ≡ turn_of step
+      → BasicTurnPromise meaning call old new offer b turn
   advanced call old new step turn s gives =
       let t : IsCallTurn (basic_operation meaning offer b) call old new turn = record { step = step; steps = s; gives = gives } in
       record { turns = t; faults = told.turn_blamed (basic_operation meaning offer b) quiet call old new turn t }

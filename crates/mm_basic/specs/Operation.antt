@@ -11,7 +11,8 @@ use Rattle.mm_basic.specs.Below.{Batch, Meaning, BatchAnswer, Refusal, fault_of}
 use Rattle.mm_basic.specs.Steps.{FindsIn}
 
 -- All is seen at the cell. A refusal hands no device's fault on.
-abbrev pub SeesAtCell : Meaning → List ℕ → Batch → List ℕ → Result (Sight BatchAnswer) Refusal → Type 0
+abbrev pub SeesAtCell : Meaning → List ℕ → Batch → List ℕ → Result (Sight BatchAnswer) Refusal
+    → Type 0
 SeesAtCell meaning offer b bytes (Ok (sight.Found found)) = FindsIn meaning bytes offer b (Ok found)
 SeesAtCell meaning offer b bytes (Ok (sight.Cell cell)) = ⊥
 SeesAtCell meaning offer b bytes (Err why) =

@@ -24,7 +24,8 @@ pub fn provision<M: Module>(
         made.cell
         ≡ cell_spelling (cell_of (basic_instance (M.meaning «module».now) key.now) first_history)) }
     ensures snapshot { IfOk result (λ made.
-        made.snapshot ≡ issued_bytes (basic_instance (M.meaning «module».now) key.now) first_history) }
+        made.snapshot ≡ issued_bytes (basic_instance (M.meaning «module».now) key.now)
+        first_history) }
 {
     let id = module.id();
     let summary = start(Variant::Basic, id);

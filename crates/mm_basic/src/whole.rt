@@ -55,7 +55,8 @@ pub fn prepare<M: Module, P: Platform>(
         CallReads (basic_operation (M.meaning «module».now) offer.now (One request.now))
         (P.standing platform.old) (P.standing platform.new) result }
     ensures goes { is_long (One request.now) ≡ false →
-        IsCallSoFar basic_call (M.meaning «module».now) (P.standing platform.old) (P.standing platform.new)
+        IsCallSoFar basic_call (M.meaning «module».now) (P.standing platform.old)
+        (P.standing platform.new)
         offer.now (One request.now) result }
     ensures faults { CountsHandedFault (fault_in result)
         (P.standing platform.old).faults (P.standing platform.new).faults }

@@ -1,9 +1,13 @@
 -- Basic: a call is by digests what it is by lists, on every course.
 use Rattle.mm_call.proofs.Below.{ℕ, ◌≡◌, Bool, true, false, List, [], ◌∷◌, ◌++◌, map, Result, Ok, refl, sym, ap, ◌∙◌, subst, if◌then◌else◌}
-use Rattle.mm_call.proofs.Below.{AllByRecursion, Contains, Basic, Meaning, Batch, Content, InBasic, summary_of, Instance, basic_instance, RegisterEntry}
-use Rattle.mm_call.proofs.Below.{History, Move, Foreign, items_of_all, ask_steps, IsClear, AreMessagesIn, values_in, Digests, NamesPosition, digest_of, Refusal}
-use Rattle.mm_call.proofs.Below.{each_append, IsGenuine, list_level, digest_level, state_after_moves, DigestsAgree, CallFinding, finding_at, right_content}
-use Rattle.mm_call.proofs.Below.{finding_unless_wanting, is_fresh, StepFate, Course, StepsWalk, walk, call_outcome, call_outcome_with, IsPlain, IsWithin}
+use Rattle.mm_call.proofs.Below.{AllByRecursion, Contains, Basic, Meaning, Batch, Content, InBasic, summary_of, Instance, basic_instance}
+use Rattle.mm_call.proofs.Below.{RegisterEntry}
+use Rattle.mm_call.proofs.Below.{History, Move, Foreign, items_of_all, ask_steps, IsClear, AreMessagesIn, values_in, Digests, NamesPosition}
+use Rattle.mm_call.proofs.Below.{digest_of, Refusal}
+use Rattle.mm_call.proofs.Below.{each_append, IsGenuine, list_level, digest_level, state_after_moves, DigestsAgree, CallFinding, finding_at}
+use Rattle.mm_call.proofs.Below.{right_content}
+use Rattle.mm_call.proofs.Below.{finding_unless_wanting, is_fresh, StepFate, Course, StepsWalk, walk, call_outcome, call_outcome_with}
+use Rattle.mm_call.proofs.Below.{IsPlain, IsWithin}
 use Rattle.mm_call.proofs.Below.{right_messages, IsSameCall, BasicCallsAgree, IsBasicMove, agrees-made, plain-made, same_batches}
 use Rattle.mm_call.proofs.Below.{more_batches, Commits, nothing, batch, call_commits, foreign_first, GoesAlong, walk_along, batches-made}
 use Rattle.mm_call.proofs.Below.{basic_names, history_after, link_message}
@@ -26,13 +30,15 @@ walk_basic fates flag false b = walk_along AreBasic basic_along fates 1 (ask_ste
 walk_basic fates flag true b = walk_along AreBasic basic_along fates 1 (ask_steps Basic flag true b) ((tt, tt), tt)
 
 -- a plain history has no values that count
-pub plain_outside : (others : List (List ℕ)) (closed : List (List RegisterEntry)) (is_open : Bool) (items : List RegisterEntry) → closed ≡ []
+pub plain_outside : (others : List (List ℕ)) (closed : List (List RegisterEntry)) (is_open : Bool) (items : List RegisterEntry)
+    → closed ≡ []
     → is_open ≡ false → AllByRecursion (Contains others) (values_in (items_of_all closed ++ (if is_open then items else [])))
 plain_outside others closed is_open items none shut =
     rw (none, shut) tt
 
 -- what is found, where memory isn't wanting
-pub unlacked : (found : Result CallFinding Refusal) (lacks : Bool) (f : CallFinding) → finding_unless_wanting found lacks ≡ Ok f → found ≡ Ok f
+pub unlacked : (found : Result CallFinding Refusal) (lacks : Bool) (f : CallFinding) → finding_unless_wanting found lacks ≡ Ok f
+    → found ≡ Ok f
 unlacked (Ok found) false f e = e
 unlacked _ lacks f e = cc
 
@@ -64,7 +70,8 @@ module _ (meaning : Meaning) (key : List ℕ) where
   pub names_made : (moves : List Move) (y : History) (content : Content) → NamesPosition (basic_instance meaning key) y content
       → NamesPosition (basic_instance meaning key) (state_after_moves (list_level (basic_instance meaning key)) y moves) content
   names_made [] y content n = n
-  names_made (m ∷ moves) y content n = names_made moves (history_after (basic_instance meaning key) y m) content (basic_names meaning key y m content n)
+  names_made (m ∷ moves) y content n = names_made moves (history_after (basic_instance meaning key) y m) content
+      (basic_names meaning key y m content n)
 
   -- a call: what it sees and finds
   module _ (all others : List (List ℕ)) (asked : List Batch) (y : History) (d : Digests) (c : Course) (offer : List ℕ) (b : Batch)
@@ -136,7 +143,8 @@ module _ (meaning : Meaning) (key : List ℕ) where
         (call_outcome_with I (list_level I) y sees c b found) (call_outcome_with I (digest_level I) d seen c b x) in
         let C : Result CallFinding Refusal → Type 0 = λ x. Commits b (is_fresh x) walked in
         subst P (sym agree) (record {
-          ending = ending_same all I sees y seen b walked sees (state_after_moves (digest_level I) d walked.moves) walked.broken found refl (record {
+          ending = ending_same all I sees y seen b walked sees (state_after_moves (digest_level I) d walked.moves) walked.broken
+              found refl (record {
             same = same;
             found_at = placed_at;
             place = λ f is whole.

@@ -1,12 +1,17 @@
 -- What a call answers and how it ends, by lists and by digests; and, in Basic, the messages of a history that goes on by the batch.
 use Rattle.mm_call.proofs.Below.{ℕ, ◌≡◌, ◌+◌, ◌-◌, Bool, true, false, List, [], ◌∷◌, ◌++◌, drop, refl, sym, ap, ◌∙◌, subst, arith}
-use Rattle.mm_call.proofs.Below.{if◌then◌else◌, Contains, flat_map-append, append-nil, Basic, start_digest_of, Meaning, state_after, outputs_from}
+use Rattle.mm_call.proofs.Below.{if◌then◌else◌, Contains, flat_map-append, append-nil, Basic, start_digest_of, Meaning, state_after}
+use Rattle.mm_call.proofs.Below.{outputs_from}
 use Rattle.mm_call.proofs.Below.{state_from, Batch, members_of, size_of, state_after-append, outputs_from-append, length-outputs_from}
-use Rattle.mm_call.proofs.Below.{Content, sealed_snapshot_of, Place, InBasic, InOpt, link, link_message, trail, Instance, basic_instance, History}
-use Rattle.mm_call.proofs.Below.{requests_of, total_of, AreMessagesIn, history_messages, offer_messages, IsPlaceOf, issued_place, trail_push}
+use Rattle.mm_call.proofs.Below.{Content, sealed_snapshot_of, Place, InBasic, InOpt, link, link_message, trail, Instance, basic_instance}
+use Rattle.mm_call.proofs.Below.{History}
+use Rattle.mm_call.proofs.Below.{requests_of, total_of, AreMessagesIn, history_messages, offer_messages, IsPlaceOf, issued_place}
+use Rattle.mm_call.proofs.Below.{trail_push}
 use Rattle.mm_call.proofs.Below.{summary-push, total-push, answer_at, answer_on, Option, None, Some, Result, Ok, Err, StepFault, Digests}
-use Rattle.mm_call.proofs.Below.{Refusal, list_level, digest_level, state_after_moves, place_after_batch, CallFinding, is_fresh, StepsWalk, has_commit, Answers, Breaks}
-use Rattle.mm_call.proofs.Below.{call_ending_by, position_if_committed, committed_batches, batches-made, more_batches, Commits, nothing, batch, commits-none}
+use Rattle.mm_call.proofs.Below.{Refusal, list_level, digest_level, state_after_moves, place_after_batch, CallFinding, is_fresh, StepsWalk}
+use Rattle.mm_call.proofs.Below.{has_commit, Answers, Breaks}
+use Rattle.mm_call.proofs.Below.{call_ending_by, position_if_committed, committed_batches, batches-made, more_batches, Commits, nothing}
+use Rattle.mm_call.proofs.Below.{batch, commits-none}
 use Rattle.mm_model.specs.Chains.{summary_of}
 use Rattle.std.proofs.lemmas.List.{drop_at}
 use Rattle.mm_call.proofs.Finding.{Placed}
@@ -68,14 +73,16 @@ listed_push meaning key all y y' b listed called e =
     (listed.0, subst P (sym e) (trail_push link_message (start_digest_of Basic meaning.id) y.batches b all listed.1 called))
 
 pub listed_same : (meaning : Meaning) (key : List ℕ) (all : List (List ℕ)) (y y' : History)
-    → AreMessagesIn (history_messages (basic_instance meaning key) y) all → y'.batches ≡ y.batches → AreMessagesIn (history_messages (basic_instance meaning key) y') all
+    → AreMessagesIn (history_messages (basic_instance meaning key) y) all → y'.batches ≡ y.batches
+    → AreMessagesIn (history_messages (basic_instance meaning key) y') all
 listed_same meaning key all y y' listed e =
     let P : List Batch → Type 0 = λ v. AreMessagesIn (trail link_message (start_digest_of Basic meaning.id) v) all in
     (listed.0, subst P (sym e) listed.1)
 
 -- the message of a batch that is asked at the end of the history
 pub called_message : (meaning : Meaning) (key : List ℕ) (all : List (List ℕ)) (y : History) (b : Batch) (place : Place)
-    (named : List Batch) → AreMessagesIn (offer_messages (basic_instance meaning key) place b) all → IsPlaceOf Basic (basic_instance meaning key) y named place
+    (named : List Batch) → AreMessagesIn (offer_messages (basic_instance meaning key) place b) all
+    → IsPlaceOf Basic (basic_instance meaning key) y named place
     → named ≡ y.batches → Contains all (link_message (summary_of meaning.id y.batches) b)
 called_message meaning key all y b (InBasic s) named called is e =
     let P : List ℕ → Type 0 = λ v. Contains all (link_message v b) in
@@ -94,7 +101,8 @@ pub fresh_found : (found : Result CallFinding Refusal) → is_fresh found ≡ tr
 fresh_found (Ok f) e = (f, refl, fresh_of f.again e)
 fresh_found (Err why) e = cc
 
-pub kept_same : (committed : Bool) (p q : ℕ) → (committed ≡ true → p ≡ q) → position_if_committed committed p ≡ position_if_committed committed q
+pub kept_same : (committed : Bool) (p q : ℕ) → (committed ≡ true → p ≡ q) → position_if_committed committed p
+    ≡ position_if_committed committed q
 kept_same true p q e = ap (λ x. Some x) (e refl)
 kept_same false p q e = refl
 

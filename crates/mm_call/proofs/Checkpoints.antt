@@ -1,10 +1,14 @@
 -- A checkpoint is by digests what it is by lists, on every course.
 use Rattle.mm_call.proofs.Below.{ℕ, ◌≡◌, Bool, true, false, List, [], ◌∷◌, map, refl, sym, ap, ◌∙◌, subst, append-nil, Opt, Meaning, Batch}
-use Rattle.mm_call.proofs.Below.{Instance, basic_instance, opt_instance, History, Foreign, Close, life_of, is_lost, is_empty, Digests, DeviceStep, Reads, Writes}
-use Rattle.mm_call.proofs.Below.{checkpoint_steps, list_level, digest_level, state_after_moves, DigestsAgree, End, Done, Fails, StepFate, Course, StepsWalk}
-use Rattle.mm_call.proofs.Below.{walk_from_step, walk, has_close, IsPlain, IsWithin, agrees-made, plain-made, committed_batches, same_batches}
+use Rattle.mm_call.proofs.Below.{Instance, basic_instance, opt_instance, History, Foreign, Close, life_of, is_lost, is_empty, Digests}
+use Rattle.mm_call.proofs.Below.{DeviceStep, Reads, Writes}
+use Rattle.mm_call.proofs.Below.{checkpoint_steps, list_level, digest_level, state_after_moves, DigestsAgree, End, Done, Fails, StepFate}
+use Rattle.mm_call.proofs.Below.{Course, StepsWalk}
+use Rattle.mm_call.proofs.Below.{walk_from_step, walk, has_close, IsPlain, IsWithin, agrees-made, plain-made, committed_batches}
+use Rattle.mm_call.proofs.Below.{same_batches}
 use Rattle.mm_call.proofs.Below.{committed-foreign, finished_walk}
-use Rattle.mm_call.specs.Checkpoints.{CheckpointEnding, NoSegment, checkpoint_ending, checkpoint_outcome_by, checkpoint_outcome, IsClosedWithin, IsSameCheckpoint}
+use Rattle.mm_call.specs.Checkpoints.{CheckpointEnding, NoSegment, checkpoint_ending, checkpoint_outcome_by, checkpoint_outcome}
+use Rattle.mm_call.specs.Checkpoints.{IsClosedWithin, IsSameCheckpoint}
 use Rattle.mm_call.specs.Checkpoints.{BasicCheckpointsAgree, OptCheckpointsAgree}
 use Rattle.mm_call.proofs.OptHolding.{Holds, holds_open}
 use Rattle.mm_call.specs.CheckpointsWords.{checkpoint_ending_by}
@@ -22,7 +26,8 @@ read_moves values (Fails fault made) = refl
 
 pub basic_checkpoint_same : (meaning : Meaning) (key : List ℕ) (all others : List (List ℕ)) (asked : List Batch) (y : History)
     (d : Digests) (c : Course) → DigestsAgree (basic_instance meaning key) y d → IsWithin all others asked (basic_instance meaning key) y
-    → IsSameCheckpoint all others asked (basic_instance meaning key) (checkpoint_outcome (basic_instance meaning key) (list_level (basic_instance meaning key)) y c)
+    → IsSameCheckpoint all others asked (basic_instance meaning key)
+    (checkpoint_outcome (basic_instance meaning key) (list_level (basic_instance meaning key)) y c)
     (checkpoint_outcome (basic_instance meaning key) (digest_level (basic_instance meaning key)) d c)
 basic_checkpoint_same meaning key all others asked y d c agrees within =
     let i = basic_instance meaning key in
@@ -88,16 +93,19 @@ module _ (meaning : Meaning) (key barrier : List ℕ) (all others : List (List �
     by_flag false e x k a =
         let w : StepsWalk = walk c.fates 1 (Reads ∷ []) in
         let ending : CheckpointEnding = checkpoint_ending_by w.broken (has_close w.moves) NoSegment in
-        same_on meaning key barrier all others asked CheckpointEnding y d w ending ending refl (rw (read_moves (c.fates 1).brings (c.fates 1).ends)
+        same_on meaning key barrier all others asked CheckpointEnding y d w ending ending refl
+        (rw (read_moves (c.fates 1).brings (c.fates 1).ends)
         (foreign_stands meaning key barrier all others asked y d (c.fates 1).brings e agrees a.within))
     by_flag true e x k a =
-        let ends : Bool → StepsWalk → CheckpointEnding = λ z w. checkpoint_ending_by w.broken (has_close w.moves) (checkpoint_ending Opt true z) in
+        let ends : Bool → StepsWalk → CheckpointEnding = λ z w. checkpoint_ending_by w.broken (has_close w.moves)
+            (checkpoint_ending Opt true z) in
         let here = subst (λ s. IsClosedWithin all others asked I y (walk c.fates 1 s).moves) (checks x) a in
         rw (checks lost) (rw (checks other)
         (same_walks meaning key barrier all others asked Bool CheckpointEnding closing_steps ends ends y d c lost other x e
         (holds_open meaning key barrier all others asked y d e agrees a.within) k
         (counts_at meaning key barrier all others asked true y _ e here.messages here.values) (λ hs. (
-          lost_same meaning key barrier all others asked (state_after_moves (list_level I) y (before c)) (state_after_moves (digest_level I) d (before c)) a.clear
+          lost_same meaning key barrier all others asked (state_after_moves (list_level I) y (before c))
+          (state_after_moves (digest_level I) d (before c)) a.clear
               (subst (λ z. Holds all others asked I z (state_after_moves (digest_level I) d (before c))) (sym (sight_is I y c)) hs),
           own_closing lost,
           ready_close c.fates (sight y c) lost e
@@ -110,7 +118,8 @@ module _ (meaning : Meaning) (key barrier : List ℕ) (all others : List (List �
         → IsSameCheckpoint all others asked I (checkpoint_outcome I (list_level I) y c) (checkpoint_outcome I (digest_level I) d c)
     agree_by x k a =
         subst (λ f. IsSameCheckpoint all others asked I (checkpoint_outcome I (list_level I) y c)
-        (checkpoint_outcome_by (digest_level I) d (checkpoint_ending Opt f other) (walk c.fates 1 (checkpoint_steps Opt f other)))) (sym agrees.flag)
+        (checkpoint_outcome_by (digest_level I) d (checkpoint_ending Opt f other) (walk c.fates 1 (checkpoint_steps Opt f other))))
+        (sym agrees.flag)
         (by_flag y.is_open refl x k a)
 
     -- by the moves of the checkpoint by lists, and by those of the checkpoint by digests

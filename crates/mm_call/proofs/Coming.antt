@@ -1,12 +1,16 @@
 -- What a call comes to by lists, and what is asked of its moves: nothing in Basic; and nothing of an idle call of Opt, whose batch
 -- isn't taken for new with no segment open: it neither reads what the register holds nor empties it.
 use Rattle.mm_call.proofs.Below.{◌≡◌, ℕ, Bool, true, false, List, [], ◌∷◌, ◌++◌, map, Option, None, Some, Result, Ok, Err, refl, sym, ap}
-use Rattle.mm_call.proofs.Below.{◌∙◌, subst, if◌then◌else◌, StepFault, Meaning, Batch, Instance, basic_instance, opt_instance, History, Move, Foreign, Reset}
+use Rattle.mm_call.proofs.Below.{◌∙◌, subst, if◌then◌else◌, StepFault, Meaning, Batch, Instance, basic_instance, opt_instance, History}
+use Rattle.mm_call.proofs.Below.{Move, Foreign, Reset}
 use Rattle.mm_call.proofs.Below.{history_after, total_of, digests_of, issued_bytes, ask_steps, BatchAnswer, Refusal, answer_on, list_level}
-use Rattle.mm_call.proofs.Below.{digest_level, state_after_moves, CallFinding, finding_at, finding_unless_wanting, is_fresh, Course, StepsWalk, walk, call_outcome}
-use Rattle.mm_call.proofs.Below.{state_seen, call_ending_by, result_of_ending, moves_from_reset, counted_part, counted_moves, messages_of_moves, IsAsked, AreAsked}
+use Rattle.mm_call.proofs.Below.{digest_level, state_after_moves, CallFinding, finding_at, finding_unless_wanting, is_fresh, Course}
+use Rattle.mm_call.proofs.Below.{StepsWalk, walk, call_outcome}
+use Rattle.mm_call.proofs.Below.{state_seen, call_ending_by, result_of_ending, moves_from_reset, counted_part, counted_moves}
+use Rattle.mm_call.proofs.Below.{messages_of_moves, IsAsked, AreAsked}
 use Rattle.mm_call.proofs.Below.{HistoryGrows, kept, grown, asked_by, same_batches, more_batches, Commits, nothing, batch, call_commits}
-use Rattle.mm_call.proofs.Below.{foreign_first, ◌⊎◌, inl, inr, option_map, Item, Standing, Value, Digests, AreShown, IsIdle, items_after_moves}
+use Rattle.mm_call.proofs.Below.{foreign_first, ◌⊎◌, inl, inr, option_map, Item, Standing, Value, Digests, AreShown, IsIdle}
+use Rattle.mm_call.proofs.Below.{items_after_moves}
 use Rattle.mm_call.proofs.Below.{standing_items, Level, same_rest, MovesAreTied, shows, Opt}
 use Rattle.mm_call.proofs.BasicLaw.{AreBasic, unlacked, walk_basic, names_made}
 use Rattle.mm_call.proofs.Calling.{again_of, fresh_of, fresh_found}
@@ -73,7 +77,8 @@ module _ (i : Instance) (all : List (List ℕ)) (y sees : History) (lacks : Bool
 -- what a call comes to by lists, where what it sees are others' values more
 comes_seen : (i : Instance) (all : List (List ℕ)) (y : History) (c : Course) (offer : List ℕ) (b : Batch)
     → (state_seen i (list_level i) y c).batches ≡ y.batches → Asking all i (state_seen i (list_level i) y c) offer b
-    → HistoryGrows i y offer b (call_outcome i (list_level i) y c offer b).state (result_of_ending (call_outcome i (list_level i) y c offer b).ending)
+    → HistoryGrows i y offer b (call_outcome i (list_level i) y c offer b).state
+    (result_of_ending (call_outcome i (list_level i) y c offer b).ending)
 comes_seen i all y c offer b same asking =
     let sees : History = state_seen i (list_level i) y c in
     let found : Result CallFinding Refusal = finding_unless_wanting (finding_at i (list_level i) sees b offer) c.lacks in
@@ -98,7 +103,8 @@ module _ (meaning : Meaning) (key : List ℕ) where
   pub basic_asked : (all others : List (List ℕ)) (asked : List Batch) (y : History) (c : Course) (offer : List ℕ) (b : Batch)
       → AreAsked all others asked (basic_instance meaning key) y offer b
       → IsAsked all others asked (basic_instance meaning key) y
-      (call_outcome (basic_instance meaning key) (digest_level (basic_instance meaning key)) (digests_of (basic_instance meaning key) y) c offer b).moves offer b
+      (call_outcome (basic_instance meaning key) (digest_level (basic_instance meaning key)) (digests_of (basic_instance meaning key) y) c
+      offer b).moves offer b
   basic_asked all others asked y c offer b a =
       let i : Instance = basic_instance meaning key in
       let moves : List Move = (call_outcome i (digest_level i) (digests_of i y) c offer b).moves in
@@ -109,7 +115,8 @@ module _ (meaning : Meaning) (key : List ℕ) where
 
   pub basic_comes : (all others : List (List ℕ)) (asked : List Batch) (y : History) (c : Course) (offer : List ℕ) (b : Batch)
       → AreAsked all others asked (basic_instance meaning key) y offer b
-      → HistoryGrows (basic_instance meaning key) y offer b (call_outcome (basic_instance meaning key) (list_level (basic_instance meaning key)) y c offer b).state
+      → HistoryGrows (basic_instance meaning key) y offer b
+      (call_outcome (basic_instance meaning key) (list_level (basic_instance meaning key)) y c offer b).state
       (result_of_ending (call_outcome (basic_instance meaning key) (list_level (basic_instance meaning key)) y c offer b).ending)
   basic_comes all others asked y c offer b a =
       let i : Instance = basic_instance meaning key in
@@ -124,8 +131,10 @@ module _ (meaning : Meaning) (key : List ℕ) where
 module _ (meaning : Meaning) (key barrier : List ℕ) where
   pub opt_comes : (all others : List (List ℕ)) (asked : List Batch) (y : History) (c : Course) (offer : List ℕ) (b : Batch)
       → AreAsked all others asked (opt_instance meaning key barrier) y offer b
-      → HistoryGrows (opt_instance meaning key barrier) y offer b (call_outcome (opt_instance meaning key barrier) (list_level (opt_instance meaning key barrier)) y c offer b).state
-      (result_of_ending (call_outcome (opt_instance meaning key barrier) (list_level (opt_instance meaning key barrier)) y c offer b).ending)
+      → HistoryGrows (opt_instance meaning key barrier) y offer b
+      (call_outcome (opt_instance meaning key barrier) (list_level (opt_instance meaning key barrier)) y c offer b).state
+      (result_of_ending (call_outcome (opt_instance meaning key barrier) (list_level (opt_instance meaning key barrier)) y
+      c offer b).ending)
   opt_comes all others asked y c offer b a =
       let i : Instance = opt_instance meaning key barrier in
       let v : List (List ℕ) = (c.fates 1).brings in
@@ -220,7 +229,8 @@ module _ (meaning : Meaning) (key barrier : List ℕ) where
   pub asked_for : (all others : List (List ℕ)) (asked : List Batch) (y : History) (c : Course) (offer : List ℕ) (b : Batch)
       (old new : Standing) (items more : List Item) → AreAsked all others asked I y offer b
       → ((IsIdle I y offer b → ⊥) → AreShown all others I y more) → old.items ≡ Some items
-      → new.items ≡ option_map (items_after_moves I (digests_of I y) (call_outcome I (digest_level I) (digests_of I y) c offer b).moves) old.items
+      → new.items ≡ option_map (items_after_moves I (digests_of I y) (call_outcome I (digest_level I) (digests_of I y) c offer b).moves)
+      old.items
       → new.items ≡ Some (standing_items y.is_open items ++ more)
       → IsAsked all others asked I y (call_outcome I (digest_level I) (digests_of I y) c offer b).moves offer b
   asked_for all others asked y c offer b old new items more a shown_so known goes ends =

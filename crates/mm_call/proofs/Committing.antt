@@ -1,11 +1,17 @@
 -- The device steps that commit what a call found, one after another: their fates, and what is known of all of them.
 use Rattle.mm_call.proofs.Below.{◌≡◌, ℕ, Bool, true, false, List, [], ◌∷◌, ◌++◌, map, Option, None, Some, Err, refl, sym, ap, ◌∙◌, IsSome}
-use Rattle.mm_call.proofs.Below.{option_map, next_count, StepFault, Plan, Standing, plan_after, Act, StepGoes, is_on_at, is_on_by_plan, Move, Foreign}
-use Rattle.mm_call.proofs.Below.{Refusal, Device, fault_of, has_commit, result_of, end_by_fault, end_of_refusal, StaysOn, IsAt, ◌+◌, suc, length}
-use Rattle.mm_call.proofs.Below.{Result, Ok, subst, arith, ◌==◌, if◌then◌else◌, Instance, Commit, Digests, DeviceStep, Reads, Changes, Writes}
-use Rattle.mm_call.proofs.Below.{BatchAnswer, AskResult, Answered, Refused, Broken, CallKind, committed_position, goes_on, breaks_off, AreStepsToEnd}
-use Rattle.mm_call.proofs.Below.{EndsByFinding, position_if_committed, End, Done, Fails, StepFate, StepsWalk, walk, walk_from_step, step_moves, fate_by_plan, kept_position, is_broken}
-use Rattle.mm_call.proofs.Below.{CountsHandedFault, blamed, blamed_later, state_after_moves, digest_level, fault_in, fates_before_plan, AreMet, met_at, then_at, room_at}
+use Rattle.mm_call.proofs.Below.{option_map, next_count, StepFault, Plan, Standing, plan_after, Act, StepGoes, is_on_at, is_on_by_plan}
+use Rattle.mm_call.proofs.Below.{Move, Foreign}
+use Rattle.mm_call.proofs.Below.{Refusal, Device, fault_of, has_commit, result_of, end_by_fault, end_of_refusal, StaysOn, IsAt, ◌+◌, suc}
+use Rattle.mm_call.proofs.Below.{length}
+use Rattle.mm_call.proofs.Below.{Result, Ok, subst, arith, ◌==◌, if◌then◌else◌, Instance, Commit, Digests, DeviceStep, Reads, Changes}
+use Rattle.mm_call.proofs.Below.{Writes}
+use Rattle.mm_call.proofs.Below.{BatchAnswer, AskResult, Answered, Refused, Broken, CallKind, committed_position, goes_on, breaks_off}
+use Rattle.mm_call.proofs.Below.{AreStepsToEnd}
+use Rattle.mm_call.proofs.Below.{EndsByFinding, position_if_committed, End, Done, Fails, StepFate, StepsWalk, walk, walk_from_step}
+use Rattle.mm_call.proofs.Below.{step_moves, fate_by_plan, kept_position, is_broken}
+use Rattle.mm_call.proofs.Below.{CountsHandedFault, blamed, blamed_later, state_after_moves, digest_level, fault_in, fates_before_plan}
+use Rattle.mm_call.proofs.Below.{AreMet, met_at, then_at, room_at}
 use Rattle.mm_call.proofs.Below.{stepped, trail_on, trail_fails, MakesStep, StepIsMade, RestFollows, IsTrail}
 use Rattle.mm_platform.specs.declared.plan.Stop.{Stop}
 use Rattle.mm_platform.specs.declared.plan.Stop.TheVariants.{Cut}
@@ -54,7 +60,8 @@ stays_failed act old after new fault plan at p g room =
 abbrev pub fate_of : (act : Act) (old new : Standing) (fault : Option StepFault) → StepGoes act old new fault → StepFate
 fate_of act old new fault g = record { brings = g.others; ends = end_of fault g.is_made }
 
-abbrev pub steps_fates : (acts : List Act) (answer : BatchAnswer) (old new : Standing) (ended : AskResult) → AreStepsToEnd acts answer old new ended
+abbrev pub steps_fates : (acts : List Act) (answer : BatchAnswer) (old new : Standing) (ended : AskResult)
+    → AreStepsToEnd acts answer old new ended
     → List StepFate
 steps_fates [] answer old new ended s = []
 steps_fates (act ∷ acts) answer old new ended (goes_on middle g s) =
@@ -126,7 +133,8 @@ steps_tale (act ∷ acts) answer old new ended at few (breaks_off fault g e) =
 -- the last reading step, and the steps that commit what was found
 module _ (act : Act) (old after middle new : Standing) (at : ℕ) (few : at ≤ 50) (room : middle ≡ record after { spare = middle.spare })
   where
-    refused_tale : (fault : Option StepFault) (why : Refusal) (ended : AskResult) → fault_of why ≡ fault → (g : StepGoes act old after fault)
+    refused_tale : (fault : Option StepFault) (why : Refusal) (ended : AskResult) → fault_of why ≡ fault
+        → (g : StepGoes act old after fault)
         → (new ≡ middle) × (ended ≡ end_by_fault fault why) → Tale (fate_of act old after fault g ∷ []) at old new ended
     refused_tale None why ended quiet g e =
         tale_on act old after middle new [] at ended (omega (arith, few)) g room
@@ -134,7 +142,8 @@ module _ (act : Act) (old after middle new : Standing) (at : ℕ) (few : at ≤ 
     refused_tale (Some fault) why ended loud g e =
         rw (e.0, e.1) (tale_fails act old after middle fault None at (omega (arith, few)) g room)
 
-    pub reading_tale : {F : Type 0} → (c : CallKind F) (found : Result F Refusal) (ended : AskResult) → (g : StepGoes act old after (fault_in found))
+    pub reading_tale : {F : Type 0} → (c : CallKind F) (found : Result F Refusal) (ended : AskResult)
+        → (g : StepGoes act old after (fault_in found))
         → ((it : F) → length (c.acts it) ≤ 49) → (e : EndsByFinding c found middle new ended)
         → Tale (fate_of act old after (fault_in found) g ∷ ends_fates c found middle new ended e) at old new ended
     reading_tale c (Err why) ended g short e = refused_tale (fault_of why) why ended refl g e
@@ -147,7 +156,8 @@ module _ (act : Act) (old after middle new : Standing) (at : ℕ) (few : at ≤ 
 abbrev pub BlamesFor : Standing → Standing → AskResult → Type 0
 BlamesFor old new ended = CountsHandedFault (fault_in (result_of ended)) old.faults new.faults
 
-pub steps_blamed : (acts : List Act) (answer : BatchAnswer) (old new : Standing) (ended : AskResult) → AreStepsToEnd acts answer old new ended
+pub steps_blamed : (acts : List Act) (answer : BatchAnswer) (old new : Standing) (ended : AskResult)
+    → AreStepsToEnd acts answer old new ended
     → BlamesFor old new ended
 steps_blamed [] answer old new ended s = rw s.1 (ap (λ (x : Standing). x.faults) s.0)
 steps_blamed (act ∷ acts) answer old new ended (goes_on middle g s) =
@@ -229,7 +239,8 @@ module _ (fates other : ℕ → StepFate) where
         t.1,
         subst (λ (f : StepFate). StepIsMade i d f step old t.0 t.1) e t.2,
         rest_mapped ((new ≡ t.0) × (fault ≡ t.1)) t.1 (λ r. subst
-            (λ (f : StepFate). IsTrail i (state_after_moves (digest_level i) d (step_moves step true f.brings)) other (n + 1) steps t.0 new fault) e
+            (λ (f : StepFate). IsTrail i (state_after_moves (digest_level i) d (step_moves step true f.brings)) other (n + 1)
+            steps t.0 new fault) e
             (trail_alike i (state_after_moves (digest_level i) d (step_moves step true (fates n).brings)) (n + 1) steps t.0 new fault
             (later_alike n h) r)) t.3,
       )
@@ -244,7 +255,8 @@ other_number m n l = grind (arith, nat_tests)
 met_first : (f : StepFate) (rest : List StepFate) (n : ℕ) (plan : Plan) → fates_before_plan (f ∷ rest) n plan n ≡ f
 met_first f rest n plan = ap (λ (t : Bool). if t then f else fates_before_plan rest (n + 1) plan n) (same_number n)
 
-met_later : (f : StepFate) (rest : List StepFate) (n : ℕ) (plan : Plan) → Alike (fates_before_plan rest (n + 1) plan) (fates_before_plan (f ∷ rest) n plan) (n + 1)
+met_later : (f : StepFate) (rest : List StepFate) (n : ℕ) (plan : Plan) → Alike (fates_before_plan rest (n + 1) plan)
+    (fates_before_plan (f ∷ rest) n plan) (n + 1)
 met_later f rest n plan = λ (m : ℕ) (l : n + 1 ≤ m).
     sym (ap (λ (t : Bool). if t then f else fates_before_plan rest (n + 1) plan m) (other_number m n l))
 
@@ -263,13 +275,15 @@ Keeps fates n walked position (Refused why) = fault_of why ≡ None
 Keeps fates n walked position (Broken fault commits_to) = BreaksOff fates n walked fault position commits_to
 
 -- Device steps made these steps of a walk, from the one of this number on.
-pub record Walks (i : Instance) (d : Digests) (fates : ℕ → StepFate) (n : ℕ) (steps : List DeviceStep) (old new : Standing) (ended : AskResult)
+pub record Walks (i : Instance) (d : Digests) (fates : ℕ → StepFate) (n : ℕ) (steps : List DeviceStep) (old new : Standing)
+    (ended : AskResult)
     (position : ℕ) : Type 0 where
   pub trail : IsTrail i d fates n steps old new (fault_in (result_of ended))
   pub keeps : Keeps fates n (walk fates n steps) position ended
 
 -- a step that is done before the others
-keeps_on : (ended : AskResult) (fates other : ℕ → StepFate) (n : ℕ) (step : DeviceStep) (steps : List DeviceStep) (position : ℕ) → Alike other fates (n + 1)
+keeps_on : (ended : AskResult) (fates other : ℕ → StepFate) (n : ℕ) (step : DeviceStep) (steps : List DeviceStep) (position : ℕ)
+    → Alike other fates (n + 1)
     → (fates n).ends ≡ Done → (is_broken ended ≡ true → is_committing step ≡ false)
     → Keeps other (n + 1) (walk other (n + 1) steps) position ended → Keeps fates n (walk fates n (step ∷ steps)) position ended
 keeps_on (Answered answer) fates other n step steps position alike done plain k = tt
@@ -287,10 +301,12 @@ keeps_on (Broken fault commits_to) fates other n step steps position alike done 
           ∙ ap fates (let e : n + 1 + k.before ≡ n + suc k.before = omega arith in e)));
     }))
 
-pub walks_on : (i : Instance) (d : Digests) (f : StepFate) (rest : List StepFate) (plan : Plan) (n : ℕ) (step : DeviceStep) (steps : List DeviceStep)
+pub walks_on : (i : Instance) (d : Digests) (f : StepFate) (rest : List StepFate) (plan : Plan) (n : ℕ) (step : DeviceStep)
+    (steps : List DeviceStep)
     (old middle new : Standing) (ended : AskResult) (position : ℕ) → StepIsMade i d f step old middle None
     → (is_broken ended ≡ true → is_committing step ≡ false)
-    → Walks i (state_after_moves (digest_level i) d (step_moves step true f.brings)) (fates_before_plan rest (n + 1) plan) (n + 1) steps middle new ended position
+    → Walks i (state_after_moves (digest_level i) d (step_moves step true f.brings)) (fates_before_plan rest (n + 1) plan) (n + 1) steps
+    middle new ended position
     → Walks i d (fates_before_plan (f ∷ rest) n plan) n (step ∷ steps) old new ended position
 walks_on i d f rest plan n step steps old middle new ended position s plain w =
     let fates : ℕ → StepFate = fates_before_plan (f ∷ rest) n plan in
@@ -299,9 +315,11 @@ walks_on i d f rest plan n step steps old middle new ended position s plain w =
     record {
       trail = trail_on i d fates n step steps old middle new fault
           (subst (λ (x : StepFate). StepIsMade i d x step old middle None) first s)
-          (subst (λ (x : StepFate). IsTrail i (state_after_moves (digest_level i) d (step_moves step true x.brings)) fates (n + 1) steps middle new fault)
+          (subst (λ (x : StepFate). IsTrail i (state_after_moves (digest_level i) d (step_moves step true x.brings)) fates (n + 1) steps
+          middle new fault)
           first
-          (trail_alike (fates_before_plan rest (n + 1) plan) fates i (state_after_moves (digest_level i) d (step_moves step true f.brings)) (n + 1) steps middle new
+          (trail_alike (fates_before_plan rest (n + 1) plan) fates i (state_after_moves (digest_level i) d (step_moves step true f.brings))
+          (n + 1) steps middle new
           fault (met_later f rest n plan) w.trail));
       keeps = keeps_on ended fates (fates_before_plan rest (n + 1) plan) n step steps position (met_later f rest n plan)
           (ap (λ (x : StepFate). x.ends) (sym first) ∙ s.ends) plain w.keeps;
@@ -309,20 +327,24 @@ walks_on i d f rest plan n step steps old middle new ended position s plain w =
 
 -- a step that fails
 kept_if : (committing is_made : Bool) (fault : StepFault) (position : ℕ)
-    → position_if_committed (if is_made then committing else false) position ≡ kept_position (Fails fault is_made) (if committing then Some position else None)
+    → position_if_committed (if is_made then committing else false) position ≡ kept_position (Fails fault is_made)
+    (if committing then Some position else None)
 kept_if committing true fault position = refl
 kept_if committing false fault position = refl
 
-pub walks_fail : (i : Instance) (d : Digests) (f : StepFate) (plan : Plan) (n : ℕ) (step : DeviceStep) (steps : List DeviceStep) (old new : Standing)
+pub walks_fail : (i : Instance) (d : Digests) (f : StepFate) (plan : Plan) (n : ℕ) (step : DeviceStep) (steps : List DeviceStep)
+    (old new : Standing)
     (fault : StepFault) (position : ℕ) → StepIsMade i d f step old new (Some fault)
-    → Walks i d (fates_before_plan (f ∷ []) n plan) n (step ∷ steps) old new (Broken fault (if is_committing step then Some position else None)) position
+    → Walks i d (fates_before_plan (f ∷ []) n plan) n (step ∷ steps) old new
+    (Broken fault (if is_committing step then Some position else None)) position
 walks_fail i d f plan n step steps old new fault position s =
     let fates : ℕ → StepFate = fates_before_plan (f ∷ []) n plan in
     let first : f ≡ fates n = sym (met_first f [] n plan) in
     let ends : (fates n).ends ≡ Fails fault s.goes.is_made = ap (λ (x : StepFate). x.ends) (sym first) ∙ s.ends in
     let commits_to : Option ℕ = if is_committing step then Some position else None in
     record {
-      trail = trail_fails i d fates n step steps old new fault (subst (λ (x : StepFate). StepIsMade i d x step old new (Some fault)) first s);
+      trail = trail_fails i d fates n step steps old new fault
+          (subst (λ (x : StepFate). StepIsMade i d x step old new (Some fault)) first s);
       keeps = subst
           (λ (e : End). BreaksOff fates n (walk_from_step step (fates n).brings e (walk fates (n + 1) steps)) fault position commits_to)
           (sym ends) (record {

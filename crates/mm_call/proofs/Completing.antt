@@ -1,11 +1,17 @@
 -- A call that ended so over a platform is the call on a course, by digests and by lists.
 use Rattle.mm_call.proofs.Below.{◌≡◌, ℕ, ◌+◌, suc, Bool, true, false, List, [], ◌∷◌, map, Option, None, Some, Result, Ok, Err, IfOk, refl}
-use Rattle.mm_call.proofs.Below.{sym, ap, ◌∙◌, subst, arith, Variant, StepFault, Plan, Standing, Act, StepGoes, Meaning, Batch, normal_batch, Content}
-use Rattle.mm_call.proofs.Below.{Instance, Move, Foreign, Digests, DeviceStep, Reads, ask_steps, BatchAnswer, Refusal, Long, Memory, AskResult}
-use Rattle.mm_call.proofs.Below.{Answered, Refused, Broken, Breaks, call_outcome, call_ending_by, result_of_ending, position_of, position_if_committed, CallKind, AreStepsToEnd}
-use Rattle.mm_call.proofs.Below.{EndsByFinding, IsCallToEnd, IsWholeCall, IsCallSoFar, CallGoesBy, IsCallOnCourse, Course, StepFate, StepsWalk, walk, has_commit, result_of}
-use Rattle.mm_call.proofs.Below.{end_by_fault, end_of_refusal, kept_position, KeepsPosition, EndsAsCall, CallFinding, is_fresh, CallsAgree, IsUntouched}
-use Rattle.mm_call.proofs.Below.{LeavesUntouched, CountsHandedFault, fault_handed, state_after_moves, digest_level, fault_of, fault_in, instance_by, StandsAt}
+use Rattle.mm_call.proofs.Below.{sym, ap, ◌∙◌, subst, arith, Variant, StepFault, Plan, Standing, Act, StepGoes, Meaning, Batch}
+use Rattle.mm_call.proofs.Below.{normal_batch, Content}
+use Rattle.mm_call.proofs.Below.{Instance, Move, Foreign, Digests, DeviceStep, Reads, ask_steps, BatchAnswer, Refusal, Long, Memory}
+use Rattle.mm_call.proofs.Below.{AskResult}
+use Rattle.mm_call.proofs.Below.{Answered, Refused, Broken, Breaks, call_outcome, call_ending_by, result_of_ending, position_of}
+use Rattle.mm_call.proofs.Below.{position_if_committed, CallKind, AreStepsToEnd}
+use Rattle.mm_call.proofs.Below.{EndsByFinding, IsCallToEnd, IsWholeCall, IsCallSoFar, CallGoesBy, IsCallOnCourse, Course, StepFate}
+use Rattle.mm_call.proofs.Below.{StepsWalk, walk, has_commit, result_of}
+use Rattle.mm_call.proofs.Below.{end_by_fault, end_of_refusal, kept_position, KeepsPosition, EndsAsCall, CallFinding, is_fresh, CallsAgree}
+use Rattle.mm_call.proofs.Below.{IsUntouched}
+use Rattle.mm_call.proofs.Below.{LeavesUntouched, CountsHandedFault, fault_handed, state_after_moves, digest_level, fault_of, fault_in}
+use Rattle.mm_call.proofs.Below.{instance_by, StandsAt}
 use Rattle.mm_call.proofs.Below.{fates_before_plan, told_by, begins_at, MakesStep}
 use Rattle.std.specs.Result.{result_err}
 use Rattle.mm_platform.specs.PlannedSteps.{next_plan}
@@ -18,14 +24,16 @@ use Rattle.mm_call.proofs.Going.{continues_by, sees, finds, went}
 -- What a call comes to by digests
 
 -- an accepted offer, and the answer to it
-pub record Accepts (i : Instance) (seen : Digests) (b : Batch) (x : Result CallFinding Refusal) (again : Bool) (answer : BatchAnswer) : Type 0
+pub record Accepts (i : Instance) (seen : Digests) (b : Batch) (x : Result CallFinding Refusal) (again : Bool)
+    (answer : BatchAnswer) : Type 0
   where
     pub offered : Content
     pub found_is : x ≡ Ok (record { offered = offered; again = again })
     pub answer_is : answer ≡ (digest_level i).answer again seen seen offered b
 
 -- What a call came to from these digests, from the step of this number on, by what it finds: its walk, and what it gives.
-pub record Told (i : Instance) (d seen : Digests) (fates : ℕ → StepFate) (n : ℕ) (steps : List DeviceStep) (b : Batch) (x : Result CallFinding Refusal)
+pub record Told (i : Instance) (d seen : Digests) (fates : ℕ → StepFate) (n : ℕ) (steps : List DeviceStep) (b : Batch)
+    (x : Result CallFinding Refusal)
     (old new : Standing) (ended : AskResult) : Type 0 where
   pub position : ℕ
   pub position_is : (s : Digests) → position_of (digest_level i) seen s b x ≡ position
@@ -43,7 +51,8 @@ module _ (i : Instance) (d seen : Digests) (plan : Plan) (n : ℕ) (steps : List
     (act : Act) (makes : MakesStep i d act Reads) (old after middle new : Standing) (room : middle ≡ record after { spare = middle.spare })
   where
     pub told_on : (rest : List StepFate) (ended : AskResult) → (g : StepGoes act old after None)
-        → Told i (state_after_moves (digest_level i) d (map Foreign g.others)) seen (fates_before_plan rest (n + 1) plan) (n + 1) steps b x middle new ended
+        → Told i (state_after_moves (digest_level i) d (map Foreign g.others)) seen (fates_before_plan rest (n + 1) plan) (n + 1) steps b
+        x middle new ended
         → Told i d seen (fates_before_plan (fate_of act old after None g ∷ rest) n plan) n (Reads ∷ steps) b x old new ended
     told_on rest ended g t = record {
       position = t.position;
@@ -54,7 +63,8 @@ module _ (i : Instance) (d seen : Digests) (plan : Plan) (n : ℕ) (steps : List
     }
 
     pub told_fails : (fault : StepFault) → (g : StepGoes act old after (Some fault)) → new ≡ middle
-        → Told i d seen (fates_before_plan (fate_of act old after (Some fault) g ∷ []) n plan) n (Reads ∷ steps) b x old new (Broken fault None)
+        → Told i d seen (fates_before_plan (fate_of act old after (Some fault) g ∷ []) n plan) n (Reads ∷ steps) b x old new
+        (Broken fault None)
     told_fails fault g e = rw e (record {
       position = position_of (digest_level i) seen d b x;
       position_is = λ (s : Digests). same_position i d seen s b x;
@@ -84,7 +94,8 @@ gives_as (Refused why) i seen s b it moves answer g e = absurd g
 gives_as (Broken fault position) i seen s b it moves answer g e = refl
 
 told_found : (acts : List Act) (answer : BatchAnswer) (old new : Standing) (ended : AskResult) (i : Instance) (d seen : Digests)
-    (steps : List DeviceStep) (b : Batch) (x : Result CallFinding Refusal) (again : Bool) (plan : Plan) (n : ℕ) → Accepts i seen b x again answer
+    (steps : List DeviceStep) (b : Batch) (x : Result CallFinding Refusal) (again : Bool) (plan : Plan) (n : ℕ)
+    → Accepts i seen b x again answer
     → MakesAll i d acts steps → (s : AreStepsToEnd acts answer old new ended)
     → Told i d seen (fates_before_plan (steps_fates acts answer old new ended s) n plan) n steps b x old new ended
 told_found acts answer old new ended i d seen steps b x again plan n a makes s =
@@ -96,12 +107,14 @@ told_found acts answer old new ended i d seen steps b x again plan n a makes s =
       walks = steps_walk acts answer old new ended i d steps plan n makes s;
       gives = λ (t : Digests) (moves : List Move).
           gives_as ended i seen t b it moves answer (steps_give acts answer old new ended s) a.answer_is
-          ∙ ap (λ (y : Result CallFinding Refusal). result_of_ending (call_ending_by (digest_level i) seen t b y moves (fault_in (result_of ended))))
+          ∙ ap (λ (y : Result CallFinding Refusal). result_of_ending
+          (call_ending_by (digest_level i) seen t b y moves (fault_in (result_of ended))))
           (sym a.found_is);
     }
 
 -- What was found is what the call finds by digests, and its device steps make these steps of the walk.
-abbrev pub AsFound : {F : Type 0} → CallKind F → Instance → Digests → Batch → Result CallFinding Refusal → Result F Refusal → List DeviceStep → Type 0
+abbrev pub AsFound : {F : Type 0} → CallKind F → Instance → Digests → Batch → Result CallFinding Refusal → Result F Refusal
+    → List DeviceStep → Type 0
 AsFound c i seen b x (Err why) steps = (x ≡ Err why) × (steps ≡ [])
 AsFound c i seen b x (Ok found) steps =
     (again : Bool) × Accepts i seen b x again (c.answer found) × MakesAll i seen (c.acts found) steps
@@ -124,11 +137,13 @@ module _ (i : Instance) (d : Digests) (plan : Plan) (n : ℕ) (steps : List Devi
         (told_on i d seen plan n [] b (Err why) act makes old after middle middle room [] (Refused why) g
         (told_refused i (seen_by g.others) seen (fates_before_plan [] (n + 1) plan) (n + 1) b why middle quiet))
 
-    pub told_reading : {F : Type 0} → (c : CallKind F) (found : Result F Refusal) (ended : AskResult) → (g : StepGoes act old after (fault_in found))
+    pub told_reading : {F : Type 0} → (c : CallKind F) (found : Result F Refusal) (ended : AskResult)
+        → (g : StepGoes act old after (fault_in found))
         → (e : EndsByFinding c found middle new ended)
         → (fault_in found ≡ None → AsFound c i (state_after_moves (digest_level i) d (map Foreign g.others)) b x found steps)
         → Told i d (state_after_moves (digest_level i) d (map Foreign g.others))
-        (fates_before_plan (fate_of act old after (fault_in found) g ∷ ends_fates c found middle new ended e) n plan) n (Reads ∷ steps) b x old new ended
+        (fates_before_plan (fate_of act old after (fault_in found) g ∷ ends_fates c found middle new ended e) n plan) n (Reads ∷ steps)
+        b x old new ended
     told_reading c (Err why) ended g e so = refused_reading (seen_by g.others) (fault_of why) why ended refl g e so
     told_reading c (Ok found) ended g e so =
         let a = so refl in
@@ -195,7 +210,8 @@ calls_to variant meaning old new offer b ended fates lacks agree tale to =
         continues = λ key barrier y all others asked. continues_by (instance_by variant meaning key barrier) (agree key barrier) old new c
             offer (normal_batch b) (result_of ended) (goes key barrier) all others asked y;
       };
-      keeps = λ key barrier d s. keeps_by ended (instance_by variant meaning key barrier) d c offer (normal_batch b) old new (to key barrier d s);
+      keeps = λ key barrier d s. keeps_by ended (instance_by variant meaning key barrier) d c offer (normal_batch b) old new
+          (to key barrier d s);
       plans = λ plan is_on known at. tale.stays plan (begins_at old plan is_on known at);
     }
 
@@ -203,7 +219,8 @@ calls_to variant meaning old new offer b ended fates lacks agree tale to =
 
 module _ {F : Type 0} (c : CallKind F) (meaning : Meaning) (old new : Standing) (offer : List ℕ) (b : Batch) where
   -- a call that isn't too long
-  pub calls_from : (ended : AskResult) (result : Result BatchAnswer Refusal) → is_long b ≡ false → IsCallToEnd c meaning old new offer b ended
+  pub calls_from : (ended : AskResult) (result : Result BatchAnswer Refusal) → is_long b ≡ false
+      → IsCallToEnd c meaning old new offer b ended
       → result ≡ result_of ended → IsWholeCall c meaning old new offer b result
   calls_from ended result short a e = record {
     long = λ (long : is_long b ≡ true). absurd (cc);
@@ -212,7 +229,8 @@ module _ {F : Type 0} (c : CallKind F) (meaning : Meaning) (old new : Standing) 
 
   -- what holds of a call that is too long, and of one that isn't
   pub each_call : (P : Standing → Result BatchAnswer Refusal → Type 0) (result : Result BatchAnswer Refusal) → P old (Err Long)
-      → ((ended : AskResult) → IsCallToEnd c meaning old new offer b ended → P new (result_of ended)) → IsWholeCall c meaning old new offer b result
+      → ((ended : AskResult) → IsCallToEnd c meaning old new offer b ended → P new (result_of ended))
+      → IsWholeCall c meaning old new offer b result
       → P new result
   each_call P result long asked calls = by_length (is_long b) refl
     where

@@ -2,11 +2,15 @@
 -- history.
 use Rattle.mm_call.proofs.Below.{ℕ, ◌≡◌, ◌+◌, Bool, true, false, ◌&&◌, List, [], ◌∷◌, ◌++◌, Option, Result, Ok, Err, refl, sym, ap, ◌∙◌}
 use Rattle.mm_call.proofs.Below.{subst, arith, if◌then◌else◌, nat_eq, nat_le, bytes_eq, last_position, zero_bytes, Meaning, state_after}
-use Rattle.mm_call.proofs.Below.{Batch, size_of, parts_of, Content, Snapshot, tag_of, Instance, basic_instance, History, RegisterEntry, requests_of}
-use Rattle.mm_call.proofs.Below.{total_of, items_of_all, Life, Live, life_of, is_lost, is_last, verdict_by_tests, verdict_on, IsPlaceOf, NamesPosition, AreMessagesIn, IsClear}
+use Rattle.mm_call.proofs.Below.{Batch, size_of, parts_of, Content, Snapshot, tag_of, Instance, basic_instance, History, RegisterEntry}
+use Rattle.mm_call.proofs.Below.{requests_of}
+use Rattle.mm_call.proofs.Below.{total_of, items_of_all, Life, Live, life_of, is_lost, is_last, verdict_by_tests, verdict_on, IsPlaceOf}
+use Rattle.mm_call.proofs.Below.{NamesPosition, AreMessagesIn, IsClear}
 use Rattle.mm_call.proofs.Below.{AreNoGuards, history_messages, offer_messages, values_in, Digests, IsGenuine, IsRight, Refusal, at_the_end}
-use Rattle.mm_call.proofs.Below.{before_the_last, right_content, CallFinding, finding_by_verdict, finding_at, finding_with, list_level, digest_level}
-use Rattle.mm_call.proofs.Below.{DigestsAgree, IsPlain, right_messages, Contains, AllByRecursion, Opt, opt_instance, life_by, is_empty, are_own, has_value}
+use Rattle.mm_call.proofs.Below.{before_the_last, right_content, CallFinding, finding_by_verdict, finding_at, finding_with, list_level}
+use Rattle.mm_call.proofs.Below.{digest_level}
+use Rattle.mm_call.proofs.Below.{DigestsAgree, IsPlain, right_messages, Contains, AllByRecursion, Opt, opt_instance, life_by, is_empty}
+use Rattle.mm_call.proofs.Below.{are_own, has_value}
 use Rattle.mm_call.proofs.Below.{counted_entries, opt_is_judged, lost_is_zero, Place, IsClearFor, live_parts, LiveParts}
 use Rattle.mm_seal.specs.declared.snapshot.PartsFault.{PartsFault}
 use Rattle.mm_seal.specs.declared.snapshot.PartsFault.TheVariants.{Form, Kind}
@@ -35,7 +39,8 @@ admitted_tells true repeat true again e = (λ _. refl, λ a. cc)
 admitted_tells false true true again e = (λ a. cc, λ _. refl)
 admitted_tells _ _ fits again e = cc
 
-admitted_lives : (life : Life) (here repeat fits again : Bool) → check_of_verdict (verdict_by_tests life here repeat) fits ≡ Ok again → life ≡ Live
+admitted_lives : (life : Life) (here repeat fits again : Bool) → check_of_verdict (verdict_by_tests life here repeat) fits ≡ Ok again
+    → life ≡ Live
 admitted_lives Live here repeat fits again e = refl
 admitted_lives _ here repeat fits again e = cc
 
@@ -44,7 +49,8 @@ pub weighed_tells : (spelled tagged : Bool) (v : Verdict) (fits again : Bool) �
 weighed_tells true true v fits again e = (refl, refl, e)
 weighed_tells _ _ v fits again e = cc
 
-pub found_with_tells : (offered : Content) (examination : Result Bool Refusal) (found : CallFinding) → finding_with offered examination ≡ Ok found
+pub found_with_tells : (offered : Content) (examination : Result Bool Refusal) (found : CallFinding) → finding_with offered examination
+    ≡ Ok found
     → (found.offered ≡ offered) × (examination ≡ Ok found.again)
 found_with_tells offered (Ok again) found e =
     let same : record { offered = offered; again = again } ≡ found = cc in
@@ -80,7 +86,8 @@ module _ (i : Instance) (y : History) (bytes : List ℕ) (b : Batch) where
       let repeat = nat_eq (content.position + size_of b) (total_of y.batches) && is_last y.batches b in
       let fits = nat_le (content.position + size_of b) last_position in
       let live = admitted_lives (life_of i.variant y) here repeat fits found.again w.2 in
-      let a = admitted_tells here repeat fits found.again (ap (λ l. check_of_verdict (verdict_by_tests l here repeat) fits) (sym live) ∙ w.2) in
+      let a = admitted_tells here repeat fits found.again (ap (λ l. check_of_verdict (verdict_by_tests l here repeat) fits) (sym live)
+          ∙ w.2) in
       record {
         live = live;
         read = (snapshot, e, t.0);
@@ -150,7 +157,8 @@ module _ (all : List (List ℕ)) (i : Instance) (y : History) (bytes : List ℕ)
       → (digest_level i).verdict d offered b ≡ (list_level i).verdict y offered b
 
   found_from_same : (d : Digests) (parts : Result Snapshot PartsFault) → parts_of i.variant i.meaning.id bytes ≡ parts
-      → Asking all i y bytes b → VerdictsAgree d → finding_by_verdict i (digest_level i) d b parts ≡ finding_by_verdict i (list_level i) y b parts
+      → Asking all i y bytes b → VerdictsAgree d → finding_by_verdict i (digest_level i) d b parts ≡ finding_by_verdict i
+      (list_level i) y b parts
   found_from_same d (Err Form) e asking same = refl
   found_from_same d (Err Kind) e asking same = refl
   found_from_same d (Ok snapshot) e asking same =
@@ -167,13 +175,15 @@ module _ (all : List (List ℕ)) (i : Instance) (y : History) (bytes : List ℕ)
 
 -- Basic
 
-no_counting : (barrier : List ℕ) (closed : List (List RegisterEntry)) (is_open : Bool) (items : List RegisterEntry) (batches : List Batch) → closed ≡ []
+no_counting : (barrier : List ℕ) (closed : List (List RegisterEntry)) (is_open : Bool) (items : List RegisterEntry) (batches : List Batch)
+    → closed ≡ []
     → is_open ≡ false → AreNoGuards barrier (values_in (items_of_all closed ++ (if is_open then items else []))) batches
 no_counting barrier closed is_open items batches none shut =
     rw (none, shut) (λ d b c e _. absurd (omega (arith, c.1)))
 
 pub basic_found_same : (meaning : Meaning) (key : List ℕ) (all : List (List ℕ)) (y : History) (d : Digests) (bytes : List ℕ) (b : Batch)
-    → DigestsAgree (basic_instance meaning key) y d → IsPlain y → AreMessagesIn (history_messages (basic_instance meaning key) y) all → Asking all (basic_instance meaning key) y bytes b
+    → DigestsAgree (basic_instance meaning key) y d → IsPlain y → AreMessagesIn (history_messages (basic_instance meaning key) y) all
+    → Asking all (basic_instance meaning key) y bytes b
     → finding_at (basic_instance meaning key) (digest_level (basic_instance meaning key)) d b bytes
     ≡ finding_at (basic_instance meaning key) (list_level (basic_instance meaning key)) y b bytes
 basic_found_same meaning key all y d bytes b agrees plain listed asking =
@@ -215,7 +225,8 @@ module _ (meaning : Meaning) (key barrier : List ℕ) where
   I = opt_instance meaning key barrier
 
   -- what is found is found in a live history
-  pub live_found : (y : History) (b : Batch) (bytes : List ℕ) (found : CallFinding) → finding_at I (list_level I) y b bytes ≡ Ok found → IsLive y
+  pub live_found : (y : History) (b : Batch) (bytes : List ℕ) (found : CallFinding) → finding_at I (list_level I) y b bytes ≡ Ok found
+      → IsLive y
   live_found y b bytes found is = lives y (accepted I y bytes b found is).live
 
   -- what is asked of the digests for a history and a call from it
@@ -230,7 +241,8 @@ module _ (meaning : Meaning) (key barrier : List ℕ) where
   }
 
   verdict_same : (all others : List (List ℕ)) (asked : List Batch) (y : History) (d : Digests) (offered : Content) (b : Batch)
-      → IsApart all others asked barrier → Holds all others asked I y d → Contains asked b → AreMessagesIn (offer_messages I offered.place b) all
+      → IsApart all others asked barrier → Holds all others asked I y d → Contains asked b
+      → AreMessagesIn (offer_messages I offered.place b) all
       → NamesPosition I y offered → (digest_level I).verdict d offered b ≡ (list_level I).verdict y offered b
   verdict_same all others asked y d offered b c h is_asked called names =
       rw (h.agrees.flag, h.agrees.digest, h.agrees.register)

@@ -1,8 +1,11 @@
 -- What a call comes to by digests, from the trail of its steps; and so by lists, under the law.
 use Rattle.mm_call.proofs.Below.{◌≡◌, ℕ, List, Result, Option, sym, ap, ◌∙◌, StepFault, Standing, Batch, Instance, Move, Digests, ask_steps}
-use Rattle.mm_call.proofs.Below.{BatchAnswer, Refusal, state_after_moves, digest_level, CallFinding, finding_at, finding_unless_wanting, is_fresh, Course}
-use Rattle.mm_call.proofs.Below.{StepsWalk, walk, call_ending_by, call_outcome, state_seen, result_of_ending, StandsAt, CallGoesBy, IsTrail, leads, refl, subst, Variant}
-use Rattle.mm_call.proofs.Below.{Basic, Opt, History, register_value_of, digests_of, RegisterStands, StandsFor, register_reading, list_level}
+use Rattle.mm_call.proofs.Below.{BatchAnswer, Refusal, state_after_moves, digest_level, CallFinding, finding_at, finding_unless_wanting}
+use Rattle.mm_call.proofs.Below.{is_fresh, Course}
+use Rattle.mm_call.proofs.Below.{StepsWalk, walk, call_ending_by, call_outcome, state_seen, result_of_ending, StandsAt, CallGoesBy, IsTrail}
+use Rattle.mm_call.proofs.Below.{leads, refl, subst, Variant}
+use Rattle.mm_call.proofs.Below.{Basic, Opt, History, register_value_of, digests_of, RegisterStands, StandsFor, register_reading}
+use Rattle.mm_call.proofs.Below.{list_level}
 use Rattle.mm_call.proofs.Below.{CallOutcome, RegisterStandsAt, IsAsked, CallContinues, CallsAgree}
 use Rattle.mm_call.proofs.OptHolding.{agrees_is, is_agrees}
 
@@ -19,7 +22,8 @@ pub went : (i : Instance) (d : Digests) (c : Course) (offer : List ℕ) (b : Bat
     (result : Result BatchAnswer Refusal) (found : Result CallFinding Refusal) (fault : Option StepFault) → finds i d c offer b ≡ found
     → StandsAt i old d → IsTrail i d c.fates 1 (ask_steps i.variant d.flag (is_fresh found) b) old new fault
     →
-    ((moves : List Move) → result ≡ result_of_ending (call_ending_by (digest_level i) (sees i d c) (state_after_moves (digest_level i) d moves) b found moves fault))
+    ((moves : List Move) → result ≡ result_of_ending
+    (call_ending_by (digest_level i) (sees i d c) (state_after_moves (digest_level i) d moves) b found moves fault))
     → CallGoesBy i d (call_outcome i (digest_level i) d c offer b) old new result
 went i d c offer b old new result found fault e s t gives =
     let w : StepsWalk = walk c.fates 1 (ask_steps i.variant d.flag (is_fresh found) b) in

@@ -1,8 +1,11 @@
 -- Opt: histories that differ in the register's items alone, and what a call does to all but these.
 use Rattle.mm_call.proofs.Below.{◌≡◌, ℕ, Bool, true, false, List, [], ◌∷◌, ◌++◌, map, refl, sym, ap, ◌∙◌, subst, inl, inr, Opt, Meaning}
-use Rattle.mm_call.proofs.Below.{Batch, Place, InBasic, InOpt, Content, guard, Instance, opt_instance, RegisterEntry, Value, History, Move, Commit, Foreign}
-use Rattle.mm_call.proofs.Below.{Placed, Reset, Close, history_after, history_after_commit, items_of_all, is_empty, has_value, IsSound, Digests, MayMove, IsAllowed}
-use Rattle.mm_call.proofs.Below.{IsOpening, digests_after, IsPlaceOf, NamesPosition, content_of_issue, issued_place, point_items, list_level, digest_level, state_after_moves}
+use Rattle.mm_call.proofs.Below.{Batch, Place, InBasic, InOpt, Content, guard, Instance, opt_instance, RegisterEntry, Value, History, Move}
+use Rattle.mm_call.proofs.Below.{Commit, Foreign}
+use Rattle.mm_call.proofs.Below.{Placed, Reset, Close, history_after, history_after_commit, items_of_all, is_empty, has_value, IsSound}
+use Rattle.mm_call.proofs.Below.{Digests, MayMove, IsAllowed}
+use Rattle.mm_call.proofs.Below.{IsOpening, digests_after, IsPlaceOf, NamesPosition, content_of_issue, issued_place, point_items}
+use Rattle.mm_call.proofs.Below.{list_level, digest_level, state_after_moves}
 use Rattle.mm_call.proofs.Below.{has_close, committed_batches, closes-foreign, commit_keeps, committed-foreign}
 use Rattle.mm_call.proofs.OptHolding.{bare, bare_digests, reset_may}
 use Rattle.mm_call.proofs.OptWalks.{names_all}
@@ -21,11 +24,13 @@ module _ (meaning : Meaning) (key barrier : List ℕ) where
 
   -- What a commit does to all but the items.
 
-  bare_commit : (flag : Bool) (y : History) (b : Batch) → bare (history_after_commit Opt flag y b) ≡ bare (history_after_commit Opt flag (bare y) b)
+  bare_commit : (flag : Bool) (y : History) (b : Batch) → bare (history_after_commit Opt flag y b)
+      ≡ bare (history_after_commit Opt flag (bare y) b)
   bare_commit true y b = refl
   bare_commit false y b = refl
 
-  pub alike_commit : (y z : History) (b : Batch) → bare y ≡ bare z → bare (history_after I y (Commit b)) ≡ bare (history_after I z (Commit b))
+  pub alike_commit : (y z : History) (b : Batch) → bare y ≡ bare z → bare (history_after I y (Commit b))
+      ≡ bare (history_after I z (Commit b))
   alike_commit y z b e =
       bare_commit y.is_open y b ∙ ap (λ (x : History). bare (history_after_commit Opt x.is_open x b)) e ∙ sym (bare_commit z.is_open z b)
 
@@ -81,7 +86,8 @@ module _ (meaning : Meaning) (key barrier : List ℕ) where
   place_items y items named (InBasic s) p = absurd p
   place_items y items named (InOpt a e) p = point_items I y items named a.bytes e.bytes p
 
-  names_items : (y : History) (items : List RegisterEntry) (content : Content) → NamesPosition I y content → NamesPosition I (record y { items = items }) content
+  names_items : (y : History) (items : List RegisterEntry) (content : Content) → NamesPosition I y content
+      → NamesPosition I (record y { items = items }) content
   names_items y items content n = record {
     named = n.named;
     rest = n.rest;
@@ -118,11 +124,13 @@ module _ (meaning : Meaning) (key barrier : List ℕ) where
       (reset_may meaning key barrier y e, (placing, (then_may, tt))) n)
 
   -- what named a position before a call names it after the call
-  pub names_after : (y after : History) (b : Batch) (content : Content) → IsSound y → IsSound after → Alike y b after → NamesPosition I y content
+  pub names_after : (y after : History) (b : Batch) (content : Content) → IsSound y → IsSound after → Alike y b after
+      → NamesPosition I y content
       → NamesPosition I after content
   names_after y after b content sound then_sound (still e) n = names_alike y after content (sym e) n
   names_after y after b content sound then_sound (grown_by e) n =
-      let clean : has_value (items_of_all y.closed) ≡ false = ap (λ (c : List (List RegisterEntry)). has_value (items_of_all c)) (sym (same_closed y after b e))
+      let clean : has_value (items_of_all y.closed) ≡ false = ap (λ (c : List (List RegisterEntry)). has_value (items_of_all c))
+          (sym (same_closed y after b e))
       ∙ clean_open after then_sound (opened y after b e) in
       names_alike (history_after I y (Commit b)) after content (sym e) (named_then y.is_open y b content refl sound clean n)
 

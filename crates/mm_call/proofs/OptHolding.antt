@@ -1,11 +1,17 @@
 -- Opt: what holds before each call, and that moves keep it; while no segment is open neither the register nor its items count.
 use Rattle.mm_call.proofs.Below.{ℕ, ◌≡◌, Bool, List, [], ◌∷◌, refl, sym, ap, ◌∙◌, AllByRecursion, Contains, Opt, Meaning, Batch, Instance}
-use Rattle.mm_call.proofs.Below.{opt_instance, History, Move, Foreign, Power, history_after, IsSound, AreMessagesIn, history_messages, move_messages}
-use Rattle.mm_call.proofs.Below.{batch_messages, IsAllowed, MayMove, Digests, digests_of, digests_after, IsOutside, MoveBrings, opt_messages}
-use Rattle.mm_call.proofs.Below.{sound_moved, opt_digests, outside_moved, each_append, DigestsAgree, batches-made, committed_batches, ◌+◌, true, false}
-use Rattle.mm_call.proofs.Below.{◌&&◌, ◌++◌, map, Result, Err, subst, if◌then◌else◌, nat_eq, fold, zero_bytes, extended_digest_of, size_of, RegisterEntry}
-use Rattle.mm_call.proofs.Below.{Reset, items_of_all, total_of, Life, life_by, life_of, is_empty, are_own, has_value, is_lost, verdict_by_tests, is_last}
-use Rattle.mm_call.proofs.Below.{values_in, Refusal, parts_of, sound_items, Level, list_level, digest_level, state_after_moves, CallFinding, finding_by_verdict}
+use Rattle.mm_call.proofs.Below.{opt_instance, History, Move, Foreign, Power, history_after, IsSound, AreMessagesIn, history_messages}
+use Rattle.mm_call.proofs.Below.{move_messages}
+use Rattle.mm_call.proofs.Below.{batch_messages, IsAllowed, MayMove, Digests, digests_of, digests_after, IsOutside, MoveBrings}
+use Rattle.mm_call.proofs.Below.{opt_messages}
+use Rattle.mm_call.proofs.Below.{sound_moved, opt_digests, outside_moved, each_append, DigestsAgree, batches-made, committed_batches, ◌+◌}
+use Rattle.mm_call.proofs.Below.{true, false}
+use Rattle.mm_call.proofs.Below.{◌&&◌, ◌++◌, map, Result, Err, subst, if◌then◌else◌, nat_eq, fold, zero_bytes, extended_digest_of, size_of}
+use Rattle.mm_call.proofs.Below.{RegisterEntry}
+use Rattle.mm_call.proofs.Below.{Reset, items_of_all, total_of, Life, life_by, life_of, is_empty, are_own, has_value, is_lost}
+use Rattle.mm_call.proofs.Below.{verdict_by_tests, is_last}
+use Rattle.mm_call.proofs.Below.{values_in, Refusal, parts_of, sound_items, Level, list_level, digest_level, state_after_moves, CallFinding}
+use Rattle.mm_call.proofs.Below.{finding_by_verdict}
 use Rattle.mm_call.proofs.Below.{finding_at, counted_part, IsWithin, items_messages}
 use Rattle.mm_model.specs.declared.refusal.Refusal.TheVariants as refusal
 
@@ -58,7 +64,8 @@ life_shut : (a b c d marred : Bool) → life_by false a b marred ≡ life_by fal
 life_shut a b c d false = refl
 life_shut a b c d true = refl
 
-pub life_bare : (y : History) (items : List RegisterEntry) → y.is_open ≡ false → life_of Opt (record y { items = items }) ≡ life_of Opt (bare y)
+pub life_bare : (y : History) (items : List RegisterEntry) → y.is_open ≡ false → life_of Opt (record y { items = items })
+    ≡ life_of Opt (bare y)
 life_bare y items e =
     rw e (life_shut (is_empty items) (are_own items y.current) true (are_own [] y.current) (has_value (items_of_all y.closed)))
 
@@ -82,7 +89,8 @@ foreign_digests i (v ∷ values) moves d = foreign_digests i values moves (diges
 outside_items : (others : List (List ℕ)) (y : History) (items : List RegisterEntry) → y.is_open ≡ false → IsOutside others y
     → IsOutside others (record y { items = items })
 outside_items others y items e h =
-    let P : Bool → List RegisterEntry → Type 0 = λ f xs. AllByRecursion (Contains others) (values_in (items_of_all y.closed ++ (if f then xs else []))) in
+    let P : Bool → List RegisterEntry → Type 0 = λ f xs. AllByRecursion (Contains others)
+        (values_in (items_of_all y.closed ++ (if f then xs else []))) in
     let shut : P false y.items = subst (λ f. P f y.items) e h in
     rw e shut
 
@@ -93,9 +101,11 @@ module _ (meaning : Meaning) (key barrier : List ℕ) where
   abbrev I : Instance
   I = opt_instance meaning key barrier
 
-  pub opt_agrees_moved : (y : History) (d : Digests) (m : Move) → MayMove I y m → DigestsAgree I y d → DigestsAgree I (history_after I y m) (digests_after I d m)
+  pub opt_agrees_moved : (y : History) (d : Digests) (m : Move) → MayMove I y m → DigestsAgree I y d → DigestsAgree I (history_after I y m)
+      (digests_after I d m)
   opt_agrees_moved y d m may a =
-      is_agrees I (history_after I y m) (digests_after I d m) (ap (λ x. digests_after I x m) (agrees_is I y d a) ∙ sym (opt_digests meaning key barrier y m may))
+      is_agrees I (history_after I y m) (digests_after I d m) (ap (λ x. digests_after I x m) (agrees_is I y d a)
+      ∙ sym (opt_digests meaning key barrier y m may))
 
   pub found_lists : (y : History) (items : List RegisterEntry) (b : Batch) (offer : List ℕ) → y.is_open ≡ false
       → finding_at I (list_level I) (record y { items = items }) b offer ≡ finding_at I (list_level I) (bare y) b offer
@@ -105,7 +115,8 @@ module _ (meaning : Meaning) (key barrier : List ℕ) where
       → finding_at I (digest_level I) (record d { register = register }) b offer ≡ finding_at I (digest_level I) (bare_digests d) b offer
   found_digests d register b offer e =
       ap (λ f. finding_at I (digest_level I) (record { digest = d.digest; flag = f; register = register; count = d.count }) b offer) e
-      ∙ ap (λ f. finding_at I (digest_level I) (record { digest = d.digest; flag = f; register = zero_bytes; count = d.count }) b offer) (sym e)
+      ∙ ap (λ f. finding_at I (digest_level I) (record { digest = d.digest; flag = f; register = zero_bytes; count = d.count }) b offer)
+      (sym e)
 
   pub foreign_agrees : (values : List (List ℕ)) (y : History) (d : Digests) → DigestsAgree I y d
       → DigestsAgree I (state_after_moves (list_level I) y (map Foreign values)) (state_after_moves (digest_level I) d (map Foreign values))
@@ -119,7 +130,8 @@ module _ (meaning : Meaning) (key barrier : List ℕ) where
   reset_may y e = rw e tt
 
   -- the messages of a history with other items
-  pub listed_bare : (all : List (List ℕ)) (y : History) → AreMessagesIn (history_messages I y) all → AreMessagesIn (history_messages I (bare y)) all
+  pub listed_bare : (all : List (List ℕ)) (y : History) → AreMessagesIn (history_messages I y) all
+      → AreMessagesIn (history_messages I (bare y)) all
   listed_bare all y h = items_messages I y [] all h tt
 
   listed_counted : (all : List (List ℕ)) (y : History) (flag : Bool) → AreMessagesIn (history_messages I y) all
@@ -174,7 +186,8 @@ module _ (meaning : Meaning) (key barrier : List ℕ) where
     pub within_items : (y : History) (items : List RegisterEntry) → y.is_open ≡ false → IsWithin all others asked I y
         → IsWithin all others asked I (record y { items = items })
     within_items y items e w =
-        let P : Bool → List RegisterEntry → Type 0 = λ f xs. AreMessagesIn (history_messages I (record y { items = if f then xs else [] })) all in
+        let P : Bool → List RegisterEntry → Type 0 = λ f xs. AreMessagesIn (history_messages I (record y { items = if f then xs else [] }))
+            all in
         let shut : P false y.items = subst (λ f. P f y.items) e w.listed in record {
           sound = sound_shut y items e w.sound;
           outside = outside_items others y items e w.outside;

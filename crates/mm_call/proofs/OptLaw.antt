@@ -1,12 +1,18 @@
 -- Opt: what a call sees, and what counts of it; and so a call is by digests what it is by lists, on every course.
 use Rattle.mm_call.proofs.Below.{ℕ, ◌≡◌, Bool, true, false, List, [], ◌∷◌, ◌++◌, map, Some, Result, Ok, Err, refl, sym, ap, ◌∙◌, subst, inl}
-use Rattle.mm_call.proofs.Below.{inr, not, if◌then◌else◌, AllByRecursion, Contains, fold, Opt, extended_digest_of, StepFault, Meaning, Batch}
-use Rattle.mm_call.proofs.Below.{Instance, opt_instance, History, Move, Foreign, Reset, Value, history_after, DeviceStep, Reads, ask_steps, AreMessagesIn, move_messages}
+use Rattle.mm_call.proofs.Below.{inr, not, if◌then◌else◌, AllByRecursion, Contains, fold, Opt, extended_digest_of, StepFault, Meaning}
+use Rattle.mm_call.proofs.Below.{Batch}
+use Rattle.mm_call.proofs.Below.{Instance, opt_instance, History, Move, Foreign, Reset, Value, history_after, DeviceStep, Reads, ask_steps}
+use Rattle.mm_call.proofs.Below.{AreMessagesIn, move_messages}
 use Rattle.mm_call.proofs.Below.{messages_for_move, Digests, issued_place, IsSound, IsGenuine, Refusal, each_left, each_right, opt_names}
-use Rattle.mm_call.proofs.Below.{sound_moved, fresh_lists, list_level, digest_level, state_after_moves, DigestsAgree, CallFinding, finding_at, finding_unless_wanting}
-use Rattle.mm_call.proofs.Below.{is_fresh, Done, StepFate, Course, StepsWalk, walk, CallEnding, call_ending_by, call_outcome_by, call_outcome, outcome_of_walk, counted_part}
-use Rattle.mm_call.proofs.Below.{counted_moves, moves_from_reset, messages_of_moves, foreign_move_values, IsWithin, AreAsked, IsAsked, IsSame, IsSameCall}
-use Rattle.mm_call.proofs.Below.{OptCallsAgree, committed_batches, opt_commits, committed-foreign, commits-none, steps_of_change, asks, history_with_values}
+use Rattle.mm_call.proofs.Below.{sound_moved, fresh_lists, list_level, digest_level, state_after_moves, DigestsAgree, CallFinding}
+use Rattle.mm_call.proofs.Below.{finding_at, finding_unless_wanting}
+use Rattle.mm_call.proofs.Below.{is_fresh, Done, StepFate, Course, StepsWalk, walk, CallEnding, call_ending_by, call_outcome_by}
+use Rattle.mm_call.proofs.Below.{call_outcome, outcome_of_walk, counted_part}
+use Rattle.mm_call.proofs.Below.{counted_moves, moves_from_reset, messages_of_moves, foreign_move_values, IsWithin, AreAsked, IsAsked}
+use Rattle.mm_call.proofs.Below.{IsSame, IsSameCall}
+use Rattle.mm_call.proofs.Below.{OptCallsAgree, committed_batches, opt_commits, committed-foreign, commits-none, steps_of_change, asks}
+use Rattle.mm_call.proofs.Below.{history_with_values}
 use Rattle.mm_call.proofs.Below.{taking_is, foreign_made, made-append, foreign_move_values-foreign, moves_from_reset-foreign, messages-made}
 use Rattle.mm_call.proofs.Finding.{Asking, Placed, placed, clear_for, IsApart, IsLive, lives, found_same}
 use Rattle.mm_call.proofs.OptHolding.{Holds, foreign_may, bare, bare_digests, found_lists, found_digests, foreign_digests, foreign_agrees}
@@ -23,10 +29,12 @@ fresh_is false = refl
 
 -- what a call sees by digests
 seen_is : (i : Instance) (d : Digests) (c : Course) → state_after_moves (digest_level i) d (before c)
-    ≡ state_after_moves (digest_level i) (state_after_moves (digest_level i) d (map Foreign (c.fates 1).brings)) (map Foreign (c.fates 2).brings)
+    ≡ state_after_moves (digest_level i) (state_after_moves (digest_level i) d (map Foreign (c.fates 1).brings))
+    (map Foreign (c.fates 2).brings)
 seen_is i d c =
     made-append (digest_level i) (map Foreign (c.fates 1).brings) (map Foreign (c.fates 2).brings ++ []) d
-    ∙ made-append (digest_level i) (map Foreign (c.fates 2).brings) [] (state_after_moves (digest_level i) d (map Foreign (c.fates 1).brings))
+    ∙ made-append (digest_level i) (map Foreign (c.fates 2).brings) []
+    (state_after_moves (digest_level i) d (map Foreign (c.fates 1).brings))
 
 -- the walk of a call
 abbrev steps_walk : Course → Bool → Result CallFinding Refusal → Batch → StepsWalk
@@ -42,7 +50,8 @@ module _ (meaning : Meaning) (key barrier : List ℕ) where
   pub sound_foreign : (values : List (List ℕ)) (y : History) → IsSound y → IsSound (state_after_moves (list_level I) y (map Foreign values))
   sound_foreign [] y sound = sound
   sound_foreign (v ∷ values) y sound =
-      sound_foreign values (history_after I y (Foreign v)) (sound_moved meaning key barrier y (Foreign v) sound (foreign_may I y y.is_open v))
+      sound_foreign values (history_after I y (Foreign v))
+      (sound_moved meaning key barrier y (Foreign v) sound (foreign_may I y y.is_open v))
 
   -- what is asked of the offer, at the history that a call sees
   pub seen_asking : (all : List (List ℕ)) (y : History) (v w : List (List ℕ)) (offer : List ℕ) (b : Batch) → IsSound y
@@ -58,7 +67,8 @@ module _ (meaning : Meaning) (key barrier : List ℕ) where
             (names_foreign meaning key barrier v y content sound (a.genuine content right)));
       }
 
-  sight_agrees : (y : History) (d : Digests) (c : Course) → DigestsAgree I y d → DigestsAgree I (sight y c) (state_after_moves (digest_level I) d (before c))
+  sight_agrees : (y : History) (d : Digests) (c : Course) → DigestsAgree I y d
+      → DigestsAgree I (sight y c) (state_after_moves (digest_level I) d (before c))
   sight_agrees y d c a =
       let v = (c.fates 1).brings in
       let w = (c.fates 2).brings in
@@ -90,7 +100,8 @@ module _ (meaning : Meaning) (key barrier : List ℕ) where
     -- what others put in was put in by moves that may be made, and their messages are listed
     foreign_holds : (y : History) (d : Digests) (values : List (List ℕ)) (rest : List Move) → Holds all others asked I y d
         → Counts true y (map Foreign values ++ rest)
-        → Holds all others asked I (history_with_values y values) (state_after_moves (digest_level I) d (map Foreign values)) × Counts true (history_with_values y values) rest
+        → Holds all others asked I (history_with_values y values) (state_after_moves (digest_level I) d (map Foreign values))
+        × Counts true (history_with_values y values) rest
     foreign_holds y d values rest h c =
         let xs : List Move = map Foreign values in
         let front : List (List ℕ) = messages_of_moves I y xs in
@@ -113,7 +124,8 @@ module _ (meaning : Meaning) (key barrier : List ℕ) where
     stands_after y d moves h fine messages =
         let end = holds_made meaning key barrier all others asked moves y d h fine messages in record {
           agrees = end.agrees;
-          within = within_of meaning key barrier all others asked (state_after_moves (list_level I) y moves) (state_after_moves (digest_level I) d moves) end;
+          within = within_of meaning key barrier all others asked (state_after_moves (list_level I) y moves)
+              (state_after_moves (digest_level I) d moves) end;
         }
 
     -- values of others alone, while no segment is open
@@ -131,7 +143,8 @@ module _ (meaning : Meaning) (key barrier : List ℕ) where
 
     -- Two reading steps inside a segment, and the steps that follow from what is found by lists and by digests, by the moves of
     -- those that follow from one of them: both find the same; or the walk was cut off before, whatever was found.
-    pub same_walks : (X E : Type 0) (third : X → List DeviceStep) (lists_end digests_end : X → StepsWalk → E) (y : History) (d : Digests) (c : Course)
+    pub same_walks : (X E : Type 0) (third : X → List DeviceStep) (lists_end digests_end : X → StepsWalk → E) (y : History)
+        (d : Digests) (c : Course)
         (lists digests x : X) → y.is_open ≡ true → Holds all others asked I y d → (digests ≡ lists → x ≡ lists)
         → Counts true y (walk c.fates 1 (Reads ∷ Reads ∷ third x)).moves
         → (Holds all others asked I (sight y c) (state_after_moves (digest_level I) d (before c))
@@ -140,7 +153,8 @@ module _ (meaning : Meaning) (key barrier : List ℕ) where
         → ((w : StepsWalk) (values : List (List ℕ)) (fault : StepFault) → w.moves ≡ map Foreign values → w.broken ≡ Some fault
         → digests_end digests w ≡ lists_end lists w)
         → (let w = walk c.fates 1 (Reads ∷ Reads ∷ third lists) in let z = walk c.fates 1 (Reads ∷ Reads ∷ third digests) in
-        IsSame all others asked I (outcome_of_walk (list_level I) y (lists_end lists w) w) (outcome_of_walk (digest_level I) d (digests_end digests z) z))
+        IsSame all others asked I (outcome_of_walk (list_level I) y (lists_end lists w) w)
+        (outcome_of_walk (digest_level I) d (digests_end digests z) z))
     same_walks X E third lists_end digests_end y d c lists digests x e h k counts past_so cut_so =
         let v = (c.fates 1).brings in
         let w = (c.fates 2).brings in
@@ -151,12 +165,14 @@ module _ (meaning : Meaning) (key barrier : List ℕ) where
               let first = subst (λ z. Counts true y (two_reads v z w (c.fates 2).ends rest).moves) p counts in
               let one = foreign_holds y d v (map Foreign w ++ rest.moves) h
               (subst (λ z. Counts true y (two_reads v Done w z rest).moves) q first) in
-              let two = foreign_holds (history_with_values y v) (state_after_moves (digest_level I) d (map Foreign v)) w rest.moves one.0 one.1 in
+              let two = foreign_holds (history_with_values y v) (state_after_moves (digest_level I) d (map Foreign v)) w
+                  rest.moves one.0 one.1 in
               let r = past_so (rw (seen_is I d c) two.0) in
               let counted = subst (λ z. Counts true y (walked_by z).moves) (k r.0) counts in
               rw r.0 (same_on E y d (walked_by lists) (lists_end lists (walked_by lists)) (digests_end lists (walked_by lists)) r.3
               (stands_after y d (walked_by lists).moves h
-              (walk_fine meaning key barrier all others asked c.fates (Reads ∷ Reads ∷ third lists) 1 y r.1 counted.1 (λ o p. r.2)) counted.0))
+              (walk_fine meaning key barrier all others asked c.fates (Reads ∷ Reads ∷ third lists) 1 y r.1 counted.1 (λ o p. r.2))
+              counted.0))
           | cut walked values fault is moves broken ↦
               let here = subst (Counts true y) moves (subst (λ (z : StepsWalk). Counts true y z.moves) (is rest) counts) in
               let fine = foreign_all meaning key barrier all others asked values y
@@ -236,7 +252,8 @@ module _ (meaning : Meaning) (key barrier : List ℕ) where
       -- it is by digests what it is by lists, by the moves of what is found by the ones or the others
       abbrev AreSame : Bool → Type 0
       AreSame flag =
-          (x : Result CallFinding Refusal) → (other ≡ found → x ≡ found) → IsAsked all others asked I y (steps_walk c flag x b).moves offer b
+          (x : Result CallFinding Refusal) → (other ≡ found → x ≡ found)
+          → IsAsked all others asked I y (steps_walk c flag x b).moves offer b
           → IsSameCall all others asked I (call_outcome_by (list_level I) y sees b found (steps_walk c flag found b))
           (call_outcome_by (digest_level I) d seen b other (steps_walk c flag other b))
 
@@ -270,7 +287,8 @@ module _ (meaning : Meaning) (key barrier : List ℕ) where
       by_flag true e x k a =
           let q = are_asked y (steps_walk c true x b).moves offer b a in
           let apart : IsApart all others asked barrier = record { clear = q.clear; apart = q.apart } in
-          same_walks (Result CallFinding Refusal) CallEnding (λ f. steps_of_change true (is_fresh f) b) lists_end digests_end y d c found other x e
+          same_walks (Result CallFinding Refusal) CallEnding (λ f. steps_of_change true (is_fresh f) b) lists_end digests_end y d
+          c found other x e
           (holds_open meaning key barrier all others asked y d e agrees q.within) k
           (counts_at true y (steps_walk c true x b).moves e a.messages a.values)
           (λ hs. (
@@ -295,10 +313,12 @@ module _ (meaning : Meaning) (key barrier : List ℕ) where
             genuine = genuine_bare y offer e q.within.sound q.genuine;
           } in
           let lists : finding_at I (list_level I) sees b offer ≡ finding_at I (list_level I) (bare y) b offer =
-          ap (λ x. finding_at I (list_level I) x b offer) (sight_is I y c) ∙ found_lists meaning key barrier y (sight y c).items b offer e in
+          ap (λ x. finding_at I (list_level I) x b offer) (sight_is I y c) ∙ found_lists meaning key barrier y
+          (sight y c).items b offer e in
           let register : List ℕ = fold extended_digest_of (fold extended_digest_of d.register v) w in
           let seen_then : seen ≡ record d { register = register } =
-          foreign_digests I v (map Foreign w ++ []) d ∙ foreign_digests I w [] (record d { register = fold extended_digest_of d.register v }) in
+          foreign_digests I v (map Foreign w ++ []) d ∙ foreign_digests I w []
+              (record d { register = fold extended_digest_of d.register v }) in
           let digests : finding_at I (digest_level I) seen b offer ≡ finding_at I (digest_level I) (bare_digests d) b offer =
           ap (λ x. finding_at I (digest_level I) x b offer) seen_then
           ∙ found_digests meaning key barrier d register b offer (agrees.flag ∙ e) in
@@ -308,7 +328,8 @@ module _ (meaning : Meaning) (key barrier : List ℕ) where
           let walked : StepsWalk = steps_walk c false found b in
           let after = shut_after y d c.fates b (is_fresh found) walked.moves e agrees q.within
           (due_of (bare y) (bare_digests d) b found apart h q.is_asked
-          (λ f is. placed all I (bare y) offer b asking_bare f (sym lists ∙ unlacked (finding_at I (list_level I) sees b offer) c.lacks f is)))
+          (λ f is. placed all I (bare y) offer b asking_bare f
+          (sym lists ∙ unlacked (finding_at I (list_level I) sees b offer) c.lacks f is)))
           (shape c.fates (is_fresh found) b)
           (subst (λ z. Counts false (bare y) (steps_walk c false z b).moves) (k agree)
           (counts_at false y (steps_walk c false x b).moves e a.messages a.values)) in

@@ -1,12 +1,18 @@
 -- Opt: what one call leaves by lists, and what it hands on to the next.
 use Rattle.mm_call.proofs.Below.{◌≡◌, ℕ, Bool, true, false, List, [], ◌∷◌, ◌++◌, map, None, Some, Result, Ok, refl, sym, ap, ◌∙◌, subst}
 use Rattle.mm_call.proofs.Below.{append_assoc, option_map, Opt, extended_message, Item, Standing, item_values, Meaning, Batch, One}
-use Rattle.mm_call.proofs.Below.{Instance, opt_instance, RegisterEntry, History, Move, Foreign, items_of_all, register_value_of, has_value, Digests, digests_of}
-use Rattle.mm_call.proofs.Below.{StandsFor, Reads, ask_steps, BatchAnswer, Refusal, list_level, digest_level, state_after_moves, CallFinding, finding_at}
-use Rattle.mm_call.proofs.Below.{finding_unless_wanting, is_fresh, Course, StepsWalk, walk, has_close, call_outcome, state_seen, result_of_ending, IsCallOnCourse}
-use Rattle.mm_call.proofs.Below.{StandsAt, items_after_moves, counted_part, counted_moves, IsWithin, IsAsked, AreAsked, AreShown, standing_items}
-use Rattle.mm_call.proofs.Below.{committed_batches, asked_by, same_rest, MovesCount, counts_open, nothing, batch, steps_of_change, asks, opt_commits}
-use Rattle.mm_call.proofs.Below.{history_with_values, committed-foreign, opt_closes, closes_first, closes-foreign, HistoryGrows, kept, CallGoesBy}
+use Rattle.mm_call.proofs.Below.{Instance, opt_instance, RegisterEntry, History, Move, Foreign, items_of_all, register_value_of, has_value}
+use Rattle.mm_call.proofs.Below.{Digests, digests_of}
+use Rattle.mm_call.proofs.Below.{StandsFor, Reads, ask_steps, BatchAnswer, Refusal, list_level, digest_level, state_after_moves}
+use Rattle.mm_call.proofs.Below.{CallFinding, finding_at}
+use Rattle.mm_call.proofs.Below.{finding_unless_wanting, is_fresh, Course, StepsWalk, walk, has_close, call_outcome, state_seen}
+use Rattle.mm_call.proofs.Below.{result_of_ending, IsCallOnCourse}
+use Rattle.mm_call.proofs.Below.{StandsAt, items_after_moves, counted_part, counted_moves, IsWithin, IsAsked, AreAsked, AreShown}
+use Rattle.mm_call.proofs.Below.{standing_items}
+use Rattle.mm_call.proofs.Below.{committed_batches, asked_by, same_rest, MovesCount, counts_open, nothing, batch, steps_of_change, asks}
+use Rattle.mm_call.proofs.Below.{opt_commits}
+use Rattle.mm_call.proofs.Below.{history_with_values, committed-foreign, opt_closes, closes_first, closes-foreign, HistoryGrows, kept}
+use Rattle.mm_call.proofs.Below.{CallGoesBy}
 use Rattle.mm_call.proofs.Going.{stands_at}
 use Rattle.mm_call.proofs.Finding.{lives}
 use Rattle.mm_call.proofs.OptHolding.{is_agrees, bare, within_items}
@@ -31,7 +37,8 @@ pub record OptAfter (all others : List (List ℕ)) (asked : List Batch) (meaning
 
 -- what a call commits, on the history
 pub alike_call : (meaning : Meaning) (key barrier : List ℕ) (y : History) (c : Course) (offer : List ℕ) (b : Batch)
-    → Alike meaning key barrier y b (call_outcome (opt_instance meaning key barrier) (list_level (opt_instance meaning key barrier)) y c offer b).state
+    → Alike meaning key barrier y b (call_outcome (opt_instance meaning key barrier) (list_level (opt_instance meaning key barrier))
+    y c offer b).state
 alike_call meaning key barrier y c offer b =
     let i : Instance = opt_instance meaning key barrier in
     let fresh : Bool = is_fresh (finding_unless_wanting (finding_at i (list_level i) (state_seen i (list_level i) y c) b offer) c.lacks) in
@@ -66,7 +73,8 @@ module _ (meaning : Meaning) (key barrier : List ℕ) (all others : List (List �
 
   pub answered_clean_as : (y : History) (old new : Standing) (offer request : List ℕ) (result : Result BatchAnswer Refusal)
       (c : IsCallOnCourse Opt meaning old new offer (One request) result) → AreAsked all others asked I y offer (One request)
-      → (answer : BatchAnswer) → result ≡ Ok answer → result ≡ result_of_ending (call_outcome I (list_level I) y c.course offer (One request)).ending
+      → (answer : BatchAnswer) → result ≡ Ok answer
+      → result ≡ result_of_ending (call_outcome I (list_level I) y c.course offer (One request)).ending
       → Alike meaning key barrier y (One request) (call_outcome I (list_level I) y c.course offer (One request)).state
       → has_value (items_of_all (call_outcome I (list_level I) y c.course offer (One request)).state.closed) ≡ false
   answered_clean_as y old new offer request result c a answer is gives alike =
@@ -82,7 +90,8 @@ module _ (meaning : Meaning) (key barrier : List ℕ) (all others : List (List �
 
   -- a call under the law: what it leaves, and whether a segment is open after it
   by_law : (y : History) (old new : Standing) (offer request : List ℕ) (result : Result BatchAnswer Refusal)
-      (c : IsCallOnCourse Opt meaning old new offer (One request) result) → StandsFor I old y → AreAsked all others asked I y offer (One request)
+      (c : IsCallOnCourse Opt meaning old new offer (One request) result) → StandsFor I old y
+      → AreAsked all others asked I y offer (One request)
       → IsAsked all others asked I y (DigestMoves old new offer request result c y) offer (One request)
       → (left : Left y new offer request result)
       × ((state_after_moves (digest_level I) (digests_of I y) (DigestMoves old new offer request result c y)).flag ≡ left.after.is_open)
@@ -151,7 +160,8 @@ module _ (meaning : Meaning) (key barrier : List ℕ) (all others : List (List �
       (rw empty tt)
       (rw empty tt)) in
       let same : (state_after_moves (digest_level I) d moves).flag ≡ d.flag = ap (λ (x : Digests). x.flag)
-      (digests_still meaning key barrier moves d (ap committed_batches is ∙ committed-foreign values) (ap has_close is ∙ closes-foreign values)) in
+      (digests_still meaning key barrier moves d (ap committed_batches is ∙ committed-foreign values)
+      (ap has_close is ∙ closes-foreign values)) in
       (law.0, sym law.1 ∙ same ∙ e)
 
   -- A call, with what its platform shows before and after it and at the very end.
@@ -175,7 +185,8 @@ module _ (meaning : Meaning) (key barrier : List ℕ) (all others : List (List �
     known_then = goes.items ∙ ap (option_map (items_after_moves I d moves)) known
 
     -- a call after which a segment is open
-    hands_open : MovesCount I y d moves → (state_after_moves (digest_level I) d moves).flag ≡ true → Hands y middle new offer request result more
+    hands_open : MovesCount I y d moves → (state_after_moves (digest_level I) d moves).flag ≡ true
+        → Hands y middle new offer request result more
     hands_open k f =
         let front : List Item = standing_items y.is_open items in
         let rest = goes_on (state_after_moves (digest_level I) d moves) goes.stands f items_then known_then in
@@ -216,7 +227,8 @@ module _ (meaning : Meaning) (key barrier : List ℕ) (all others : List (List �
     }
 
     -- with no segment open: broken off before the commit. The history is as before, but for the register's items.
-    hands_broken : y.is_open ≡ false → committed_batches moves ≡ [] → has_close moves ≡ false → ((answer : BatchAnswer) → result ≡ Ok answer → ⊥)
+    hands_broken : y.is_open ≡ false → committed_batches moves ≡ [] → has_close moves ≡ false
+        → ((answer : BatchAnswer) → result ≡ Ok answer → ⊥)
         → Hands y middle new offer request result more
     hands_broken e none quiet unless =
         let after : History = history_with_values (bare y) (item_values items_then) in
@@ -264,6 +276,7 @@ module _ (meaning : Meaning) (key barrier : List ℕ) (all others : List (List �
         hands_by y.is_open (is_fresh found) refl (subst (λ s. ((walk c.course.fates 1 s).moves ≡ moves)
         × ((answer : BatchAnswer) → result ≡ Ok answer → (walk c.course.fates 1 s).broken ≡ None)) (asks y.is_open (is_fresh found) b) (
           refl,
-          λ answer gives. (answered_only w.broken (digest_level I) seen (state_after_moves (digest_level I) d w.moves) b found w.moves answer
+          λ answer gives. (answered_only w.broken (digest_level I) seen (state_after_moves (digest_level I) d w.moves) b
+          found w.moves answer
               (sym goes.gives ∙ gives)).whole,
         ))

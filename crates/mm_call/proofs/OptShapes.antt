@@ -2,12 +2,18 @@
 -- goes on or is cut off; one with no segment open lets others extend the register, and then may reset it and go on.
 use Rattle.mm_call.proofs.Below.{ℕ, ◌≡◌, Bool, true, false, List, [], ◌∷◌, ◌++◌, map, Some, refl, sym, ap, ◌∙◌, append_assoc, ◌⊎◌, inl, inr}
 use Rattle.mm_call.proofs.Below.{append-nil, map-append, StepFault, Batch, Move, Commit, Foreign, Placed, Reset, DeviceStep, Reads, Changes}
-use Rattle.mm_call.proofs.Below.{History, counted_moves, moves_from_reset, moves_from_reset-foreign, Writes, End, Done, Fails, StepFate, StepsWalk, walk_from_step}
-use Rattle.mm_call.proofs.Below.{walk, finished_walk, steps_of_change, if◌then◌else◌, Opt, extended_message, Item, own_item, foreign_item, item_values}
-use Rattle.mm_call.proofs.Below.{Meaning, digest_after, trail, guard, Instance, opt_instance, RegisterEntry, Own, Value, history_after, history_after_commit, register_value_of}
-use Rattle.mm_call.proofs.Below.{entry_values, messages_for_move, move_messages, Digests, digests_after, digests_after_commit, trail-append, values_renamed}
-use Rattle.mm_call.proofs.Below.{digest_level, finding_at, finding_unless_wanting, is_fresh, state_seen, items_after_moves, items_after_move, messages_of_moves, foreign_move_values}
-use Rattle.mm_call.proofs.Below.{foreign_items, MovesAreTied, shows, OptMovesAreTied, shown-append, foreign_move_values-append, asks, each_self, with_last_batch, history_with_values}
+use Rattle.mm_call.proofs.Below.{History, counted_moves, moves_from_reset, moves_from_reset-foreign, Writes, End, Done, Fails, StepFate}
+use Rattle.mm_call.proofs.Below.{StepsWalk, walk_from_step}
+use Rattle.mm_call.proofs.Below.{walk, finished_walk, steps_of_change, if◌then◌else◌, Opt, extended_message, Item, own_item, foreign_item}
+use Rattle.mm_call.proofs.Below.{item_values}
+use Rattle.mm_call.proofs.Below.{Meaning, digest_after, trail, guard, Instance, opt_instance, RegisterEntry, Own, Value, history_after}
+use Rattle.mm_call.proofs.Below.{history_after_commit, register_value_of}
+use Rattle.mm_call.proofs.Below.{entry_values, messages_for_move, move_messages, Digests, digests_after, digests_after_commit, trail-append}
+use Rattle.mm_call.proofs.Below.{values_renamed}
+use Rattle.mm_call.proofs.Below.{digest_level, finding_at, finding_unless_wanting, is_fresh, state_seen, items_after_moves}
+use Rattle.mm_call.proofs.Below.{items_after_move, messages_of_moves, foreign_move_values}
+use Rattle.mm_call.proofs.Below.{foreign_items, MovesAreTied, shows, OptMovesAreTied, shown-append, foreign_move_values-append, asks}
+use Rattle.mm_call.proofs.Below.{each_self, with_last_batch, history_with_values}
 use Rattle.mm_model.specs.Chains.{register_of}
 use Rattle.mm_call.specs.ShownItems.{nothing}
 use Rattle.mm_call.proofs.OptHolding.{bare, bare_digests}
@@ -64,7 +70,8 @@ shape_reset fates b values Done =
 shape_reset fates b values (Fails fault true) = reset values [] refl (inl refl)
 shape_reset fates b values (Fails fault false) = still values (append-nil (map Foreign values))
 
-shape_changing : (fates : ℕ → StepFate) (fresh : Bool) (b : Batch) → Shape fates fresh b (walk fates 3 (steps_of_change false fresh b)).moves
+shape_changing : (fates : ℕ → StepFate) (fresh : Bool) (b : Batch)
+    → Shape fates fresh b (walk fates 3 (steps_of_change false fresh b)).moves
 shape_changing fates false b = still [] refl
 shape_changing fates true b = shape_reset fates b (fates 3).brings (fates 3).ends
 
@@ -72,7 +79,8 @@ pub shape : (fates : ℕ → StepFate) (fresh : Bool) (b : Batch)
     → Shape fates fresh b (walk fates 1 (Reads ∷ Reads ∷ steps_of_change false fresh b)).moves
 shape fates fresh b =
     shape_reads fates fresh b (fates 1).brings (fates 1).ends (walk fates 2 (Reads ∷ steps_of_change false fresh b))
-    (shape_reads fates fresh b (fates 2).brings (fates 2).ends (walk fates 3 (steps_of_change false fresh b)) (shape_changing fates fresh b))
+    (shape_reads fates fresh b (fates 2).brings (fates 2).ends (walk fates 3 (steps_of_change false fresh b))
+    (shape_changing fates fresh b))
 
 -- the reading steps of a call bring others' values alone
 pub record Brought (moves : List Move) : Type 0 where
@@ -91,7 +99,8 @@ reads_only values later (Fails fault made) last = record { values = values; are 
 pub none_counted : (y : History) (values : List (List ℕ)) (moves : List Move) → y.is_open ≡ false → moves ≡ map Foreign values
     → counted_moves y.is_open moves ≡ []
 none_counted y values moves e is =
-    ap (λ (f : Bool). counted_moves f moves) e ∙ ap moves_from_reset (is ∙ sym (append-nil (map Foreign values))) ∙ moves_from_reset-foreign values []
+    ap (λ (f : Bool). counted_moves f moves) e ∙ ap moves_from_reset (is ∙ sym (append-nil (map Foreign values)))
+        ∙ moves_from_reset-foreign values []
 
 pub foreign_of-append : (xs ys : List Item) → foreign_items (xs ++ ys) ≡ foreign_items xs ++ foreign_items ys
 foreign_of-append [] ys = refl
@@ -130,7 +139,8 @@ pushed_then i y d m moves p q =
           ∙ ap (λ s. trail extended_message s (item_values q.more)) p.register)
           ∙ sym (trail-append extended_message r (item_values p.more) (item_values q.more))
           ∙ ap (trail extended_message r) (sym (map-append (λ (item : Item). item.value) p.more q.more));
-      values = foreign_move_values-append (m ∷ []) moves ∙ ap (λ v. v ++ foreign_move_values moves) p.values ∙ ap (λ v. foreign_items p.more ++ v) q.values
+      values = foreign_move_values-append (m ∷ []) moves ∙ ap (λ v. v ++ foreign_move_values moves) p.values
+          ∙ ap (λ v. foreign_items p.more ++ v) q.values
           ∙ sym (foreign_of-append p.more q.more);
       shown_are = λ items. q.shown_are (items_after_move i.variant d.flag i m items) ∙ ap (λ v. v ++ q.more) (p.shown_are items)
           ∙ append_assoc items p.more q.more;
@@ -270,6 +280,7 @@ module _ (meaning : Meaning) (key barrier : List ℕ) where
 pub opt_tied : OptMovesAreTied
 opt_tied meaning key barrier y d c offer b f =
     let i = opt_instance meaning key barrier in
-    let fresh : Bool = is_fresh (finding_unless_wanting (finding_at i (digest_level i) (state_seen i (digest_level i) d c) b offer) c.lacks) in
+    let fresh : Bool = is_fresh (finding_unless_wanting (finding_at i (digest_level i) (state_seen i (digest_level i) d c) b offer)
+        c.lacks) in
     rw (asks d.flag fresh b ∙ ap (λ g. Reads ∷ Reads ∷ steps_of_change g fresh b) f)
     (tied_by meaning key barrier y.is_open y d c.fates fresh b refl f)

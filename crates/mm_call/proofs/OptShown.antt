@@ -1,11 +1,16 @@
 -- Opt: what the register shows of a call, and what is asked of it.
 use Rattle.mm_call.proofs.Below.{◌≡◌, ℕ, Bool, true, false, List, [], ◌∷◌, ◌++◌, map, Option, Some, refl, sym, ap, ◌∙◌, subst}
 use Rattle.mm_call.proofs.Below.{if◌then◌else◌, AllByRecursion, Contains, option_map, map-append, Opt, extended_message, Item, Standing}
-use Rattle.mm_call.proofs.Below.{item_values, Meaning, Batch, digest_after, trail, Instance, opt_instance, Value, History, Move, Commit, Foreign, Reset}
-use Rattle.mm_call.proofs.Below.{Close, first_history, register_value_of, entry_values, AreMessagesIn, Digests, digests_after, digests_after_commit, digests_of}
-use Rattle.mm_call.proofs.Below.{StandsFor, trail-append, register_folds, reads_zero, each_left, each_right, digest_level, state_after_moves, StepFate}
-use Rattle.mm_call.proofs.Below.{Course, has_close, call_outcome, cell_at, StandsAt, items_after_moves, moves_from_reset, counted_part, counted_moves, AreShown}
-use Rattle.mm_call.proofs.Below.{foreign_items, standing_items, MovesAreTied, shows, committed_batches, MovesCount, history_with_values, committed-foreign}
+use Rattle.mm_call.proofs.Below.{item_values, Meaning, Batch, digest_after, trail, Instance, opt_instance, Value, History, Move, Commit}
+use Rattle.mm_call.proofs.Below.{Foreign, Reset}
+use Rattle.mm_call.proofs.Below.{Close, first_history, register_value_of, entry_values, AreMessagesIn, Digests, digests_after}
+use Rattle.mm_call.proofs.Below.{digests_after_commit, digests_of}
+use Rattle.mm_call.proofs.Below.{StandsFor, trail-append, register_folds, reads_zero, each_left, each_right, digest_level}
+use Rattle.mm_call.proofs.Below.{state_after_moves, StepFate}
+use Rattle.mm_call.proofs.Below.{Course, has_close, call_outcome, cell_at, StandsAt, items_after_moves, moves_from_reset, counted_part}
+use Rattle.mm_call.proofs.Below.{counted_moves, AreShown}
+use Rattle.mm_call.proofs.Below.{foreign_items, standing_items, MovesAreTied, shows, committed_batches, MovesCount, history_with_values}
+use Rattle.mm_call.proofs.Below.{committed-foreign}
 use Rattle.mm_call.proofs.Below.{moves_from_reset-foreign, zero_bytes, after-append, counts_open}
 use Rattle.mm_model.specs.Chains.{register_of}
 use Rattle.mm_seal.specs.Cell.{IsCell, cell_spelling}
@@ -23,7 +28,8 @@ abbrev some_open : History
 some_open = record first_history { is_open = true }
 
 -- a commit with no segment open comes behind a reset
-resets : (fates : ℕ → StepFate) (fresh : Bool) (b : Batch) (moves : List Move) → Shape fates fresh b moves → committed_batches moves ≡ b ∷ []
+resets : (fates : ℕ → StepFate) (fresh : Bool) (b : Batch) (moves : List Move) → Shape fates fresh b moves → committed_batches moves ≡ b
+    ∷ []
     → moves_from_reset moves ≡ [] → ⊥
 resets fates fresh b moves (still values is) c empty =
     let one : committed_batches (map Foreign values) ≡ b ∷ [] = ap committed_batches (sym is) ∙ c in
@@ -49,12 +55,14 @@ trail_split s m k =
 
 shown_parts : (all others : List (List ℕ)) (i : Instance) (y : History) (m k : List Item) → AreShown all others i y (m ++ k)
     → (let s : List ℕ = digest_after extended_message (register_value_of i (counted_part y)) (item_values m) in
-    AreShown all others i y m × AreMessagesIn (trail extended_message s (item_values k)) all × AllByRecursion (Contains others) (foreign_items k))
+    AreShown all others i y m × AreMessagesIn (trail extended_message s (item_values k)) all × AllByRecursion (Contains others)
+    (foreign_items k))
 shown_parts all others i y m k a =
     let s : List ℕ = register_value_of i (counted_part y) in
     let front : List (List ℕ) = trail extended_message s (item_values m) in
     let back : List (List ℕ) = trail extended_message (digest_after extended_message s (item_values m)) (item_values k) in
-    let messages : AreMessagesIn (front ++ back) all = subst (λ (ms : List (List ℕ)). AreMessagesIn ms all) (trail_split s m k) a.messages in
+    let messages : AreMessagesIn (front ++ back) all = subst (λ (ms : List (List ℕ)). AreMessagesIn ms all)
+        (trail_split s m k) a.messages in
     let values = subst (AllByRecursion (Contains others)) (foreign_of-append m k) a.values in (
       record {
         messages = each_left (Contains all) front back messages;
@@ -121,7 +129,8 @@ module _ (meaning : Meaning) (key barrier : List ℕ) where
   committing_flag true d b e = e
   committing_flag false d b e = refl
 
-  pub flag_kept : (moves : List Move) (d : Digests) → d.flag ≡ true → has_close moves ≡ false → (state_after_moves (digest_level I) d moves).flag ≡ true
+  pub flag_kept : (moves : List Move) (d : Digests) → d.flag ≡ true → has_close moves ≡ false
+      → (state_after_moves (digest_level I) d moves).flag ≡ true
   flag_kept [] d f e = f
   flag_kept (Commit b ∷ moves) d f e = flag_kept moves (digests_after I d (Commit b)) (committing_flag d.flag d b refl) e
   flag_kept (Close ∷ moves) d f e = absurd (cc)

@@ -1,14 +1,22 @@
 -- Opt: the moves of a walk may be made, where its steps are ready, as those of a call are; and the history at its end.
 use Rattle.mm_call.proofs.Below.{ℕ, ◌≡◌, ◌+◌, Bool, true, false, List, [], ◌∷◌, ◌++◌, map, None, refl, ap, ◌∙◌, subst, AllByRecursion}
-use Rattle.mm_call.proofs.Below.{Contains, Opt, Meaning, Batch, Instance, opt_instance, History, Move, Foreign, history_after, AreMessagesIn, move_messages}
-use Rattle.mm_call.proofs.Below.{Digests, digests_after, DeviceStep, Reads, Changes, Writes, ask_steps, checkpoint_steps, each_left, each_right, list_level}
-use Rattle.mm_call.proofs.Below.{digest_level, state_after_moves, End, Done, Fails, StepFate, StepsWalk, walk_from_step, walk, messages_of_moves, foreign_move_values, history_with_values}
-use Rattle.mm_call.proofs.Below.{taking_is, foreign_made, foreign_move_values-first, foreign_move_values-append, foreign_move_values-foreign, append-nil, made-append}
-use Rattle.mm_call.proofs.Below.{step_moves, EachMove, steps_of_change, asks, sym, guard, RegisterEntry, Own, Value, Commit, PlacedMove, Reset, Close}
-use Rattle.mm_call.proofs.Below.{with_last_batch, items_of_all, is_empty, has_value, batches_in, IsOpening, IsAllowed, values_in, renamed-push}
+use Rattle.mm_call.proofs.Below.{Contains, Opt, Meaning, Batch, Instance, opt_instance, History, Move, Foreign, history_after}
+use Rattle.mm_call.proofs.Below.{AreMessagesIn, move_messages}
+use Rattle.mm_call.proofs.Below.{Digests, digests_after, DeviceStep, Reads, Changes, Writes, ask_steps, checkpoint_steps, each_left}
+use Rattle.mm_call.proofs.Below.{each_right, list_level}
+use Rattle.mm_call.proofs.Below.{digest_level, state_after_moves, End, Done, Fails, StepFate, StepsWalk, walk_from_step, walk}
+use Rattle.mm_call.proofs.Below.{messages_of_moves, foreign_move_values, history_with_values}
+use Rattle.mm_call.proofs.Below.{taking_is, foreign_made, foreign_move_values-first, foreign_move_values-append}
+use Rattle.mm_call.proofs.Below.{foreign_move_values-foreign, append-nil, made-append}
+use Rattle.mm_call.proofs.Below.{step_moves, EachMove, steps_of_change, asks, sym, guard, RegisterEntry, Own, Value, Commit, PlacedMove}
+use Rattle.mm_call.proofs.Below.{Reset, Close}
+use Rattle.mm_call.proofs.Below.{with_last_batch, items_of_all, is_empty, has_value, batches_in, IsOpening, IsAllowed, values_in}
+use Rattle.mm_call.proofs.Below.{renamed-push}
 use Rattle.mm_call.proofs.Below.{batch_messages, not, zero_bytes, extended_digest_of, register_of, own_values, are_own, issued_place}
-use Rattle.mm_call.proofs.Below.{register-push, own_values-append, values_of-own, reads_zero, DigestsAgree, place_after_batch, arith, extended_message}
-use Rattle.mm_call.proofs.Below.{guard_message, MayMove, each_self, Course, finding_at, finding_unless_wanting, is_fresh, Result, CallFinding}
+use Rattle.mm_call.proofs.Below.{register-push, own_values-append, values_of-own, reads_zero, DigestsAgree, place_after_batch, arith}
+use Rattle.mm_call.proofs.Below.{extended_message}
+use Rattle.mm_call.proofs.Below.{guard_message, MayMove, each_self, Course, finding_at, finding_unless_wanting, is_fresh, Result}
+use Rattle.mm_call.proofs.Below.{CallFinding}
 use Rattle.mm_call.proofs.Below.{Refusal, IsSound, NamesPosition, Content, sound_moved, opt_names}
 use Rattle.mm_call.proofs.OptHolding.{Holds, IsFine, holds_moved, foreign_fine, reset_may}
 use Rattle.mm_call.proofs.Finding.{IsLive, live_found}
@@ -91,7 +99,8 @@ step_brings Reads made values own = foreign_move_values-foreign values
 step_brings (Changes m) true values own = foreign_move_values-first values (m ∷ []) ∙ ap (λ w. values ++ w) own.0 ∙ append-nil values
 step_brings (Changes m) false values own = foreign_move_values-first values [] ∙ append-nil values
 step_brings (Writes m) true values own =
-    foreign_move_values-append (m ∷ []) (map Foreign values) ∙ ap (λ w. w ++ foreign_move_values (map Foreign values)) own.0 ∙ foreign_move_values-foreign values
+    foreign_move_values-append (m ∷ []) (map Foreign values) ∙ ap (λ w. w ++ foreign_move_values (map Foreign values)) own.0
+    ∙ foreign_move_values-foreign values
 step_brings (Writes m) false values own = foreign_move_values-foreign values
 
 -- what others put in among moves is theirs
@@ -103,7 +112,8 @@ module _ (others : List (List ℕ)) where
   outside_parts : (xs ys : List Move) → Outside (xs ++ ys) → Outside xs × Outside ys
   outside_parts xs ys h =
       let w = subst (AllByRecursion (Contains others)) (foreign_move_values-append xs ys) h in
-      (each_left (Contains others) (foreign_move_values xs) (foreign_move_values ys) w, each_right (Contains others) (foreign_move_values xs) (foreign_move_values ys) w)
+      (each_left (Contains others) (foreign_move_values xs) (foreign_move_values ys) w, each_right (Contains others)
+      (foreign_move_values xs) (foreign_move_values ys) w)
 
   pub front_outside : (values : List (List ℕ)) (moves : List Move) → Outside (map Foreign values ++ moves)
       → AllByRecursion (Contains others) values × Outside moves
@@ -320,7 +330,8 @@ module _ (meaning : Meaning) (key barrier : List ℕ) where
   end_place fates seen d b false true f own a = rw (a.flag ∙ f, a.digest, f) refl
   end_place fates seen d b true false f own a =
       let register : extended_digest_of d.register (guard barrier b) ≡ register_of (own_values barrier (seen.current ++ b ∷ [])) =
-      ap (λ r. extended_digest_of r (guard barrier b)) (a.register ∙ ap register_of (values_of-own barrier seen.items seen.current (own refl)))
+      ap (λ r. extended_digest_of r (guard barrier b))
+      (a.register ∙ ap register_of (values_of-own barrier seen.items seen.current (own refl)))
       ∙ sym (register-push (own_values barrier seen.current) (guard barrier b))
       ∙ ap register_of (sym (own_values-append barrier seen.current (b ∷ []))) in
       rw (a.flag ∙ f, a.digest, register, f) refl

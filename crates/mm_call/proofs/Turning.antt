@@ -11,7 +11,8 @@ use Rattle.mm_model.specs.declared.refusal.Refusal.{Refusal}
 use Rattle.mm_machine.specs.Acts.{remaining_acts}
 use Rattle.mm_machine.specs.OpMeaning.{OpMeaning}
 use Rattle.mm_machine.specs.OpEnds as machine
-use Rattle.mm_machine.specs.OpReads.{StepDraws, CellSays, SightFinds, FindsRoom, OpLooks, OpReads, RegisterSays, RoomIsMadeIf, RoomIsMadeFor, OpWeighs, has_extension}
+use Rattle.mm_machine.specs.OpReads.{StepDraws, CellSays, SightFinds, FindsRoom, OpLooks, OpReads, RegisterSays, RoomIsMadeIf}
+use Rattle.mm_machine.specs.OpReads.{RoomIsMadeFor, OpWeighs, has_extension}
 use Rattle.mm_machine.specs.OpSteps.{SightLeads, OpSteps, act_of, ending_by_halt, step_of_finding, step_after_change}
 use Rattle.mm_machine.specs.declared.call.OpResult.{OpResult as End}
 use Rattle.mm_machine.specs.declared.call.OpStage.{OpStage}
@@ -91,7 +92,8 @@ module _ (middle new : Standing) where
 halt_fault : (why : Halt Refusal) → step_fault (Over (ending_by_halt why)) ≡ fault_of (refusal_of_halt why)
 halt_fault why = ap (λ (e : AskResult). fault_in (result_of e)) (halted_told why) ∙ ap fault_in (refused_result (refusal_of_halt why))
 
-found_fault : (found : Result (OpFinding BatchAnswer) (Halt Refusal)) → step_fault (step_of_finding found) ≡ fault_in (finding_of_machine found)
+found_fault : (found : Result (OpFinding BatchAnswer) (Halt Refusal)) → step_fault (step_of_finding found)
+    ≡ fault_in (finding_of_machine found)
 found_fault (Err why) = halt_fault why
 found_fault (Ok (Repeat answer)) = refl
 found_fault (Ok (Change ready)) = refl
@@ -113,7 +115,8 @@ module _ (o : OpMeaning BatchAnswer Refusal) (quiet : IsQuiet o) where
       let says : Result (Sight BatchAnswer) Refusal → Type 0 = λ x. CellSays old (λ bytes. o.sees bytes x) in
       draws_goes (StepGoes ReadCell old new) says (λ (why : Refusal) (s : says (Err why)). quiet.sees s.bytes why s.said) seen l
 
-  pub weighs_goes : (cell : Cell) (old new : Standing) (found : Result (OpFinding BatchAnswer) (Halt Refusal)) → OpWeighs o cell old new found
+  pub weighs_goes : (cell : Cell) (old new : Standing) (found : Result (OpFinding BatchAnswer) (Halt Refusal))
+      → OpWeighs o cell old new found
       → StepGoes ReadRegister old new (fault_in (finding_of_machine found))
   weighs_goes cell old new found w =
       let says : Result (OpFinding BatchAnswer) Refusal → Type 0 = λ x. RegisterSays new (λ register. o.finds cell register x) in
@@ -121,7 +124,8 @@ module _ (o : OpMeaning BatchAnswer Refusal) (quiet : IsQuiet o) where
       found w
 
   found_steps : (act : Act) (old middle new : Standing) (found given : Result (OpFinding BatchAnswer) (Halt Refusal))
-      (step : StepResult BatchAnswer Refusal) → StepGoes act old middle (fault_in (finding_of_machine found)) → RoomIsMadeFor found middle new given
+      (step : StepResult BatchAnswer Refusal) → StepGoes act old middle (fault_in (finding_of_machine found))
+      → RoomIsMadeFor found middle new given
       → step ≡ step_of_finding given → StepsBy act old new (step_fault step)
   found_steps act old middle new found given step g r e = record {
     middle = middle;
@@ -159,7 +163,8 @@ module _ (o : OpMeaning BatchAnswer Refusal) (quiet : IsQuiet o) where
       found_steps ReadRegister old f.middle new f.found s.found step (weighs_goes cell old f.middle f.found f.finds) f.rooms s.gives
   steps_by (Changing ready) old new step s = record {
     middle = new;
-    goes = subst (StepGoes (act_of (Changing ready)) old new) (made_fault ready.change ready.answer s.fault ∙ ap step_fault (sym s.gives)) s.goes;
+    goes = subst (StepGoes (act_of (Changing ready)) old new) (made_fault ready.change ready.answer s.fault ∙ ap step_fault (sym s.gives))
+        s.goes;
     room = refl;
   }
 
@@ -194,7 +199,8 @@ module _ (o : OpMeaning BatchAnswer Refusal) (quiet : IsQuiet o) where
   sight_blamed old middle new (Err why) given g f = rooms_blamed ReadCell old middle new (Err why) given g f
   sight_blamed old middle new (Ok (sight.Found found)) given g f = rooms_blamed ReadCell old middle new (Ok found) given g f
   sight_blamed old middle new (Ok (sight.Cell cell)) given g f =
-      blamed_later (fault_in (finding_of_machine given)) old.faults middle.faults new.faults g.ends.faults (weighs_blamed cell middle new given f)
+      blamed_later (fault_in (finding_of_machine given)) old.faults middle.faults new.faults g.ends.faults
+      (weighs_blamed cell middle new given f)
 
   given_blamed : (old new : Standing) (given : Result (OpFinding BatchAnswer) (Halt Refusal)) → OpReads o old new given
       → CountsHandedFault (fault_in (finding_of_machine given)) old.faults new.faults

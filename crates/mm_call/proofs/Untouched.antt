@@ -1,6 +1,7 @@
 -- What a whole call leaves that the machine makes: where it is refused nothing has changed, and its faults are counted.
 use Rattle.mm_call.proofs.Below.{◌≡◌, ℕ, ◌++◌, Bool, true, false, List, None, Result, Ok, Err, refl, sym, ap, ◌∙◌, subst, arith}
-use Rattle.mm_call.proofs.Below.{Standing, StepGoes, Meaning, Batch, Variant, BatchAnswer, Refusal, Long, AskResult, IsCallToEnd, CallKind, IsWholeCall}
+use Rattle.mm_call.proofs.Below.{Standing, StepGoes, Meaning, Batch, Variant, BatchAnswer, Refusal, Long, AskResult, IsCallToEnd, CallKind}
+use Rattle.mm_call.proofs.Below.{IsWholeCall}
 use Rattle.mm_call.proofs.Below.{fault_of, fault_in, IsUntouched, LeavesUntouched, CountsHandedFault}
 use Rattle.mm_platform.specs.CallLaws.{beside-beside}
 use Rattle.mm_platform.specs.Steps.{ReadCell, ReadRegister, items_beside}
@@ -44,19 +45,22 @@ abbrev Refuses : Standing → Standing → Result (OpFinding BatchAnswer) Refusa
 Refuses old new (Ok found) = Unit {0}
 Refuses old new (Err why) = fault_of why ≡ None → IsUntouched old new
 
-room_refused : (needs : Bool) (found : OpFinding BatchAnswer) (given : Result (OpFinding BatchAnswer) (Halt Refusal)) (old middle new : Standing)
+room_refused : (needs : Bool) (found : OpFinding BatchAnswer) (given : Result (OpFinding BatchAnswer) (Halt Refusal))
+    (old middle new : Standing)
     → IsUntouched old middle → RoomIsMadeIf needs found middle new given → Refuses old new (finding_of_machine given)
 room_refused false found given old middle new u r = rw r.1 tt
 room_refused true found (Ok it) old middle new u r = tt
 room_refused true found (Err why) old middle new u r = λ _. rw r.0 u
 
 rooms_refused : (found given : Result (OpFinding BatchAnswer) (Halt Refusal)) (old middle new : Standing)
-    → (fault_in (finding_of_machine found) ≡ None → IsUntouched old middle) → RoomIsMadeFor found middle new given → Refuses old new (finding_of_machine given)
+    → (fault_in (finding_of_machine found) ≡ None → IsUntouched old middle) → RoomIsMadeFor found middle new given
+    → Refuses old new (finding_of_machine given)
 rooms_refused (Err why) given old middle new u r = rw (r.0, r.1) u
 rooms_refused (Ok found) given old middle new u r = room_refused (has_extension found) found given old middle new (u refl) r
 
 module _ (o : OpMeaning BatchAnswer Refusal) (quiet : IsQuiet o) where
-  weighs_refused : (cell : Cell) (old middle new : Standing) (given : Result (OpFinding BatchAnswer) (Halt Refusal)) → IsUntouched old middle
+  weighs_refused : (cell : Cell) (old middle new : Standing) (given : Result (OpFinding BatchAnswer) (Halt Refusal))
+      → IsUntouched old middle
       → FindsRoom (OpWeighs o cell middle) new given → Refuses old new (finding_of_machine given)
   weighs_refused cell old middle new given u f =
       rooms_refused f.found given old f.middle new (λ none. then_untouched old middle f.middle u (register_untouched middle f.middle

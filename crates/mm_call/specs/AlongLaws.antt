@@ -1,6 +1,7 @@
 -- What holds of each move of a walk holds of all of them: so a call closes no segment, and a checkpoint commits nothing.
 use Rattle.std.proofs.Common.{◌+◌, map, refl, ap, ◌∙◌, ℕ, ◌≡◌, Bool, true, false, List, [], ◌∷◌, ◌++◌}
-use Rattle.mm_call.specs.Below.{Variant, Basic, Opt, Batch, History, Move, Commit, Foreign, Close, history_after, history_after_commit, Instance, DeviceStep, Reads}
+use Rattle.mm_call.specs.Below.{Variant, Basic, Opt, Batch, History, Move, Commit, Foreign, Close, history_after, history_after_commit}
+use Rattle.mm_call.specs.Below.{Instance, DeviceStep, Reads}
 use Rattle.mm_call.specs.Below.{Changes, Writes, checkpoint_steps}
 use Rattle.mm_call.specs.Levels.{list_level, state_after_moves}
 use Rattle.mm_call.specs.CallOutcome.{reading_steps}
@@ -96,7 +97,8 @@ changing_each false true b = (refl, (refl, (refl, tt)))
 changing_each _ false b = tt
 
 -- a call closes no segment
-pub opt_closes : (fates : ℕ → StepFate) (flag fresh : Bool) (b : Batch) → has_close (walk fates 1 (Reads ∷ Reads ∷ steps_of_change flag fresh b)).moves
+pub opt_closes : (fates : ℕ → StepFate) (flag fresh : Bool) (b : Batch)
+    → has_close (walk fates 1 (Reads ∷ Reads ∷ steps_of_change flag fresh b)).moves
     ≡ false
 opt_closes fates flag fresh b =
     walk_along ClosesNone shut_along fates 1 (Reads ∷ Reads ∷ steps_of_change flag fresh b) (changing_each flag fresh b)

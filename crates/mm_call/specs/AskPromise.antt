@@ -11,7 +11,8 @@ use Rattle.mm_call.specs.Untouched.{CountsHandedFault, LeavesUntouched}
 use Rattle.mm_call.specs.Refusals.{fault_in}
 
 -- One call over a platform, that offered these bytes and asked for the batch.
-pub record AskPromise (c : CallKind (OpFinding BatchAnswer)) (meaning : Meaning) (old new : Standing)
+pub record AskPromise (c : CallKind (OpFinding BatchAnswer)) (meaning : Meaning)
+    (old new : Standing)
     (offer : List ℕ) (b : Batch) (result : Result BatchAnswer Refusal) : Type 0 where
   -- the steps that were made, and what each gave; none where the batch is too long
   pub calls : IsWholeCall c meaning old new offer b result

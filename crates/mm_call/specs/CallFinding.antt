@@ -23,7 +23,8 @@ finding_by_verdict i level seen b (Err Form) = Err refusal.Form
 finding_by_verdict i level seen b (Err Kind) = Err refusal.Kind
 
 -- what a call finds at this state: power was lost, or the offer is refused or accepted
-abbrev pub finding_at : {S : Type 0} → Instance → Level S → S → Batch → List ℕ → Result CallFinding Refusal
+abbrev pub finding_at : {S : Type 0} → Instance → Level S → S → Batch → List ℕ
+    → Result CallFinding Refusal
 finding_at i level seen b bytes =
     if level.is_lost seen then Err refusal.Lost else finding_by_verdict i level seen b
     (parts_of i.variant i.meaning.id bytes)

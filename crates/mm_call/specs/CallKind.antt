@@ -24,11 +24,13 @@ committed_position (act ∷ acts) answer = None
 
 -- A device step, and what comes after it: the step is done, and the rest follows; or it fails, and
 -- so the call ends.
-pub data IsStepToEnd (act : Act) (commits : Option ℕ) (rest : Standing → Type 0) (old new : Standing)
+pub data IsStepToEnd (act : Act) (commits : Option ℕ) (rest : Standing → Type 0)
+    (old new : Standing)
     (ended : AskResult) : Type 0 where
   goes_on : (middle : Standing) → StepGoes act old middle None → rest middle
       → IsStepToEnd act commits rest old new ended
-  breaks_off : (fault : StepFault) → StepGoes act old new (Some fault) → ended ≡ Broken fault commits
+  breaks_off : (fault : StepFault) → StepGoes act old new (Some fault)
+      → ended ≡ Broken fault commits
       → IsStepToEnd act commits rest old new ended
 
 -- The device steps that commit the batch that has this answer, one after another, and how the call
@@ -36,14 +38,17 @@ pub data IsStepToEnd (act : Act) (commits : Option ℕ) (rest : Standing → Typ
 abbrev pub AreStepsToEnd : List Act → BatchAnswer → Standing → Standing → AskResult → Type 0
 AreStepsToEnd [] answer old new ended = (new ≡ old) × (ended ≡ Answered answer)
 AreStepsToEnd (act ∷ acts) answer old new ended =
-    IsStepToEnd act (committed_position acts answer) (λ middle. AreStepsToEnd acts answer middle new ended) old new
+    IsStepToEnd act (committed_position acts answer)
+    (λ middle. AreStepsToEnd acts answer middle new ended) old new
     ended
 
 -- How a call ended that found this: a refusal of the reading steps ends it, and touches nothing.
-abbrev pub EndsByFinding : {F : Type 0} → CallKind F → Result F Refusal → Standing → Standing → AskResult
+abbrev pub EndsByFinding : {F : Type 0} → CallKind F → Result F Refusal → Standing → Standing
+    → AskResult
     → Type 0
 EndsByFinding c (Err why) old new ended = (new ≡ old) × (ended ≡ end_of_refusal why)
-EndsByFinding c (Ok found) old new ended = AreStepsToEnd (c.acts found) (c.answer found) old new ended
+EndsByFinding c (Ok found) old new ended =
+    AreStepsToEnd (c.acts found) (c.answer found) old new ended
 
 -- A call from its first step to its end.
 pub record IsCallToEnd {F : Type 0} (c : CallKind F) (meaning : Meaning) (old new : Standing)

@@ -1,7 +1,8 @@
 -- What a call over a platform is: the walk of its steps on some course, by digests and by lists.
 use Rattle.std.specs.Prelude.{◌≡◌, ℕ, List, Result}
 use Rattle.std.specs.Option.{option_map}
-use Rattle.mm_call.specs.Below.{Variant, Standing, Batch, normal_batch, Meaning, History, Instance, Digests, digests_of, StandsFor, BatchAnswer}
+use Rattle.mm_call.specs.Below.{Variant, Standing, Batch, normal_batch, Meaning, History, Instance, Digests, digests_of, StandsFor}
+use Rattle.mm_call.specs.Below.{BatchAnswer}
 use Rattle.mm_call.specs.Below.{Refusal}
 use Rattle.mm_call.specs.Levels.{list_level, digest_level}
 use Rattle.mm_call.specs.Courses.{Course, AreTold}
@@ -33,7 +34,8 @@ pub record CallContinues (all others : List (List ℕ)) (asked : List Batch) (i 
 -- one is told, on which the call goes from any digests that the platform stands at, and from any
 -- history that it stands for. What is asked of the moves is asked of what the register shows of
 -- them, by the field `items`.
-pub record IsCallOnCourse (variant : Variant) (meaning : Meaning) (old new : Standing) (offer : List ℕ)
+pub record IsCallOnCourse (variant : Variant) (meaning : Meaning)
+    (old new : Standing) (offer : List ℕ)
     (b : Batch)
     (result : Result BatchAnswer Refusal) : Type 0 where
   pub course : Course
@@ -50,7 +52,8 @@ pub record IsCallOnCourse (variant : Variant) (meaning : Meaning) (old new : Sta
       IsAsked all others asked (instance_by variant meaning key barrier) y
       (call_outcome (instance_by variant meaning key barrier)
       (digest_level (instance_by variant meaning key barrier))
-      (digests_of (instance_by variant meaning key barrier) y) course offer (normal_batch b)).moves offer
+      (digests_of (instance_by variant meaning key barrier) y) course offer (normal_batch b)).moves
+      offer
       (normal_batch b) →
       CallContinues all others asked (instance_by variant meaning key barrier)
       (call_outcome (instance_by variant meaning key barrier)

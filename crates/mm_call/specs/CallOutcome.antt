@@ -2,7 +2,8 @@
 use Rattle.std.specs.Prelude.{ℕ, true, false, List, [], ◌∷◌, Option, None, Some, Result, Ok, Err, fold, if◌then◌else◌}
 use Rattle.std.specs.Option.{option_map_or}
 use Rattle.std.specs.Result.{result_ok, result_and}
-use Rattle.mm_call.specs.Below.{Variant, Basic, Opt, StepFault, Batch, Move, Instance, DeviceStep, Reads, ask_steps, BatchAnswer, Refusal, Device}
+use Rattle.mm_call.specs.Below.{Variant, Basic, Opt, StepFault, Batch, Move, Instance, DeviceStep, Reads, ask_steps, BatchAnswer, Refusal}
+use Rattle.mm_call.specs.Below.{Device}
 use Rattle.mm_call.specs.Below.{Memory}
 use Rattle.mm_call.specs.Levels.{Level}
 use Rattle.mm_call.specs.CallFinding.{CallFinding, finding_at}
@@ -50,7 +51,8 @@ position_of level seen s b (Err why) = 0
 
 -- how a walk ends a call, by what was found: from the state at the reading steps and the state at
 -- the end. A call that is broken off has that position where the batch was committed.
-abbrev pub call_ending_by : {S : Type 0} → Level S → S → S → Batch → Result CallFinding Refusal → List Move
+abbrev pub call_ending_by : {S : Type 0} → Level S → S → S → Batch → Result CallFinding Refusal
+    → List Move
     → Option StepFault → CallEnding
 call_ending_by level seen s b found moves (Some fault) =
     Breaks fault (if has_commit moves then Some (position_of level seen s b found) else None)
@@ -59,11 +61,13 @@ call_ending_by level seen s b (Ok found) moves None =
     Answers (level.answer found.again seen s found.offered b)
 
 -- a call, by the walk of its steps
-abbrev pub call_outcome_by : {S : Type 0} → Level S → S → S → Batch → Result CallFinding Refusal → StepsWalk
+abbrev pub call_outcome_by : {S : Type 0} → Level S → S → S → Batch → Result CallFinding Refusal
+    → StepsWalk
     → CallOutcome S
 call_outcome_by level s seen b found walked =
     outcome_of_walk level s
-    (call_ending_by level seen (fold level.made s walked.moves) b found walked.moves walked.broken) walked
+    (call_ending_by level seen (fold level.made s walked.moves) b found walked.moves walked.broken)
+    walked
 
 -- the state that a call sees: after the values that come before its reading steps
 abbrev pub state_seen : {S : Type 0} → Instance → Level S → S → Course → S
@@ -72,7 +76,8 @@ state_seen i level s c = fold level.made s (moves_seen c.fates (reading_steps i.
 -- A call that offers these bytes and asks for the batch: its steps follow from what it sees and
 -- finds at its last reading step, and are walked on the course. Memory may be wanting when the
 -- batch is run.
-abbrev pub call_outcome : {S : Type 0} → Instance → Level S → S → Course → List ℕ → Batch → CallOutcome S
+abbrev pub call_outcome : {S : Type 0} → Instance → Level S → S → Course → List ℕ → Batch
+    → CallOutcome S
 call_outcome i level s c bytes b =
     let seen = state_seen i level s c in
     let offered = finding_at i level seen b bytes in

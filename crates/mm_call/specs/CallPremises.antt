@@ -3,7 +3,8 @@
 use Rattle.std.specs.Prelude.{◌≡◌, ℕ, Bool, true, false, List, [], ◌∷◌, ◌++◌, Option, if◌then◌else◌}
 use Rattle.std.specs.List.{AllByRecursion, Contains}
 use Rattle.std.specs.Option.{option_map_or}
-use Rattle.mm_call.specs.Below.{Variant, Basic, Opt, Content, Batch, History, Move, Foreign, Reset, history_after, Instance, AreMessagesIn, IsClear}
+use Rattle.mm_call.specs.Below.{Variant, Basic, Opt, Content, Batch, History, Move, Foreign, Reset, history_after, Instance, AreMessagesIn}
+use Rattle.mm_call.specs.Below.{IsClear}
 use Rattle.mm_call.specs.Below.{AreNoGuards, history_messages, messages_for_move, offer_messages, IsOutside, IsSound, IsGenuine}
 use Rattle.mm_call.specs.CallFinding.{right_content}
 
@@ -71,5 +72,7 @@ pub record IsAsked (all others : List (List ℕ)) (asked : List Batch) (i : Inst
   pub is_asked : Contains asked b
   pub genuine : IsGenuine i y offer
   pub offered : AreMessagesIn (right_messages i b (right_content i offer)) all
-  pub messages : AreMessagesIn (messages_of_moves i (counted_part y) (counted_moves y.is_open moves)) all
-  pub values : AllByRecursion (Contains others) (foreign_move_values (counted_moves y.is_open moves))
+  pub messages : AreMessagesIn
+      (messages_of_moves i (counted_part y) (counted_moves y.is_open moves)) all
+  pub values : AllByRecursion (Contains others)
+      (foreign_move_values (counted_moves y.is_open moves))

@@ -2,7 +2,8 @@
 use Rattle.std.specs.Prelude.{ℕ, Bool, true, false, List}
 use Rattle.std.specs.List.{AllByRecursion, Contains}
 use Rattle.std.specs.Option.{option_map_or}
-use Rattle.mm_call.specs.Below.{Variant, Basic, Opt, StepFault, Batch, Meaning, History, Move, Instance, basic_instance, opt_instance, AreMessagesIn, IsClear}
+use Rattle.mm_call.specs.Below.{Variant, Basic, Opt, StepFault, Batch, Meaning, History, Move, Instance, basic_instance, opt_instance}
+use Rattle.mm_call.specs.Below.{AreMessagesIn, IsClear}
 use Rattle.mm_call.specs.Below.{Digests, checkpoint_steps}
 use Rattle.mm_call.specs.Levels.{Level, list_level, digest_level, DigestsAgree}
 use Rattle.mm_call.specs.Courses.{Course, StepsWalk, walk, has_close}
@@ -32,7 +33,8 @@ checkpoint_ending Opt true true = LostPower
 checkpoint_ending Opt true false = Closes
 
 -- a checkpoint, by how it ends unless it is broken off, and the walk of its steps
-abbrev pub checkpoint_outcome_by : {S : Type 0} → Level S → S → CheckpointEnding → StepsWalk → CheckpointOutcome S
+abbrev pub checkpoint_outcome_by : {S : Type 0} → Level S → S → CheckpointEnding → StepsWalk
+    → CheckpointOutcome S
 checkpoint_outcome_by level s closing walked =
     outcome_of_walk level s
     (option_map_or (λ fault. Stops fault (has_close walked.moves)) walked.broken closing) walked
@@ -50,8 +52,10 @@ pub record IsClosedWithin (all others : List (List ℕ)) (asked : List Batch) (i
     (y : History) (moves : List Move) : Type 0 where
   pub clear : IsClear all
   pub within : IsWithin all others asked i y
-  pub messages : AreMessagesIn (messages_of_moves i (counted_part y) (counted_moves y.is_open moves)) all
-  pub values : AllByRecursion (Contains others) (foreign_move_values (counted_moves y.is_open moves))
+  pub messages : AreMessagesIn
+      (messages_of_moves i (counted_part y) (counted_moves y.is_open moves)) all
+  pub values : AllByRecursion (Contains others)
+      (foreign_move_values (counted_moves y.is_open moves))
 
 abbrev pub IsSameCheckpoint : List (List ℕ) → List (List ℕ) → List Batch → Instance
     → CheckpointOutcome History → CheckpointOutcome Digests → Type 0
@@ -68,7 +72,8 @@ CheckpointsAgree i =
     (checkpoint_outcome i (digest_level i) d course)
 
 abbrev pub BasicCheckpointsAgree : Type 0
-BasicCheckpointsAgree = (meaning : Meaning) (key : List ℕ) → CheckpointsAgree (basic_instance meaning key)
+BasicCheckpointsAgree = (meaning : Meaning) (key : List ℕ)
+    → CheckpointsAgree (basic_instance meaning key)
 
 abbrev pub OptCheckpointsAgree : Type 0
 OptCheckpointsAgree =

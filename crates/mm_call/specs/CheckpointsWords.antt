@@ -7,7 +7,8 @@ use Rattle.mm_call.specs.Courses.{Course, walk}
 use Rattle.mm_call.specs.Checkpoints.{Stops, CheckpointEnding, CheckpointOutcome, checkpoint_ending, checkpoint_outcome_by}
 
 abbrev pub checkpoint_ending_by : Option StepFault → Bool → CheckpointEnding → CheckpointEnding
-checkpoint_ending_by broken closed closing = option_map_or (λ fault. Stops fault closed) broken closing
+checkpoint_ending_by broken closed closing =
+    option_map_or (λ fault. Stops fault closed) broken closing
 
 -- a checkpoint, by whether power was lost inside the segment
 abbrev pub checkpoint_outcome_with : {S : Type 0} → Instance → Level S → S → Course → Bool

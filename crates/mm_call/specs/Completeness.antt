@@ -3,7 +3,8 @@ use Rattle.std.specs.Prelude.{◌≡◌, ℕ, ◌+◌, ◌≤◌, true, false, L
 use Rattle.mm_base.specs.Limits.{last_position}
 use Rattle.mm_model.specs.Messages.{IsClearFor}
 use Rattle.mm_model.specs.Places.{NamesPosition}
-use Rattle.mm_call.specs.Below.{Variant, Basic, Opt, Content, Item, Standing, Batch, size_of, normal_batch, Meaning, History, basic_instance, opt_instance, verdict_on}
+use Rattle.mm_call.specs.Below.{Variant, Basic, Opt, Content, Item, Standing, Batch, size_of, normal_batch, Meaning, History}
+use Rattle.mm_call.specs.Below.{basic_instance, opt_instance, verdict_on}
 use Rattle.mm_call.specs.Below.{is_long, StandsFor, IsRight, BatchAnswer, Refusal, Again}
 use Rattle.mm_call.specs.Untouched.{IsAccepted, IsAnswered}
 use Rattle.mm_call.specs.Premises.{AreAsked, AreShown}
@@ -18,7 +19,8 @@ abbrev pub IsComplete : Variant → Meaning → Standing → Standing → List �
     → Result BatchAnswer Refusal → Type 0
 IsComplete Basic meaning old new offer b result =
     is_long b ≡ false → (key : List ℕ) (y : History) (all : List (List ℕ)) (content : Content) →
-    StandsFor (basic_instance meaning key) old y → IsRight (basic_instance meaning key) offer content →
+    StandsFor (basic_instance meaning key) old y
+    → IsRight (basic_instance meaning key) offer content →
     Names (basic_instance meaning key) y content →
     IsClearFor all (basic_instance meaning key) y content.place (normal_batch b) →
     IsAccepted (verdict_on Basic y content.position (normal_batch b)) →

@@ -9,7 +9,8 @@ use Rattle.mm_call.specs.Standing.{count_after_more}
 -- so many steps were made, and so many of them that write the cell
 abbrev pub StepsAre : ℕ → ℕ → Standing → Standing → Type 0
 StepsAre steps writes old new =
-    (new.steps ≡ count_after_more steps old.steps) × (new.writes ≡ count_after_more writes old.writes)
+    (new.steps ≡ count_after_more steps old.steps)
+    × (new.writes ≡ count_after_more writes old.writes)
 
 -- how many steps a call of Opt made; the fifth is the one that writes the cell
 pub data StepsMade (old new : Standing) : Type 0 where

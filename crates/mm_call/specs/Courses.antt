@@ -4,7 +4,8 @@
 use Rattle.std.specs.Prelude.{◌≡◌, ℕ, suc, Bool, true, false, List, [], ◌∷◌, ◌++◌, Option, None, Some, filter, ◌==◌, if◌then◌else◌, ◌+◌}
 use Rattle.std.specs.Prelude.{map}
 use Rattle.std.specs.Option.{option_map_or}
-use Rattle.mm_call.specs.Below.{Plan, Standing, fault_at, is_made_at, StepFault, Move, Commit, Foreign, Close, DeviceStep, Reads, Changes, Writes}
+use Rattle.mm_call.specs.Below.{Plan, Standing, fault_at, is_made_at, StepFault, Move, Commit, Foreign, Close, DeviceStep, Reads, Changes}
+use Rattle.mm_call.specs.Below.{Writes}
 
 -- how a step ends: it is done; or it fails by this fault, with its effect made or not
 pub data End : Type 0 where

@@ -9,7 +9,8 @@ pub record EndsWith (batches : List Batch) (b : Batch) : Type 0 where
   pub is : front ++ b ∷ [] ≡ batches
 
 -- A repeat was answered: the offer names the place before the last batch, which is the one asked.
-pub record RepeatsLastBatch (i : Instance) (y : History) (offer : List ℕ) (b : Batch) (after : History)
+pub record RepeatsLastBatch (i : Instance) (y : History) (offer : List ℕ) (b : Batch)
+    (after : History)
     (answer : BatchAnswer) : Type 0 where
   pub content : Content
   pub right : IsRight i offer content

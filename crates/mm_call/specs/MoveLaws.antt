@@ -2,7 +2,8 @@
 use Rattle.std.proofs.Common.{refl, subst, sym, ap, ◌∙◌, append_assoc, ℕ, ◌≡◌, Bool, true, List, [], ◌∷◌, ◌++◌}
 use Rattle.std.proofs.lemmas.List.{append-nil}
 use Rattle.std.specs.List.{AllByRecursion}
-use Rattle.mm_call.specs.Below.{start_digest_of, Variant, Basic, Opt, Batch, Meaning, basic_digests, History, Move, Commit, Foreign, Close, Power}
+use Rattle.mm_call.specs.Below.{start_digest_of, Variant, Basic, Opt, Batch, Meaning, basic_digests, History, Move, Commit, Foreign, Close}
+use Rattle.mm_call.specs.Below.{Power}
 use Rattle.mm_call.specs.Below.{history_after_commit, history_after, Instance, basic_instance, Digests, digests_of, digests_after, MayMove}
 use Rattle.mm_model.specs.Chains.{anchor_of, summary_of}
 use Rattle.mm_call.specs.CallPremises.{IsPlain}
@@ -28,11 +29,13 @@ unfolding anchor_of
 anchor-nil id = refl
 
 pub agrees-moved : (meaning : Meaning) (key : List ℕ) (y : History) (d : Digests) (m : Move) → IsBasicMove m
-    → DigestsAgree (basic_instance meaning key) y d → DigestsAgree (basic_instance meaning key) (history_after (basic_instance meaning key) y m) (digests_after (basic_instance meaning key) d m)
+    → DigestsAgree (basic_instance meaning key) y d → DigestsAgree (basic_instance meaning key)
+    (history_after (basic_instance meaning key) y m) (digests_after (basic_instance meaning key) d m)
 agrees-moved meaning key y d m is a =
     let i = basic_instance meaning key in
     let before : d ≡ digests_of i y = λ j. record { digest = a.digest j; flag = a.flag j; register = a.register j; count = a.count j } in
-    subst (DigestsAgree i (history_after i y m)) (basic_digests meaning key y m (may_move meaning key y m is) ∙ ap (λ x. digests_after i x m) (sym before))
+    subst (DigestsAgree i (history_after i y m)) (basic_digests meaning key y m (may_move meaning key y m is)
+    ∙ ap (λ x. digests_after i x m) (sym before))
     (record { digest = refl; flag = refl; register = refl; count = refl })
 
 pub plain-moved : (meaning : Meaning) (key : List ℕ) (y : History) (m : Move) → IsBasicMove m → IsPlain y
@@ -41,7 +44,8 @@ plain-moved meaning key y Close is p = absurd is
 plain-moved meaning key y _ is p = record { closed = p.closed; shut = p.shut }
 
 pub agrees-made : (meaning : Meaning) (key : List ℕ) (moves : List Move) (y : History) (d : Digests) → AllByRecursion IsBasicMove moves
-    → DigestsAgree (basic_instance meaning key) y d → DigestsAgree (basic_instance meaning key) (state_after_moves (list_level (basic_instance meaning key)) y moves)
+    → DigestsAgree (basic_instance meaning key) y d → DigestsAgree (basic_instance meaning key)
+    (state_after_moves (list_level (basic_instance meaning key)) y moves)
     (state_after_moves (digest_level (basic_instance meaning key)) d moves)
 agrees-made meaning key [] y d is a = a
 agrees-made meaning key (m ∷ moves) y d is a =

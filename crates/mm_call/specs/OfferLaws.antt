@@ -6,7 +6,8 @@ use Rattle.std.proofs.lemmas.Slice.Eq.{bytes_eq-Decides}
 use Rattle.std.specs.Str.{bytes_eq}
 use Rattle.mm_call.specs.Below.{last_position, length-zero_bytes, Opt, parts_of, spells_read, sealed_once, Content, Snapshot, IsContent}
 use Rattle.mm_call.specs.Below.{IsPlace, snapshot_front, tag_of, PartsFault, Batch, Meaning, IsLawful, state_after, state_after-is_spelled}
-use Rattle.mm_call.specs.Below.{length-anchor_of, length-register_of, length-summary_of, History, requests_of, total_of, Instance, basic_instance}
+use Rattle.mm_call.specs.Below.{length-anchor_of, length-register_of, length-summary_of, History, requests_of, total_of, Instance}
+use Rattle.mm_call.specs.Below.{basic_instance}
 use Rattle.mm_call.specs.Below.{opt_instance, AreMessagesIn, content_of_issue, issued_place, IsRight, issued_bytes}
 use Rattle.mm_seal.specs.Snapshot.{sealed_snapshot_of}
 use Rattle.mm_call.specs.CallPremises.{right_messages}
@@ -49,7 +50,8 @@ right_of i offer (Ok snapshot) e content is =
     subst (λ (x : Content). IsRight i offer x) a.2 (is_right i offer snapshot e a.0 a.1)
 
 pub listed_by : (i : Instance) (y : History) (b : Batch) (all : List (List ℕ)) (seen : Option Content)
-    → ((content : Content) → seen ≡ Some content → AreMessagesIn (right_messages i b (Some content)) all) → AreMessagesIn (right_messages i b seen) all
+    → ((content : Content) → seen ≡ Some content → AreMessagesIn (right_messages i b (Some content)) all)
+    → AreMessagesIn (right_messages i b seen) all
 listed_by i y b all None h = tt
 listed_by i y b all (Some content) h = h content refl
 
@@ -81,6 +83,7 @@ pub opt_content : (meaning : Meaning) → IsLawful meaning → (key barrier : Li
 opt_content meaning lawful key barrier y fits =
     issued_by (opt_instance meaning key barrier) lawful y fits (issued_sized y.is_open meaning key barrier y)
 
-pub issued_once : (i : Instance) (offer : List ℕ) (y : History) (content : Content) → IsContent (content_of_issue i y) → offer ≡ issued_bytes i y
+pub issued_once : (i : Instance) (offer : List ℕ) (y : History) (content : Content) → IsContent (content_of_issue i y)
+    → offer ≡ issued_bytes i y
     → IsRight i offer content → content_of_issue i y ≡ content
 issued_once i offer y content is e right = sealed_once i.key i.key (content_of_issue i y) content is right.formed (sym e ∙ right.sealed)

@@ -22,7 +22,8 @@ shown_same (Some ys) f xs front more other e g h =
     same_rest front other more (sym g ∙ ap f (sym same) ∙ there)
 
 pub asked_by : (i : Instance) (all others : List (List ℕ)) (asked : List Batch) (y : History) (moves : List Move) (offer : List ℕ)
-    (b : Batch) → AreAsked all others asked i y offer b → AreMessagesIn (messages_of_moves i (counted_part y) (counted_moves y.is_open moves)) all
+    (b : Batch) → AreAsked all others asked i y offer b
+    → AreMessagesIn (messages_of_moves i (counted_part y) (counted_moves y.is_open moves)) all
     → AllByRecursion (Contains others) (foreign_move_values (counted_moves y.is_open moves)) → IsAsked all others asked i y moves offer b
 asked_by i all others asked y moves offer b a messages values = record {
   clear = a.clear;
@@ -41,7 +42,8 @@ pub record MovesCount (i : Instance) (y : History) (d : Digests) (moves : List M
   pub tied : IsTied i y moves more
   pub are : (items : List Item) → items_after_moves i d moves items ≡ standing_items y.is_open items ++ more
 
-pub counts_open : (i : Instance) (y : History) (d : Digests) (moves : List Move) → y.is_open ≡ true → MovesAreTied i y d moves → MovesCount i y d moves
+pub counts_open : (i : Instance) (y : History) (d : Digests) (moves : List Move) → y.is_open ≡ true → MovesAreTied i y d moves
+    → MovesCount i y d moves
 counts_open i y d moves e (shows more tied are) = record { more = more; tied = tied; are = are }
 counts_open i y d moves e (nothing is) =
     let empty : moves ≡ [] = ap (λ (f : Bool). counted_moves f moves) (sym e) ∙ is in

@@ -1,6 +1,7 @@
 -- What counts of the moves of a call of Opt is what the register shows of them.
 use Rattle.std.specs.Prelude.{◌≡◌, ℕ, Bool, true, false, List, [], ◌∷◌, ◌++◌, if◌then◌else◌}
-use Rattle.mm_call.specs.Below.{extended_message, Item, item_values, Batch, Meaning, trail, History, Move, register_value_of, Instance, opt_instance}
+use Rattle.mm_call.specs.Below.{extended_message, Item, item_values, Batch, Meaning, trail, History, Move, register_value_of, Instance}
+use Rattle.mm_call.specs.Below.{opt_instance}
 use Rattle.mm_call.specs.Below.{Digests}
 use Rattle.mm_call.specs.Levels.{digest_level}
 use Rattle.mm_call.specs.Courses.{Course}
@@ -29,7 +30,8 @@ pub record IsTied (i : Instance) (y : History) (moves : List Move) (more : List 
 -- The register shows these items more behind those that counted; or nothing counts.
 pub data MovesAreTied (i : Instance) (y : History) (d : Digests) (moves : List Move) : Type 0 where
   shows : (more : List Item) → IsTied i y moves more
-      → ((items : List Item) → items_after_moves i d moves items ≡ standing_items y.is_open items ++ more)
+      → ((items : List Item) → items_after_moves i d moves items ≡ standing_items y.is_open items
+      ++ more)
       → MovesAreTied i y d moves
   nothing : counted_moves y.is_open moves ≡ [] → MovesAreTied i y d moves
 
@@ -40,5 +42,6 @@ OptMovesAreTied =
     (offer : List ℕ) (b : Batch) →
     d.flag ≡ y.is_open →
     MovesAreTied (opt_instance meaning key barrier) y d
-    (call_outcome (opt_instance meaning key barrier) (digest_level (opt_instance meaning key barrier)) d course offer
+    (call_outcome (opt_instance meaning key barrier)
+    (digest_level (opt_instance meaning key barrier)) d course offer
     b).moves

@@ -1,7 +1,8 @@
 -- Where a platform stands by digests, and what its register shows of the moves of a call.
 use Rattle.std.specs.Prelude.{◌≡◌, ℕ, zero, suc, Bool, true, List, [], ◌∷◌, ◌++◌, Option, Some}
 use Rattle.mm_call.specs.Below.{next_count, zero_bytes, Variant, Basic, Opt, IsCell, cell_spelling, Cell, Item, own_item, foreign_item}
-use Rattle.mm_call.specs.Below.{Standing, Meaning, guard, Move, Commit, Foreign, Placed, Reset, Power, Instance, Digests, digests_after, digest_of}
+use Rattle.mm_call.specs.Below.{Standing, Meaning, guard, Move, Commit, Foreign, Placed, Reset, Power, Instance, Digests, digests_after}
+use Rattle.mm_call.specs.Below.{digest_of}
 use Rattle.mm_call.specs.Below.{register_reading}
 
 -- the instance of a variant; Basic has no barrier, and ignores it
@@ -46,7 +47,8 @@ items_after_move _ _ i _ items = items
 -- what it shows of moves made one after another, from these digests and items on
 abbrev pub items_after_moves : Instance → Digests → List Move → List Item → List Item
 items_after_moves i d [] items = items
-items_after_moves i d (m ∷ moves) items = items_after_moves i (digests_after i d m) moves (items_after_move i.variant d.flag i m items)
+items_after_moves i d (m ∷ moves) items = items_after_moves i (digests_after i d m) moves
+    (items_after_move i.variant d.flag i m items)
 
 -- a count after so many more
 abbrev pub count_after_more : ℕ → ℕ → ℕ

@@ -4,7 +4,8 @@ use Rattle.std.specs.Prelude.{◌==◌, if◌then◌else◌}
 use Rattle.std.proofs.Common.{◌+◌, refl, sym, ap, ◌∙◌, arith, ◌≡◌, ℕ, Bool, true, false, List, [], ◌∷◌, Option, None, Some}
 use Rattle.std.proofs.lemmas.Bool.Decides.{nat_tests}
 use Rattle.std.specs.Option.{option_map}
-use Rattle.mm_call.specs.Below.{next_count, Plan, Standing, plan_after, due_values, known_plan, Act, StepGoes, fault_by_plan, is_made_by_plan, values_by_plan}
+use Rattle.mm_call.specs.Below.{next_count, Plan, Standing, plan_after, due_values, known_plan, Act, StepGoes, fault_by_plan}
+use Rattle.mm_call.specs.Below.{is_made_by_plan, values_by_plan}
 use Rattle.mm_call.specs.Below.{fault_at, is_made_at, next_plan, StepFault, Instance, Digests, DeviceStep}
 use Rattle.mm_call.specs.Levels.{state_after_moves, digest_level}
 use Rattle.mm_call.specs.Courses.{StepFate, step_moves, fate_by_plan, AreTold}
@@ -27,17 +28,20 @@ stepped i d act step old new fault g makes = record {
   room = refl;
 }
 
-pub trail_on : (i : Instance) (d : Digests) (fates : ℕ → StepFate) (n : ℕ) (step : DeviceStep) (steps : List DeviceStep) (old middle new : Standing)
+pub trail_on : (i : Instance) (d : Digests) (fates : ℕ → StepFate) (n : ℕ) (step : DeviceStep) (steps : List DeviceStep)
+    (old middle new : Standing)
     (fault : Option StepFault) → StepIsMade i d (fates n) step old middle None
     → IsTrail i (state_after_moves (digest_level i) d (step_moves step true (fates n).brings)) fates (n + 1) steps middle new fault
     → IsTrail i d fates n (step ∷ steps) old new fault
 trail_on i d fates n step steps old middle new fault s t = (middle, None, s, t)
 
-pub trail_fails : (i : Instance) (d : Digests) (fates : ℕ → StepFate) (n : ℕ) (step : DeviceStep) (steps : List DeviceStep) (old new : Standing)
+pub trail_fails : (i : Instance) (d : Digests) (fates : ℕ → StepFate) (n : ℕ) (step : DeviceStep) (steps : List DeviceStep)
+    (old new : Standing)
     (fault : StepFault) → StepIsMade i d (fates n) step old new (Some fault) → IsTrail i d fates n (step ∷ steps) old new (Some fault)
 trail_fails i d fates n step steps old new fault s = (new, Some fault, s, (refl, refl))
 
-pub trail_last : (i : Instance) (d : Digests) (fates : ℕ → StepFate) (n : ℕ) (step : DeviceStep) (old new : Standing) (fault : Option StepFault)
+pub trail_last : (i : Instance) (d : Digests) (fates : ℕ → StepFate) (n : ℕ) (step : DeviceStep) (old new : Standing)
+    (fault : Option StepFault)
     → StepIsMade i d (fates n) step old new fault → IsTrail i d fates n (step ∷ []) old new fault
 trail_last i d fates n step old new None s = (new, None, s, (refl, refl))
 trail_last i d fates n step old new (Some fault) s = (new, Some fault, s, (refl, refl))
@@ -54,7 +58,8 @@ abbrev pub AreMet : List StepFate → ℕ → Plan → Type 0
 AreMet [] k plan = Unit {0}
 AreMet (fate ∷ fates) k plan = (fate ≡ planned plan k) × AreMet fates (k + 1) plan
 
-chosen : (here : Bool) (fate later : StepFate) (n k : ℕ) (plan : Plan) → (here ≡ true → n ≡ k) → fate ≡ planned plan k → later ≡ planned plan n
+chosen : (here : Bool) (fate later : StepFate) (n k : ℕ) (plan : Plan) → (here ≡ true → n ≡ k) → fate ≡ planned plan k
+    → later ≡ planned plan n
     → (if here then fate else later) ≡ planned plan n
 chosen true fate later n k plan h e l = e ∙ ap (λ (m : ℕ). planned plan m) (sym (h refl))
 chosen false fate later n k plan h e l = l

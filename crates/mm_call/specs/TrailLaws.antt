@@ -5,15 +5,18 @@ use Rattle.std.proofs.lemmas.Iterator.Adapters.{option_map_id}
 use Rattle.std.proofs.lemmas.List.{append-nil, map-append}
 use Rattle.std.proofs.lemmas.List.Sums.{fold-append}
 use Rattle.std.specs.Option.{option_map}
-use Rattle.mm_call.specs.Below.{next_count, zero_bytes, extended_digest_of, Variant, Basic, Opt, IsCell, cell_spelling, Cell, Item, Standing}
+use Rattle.mm_call.specs.Below.{next_count, zero_bytes, extended_digest_of, Variant, Basic, Opt, IsCell, cell_spelling, Cell, Item}
+use Rattle.mm_call.specs.Below.{Standing}
 use Rattle.mm_call.specs.Below.{own_item, foreign_item, item_values, register_after, Act, ReadCell, WriteCell, ReadRegister, ResetRegister}
-use Rattle.mm_call.specs.Below.{ExtendRegister, items_beside, cell_after, items_after, writes_after, StepFault, Move, Foreign, Instance, Digests}
+use Rattle.mm_call.specs.Below.{ExtendRegister, items_beside, cell_after, items_after, writes_after, StepFault, Move, Foreign, Instance}
+use Rattle.mm_call.specs.Below.{Digests}
 use Rattle.mm_call.specs.Below.{digests_after, DeviceStep, Reads, Changes, Writes}
 use Rattle.std.specs.List.{fold}
 use Rattle.mm_call.specs.Levels.{state_after_moves, digest_level}
 use Rattle.mm_call.specs.Courses.{StepFate, StepsWalk, walk, walk_from_step, step_moves, writes_with_step}
 use Rattle.mm_call.specs.Standing.{RegisterStandsAt, StandsAt, items_after_move, items_after_moves, count_after_more}
-use Rattle.mm_call.specs.Trails.{register_by, items_by, IsChange, IsWrite, MakesStep, StepIsMade, RestFollows, IsTrail, WalkLeads, TrailsLead}
+use Rattle.mm_call.specs.Trails.{register_by, items_by, IsChange, IsWrite, MakesStep, StepIsMade, RestFollows, IsTrail, WalkLeads}
+use Rattle.mm_call.specs.Trails.{TrailsLead}
 
 -- the register's value, where its items are told
 abbrev pub register_of_items : Option (List Item) → Option (List ℕ)
@@ -83,7 +86,8 @@ pub state_after_moves-append : (i : Instance) (d : Digests) (xs ys : List Move)
 state_after_moves-append i d xs ys = fold-append (digests_after i) d xs ys
 
 pub shown-append : (i : Instance) (d : Digests) (xs ys : List Move) (items : List Item)
-    → items_after_moves i d (xs ++ ys) items ≡ items_after_moves i (state_after_moves (digest_level i) d xs) ys (items_after_moves i d xs items)
+    → items_after_moves i d (xs ++ ys) items ≡ items_after_moves i (state_after_moves (digest_level i) d xs) ys
+    (items_after_moves i d xs items)
 shown-append i d [] ys items = refl
 shown-append i d (m ∷ xs) ys items = shown-append i (digests_after i d m) xs ys (items_after_move i.variant d.flag i m items)
 
@@ -118,7 +122,8 @@ brought i d values old new s cell items = record {
   stands = rw (foreign_made i d values) (record {
     spells = s.spells;
     cell = cell ∙ s.cell;
-    reads = reads_then i.variant (register_of_items old.items) (register_of_items new.items) d.register (fold extended_digest_of d.register values)
+    reads = reads_then i.variant (register_of_items old.items) (register_of_items new.items) d.register
+        (fold extended_digest_of d.register values)
         (λ e. ap register_of_items items ∙ reads_beside old.items values d.register e) s.reads;
   });
   items = items ∙ (λ j. option_map (λ xs. sym (foreign_shown i d values xs) j) old.items);
@@ -132,7 +137,8 @@ change_leads i d act m old new s c cell items = record {
     spells = subst IsCell (sym (c.cell d.register)) s.spells;
     cell = cell ∙ s.cell ∙ ap (λ (x : Cell). Some (cell_spelling x)) (sym (c.cell d.register));
     reads = reads_then i.variant (register_of_items old.items) (register_of_items new.items) d.register (digests_after i d m).register
-        (λ h. ap register_of_items items ∙ reads_after act old.items d.register h ∙ ap (λ (x : List ℕ). Some x) (sym (c.register d.register)))
+        (λ h. ap register_of_items items ∙ reads_after act old.items d.register h ∙ ap (λ (x : List ℕ). Some x)
+        (sym (c.register d.register)))
         s.reads;
   };
   items = items ∙ items_of act old.items ∙ (λ j. option_map (λ xs. sym (c.shows xs) j) old.items);
@@ -163,7 +169,8 @@ written i d bytes m values old new s w cell items =
       };
       items = sym (option_map_id old.items) ∙ (λ j. option_map (λ xs. sym (w.shows xs) j) old.items);
     } in
-    leads_on i d (m ∷ []) (map Foreign values) old middle new first (brought i (digests_after i d m) values middle new first.stands cell items)
+    leads_on i d (m ∷ []) (map Foreign values) old middle new first
+    (brought i (digests_after i d m) values middle new first.stands cell items)
 
 -- what a step leaves, by whether its effect was made
 step_leads : (act : Act) (step : DeviceStep) (is_made : Bool) (i : Instance) (d : Digests) (values : List (List ℕ)) (old new : Standing)
@@ -198,19 +205,22 @@ record StepEnds (i : Instance) (d : Digests) (step : DeviceStep) (moves : List M
   steps : new.steps ≡ next_count old.steps
   writes : (rest : ℕ) → count_after_more rest new.writes ≡ count_after_more (writes_with_step step rest) old.writes
 
-step_ends : (i : Instance) (d : Digests) (fate : StepFate) (step : DeviceStep) (old new : Standing) (fault : Option StepFault) → StandsAt i old d
+step_ends : (i : Instance) (d : Digests) (fate : StepFate) (step : DeviceStep) (old new : Standing) (fault : Option StepFault)
+    → StandsAt i old d
     → (t : StepIsMade i d fate step old new fault) → StepEnds i d step (step_moves step t.goes.is_made fate.brings) old new
 step_ends i d fate step old new fault s t = record {
   leads = step_leads t.act step t.goes.is_made i d fate.brings old new s t.makes (ap (λ (x : Standing). x.cell) t.room ∙ t.goes.cell)
       (ap (λ (x : Standing). x.items) t.room ∙ t.goes.items
       ∙ ap (λ (vs : List (List ℕ)). items_after t.act t.goes.is_made (items_beside vs old.items)) (sym t.brings));
   steps = ap (λ (x : Standing). x.steps) t.room ∙ t.goes.steps;
-  writes = λ (rest : ℕ). ap (λ (x : Standing). count_after_more rest x.writes) t.room ∙ ap (λ (n : ℕ). count_after_more rest n) t.goes.writes
+  writes = λ (rest : ℕ). ap (λ (x : Standing). count_after_more rest x.writes) t.room
+      ∙ ap (λ (n : ℕ). count_after_more rest n) t.goes.writes
       ∙ act_writes t.act step i d old.writes rest t.makes;
 }
 
 -- a step that was done, and the rest; or one that failed, the last
-ended : (answer : Option StepFault) (i : Instance) (d : Digests) (fate : StepFate) (step : DeviceStep) (rest : StepsWalk) (old middle new : Standing)
+ended : (answer : Option StepFault) (i : Instance) (d : Digests) (fate : StepFate) (step : DeviceStep) (rest : StepsWalk)
+    (old middle new : Standing)
     (fault : Option StepFault) (going : Type 0) → StandsAt i old d → StepIsMade i d fate step old middle answer
     → (let e : Digests = state_after_moves (digest_level i) d (step_moves step true fate.brings) in
     (going → StandsAt i middle e → WalkLeads i e rest middle new fault) → RestFollows answer going ((new ≡ middle) × (fault ≡ answer))
@@ -240,5 +250,6 @@ leads i d fates n [] old new fault s t =
 leads i d fates n (step ∷ steps) old new fault s t =
     let e : Digests = state_after_moves (digest_level i) d (step_moves step true (fates n).brings) in
     ended t.1 i d (fates n) step (walk fates (n + 1) steps) old t.0 new fault (IsTrail i e fates (n + 1) steps t.0 new fault) s t.2
-    (λ (r : IsTrail i e fates (n + 1) steps t.0 new fault) (stands : StandsAt i t.0 e). leads i e fates (n + 1) steps t.0 new fault stands r)
+    (λ (r : IsTrail i e fates (n + 1) steps t.0 new fault) (stands : StandsAt i t.0 e). leads i e fates (n + 1) steps t.0
+    new fault stands r)
     t.3

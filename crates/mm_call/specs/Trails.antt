@@ -2,7 +2,8 @@
 use Rattle.std.specs.Prelude.{◌≡◌, ℕ, true, List, [], ◌∷◌, ◌++◌, Option, None, Some, ◌+◌}
 use Rattle.std.specs.Option.{option_map}
 use Rattle.mm_call.specs.Below.{zero_bytes, extended_digest_of, IsCell, cell_spelling, Item, own_item, Standing, Act, ReadCell, WriteCell}
-use Rattle.mm_call.specs.Below.{ReadRegister, ResetRegister, ExtendRegister, StepGoes, StepFault, Move, Instance, Digests, digests_after, DeviceStep, Reads}
+use Rattle.mm_call.specs.Below.{ReadRegister, ResetRegister, ExtendRegister, StepGoes, StepFault, Move, Instance, Digests, digests_after}
+use Rattle.mm_call.specs.Below.{DeviceStep, Reads}
 use Rattle.mm_call.specs.Below.{Changes, Writes}
 use Rattle.mm_call.specs.Levels.{state_after_moves, digest_level}
 use Rattle.mm_call.specs.Courses.{StepFate, StepsWalk, walk, step_moves}
@@ -49,7 +50,8 @@ MakesStep i d _ _ = ⊥
 
 -- A device step was made that makes this step of a walk. Its fate is read off it, and room may have
 -- been made after it.
-pub record StepIsMade (i : Instance) (d : Digests) (fate : StepFate) (step : DeviceStep) (old new : Standing)
+pub record StepIsMade (i : Instance) (d : Digests) (fate : StepFate) (step : DeviceStep)
+    (old new : Standing)
     (fault : Option StepFault) : Type 0 where
   pub act : Act
   pub after : Standing
@@ -70,8 +72,10 @@ abbrev pub IsTrail : Instance → Digests → (ℕ → StepFate) → ℕ → Lis
     → Option StepFault → Type 0
 IsTrail i d fates n [] old new fault = (new ≡ old) × (fault ≡ None)
 IsTrail i d fates n (step ∷ steps) old new fault =
-    (middle : Standing) × (answer : Option StepFault) × StepIsMade i d (fates n) step old middle answer
-    × RestFollows answer (IsTrail i (state_after_moves (digest_level i) d (step_moves step true (fates n).brings)) fates
+    (middle : Standing) × (answer : Option StepFault) × StepIsMade i d (fates n) step
+    old middle answer
+    × RestFollows answer (IsTrail i
+    (state_after_moves (digest_level i) d (step_moves step true (fates n).brings)) fates
     (n + 1) steps middle new fault)
     ((new ≡ middle) × (fault ≡ answer))
 
@@ -87,7 +91,8 @@ pub record WalkLeads (i : Instance) (d : Digests) (walked : StepsWalk) (old new 
 -- A trail of steps leads where its walk leads.
 abbrev pub TrailsLead : Type 0
 TrailsLead =
-    (i : Instance) (d : Digests) (fates : ℕ → StepFate) (n : ℕ) (steps : List DeviceStep) (old new : Standing)
+    (i : Instance) (d : Digests) (fates : ℕ → StepFate) (n : ℕ) (steps : List DeviceStep)
+    (old new : Standing)
     (fault : Option StepFault)
     → StandsAt i old d → IsTrail i d fates n steps old new fault
     → WalkLeads i d (walk fates n steps) old new fault

@@ -48,4 +48,5 @@ IsAccepted _ = ⊥
 -- counted
 abbrev pub IsAnswered : Result BatchAnswer Refusal → Standing → Standing → Type 0
 IsAnswered result old new =
-    IsOk result ⊎ (result ≡ Err Memory) ⊎ (IsSome (fault_in result) × CountRose old.faults new.faults)
+    IsOk result ⊎ (result ≡ Err Memory)
+    ⊎ (IsSome (fault_in result) × CountRose old.faults new.faults)

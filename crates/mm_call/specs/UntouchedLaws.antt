@@ -27,11 +27,13 @@ read_untouched old new g = record {
   faults = g.ends.faults;
 }
 
-pub blamed : (fault : Option StepFault) (old new : Standing) (made : Bool) → DeviceStepEnds fault old new made → CountsHandedFault fault old.faults new.faults
+pub blamed : (fault : Option StepFault) (old new : Standing) (made : Bool) → DeviceStepEnds fault old new made
+    → CountsHandedFault fault old.faults new.faults
 blamed (Some Failed) old new made e = e.faults
 blamed _ old new made e = e.faults
 
-pub blamed_later : (fault : Option StepFault) (first before now : ℕ) → before ≡ first → CountsHandedFault fault before now → CountsHandedFault fault first now
+pub blamed_later : (fault : Option StepFault) (first before now : ℕ) → before ≡ first → CountsHandedFault fault before now
+    → CountsHandedFault fault first now
 blamed_later fault first before now e b = subst (λ (n : ℕ). CountsHandedFault fault n now) e b
 
 -- a handed fault is the device's

@@ -116,7 +116,8 @@ changing_last false true b = inl (refl, inl (refl, inr (refl, refl, refl)))
 changing_last _ false b = refl
 
 -- what those steps commit, and those of a whole call of Opt
-pub changing_commits : (fates : ℕ → StepFate) (flag fresh : Bool) (b : Batch) → Commits b fresh (walk fates 3 (steps_of_change flag fresh b))
+pub changing_commits : (fates : ℕ → StepFate) (flag fresh : Bool) (b : Batch)
+    → Commits b fresh (walk fates 3 (steps_of_change flag fresh b))
 changing_commits fates flag fresh b = walk_commits fates 3 (steps_of_change flag fresh b) b fresh (changing_last flag fresh b)
 
 pub opt_commits : (fates : ℕ → StepFate) (flag fresh : Bool) (b : Batch)
@@ -142,13 +143,16 @@ made-append level xs ys s = fold-append level.made s xs ys
 abbrev pub history_with_values : History → List (List ℕ) → History
 history_with_values y values = record y { items = y.items ++ map Value values }
 
-pub taking_is : (i : Instance) (values : List (List ℕ)) (y : History) → state_after_moves (list_level i) y (map Foreign values) ≡ history_with_values y values
+pub taking_is : (i : Instance) (values : List (List ℕ)) (y : History) → state_after_moves (list_level i) y (map Foreign values)
+    ≡ history_with_values y values
 taking_is i [] y = ap (λ v. record y { items = v }) (sym (append-nil y.items))
 taking_is i (v ∷ values) y =
-    taking_is i values (history_after i y (Foreign v)) ∙ ap (λ x. record y { items = x }) (append_assoc y.items (Value v ∷ []) (map Value values))
+    taking_is i values (history_after i y (Foreign v)) ∙ ap (λ x. record y { items = x })
+        (append_assoc y.items (Value v ∷ []) (map Value values))
 
 pub foreign_made : (i : Instance) (values : List (List ℕ)) (moves : List Move) (y : History)
-    → state_after_moves (list_level i) y (map Foreign values ++ moves) ≡ state_after_moves (list_level i) (history_with_values y values) moves
+    → state_after_moves (list_level i) y (map Foreign values ++ moves) ≡ state_after_moves (list_level i)
+    (history_with_values y values) moves
 foreign_made i values moves y =
     made-append (list_level i) (map Foreign values) moves y ∙ ap (λ x. state_after_moves (list_level i) x moves) (taking_is i values y)
 
@@ -162,11 +166,14 @@ pub foreign_move_values-foreign : (values : List (List ℕ)) → foreign_move_va
 foreign_move_values-foreign [] = refl
 foreign_move_values-foreign (v ∷ values) = ap (λ w. v ∷ w) (foreign_move_values-foreign values)
 
-pub foreign_move_values-first : (values : List (List ℕ)) (moves : List Move) → foreign_move_values (map Foreign values ++ moves) ≡ values ++ foreign_move_values moves
-foreign_move_values-first values moves = foreign_move_values-append (map Foreign values) moves ∙ ap (λ w. w ++ foreign_move_values moves) (foreign_move_values-foreign values)
+pub foreign_move_values-first : (values : List (List ℕ)) (moves : List Move) → foreign_move_values (map Foreign values ++ moves) ≡ values
+    ++ foreign_move_values moves
+foreign_move_values-first values moves = foreign_move_values-append (map Foreign values) moves ∙ ap (λ w. w ++ foreign_move_values moves)
+    (foreign_move_values-foreign values)
 
 -- what counts begins with the reset
-pub moves_from_reset-foreign : (values : List (List ℕ)) (moves : List Move) → moves_from_reset (map Foreign values ++ moves) ≡ moves_from_reset moves
+pub moves_from_reset-foreign : (values : List (List ℕ)) (moves : List Move) → moves_from_reset (map Foreign values ++ moves)
+    ≡ moves_from_reset moves
 moves_from_reset-foreign [] moves = refl
 moves_from_reset-foreign (v ∷ values) moves = moves_from_reset-foreign values moves
 

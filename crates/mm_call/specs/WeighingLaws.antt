@@ -6,7 +6,8 @@ use Rattle.mm_call.specs.OrderWords.{check_by_tests}
 use Rattle.mm_call.specs.Untouched.{IsAccepted}
 
 -- the verdict counts only for a rightly sealed offer of a spelled state
-pub weighed_alike : (s t : Bool) (v w : Verdict) (fits : Bool) → (s ≡ true → t ≡ true → v ≡ w) → check_by_tests s t v fits ≡ check_by_tests s t w fits
+pub weighed_alike : (s t : Bool) (v w : Verdict) (fits : Bool) → (s ≡ true → t ≡ true → v ≡ w) → check_by_tests s t v fits
+    ≡ check_by_tests s t w fits
 weighed_alike true true v w fits h = ap (λ (x : Verdict). check_of_verdict x fits) (h refl refl)
 weighed_alike _ _ v w fits h = refl
 

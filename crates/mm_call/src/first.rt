@@ -26,7 +26,8 @@ pub fn provision_with<M: Module>(
 ) -> Result<Provisioned, Memory>
     requires { FitsVariant cell.now.variant cell.now.flag cell.now.barrier }
     ensures cell { IfOk result (λ made. made.cell ≡ cell_spelling cell.now) }
-    ensures snapshot { IfOk result (λ made. made.snapshot ≡ sealed_snapshot_of cell.now.key (record {
+    ensures snapshot { IfOk result
+        (λ made. made.snapshot ≡ sealed_snapshot_of cell.now.key (record {
       id = (M.meaning «module».now).id;
       place = place;
       position = 0;

@@ -1,7 +1,9 @@
 -- Basic: what a call leaves, and the callers' clauses, from those of their calls.
 use Rattle.mm_callers.proofs.Below.{◌≡◌, ℕ, List, [], Result, Ok, Err, refl, sym, subst, inl, inr, StepFault, Standing, Meaning}
-use Rattle.mm_callers.proofs.Below.{IsLawful, Batch, One, AreMessagesIn, offer_messages, content_of_issue, basic_instance, History, StandsFor, BatchAnswer}
-use Rattle.mm_callers.proofs.Below.{Refusal, Device, basic_issued, call_outcome, CountsHandedFault, list_level, basic_content, AreAsked, fault_of}
+use Rattle.mm_callers.proofs.Below.{IsLawful, Batch, One, AreMessagesIn, offer_messages, content_of_issue, basic_instance, History}
+use Rattle.mm_callers.proofs.Below.{StandsFor, BatchAnswer}
+use Rattle.mm_callers.proofs.Below.{Refusal, Device, basic_issued, call_outcome, CountsHandedFault, list_level, basic_content, AreAsked}
+use Rattle.mm_callers.proofs.Below.{fault_of}
 use Rattle.mm_callers.proofs.Below.{foreign_made, basic_asked, basic_comes, names_made, IsOnce, AsksAgain, AreAskedNext, AsksTwice}
 use Rattle.mm_callers.proofs.Below.{in_first}
 use Rattle.mm_callers.proofs.Leaving.{by_length, once, IsCalm, Left, asked_on, left_long, left_short, ends_once, ends_again}
@@ -51,7 +53,8 @@ next_listed meaning key all asked y after first second n (inr same) = rw same.0 
 
 pub asked_twice : {meaning : Meaning} {old middle new : Standing} {offer next first second : List ℕ} {one : BatchAnswer}
     {result : Result BatchAnswer Refusal} → IsLawful meaning → BasicAskPromise meaning old middle offer (One first) (Ok one)
-    → next ≡ one.snapshot → BasicAskPromise meaning middle new next (One second) result → AsksTwice meaning old new offer first second result
+    → next ≡ one.snapshot → BasicAskPromise meaning middle new next (One second) result
+    → AsksTwice meaning old new offer first second result
 asked_twice {meaning = meaning} {old = old} {first = first} {second = second} {one = one} {result = result} lawful before e call key y
     all others asked s a n =
     let x = (left before key y all others asked s a).leaves in

@@ -21,7 +21,8 @@ pub use Rattle.mm_model.specs.BatchLaws.{at_the_end, before_the_last, total-push
 pub use Rattle.mm_model.specs.ChainLaws.{after-append}
 pub use Rattle.mm_model.specs.Chains.{digest_after, guard, trail}
 pub use Rattle.mm_model.specs.Fit.{IsFit}
-pub use Rattle.mm_model.specs.History.{Close, Commit, RegisterEntry, Foreign, History, Move, history_after, register_value_of, total_of, Value}
+pub use Rattle.mm_model.specs.History.{Close, Commit, RegisterEntry, Foreign, History, Move, history_after, register_value_of, total_of}
+pub use Rattle.mm_model.specs.History.{Value}
 pub use Rattle.mm_model.specs.HistoryWords.{cell_digest_of, values_of as entry_values}
 pub use Rattle.mm_model.specs.Instance.{Instance}
 pub use Rattle.mm_model.specs.InstanceWords.{basic_instance, opt_instance}
@@ -38,7 +39,8 @@ pub use Rattle.mm_model.specs.declared.refusal.Refusal.{Refusal}
 pub use Rattle.mm_model.specs.declared.refusal.Refusal.TheVariants.{Device, Long, Memory}
 pub use Rattle.mm_model.specs.declared.verdict.Verdict.{Verdict}
 pub use Rattle.mm_model.proofs.Above.{basic_issued, opt_issued, opt_names}
-pub use Rattle.mm_call.specs.CallPremises.{counted_moves, counted_part, foreign_move_values, IsAsked, IsWithin, messages_of_moves, right_messages}
+pub use Rattle.mm_call.specs.CallPremises.{counted_moves, counted_part, foreign_move_values, IsAsked, IsWithin, messages_of_moves}
+pub use Rattle.mm_call.specs.CallPremises.{right_messages}
 pub use Rattle.mm_call.specs.AskPromise.{AskPromise}
 pub use Rattle.mm_call.specs.CallOutcome.{call_outcome, CallOutcome, call_ending_by, result_of_ending, reading_steps, state_seen}
 pub use Rattle.mm_call.specs.CallOutcomeWords.{call_outcome_with}
@@ -68,7 +70,8 @@ pub use Rattle.mm_call.proofs.OptAlike.{still}
 pub use Rattle.mm_opt.specs.CheckpointOnCourse.{IsCheckpointOnCourse, checkpoint_result}
 pub use Rattle.mm_opt.specs.declared.segment.CheckpointRefusal.{CheckpointRefusal}
 pub use Rattle.mm_opt.specs.declared.segment.Checkpointed.{Checkpointed as Said}
-pub use Rattle.mm_callers.specs.Basic.{AnswersOnce, AreAskedNext, AsksAgain, AsksTwice, finding_for, in_first, in_second, AreLeftBatches, IsOnce}
+pub use Rattle.mm_callers.specs.Basic.{AnswersOnce, AreAskedNext, AsksAgain, AsksTwice, finding_for, in_first, in_second, AreLeftBatches}
+pub use Rattle.mm_callers.specs.Basic.{IsOnce}
 pub use Rattle.mm_callers.specs.Basic.{SaysFound, SaysUnlessFault}
 pub use Rattle.mm_callers.specs.Closing.{AreShownUnlessIdle, ClosesBetween, EndsBehind, in_closing, MayClose, RepeatsBehind, RepeatsReply}
 pub use Rattle.mm_callers.specs.Closing.{SaysClosing}

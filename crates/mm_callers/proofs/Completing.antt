@@ -1,8 +1,10 @@
 -- A welcome offer is found, and a call that finds it and isn't broken off answers.
 use Rattle.mm_callers.proofs.Below.{◌≡◌, ℕ, ◌+◌, Bool, true, false, List, [], ◌∷◌, ◌++◌, None, Result, Ok, refl, sym, ap, ◌∙◌, subst}
 use Rattle.mm_callers.proofs.Below.{if◌then◌else◌, nat_eq, Variant, Batch, Content, Instance, History, total_of, Live, life_of, DeviceStep}
-use Rattle.mm_callers.proofs.Below.{ask_steps, at_the_end, before_the_last, Refusal, Verdict, list_level, state_after_moves, CallFinding, finding_at}
-use Rattle.mm_callers.proofs.Below.{finding_unless_wanting, End, Done, Fails, StepFate, StepsWalk, walk_from_step, walk, state_seen, call_ending_by, call_outcome_with}
+use Rattle.mm_callers.proofs.Below.{ask_steps, at_the_end, before_the_last, Refusal, Verdict, list_level, state_after_moves, CallFinding}
+use Rattle.mm_callers.proofs.Below.{finding_at}
+use Rattle.mm_callers.proofs.Below.{finding_unless_wanting, End, Done, Fails, StepFate, StepsWalk, walk_from_step, walk, state_seen}
+use Rattle.mm_callers.proofs.Below.{call_ending_by, call_outcome_with}
 use Rattle.mm_callers.proofs.Below.{again_of, fresh_of, same_batches, more_batches, Commits, nothing, batch, IsOfferedAt, IsWelcome}
 use Rattle.mm_callers.proofs.Below.{batches_after_call, IsAnswer}
 use Rattle.std.proofs.lemmas.Bool.{eq-eqb}
@@ -59,7 +61,8 @@ done_then : (step : DeviceStep) (values : List (List ℕ)) (ends : End) (rest : 
 done_then step values Done rest e h = h
 done_then step values (Fails fault made) rest e h = absurd (cc)
 
-pub walk_whole : (fates : ℕ → StepFate) → ((n : ℕ) → (fates n).ends ≡ Done) → (steps : List DeviceStep) (n : ℕ) → (walk fates n steps).broken ≡ None
+pub walk_whole : (fates : ℕ → StepFate) → ((n : ℕ) → (fates n).ends ≡ Done) → (steps : List DeviceStep) (n : ℕ)
+    → (walk fates n steps).broken ≡ None
 walk_whole fates done [] n = refl
 walk_whole fates done (step ∷ steps) n =
     done_then step (fates n).brings (fates n).ends (walk fates (n + 1) steps) (done n) (walk_whole fates done steps (n + 1))
@@ -82,6 +85,7 @@ complete i y c offer b again smooth w =
     let whole : walked.broken ≡ None = walk_whole c.fates smooth.done (ask_steps i.variant y.is_open fresh b) 1 in
     subst (λ (x : Result CallFinding Refusal). IsAnswer i y b again (call_outcome_with i (list_level i) y seen c b x)) (sym found) (record {
       ending = ap
-          (call_ending_by (list_level i) seen (state_after_moves (list_level i) y walked.moves) b (Ok (accepted w.content again)) walked.moves) whole;
+          (call_ending_by (list_level i) seen (state_after_moves (list_level i) y walked.moves) b (Ok (accepted w.content again))
+          walked.moves) whole;
       batches = answered_batches i y b again walked (call_commits i.variant c.fates y.is_open fresh b) whole;
     })

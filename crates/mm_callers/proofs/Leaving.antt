@@ -1,12 +1,17 @@
 -- What a call leaves and says, in either variant; and so the same call made again, or another one on its answer.
 use Rattle.mm_callers.proofs.Below.{◌≡◌, ℕ, ◌≤◌, Bool, true, false, List, [], ◌∷◌, ◌++◌, Option, None, Some, Result, Ok, Err, refl, sym, ap}
 use Rattle.mm_callers.proofs.Below.{◌∙◌, subst, ◌⊎◌, inl, inr, arith, if◌then◌else◌, Contains, last_position, Variant, Basic, Opt}
-use Rattle.mm_callers.proofs.Below.{StepFault, Standing, Meaning, Batch, parts_of, Content, IsContent, sealed_snapshot_of, Instance, History}
-use Rattle.mm_callers.proofs.Below.{Move, EndsWith, total_of, IsFit, is_long, AreMessagesIn, offer_messages, NamesPosition, content_of_issue, StandsFor, IsRight}
+use Rattle.mm_callers.proofs.Below.{StepFault, Standing, Meaning, Batch, parts_of, Content, IsContent, sealed_snapshot_of, Instance}
+use Rattle.mm_callers.proofs.Below.{History}
+use Rattle.mm_callers.proofs.Below.{Move, EndsWith, total_of, IsFit, is_long, AreMessagesIn, offer_messages, NamesPosition}
+use Rattle.mm_callers.proofs.Below.{content_of_issue, StandsFor, IsRight}
 use Rattle.mm_callers.proofs.Below.{issued_bytes, Reads, ask_steps, total-push, BatchAnswer, Refusal, Long, right_messages, IsWithin}
-use Rattle.mm_callers.proofs.Below.{call_outcome, state_seen, call_ending_by, result_of_ending, reading_steps, CallContinues, IsCallOnCourse, HistoryGrows, kept, grown, Course}
-use Rattle.mm_callers.proofs.Below.{StepsWalk, moves_seen, walk, CallFinding, finding_at, foreign_made, right_content, finding_unless_wanting, is_fresh}
-use Rattle.mm_callers.proofs.Below.{AskPromise, CallKind, Given, CountsHandedFault, list_level, state_after_moves, one_content, right_of, listed_by, issued_once, AreAsked, fault_of, fault_in}
+use Rattle.mm_callers.proofs.Below.{call_outcome, state_seen, call_ending_by, result_of_ending, reading_steps, CallContinues}
+use Rattle.mm_callers.proofs.Below.{IsCallOnCourse, HistoryGrows, kept, grown, Course}
+use Rattle.mm_callers.proofs.Below.{StepsWalk, moves_seen, walk, CallFinding, finding_at, foreign_made, right_content}
+use Rattle.mm_callers.proofs.Below.{finding_unless_wanting, is_fresh}
+use Rattle.mm_callers.proofs.Below.{AskPromise, CallKind, Given, CountsHandedFault, list_level, state_after_moves, one_content, right_of}
+use Rattle.mm_callers.proofs.Below.{listed_by, issued_once, AreAsked, fault_of, fault_in}
 use Rattle.mm_callers.proofs.Below.{answered_at, IsOnce, AnswersOnce, AreLeftBatches, SaysFound, SaysUnlessFault, finding_for, in_second}
 use Rattle.mm_base.specs.Faults.{next_count, CountRose}
 use Rattle.mm_module.specs.BatchLaws.{size_of-pos}
@@ -121,7 +126,8 @@ abbrev pub Says : Instance → History → History → List ℕ → Batch → Re
 Says i y after offer b (Ok answer) = Unit {0}
 Says i y after offer b (Err why) = Said i y after offer b why
 
-says_found : (f : Option StepFault) (x : Result CallFinding Refusal) (lacks : Bool) (why : Refusal) → finding_unless_wanting x lacks ≡ Err why
+says_found : (f : Option StepFault) (x : Result CallFinding Refusal) (lacks : Bool) (why : Refusal) → finding_unless_wanting x lacks
+    ≡ Err why
     → SaysUnlessFault f x why
 says_found (Some fault) x lacks why e = tt
 says_found None (Err is) lacks why e = cc
@@ -129,7 +135,8 @@ says_found None (Ok it) false why e = absurd (cc)
 says_found None (Ok it) true why e = cc
 
 -- by how it ended
-pub told : (i : Instance) (y seen after : History) (offer : List ℕ) (b : Batch) (lacks : Bool) (s : History) (found : Result CallFinding Refusal)
+pub told : (i : Instance) (y seen after : History) (offer : List ℕ) (b : Batch) (lacks : Bool) (s : History)
+    (found : Result CallFinding Refusal)
     (moves : List Move) (broken : Option StepFault) → is_long b ≡ false → IsCalm i y seen
     → finding_unless_wanting (finding_at i (list_level i) seen b offer) lacks ≡ found
     → (broken ≡ None → is_fresh found ≡ false → seen ≡ after)
@@ -203,7 +210,8 @@ module _ (all others : List (List ℕ)) (asked : List Batch) (i : Instance) wher
   -- one that goes on a course, from what it sees, where nothing was committed
   abbrev pub left_short : (y : History) (c : Course) (new : Standing) (offer : List ℕ) (b : Batch) (result : Result BatchAnswer Refusal)
       → is_long b ≡ false → CallContinues all others asked i (call_outcome i (list_level i) y c offer b) new result
-      → HistoryGrows i y offer b (call_outcome i (list_level i) y c offer b).state (result_of_ending (call_outcome i (list_level i) y c offer b).ending)
+      → HistoryGrows i y offer b (call_outcome i (list_level i) y c offer b).state
+      (result_of_ending (call_outcome i (list_level i) y c offer b).ending)
       → ((content : Content) → NamesPosition i y content → NamesPosition i (call_outcome i (list_level i) y c offer b).state content)
       → IsCalm i y (state_seen i (list_level i) y c) → Left y new offer b result
   left_short y c new offer b result short k comes names calm =
@@ -235,7 +243,8 @@ left_by None b old new blames calm g = inl (calm refl)
 left_by (Some fault) b old new rose calm g = left_rose b old new (omega (arith, rose)) g
 
 -- a count that rose stays risen
-rose_on : (f : Option StepFault) (before middle now : ℕ) → CountRose before middle → CountsHandedFault f middle now → next_count before ≤ now
+rose_on : (f : Option StepFault) (before middle now : ℕ) → CountRose before middle → CountsHandedFault f middle now → next_count before
+    ≤ now
 rose_on None before middle now rose same = omega (arith, rose, same)
 rose_on (Some fault) before middle now rose later = omega (arith, rose, later)
 
@@ -309,7 +318,8 @@ module _ {all others : List (List ℕ)} {asked : List Batch} {i : Instance} {y :
   -- The first snapshot says where its call came to, and what is asked of the second call holds there.
   pub asked_next : {after : History} {next : List ℕ} {second : Batch} {one : BatchAnswer} → IsWithin all others asked i after
       → HistoryGrows i y offer b after (Ok one) → IsFit b one → next ≡ one.snapshot
-      → (total_of after.batches ≤ last_position → IsContent (content_of_issue i after)) → NamesPosition i after (content_of_issue i after) → Contains asked second
+      → (total_of after.batches ≤ last_position → IsContent (content_of_issue i after)) → NamesPosition i after (content_of_issue i after)
+      → Contains asked second
       → AreMessagesIn (offer_messages i (content_of_issue i after).place second) all
       → ((content : Content) → IsRight i next content → content_of_issue i after ≡ content) × AreAsked all others asked i after next second
   asked_next {after = after} {next = next} {second = second} {one = one} within comes fit e formed names is_asked listed =

@@ -1,10 +1,14 @@
 -- Opt: what a call hands on to the next, and the callers' clauses, from those of their calls.
 use Rattle.mm_callers.proofs.Below.{◌≡◌, ℕ, Bool, true, false, List, [], ◌++◌, map, Some, Result, Ok, Err, refl, sym, ap, ◌∙◌, subst, inl}
 use Rattle.mm_callers.proofs.Below.{inr, option_map, append-nil, Opt, StepFault, Item, Standing, Meaning, IsLawful, Batch, One, Content}
-use Rattle.mm_callers.proofs.Below.{Instance, opt_instance, History, Move, Commit, Foreign, history_after, is_long, AreMessagesIn, offer_messages}
-use Rattle.mm_callers.proofs.Below.{digests_of, content_of_issue, StandsFor, BatchAnswer, Refusal, Device, Long, Verdict, opt_issued, same_closed}
-use Rattle.mm_callers.proofs.Below.{IsAsked, call_outcome, IsCallOnCourse, CountsHandedFault, IsAccepted, list_level, state_after_moves, opt_content, AreAsked, AreShown}
-use Rattle.mm_callers.proofs.Below.{IsIdle, fault_of, items_after_moves, standing_items, foreign_first, opt_comes, stands_at, asked_for, asked_idle}
+use Rattle.mm_callers.proofs.Below.{Instance, opt_instance, History, Move, Commit, Foreign, history_after, is_long, AreMessagesIn}
+use Rattle.mm_callers.proofs.Below.{offer_messages}
+use Rattle.mm_callers.proofs.Below.{digests_of, content_of_issue, StandsFor, BatchAnswer, Refusal, Device, Long, Verdict, opt_issued}
+use Rattle.mm_callers.proofs.Below.{same_closed}
+use Rattle.mm_callers.proofs.Below.{IsAsked, call_outcome, IsCallOnCourse, CountsHandedFault, IsAccepted, list_level, state_after_moves}
+use Rattle.mm_callers.proofs.Below.{opt_content, AreAsked, AreShown}
+use Rattle.mm_callers.proofs.Below.{IsIdle, fault_of, items_after_moves, standing_items, foreign_first, opt_comes, stands_at, asked_for}
+use Rattle.mm_callers.proofs.Below.{asked_idle}
 use Rattle.mm_callers.proofs.Below.{idle_again, idle_moves, unless_idle, Alike, still, grown_by, alike_still, alike_foreign, issued_alike}
 use Rattle.mm_callers.proofs.Below.{names_after, Left as OptLeft, DigestMoves, GoesOn, Pushed, alike_call, call_goes_on, hands, seen_closes}
 use Rattle.mm_callers.proofs.Below.{bare, in_first, AsksOnce, AsksWelcome}
@@ -57,7 +61,8 @@ module _ (meaning : Meaning) (key barrier : List ℕ) (all others : List (List �
 
     -- an idle call, which leaves all but the items as it was
     pub left_idle : is_long (One request) ≡ false → IsIdle (opt_instance meaning key barrier) y offer (One request)
-        → (left : Left all others asked (opt_instance meaning key barrier) y new offer (One request) result) × (bare left.leaves.after ≡ bare y)
+        → (left : Left all others asked (opt_instance meaning key barrier) y new offer (One request) result)
+        × (bare left.leaves.after ≡ bare y)
     left_idle short idle =
         let only = idle_moves meaning key barrier y c.course offer (One request) idle in (
           left_asked short (asked_idle meaning key barrier all others asked y c.course offer (One request) a idle),
@@ -94,7 +99,8 @@ module _ (meaning : Meaning) (key barrier : List ℕ) (all others : List (List �
 
   pub hands_on : {old middle : Standing} (new : Standing) {offer request : List ℕ} {result : Result BatchAnswer Refusal} {y : History}
       (c : IsCallOnCourse Opt meaning old middle offer (One request) result) → is_long (One request) ≡ false
-      → GoesOn meaning key barrier all others asked middle new → (items more : List Item) → StandsFor (opt_instance meaning key barrier) old y
+      → GoesOn meaning key barrier all others asked middle new → (items more : List Item)
+      → StandsFor (opt_instance meaning key barrier) old y
       → old.items ≡ Some items → Ends y new items more → AreAsked all others asked (opt_instance meaning key barrier) y offer (One request)
       → Shown y offer request more → HandsOn y middle new offer request result more
   hands_on {old = old} {middle = middle} new {offer = offer} {request = request} {result = result} {y = y} c short on items more s known
@@ -139,7 +145,8 @@ module _ {meaning : Meaning} {old new : Standing} {offer request : List ℕ} {re
       → StandsFor (opt_instance meaning key barrier) old y → old.items ≡ Some items
       → new.items ≡ Some (standing_items y.is_open items ++ more)
       → AreAsked all others asked (opt_instance meaning key barrier) y offer (One request)
-      → ((IsIdle (opt_instance meaning key barrier) y offer (One request) → ⊥) → AreShown all others (opt_instance meaning key barrier) y more)
+      → ((IsIdle (opt_instance meaning key barrier) y offer (One request) → ⊥)
+      → AreShown all others (opt_instance meaning key barrier) y more)
       → Left all others asked (opt_instance meaning key barrier) y new offer (One request) result
   left key barrier y all others asked items more s known ends a shown_so =
       let i : Instance = opt_instance meaning key barrier in
@@ -201,8 +208,10 @@ refused_first second call key barrier y all others asked items more s known ends
 
 -- the messages of the second offer
 next_listed : (meaning : Meaning) (key barrier : List ℕ) (all : List (List ℕ)) (asked : List Batch) (y after : History)
-    (first second : Batch) → AreAskedNext all asked (opt_instance meaning key barrier) y first second → Alike meaning key barrier y first after
-    → AreMessagesIn (offer_messages (opt_instance meaning key barrier) (content_of_issue (opt_instance meaning key barrier) after).place second) all
+    (first second : Batch) → AreAskedNext all asked (opt_instance meaning key barrier) y first second
+    → Alike meaning key barrier y first after
+    → AreMessagesIn (offer_messages (opt_instance meaning key barrier) (content_of_issue (opt_instance meaning key barrier) after).place
+    second) all
 next_listed meaning key barrier all asked y after first second n (still e) =
     subst (λ (x : Content). AreMessagesIn (offer_messages (opt_instance meaning key barrier) x.place second) all)
     (sym (issued_alike meaning key barrier after y e)) n.after_repeat

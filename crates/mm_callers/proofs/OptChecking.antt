@@ -1,13 +1,20 @@
 -- Opt: the moves of a checkpoint, the messages by which it closes the segment, and what it leaves and says.
 use Rattle.mm_callers.proofs.Below.{◌≡◌, ℕ, Bool, true, false, List, [], ◌∷◌, ◌++◌, map, Option, None, Some, Ok, refl, sym, ap, ◌∙◌, subst}
 use Rattle.mm_callers.proofs.Below.{append_assoc, Err, Contains, append-nil, map-append, Opt, extended_message, anchored_message, StepFault}
-use Rattle.mm_callers.proofs.Below.{Item, foreign_item, item_values, digest_after, Instance, RegisterEntry, Value, History, Move, Foreign, Close}
-use Rattle.mm_callers.proofs.Below.{register_value_of, cell_digest_of, entry_values, AreMessagesIn, digests_after, Reads, DeviceStep, Writes, checkpoint_steps}
-use Rattle.mm_callers.proofs.Below.{after-append, End, Done, Fails, StepFate, StepsWalk, walk_from_step, walk, checkpoint_ending, counted_part, foreign_items}
-use Rattle.mm_callers.proofs.Below.{finished_walk, Said, checkpoint_result, MayClose, SaysClosing, life_of, is_lost, CheckpointRefusal, Result}
-use Rattle.mm_callers.proofs.Below.{AllByRecursion, Standing, trail, history_after, IsClear, Digests, IsAllowed, digests_of, has_close, checkpoint_outcome}
-use Rattle.mm_callers.proofs.Below.{IsClosedWithin, messages_of_moves, foreign_move_values, IsWithin, standing_items, IsCheckpointOnCourse, option_map, Meaning}
-use Rattle.mm_callers.proofs.Below.{Batch, Content, opt_instance, is_empty, NamesPosition, StandsFor, opt_names, list_level, digest_level, state_after_moves, state_seen}
+use Rattle.mm_callers.proofs.Below.{Item, foreign_item, item_values, digest_after, Instance, RegisterEntry, Value, History, Move, Foreign}
+use Rattle.mm_callers.proofs.Below.{Close}
+use Rattle.mm_callers.proofs.Below.{register_value_of, cell_digest_of, entry_values, AreMessagesIn, digests_after, Reads, DeviceStep}
+use Rattle.mm_callers.proofs.Below.{Writes, checkpoint_steps}
+use Rattle.mm_callers.proofs.Below.{after-append, End, Done, Fails, StepFate, StepsWalk, walk_from_step, walk, checkpoint_ending}
+use Rattle.mm_callers.proofs.Below.{counted_part, foreign_items}
+use Rattle.mm_callers.proofs.Below.{finished_walk, Said, checkpoint_result, MayClose, SaysClosing, life_of, is_lost, CheckpointRefusal}
+use Rattle.mm_callers.proofs.Below.{Result}
+use Rattle.mm_callers.proofs.Below.{AllByRecursion, Standing, trail, history_after, IsClear, Digests, IsAllowed, digests_of, has_close}
+use Rattle.mm_callers.proofs.Below.{checkpoint_outcome}
+use Rattle.mm_callers.proofs.Below.{IsClosedWithin, messages_of_moves, foreign_move_values, IsWithin, standing_items, IsCheckpointOnCourse}
+use Rattle.mm_callers.proofs.Below.{option_map, Meaning}
+use Rattle.mm_callers.proofs.Below.{Batch, Content, opt_instance, is_empty, NamesPosition, StandsFor, opt_names, list_level, digest_level}
+use Rattle.mm_callers.proofs.Below.{state_after_moves, state_seen}
 use Rattle.mm_callers.proofs.Below.{items_after_moves, AreShown, stands_at, StandsAt, same_batches}
 use Rattle.mm_model.specs.Chains.{register_of}
 use Rattle.mm_model.specs.HistoryLaws.{values_of-append}
@@ -79,7 +86,8 @@ says_closing None closed true true why after e there =
 says_closing None closed _ _ why after e there = absurd (cc)
 
 said_whole : (broken : Option StepFault) (closed flag lost : Bool) (said : Said)
-    → Ok said ≡ checkpoint_result (checkpoint_ending_by broken closed (checkpoint_ending Opt flag lost)) → (broken ≡ None) × (flag ≡ true → lost ≡ false)
+    → Ok said ≡ checkpoint_result (checkpoint_ending_by broken closed (checkpoint_ending Opt flag lost))
+    → (broken ≡ None) × (flag ≡ true → lost ≡ false)
 said_whole None closed true false said e = (refl, λ _. refl)
 said_whole None closed false lost said e = (refl, λ (f : false ≡ true). absurd (cc))
 said_whole _ closed flag lost said e = absurd (cc)
@@ -108,7 +116,8 @@ pub may_close_back : (all : List (List ℕ)) (i : Instance) (y z : History) (fro
     → MayClose all i y (front ++ later) → MayClose all i z later
 may_close_back all i y z front later closed register w first rest e =
     let r : List ℕ = register_value_of i (counted_part y) in
-    let message : List (List RegisterEntry) → List ℕ → List ℕ = λ c s. anchored_message (cell_digest_of i Opt (record y { closed = c })) s in
+    let message : List (List RegisterEntry) → List ℕ → List ℕ =
+        λ c s. anchored_message (cell_digest_of i Opt (record y { closed = c })) s in
     subst (Contains all) (ap (message y.closed) (after-append extended_message r (item_values front) first
     ∙ ap (λ (s : List ℕ). after extended_message s first) (sym register))
     ∙ ap (λ (c : List (List RegisterEntry)). message c (after extended_message (register_value_of i (counted_part z)) first)) (sym closed))
@@ -149,7 +158,8 @@ module _ (meaning : Meaning) (key barrier : List ℕ) where
             (λ first later s. w e (v ∷ first) later (ap (λ (vs : List (List ℕ)). v ∷ vs) s))),
       )
   closing_within all (Close ∷ moves) true y c t w =
-      (w refl [] (foreign_move_values moves) refl, closing_within all moves false (history_after I y Close) c t (λ (e : false ≡ true). absurd (cc)))
+      (w refl [] (foreign_move_values moves) refl, closing_within all moves false (history_after I y Close) c t
+      (λ (e : false ≡ true). absurd (cc)))
   closing_within all (_ ∷ moves) _ y c t w = absurd c
 
   -- they may be made, where at the end no closed segment is empty
@@ -217,7 +227,8 @@ module _ (meaning : Meaning) (key barrier : List ℕ) (all others : List (List �
       → (flag ≡ true → AreShown all others C y more × MayClose all C y more) → IsClosedWithin all others asked C y moves)
   closing_asked true z moves more c clear within same asks =
       let y : History = record z { is_open = true } in
-      let values_are : item_values more ≡ foreign_move_values moves = ap item_values (sym (same refl)) ∙ foreign_values (foreign_move_values moves) in
+      let values_are : item_values more ≡ foreign_move_values moves = ap item_values (sym (same refl))
+          ∙ foreign_values (foreign_move_values moves) in
       let a = asks refl in
       record {
         clear = clear;
@@ -225,7 +236,8 @@ module _ (meaning : Meaning) (key barrier : List ℕ) (all others : List (List �
         messages = closing_within meaning key barrier all moves true y c
             (subst (λ (vs : List (List ℕ)). AreMessagesIn (trail extended_message (register_value_of C y) vs) all) values_are a.0.messages)
             (λ _ first later s. a.1 first later (s ∙ sym values_are));
-        values = subst (AllByRecursion (Contains others)) (ap foreign_items (sym (same refl)) ∙ foreign_of-items (foreign_move_values moves))
+        values = subst (AllByRecursion (Contains others)) (ap foreign_items (sym (same refl)) ∙ foreign_of-items
+            (foreign_move_values moves))
             a.0.values;
       }
   closing_asked false z moves more c clear within same asks =
@@ -233,7 +245,8 @@ module _ (meaning : Meaning) (key barrier : List ℕ) (all others : List (List �
       record { clear = clear; within = within; messages = rw none tt; values = rw none tt }
 
   pub check_leaves : {old new : Standing} {result : Result Said CheckpointRefusal} (y : History) (items more : List Item)
-      → IsCheckpointOnCourse old new result → StandsFor C old y → old.items ≡ Some items → new.items ≡ Some (standing_items y.is_open items ++ more)
+      → IsCheckpointOnCourse old new result → StandsFor C old y → old.items ≡ Some items
+      → new.items ≡ Some (standing_items y.is_open items ++ more)
       → IsClear all → IsWithin all others asked C y → (y.is_open ≡ true → AreShown all others C y more × MayClose all C y more)
       → Checked meaning key barrier all others asked y new result
   check_leaves {old = old} {new = new} y items more k s known ends clear within asks =

@@ -1,10 +1,14 @@
 -- Opt: a call that nothing disturbs answers a welcome offer, or lacks memory.
 use Rattle.mm_callers.proofs.Below.{◌≡◌, ℕ, Bool, true, false, List, [], Some, Result, Err, refl, sym, ap, ◌∙◌, subst, Contains, Opt}
-use Rattle.mm_callers.proofs.Below.{extended_message, StepFault, Standing, quiet_plan, Meaning, Batch, One, guard, Instance, opt_instance, History}
+use Rattle.mm_callers.proofs.Below.{extended_message, StepFault, Standing, quiet_plan, Meaning, Batch, One, guard, Instance, opt_instance}
+use Rattle.mm_callers.proofs.Below.{History}
 use Rattle.mm_callers.proofs.Below.{Move, register_value_of, AreMessagesIn, Digests, digests_of, StandsFor, ask_steps, BatchAnswer, Refusal}
-use Rattle.mm_callers.proofs.Below.{Memory, Device, list_level, digest_level, finding_at, finding_unless_wanting, is_fresh, Done, StepFate, Course}
-use Rattle.mm_callers.proofs.Below.{walk, CallOutcome, call_outcome, result_of_ending, call_outcome_with, CallContinues, counted_part, counted_moves}
-use Rattle.mm_callers.proofs.Below.{messages_of_moves, foreign_move_values, IsAsked, AreAsked, asked_by, IsWelcome, AnswersOrLacks, AsksByQuietPlan}
+use Rattle.mm_callers.proofs.Below.{Memory, Device, list_level, digest_level, finding_at, finding_unless_wanting, is_fresh, Done, StepFate}
+use Rattle.mm_callers.proofs.Below.{Course}
+use Rattle.mm_callers.proofs.Below.{walk, CallOutcome, call_outcome, result_of_ending, call_outcome_with, CallContinues, counted_part}
+use Rattle.mm_callers.proofs.Below.{counted_moves}
+use Rattle.mm_callers.proofs.Below.{messages_of_moves, foreign_move_values, IsAsked, AreAsked, asked_by, IsWelcome, AnswersOrLacks}
+use Rattle.mm_callers.proofs.Below.{AsksByQuietPlan}
 use Rattle.mm_callers.proofs.Below.{AsksInMemory}
 use Rattle.mm_callers.proofs.Completing.{complete, welcome_found}
 use Rattle.mm_opt.specs.AskPromise.{OptAskPromise}
@@ -53,7 +57,8 @@ module _ (meaning : Meaning) (key barrier : List ℕ) where
       subst (AnswersOrLacks I y new b again) (sym (k.gives ∙ ap result_of_ending a.ending))
       (record { after = o.state; stands = k.stands; batches_are = a.batches; answer_is = refl })
   answers_or_lacks true all others asked y new offer b again result w k =
-      let same : call_outcome I (list_level I) y (still_course true) offer b ≡ call_outcome_with I (list_level I) y y (still_course true) b (Err Memory) =
+      let same : call_outcome I (list_level I) y (still_course true) offer b ≡ call_outcome_with I (list_level I) y y
+          (still_course true) b (Err Memory) =
       simp (welcome_found I y offer b again w) in
       subst (AnswersOrLacks I y new b again) (sym (k.gives ∙ ap (λ (o : CallOutcome History). result_of_ending o.ending) same))
       (refl, subst (λ (o : CallOutcome History). StandsFor I new o.state) same k.stands)
@@ -70,8 +75,10 @@ asked_quietly {meaning = meaning} {new = new} {offer = offer} {request = request
     let b : Batch = One request in
     let c = call.goes short in
     let is : c.course ≡ still_course c.course.lacks = course_is c.course (c.tells quiet_plan on plan refl) in
-    let goes = subst (λ (q : Course). IsAsked all others asked i y (call_outcome i (digest_level i) (digests_of i y) q offer b).moves offer b
-    → CallContinues all others asked i (call_outcome i (list_level i) y q offer b) new result) is (c.continues key barrier y all others asked s) in
+    let goes = subst (λ (q : Course). IsAsked all others asked i y (call_outcome i (digest_level i) (digests_of i y) q offer b).moves offer
+        b
+    → CallContinues all others asked i (call_outcome i (list_level i) y q offer b) new result) is
+    (c.continues key barrier y all others asked s) in
     answers_or_lacks meaning key barrier c.course.lacks all others asked y new offer b again result w
     (goes (asked_alone meaning key barrier all others asked y offer b c.course.lacks a m))
 

@@ -1,13 +1,20 @@
 -- Opt: the same request behind a checkpoint is answered by its earlier reply, or refused as it is found.
 use Rattle.mm_callers.proofs.Below.{◌≡◌, ℕ, Bool, true, false, List, Option, None, Some, Result, Ok, Err, refl, sym, ap, ◌∙◌, subst}
 use Rattle.mm_callers.proofs.Below.{if◌then◌else◌, Opt, StepFault, Standing, Meaning, Batch, Instance, History, Move, total_of, Digests}
-use Rattle.mm_callers.proofs.Below.{StandsFor, ask_steps, BatchAnswer, Refusal, digest_level, CallFinding, is_fresh, StepFate, walk, call_ending_by}
-use Rattle.mm_callers.proofs.Below.{result_of_ending, IsOnce, RepeatsReply, HistoryGrows, kept, grown, answered_at, Brought, reads_only, fault_of, ◌++◌}
-use Rattle.mm_callers.proofs.Below.{map, append_assoc, Item, foreign_item, One, Foreign, digests_of, list_level, state_after_moves, finding_at}
-use Rattle.mm_callers.proofs.Below.{finding_unless_wanting, StepsWalk, call_outcome, state_seen, finding_for, SaysUnlessFault, MayClose, AreShownUnlessIdle}
-use Rattle.mm_callers.proofs.Below.{RepeatsBehind, EndsBehind, in_closing, ClosesBetween, shown_front, option_map, opt_instance, checkpoint_outcome}
-use Rattle.mm_callers.proofs.Below.{IsCallOnCourse, AreAsked, AreShown, StandsAt, items_after_moves, standing_items, stands_at, placed, right_at, Said}
-use Rattle.mm_callers.proofs.Below.{IsCheckpointOnCourse, DigestMoves, call_goes_on, is_long, Answer, foreign_move_values, batch_answer_of, Long, CheckpointRefusal}
+use Rattle.mm_callers.proofs.Below.{StandsFor, ask_steps, BatchAnswer, Refusal, digest_level, CallFinding, is_fresh, StepFate, walk}
+use Rattle.mm_callers.proofs.Below.{call_ending_by}
+use Rattle.mm_callers.proofs.Below.{result_of_ending, IsOnce, RepeatsReply, HistoryGrows, kept, grown, answered_at, Brought, reads_only}
+use Rattle.mm_callers.proofs.Below.{fault_of, ◌++◌}
+use Rattle.mm_callers.proofs.Below.{map, append_assoc, Item, foreign_item, One, Foreign, digests_of, list_level, state_after_moves}
+use Rattle.mm_callers.proofs.Below.{finding_at}
+use Rattle.mm_callers.proofs.Below.{finding_unless_wanting, StepsWalk, call_outcome, state_seen, finding_for, SaysUnlessFault, MayClose}
+use Rattle.mm_callers.proofs.Below.{AreShownUnlessIdle}
+use Rattle.mm_callers.proofs.Below.{RepeatsBehind, EndsBehind, in_closing, ClosesBetween, shown_front, option_map, opt_instance}
+use Rattle.mm_callers.proofs.Below.{checkpoint_outcome}
+use Rattle.mm_callers.proofs.Below.{IsCallOnCourse, AreAsked, AreShown, StandsAt, items_after_moves, standing_items, stands_at, placed}
+use Rattle.mm_callers.proofs.Below.{right_at, Said}
+use Rattle.mm_callers.proofs.Below.{IsCheckpointOnCourse, DigestMoves, call_goes_on, is_long, Answer, foreign_move_values, batch_answer_of}
+use Rattle.mm_callers.proofs.Below.{Long, CheckpointRefusal}
 use Rattle.mm_call.specs.ShowingLaws.{shown_same}
 use Rattle.mm_opt.specs.AskPromise.{OptAskPromise}
 use Rattle.mm_callers.proofs.Leaving.{answered, asked_on, not_long, After, Left, Offers, not_at_end, once, once_twice, answers_once}
@@ -55,7 +62,8 @@ offers {y = y} (grown content right at more gives) =
 
 -- the second reply, by what the first call and the second one came to
 repeats_by : {i : Instance} {y one two last : History} {new : Standing} {offer : List ℕ} {b : Batch} {first second : BatchAnswer}
-    → two.batches ≡ one.batches → StandsFor i new last → HistoryGrows i y offer b one (Ok first) → HistoryGrows i two offer b last (Ok second)
+    → two.batches ≡ one.batches → StandsFor i new last → HistoryGrows i y offer b one (Ok first)
+    → HistoryGrows i two offer b last (Ok second)
     → RepeatsReply i y new b first second
 repeats_by same s c (grown content right at more gives) = absurd (not_at_end (offers c) content right (at ∙ ap total_of same))
 repeats_by {first = first} {second = second} same s c (kept is gives) =
@@ -70,7 +78,8 @@ repeats_by {first = first} {second = second} same s c (kept is gives) =
 
 module _ {meaning : Meaning} {old answered_at closed : Standing} {offer request : List ℕ} {first : BatchAnswer}
     {said : Result Said CheckpointRefusal} (call : OptAskPromise meaning old answered_at offer (One request) (Ok first))
-    (k : IsCheckpointOnCourse answered_at closed said) (key barrier : List ℕ) (all others : List (List ℕ)) (asked : List Batch) (y : History) where
+    (k : IsCheckpointOnCourse answered_at closed said) (key barrier : List ℕ) (all others : List (List ℕ)) (asked : List Batch)
+    (y : History) where
   abbrev I : Instance
   I = opt_instance meaning key barrier
 
@@ -122,9 +131,11 @@ module _ {meaning : Meaning} {old answered_at closed : Standing} {offer request 
       (one.0 ++ two.0, two.1 ∙ ap (λ (xs : List Item). Some xs) (append_assoc items one.0 two.0))
 
   -- the call made once more
-  module _ {new : Standing} {result : Result BatchAnswer Refusal} (r : IsCallOnCourse Opt meaning closed new offer (One request) result) where
+  module _ {new : Standing} {result : Result BatchAnswer Refusal} (r : IsCallOnCourse Opt meaning closed new offer (One request) result)
+      where
     -- one that found no new batch makes its reading steps alone
-    quietly : (d : Digests) → StandsAt I closed d → IsQuiet result → Brought (call_outcome I (digest_level I) d r.course offer (One request)).moves
+    quietly : (d : Digests) → StandsAt I closed d → IsQuiet result
+        → Brought (call_outcome I (digest_level I) d r.course offer (One request)).moves
     quietly d stands q =
         let b : Batch = One request in
         let seen : Digests = state_seen I (digest_level I) d r.course in
@@ -155,7 +166,8 @@ module _ {meaning : Meaning} {old answered_at closed : Standing} {offer request 
         let third : List Move = (call_outcome I (digest_level I) o.state r.course offer (One request)).moves in
         let alone = quietly o.state h.stands q in
         let later : List Item = map foreign_item (foreign_move_values (map Foreign alone.values)) in
-        let same : front.0 ++ later ≡ more = shown_same closed.items (items_after_moves I o.state third) here standing more (front.0 ++ later) front.1
+        let same : front.0 ++ later ≡ more = shown_same closed.items (items_after_moves I o.state third) here standing more
+            (front.0 ++ later) front.1
         (ap (λ (ms : List Move). items_after_moves I o.state ms here) alone.are
         ∙ closing_shown meaning key barrier (map Foreign alone.values) false o.state here (closing_foreign alone.values false)
         ∙ append_assoc standing front.0 later)
@@ -216,7 +228,8 @@ refused_first {why = why} call key barrier y all others asked items more s known
 
 -- the checkpoint was refused
 pub refused_closing : {meaning : Meaning} {old answered_at closed : Standing} {offer request : List ℕ} {first : BatchAnswer}
-    {why : CheckpointRefusal} → OptAskPromise meaning old answered_at offer (One request) (Ok first) → IsCheckpointOnCourse answered_at closed (Err why)
+    {why : CheckpointRefusal} → OptAskPromise meaning old answered_at offer (One request) (Ok first)
+    → IsCheckpointOnCourse answered_at closed (Err why)
     → RepeatsBehind meaning old closed offer request (Err (halted.Closing why))
 refused_closing {request = request} {first = first} {why = why} call k key barrier y all others asked items more s known ends a shown_so =
     let x = behind call k key barrier all others asked y items more s known ends a shown_so in
@@ -229,7 +242,8 @@ refused_closing {request = request} {first = first} {why = why} call k key barri
 
 -- the call once more was refused
 pub refused_again : {meaning : Meaning} {old answered_at closed new : Standing} {offer request : List ℕ} {first : BatchAnswer} {said : Said}
-    {why : Refusal} → OptAskPromise meaning old answered_at offer (One request) (Ok first) → IsCheckpointOnCourse answered_at closed (Ok said)
+    {why : Refusal} → OptAskPromise meaning old answered_at offer (One request) (Ok first)
+    → IsCheckpointOnCourse answered_at closed (Ok said)
     → OptAskPromise meaning closed new offer (One request) (Err why)
     → RepeatsBehind meaning old new offer request (Err (halted.Asking why))
 refused_again {said = said} {why = why} call k again key barrier y all others asked items more s known ends a shown_so =
@@ -253,7 +267,8 @@ repeats_behind {said = said} first second call k again is_again key barrier y al
 pub never_twice : {meaning : Meaning} {old answered_at closed new : Standing} {offer request : List ℕ} {said : Said}
     (first second : Answer) → OptAskPromise meaning old answered_at offer (One request) (Ok (batch_answer_of first))
     → IsCheckpointOnCourse answered_at closed (Ok said)
-    → OptAskPromise meaning closed new offer (One request) (Ok (batch_answer_of second)) → ClosesBetween meaning old new offer request first second
+    → OptAskPromise meaning closed new offer (One request) (Ok (batch_answer_of second)) → ClosesBetween meaning old new offer
+    request first second
 never_twice {answered_at = answered_at} {closed = closed} {said = said} first second call k again = record {
   answered = answered_at;
   closed = closed;

@@ -1,8 +1,10 @@
 -- What callers get in either variant, by lists alone; and what those of Basic do.
 use Rattle.std.specs.Prelude.{◌≡◌, ◌≤◌, ℕ, Bool, false, List, [], ◌∷◌, ◌++◌, Option, None, Some, Result, Ok, Err, ◌⊎◌, if◌then◌else◌}
 use Rattle.std.specs.List.{Contains}
-use Rattle.mm_callers.specs.Below.{next_count, Standing, StepFault, Batch, One, Meaning, History, Commit, history_after, Instance, basic_instance, AreMessagesIn}
-use Rattle.mm_callers.specs.Below.{offer_messages, content_of_issue, is_long, StandsFor, issued_bytes, BatchAnswer, Refusal, Memory, Long, answer_on}
+use Rattle.mm_callers.specs.Below.{next_count, Standing, StepFault, Batch, One, Meaning, History, Commit, history_after, Instance}
+use Rattle.mm_callers.specs.Below.{basic_instance, AreMessagesIn}
+use Rattle.mm_callers.specs.Below.{offer_messages, content_of_issue, is_long, StandsFor, issued_bytes, BatchAnswer, Refusal, Memory, Long}
+use Rattle.mm_callers.specs.Below.{answer_on}
 use Rattle.mm_callers.specs.Below.{EndsWith, CallFinding, finding_at, list_level, AreAsked, fault_of}
 
 -- The batch was committed once: it follows the history's batches, or it was their last one before.
@@ -41,7 +43,8 @@ SaysUnlessFault None found why = SaysFound found why
 
 -- After an error the platform stands for a history of which the same holds as was asked, so that
 -- the call may be made again.
-pub record StaysAsAsked (all others : List (List ℕ)) (asked : List Batch) (i : Instance) (new : Standing)
+pub record StaysAsAsked (all others : List (List ℕ)) (asked : List Batch)
+    (i : Instance) (new : Standing)
     (offer : List ℕ)
     (b : Batch) : Type 0 where
   pub after : History
@@ -55,7 +58,8 @@ AreLeftBatches before b after old new =
 
 -- A call ended with an error, as did what was made of it once more after a fault: what stands, and
 -- what is told.
-pub record RefusesCall (all others : List (List ℕ)) (asked : List Batch) (i : Instance) (y : History)
+pub record RefusesCall (all others : List (List ℕ)) (asked : List Batch)
+    (i : Instance) (y : History)
     (old new : Standing) (offer : List ℕ)
     (b : Batch) (why : Refusal) : Type 0 where
   pub stays : StaysAsAsked all others asked i new offer b
@@ -83,7 +87,8 @@ pub record AreAskedNext (all : List (List ℕ)) (asked : List Batch) (i : Instan
     (first second : Batch) : Type 0 where
   pub is_asked : Contains asked second
   pub after_repeat : AreMessagesIn (offer_messages i (content_of_issue i y).place second) all
-  pub after_new : AreMessagesIn (offer_messages i (content_of_issue i (history_after i y (Commit first))).place second) all
+  pub after_new : AreMessagesIn
+      (offer_messages i (content_of_issue i (history_after i y (Commit first))).place second) all
 
 -- The first request was committed once, and the second follows it in the run that the answer is of.
 pub record AnswersNext (i : Instance) (y : History) (new : Standing) (first second : Batch)
@@ -103,7 +108,8 @@ pub data RefusesNext (all others : List (List ℕ)) (asked : List Batch) (i : In
   in_second : (batches : List Batch) → IsOnce y.batches first batches
       → (stays : StaysAsAsked all others asked i new offer first)
       → AreLeftBatches batches second stays.after.batches old new
-      → SaysUnlessFault (fault_of why) (finding_for i stays.after (issued_bytes i stays.after) second) why
+      → SaysUnlessFault (fault_of why)
+      (finding_for i stays.after (issued_bytes i stays.after) second) why
       → RefusesNext all others asked i y old new offer first second why
 
 -- How two calls ended, the second on the snapshot of the first answer.
@@ -121,4 +127,5 @@ AsksTwice meaning old new offer first second result =
     StandsFor (basic_instance meaning key) old y
     → AreAsked all others asked (basic_instance meaning key) y offer (One first) →
     AreAskedNext all asked (basic_instance meaning key) y (One first) (One second) →
-    EndsNext all others asked (basic_instance meaning key) y old new offer (One first) (One second) result
+    EndsNext all others asked (basic_instance meaning key) y old new offer (One first)
+    (One second) result

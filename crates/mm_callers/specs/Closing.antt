@@ -2,9 +2,11 @@
 -- more, by lists.
 use Rattle.std.specs.Prelude.{◌≡◌, ℕ, true, List, ◌++◌, Option, None, Some, Result, Ok, Err}
 use Rattle.std.specs.List.{Contains}
-use Rattle.mm_callers.specs.Below.{extended_message, anchored_message, digest_after, Opt, Item, Standing, item_values, StepFault, Batch, One}
+use Rattle.mm_callers.specs.Below.{extended_message, anchored_message, digest_after, Opt, Item, Standing, item_values, StepFault, Batch}
+use Rattle.mm_callers.specs.Below.{One}
 use Rattle.mm_callers.specs.Below.{Meaning, History, register_value_of, cell_digest_of, Instance, life_of, is_lost, Answer, BatchAnswer}
-use Rattle.mm_callers.specs.Below.{Refusal, counted_part, IsCallOnCourse, batch_answer_of, AreShown, IsIdle, fault_of, IsCheckpointOnCourse, CheckpointRefusal, Device}
+use Rattle.mm_callers.specs.Below.{Refusal, counted_part, IsCallOnCourse, batch_answer_of, AreShown, IsIdle, fault_of, IsCheckpointOnCourse}
+use Rattle.mm_callers.specs.Below.{CheckpointRefusal, Device}
 use Rattle.mm_callers.specs.Below.{Blank, Cell, Kind, Lost, Checkpointed}
 use Rattle.mm_callers.specs.Basic.{IsOnce, AnswersOnce, finding_for, SaysFound, StaysAsAsked, RefusesCall}
 use Rattle.mm_callers.specs.Opt.{HoldsOnEach}
@@ -82,7 +84,8 @@ pub data RefusesRepeat (all others : List (List ℕ)) (asked : List Batch) (i : 
 
 -- A request, a checkpoint and the request once more, where the second reply is told as a repeat.
 -- What is asked of what others do is asked of the register's items at exit.
-abbrev pub RepeatsBehind : Meaning → Standing → Standing → List ℕ → List ℕ → Result Replies RepeatRefusal
+abbrev pub RepeatsBehind : Meaning → Standing → Standing → List ℕ → List ℕ
+    → Result Replies RepeatRefusal
     → Type 0
 RepeatsBehind meaning old new offer request (Err why) =
     HoldsOnEach meaning old new offer (One request) (λ all others asked i y more.
@@ -92,7 +95,8 @@ RepeatsBehind meaning old new offer request (Ok replies) =
     replies.second.again ≡ true →
     HoldsOnEach meaning old new offer (One request) (λ all others asked i y more.
     AreShownUnlessIdle all others i y offer (One request) more →
-    RepeatsReply i y new (One request) (batch_answer_of replies.first) (batch_answer_of replies.second))
+    RepeatsReply i y new (One request) (batch_answer_of replies.first)
+    (batch_answer_of replies.second))
 
 -- It is told as a repeat. A request that is taken as new empties the register, so what was in it
 -- when the segment was closed isn't seen at exit: it is seen on the platform when the checkpoint
@@ -102,15 +106,18 @@ pub record ClosesBetween (meaning : Meaning) (old new : Standing) (offer request
     (first second : Answer) : Type 0 where
   pub answered : Standing
   pub closed : Standing
-  pub asks : IsCallOnCourse Opt meaning old answered offer (One request) (Ok (batch_answer_of first))
+  pub asks : IsCallOnCourse Opt meaning old answered offer (One request)
+      (Ok (batch_answer_of first))
   pub said : Checkpointed
   pub checks : IsCheckpointOnCourse answered closed (Ok said)
-  pub asks_again : IsCallOnCourse Opt meaning closed new offer (One request) (Ok (batch_answer_of second))
+  pub asks_again : IsCallOnCourse Opt meaning closed new offer (One request)
+      (Ok (batch_answer_of second))
   pub repeats : HoldsOnEach meaning old closed offer (One request) (λ all others asked i y more.
       AreShownUnlessIdle all others i y offer (One request) more →
       RepeatsReply i y new (One request) (batch_answer_of first) (batch_answer_of second))
 
-abbrev pub NeverTwice : Meaning → Standing → Standing → List ℕ → List ℕ → Result Replies RepeatRefusal
+abbrev pub NeverTwice : Meaning → Standing → Standing → List ℕ → List ℕ
+    → Result Replies RepeatRefusal
     → Type 0
 NeverTwice meaning old new offer request (Err why) = Unit {0}
 NeverTwice meaning old new offer request (Ok replies) =

@@ -1,6 +1,7 @@
 -- When a call is answered: by lists, on every course.
 use Rattle.std.specs.Prelude.{◌≡◌, ℕ, ◌+◌, ◌≤◌, Bool, true, false, List, [], ◌∷◌, ◌++◌}
-use Rattle.mm_callers.specs.Below.{last_position, Content, Batch, size_of, Meaning, History, total_of, Instance, basic_instance, opt_instance, Live, life_of}
+use Rattle.mm_callers.specs.Below.{last_position, Content, Batch, size_of, Meaning, History, total_of, Instance, basic_instance}
+use Rattle.mm_callers.specs.Below.{opt_instance, Live, life_of}
 use Rattle.mm_callers.specs.Below.{IsRight, answer_on, Answers, CallOutcome, call_outcome, state_seen, EndsWith, Done, Course, list_level}
 
 -- no step fails, and memory isn't wanting
@@ -43,7 +44,8 @@ CallsAreComplete i = (y : History) (course : Course) (offer : List ℕ) (b : Bat
     IsAnswer i y b again (call_outcome i (list_level i) y course offer b)
 
 abbrev pub BasicCallsAreComplete : Type 0
-BasicCallsAreComplete = (meaning : Meaning) (key : List ℕ) → CallsAreComplete (basic_instance meaning key)
+BasicCallsAreComplete = (meaning : Meaning) (key : List ℕ)
+    → CallsAreComplete (basic_instance meaning key)
 
 abbrev pub OptCallsAreComplete : Type 0
 OptCallsAreComplete =

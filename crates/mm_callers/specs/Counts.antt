@@ -46,7 +46,8 @@ pub record CountsClosing (old new : Standing)
 
 -- A call; where it was answered, a checkpoint; and where that was made, the call once more. An
 -- error is that of the last of these.
-pub data CountsRepeat (b : Batch) (old new : Standing) (result : Result Replies RepeatRefusal) : Type 0
+pub data CountsRepeat (b : Batch) (old new : Standing)
+    (result : Result Replies RepeatRefusal) : Type 0
   where
     in_first : (why : Refusal) → result ≡ Err (Asking why) → CountsCall Opt b old new (Err why)
         → CountsRepeat b old new result
@@ -61,5 +62,6 @@ pub data CountsRepeat (b : Batch) (old new : Standing) (result : Result Replies 
         → CountsRepeat b old new result
     replied : (first second : Answer) → result ≡ Ok (record { first = first; second = second })
         → (answered closed : Standing) (said : Checkpointed)
-        → CountsCall Opt b old answered (Ok (batch_answer_of first)) → CountsClosing answered closed (Ok said)
+        → CountsCall Opt b old answered (Ok (batch_answer_of first))
+        → CountsClosing answered closed (Ok said)
         → CountsCall Opt b closed new (Ok (batch_answer_of second)) → CountsRepeat b old new result

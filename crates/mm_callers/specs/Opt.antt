@@ -56,7 +56,8 @@ AnswersUndisturbed meaning old new offer request result =
     (again : Bool) →
     is_long (One request) ≡ false → StandsFor (opt_instance meaning key barrier) old y →
     AreAsked all others asked (opt_instance meaning key barrier) y offer (One request) →
-    Contains all (extended_message (register_value_of (opt_instance meaning key barrier) (counted_part y))
+    Contains all (extended_message
+    (register_value_of (opt_instance meaning key barrier) (counted_part y))
     (guard barrier (One request))) →
     IsWelcome (opt_instance meaning key barrier) y offer (One request) again →
     AnswersOrLacks (opt_instance meaning key barrier) y new (One request) again result

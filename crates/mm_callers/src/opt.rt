@@ -43,7 +43,8 @@ pub fn ask_in_memory<M: Module>(
 ) -> Result<Answer, Refusal>
     ensures complete { AsksInMemory (M.meaning «module».now) platform.old platform.new offer.now
         request.now (batch_result_of result) }
-    ensures counts { CountsCall Opt (One request.now) platform.old platform.new (batch_result_of result) }
+    ensures counts { CountsCall Opt (One request.now) platform.old platform.new
+        (batch_result_of result) }
 {
     platform.end_plan();
     ask_once(alloc, module, platform, offer, request)

@@ -1,8 +1,10 @@
 -- From a run over lines to what the whole recorded run is told.
 use Rattle.mm_check.proofs.Below.{◌≡◌, ◌∙◌, ℕ, ◌+◌, Bool, true, false, cond, List, [], ◌∷◌, ◌++◌, length, map, nat_lt, Option, None, Some}
 use Rattle.mm_check.proofs.Below.{Result, Ok, Err, refl, sym, ap, subst, append_assoc, append-nil, arith, inl, inr, fold, longest_line}
-use Rattle.mm_check.proofs.Below.{Header, Event, world_of, plays_ok, plays_err, not_ok, ok_same, outcome_of, RecordedRun, first_recorded_run, with_event}
-use Rattle.mm_check.proofs.Below.{ComparedRun, first_compared_run, compared_run_after, CheckStage, AtHeader, InEvents, InReplies, answer_to_header, answer_to_line}
+use Rattle.mm_check.proofs.Below.{Header, Event, world_of, plays_ok, plays_err, not_ok, ok_same, outcome_of, RecordedRun}
+use Rattle.mm_check.proofs.Below.{first_recorded_run, with_event}
+use Rattle.mm_check.proofs.Below.{ComparedRun, first_compared_run, compared_run_after, CheckStage, AtHeader, InEvents, InReplies}
+use Rattle.mm_check.proofs.Below.{answer_to_header, answer_to_line}
 use Rattle.mm_check.proofs.Below.{check_answer, check_closing, for_whole, AreVerdicts, StageConcludes, run_lines, Verdicts}
 use Rattle.mm_base.specs.Input.{lines_of, tail_of}
 use Rattle.mm_base.specs.declared.replay_fault.ReplayFault.{ReplayFault}
@@ -12,7 +14,8 @@ use Rattle.mm_schedule.specs.Headers.{header_at}
 use Rattle.mm_play.specs.declared.player.LineRefusal.{LineRefusal}
 use Rattle.mm_play.specs.declared.player.LineRefusal.TheVariants.{Bad}
 use Rattle.mm_play.specs.Counting.{no_answer, same_answer}
-use Rattle.mm_play.specs.Play.{PlayOutcome, play_outcome, stopped_outcome, refusal_at, outcome_of_answer, outcome_at_end, outcome_of_tail, outcome_then, outcome_of_lines}
+use Rattle.mm_play.specs.Play.{PlayOutcome, play_outcome, stopped_outcome, refusal_at, outcome_of_answer, outcome_at_end, outcome_of_tail}
+use Rattle.mm_play.specs.Play.{outcome_then, outcome_of_lines}
 use Rattle.std.specs.Io.KnownBytes.{Appends}
 use Rattle.mm_play.specs.PlaysInput.{HoldsOfWhole, AnswerFits, PlaysInput, IsBlamed, is_write_fault}
 use Rattle.mm_check.specs.CheckStage.{answer_to_recorded_line}
@@ -151,7 +154,8 @@ stops_so : (left : Option (List ℕ)) (taken sent : List ℕ) (fault : ReplayFau
     → HoldsOfWhole left taken (λ input. check_of_input input ≡ play_outcome sent (Err fault))
     → HoldsOfWhole left taken (λ input. (check_of_input input).outcome ≡ Err fault)
 stops_so left taken sent fault h =
-    for_whole left taken (λ input. check_of_input input ≡ play_outcome sent (Err fault)) (λ input. (check_of_input input).outcome ≡ Err fault)
+    for_whole left taken (λ input. check_of_input input ≡ play_outcome sent (Err fault)) (λ input. (check_of_input input).outcome
+    ≡ Err fault)
     (λ input e. outcome_of e) h
 
 judges_by : (next : CheckStage) (left : Option (List ℕ)) (taken sent : List ℕ) (fault : ReplayFault) → (fault ≡ WriteFault → ⊥)

@@ -5,10 +5,13 @@ use Rattle.mm_check.proofs.Below.{arith, inl, inr, ◌⊎◌, ◌||◌, append_a
 use Rattle.mm_check.proofs.Below.{Contains, option_map, bytes_eq, Contains-append_left, Contains-append_right, Contains-append_cases}
 use Rattle.mm_check.proofs.Below.{Contains-push, Contains-push_cases, nat_list_eq_equiv, bytes_eq-Decides, sha256, zero_bytes}
 use Rattle.mm_check.proofs.Below.{start_message, guard, own_values, Instance, History, Move, Close, history_after, first_history, IsClear}
-use Rattle.mm_check.proofs.Below.{AreNoGuards, move_messages, messages_of_moves, list_level, Event, event_outcome, first_issued, event_messages}
+use Rattle.mm_check.proofs.Below.{AreNoGuards, move_messages, messages_of_moves, list_level, Event, event_outcome, first_issued}
+use Rattle.mm_check.proofs.Below.{event_messages}
 use Rattle.mm_check.proofs.Below.{moves_of, messages_from, event_foreign_values, foreign_values, asked_batches, run_messages, messages_if}
-use Rattle.mm_check.proofs.Below.{messages_where, numbered_event_messages, number_of_first, messages_with, message_digests, shared_pair_with, shared_pair_in, is_zero}
-use Rattle.mm_check.proofs.Below.{zero_number_in, numbered_messages_from, numbered_messages, is_secured, Variant, Basic, Opt, AreApart, secured_event_by}
+use Rattle.mm_check.proofs.Below.{messages_where, numbered_event_messages, number_of_first, messages_with, message_digests}
+use Rattle.mm_check.proofs.Below.{shared_pair_with, shared_pair_in, is_zero}
+use Rattle.mm_check.proofs.Below.{zero_number_in, numbered_messages_from, numbered_messages, is_secured, Variant, Basic, Opt, AreApart}
+use Rattle.mm_check.proofs.Below.{secured_event_by}
 use Rattle.std.specs.Option.{is_some}
 use Rattle.std.specs.List.{All, IsDistinct}
 use Rattle.std.proofs.lemmas.Bool.{both_ways, false_from_ne_true}
@@ -192,7 +195,8 @@ events_same i (event ∷ events) y issued m =
     let o = event_outcome i (list_level i) y issued event in
     let asks = event_messages i issued event in
     let moves = moves_of i y issued event in
-    same_append (numbered_event_messages i y issued event) (asks ++ messages_of_moves i y moves) (numbered_messages_from i o.state o.issued events)
+    same_append (numbered_event_messages i y issued event) (asks ++ messages_of_moves i y moves)
+    (numbered_messages_from i o.state o.issued events)
     (messages_from i o.state o.issued events)
     (same_append asks asks (messages_where false i y moves ++ messages_where true i y moves) (messages_of_moves i y moves) (λ n. refl)
     (moves_same i moves y)) (events_same i events o.state o.issued) m
@@ -208,7 +212,8 @@ pub clear_run : (i : Instance) (events : List Event) → shared_pair_in (message
     → zero_number_in (message_digests (numbered_messages i events)) ≡ None → IsClear (run_messages i events)
 clear_run i events none zero =
     clear_of_fewer (run_messages i events) (numbered_messages i events)
-    (same_in (run_messages i events) (numbered_messages i events) (λ m. sym (run_same i events m))) (clear_from (numbered_messages i events) none zero)
+    (same_in (run_messages i events) (numbered_messages i events) (λ m. sym (run_same i events m)))
+    (clear_from (numbered_messages i events) none zero)
 
 -- and they tell nothing else where it is clear
 module _ (i : Instance) (events : List Event) (clear : IsClear (run_messages i events)) where
@@ -229,7 +234,8 @@ module _ (i : Instance) (events : List Event) (clear : IsClear (run_messages i e
 
 -- the values that others bring, and the guards
 
-foreign_any : (q : List ℕ → Bool) (es : List Event) → list_any q (foreign_values es) ≡ list_any (λ e. list_any q (event_foreign_values e)) es
+foreign_any : (q : List ℕ → Bool) (es : List Event) → list_any q (foreign_values es)
+    ≡ list_any (λ e. list_any q (event_foreign_values e)) es
 foreign_any q [] = refl
 foreign_any q (e ∷ es) = list_any-append q (event_foreign_values e) (foreign_values es)
     ∙ ap (λ (b : Bool). list_any q (event_foreign_values e) || b) (foreign_any q es)

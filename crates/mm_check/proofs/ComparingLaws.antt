@@ -1,7 +1,8 @@
 -- Lines compared one by one tell the first difference of the whole lists.
 use Rattle.mm_check.proofs.Below.{◌≡◌, ◌∙◌, ℕ, zero, suc, ◌+◌, ◌<◌, ◌≤◌, Bool, true, false, cond, List, [], ◌∷◌, ◌++◌, length, map, drop}
 use Rattle.mm_check.proofs.Below.{Option, None, Some, refl, sym, ap, subst, arith, fold, slice_get, bytes_eq, nat_tests, drop_all, Header}
-use Rattle.mm_check.proofs.Below.{Event, world_of, DecidesPremise, expected_lines, ComparedRun, is_line, first_number_of, compared_run_after, difference_from}
+use Rattle.mm_check.proofs.Below.{Event, world_of, DecidesPremise, expected_lines, ComparedRun, is_line, first_number_of}
+use Rattle.mm_check.proofs.Below.{compared_run_after, difference_from}
 use Rattle.mm_check.proofs.Below.{first_difference, is_found, end_difference, agreement_of, AreVerdicts, AreVerdictsOn, Verdicts, nat_lt}
 use Rattle.mm_check.proofs.Below.{not}
 use Rattle.std.proofs.lemmas.Bool.{le-ltb, lt-ltb}
@@ -108,7 +109,8 @@ pub verdicts_on : (header : Header) (events : List Event) (recorded : List (List
 verdicts_on header events recorded it h =
     let on = compared_on recorded (at header events 0 None) in record {
       premise = subst (λ (es : List Event). DecidesPremise (world_of header) es it.premise) on.1
-          (subst (λ (x : Header). DecidesPremise (world_of x) (fold compared_run_after (at header events 0 None) recorded).events it.premise)
+          (subst (λ (x : Header). DecidesPremise (world_of x) (fold compared_run_after (at header events 0 None) recorded).events
+          it.premise)
           on.0 h.premise);
       agreement = h.agreement ∙ ap agreement_of (compare_ends header events recorded 0 None);
     }

@@ -2,9 +2,12 @@
 use Rattle.mm_check.proofs.Below.{◌≡◌, ◌∙◌, ℕ, ◌+◌, ◌≤◌, true, false, Bool, List, [], ◌∷◌, ◌++◌, length, Option, None, Some, refl, sym, ap}
 use Rattle.mm_check.proofs.Below.{subst, arith, append_assoc, append-nil, length-append, fold, Variant, Basic, Opt, start_message}
 use Rattle.mm_check.proofs.Below.{variant_byte, Meaning, meaning_of, Instance, History, first_history, total_of, Header, Event}
-use Rattle.mm_check.proofs.Below.{lines_of_reply, end_line, list_level, RunOutcome, outcome_of_events, event_outcome, first_issued, outcome_by_lists, world_of}
-use Rattle.mm_check.proofs.Below.{world_key, world_barrier, IsGenuineEvent, AreGenuine, IsClearRun, numbered_event_messages, messages_with, message_digests}
-use Rattle.mm_check.proofs.Below.{shared_pair_in, zero_number_in, ListsMessages, pair_of, numbered_messages_from, numbered_messages, secured_event_in, expected_lines, IsForgedAt}
+use Rattle.mm_check.proofs.Below.{lines_of_reply, end_line, list_level, RunOutcome, outcome_of_events, event_outcome, first_issued}
+use Rattle.mm_check.proofs.Below.{outcome_by_lists, world_of}
+use Rattle.mm_check.proofs.Below.{world_key, world_barrier, IsGenuineEvent, AreGenuine, IsClearRun, numbered_event_messages, messages_with}
+use Rattle.mm_check.proofs.Below.{message_digests}
+use Rattle.mm_check.proofs.Below.{shared_pair_in, zero_number_in, ListsMessages, pair_of, numbered_messages_from, numbered_messages}
+use Rattle.mm_check.proofs.Below.{secured_event_in, expected_lines, IsForgedAt}
 use Rattle.mm_check.proofs.Below.{DecidesPremise, secured_event_by, IsFirstForged, StandsBehind, premise_by, ◌<◌, take, sha256, length-map}
 use Rattle.mm_check.proofs.Below.{length-take, most_events, CodeEvent, event_of, events_of}
 use Rattle.mm_check.specs.PremiseDecision.{LooksAtEvent}
@@ -29,7 +32,8 @@ stands_as : (header : Header) (es : List Event) (it : ExpectedState) → IsAfter
 stands_as header es it after = λ j. record { header = after.header_is j; history = after.history_is j; issued = after.issued_is j }
 
 pub heard_after : (header : Header) (es : List Event) (it : ExpectedState) (e : Event) (heard : ExpectedOutcome) → IsAfter header es it
-    → HearsEvent (world_of it.header) it.history it.issued e heard → IsHeard (world_of header) (outcome_by_lists (world_of header) es) e heard
+    → HearsEvent (world_of it.header) it.history it.issued e heard
+    → IsHeard (world_of header) (outcome_by_lists (world_of header) es) e heard
 heard_after header es it e heard after hears =
     subst (λ (t : ExpectedState). HearsEvent (world_of t.header) t.history t.issued e heard) (stands_as header es it after) hears
 
@@ -118,7 +122,8 @@ secured_told Opt i es n is = (refl, is)
 
 pub decided_by : (i : Instance) (es : List Event) (pair : Option (ℕ × ℕ)) (zero secured forged : Option ℕ)
     → pair ≡ shared_pair_in (message_digests (numbered_messages i es)) → zero ≡ zero_number_in (message_digests (numbered_messages i es))
-    → secured ≡ secured_event_by i.variant i.barrier es → IsFirstForged i es forged → DecidesPremise i es (premise_by pair zero secured forged)
+    → secured ≡ secured_event_by i.variant i.barrier es → IsFirstForged i es forged
+    → DecidesPremise i es (premise_by pair zero secured forged)
 decided_by i es (Some pair) zero secured forged p z s f = sym p
 decided_by i es None (Some message) secured forged p z s f = (sym p, sym z)
 decided_by i es None None (Some event) forged p z s f =
@@ -155,7 +160,8 @@ stands_first header it message after lists is lines forged =
     record {
       after = after;
       few = omega (arith, ap length after.issued_is);
-      lists = subst (λ (m : List ℕ). ListsMessages (m ∷ []) it.numbers) (is ∙ sym (start_by header.variant (meaning_of header.«module»))) lists;
+      lists = subst (λ (m : List ℕ). ListsMessages (m ∷ []) it.numbers) (is ∙ sym (start_by header.variant (meaning_of header.«module»)))
+          lists;
       lines = lines;
       forged = subst (λ (o : Option ℕ). IsFirstForged i [] o) (sym forged) tt;
     }

@@ -3,9 +3,12 @@ use Rattle.mm_check.proofs.Below.{◌≡◌, ◌∙◌, ℕ, ◌+◌, Bool, true
 use Rattle.mm_check.proofs.Below.{sym, ap, subst, arith, inl, inr, append_assoc, list_any, option_map, Contains, Contains-append_left}
 use Rattle.mm_check.proofs.Below.{Contains-append_right, bytes_eq, bytes_eq-Decides, flat_map-append, sha256, zero_bytes, start_message}
 use Rattle.mm_check.proofs.Below.{guard, own_values, Opt, History, Instance, first_history, Event}
-use Rattle.mm_check.proofs.Below.{outcome_by_lists, first_issued, event_foreign_values, foreign_values, asked_batches, run_messages, number_of_first}
-use Rattle.mm_check.proofs.Below.{message_digests, pair_plus_one, shared_pair_with, shared_pair_in, is_zero, zero_number_in, numbered_messages, numbered_messages_from, is_secured}
-use Rattle.mm_check.proofs.Below.{secured_event_in, secured_event_by, IsForgedAt, IsFirstForged, DecidesPremise, premise_by, PremiseIsFixed, Premise, any_some}
+use Rattle.mm_check.proofs.Below.{outcome_by_lists, first_issued, event_foreign_values, foreign_values, asked_batches, run_messages}
+use Rattle.mm_check.proofs.Below.{number_of_first}
+use Rattle.mm_check.proofs.Below.{message_digests, pair_plus_one, shared_pair_with, shared_pair_in, is_zero, zero_number_in}
+use Rattle.mm_check.proofs.Below.{numbered_messages, numbered_messages_from, is_secured}
+use Rattle.mm_check.proofs.Below.{secured_event_in, secured_event_by, IsForgedAt, IsFirstForged, DecidesPremise, premise_by, PremiseIsFixed}
+use Rattle.mm_check.proofs.Below.{Premise, any_some}
 use Rattle.mm_check.proofs.Below.{event_apart, event_offer, event_or, genuine_or}
 use Rattle.std.specs.List.{IsDistinct}
 use Rattle.std.proofs.lemmas.Bool.{both_ways}
@@ -138,7 +141,8 @@ apart_at (x ∷ before) one rest other once there same =
 module _ (i : Instance) (events : List Event) where
   numbered_once : IsDistinct bytes_eq (numbered_messages i events)
   unfolding IsDistinct
-  numbered_once = all_once (numbered_messages_from i first_history (first_issued i) events) (start_message i.variant i.meaning.id ∷ []) (tt, tt)
+  numbered_once = all_once (numbered_messages_from i first_history (first_issued i) events) (start_message i.variant i.meaning.id
+      ∷ []) (tt, tt)
 
   shared_at : (first second : ℕ) → shared_pair_in (message_digests (numbered_messages i events)) ≡ Some (first, second)
       → IsSharedAt (numbered_messages i events) first second
@@ -158,9 +162,11 @@ module _ (i : Instance) (events : List Event) where
         one_digest = p.one_digest;
       }
 
-  zero_at : (message : ℕ) → zero_number_in (message_digests (numbered_messages i events)) ≡ Some message → IsZeroAt (numbered_messages i events) message
+  zero_at : (message : ℕ) → zero_number_in (message_digests (numbered_messages i events)) ≡ Some message
+      → IsZeroAt (numbered_messages i events) message
   zero_at message e =
-      let f = found_first (λ m. is_zero (sha256 m)) (numbered_messages i events) message (sym (where_mapped is_zero (numbered_messages i events)) ∙ e) in
+      let f = found_first (λ m. is_zero (sha256 m)) (numbered_messages i events) message
+          (sym (where_mapped is_zero (numbered_messages i events)) ∙ e) in
       record {
         before = f.before;
         message = f.item;
@@ -201,7 +207,8 @@ module _ (i : Instance) (events : List Event) where
   brought_in : (before : List Event) (event : Event) (after : List Event) (value : List ℕ) → events ≡ before ++ event ∷ after
       → Contains (event_foreign_values event) value → Contains (foreign_values events) value
   brought_in before event after value split there =
-      subst (λ (l : List (List ℕ)). Contains l value) (sym (ap foreign_values split ∙ flat_map-append event_foreign_values before (event ∷ after)))
+      subst (λ (l : List (List ℕ)). Contains l value)
+          (sym (ap foreign_values split ∙ flat_map-append event_foreign_values before (event ∷ after)))
       (Contains-append_right (foreign_values before) (event_foreign_values event ++ foreign_values after) value
       (Contains-append_left (event_foreign_values event) (foreign_values after) value there))
 

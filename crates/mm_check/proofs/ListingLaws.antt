@@ -1,7 +1,8 @@
 -- What one more digest changes, and the numbers in code after it.
 use Rattle.mm_check.proofs.Below.{◌≡◌, ◌∙◌, ℕ, ◌+◌, ◌≤◌, Bool, true, false, cond, List, [], ◌∷◌, ◌++◌, length, Option, None, Some}
 use Rattle.mm_check.proofs.Below.{refl, sym, ap, arith, length-append, option_map, bytes_eq, nat_tests, nat_list_eq_equiv, bytes_eq-Decides}
-use Rattle.mm_check.proofs.Below.{slice_cmp, nat_cmp, is_eq, is_eq-slice_cmp, number_of_first, pair_plus_one, shared_pair_with, shared_pair_in, is_zero}
+use Rattle.mm_check.proofs.Below.{slice_cmp, nat_cmp, is_eq, is_eq-slice_cmp, number_of_first, pair_plus_one, shared_pair_with}
+use Rattle.mm_check.proofs.Below.{shared_pair_in, is_zero}
 use Rattle.mm_check.proofs.Below.{zero_number_in, lower_pair, first_number_of, pair_of, CountsDigests}
 use Rattle.std.specs.BTreeMap as tree
 use Rattle.mm_check.specs.declared.digests.DigestIndex.{DigestIndex}
@@ -19,7 +20,8 @@ first_one false = refl
 first_pass : {A : Type 0} (p : A → Bool) (y : A) (pass : Bool) (xs : List A) (x : A)
     → number_of_first p (xs ++ x ∷ []) ≡ first_number_of (number_of_first p xs) (p x) (length xs + 1)
     → (let o : Option ℕ = cond pass (Some 1) (option_map (λ n. n + 1) (number_of_first p (xs ++ x ∷ []))) in
-    let w : Option ℕ = cond pass (Some 1) (option_map (λ n. n + 1) (number_of_first p xs)) in o ≡ first_number_of w (p x) (length (y ∷ xs) + 1))
+    let w : Option ℕ = cond pass (Some 1) (option_map (λ n. n + 1) (number_of_first p xs)) in
+        o ≡ first_number_of w (p x) (length (y ∷ xs) + 1))
 first_pass p y true xs x e = refl
 first_pass p y false xs x e =
     ap (option_map (λ n. n + 1)) e ∙ more_here (number_of_first p xs) (p x) (length xs + 1) (length (y ∷ xs) + 1) (omega arith)

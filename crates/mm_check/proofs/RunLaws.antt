@@ -2,7 +2,8 @@
 use Rattle.mm_check.proofs.Below.{◌≡◌, ◌∙◌, ℕ, false, List, [], ◌∷◌, ◌++◌, sym, ap, subst, arith, append-nil, length-append}
 use Rattle.mm_check.proofs.Below.{flat_map-append, map-append, Header, CodeEvent, Event, event_of, lines_of_reply, Reply, digest_level}
 use Rattle.mm_check.proofs.Below.{Outcome, RunOutcome, event_outcome, first_issued, first_digests, outcome_by_digests, world_of, goes_on}
-use Rattle.mm_check.proofs.Below.{RunningReplay, is_too_much, replay_stage, replay_state_of, running_outcome, running_replay_after, events_of, lines_of_all, RunsBehind, ◌<◌}
+use Rattle.mm_check.proofs.Below.{RunningReplay, is_too_much, replay_stage, replay_state_of, running_outcome, running_replay_after}
+use Rattle.mm_check.proofs.Below.{events_of, lines_of_all, RunsBehind, ◌<◌}
 use Rattle.mm_check.proofs.Below.{length, expected_lines, outcome_of_events, Instance}
 use Rattle.mm_model.specs.Moves.{Digests}
 use Rattle.mm_call.specs.Levels.{Level}
@@ -11,13 +12,15 @@ use Rattle.mm_play.specs.StageLaws.{few_left}
 use Rattle.mm_check.proofs.FewLaws.{expected_few}
 
 outcome_same : (header : Header) (r : RunningReplay) (f : RunOutcome Digests) (event : Event) → r.header ≡ header → r.digests ≡ f.state
-    → r.issued ≡ f.issued → running_outcome r event ≡ event_outcome (world_of header) (digest_level (world_of header)) f.state f.issued event
+    → r.issued ≡ f.issued → running_outcome r event ≡ event_outcome (world_of header) (digest_level (world_of header))
+    f.state f.issued event
 outcome_same header r f event h d s =
     λ j. event_outcome (world_of (h j)) (digest_level (world_of (h j))) (d j) (s j) event
 
 -- the lines of one event more
 pub lines-push : {S : Type 0} (i : Instance) (level : Level S) (s : S) (issued : List (List ℕ)) (es : List Event) (e : Event)
-    → (let f : RunOutcome S = outcome_of_events i level s issued es in lines_of_all (outcome_of_events i level s issued (es ++ e ∷ [])).replies
+    → (let f : RunOutcome S = outcome_of_events i level s issued es in
+    lines_of_all (outcome_of_events i level s issued (es ++ e ∷ [])).replies
     ≡ lines_of_all f.replies ++ lines_of_reply (event_outcome i level f.state f.issued e).reply)
 lines-push {S} i level s issued es e =
     let f = outcome_of_events i level s issued es in
@@ -29,7 +32,8 @@ lines-push {S} i level s issued es e =
 -- one event more
 pub is_run_next : (header : Header) {r next : RunningReplay} (events : List CodeEvent) {longer : List CodeEvent} {told more : List (List ℕ)}
     (line : List ℕ) (event : CodeEvent) {reply : Reply} → RunsBehind header r (events_of events) told → is_too_much r line ≡ false
-    → reply ≡ (running_outcome r (event_of event)).reply → next ≡ running_replay_after r line (event_of event) → longer ≡ events ++ event ∷ []
+    → reply ≡ (running_outcome r (event_of event)).reply → next ≡ running_replay_after r line (event_of event) → longer ≡ events ++ event
+    ∷ []
     → more ≡ told ++ lines_of_reply reply → RunsBehind header next (events_of longer) more
 is_run_next header {r} events {longer} {told} {more} line event h room said is grown lines =
     let i = world_of header in

@@ -33,7 +33,8 @@ pub use Rattle.mm_outcome.specs.Premises.{IsClearRun, IsGenuineEvent, IsGenuineR
 pub use Rattle.mm_evidence.specs.Evidence.{HasEvidence, IsForged}
 pub use Rattle.mm_expect.specs.NumberedMessages.{numbered_event_messages}
 pub use Rattle.mm_expect.specs.ExpectedState.{IsAfter}
-pub use Rattle.mm_replay.specs.Schedule.{RunningReplay, running_replay_after, first_running_replay, is_too_much, replay_stage, running_outcome, replay_state_of}
+pub use Rattle.mm_replay.specs.Schedule.{RunningReplay, running_replay_after, first_running_replay, is_too_much, replay_stage}
+pub use Rattle.mm_replay.specs.Schedule.{running_outcome, replay_state_of}
 pub use Rattle.mm_play.specs.Counting.{no_answer, same_answer}
 pub use Rattle.mm_play.specs.Play.{PlayOutcome, outcome_of_lines, outcome_of_input}
 pub use Rattle.mm_play.specs.PlaysInput.{HoldsOfWhole, IsTailShort}

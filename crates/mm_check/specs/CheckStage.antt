@@ -4,7 +4,8 @@ use Rattle.std.specs.Prelude.{ℕ, ◌+◌, ◌-◌, Bool, false, nat_le, not, L
 use Rattle.std.specs.Prelude.{Err, if◌then◌else◌}
 use Rattle.std.specs.List.{slice_get}
 use Rattle.std.specs.Str.{bytes_eq}
-use Rattle.mm_check.specs.Below.{most_events, Event, event_at, lines_of_reply, Header, world_of, RunningReplay, first_running_replay, running_outcome}
+use Rattle.mm_check.specs.Below.{most_events, Event, event_at, lines_of_reply, Header, world_of, RunningReplay, first_running_replay}
+use Rattle.mm_check.specs.Below.{running_outcome}
 use Rattle.mm_check.specs.Below.{running_replay_after, is_too_much, LineRefusal, Bad, Much}
 use Rattle.mm_check.specs.Listing.{first_number_of}
 use Rattle.mm_check.specs.Numbering.{expected_lines}
@@ -76,7 +77,8 @@ answer_to_header None = Err Bad
 answer_to_header (Some header) = Ok ([], InEvents (first_recorded_run header))
 
 -- an event is read, unless it is one too many
-abbrev pub answer_to_event : RecordedRun → List ℕ → Option Event → Result (List ℕ × CheckStage) LineRefusal
+abbrev pub answer_to_event : RecordedRun → List ℕ → Option Event
+    → Result (List ℕ × CheckStage) LineRefusal
 answer_to_event r line None = Err Bad
 answer_to_event r line (Some event) =
     if is_too_much r.running line then Err Much else Ok ([], InEvents (with_event r line event))
@@ -89,7 +91,8 @@ answer_to_line r line =
 
 abbrev pub answer_to_recorded_line : ComparedRun → List ℕ → Result (List ℕ × CheckStage) LineRefusal
 answer_to_recorded_line c line =
-    if nat_le most_recorded c.count then Err Much else Ok ([], InReplies (compared_run_after c line))
+    if nat_le most_recorded c.count then Err Much else Ok
+    ([], InReplies (compared_run_after c line))
 
 -- what a line is answered: nothing is written, or it is refused. By what the header line names
 abbrev pub check_answer : (List ℕ → Option Header) → CheckStage → List ℕ

@@ -1,7 +1,8 @@
 -- The check of a recorded run: what it says of the lines of an input.
 use Rattle.std.specs.Prelude.{◌≡◌, ℕ, List, [], ◌∷◌, ◌++◌, map, Option, Some, Result, Ok, Err, ◌⊎◌}
 use Rattle.std.specs.Io.KnownBytes.{Appends, Consumes, IsAtEnd}
-use Rattle.mm_check.specs.Below.{lines_of, ReplayFault, Memory, ReadFault, WriteFault, Event, event_at, header_at, Header, world_of, PlayOutcome}
+use Rattle.mm_check.specs.Below.{lines_of, ReplayFault, Memory, ReadFault, WriteFault, Event, event_at, header_at, Header, world_of}
+use Rattle.mm_check.specs.Below.{PlayOutcome}
 use Rattle.mm_check.specs.Below.{outcome_of_lines, outcome_of_input, HoldsOfWhole, IsTailShort, IsFrontOf}
 use Rattle.mm_check.specs.CheckStage.{CheckStage, AtHeader, check_answer, check_closing, section_line}
 use Rattle.mm_check.specs.Verdicts.{AreVerdicts, run_lines, verdicts_text}
@@ -51,14 +52,16 @@ JudgeSettles left taken (Ok verdicts) = IsJudged left taken verdicts
 -- the source failed: no whole line that was taken is refused, and the bytes behind them may be a
 -- line's
 JudgeSettles left taken (Err ReadFault) =
-    IsTailShort taken × ((after : CheckStage) × ((check_of_lines (lines_of taken)).outcome ≡ Ok after))
+    IsTailShort taken × ((after : CheckStage)
+        × ((check_of_lines (lines_of taken)).outcome ≡ Ok after))
 JudgeSettles left taken (Err WriteFault) = ⊥
 JudgeSettles left taken (Err Memory) = Unit {0}
 -- else the run over the lines stops so
 JudgeSettles left taken (Err fault) =
     HoldsOfWhole left taken (λ input. (check_of_input input).outcome ≡ Err fault)
 
-pub record JudgePromise (left left' : Option (List ℕ)) (result : Result Verdicts ReplayFault) : Type 0
+pub record JudgePromise (left left' : Option (List ℕ))
+    (result : Result Verdicts ReplayFault) : Type 0
   where
     pub taken : List ℕ
     pub consumed : Consumes left left' taken

@@ -5,7 +5,8 @@ use Rattle.std.specs.Cmp.Lexicographic.{slice_cmp}
 use Rattle.std.specs.List.{list_any}
 use Rattle.std.specs.Ordering.{nat_cmp}
 use Rattle.std.specs.Str.{bytes_eq}
-use Rattle.mm_check.specs.Below.{Digest, Variant, Basic, Opt, Batch, normal_batch, own_values, is_long, Event, event_of, CodeEvent, asked_batches}
+use Rattle.mm_check.specs.Below.{Digest, Variant, Basic, Opt, Batch, normal_batch, own_values, is_long, Event, event_of, CodeEvent}
+use Rattle.mm_check.specs.Below.{asked_batches}
 use Rattle.mm_check.specs.Listing.{number_of_first}
 use Rattle.mm_check.specs.Numbering.{is_secured}
 

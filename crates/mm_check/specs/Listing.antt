@@ -48,4 +48,5 @@ zero_number_in digests = number_of_first is_zero digests
 -- The pair once a digest of the number `second` has come, whose first has the number `first`.
 abbrev pub lower_pair : Option (ℕ × ℕ) → ℕ → ℕ → Option (ℕ × ℕ)
 lower_pair None first second = Some (first, second)
-lower_pair (Some pair) first second = if nat_lt first pair.0 then Some (first, second) else Some pair
+lower_pair (Some pair) first second =
+    if nat_lt first pair.0 then Some (first, second) else Some pair

@@ -4,7 +4,8 @@ use Rattle.std.specs.Prelude.{◌≡◌, ℕ, ◌+◌, Bool, List, [], ◌∷◌
 use Rattle.std.specs.List.{flat_map, fold, list_any}
 use Rattle.std.specs.Str.{bytes_eq}
 use Rattle.mm_check.specs.Below.{start_message, Opt, own_values, History, first_history, total_of, Instance, IsClear, list_level, Event}
-use Rattle.mm_check.specs.Below.{lines_of_reply, end_line, Reply, RunOutcome, event_outcome, first_issued, outcome_by_lists, event_foreign_values, IsClearRun}
+use Rattle.mm_check.specs.Below.{lines_of_reply, end_line, Reply, RunOutcome, event_outcome, first_issued, outcome_by_lists}
+use Rattle.mm_check.specs.Below.{event_foreign_values, IsClearRun}
 use Rattle.mm_check.specs.Below.{IsGenuineEvent, IsGenuineRun, asked_batches, run_messages, numbered_event_messages}
 use Rattle.mm_check.specs.Listing.{number_of_first, messages_with, message_digests, shared_pair_in, zero_number_in}
 use Rattle.mm_check.specs.declared.verdicts.Premise.{Premise}
@@ -30,7 +31,8 @@ is_secured guards event = list_any (λ v. list_any (bytes_eq v) guards) (event_f
 -- the number, from 1, of the first event at which they do so by the guard of a batch that the run
 -- asks
 abbrev pub secured_event_in : Instance → List Event → Option ℕ
-secured_event_in i events = number_of_first (is_secured (own_values i.barrier (asked_batches events))) events
+secured_event_in i events =
+    number_of_first (is_secured (own_values i.barrier (asked_batches events))) events
 
 -- The event of this number is the first whose offer is right and names no position.
 pub record IsForgedAt (i : Instance) (events : List Event) (number : ℕ) : Type 0 where
@@ -40,7 +42,8 @@ pub record IsForgedAt (i : Instance) (events : List Event) (number : ℕ) : Type
   pub split : events ≡ before ++ event ∷ after
   pub place : number ≡ length before + 1
   pub genuine : IsGenuineRun i before
-  pub forged : IsGenuineEvent i (outcome_by_lists i before).state (outcome_by_lists i before).issued event → ⊥
+  pub forged : IsGenuineEvent i (outcome_by_lists i before).state
+      (outcome_by_lists i before).issued event → ⊥
 
 -- What is told of the premises. They hold; or two messages share a digest, the lowest numbers; or
 -- else a digest is zero, the first one; or else others extend the register by the guard of a batch,
@@ -49,7 +52,8 @@ abbrev pub DecidesPremise : Instance → List Event → Premise → Type 0
 DecidesPremise i events Held = IsClearRun i events × IsGenuineRun i events
 DecidesPremise i events (Shared first second) =
     shared_in (message_digests (numbered_messages i events)) ≡ Some (first, second)
-DecidesPremise i events (Zero message) = (shared_in (message_digests (numbered_messages i events)) ≡ None)
+DecidesPremise i events (Zero message) =
+    (shared_in (message_digests (numbered_messages i events)) ≡ None)
     × (zero_number_in (message_digests (numbered_messages i events)) ≡ Some message)
 DecidesPremise i events (Secured event) =
     IsClear (run_messages i events) × (i.variant ≡ Opt) × (secured_event_in i events ≡ Some event)
@@ -71,5 +75,6 @@ expected_lines i events =
 -- one premise alone is told of a run
 abbrev pub PremiseIsFixed : Type 0
 PremiseIsFixed =
-    (i : Instance) (events : List Event) (p q : Premise) → DecidesPremise i events p → DecidesPremise i events q
+    (i : Instance) (events : List Event) (p q : Premise) → DecidesPremise i events p
+    → DecidesPremise i events q
     → p ≡ q

@@ -14,7 +14,8 @@ abbrev pub IsFirstForged : Instance → List Event → Option ℕ → Type 0
 IsFirstForged i events None = IsGenuineRun i events
 IsFirstForged i events (Some number) = IsForgedAt i events number
 
--- The first forged event, once the one with this number is looked at, behind whatever events lead to
+-- The first forged event, once the one with this number is looked at, behind whatever events lead
+-- to
 -- this and have that first forged one.
 abbrev pub LooksAtEvent : ExpectedState → Option ℕ → Event → ℕ → Option ℕ → Type 0
 LooksAtEvent it first event number forged =

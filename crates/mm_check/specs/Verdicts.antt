@@ -51,7 +51,8 @@ pub record RunsBehind (header : Header) (running : RunningReplay) (events : List
 -- the first difference at the end of the recorded lines: one may be missing
 abbrev pub end_difference : ComparedRun → Option ℕ
 end_difference c =
-    first_number_of c.differs (nat_lt c.count (length (expected_lines (world_of c.header) c.events)))
+    first_number_of c.differs
+    (nat_lt c.count (length (expected_lines (world_of c.header) c.events)))
     (c.count + 1)
 
 -- the verdicts on a run whose lines are tested

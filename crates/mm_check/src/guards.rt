@@ -64,7 +64,8 @@ fn guard_of(batch: Batch<'_>) -> Digest
 
 /// The guard of a batch that isn't too long.
 fn guard_unless_long(batch: Batch<'_>) -> Option<Digest>
-    ensures { digest_items result ≡ own_values world_barrier (batches_unless_long (batch_of batch.entry)) }
+    ensures { digest_items result ≡ own_values world_barrier
+        (batches_unless_long (batch_of batch.entry)) }
 {
     if is_long(&batch) {
         return None;

@@ -46,7 +46,8 @@ impl Model for ScheduleReader {
       told = it.told.items;
     } };
 
-    ghost invariant = { λ it. RunsBehind it.header (running_replay it.progress) (events_of it.events.items)
+    ghost invariant = { λ it. RunsBehind it.header (running_replay it.progress)
+    (events_of it.events.items)
         it.told.items };
 }
 

@@ -1,5 +1,6 @@
 -- The laws of the dispenser.
-use Rattle.std.specs.Prelude.{◌≡◌, ℕ, zero, suc, ◌+◌, ◌*◌, ◌^◌, ◌<◌, ◌≤◌, true, false, not, ◌==◌, List, [], ◌∷◌, ◌++◌, length, Bool, Option, Some, None, is_some, unwrap_or, if◌then◌else◌}
+use Rattle.std.specs.Prelude.{◌≡◌, ℕ, zero, suc, ◌+◌, ◌*◌, ◌^◌, ◌<◌, ◌≤◌, true, false, not, ◌==◌, List, [], ◌∷◌, ◌++◌, length, Bool, Option}
+use Rattle.std.specs.Prelude.{Some, None, is_some, unwrap_or, if◌then◌else◌}
 use Rattle.std.proofs.Common.{refl, ◌∙◌, ap, arith, length-append}
 use Rattle.std.specs.Int.{w32, to_be_bytes}
 use Rattle.std.proofs.lemmas.Bool.Decides.{nat_tests}
@@ -12,12 +13,14 @@ use Rattle.mm_base.specs.Limits.{last_position}
 use Rattle.mm_module.specs.Bytes.{is_byte, are_bytes}
 use Rattle.mm_module.specs.LineLaws.{is_unbroken, and-true, and-both, IsText, is_unbroken-decimal, length-decimal}
 use Rattle.mm_module.specs.Meaning.{IsLawful}
-use Rattle.mm_module.specs.PartLaws.{take-front, drop-front, are_bytes-take, are_bytes-append, length-eight, are_bytes-eight, number_of_eight_bytes-eight}
+use Rattle.mm_module.specs.PartLaws.{take-front, drop-front, are_bytes-take, are_bytes-append, length-eight, are_bytes-eight}
+use Rattle.mm_module.specs.PartLaws.{number_of_eight_bytes-eight}
 use Rattle.mm_module.specs.TableLaws.{Table, IsTable, IsOutcome, table_by, table_is_lawful}
 use Rattle.mm_module.specs.ValueLaws.{IsValue, value_at-value, is_unbroken-encoded}
 use Rattle.mm_module.specs.Words.{words_of}
 use Rattle.mm_dispenser.specs.Draws.{word_of, word_text, words_text}
-use Rattle.mm_dispenser.specs.Table.{request_of, outcome_of, text_of, seeded_state_of, state_of, spelling_of, outcome_of_bytes, is_state, dispenser}
+use Rattle.mm_dispenser.specs.Table.{request_of, outcome_of, text_of, seeded_state_of, state_of, spelling_of, outcome_of_bytes, is_state}
+use Rattle.mm_dispenser.specs.Table.{dispenser}
 use Rattle.mm_dispenser.specs.declared.dispenser.DispenserState.{DispenserState}
 use Rattle.mm_dispenser.specs.declared.dispenser.DispenserState.TheVariants.{Unset, Seeded}
 use Rattle.mm_dispenser.specs.declared.dispenser.DispenserRequest.{DispenserRequest}
@@ -57,7 +60,8 @@ outcome_of-IsOutcome state request good =
     let asked = request_of-IsDispenserRequest (words_of request) in grind (arith, nat_tests)
 
 -- a spelling is read back
-seeded_state_of-joined : (seed : List ℕ) (place : ℕ) → IsSeeded seed place → seeded_state_of (seed ++ eight_bytes place) ≡ Some (Seeded seed place)
+seeded_state_of-joined : (seed : List ℕ) (place : ℕ) → IsSeeded seed place → seeded_state_of (seed ++ eight_bytes place)
+    ≡ Some (Seeded seed place)
 seeded_state_of-joined seed place good =
     grind (
       arith,

@@ -1,6 +1,7 @@
 -- No place is told by two draws: the place never falls, and a draw tells those from the place
 -- before it to the one after.
-use Rattle.std.proofs.Common.{◌≡◌, ℕ, zero, suc, ◌+◌, ◌<◌, ◌≤◌, ◌^◌, Bool, true, false, not, List, [], ◌∷◌, ◌++◌, length, Option, Some, None, refl, sym, ◌∙◌, ap, subst, arith, append-nil}
+use Rattle.std.proofs.Common.{◌≡◌, ℕ, zero, suc, ◌+◌, ◌<◌, ◌≤◌, ◌^◌, Bool, true, false, not, List, [], ◌∷◌, ◌++◌, length, Option, Some}
+use Rattle.std.proofs.Common.{None, refl, sym, ◌∙◌, ap, subst, arith, append-nil}
 use Rattle.std.specs.Prelude.{All}
 use Rattle.std.specs.Fmt.{decimal}
 use Rattle.std.specs.List.{list_all}
@@ -15,7 +16,8 @@ use Rattle.mm_module.specs.Words.{words_of}
 use Rattle.mm_module.specs.WordsWords.{is_space}
 use Rattle.mm_dispenser.specs.Draws.{word_of, word_text, words_text, text_of_draw}
 use Rattle.mm_dispenser.specs.Table.{request_of, outcome_of, text_of}
-use Rattle.mm_dispenser.specs.DispenserLaws.{IsDispenserState, SaysWords, outcome_of-IsOutcome, digits_at, dispenser_table, dispenser_is_table}
+use Rattle.mm_dispenser.specs.DispenserLaws.{IsDispenserState, SaysWords, outcome_of-IsOutcome, digits_at, dispenser_table}
+use Rattle.mm_dispenser.specs.DispenserLaws.{dispenser_is_table}
 use Rattle.mm_dispenser.specs.Places.{PlaceRange, told_places, places_at, PlacesRise, PlacesAreToldOnce}
 use Rattle.mm_dispenser.specs.declared.dispenser.DispenserState.{DispenserState}
 use Rattle.mm_dispenser.specs.declared.dispenser.DispenserState.TheVariants.{Unset, Seeded}

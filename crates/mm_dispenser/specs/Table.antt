@@ -1,5 +1,6 @@
 -- The dispenser: a seed that is set once, and the place of the next word.
-use Rattle.std.specs.Prelude.{ℕ, ◌+◌, ◌≤◌, ◌==◌, ◌&&◌, Bool, nat_le, List, [], ◌∷◌, ◌++◌, length, take, drop, codes, Option, Some, None, is_some, unwrap_or, option_map, option_and_then, if◌then◌else◌}
+use Rattle.std.specs.Prelude.{ℕ, ◌+◌, ◌≤◌, ◌==◌, ◌&&◌, Bool, nat_le, List, [], ◌∷◌, ◌++◌, length, take, drop, codes, Option, Some, None}
+use Rattle.std.specs.Prelude.{is_some, unwrap_or, option_map, option_and_then, if◌then◌else◌}
 use Rattle.std.specs.Str.{bytes_eq}
 use Rattle.mm_base.specs.Decimals.{decimal_number}
 use Rattle.mm_base.specs.Fields.{eight_bytes}
@@ -69,7 +70,8 @@ state_at_place seed place = if nat_le place last_position then Some (Seeded seed
 -- a seed and the 8 bytes of a place
 abbrev pub seeded_state_of : List ℕ → Option DispenserState
 seeded_state_of bytes =
-    if length bytes == 40 then state_at_place (take 32 bytes) (number_of_eight_bytes (drop 32 bytes)) else None
+    if length bytes == 40 then state_at_place (take 32 bytes)
+    (number_of_eight_bytes (drop 32 bytes)) else None
 
 -- the state that these bytes spell
 unfoldable pub state_of : List ℕ → Option DispenserState

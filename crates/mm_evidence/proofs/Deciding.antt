@@ -6,7 +6,8 @@ use Rattle.mm_evidence.proofs.Below.{sha256, zero_bytes, Variant, Basic, Opt, pa
 use Rattle.mm_evidence.proofs.Below.{Meaning, guard, first_history, History, Instance, AreNoGuards, NamesPosition, IsGenuine, IsRight}
 use Rattle.mm_evidence.proofs.Below.{right_content, list_level, one_content, right_of, instance_by, Ask, Checkpoint, Event, Extend}
 use Rattle.mm_evidence.proofs.Below.{Power, is_named, IsDecided, BasicNamesAreDecided, OptNamesAreDecided, event_outcome}
-use Rattle.mm_evidence.proofs.Below.{outcome_by_lists, first_issued, outcome_of_events, RunOutcome, AreApartIn, AreGenuine, asked_batches, foreign_values, IsClearRun}
+use Rattle.mm_evidence.proofs.Below.{outcome_by_lists, first_issued, outcome_of_events, RunOutcome, AreApartIn, AreGenuine, asked_batches}
+use Rattle.mm_evidence.proofs.Below.{foreign_values, IsClearRun}
 use Rattle.mm_evidence.proofs.Below.{IsGenuineEvent, IsGenuineOffer, IsGenuineRun, run_messages, clash, collision, forgery, guarded}
 use Rattle.mm_evidence.proofs.Below.{HasClash, HasEvidence, IsForged, offered_bytes, zero_digest, IsDecidedRun}
 use Rattle.mm_outcome.proofs.Above.{said_of}
@@ -72,7 +73,8 @@ module _ (i : Instance) (messages values : List (List ℕ)) (batches : List Batc
   ]
 
   pub clash_apart : IsClear messages → AreApartIn i.variant i values batches → Clash → ⊥
-  clash_apart clear apart (collision first second in_first in_second differs one) = differs (clear.apart first second in_first in_second one)
+  clash_apart clear apart (collision first second in_first in_second differs one) =
+      differs (clear.apart first second in_first in_second one)
   clash_apart clear apart (zero_digest message listed is) = clear.nonzero message listed is
   clash_apart clear apart (guarded is value batch brought asked same) = apart is value batch brought asked same
 
@@ -99,7 +101,8 @@ forgery_by i events before (Extend value) later split forged = let clash : None 
 
 -- of an instance whose names are decided
 module _ (i : Instance) (named : (y : History) (content : Content) → IsDecided (is_named i y content) (NamesPosition i y content)) where
-  by_name : (y : History) (bytes : List ℕ) (content : Content) → IsRight i bytes content → (r : Bool) → IsDecided r (NamesPosition i y content)
+  by_name : (y : History) (bytes : List ℕ) (content : Content) → IsRight i bytes content → (r : Bool)
+      → IsDecided r (NamesPosition i y content)
       → IsForged i y (Some bytes) ⊎ IsGenuine i y bytes
   by_name y bytes content right true is =
       inr (λ other r. subst (λ (c : Content). NamesPosition i y c) (one_content i bytes content other right r) is)
@@ -131,7 +134,8 @@ module _ (i : Instance) (named : (y : History) (content : Content) → IsDecided
     pub later : List Event
     pub split : events ≡ before ++ event ∷ later
     pub genuine : AreGenuine i y issued before
-    pub forged : (let f : RunOutcome History = outcome_of_events i (list_level i) y issued before in IsForged i f.state (event_offer f.issued event))
+    pub forged : (let f : RunOutcome History = outcome_of_events i (list_level i) y issued before in
+        IsForged i f.state (event_offer f.issued event))
 
   pub genuine_or : (events : List Event) (y : History) (issued : List (List ℕ)) → ForgesFrom y issued events ⊎ AreGenuine i y issued events
   genuine_or [] y issued = inr tt
@@ -177,7 +181,8 @@ module _ (i : Instance) where
 
   genuine_apart : (before : List Event) (event : Event) (later : List Event) (y : History) (issued : List (List ℕ))
       → AreGenuine i y issued (before ++ event ∷ later)
-      → (let f : RunOutcome History = outcome_of_events i (list_level i) y issued before in IsForged i f.state (event_offer f.issued event)) → ⊥
+      → (let f : RunOutcome History = outcome_of_events i (list_level i) y issued before in IsForged i f.state (event_offer f.issued event))
+      → ⊥
   genuine_apart [] event later y issued genuine forged = event_apart y issued event forged genuine.0
   genuine_apart (x ∷ before) event later y issued genuine forged =
       let o = event_outcome i (list_level i) y issued x in genuine_apart before event later o.state o.issued genuine.1 forged

@@ -33,5 +33,6 @@ pub data HasEvidence (i : Instance) (events : List Event) : Type 0 where
       → HasEvidence i events
   forgery : (before later : List Event) (meddles : List Meddle) (stop : Stop) (offer : Offer)
       (batch : Batch) → events ≡ before ++ Ask meddles stop offer batch ∷ later
-      → IsForged i (outcome_by_lists i before).state (offered_bytes (outcome_by_lists i before).issued offer)
+      → IsForged i (outcome_by_lists i before).state
+      (offered_bytes (outcome_by_lists i before).issued offer)
       → HasEvidence i events

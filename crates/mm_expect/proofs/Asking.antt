@@ -2,12 +2,17 @@
 use Rattle.mm_expect.proofs.Below.{◌≡◌, ℕ, ◌+◌, ◌≤◌, Bool, true, false, List, [], ◌∷◌, ◌++◌, map, Option, None, Some, Result, Ok, Err, refl}
 use Rattle.mm_expect.proofs.Below.{sym, ap, ◌∙◌, subst, arith, if◌then◌else◌, nat_eq, append-nil, last_position, Variant, Basic, Opt}
 use Rattle.mm_expect.proofs.Below.{StepFault, Meddle, Stop, Batch, size_of, Instance, History, Move, Commit, Foreign, total_of, is_last}
-use Rattle.mm_expect.proofs.Below.{DeviceStep, Reads, ask_steps, Refusal, is_last_of, total-push, answer_on, list_level, state_after_moves, CallFinding, finding_at}
-use Rattle.mm_expect.proofs.Below.{finding_unless_wanting, is_fresh, End, Done, Fails, StepFate, StepsWalk, walk_from_step, walk, moves_seen, has_commit}
-use Rattle.mm_expect.proofs.Below.{fate_by_plan, Answers, Breaks, CallOutcome, reading_steps, position_of, call_ending_by, call_outcome, state_seen, position_if_committed}
-use Rattle.mm_expect.proofs.Below.{call_outcome_with, AskResult, Refused, Broken, committed_batches, same_batches, more_batches, Commits, nothing, batch}
+use Rattle.mm_expect.proofs.Below.{DeviceStep, Reads, ask_steps, Refusal, is_last_of, total-push, answer_on, list_level, state_after_moves}
+use Rattle.mm_expect.proofs.Below.{CallFinding, finding_at}
+use Rattle.mm_expect.proofs.Below.{finding_unless_wanting, is_fresh, End, Done, Fails, StepFate, StepsWalk, walk_from_step, walk}
+use Rattle.mm_expect.proofs.Below.{moves_seen, has_commit}
+use Rattle.mm_expect.proofs.Below.{fate_by_plan, Answers, Breaks, CallOutcome, reading_steps, position_of, call_ending_by, call_outcome}
+use Rattle.mm_expect.proofs.Below.{state_seen, position_if_committed}
+use Rattle.mm_expect.proofs.Below.{call_outcome_with, AskResult, Refused, Broken, committed_batches, same_batches, more_batches, Commits}
+use Rattle.mm_expect.proofs.Below.{nothing, batch}
 use Rattle.mm_expect.proofs.Below.{finished_walk, commits-none, writing_commits, commits_batch, seen_none, reading_none, course_of, plan_of}
-use Rattle.mm_expect.proofs.Below.{ChronicleView, ChronicleGoes, chronicle_instance, instance_with, ChronicleWalks, repeat_in, AdmitsBatch, changing_steps, first_changing_step}
+use Rattle.mm_expect.proofs.Below.{ChronicleView, ChronicleGoes, chronicle_instance, instance_with, ChronicleWalks, repeat_in, AdmitsBatch}
+use Rattle.mm_expect.proofs.Below.{changing_steps, first_changing_step}
 use Rattle.mm_expect.proofs.Below.{changes_on, ChronicleChanges, ending_of, new_ending, NewCallGoesOn, ChronicleCalls}
 use Rattle.mm_module.specs.BatchLaws.{size_of-pos}
 use Rattle.mm_call.specs.WalkLaws as walks
@@ -37,7 +42,8 @@ module _ (old new : ChronicleView) (stop : Stop) (meddles : List Meddle) (b : Ba
   commits_one = changing_commits (fate_by_plan (plan_of stop meddles)) old.variant old.history.is_open b
 
   -- the batches once a new batch was walked through
-  whole_batches : Commits b true changes → ChronicleChanges old new stop meddles b None → new.history.batches ≡ old.history.batches ++ b ∷ []
+  whole_batches : Commits b true changes → ChronicleChanges old new stop meddles b None → new.history.batches ≡ old.history.batches ++ b
+      ∷ []
   whole_batches (nothing none unless) w = let no : true ≡ false = unless (sym w.broken) in cc
   whole_batches (batch one is) w =
       ap (λ (y : History). y.batches) w.went.history ∙ more_batches (chronicle_instance old) changes.moves old.history b one
@@ -45,7 +51,8 @@ module _ (old new : ChronicleView) (stop : Stop) (meddles : List Meddle) (b : Ba
   pub new_last : ChronicleChanges old new stop meddles b None → is_last new.history.batches b ≡ true
   new_last w = ap (λ (bs : List Batch). is_last bs b) (whole_batches commits_one w) ∙ is_last_of old.history.batches b
 
-  pub new_few : ChronicleChanges old new stop meddles b None → AdmitsBatch old.history b false → total_of new.history.batches ≤ last_position
+  pub new_few : ChronicleChanges old new stop meddles b None → AdmitsBatch old.history b false → total_of new.history.batches
+      ≤ last_position
   new_few w admits = omega (arith, admits.fits, ap total_of (whole_batches commits_one w), total-push old.history.batches b)
 
   abbrev pub KeptBy : Option ℕ → Type 0
@@ -53,7 +60,8 @@ module _ (old new : ChronicleView) (stop : Stop) (meddles : List Meddle) (b : Ba
       kept ≡ (if nat_eq (total_of new.history.batches) (total_of old.history.batches) then None else Some (total_of new.history.batches))
 
   -- whether the total rose tells whether the batch was committed
-  kept_by : Commits b true changes → ChronicleGoes old new changes.moves → KeptBy (position_if_committed (has_commit changes.moves) (total_of new.history.batches))
+  kept_by : Commits b true changes → ChronicleGoes old new changes.moves
+      → KeptBy (position_if_committed (has_commit changes.moves) (total_of new.history.batches))
   kept_by (nothing none unless) went =
       let same : total_of new.history.batches ≡ total_of old.history.batches = ap (λ (y : History). total_of y.batches) went.history
       ∙ ap total_of (same_batches (chronicle_instance old) changes.moves old.history none) in
@@ -139,9 +147,11 @@ module _ (a : ChronicleView) (stop : Stop) (meddles : List Meddle) (bytes : List
   all = call_outcome at (list_level at) a.history (course_of stop meddles) bytes b
 
   -- by the walk of its steps, and what was found
-  calls_by : (n : ChronicleView) (ended : AskResult) (f : Result CallFinding Refusal) {broken : Option StepFault} → finding_unless_wanting found false ≡ f
+  calls_by : (n : ChronicleView) (ended : AskResult) (f : Result CallFinding Refusal) {broken : Option StepFault}
+      → finding_unless_wanting found false ≡ f
       → ChronicleWalks a n (walk fates 1 (steps_for f)) broken
-      → ending_of ended ≡ call_ending_by (list_level at) seen n.history b f (walk fates 1 (steps_for f)).moves broken → ChronicleCalls a n all ended
+      → ending_of ended ≡ call_ending_by (list_level at) seen n.history b f (walk fates 1 (steps_for f)).moves broken
+      → ChronicleCalls a n all ended
   calls_by n ended f is w ends =
       let C : Result CallFinding Refusal
       → Type 0 = λ g. ChronicleCalls a n (call_outcome_with at (list_level at) a.history seen (course_of stop meddles) b g) ended in
@@ -153,7 +163,8 @@ module _ (a : ChronicleView) (stop : Stop) (meddles : List Meddle) (bytes : List
   reading_commits : has_commit reading.moves ≡ false
   reading_commits = commits-none reading.moves (reading_none a.variant fates)
 
-  pub ask_broken : (n : ChronicleView) (fault : StepFault) → ChronicleWalks a n reading (Some fault) → ChronicleCalls a n all (Broken fault None)
+  pub ask_broken : (n : ChronicleView) (fault : StepFault) → ChronicleWalks a n reading (Some fault)
+      → ChronicleCalls a n all (Broken fault None)
   ask_broken n fault w =
       let f = finding_unless_wanting found false in
       let some = ask_some a.variant a.history.is_open (is_fresh f) b in
@@ -180,13 +191,15 @@ module _ (a : ChronicleView) (stop : Stop) (meddles : List Meddle) (bytes : List
       (subst (λ (s : List DeviceStep). ChronicleWalks a n (walk fates 1 s) None) (sym (ask_reading a.variant a.history.is_open b)) w) refl
 
   -- what is read leaves a segment open or shut
-  open_seen : (steps : List DeviceStep) (n : ℕ) (y : History) → (state_after_moves (list_level at) y (moves_seen fates steps n)).is_open ≡ y.is_open
+  open_seen : (steps : List DeviceStep) (n : ℕ) (y : History) → (state_after_moves (list_level at) y (moves_seen fates steps n)).is_open
+      ≡ y.is_open
   open_seen [] n y = refl
   open_seen (step ∷ steps) n y = ap (λ (h : History). h.is_open) (foreign_made at (fates n).brings (moves_seen fates steps (n + 1)) y)
       ∙ open_seen steps (n + 1) (history_with_values y (fates n).brings)
 
   -- the ending of a new batch, behind the reading steps
-  ends_new : (m : ChronicleView) (f : CallFinding) (moves all : List Move) (broken : Option StepFault) → f.again ≡ false → chronicle_instance m ≡ at
+  ends_new : (m : ChronicleView) (f : CallFinding) (moves all : List Move) (broken : Option StepFault) → f.again ≡ false
+      → chronicle_instance m ≡ at
       → has_commit moves ≡ has_commit all
       → new_ending m b moves broken ≡ call_ending_by (list_level at) seen m.history b (Ok f) all broken
   ends_new m f moves all None new same commit = λ j. Answers (answer_on (same j) m.history b (sym new j))
@@ -207,7 +220,8 @@ module _ (a : ChronicleView) (stop : Stop) (meddles : List Meddle) (bytes : List
       record { went = subst (λ (v : StepsWalk). ChronicleGoes n m v.moves) same goes.went; broken = refl } in
       let steps : reading_steps a.variant ++ changing ≡ steps_for (Ok f.0) = sym (ask_changing a.variant a.history.is_open b)
       ∙ ap (λ (k : Bool). ask_steps a.variant a.history.is_open (if k then false else true) b) (sym f.2) in
-      let t = then_walked fates 1 (first_changing_step a.variant) (reading_steps a.variant) changing (changing_behind a.variant) (sym w.broken) in
+      let t = then_walked fates 1 (first_changing_step a.variant) (reading_steps a.variant) changing (changing_behind a.variant)
+          (sym w.broken) in
       let whole : ChronicleWalks a m (walk fates 1 (steps_for (Ok f.0))) more.broken =
       subst (λ (s : List DeviceStep). ChronicleWalks a m (walk fates 1 s) more.broken) steps
       (walks_then fates 1 (first_changing_step a.variant) (reading_steps a.variant) changing (changing_behind a.variant) w went) in

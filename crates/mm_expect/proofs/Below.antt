@@ -2,8 +2,10 @@
 pub use Rattle.std.specs.List.{AllByRecursion, list_any}
 pub use Rattle.std.specs.Prelude.{◌==◌, ◌||◌, IfOk, if◌then◌else◌, IsTrue, nat_eq, nat_le, option_map, option_to_list, slice_get}
 pub use Rattle.std.specs.Str.{bytes_eq}
-pub use Rattle.std.proofs.Common.{◌&&◌, ◌++◌, ◌+◌, ◌-◌, ◌<◌, ◌∙◌, ◌∷◌, ◌≡◌, ◌≤◌, [], ap, append_assoc, arith, Bool, cond, Err, false, filter}
-pub use Rattle.std.proofs.Common.{get_or, length, length-drop, List, map, None, Ok, Option, refl, Result, Some, subst, suc, sym, take, true, zero, ℕ}
+pub use Rattle.std.proofs.Common.{◌&&◌, ◌++◌, ◌+◌, ◌-◌, ◌<◌, ◌∙◌, ◌∷◌, ◌≡◌, ◌≤◌, [], ap, append_assoc, arith, Bool, cond, Err, false}
+pub use Rattle.std.proofs.Common.{filter}
+pub use Rattle.std.proofs.Common.{get_or, length, length-drop, List, map, None, Ok, Option, refl, Result, Some, subst, suc, sym, take, true}
+pub use Rattle.std.proofs.Common.{zero, ℕ}
 pub use Rattle.std.proofs.lemmas.Bool.Decides.{Decides-eqb}
 pub use Rattle.std.proofs.lemmas.List.{append-nil, map-append, same_from_push}
 pub use Rattle.std.proofs.lemmas.List.Elements.{filter_more}
@@ -31,7 +33,8 @@ pub use Rattle.mm_modules.specs.ModulesLaws.{any_is_lawful}
 pub use Rattle.mm_modules.specs.declared.any.AnyModule.{AnyModule}
 pub use Rattle.mm_model.specs.BatchLaws.{is_last_of, is_last_tells, total-push}
 pub use Rattle.mm_model.specs.Chains.{guard, register_of}
-pub use Rattle.mm_model.specs.History.{Close, Commit, history_after_commit, first_history, Foreign, History, Move, history_after, requests_of, total_of, Value}
+pub use Rattle.mm_model.specs.History.{Close, Commit, history_after_commit, first_history, Foreign, History, Move, history_after}
+pub use Rattle.mm_model.specs.History.{requests_of, total_of, Value}
 pub use Rattle.mm_model.specs.HistoryWords.{cell_digest_of, values_of}
 pub use Rattle.mm_model.specs.Instance.{Instance}
 pub use Rattle.mm_model.specs.InstanceWords.{basic_instance, opt_instance}
@@ -46,9 +49,11 @@ pub use Rattle.mm_model.specs.declared.refusal.Refusal.{Refusal}
 pub use Rattle.mm_call.specs.AlongLaws.{checkpoint_none, closes-append, closes-foreign, ClosesNone, reading_none, shut_along, walk_along}
 pub use Rattle.mm_call.specs.Answers.{answer_on}
 pub use Rattle.mm_call.specs.AnswersWords.{last_outputs}
-pub use Rattle.mm_call.specs.CallOutcome.{Answers, Breaks, CallOutcome, call_outcome, call_ending_by, position_of, reading_steps, state_seen}
+pub use Rattle.mm_call.specs.CallOutcome.{Answers, Breaks, CallOutcome, call_outcome, call_ending_by, position_of, reading_steps}
+pub use Rattle.mm_call.specs.CallOutcome.{state_seen}
 pub use Rattle.mm_call.specs.CallOutcomeWords.{call_outcome_with, position_if_committed}
-pub use Rattle.mm_call.specs.Courses.{walk_from_step, has_close, has_commit, Course, Done, End, Fails, StepFate, fate_by_plan, moves_seen, step_moves, walk}
+pub use Rattle.mm_call.specs.Courses.{walk_from_step, has_close, has_commit, Course, Done, End, Fails, StepFate, fate_by_plan, moves_seen}
+pub use Rattle.mm_call.specs.Courses.{step_moves, walk}
 pub use Rattle.mm_call.specs.Courses.{StepsWalk}
 pub use Rattle.mm_call.specs.CoursesWords.{end_of, made_move}
 pub use Rattle.mm_call.specs.CallFinding.{CallFinding, finding_at, finding_by_verdict, right_content}
@@ -56,7 +61,8 @@ pub use Rattle.mm_call.specs.CallFindingWords.{finding_unless_wanting, is_fresh}
 pub use Rattle.mm_call.specs.Levels.{state_after_moves, list_level}
 pub use Rattle.mm_call.specs.MoveLaws.{anchor-nil, committed_batches, more_batches, same_batches, summary-nil}
 pub use Rattle.mm_call.specs.Standing.{instance_by}
-pub use Rattle.mm_call.specs.WalkLaws.{batch, call_commits, Commits, commits-none, commits_batch, finished_walk, made-append, nothing, seen_none}
+pub use Rattle.mm_call.specs.WalkLaws.{batch, call_commits, Commits, commits-none, commits_batch, finished_walk, made-append, nothing}
+pub use Rattle.mm_call.specs.WalkLaws.{seen_none}
 pub use Rattle.mm_call.specs.WalkLaws.{writing_commits}
 pub use Rattle.mm_call.specs.declared.ended.AskResult.{AskResult}
 pub use Rattle.mm_call.specs.declared.ended.AskResult.TheVariants.{Answered, Broken, Refused}
@@ -68,7 +74,8 @@ pub use Rattle.mm_schedule.specs.declared.header.Header.{Header}
 pub use Rattle.mm_history.specs.Marks.{closed_marks, emptied_marks, grown_marks, linked_marks, marks_of, opened_marks, with_value}
 pub use Rattle.mm_history.specs.Naming.{IsDecided}
 pub use Rattle.mm_history.specs.declared.marks.HistoryMarks.{HistoryMarks}
-pub use Rattle.mm_outcome.specs.Folds.{moves_after_stop, moves_after_checkpoint, course_of, event_outcome, outcome_by_lists, first_issued, RunOutcome, outcome_of_events}
+pub use Rattle.mm_outcome.specs.Folds.{moves_after_stop, moves_after_checkpoint, course_of, event_outcome, outcome_by_lists, first_issued}
+pub use Rattle.mm_outcome.specs.Folds.{RunOutcome, outcome_of_events}
 pub use Rattle.mm_outcome.specs.Folds.{moves_after_call, Outcome, reply_of, snapshots_of, way_of, plan_of}
 pub use Rattle.mm_outcome.specs.WorldState.{world_of, world_barrier, world_key}
 pub use Rattle.mm_outcome.specs.Laws.{IsIssued}
@@ -76,12 +83,14 @@ pub use Rattle.mm_outcome.specs.EventOffers.{offered_bytes}
 pub use Rattle.mm_outcome.specs.Premises.{IsGenuineEvent}
 pub use Rattle.mm_outcome.proofs.Above.{basic_issued_named, closing_all, goes_on, in_any_way, last_steps, opt_issued_named, printed_closing}
 pub use Rattle.mm_outcome.proofs.Above.{short_outputs, then_all, broken_reply, told_reply}
-pub use Rattle.mm_expect.specs.Calls.{AdmitsBatch, repeat_in, ChronicleCalls, changes_on, ChronicleChanges, first_changing_step, changing_steps, ending_of, NewCallGoesOn}
+pub use Rattle.mm_expect.specs.Calls.{AdmitsBatch, repeat_in, ChronicleCalls, changes_on, ChronicleChanges, first_changing_step}
+pub use Rattle.mm_expect.specs.Calls.{changing_steps, ending_of, NewCallGoesOn}
 pub use Rattle.mm_expect.specs.Calls.{new_ending, count_after_batch}
 pub use Rattle.mm_expect.specs.ChronicleEvents.{call_outcome_on, moves_if, ChronicleGoesByCall, ChronicleGoesByEvent}
 pub use Rattle.mm_expect.specs.GenuineOffers.{EachOfferIsDecided, IssuedAreGenuine}
 pub use Rattle.mm_expect.specs.OfferDecision.{AreIssued, DecidesBytes, DecidesEvent, DecidesOffer, IsAmong}
-pub use Rattle.mm_expect.specs.ChronicleView.{barrier_of, instance_with, ChronicleView, chronicle_instance, state_after_batch, outputs_of_batch, ChronicleGoes}
+pub use Rattle.mm_expect.specs.ChronicleView.{barrier_of, instance_with, ChronicleView, chronicle_instance, state_after_batch}
+pub use Rattle.mm_expect.specs.ChronicleView.{outputs_of_batch, ChronicleGoes}
 pub use Rattle.mm_expect.specs.ExpectedState.{expected_state_after, first_expected_state, IsAfter, ExpectedState}
 pub use Rattle.mm_expect.specs.ChronicleSteps.{move_of, model_step_of, steps_of, ChronicleWalks}
 pub use Rattle.mm_expect.specs.declared.calls.ClosingResult.TheVariants.{Closes, HasNone, NoSegment, Stops}

@@ -1,14 +1,17 @@
 -- Where the snapshot of an answer stands, by the marks; and a call in a schedule, by its parts.
 use Rattle.mm_expect.proofs.Below.{ℕ, ◌≡◌, Bool, true, false, List, [], ◌++◌, refl, sym, ap, ◌∙◌, append_assoc, option_to_list, Variant}
 use Rattle.mm_expect.proofs.Below.{Opt, zero_bytes, Meddle, Stop, Batch, InOpt, Instance, History, cell_digest_of, issued_place, digest_of}
-use Rattle.mm_expect.proofs.Below.{AskResult, Answered, Refused, Broken, CallOutcome, right_content, list_level, state_after_moves, way_of, reply_of}
-use Rattle.mm_expect.proofs.Below.{snapshots_of, moves_after_call, moves_after_stop, HistoryMarks, EventReply, ChronicleCalls, ending_of, ChronicleGoesByCall, call_outcome_on, moves_if}
+use Rattle.mm_expect.proofs.Below.{AskResult, Answered, Refused, Broken, CallOutcome, right_content, list_level, state_after_moves, way_of}
+use Rattle.mm_expect.proofs.Below.{reply_of}
+use Rattle.mm_expect.proofs.Below.{snapshots_of, moves_after_call, moves_after_stop, HistoryMarks, EventReply, ChronicleCalls, ending_of}
+use Rattle.mm_expect.proofs.Below.{ChronicleGoesByCall, call_outcome_on, moves_if}
 use Rattle.mm_expect.proofs.Below.{marks_of, ChronicleView, ChronicleGoes, instance_with, chronicle_instance}
 use Rattle.mm_digest.specs.declared.digest.Digest.{Digest}
 use Rattle.mm_call.specs.CallPremises.{right_messages}
 use Rattle.mm_call.specs.EndedCall.{is_broken}
 
-cell_at_anchor : (i : Instance) (y : History) (m : HistoryMarks) → m ≡ marks_of i y → i.variant ≡ Opt → m.cell ≡ digest_of (cell_digest_of i Opt y)
+cell_at_anchor : (i : Instance) (y : History) (m : HistoryMarks) → m ≡ marks_of i y → i.variant ≡ Opt
+    → m.cell ≡ digest_of (cell_digest_of i Opt y)
 cell_at_anchor i y m e v = ap (λ (x : HistoryMarks). x.cell) e ∙ ap (λ (x : Variant). digest_of (cell_digest_of i x y)) v
 
 place_is : (i : Instance) (y : History) (flag : Bool) → i.variant ≡ Opt → y.is_open ≡ flag
@@ -19,7 +22,8 @@ pub place_open : (i : Instance) (y : History) (m : HistoryMarks) → m ≡ marks
     → InOpt m.cell m.own ≡ issued_place i.variant y.is_open i y
 place_open i y m e v o = (λ j. InOpt (cell_at_anchor i y m e v j) (ap (λ (x : HistoryMarks). x.own) e j)) ∙ place_is i y true v o
 
-pub place_shut : (i : Instance) (y : History) (m : HistoryMarks) (zero : Digest) → m ≡ marks_of i y → zero.bytes ≡ zero_bytes → i.variant ≡ Opt
+pub place_shut : (i : Instance) (y : History) (m : HistoryMarks) (zero : Digest) → m ≡ marks_of i y → zero.bytes ≡ zero_bytes
+    → i.variant ≡ Opt
     → y.is_open ≡ false → InOpt m.cell zero ≡ issued_place i.variant y.is_open i y
 place_shut i y m zero e z v o = (λ j. InOpt (cell_at_anchor i y m e v j) (digest_of (z j))) ∙ place_is i y false v o
 
@@ -27,7 +31,8 @@ place_shut i y m zero e z v o = (λ j. InOpt (cell_at_anchor i y m e v j) (diges
 abbrev pub forgotten : ChronicleView → ChronicleView
 forgotten r = record r { extending = []; closing = [] }
 
-moves_ended : (stop : Stop) (ended : AskResult) → moves_if (is_broken ended) (moves_after_stop stop) ≡ moves_after_call stop (ending_of ended)
+moves_ended : (stop : Stop) (ended : AskResult) → moves_if (is_broken ended) (moves_after_stop stop) ≡ moves_after_call stop
+    (ending_of ended)
 moves_ended stop (Answered answer) = refl
 moves_ended stop (Refused why) = refl
 moves_ended stop (Broken fault commits) = refl
@@ -45,7 +50,8 @@ state_went old went handed new stop o ended state_is calls hh hv hm restored =
     moves_ended stop ended ∙ ap (moves_after_call stop) calls.ends in
     restored.history ∙ (λ j. state_after_moves (list_level (instance_with (v j) (m j))) (h j) (moves j))
 
-pub went_by_call : {old went handed new : ChronicleView} {stop : Stop} {meddles : List Meddle} {bytes : List ℕ} {b : Batch} {ended : AskResult}
+pub went_by_call : {old went handed new : ChronicleView} {stop : Stop} {meddles : List Meddle} {bytes : List ℕ} {b : Batch}
+    {ended : AskResult}
     {front asked back : List (List ℕ)} {said : EventReply}
     → asked ≡ front ++ right_messages (chronicle_instance old) b (right_content (chronicle_instance old) bytes)
     → ChronicleCalls (forgotten old) went (call_outcome_on old stop meddles bytes b) ended

@@ -1,9 +1,13 @@
 -- A checkpoint by lists, step by step.
 use Rattle.mm_expect.proofs.Below.{◌≡◌, ℕ, Bool, true, false, List, [], ◌∷◌, ◌++◌, Option, None, Some, refl, sym, ap, ◌∙◌, subst, Variant}
-use Rattle.mm_expect.proofs.Below.{Opt, StepFault, Meddle, Stop, fault_at, is_made_at, Instance, History, Close, life_of, is_lost, DeviceStep}
-use Rattle.mm_expect.proofs.Below.{Reads, Writes, checkpoint_steps, list_level, state_after_moves, StepFate, StepsWalk, walk_from_step, walk, moves_seen, has_close}
-use Rattle.mm_expect.proofs.Below.{fate_by_plan, end_of, reading_steps, state_seen, finished_walk, closes-append, closes-foreign, ClosesNone, shut_along}
-use Rattle.mm_expect.proofs.Below.{walk_along, course_of, plan_of, last_steps, Closes, Stops, ChronicleView, ChronicleGoes, chronicle_instance, ChronicleWalks}
+use Rattle.mm_expect.proofs.Below.{Opt, StepFault, Meddle, Stop, fault_at, is_made_at, Instance, History, Close, life_of, is_lost}
+use Rattle.mm_expect.proofs.Below.{DeviceStep}
+use Rattle.mm_expect.proofs.Below.{Reads, Writes, checkpoint_steps, list_level, state_after_moves, StepFate, StepsWalk, walk_from_step}
+use Rattle.mm_expect.proofs.Below.{walk, moves_seen, has_close}
+use Rattle.mm_expect.proofs.Below.{fate_by_plan, end_of, reading_steps, state_seen, finished_walk, closes-append, closes-foreign}
+use Rattle.mm_expect.proofs.Below.{ClosesNone, shut_along}
+use Rattle.mm_expect.proofs.Below.{walk_along, course_of, plan_of, last_steps, Closes, Stops, ChronicleView, ChronicleGoes}
+use Rattle.mm_expect.proofs.Below.{chronicle_instance, ChronicleWalks}
 use Rattle.mm_call.specs.Checkpoints as ghost_closing
 use Rattle.mm_call.specs.CheckpointsWords as ghost_closing_words
 use Rattle.mm_expect.specs.declared.calls.ClosingResult.{ClosingResult}
@@ -32,14 +36,17 @@ module _ (a : ChronicleView) (stop : Stop) (meddles : List Meddle) where
   all = ghost_closing.checkpoint_outcome at (list_level at) a.history (course_of stop meddles)
 
   -- by the walk of its steps
-  went_by : (n : ChronicleView) (closing : ClosingResult) {broken : Option StepFault} {steps : List DeviceStep} {ending : ghost_closing.CheckpointEnding}
-      → steps ≡ checkpoint_steps a.variant a.history.is_open lost → ending ≡ ghost_closing.checkpoint_ending a.variant a.history.is_open lost
+  went_by : (n : ChronicleView) (closing : ClosingResult) {broken : Option StepFault} {steps : List DeviceStep}
+      {ending : ghost_closing.CheckpointEnding}
+      → steps ≡ checkpoint_steps a.variant a.history.is_open lost → ending ≡ ghost_closing.checkpoint_ending a.variant
+      a.history.is_open lost
       → ChronicleWalks a n (walk fates 1 steps) broken
       → ending_of_closing closing ≡ ghost_closing_words.checkpoint_ending_by broken (has_close (walk fates 1 steps).moves) ending
       → ChronicleGoesByCheckpoint a n all closing
   went_by n closing steps ends w tells = record {
     went = subst (λ (s : List DeviceStep). ChronicleGoes a n (walk fates 1 s).moves) steps w.went;
-    ends = tells ∙ (λ j. ghost_closing_words.checkpoint_ending_by ((w.broken ∙ ap (λ (s : List DeviceStep). (walk fates 1 s).broken) steps) j)
+    ends = tells ∙ (λ j. ghost_closing_words.checkpoint_ending_by
+        ((w.broken ∙ ap (λ (s : List DeviceStep). (walk fates 1 s).broken) steps) j)
         (has_close (walk fates 1 (steps j)).moves) (ends j));
   }
 
@@ -47,11 +54,13 @@ module _ (a : ChronicleView) (stop : Stop) (meddles : List Meddle) where
   pub check_shut : (n : ChronicleView) (unless : ClosingResult) (variant : Variant) (is_open : Bool) → a.variant ≡ variant
       → a.history.is_open ≡ is_open → ((l : Bool) → checkpoint_steps variant is_open l ≡ Reads ∷ [])
       → ((l : Bool) → ghost_closing.checkpoint_ending variant is_open l ≡ ending_of_closing unless)
-      → (closing : ClosingResult) → ChronicleClosesBy a n (walk fates 1 (Reads ∷ [])) unless closing → ChronicleGoesByCheckpoint a n all closing
+      → (closing : ClosingResult) → ChronicleClosesBy a n (walk fates 1 (Reads ∷ [])) unless closing
+      → ChronicleGoesByCheckpoint a n all closing
   check_shut n unless variant is_open va op steps ends closing shut =
       went_by n closing (sym (steps lost) ∙ (λ j. checkpoint_steps (sym va j) (sym op j) lost))
       (sym (ends lost) ∙ (λ j. ghost_closing.checkpoint_ending (sym va j) (sym op j) lost)) (record { went = shut.went; broken = refl })
-      (shut.ends ∙ ap (λ (k : Bool). ghost_closing_words.checkpoint_ending_by (walk fates 1 (Reads ∷ [])).broken k (ending_of_closing unless))
+      (shut.ends ∙ ap (λ (k : Bool). ghost_closing_words.checkpoint_ending_by (walk fates 1 (Reads ∷ [])).broken k
+      (ending_of_closing unless))
       (sym (walk_along ClosesNone shut_along fates 1 (Reads ∷ []) tt)))
 
   -- a checkpoint of an open segment
@@ -65,7 +74,8 @@ module _ (a : ChronicleView) (stop : Stop) (meddles : List Meddle) where
     ends_are : ghost_closing.checkpoint_ending Opt true lost ≡ ghost_closing.checkpoint_ending a.variant a.history.is_open lost
     ends_are = λ j. ghost_closing.checkpoint_ending (sym va j) (sym op j) lost
 
-    pub check_broken : (n : ChronicleView) (fault : StepFault) → ChronicleWalks a n reading (Some fault) → ChronicleGoesByCheckpoint a n all (Stops fault false)
+    pub check_broken : (n : ChronicleView) (fault : StepFault) → ChronicleWalks a n reading (Some fault)
+        → ChronicleGoesByCheckpoint a n all (Stops fault false)
     check_broken n fault w =
         went_by n (Stops fault false) steps_are ends_are (walks_broken fates 1 (reading_steps Opt) (last_steps lost) w)
         (ap (ghost_closing.Stops fault) (sym (ap (λ (v : StepsWalk). has_close v.moves)

@@ -2,11 +2,16 @@
 use Rattle.mm_expect.proofs.Below.{◌≡◌, ℕ, ◌≤◌, Bool, true, false, List, [], ◌∷◌, length, Option, None, Some, Result, Ok, Err, refl}
 use Rattle.mm_expect.proofs.Below.{ap, arith, last_position, longest_request, StepFault, IsLawful, outputs_from, Batch, normal_batch}
 use Rattle.mm_expect.proofs.Below.{Instance, History, Move, first_history, requests_of, total_of, ask_steps, Refusal, total-push}
-use Rattle.mm_expect.proofs.Below.{answer_on, reading_steps, call_outcome, CallOutcome, call_ending_by, position_of, state_seen, position_if_committed, Course, StepsWalk, walk}
-use Rattle.mm_expect.proofs.Below.{has_commit, CallFinding, finding_at, finding_unless_wanting, is_fresh, list_level, state_after_moves, unlacked, committed_batches}
-use Rattle.mm_expect.proofs.Below.{same_batches, more_batches, Commits, nothing, batch, call_commits, checkpoint_none, fresh_found, again_of}
-use Rattle.mm_expect.proofs.Below.{Event, IsPrintable, course_of, way_of, reply_of, moves_after_call, moves_after_checkpoint, told_reply, broken_reply}
-use Rattle.mm_expect.proofs.Below.{event_outcome, outcome_of_events, first_issued, outcome_by_lists, in_any_way, then_all, closing_all, short_outputs}
+use Rattle.mm_expect.proofs.Below.{answer_on, reading_steps, call_outcome, CallOutcome, call_ending_by, position_of, state_seen}
+use Rattle.mm_expect.proofs.Below.{position_if_committed, Course, StepsWalk, walk}
+use Rattle.mm_expect.proofs.Below.{has_commit, CallFinding, finding_at, finding_unless_wanting, is_fresh, list_level, state_after_moves}
+use Rattle.mm_expect.proofs.Below.{unlacked, committed_batches}
+use Rattle.mm_expect.proofs.Below.{same_batches, more_batches, Commits, nothing, batch, call_commits, checkpoint_none, fresh_found}
+use Rattle.mm_expect.proofs.Below.{again_of}
+use Rattle.mm_expect.proofs.Below.{Event, IsPrintable, course_of, way_of, reply_of, moves_after_call, moves_after_checkpoint, told_reply}
+use Rattle.mm_expect.proofs.Below.{broken_reply}
+use Rattle.mm_expect.proofs.Below.{event_outcome, outcome_of_events, first_issued, outcome_by_lists, in_any_way, then_all, closing_all}
+use Rattle.mm_expect.proofs.Below.{short_outputs}
 use Rattle.mm_expect.proofs.Below.{printed_closing, AdmitsBatch, sym, ◌∙◌, ◌-◌, size_of, length-drop, length-outputs_from}
 use Rattle.std.proofs.lemmas.List.Elements.{All-drop}
 use Rattle.mm_call.specs.Checkpoints.{CheckpointOutcome, checkpoint_outcome}
@@ -28,7 +33,8 @@ module _ (i : Instance) where
   told_printable lawful y b again few = let all = outputs_from i.meaning i.meaning.first (requests_of y.batches) in (
     All-drop (λ (o : List ℕ). length o ≤ longest_request) _ (outputs_from i.meaning i.meaning.first (requests_of y.batches))
         (short_outputs i.meaning lawful i.meaning.first (requests_of y.batches) lawful.begins),
-    omega (arith, few, length-drop (total_of y.batches - size_of b) all, length-outputs_from i.meaning i.meaning.first (requests_of y.batches)),
+    omega (arith, few, length-drop (total_of y.batches - size_of b) all, length-outputs_from i.meaning i.meaning.first
+    (requests_of y.batches)),
   )
 
   broken_printable : (way : Way) (commit : Bool) (position : ℕ) → IsPrintable (broken_reply way (position_if_committed commit position))
@@ -40,20 +46,23 @@ module _ (i : Instance) where
     abbrev end : History
     end = state_after_moves (list_level i) y walked.moves
 
-    grown_few : (found : Result CallFinding Refusal) → ((f : CallFinding) → found ≡ Ok f → AdmitsBatch seen b f.again) → committed_batches walked.moves ≡ b ∷ []
+    grown_few : (found : Result CallFinding Refusal) → ((f : CallFinding) → found ≡ Ok f → AdmitsBatch seen b f.again)
+        → committed_batches walked.moves ≡ b ∷ []
         → is_fresh found ≡ true → IsFew end
     grown_few found admits one is =
         let f = fresh_found found is in
         let fits = rw f.2 at (admits f.0 f.1).fits in
         omega (arith, fits, ap total_of same, ap total_of (more_batches i walked.moves y b one), total-push y.batches b)
 
-    walked_few : (found : Result CallFinding Refusal) → ((f : CallFinding) → found ≡ Ok f → AdmitsBatch seen b f.again) → Commits b (is_fresh found) walked
+    walked_few : (found : Result CallFinding Refusal) → ((f : CallFinding) → found ≡ Ok f → AdmitsBatch seen b f.again)
+        → Commits b (is_fresh found) walked
         → IsFew y → IsFew end
     walked_few found admits (nothing none unless) few = still_few walked.moves y none few
     walked_few found admits (batch one is) few = grown_few found admits one is
 
     -- where it ends well after an offer was accepted, it leaves few whatever stood before
-    answered_few : (found : Result CallFinding Refusal) → ((f : CallFinding) → found ≡ Ok f → AdmitsBatch seen b f.again) → Commits b (is_fresh found) walked
+    answered_few : (found : Result CallFinding Refusal) → ((f : CallFinding) → found ≡ Ok f → AdmitsBatch seen b f.again)
+        → Commits b (is_fresh found) walked
         → walked.broken ≡ None → (f : CallFinding) → found ≡ Ok f → IsFew end
     answered_few found admits (nothing none unless) whole f e =
         let fits = rw (again_of f.again (ap is_fresh (sym e) ∙ unless whole)) at (admits f e).fits in
@@ -103,7 +112,8 @@ module _ (i : Instance) where
         (called_few y (course_of stop meddles) bytes (normal_batch b) few);
     check = λ stop meddles.
         let o : CheckpointOutcome History = checkpoint_outcome i (list_level i) y (course_of stop meddles) in
-        still_few (moves_after_checkpoint stop o.ending) o.state (closing_all (λ moves. committed_batches moves ≡ []) refl refl stop o.ending)
+        still_few (moves_after_checkpoint stop o.ending) o.state (closing_all (λ moves. committed_batches moves ≡ []) refl
+        refl stop o.ending)
         (still_few o.moves y (checkpoint_none i.variant y.is_open _ (course_of stop meddles).fates) few);
     power = few;
     extend = λ value. few;

@@ -1,8 +1,10 @@
 -- What is found of an offer.
 use Rattle.mm_expect.proofs.Below.{◌≡◌, ℕ, ◌+◌, ◌≤◌, Bool, true, false, ◌&&◌, List, Result, Ok, Err, refl, arith, nat_eq, bytes_eq}
 use Rattle.mm_expect.proofs.Below.{Decides-eqb, last_position, Batch, size_of, PartsFault, Snapshot, tag_of, parts_of, Instance, History}
-use Rattle.mm_expect.proofs.Below.{total_of, Life, Live, life_by, life_of, is_lost, is_last, verdict_by_tests, verdict_on, list_level, CallFinding}
-use Rattle.mm_expect.proofs.Below.{finding_by_verdict, finding_at, admitted_tells, weighed_tells, found_with_tells, unless_lost, count_after_batch}
+use Rattle.mm_expect.proofs.Below.{total_of, Life, Live, life_by, life_of, is_lost, is_last, verdict_by_tests, verdict_on, list_level}
+use Rattle.mm_expect.proofs.Below.{CallFinding}
+use Rattle.mm_expect.proofs.Below.{finding_by_verdict, finding_at, admitted_tells, weighed_tells, found_with_tells, unless_lost}
+use Rattle.mm_expect.proofs.Below.{count_after_batch}
 use Rattle.mm_expect.proofs.Below.{AdmitsBatch}
 use Rattle.std.proofs.lemmas.Bool.{and_parts, leb-true}
 use Rattle.mm_seal.specs.declared.snapshot.PartsFault.TheVariants.{Form, Kind}
@@ -46,7 +48,8 @@ from_admits i y b (Ok snapshot) f e =
 from_admits i y b (Err Form) f e = cc
 from_admits i y b (Err Kind) f e = cc
 
-pub admits_found : (i : Instance) (y : History) (b : Batch) (bytes : List ℕ) (f : CallFinding) → finding_at i (list_level i) y b bytes ≡ Ok f
+pub admits_found : (i : Instance) (y : History) (b : Batch) (bytes : List ℕ) (f : CallFinding) → finding_at i (list_level i) y b bytes
+    ≡ Ok f
     → AdmitsBatch y b f.again
 admits_found i y b bytes f e =
     from_admits i y b (parts_of i.variant i.meaning.id bytes) f (unless_lost (is_lost (life_of i.variant y)) _ f e)

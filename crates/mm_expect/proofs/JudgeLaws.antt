@@ -1,10 +1,12 @@
 -- Whether an offer is genuine.
 use Rattle.mm_expect.proofs.Below.{◌≡◌, ℕ, Bool, true, List, Option, None, Some, refl, sym, ap, ◌∙◌, subst, slice_get, IfOk}
 use Rattle.mm_expect.proofs.Below.{AllByRecursion, Variant, Basic, Opt, Meaning, AnyModule, meaning_of, any_is_lawful, Content}
-use Rattle.mm_expect.proofs.Below.{Instance, opt_instance, NamesPosition, IsGenuine, right_content, History, instance_by, Header, Event, offered_bytes}
+use Rattle.mm_expect.proofs.Below.{Instance, opt_instance, NamesPosition, IsGenuine, right_content, History, instance_by, Header, Event}
+use Rattle.mm_expect.proofs.Below.{offered_bytes}
 use Rattle.mm_expect.proofs.Below.{outcome_by_lists, world_of, world_key, world_barrier, IsIssued, IsGenuineEvent, basic_issued_named}
 use Rattle.mm_expect.proofs.Below.{opt_issued_named, AreIssued, IsAmong, DecidesBytes, DecidesOffer}
-use Rattle.mm_expect.proofs.Below.{DecidesEvent, IsDecided, ChronicleView, barrier_of, instance_with, chronicle_instance, ExpectedState, IsAfter}
+use Rattle.mm_expect.proofs.Below.{DecidesEvent, IsDecided, ChronicleView, barrier_of, instance_with, chronicle_instance, ExpectedState}
+use Rattle.mm_expect.proofs.Below.{IsAfter}
 use Rattle.std.specs.Prelude.{Result}
 use Rattle.mm_schedule.specs.declared.event.Offer.{Offer}
 use Rattle.mm_outcome.specs.Premises.{IsGenuineOffer}
@@ -29,7 +31,8 @@ are_issued header events it at =
     subst S (sym at.history_is) (subst T (sym at.issued_is)
     (record { few = few_expected i events; names = named_by header.variant (meaning_of header.«module») events }))
 
-pub event_decided : (old : ChronicleView) (issued : List (List ℕ)) (event : Event) (true_or_not : Bool) (header : Header) (events : List Event)
+pub event_decided : (old : ChronicleView) (issued : List (List ℕ)) (event : Event) (true_or_not : Bool) (header : Header)
+    (events : List Event)
     → DecidesEvent (chronicle_instance old) old.history issued event true_or_not → IsAfter header events (traced old issued)
     → IsDecided true_or_not (IsGenuineEvent (world_of header) old.history issued event)
 event_decided old issued event true_or_not header events decides at =

@@ -1,11 +1,14 @@
 -- What the fields of a chronicle keep goes on with its moves.
 use Rattle.mm_expect.proofs.Below.{◌≡◌, ◌≤◌, ℕ, Bool, true, false, List, [], ◌∷◌, ◌++◌, length, sym, ap, ◌∙◌, subst, IsTrue, nat_le}
 use Rattle.mm_expect.proofs.Below.{same_from_push, list_any, ◌||◌, Variant, Basic, Opt, Batch, members_of, size_of, limit_of, zero_bytes}
-use Rattle.mm_expect.proofs.Below.{start_digest_of, state_after, outputs_from, state_after-append, state_from-is_spelled, AnyModule, meaning_of}
+use Rattle.mm_expect.proofs.Below.{start_digest_of, state_after, outputs_from, state_after-append, state_from-is_spelled, AnyModule}
+use Rattle.mm_expect.proofs.Below.{meaning_of}
 use Rattle.mm_expect.proofs.Below.{Instance, any_is_lawful, guard, register_of, History, Value, first_history, requests_of, total_of}
-use Rattle.mm_expect.proofs.Below.{history_after_commit, cell_digest_of, values_of, is_last, is_long, digest_of, issued_bytes, is_last_tells}
+use Rattle.mm_expect.proofs.Below.{history_after_commit, cell_digest_of, values_of, is_last, is_long, digest_of, issued_bytes}
+use Rattle.mm_expect.proofs.Below.{is_last_tells}
 use Rattle.mm_expect.proofs.Below.{answer_on, last_outputs, Answered, anchor-nil, summary-nil, is_empty, has_value, requests-push}
-use Rattle.mm_expect.proofs.Below.{said_last, HistoryMarks, marks_of, with_value, emptied_marks, closed_marks, linked_marks, grown_marks, opened_marks}
+use Rattle.mm_expect.proofs.Below.{said_last, HistoryMarks, marks_of, with_value, emptied_marks, closed_marks, linked_marks, grown_marks}
+use Rattle.mm_expect.proofs.Below.{opened_marks}
 use Rattle.mm_expect.proofs.Below.{ChronicleView, barrier_of, instance_with, chronicle_instance}
 use Rattle.std.proofs.lemmas.List.Folds.{list_any-append}
 use Rattle.mm_module.specs.MeaningWords.{state_from}
@@ -32,7 +35,8 @@ Ran «module» y next told b =
     × (told ≡ outputs_from (meaning_of «module») (state_after (meaning_of «module») (requests_of y.batches)) (members_of b))
     × (list_any is_long (b ∷ []) ≡ false)
 
-module _ {variant : Variant} {«module» : AnyModule} {barrier : List ℕ} {y : History} {old : HistoryMarks} {state : List ℕ} {said : List (List ℕ)}
+module _ {variant : Variant} {«module» : AnyModule} {barrier : List ℕ} {y : History} {old : HistoryMarks} {state : List ℕ}
+    {said : List (List ℕ)}
     (s : IsSettled variant «module» barrier y old state said) where
   abbrev i : Instance
   i = instance_with variant «module»
@@ -49,7 +53,8 @@ module _ {variant : Variant} {«module» : AnyModule} {barrier : List ℕ} {y : 
     short = ap (list_any is_long) same ∙ s.short;
   }
 
-  pub settled_value : {z : History} {new : HistoryMarks} (v : List ℕ) → z ≡ record y { items = y.items ++ Value v ∷ [] } → new ≡ with_value old v
+  pub settled_value : {z : History} {new : HistoryMarks} (v : List ℕ) → z ≡ record y { items = y.items ++ Value v ∷ [] }
+      → new ≡ with_value old v
       → IsSettled variant «module» barrier z new state said
   settled_value v is marks = settled_still (ap (λ (h : History). h.batches) is)
       (marks ∙ ap (λ (m : HistoryMarks). with_value m v) s.marks_is ∙ sym (marks_value i y v) ∙ ap (marks_of i) (sym is))
@@ -86,18 +91,21 @@ module _ {variant : Variant} {«module» : AnyModule} {barrier : List ℕ} {y : 
               ∙ ap (λ (f : Bool). f || list_any is_long (b ∷ [])) s.short ∙ run.2;
         }
 
-    pub settled_linked : {z : History} {new : HistoryMarks} → variant ≡ Basic → z ≡ history_after_commit Basic y.is_open y b → new ≡ linked_marks old b
+    pub settled_linked : {z : History} {new : HistoryMarks} → variant ≡ Basic → z ≡ history_after_commit Basic y.is_open y b
+        → new ≡ linked_marks old b
         → IsSettled variant «module» barrier z new next told
     settled_linked basic is marks = settled_more (ap (λ (h : History). h.batches) is)
         (marks ∙ ap (λ (m : HistoryMarks). linked_marks m b) s.marks_is ∙ sym (marks_linked i y b basic) ∙ ap (marks_of i) (sym is))
 
-    pub settled_grown : {z : History} {new : HistoryMarks} {value : List ℕ} {size : ℕ} → variant ≡ Opt → z ≡ history_after_commit Opt true y b
+    pub settled_grown : {z : History} {new : HistoryMarks} {value : List ℕ} {size : ℕ} → variant ≡ Opt
+        → z ≡ history_after_commit Opt true y b
         → size ≡ size_of b
         → value ≡ guard (barrier_of variant) b → new ≡ grown_marks old size value → IsSettled variant «module» barrier z new next told
     settled_grown opt is sized guards marks = settled_more (ap (λ (h : History). h.batches) is)
         (marks ∙ (λ j. grown_marks (s.marks_is j) (sized j) (guards j)) ∙ sym (marks_grown i y b opt) ∙ ap (marks_of i) (sym is))
 
-    pub settled_opened : {z : History} {new : HistoryMarks} {value register : List ℕ} {size : ℕ} → variant ≡ Opt → z ≡ history_after_commit Opt false y b
+    pub settled_opened : {z : History} {new : HistoryMarks} {value register : List ℕ} {size : ℕ} → variant ≡ Opt
+        → z ≡ history_after_commit Opt false y b
         → size ≡ size_of b
         → value ≡ guard barrier b → register ≡ register_of (values_of barrier z.items)
         → new ≡ opened_marks old size value register (nat_le (length y.items) 1) → IsSettled variant «module» barrier z new next told
@@ -126,7 +134,8 @@ first_marks cell register = record {
   is_marred = false;
 }
 
-pub settled_first : {variant : Variant} {«module» : AnyModule} {barrier : List ℕ} {y : History} {marks : HistoryMarks} {state : List ℕ} {said : List (List ℕ)}
+pub settled_first : {variant : Variant} {«module» : AnyModule} {barrier : List ℕ} {y : History} {marks : HistoryMarks} {state : List ℕ}
+    {said : List (List ℕ)}
     {id : ℕ} → barrier ≡ barrier_of variant → y ≡ first_history → id ≡ (meaning_of «module»).id
     → marks ≡ first_marks (start_digest_of variant id) zero_bytes → state ≡ (meaning_of «module»).first
     → IsSettled variant «module» barrier y marks state said
@@ -149,7 +158,8 @@ fits_limit «module» {state} {given} spelled same ids = subst (λ n. length giv
     (subst (λ (v : List ℕ). length v ≤ limit_of (meaning_of «module»).id) (sym same) ((any_is_lawful «module»).fits state spelled))
 
 -- what the module said to the last batch
-pub outputs_last : {variant : Variant} {«module» : AnyModule} {barrier : List ℕ} {y : History} {marks : HistoryMarks} {state : List ℕ} {said : List (List ℕ)}
+pub outputs_last : {variant : Variant} {«module» : AnyModule} {barrier : List ℕ} {y : History} {marks : HistoryMarks} {state : List ℕ}
+    {said : List (List ℕ)}
     (b : Batch) → IsSettled variant «module» barrier y marks state said → is_last y.batches b ≡ true
     → said ≡ last_outputs (meaning_of «module») y (size_of b)
 outputs_last {«module» = «module»} {y = y} b s last =
@@ -205,7 +215,8 @@ module _ {variant : Variant} {meaning : Meaning} {barrier : List ℕ} {y : Histo
       }) w
 
 -- more of it is kept
-module _ {variant : Variant} {«module» : AnyModule} {barrier : List ℕ} {y : History} {marks : HistoryMarks} {state : List ℕ} {said : List (List ℕ)} where
+module _ {variant : Variant} {«module» : AnyModule} {barrier : List ℕ} {y : History} {marks : HistoryMarks} {state : List ℕ}
+    {said : List (List ℕ)} where
   pub kept_by : {ways : Waymarks} → IsSettled variant «module» barrier y marks state said
       → AreWaymarks variant (meaning_of «module») (barrier_of variant) y ways
       → IsKept variant «module» barrier y marks state said ways

@@ -1,9 +1,12 @@
 -- A chronicle goes on by moves, one after another.
 use Rattle.mm_expect.proofs.Below.{◌≡◌, ℕ, ◌+◌, ◌<◌, Bool, true, false, List, [], ◌∷◌, ◌++◌, length, map, take, get_or, filter, cond}
 use Rattle.mm_expect.proofs.Below.{Option, None, Some, refl, sym, ap, ◌∙◌, subst, append_assoc, ◌==◌, if◌then◌else◌, append-nil}
-use Rattle.mm_expect.proofs.Below.{map-append, filter_more, Decides-eqb, StepFault, Meddle, Stop, Fail, due_values, fault_at, is_made_at, Instance}
-use Rattle.mm_expect.proofs.Below.{History, Move, Foreign, history_after, DeviceStep, list_level, state_after_moves, StepFate, step_moves, walk_from_step, walk, fate_by_plan}
-use Rattle.mm_expect.proofs.Below.{made_move, end_of, made-append, plan_of, ChronicleView, ChronicleGoes, chronicle_instance, instance_with, move_of}
+use Rattle.mm_expect.proofs.Below.{map-append, filter_more, Decides-eqb, StepFault, Meddle, Stop, Fail, due_values, fault_at, is_made_at}
+use Rattle.mm_expect.proofs.Below.{Instance}
+use Rattle.mm_expect.proofs.Below.{History, Move, Foreign, history_after, DeviceStep, list_level, state_after_moves, StepFate, step_moves}
+use Rattle.mm_expect.proofs.Below.{walk_from_step, walk, fate_by_plan}
+use Rattle.mm_expect.proofs.Below.{made_move, end_of, made-append, plan_of, ChronicleView, ChronicleGoes, chronicle_instance, instance_with}
+use Rattle.mm_expect.proofs.Below.{move_of}
 use Rattle.mm_expect.proofs.Below.{model_step_of, steps_of, ChronicleWalks, arith, End, Done, Fails, StepsWalk, finished_walk}
 use Rattle.std.proofs.lemmas.Bool.{false_from_ne_true}
 use Rattle.std.proofs.lemmas.Bool.Decides.{nat_tests}
@@ -13,7 +16,8 @@ use Rattle.mm_expect.specs.declared.course.ChronicleStep as code_step
 use Rattle.mm_expect.specs.declared.course.ChronicleStep.TheVariants.{Changes}
 
 pub messages_where-append : (closing : Bool) (i : Instance) (xs ys : List Move) (y : History)
-    → messages_where closing i y (xs ++ ys) ≡ messages_where closing i y xs ++ messages_where closing i (state_after_moves (list_level i) y xs) ys
+    → messages_where closing i y (xs ++ ys) ≡ messages_where closing i y xs ++ messages_where closing i
+    (state_after_moves (list_level i) y xs) ys
 messages_where-append closing i [] ys y = refl
 messages_where-append closing i (x ∷ xs) ys y =
     ap (λ v. messages_if closing i y x ++ v) (messages_where-append closing i xs ys (history_after i y x))
@@ -83,16 +87,19 @@ module _ (fates : ℕ → StepFate) where
       (then_walked (n + 1) m xs ys (omega (arith, at)))
 
   -- a chronicle that went on by some steps, and by more unless they were broken off, went on by all of them
-  pub walks_broken : {a b : ChronicleView} (n : ℕ) (xs ys : List DeviceStep) {fault : StepFault} → ChronicleWalks a b (walk fates n xs) (Some fault)
+  pub walks_broken : {a b : ChronicleView} (n : ℕ) (xs ys : List DeviceStep) {fault : StepFault}
+      → ChronicleWalks a b (walk fates n xs) (Some fault)
       → ChronicleWalks a b (walk fates n (xs ++ ys)) (Some fault)
   walks_broken {a} {b} n xs ys {fault} w =
       subst (λ (v : StepsWalk). ChronicleWalks a b v (Some fault)) (sym (broken_walked n xs ys fault (sym w.broken))) w
 
   pub walks_then : {a b c : ChronicleView} (n m : ℕ) (xs ys : List DeviceStep) {fault : Option StepFault} → m ≡ n + length xs
-      → ChronicleWalks a b (walk fates n xs) None → ChronicleWalks b c (walk fates m ys) fault → ChronicleWalks a c (walk fates n (xs ++ ys)) fault
+      → ChronicleWalks a b (walk fates n xs) None → ChronicleWalks b c (walk fates m ys) fault
+      → ChronicleWalks a c (walk fates n (xs ++ ys)) fault
   walks_then {a} {b} {c} n m xs ys at first more =
       let t = then_walked n m xs ys at (sym first.broken) in record {
-        went = subst (ChronicleGoes a c) (sym t.moves) (went_then a b c (walk fates n xs).moves (walk fates m ys).moves first.went more.went);
+        went = subst (ChronicleGoes a c) (sym t.moves) (went_then a b c (walk fates n xs).moves (walk fates m ys).moves
+            first.went more.went);
         broken = more.broken ∙ sym t.broken;
       }
 
@@ -106,7 +113,8 @@ value_more front m false =
 
 -- the values that are due, one more meddle looked at
 due_taken : (step : ℕ) (meddles : List Meddle) (i : ℕ) (d : Meddle) (flag : Bool) → i < length meddles
-    → ((get_or meddles i d).step == step) ≡ flag → map Foreign (due_values step (take (i + 1) meddles)) ≡ map Foreign (due_values step (take i meddles))
+    → ((get_or meddles i d).step == step) ≡ flag → map Foreign (due_values step (take (i + 1) meddles))
+    ≡ map Foreign (due_values step (take i meddles))
     ++ (if flag then Foreign (get_or meddles i d).value.bytes ∷ [] else [])
 due_taken step meddles i d flag l e =
     let m : Meddle = get_or meddles i d in
@@ -117,7 +125,8 @@ due_taken step meddles i d flag l e =
 
 pub bring_one : (a b c : ChronicleView) (step : ℕ) (meddles : List Meddle) (i : ℕ) (d : Meddle) → i < length meddles
     → (get_or meddles i d).step ≡ step → ChronicleGoes a b (map Foreign (due_values step (take i meddles)))
-    → ChronicleGoes b c (Foreign (get_or meddles i d).value.bytes ∷ []) → ChronicleGoes a c (map Foreign (due_values step (take (i + 1) meddles)))
+    → ChronicleGoes b c (Foreign (get_or meddles i d).value.bytes ∷ [])
+    → ChronicleGoes a c (map Foreign (due_values step (take (i + 1) meddles)))
 bring_one a b c step meddles i d l e first second =
     subst (ChronicleGoes a c) (sym (due_taken step meddles i d true l ((Decides-eqb (get_or meddles i d).step step).1 e)))
     (went_then a b c _ _ first second)
@@ -141,7 +150,8 @@ changes_then a b c action made values step is first second =
     subst (λ (s : code_step.Step). ChronicleGoes a c (step_moves (model_step_of s) made values)) (sym is)
     (went_then a b c (map Foreign values) (made_move made (move_of action)) first second)
 
-pub walks_on : (a b c : ChronicleView) (stop : Stop) (meddles : List Meddle) (n : ℕ) (step : code_step.Step) (later all : List code_step.Step)
+pub walks_on : (a b c : ChronicleView) (stop : Stop) (meddles : List Meddle) (n : ℕ) (step : code_step.Step)
+    (later all : List code_step.Step)
     → all ≡ step ∷ later → fault_at stop n ≡ None → (made : Bool) → made ≡ is_made_at stop n
     → ChronicleGoes a b (step_moves (model_step_of step) made (due_values n meddles)) → (fault : Option StepFault)
     → ChronicleWalks b c (walk (fate_by_plan (plan_of stop meddles)) (n + 1) (steps_of later)) fault
@@ -151,7 +161,8 @@ walks_on a b c stop meddles n step later all is whole made m first fault more =
     let effect : made ≡ true = m ∙ made_where_whole stop n whole in
     let rest : StepsWalk = walk fates (n + 1) (steps_of later) in
     let W : Option StepFault
-    → Type 0 = λ f. ChronicleWalks a c (walk_from_step (model_step_of step) (due_values n meddles) (end_of f (is_made_at stop n)) rest) fault in
+    → Type 0 = λ f. ChronicleWalks a c (walk_from_step (model_step_of step) (due_values n meddles) (end_of f (is_made_at stop n)) rest)
+    fault in
     subst (λ (s : List code_step.Step). ChronicleWalks a c (walk fates n (steps_of s)) fault) (sym is) (subst W (sym whole) (record {
       went = went_then a b c (step_moves (model_step_of step) true (due_values n meddles)) rest.moves
           (subst (λ (x : Bool). ChronicleGoes a b (step_moves (model_step_of step) x (due_values n meddles))) effect first) more.went;

@@ -1,8 +1,10 @@
 -- What a call comes to, as a chronicle goes on by it.
 use Rattle.std.specs.Prelude.{◌≡◌, ℕ, ◌+◌, ◌≤◌, Bool, true, false, List, [], ◌∷◌, Option, None, Some, Result, Ok, Err}
 use Rattle.mm_expect.specs.Below.{last_position, Variant, Basic, Opt, StepFault, Meddle, Stop, Batch, size_of, History, Move, Commit}
-use Rattle.mm_expect.specs.Below.{Placed, Reset, total_of, is_last, DeviceStep, Changes, Writes, Refusal, answer_on, CallEnding, Answers, Refuses}
-use Rattle.mm_expect.specs.Below.{Breaks, CallOutcome, position_if_committed, StepsWalk, fate_by_plan, walk, has_commit, CallFinding, AskResult, Answered, Refused, Broken, plan_of}
+use Rattle.mm_expect.specs.Below.{Placed, Reset, total_of, is_last, DeviceStep, Changes, Writes, Refusal, answer_on, CallEnding, Answers}
+use Rattle.mm_expect.specs.Below.{Refuses}
+use Rattle.mm_expect.specs.Below.{Breaks, CallOutcome, position_if_committed, StepsWalk, fate_by_plan, walk, has_commit, CallFinding}
+use Rattle.mm_expect.specs.Below.{AskResult, Answered, Refused, Broken, plan_of}
 use Rattle.mm_expect.specs.ChronicleView.{ChronicleView, ChronicleGoes, chronicle_instance}
 use Rattle.mm_expect.specs.ChronicleSteps.{ChronicleWalks}
 
@@ -38,8 +40,10 @@ changes_on old stop meddles b =
     (changing_steps old.variant old.history.is_open b)
 
 -- The chronicle went on by the steps behind the reading ones.
-abbrev pub ChronicleChanges : ChronicleView → ChronicleView → Stop → List Meddle → Batch → Option StepFault → Type 0
-ChronicleChanges old new stop meddles b fault = ChronicleWalks old new (changes_on old stop meddles b) fault
+abbrev pub ChronicleChanges : ChronicleView → ChronicleView → Stop → List Meddle → Batch
+    → Option StepFault → Type 0
+ChronicleChanges old new stop meddles b fault =
+    ChronicleWalks old new (changes_on old stop meddles b) fault
 
 abbrev pub ending_of : AskResult → CallEnding
 ending_of (Answered answer) = Answers answer
@@ -60,6 +64,7 @@ pub record NewCallGoesOn (old new : ChronicleView) (stop : Stop) (meddles : List
       (changes_on old stop meddles b).broken
 
 -- The chronicle went on by a call, which ended so.
-pub record ChronicleCalls (old new : ChronicleView) (o : CallOutcome History) (ended : AskResult) : Type 0 where
+pub record ChronicleCalls (old new : ChronicleView) (o : CallOutcome History)
+    (ended : AskResult) : Type 0 where
   pub went : ChronicleGoes old new o.moves
   pub ends : ending_of ended ≡ o.ending

@@ -40,6 +40,7 @@ AreShort [] = Unit {0}
 AreShort (step ∷ later) = IsShortStep step × AreShort later
 
 -- The chronicle went on by the moves of a walk, which was broken off by this fault.
-pub record ChronicleWalks (old new : ChronicleView) (walked : StepsWalk) (fault : Option StepFault) : Type 0 where
+pub record ChronicleWalks (old new : ChronicleView) (walked : StepsWalk)
+    (fault : Option StepFault) : Type 0 where
   pub went : ChronicleGoes old new walked.moves
   pub broken : fault ≡ walked.broken

@@ -46,10 +46,12 @@ first_chronicle variant «module» = record {
 pub record ChronicleGoes (old new : ChronicleView) (moves : List Move) : Type 0 where
   pub variant : new.variant ≡ old.variant
   pub «module» : new.«module» ≡ old.«module»
-  pub history : new.history ≡ state_after_moves (list_level (chronicle_instance old)) old.history moves
+  pub history : new.history ≡ state_after_moves (list_level (chronicle_instance old))
+      old.history moves
   pub extending : new.extending ≡ old.extending ++ messages_where false (chronicle_instance old)
       old.history moves
-  pub closing : new.closing ≡ old.closing ++ messages_where true (chronicle_instance old) old.history
+  pub closing : new.closing ≡ old.closing ++ messages_where true
+      (chronicle_instance old) old.history
       moves
 
 -- the messages by which the register takes in a value: none in Basic, which has no register

@@ -23,7 +23,8 @@ is_broken_off LostPower = false
 is_broken_off (Stops _ _) = true
 
 -- The chronicle went on by a checkpoint, which ended so.
-pub record ChronicleGoesByCheckpoint (old new : ChronicleView) (o : ghost_closing.CheckpointOutcome History)
+pub record ChronicleGoesByCheckpoint (old new : ChronicleView)
+    (o : ghost_closing.CheckpointOutcome History)
     (closing : ClosingResult) : Type 0 where
   pub went : ChronicleGoes old new o.moves
   pub ends : ending_of_closing closing ≡ o.ending

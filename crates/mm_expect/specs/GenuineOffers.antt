@@ -1,7 +1,8 @@
 -- Whether an offer is genuine, by whether what it says names a position.
 use Rattle.std.specs.Prelude.{◌≡◌, ℕ, ◌≤◌, Bool, List, Some, None, slice_get}
 use Rattle.std.specs.List.{AllByRecursion}
-use Rattle.mm_expect.specs.Below.{last_position, Content, Meaning, IsLawful, History, total_of, Instance, basic_instance, opt_instance, NamesPosition, IsGenuine}
+use Rattle.mm_expect.specs.Below.{last_position, Content, Meaning, IsLawful, History, total_of, Instance, basic_instance, opt_instance}
+use Rattle.mm_expect.specs.Below.{NamesPosition, IsGenuine}
 use Rattle.mm_expect.specs.Below.{right_content, IsDecided, IsIssued}
 
 -- An offer that isn't right is genuine; a right one exactly where what it says names a position.
@@ -22,7 +23,8 @@ abbrev pub EachOfferIsDecided : Type 0
 EachOfferIsDecided = (i : Instance) → OffersAreDecided i
 
 abbrev pub BasicIssuedAreGenuine : Type 0
-BasicIssuedAreGenuine = (meaning : Meaning) (key : List ℕ) → IssuedAreGenuine (basic_instance meaning key)
+BasicIssuedAreGenuine = (meaning : Meaning) (key : List ℕ)
+    → IssuedAreGenuine (basic_instance meaning key)
 
 abbrev pub OptIssuedAreGenuine : Type 0
 OptIssuedAreGenuine =

@@ -44,7 +44,8 @@ impl Chronicle {
     // The steps behind the reading ones, of a call whose batch is a new one.
     fn change(&mut self, course: &CallPlan<'_>, batch: Batch<'_>) -> Result<Option<StepFault>, Memory>
         requires { is_long (batch_of batch) ≡ false }
-        ensures { IfOk result (ChronicleChanges self.old self.new course.now.stop course.now.meddles.now
+        ensures { IfOk result
+            (ChronicleChanges self.old self.new course.now.stop course.now.meddles.now
             (batch_of batch.entry)) }
     {
         match self.variant {
@@ -108,7 +109,8 @@ impl Chronicle {
         requires short { is_long (batch_of batch) ≡ false }
         requires admits { AdmitsBatch self.old.history (batch_of batch) false }
         ensures key { key.new ≡ key.old }
-        ensures goes { IfOk result (NewCallGoesOn self.old self.new course.now.stop course.now.meddles.now
+        ensures goes { IfOk result
+            (NewCallGoesOn self.old self.new course.now.stop course.now.meddles.now
             (batch_of batch.entry)) }
     {
         let before = self.total();
@@ -126,7 +128,8 @@ impl Chronicle {
     pub(crate) fn checkpoint(&mut self, course: &CallPlan<'_>) -> Result<ClosingResult, Memory>
         ensures { IfOk result
             (ChronicleGoesByCheckpoint self.old self.new
-            (checkpoint_outcome (chronicle_instance self.old) (list_level (chronicle_instance self.old))
+            (checkpoint_outcome (chronicle_instance self.old)
+            (list_level (chronicle_instance self.old))
             self.old.history
             (course_of course.now.stop course.now.meddles.now))) }
     {
@@ -164,7 +167,8 @@ impl Chronicle {
         requires inside { self.old.history.is_open ≡ true }
         ensures { IfOk result
             (ChronicleGoesByCheckpoint self.old self.new
-            (checkpoint_outcome (chronicle_instance self.old) (list_level (chronicle_instance self.old))
+            (checkpoint_outcome (chronicle_instance self.old)
+            (list_level (chronicle_instance self.old))
             self.old.history
             (course_of course.now.stop course.now.meddles.now))) }
     {

@@ -76,7 +76,8 @@ impl Chronicle {
     // A move is made where its step has its effect.
     fn make_if(&mut self, is_made: bool, action: &ChronicleMove<'_>) -> Result<(), Memory>
         requires { IsShortMove action.now }
-        ensures { OnOk result (ChronicleGoes self.old self.new (made_move is_made (move_of action.now))) }
+        ensures { OnOk result
+            (ChronicleGoes self.old self.new (made_move is_made (move_of action.now))) }
     {
         if is_made { self.make(action) } else { Ok(()) }
     }
@@ -84,7 +85,8 @@ impl Chronicle {
     // What others put into the register just before the step of this number.
     fn bring_due(&mut self, course: &CallPlan<'_>, step: u8) -> Result<(), Memory>
         ensures { OnOk result
-            (ChronicleGoes self.old self.new (map Foreign (due_values step course.now.meddles.now))) }
+            (ChronicleGoes self.old self.new (map Foreign (due_values step course.now.meddles.now)))
+            }
     {
         'meddles: for meddle in course.meddles {
             if meddle.step == step {
@@ -105,7 +107,8 @@ impl Chronicle {
         requires { IsShortStep step.now }
         ensures { OnOk result
             (ChronicleGoes self.old self.new
-            (step_moves (model_step_of step.now) is_made (due_values number course.now.meddles.now))) }
+            (step_moves (model_step_of step.now) is_made
+            (due_values number course.now.meddles.now))) }
     {
         match step {
             ChronicleStep::Reads => self.bring_due(course, number),

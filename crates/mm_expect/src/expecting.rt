@@ -98,7 +98,8 @@ fn list_asked(
 
 // Power is lost where a call is cut that is broken off, and comes back.
 fn restore(chronicle: &mut Chronicle, stop: Stop, is_broken: bool)
-    ensures { ChronicleGoes chronicle.old chronicle.new (moves_if is_broken (moves_after_stop stop)) }
+    ensures { ChronicleGoes chronicle.old chronicle.new
+        (moves_if is_broken (moves_after_stop stop)) }
 {
     if let Stop::Cut(_) = stop
         && is_broken
@@ -229,7 +230,8 @@ fn follow(
 ) -> Result<EventReply, Memory>
     requires { key.old ≡ world_key }
     ensures key { key.new ≡ key.old }
-    ensures went { IfOk result (ChronicleGoesByEvent chronicle.old chronicle.new issued.now (event_of event.now)
+    ensures went { IfOk result (ChronicleGoesByEvent chronicle.old chronicle.new issued.now
+        (event_of event.now)
         messages.old.items messages.new.items) }
 {
     match event {
@@ -311,7 +313,8 @@ impl Expectation {
 
     /// Follows one event. After want of memory nothing is said of what stands.
     pub fn event(&mut self, event: &Event) -> Result<ExpectedOutcome, Memory>
-        ensures state { OnOk result (self.new ≡ expected_state_after self.old (event_of event.now)) }
+        ensures state { OnOk result (self.new ≡ expected_state_after self.old (event_of event.now))
+            }
         ensures hears { IfOk result (HearsEvent (world_of self.old.header) self.old.history
             self.old.issued (event_of event.now)) }
         ensures after { OnOk result (StandsLater self.old (event_of event.now) self.new) }

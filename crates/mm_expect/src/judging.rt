@@ -57,7 +57,8 @@ impl Chronicle {
 
     // The verdict on a position and a batch.
     fn judge(&self, position: u64, batch: Batch<'_>) -> Verdict
-        ensures { result ≡ verdict_on self.now.variant self.now.history position (batch_of batch.entry) }
+        ensures { result ≡ verdict_on self.now.variant self.now.history position
+            (batch_of batch.entry) }
     {
         match self.variant {
             Variant::Basic => self.judge_live(position, batch),

@@ -5,7 +5,8 @@ use Rattle.std.specs.Result.{result_err}
 use Rattle.mm_base.specs.Faults.{next_count, CountsFaults}
 use Rattle.mm_platform.specs.declared.fault.StepFault.{StepFault}
 use Rattle.mm_platform.specs.declared.fault.StepFault.TheVariants as step
-use Rattle.mm_platform.specs.Steps.{Act, ReadCell, WriteCell, ReadRegister, ResetRegister, ExtendRegister, DeviceStepEnds, StepGoes, items_beside, cell_after, items_after, writes_after}
+use Rattle.mm_platform.specs.Steps.{Act, ReadCell, WriteCell, ReadRegister, ResetRegister, ExtendRegister, DeviceStepEnds, StepGoes}
+use Rattle.mm_platform.specs.Steps.{items_beside, cell_after, items_after, writes_after}
 use Rattle.mm_files.specs.UntoldDevices.{untold_standing}
 
 abbrev IsFailed : {T : Type 0} → Result T StepFault → Type 0

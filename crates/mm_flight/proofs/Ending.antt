@@ -94,23 +94,27 @@ module _ {A R : Type 0} (o : OpMeaning A R) (Q : R → Type 0) (sees : (bytes : 
   draws_halt goes says known (Err (halt.Refused why)) d = known why d.1
   draws_halt goes says known (Err Lacks) d = tt
 
-  room_halts : (flag : Bool) (found : OpFinding A) (old new : Standing) (given : Result (OpFinding A) (Halt R)) → RoomIsMadeIf flag found old new given
+  room_halts : (flag : Bool) (found : OpFinding A) (old new : Standing) (given : Result (OpFinding A) (Halt R))
+      → RoomIsMadeIf flag found old new given
       → Halts given
   room_halts false found old new given r = rw r.1 tt
   room_halts true found old new (Ok it) r = tt
   room_halts true found old new (Err why) r = rw r.1 tt
 
-  rooms_halt : (found given : Result (OpFinding A) (Halt R)) (old new : Standing) → RoomIsMadeFor found old new given → Halts found → Halts given
+  rooms_halt : (found given : Result (OpFinding A) (Halt R)) (old new : Standing) → RoomIsMadeFor found old new given → Halts found
+      → Halts given
   rooms_halt (Err why) given old new r h = rw r.1 h
   rooms_halt (Ok found) given old new r h = room_halts (has_extension found) found old new given r
 
   weighs_halt : (cell : Cell) (old middle : Standing) (found : Result (OpFinding A) (Halt R))
-      → StepDraws (StepGoes ReadRegister old middle) (λ found. RegisterSays middle (λ register. o.finds cell register found)) found → Halts found
+      → StepDraws (StepGoes ReadRegister old middle) (λ found. RegisterSays middle (λ register. o.finds cell register found)) found
+      → Halts found
   weighs_halt cell old middle =
       let says : Result (OpFinding A) R → Type 0 = λ x. RegisterSays middle (λ register. o.finds cell register x) in
       draws_halt (StepGoes ReadRegister old middle) says (λ (why : R) (s : says (Err why)). finds cell s.register why s.said)
 
-  sight_halts : (seen : Result (Sight A) (Halt R)) (old new : Standing) (given : Result (OpFinding A) (Halt R)) → SightFinds o seen old new given
+  sight_halts : (seen : Result (Sight A) (Halt R)) (old new : Standing) (given : Result (OpFinding A) (Halt R))
+      → SightFinds o seen old new given
       → Halts seen → Halts given
   sight_halts (Err why) old new given f h = rw f.1 h
   sight_halts (Ok (sight.Found found)) old new given f h = rooms_halt (Ok found) given old new f tt
@@ -129,7 +133,8 @@ module _ {A R : Type 0} (o : OpMeaning A R) (Q : R → Type 0) (sees : (bytes : 
   halt_refuses (halt.Refused it) why e h = let same : it ≡ why = cc in subst Q same h
   halt_refuses Lacks why e h = absurd (cc)
 
-  ends_refuse : (found : Result (OpFinding A) (Halt R)) (old new : Standing) (why : R) → FindingEnds o found old new (Refused why) → Halts found
+  ends_refuse : (found : Result (OpFinding A) (Halt R)) (old new : Standing) (why : R) → FindingEnds o found old new (Refused why)
+      → Halts found
       → Q why
   ends_refuse (Err it) old new why e h = halt_refuses it why (sym e.1) h
   ends_refuse (Ok found) old new why e h = absurd (acts_never (acts_for found) (answer_in found) old new (Refused why) why e refl)
@@ -144,7 +149,8 @@ module _ {A R : Type 0} (o : OpMeaning A R) (Q : R → Type 0) (sees : (bytes : 
       let w = f.finds in
       ends_refuse f.found f.middle new why f.ends
       (rooms_halt w.found f.found w.middle f.middle w.rooms (weighs_halt cell old w.middle w.found w.finds))
-  finish_refuses (Changing ready) old new why f = absurd (acts_never (remaining_acts ready.change) ready.answer old new (Refused why) why f refl)
+  finish_refuses (Changing ready) old new why f =
+      absurd (acts_never (remaining_acts ready.change) ready.answer old new (Refused why) why f refl)
 
 -- the room that a call takes is the same under another plan
 

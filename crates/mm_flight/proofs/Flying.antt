@@ -1,6 +1,7 @@
 -- How a call in flight begins, takes in others' values and goes on, and how it ends.
 use Rattle.mm_flight.proofs.Below.{◌≡◌, ℕ, ◌+◌, ◌<◌, Bool, true, false, List, [], ◌∷◌, ◌++◌, Option, Some, refl, sym, ap, ◌∙◌, subst, arith}
-use Rattle.mm_flight.proofs.Below.{option_map, next_count, Meddle, Quiet, Plan, Standing, plan_with_meddle, plan_by, standing_under, PlansAgreeAt, PlanAgreesWith}
+use Rattle.mm_flight.proofs.Below.{option_map, next_count, Meddle, Quiet, Plan, Standing, plan_with_meddle, plan_by, standing_under}
+use Rattle.mm_flight.proofs.Below.{PlansAgreeAt, PlanAgreesWith}
 use Rattle.mm_flight.proofs.Below.{IsCallInFlight}
 use Rattle.std.specs.Prelude.{◌==◌, filter}
 use Rattle.std.proofs.lemmas.Bool.{ne_eqb}
@@ -29,13 +30,15 @@ begins calls rest old on planned whole = record {
 abbrev pub meddled : List Meddle → ℕ → Digest → List Meddle
 meddled meddles step value = meddles ++ record { step = step; value = value } ∷ []
 
-due_more : (n step : ℕ) (meddles : List Meddle) (value : Digest) → (step == n) ≡ false → due_values n (meddled meddles step value) ≡ due_values n meddles
+due_more : (n step : ℕ) (meddles : List Meddle) (value : Digest) → (step == n) ≡ false → due_values n (meddled meddles step value)
+    ≡ due_values n meddles
 due_more n step meddles value other =
     let p : Meddle → Bool = λ m. m.step == n in
     let m : Meddle = record { step = step; value = value } in
     simp (filter-append p meddles (m ∷ []), other, append-nil (filter p meddles))
 
-goes_before : (plan : Plan) (meddles : List Meddle) (made : ℕ) (value : Digest) → PlanAgreesWith plan (meddled meddles (made + 1) value) made
+goes_before : (plan : Plan) (meddles : List Meddle) (made : ℕ) (value : Digest)
+    → PlanAgreesWith plan (meddled meddles (made + 1) value) made
     → PlanAgreesWith plan meddles made
 goes_before plan meddles made value goes = λ n few.
     let same : PlansAgreeAt plan (plan_by Quiet (meddled meddles (made + 1) value)) n = goes n few in record {
@@ -47,7 +50,8 @@ goes_before plan meddles made value goes = λ n few.
 
 pub takes_in : {E : Type 0} (calls rest : Standing → Standing → E
     → Type 0) (old now new : Standing) (meddles : List Meddle) (made : ℕ) (value : Digest) → IsCallInFlight calls rest old now meddles made
-    → new ≡ record now { plan = option_map (plan_with_meddle value) now.plan } → IsCallInFlight calls rest old new (meddled meddles (made + 1) value) made
+    → new ≡ record now { plan = option_map (plan_with_meddle value) now.plan }
+    → IsCallInFlight calls rest old new (meddled meddles (made + 1) value) made
 takes_in calls rest old now new meddles made value f e = record {
   is_on = ap (λ (s : Standing). s.is_on) e ∙ f.is_on;
   planned = ap (λ (s : Standing). s.plan) e ∙ ap (λ (p : Option Plan). option_map (plan_with_meddle value) p) f.planned

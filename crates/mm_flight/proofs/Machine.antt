@@ -1,12 +1,14 @@
 -- A call of the machine in flight: its step under another plan, what it goes on to, and a step that fails.
 use Rattle.mm_flight.proofs.Below.{◌≡◌, ℕ, true, Bool, false, List, Option, None, Some, Result, Ok, Err, refl, ap, subst, sym}
-use Rattle.mm_flight.proofs.Below.{◌∙◌, next_count, StepFault, Meddle, Quiet, Plan, Standing, StepGoes, ReadCell, ReadRegister, cell_after, plan_by, standing_under}
+use Rattle.mm_flight.proofs.Below.{◌∙◌, next_count, StepFault, Meddle, Quiet, Plan, Standing, StepGoes, ReadCell, ReadRegister, cell_after}
+use Rattle.mm_flight.proofs.Below.{plan_by, standing_under}
 use Rattle.mm_seal.specs.declared.cell.Cell.{Cell}
 use Rattle.mm_machine.specs.Acts.{act_in, remaining_acts, change_after}
 use Rattle.mm_machine.specs.OpMeaning.{OpMeaning}
 use Rattle.mm_machine.specs.OpEnds.{OpActs, OpEnds, breaks_off}
 use Rattle.mm_machine.specs.OpReads.{CellSays, StepDraws, OpLooks, RegisterSays, RoomIsMadeIf, RoomIsMadeFor, OpWeighs, has_extension}
-use Rattle.mm_machine.specs.OpSteps.{SightLeads, OpSteps, act_of, ending_by_halt, position_if_last, step_of_finding, step_after_change, step_to}
+use Rattle.mm_machine.specs.OpSteps.{SightLeads, OpSteps, act_of, ending_by_halt, position_if_last, step_of_finding, step_after_change}
+use Rattle.mm_machine.specs.OpSteps.{step_to}
 use Rattle.mm_machine.specs.declared.call.OpResult.{OpResult}
 use Rattle.mm_machine.specs.declared.call.OpResult.TheVariants.{Broken}
 use Rattle.mm_machine.specs.declared.call.OpStage.{OpStage}
@@ -43,7 +45,8 @@ module _ {A R : Type 0} (p : Plan) (at : ℕ) (old new : Standing) where
   room_under true found (Ok it) r = (record { room = r.0.room; same = ap (standing_under p at) r.0.same }, r.1)
   room_under true found (Err why) r = (ap (standing_under p at) r.0, r.1)
 
-  rooms_under : (found given : Result (OpFinding A) (Halt R)) → RoomIsMadeFor found old new given → RoomIsMadeFor found (standing_under p at old) (standing_under p at new) given
+  rooms_under : (found given : Result (OpFinding A) (Halt R)) → RoomIsMadeFor found old new given
+      → RoomIsMadeFor found (standing_under p at old) (standing_under p at new) given
   rooms_under (Err why) given r = (ap (standing_under p at) r.0, r.1)
   rooms_under (Ok found) given r = room_under (has_extension found) found given r
 
@@ -64,14 +67,16 @@ module _ {A R : Type 0} (o : OpMeaning A R) (p q : Plan) (made : ℕ) (old : Sta
   looks_under : (new : Standing) (seen : Result (Sight A) (Halt R)) → OpLooks o old new seen → OpLooks o begun (then new) seen
   looks_under new =
       draws_under {later = λ seen. CellSays begun (λ bytes. o.sees bytes seen)} (λ fault g. replanned ReadCell p q made old new fault r g)
-      (λ (seen : Result (Sight A) R) (s : CellSays old (λ bytes. o.sees bytes seen)). record { bytes = s.bytes; told = s.told; said = s.said })
+      (λ (seen : Result (Sight A) R) (s : CellSays old (λ bytes. o.sees bytes seen)). record { bytes = s.bytes; told = s.told; said =
+      s.said })
 
   weighs_under : (cell : Cell) (new : Standing) (given : Result (OpFinding A) (Halt R)) → OpWeighs o cell old new given
       → OpWeighs o cell begun (then new) given
   weighs_under cell new =
       draws_under {later = λ given. RegisterSays (then new) (λ register. o.finds cell register given)}
       (λ fault g. replanned ReadRegister p q made old new fault r g)
-      (λ (given : Result (OpFinding A) R) (s : RegisterSays new (λ register. o.finds cell register given)). record { register = s.register; told = s.told; size = s.size; said = s.said })
+      (λ (given : Result (OpFinding A) R) (s : RegisterSays new (λ register. o.finds cell register given)). record { register = s.register;
+      told = s.told; size = s.size; said = s.said })
 
   pub steps_under : (stage : OpStage A) (new : Standing) (step : StepResult A R) → OpSteps o stage old new step
       → OpSteps o stage begun (then new) step
@@ -114,14 +119,17 @@ module _ {A R : Type 0} where
 
   -- what is found leads to no fault of its own
   room_acts : (flag : Bool) (stage : OpStage A) (found : OpFinding A) (old middle new : Standing) (given : Result (OpFinding A) (Halt R))
-      (step : StepResult A R) → StepGoes (act_of stage) old middle None → RoomIsMadeIf flag found middle new given → step ≡ step_of_finding given
+      (step : StepResult A R) → StepGoes (act_of stage) old middle None → RoomIsMadeIf flag found middle new given
+      → step ≡ step_of_finding given
       → ActsAt stage old new step
   room_acts false stage (Repeat answer) old middle new given step g r e =
       acts_by stage (step_of_finding (Ok (Repeat answer))) (e ∙ ap step_of_finding r.1) g (same_room r.0)
   room_acts false stage (Change ready) old middle new given step g r e =
       acts_by stage (step_of_finding (Ok (Change ready))) (e ∙ ap step_of_finding r.1) g (same_room r.0)
-  room_acts true stage found old middle new (Ok (Repeat answer)) step g r e = acts_by stage (step_of_finding (Ok (Repeat answer))) e g r.0.same
-  room_acts true stage found old middle new (Ok (Change ready)) step g r e = acts_by stage (step_of_finding (Ok (Change ready))) e g r.0.same
+  room_acts true stage found old middle new (Ok (Repeat answer)) step g r e =
+      acts_by stage (step_of_finding (Ok (Repeat answer))) e g r.0.same
+  room_acts true stage found old middle new (Ok (Change ready)) step g r e =
+      acts_by stage (step_of_finding (Ok (Change ready))) e g r.0.same
   room_acts true stage found old middle new (Err why) step g r e =
       acts_by stage (step_of_finding (Err Lacks)) (e ∙ ap (λ (x : Halt R). step_of_finding (Err x)) r.1) g (same_room r.0)
 
@@ -136,7 +144,8 @@ module _ {A R : Type 0} where
     looks_acts (Ok (sight.Cell cell)) old middle new step l s = acts_by Begun (Going (Seen cell)) s.1 l.0 (same_room s.0)
 
     weighs_acts : (cell : Cell) (found given : Result (OpFinding A) (Halt R)) (old middle new : Standing) (step : StepResult A R)
-        → OpWeighs o cell old middle found → RoomIsMadeFor found middle new given → step ≡ step_of_finding given → ActsAt (Seen cell) old new step
+        → OpWeighs o cell old middle found → RoomIsMadeFor found middle new given → step ≡ step_of_finding given
+        → ActsAt (Seen cell) old new step
     weighs_acts cell (Err (Fault fault)) given old middle new step w r e =
         acts_by (Seen cell) (Over (ending_by_halt (Fault fault))) (e ∙ ap step_of_finding r.1) w (same_room r.0)
     weighs_acts cell (Err (Refused why)) given old middle new step w r e =
@@ -156,14 +165,16 @@ module _ {A R : Type 0} where
         (subst (StepGoes (act_in ready.change) old new) (sym (made_fault (change_after ready.change) ready.answer)) g) refl
     change_acts ready (Some fault) old new step g e = acts_by (Changing ready) (step_after_change o ready (Some fault)) e g refl
 
-    pub steps_act : (stage : OpStage A) (old new : Standing) (step : StepResult A R) → OpSteps o stage old new step → ActsAt stage old new step
+    pub steps_act : (stage : OpStage A) (old new : Standing) (step : StepResult A R) → OpSteps o stage old new step
+        → ActsAt stage old new step
     steps_act Begun old new step s = looks_acts s.seen old s.middle new step s.looks s.leads
     steps_act (Seen cell) old new step s =
         weighs_acts cell s.finds.found s.found old s.finds.middle new step s.finds.finds s.finds.rooms s.gives
     steps_act (Changing ready) old new step s = change_acts ready s.fault old new step s.goes s.gives
 
     -- no fault comes where none is planned
-    pub steps_faultless : (stage : OpStage A) (old new : Standing) (step : StepResult A R) (meddles : List Meddle) (made : ℕ) → old.is_on ≡ true
+    pub steps_faultless : (stage : OpStage A) (old new : Standing) (step : StepResult A R) (meddles : List Meddle) (made : ℕ)
+        → old.is_on ≡ true
         → old.plan ≡ Some (record (plan_by Quiet meddles) { at = made }) → OpSteps o stage old new step → fault_of_step step ≡ None
     steps_faultless stage old new step meddles made on planned s =
         let a = steps_act stage old new step s in

@@ -1,6 +1,8 @@
 -- A device step that goes as its plan says goes so under each plan that says the same of it.
-use Rattle.mm_flight.proofs.Below.{◌≡◌, ℕ, ◌+◌, ◌<◌, true, Bool, List, Option, None, Some, refl, ap, ◌∙◌, subst, arith, next_count, StepFault}
-use Rattle.mm_flight.proofs.Below.{Meddle, Quiet, Plan, Standing, Act, StepGoes, DeviceStepEnds, StepGoesByPlan, fault_by_plan, plan_by, standing_under, PlansAgreeAt}
+use Rattle.mm_flight.proofs.Below.{◌≡◌, ℕ, ◌+◌, ◌<◌, true, Bool, List, Option, None, Some, refl, ap, ◌∙◌, subst, arith, next_count}
+use Rattle.mm_flight.proofs.Below.{StepFault}
+use Rattle.mm_flight.proofs.Below.{Meddle, Quiet, Plan, Standing, Act, StepGoes, DeviceStepEnds, StepGoesByPlan, fault_by_plan, plan_by}
+use Rattle.mm_flight.proofs.Below.{standing_under, PlansAgreeAt}
 use Rattle.mm_platform.specs.declared.fault.StepFault.TheVariants.{Failed, Off}
 
 pub counted_few : (made : ℕ) → made < 255 → next_count made ≡ made + 1
@@ -48,7 +50,8 @@ replanned act p q made now new fault r g =
       ends = ends_under fault p made now new g.is_made g.ends;
       told = λ (plan : Plan) (known : Some (record p { at = made }) ≡ Some plan).
           let same : record p { at = made } ≡ plan = cc in
-          subst (λ (x : Plan). StepGoesByPlan x (standing_under p made now) (standing_under p (next_count made) new) g.is_made g.others fault) same told;
+          subst (λ (x : Plan). StepGoesByPlan x (standing_under p made now) (standing_under p (next_count made) new) g.is_made g.others
+              fault) same told;
     }
 
 -- A device step that didn't fail and wrote no cell, and room that may have been made behind it.

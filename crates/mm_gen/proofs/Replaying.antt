@@ -3,7 +3,8 @@ use Rattle.mm_gen.proofs.Below.{◌≡◌, ◌∙◌, ◌≤◌, ◌+◌, ℕ, B
 use Rattle.mm_gen.proofs.Below.{sym, ap, arith, lit≤, IfOk, AllByRecursion, nat_tests, recursion_from_All, longest_line}
 use Rattle.mm_gen.proofs.Below.{most_events, Variant, Basic, Opt, name_of, any_is_found, Header, Event, event_at, header_text}
 use Rattle.mm_gen.proofs.Below.{variant_text, header-read, spelled_is_read, IsEventLine, schedule_lines, outcome_by_digests}
-use Rattle.mm_gen.proofs.Below.{world_of, RunningReplay, ReplayStage, stage_among_events, header_stage, running_replay_after, first_running_replay, is_too_much, running_outcome}
+use Rattle.mm_gen.proofs.Below.{world_of, RunningReplay, ReplayStage, stage_among_events, header_stage, running_replay_after}
+use Rattle.mm_gen.proofs.Below.{first_running_replay, is_too_much, running_outcome}
 use Rattle.mm_gen.proofs.Below.{schedule_answer, schedule_closing, text_of_replies, IsLimited, is_over, SumsUp, BulkFault, Memory}
 use Rattle.mm_gen.proofs.Below.{TooMuch, Summary}
 use Rattle.std.proofs.Common.{nat_lt, length-append}
@@ -42,7 +43,8 @@ abbrev ComesTo : ℕ → RunningReplay → List (List ℕ) → List Event → Bo
 ComesTo number r lines events true = (lines_run number r lines).outcome ≡ Err fault.TooMuch
 ComesTo number r lines events false = AreAnswered number r lines events
 
-line_comes : (number : ℕ) (r : RunningReplay) (line : List ℕ) (lines : List (List ℕ)) (event : Event) (events : List Event) (much over : Bool)
+line_comes : (number : ℕ) (r : RunningReplay) (line : List ℕ) (lines : List (List ℕ)) (event : Event) (events : List Event)
+    (much over : Bool)
     → is_too_much r line ≡ much → length line ≤ longest_line → event_at line ≡ Some event
     → ComesTo (number + 1) (running_replay_after r line event) lines events over
     → ComesTo number r (line ∷ lines) (event ∷ events) (much || over)
@@ -64,7 +66,8 @@ comes_to (line ∷ lines) are number r =
     let read = spelled_is_read line event are.0.spelled in
     let over : (is_too_much r line || is_over (running_replay_after r line event) lines) ≡ is_over r (line ∷ lines) = rw read refl in
     subst (ComesTo number r (line ∷ lines) (event ∷ events_of lines are.1)) over
-    (line_comes number r line lines event (events_of lines are.1) (is_too_much r line) (is_over (running_replay_after r line event) lines) refl
+    (line_comes number r line lines event (events_of lines are.1) (is_too_much r line) (is_over (running_replay_after r line event) lines)
+    refl
     are.0.short read (comes_to lines are.1 (number + 1) (running_replay_after r line event)))
 
 same_events : (xs ys : List Event) → map Some xs ≡ map Some ys → xs ≡ ys
@@ -89,7 +92,8 @@ module _ (header : Header) where
         (any_is_found header.module).short,
       )
 
-  headed : (lines : List (List ℕ)) → outcome_of_lines schedule_answer 1 header_stage (header_text header ∷ lines) ≡ lines_run 2 (first_running_replay header)
+  headed : (lines : List (List ℕ)) → outcome_of_lines schedule_answer 1 header_stage (header_text header ∷ lines)
+      ≡ lines_run 2 (first_running_replay header)
       lines
   headed lines = rw (fits (header_text header) header_short, header-read (header_text header) header refl) refl
 
@@ -100,7 +104,8 @@ abbrev ends : Header → List (List ℕ) → ReplayStage → PlayOutcome ReplayS
 ends header lines = outcome_of_tail schedule_closing (1 + length (header_text header ∷ lines)) []
 
 module _ (number count : ℕ) where
-  whole : (header : Header) → count ≤ most_events → replay_of number count header ≡ outcome_of_both (lines_run 2 (first_running_replay header)
+  whole : (header : Header) → count ≤ most_events → replay_of number count header
+      ≡ outcome_of_both (lines_run 2 (first_running_replay header)
       (schedule_lines number count header)) (ends header (schedule_lines number count header))
   whole header few =
       let is = is_schedule number count header few in rw (is.lines, is.ends, headed header (schedule_lines number count header)) refl
@@ -117,7 +122,8 @@ module _ (number count : ℕ) where
       subst (ComesTo 2 (first_running_replay header) lines (events_of lines are)) is (comes_to lines are 2 (first_running_replay header))
 
   replayed_ok : (header : Header) (summary : Summary) → count ≤ most_events → SumsUp header (schedule_lines number count header) summary
-      → is_over (first_running_replay header) (schedule_lines number count header) ≡ false → IsReplayed (replay_of number count header) (Ok summary)
+      → is_over (first_running_replay header) (schedule_lines number count header) ≡ false
+      → IsReplayed (replay_of number count header) (Ok summary)
   replayed_ok header summary few sums over =
       let lines : List (List ℕ) = schedule_lines number count header in
       let are = recursion_from_All IsEventLine lines (is_schedule number count header few).events in
@@ -134,7 +140,8 @@ module _ (number count : ℕ) where
   -- what a run of a schedule comes to is what a replay of its text does
   pub replayed : (header : Header) (result : Result Summary BulkFault) → count ≤ most_events
       → IfOk result (SumsUp header (schedule_lines number count header))
-      → IsLimited (is_over (first_running_replay header) (schedule_lines number count header)) result → IsReplayed (replay_of number count header) result
+      → IsLimited (is_over (first_running_replay header) (schedule_lines number count header)) result
+      → IsReplayed (replay_of number count header) result
   replayed header (Ok summary) few sums limit = replayed_ok header summary few sums limit
   replayed header (Err TooMuch) few sums limit =
       let stopped = lines_come header few true limit in

@@ -3,7 +3,8 @@ use Rattle.mm_gen.proofs.Below.{◌≡◌, ◌≢◌, ◌<◌, ◌≤◌, ◌∙
 use Rattle.mm_gen.proofs.Below.{arith, append_assoc, append-nil, Option, None, is_some, nat_lt, AllByRecursion, fold, position}
 use Rattle.mm_gen.proofs.Below.{position_or_len, ne_eqb, nat_tests, length-append, recursion_from_All, sha256, IsUnbroken, joined_lines}
 use Rattle.mm_gen.proofs.Below.{longest_line, most_events, Header, Event, event_at, header_text, end_line, spelled_is_read, IsEventLine}
-use Rattle.mm_gen.proofs.Below.{schedule_lines, schedule_text, RunOutcome, outcome_of_events, outcome_by_digests, world_of, RunningReplay, running_replay_after}
+use Rattle.mm_gen.proofs.Below.{schedule_lines, schedule_text, RunOutcome, outcome_of_events, outcome_by_digests, world_of, RunningReplay}
+use Rattle.mm_gen.proofs.Below.{running_replay_after}
 use Rattle.mm_gen.proofs.Below.{first_running_replay, is_too_much, running_outcome, text_of_replies, IsLimited, is_over, is_break, SumsUp}
 use Rattle.mm_gen.proofs.Below.{BulkFault, Memory, TooMuch, Summary}
 use Rattle.std.specs.Prelude.{Some, Err}
@@ -90,7 +91,8 @@ so_far r counts text = record {
 }
 
 -- an event line that is answered next
-pub record Next (lines : List (List ℕ)) (rest : List ℕ) (r : RunningReplay) (counts : ReplyCounts) (text line behind : List ℕ) : Type 0 where
+pub record Next (lines : List (List ℕ)) (rest : List ℕ) (r : RunningReplay) (counts : ReplyCounts)
+    (text line behind : List ℕ) : Type 0 where
   pub less : length behind < length rest
   pub header : (reply : Reply) (new : RunningReplay) → RunsLine r new line reply → new.header ≡ r.header
   pub short : length line ≤ longest_line
@@ -118,7 +120,8 @@ module _ (lines : List (List ℕ)) where
       (are : AllByRecursion IsEventLine (line ∷ more)) → event_at line ≡ Some are.0.event → is_too_much r line ≡ false
       → GoingWith lines rest r counts text (line ∷ more) are
       → (let said : Reply = (running_outcome r are.0.event).reply in
-      Going lines (joined_lines more) (running_replay_after r line are.0.event) (counts_after_reply counts said) (text ++ text_of_replies said))
+      Going lines (joined_lines more) (running_replay_after r line are.0.event) (counts_after_reply counts said)
+      (text ++ text_of_replies said))
   answered_on more line rest r counts text are is room going =
       let event : Event = are.0.event in
       let said : Reply = (running_outcome r event).reply in
@@ -175,7 +178,8 @@ module _ (lines : List (List ℕ)) where
       → (is_over (first_running_replay r.header) lines ≡ false) × SumsUp r.header lines (so_far r counts text)
   ended_at [] are rest r counts text going none =
       let rests = going.rests in
-      let written : text ≡ flat_map text_of_replies (outcome_by_digests (world_of r.header) going.all).replies = sym (append-nil text) ∙ rests.replies in
+      let written : text ≡ flat_map text_of_replies (outcome_by_digests (world_of r.header) going.all).replies = sym (append-nil text)
+          ∙ rests.replies in
       let numbered = rests.counted in let state = rests.state in let issued = rests.issued in (
         sym going.over,
         record { events = going.all; read = going.whole; told = rw (sym state, sym issued, sym numbered, sym written) refl },
@@ -199,7 +203,8 @@ module _ (lines : List (List ℕ)) where
   stops rest r counts text line behind header Memory step same limit = tt
 
   -- a summary by its parts
-  pub ended : (rest : List ℕ) (r : RunningReplay) (counts : ReplyCounts) (text : List ℕ) (header : Header) (committed issued : ℕ) (digest : Digest)
+  pub ended : (rest : List ℕ) (r : RunningReplay) (counts : ReplyCounts) (text : List ℕ) (header : Header) (committed issued : ℕ)
+      (digest : Digest)
       → Going lines rest r counts text → line_at rest ≡ None → r.header ≡ header → committed ≡ r.digests.count → issued ≡ length r.issued
       → digest.bytes ≡ sha256 (text ++ end_line r.digests.count (length r.issued))
       → SumsUp header lines (record { counts = counts; committed = committed; issued = issued; replies = digest })
@@ -219,7 +224,8 @@ pub behind_first : (number count : ℕ) (header : Header)
 behind_first number count header =
     line_again (header_text header) (joined_lines (schedule_lines number count header)) (header-unbroken header)
 
-pub starts : (number count : ℕ) (header : Header) (rest : List ℕ) (r : RunningReplay) (counts : ReplyCounts) (text : List ℕ) → count ≤ most_events
+pub starts : (number count : ℕ) (header : Header) (rest : List ℕ) (r : RunningReplay) (counts : ReplyCounts) (text : List ℕ)
+    → count ≤ most_events
     → rest ≡ joined_lines (schedule_lines number count header) → r ≡ first_running_replay header → counts ≡ no_counts → text ≡ []
     → Going (schedule_lines number count header) rest r counts text
 starts number count header rest r counts text few one two three four =
@@ -239,7 +245,8 @@ starts number count header rest r counts text few one two three four =
     })
 
 -- a line more, by what stands behind it
-pub goes_on : (lines : List (List ℕ)) (rest : List ℕ) (r new : RunningReplay) (counts more : ReplyCounts) (text written line behind : List ℕ)
+pub goes_on : (lines : List (List ℕ)) (rest : List ℕ) (r new : RunningReplay) (counts more : ReplyCounts)
+    (text written line behind : List ℕ)
     (reply : Reply) → Next lines rest r counts text line behind → RunsLine r new line reply → more ≡ counts_after_reply counts reply
     → written ≡ text ++ text_of_replies reply → Going lines behind new more written
 goes_on lines rest r new counts more text written line behind reply step answered one two = rw (one, two) (step.on reply new answered)

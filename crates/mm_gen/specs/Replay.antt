@@ -13,7 +13,8 @@ use Rattle.mm_gen.specs.declared.summary.Summary.{Summary}
 -- a replay of the text of a generated schedule
 abbrev pub replay_of : ℕ → ℕ → Header → PlayOutcome ReplayStage
 replay_of number count header =
-    outcome_of_input schedule_answer schedule_closing header_stage (schedule_text number count header)
+    outcome_of_input schedule_answer schedule_closing header_stage
+    (schedule_text number count header)
 
 -- The replay comes to its end, and the digest is that of all bytes that it writes; or it is too
 -- much too.

@@ -34,7 +34,8 @@ use std::alloc::Global;
 pub fn bulk(alloc: Global, number: u64, count: u32, header: &Header) -> Result<Summary, BulkFault>
     requires count { count ≤ most_events }
     ensures sums { IfOk result (SumsUp header.now (schedule_lines number count header.now)) }
-    ensures limit { IsLimited (is_over (first_running_replay header.now) (schedule_lines number count header.now))
+    ensures limit { IsLimited
+        (is_over (first_running_replay header.now) (schedule_lines number count header.now))
         result }
     ensures replayed { IsReplayed (replay_of number count header.now) result }
 {
@@ -50,7 +51,8 @@ fn run_schedule(
 ) -> Result<Summary, BulkFault>
     requires count { count ≤ most_events }
     ensures sums { IfOk result (SumsUp header.now (schedule_lines number count header.now)) }
-    ensures limit { IsLimited (is_over (first_running_replay header.now) (schedule_lines number count header.now))
+    ensures limit { IsLimited
+        (is_over (first_running_replay header.now) (schedule_lines number count header.now))
         result }
 {
     let schedule = gen_(alloc, number, count, header)?;
@@ -89,7 +91,8 @@ fn behind_header(text: &[u8]) -> &[u8]
 fn answered(alloc: Global, line: &[u8], progress: &mut ReplayProgress) -> Result<Reply, BulkFault>
     requires short { length line.now ≤ longest_line }
     requires known { is_some (event_at line.now) ≡ true }
-    ensures reply { IfOk result (RunsLine (running_replay progress.old) (running_replay progress.new) line.now) }
+    ensures reply { IfOk result
+        (RunsLine (running_replay progress.old) (running_replay progress.new) line.now) }
     ensures printable { IfOk result IsPrintable }
     ensures limit { result ≡ Err BulkFault.TooMuch
         → is_too_much (running_replay progress.old) line.now ≡ true }

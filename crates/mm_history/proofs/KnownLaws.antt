@@ -19,7 +19,8 @@ use Rattle.mm_model.specs.Instance.{Instance}
 use Rattle.mm_model.specs.HistoryWords.{cell_digest_of}
 use Rattle.mm_history.specs.Waymarks.{EndsWithCurrent}
 use Rattle.mm_history.proofs.PlaceLaws.{last_are}
-use Rattle.mm_history.proofs.Below.{RegisterEntry, anchored_digest_of, append_assoc, has_value, has_value-append, items_of_all, joined-push, not, values_of}
+use Rattle.mm_history.proofs.Below.{RegisterEntry, anchored_digest_of, append_assoc, has_value, has_value-append, items_of_all, joined-push}
+use Rattle.mm_history.proofs.Below.{not, values_of}
 use Rattle.mm_model.specs.PlacesWords.{digest_of}
 use Rattle.mm_history.proofs.Below.{Decides-ltb}
 use Rattle.std.proofs.lemmas.Bool.{and_parts}
@@ -47,7 +48,8 @@ short_decides n x s lt = same_tests (bytes_eq x (take n s)) (bytes_eq x s)
 -- behind no batch left out the register is zero
 pub none_known : (barrier : List ℕ) (named : List KeptBatch) → zero_bytes
     ≡ register_of (own_values barrier (drop (length named) (kept_batches named)))
-none_known barrier named = sym (ap (λ (n : ℕ). register_of (own_values barrier (drop n (kept_batches named)))) (sym (length-map named kept_batch))
+none_known barrier named =
+    sym (ap (λ (n : ℕ). register_of (own_values barrier (drop n (kept_batches named)))) (sym (length-map named kept_batch))
     ∙ ap (λ (bs : List Batch). register_of (own_values barrier bs)) (drop-length (kept_batches named)) ∙ reads_zero)
 
 -- no batch ends inside another
@@ -55,7 +57,8 @@ absent_inside : (front : List Batch) (b : Batch) (rest : List Batch) (position :
     → position < total_of front + size_of b → first_with position (front ++ b ∷ rest) ≡ None
 absent_inside [] b rest position lt gt =
     let some : (position == 0) ≡ false = ne_eqb position 0 (λ none. absurd (omega (arith, none, lt))) in
-    let over : nat_le (size_of b) position ≡ false = elim (nat_le (size_of b) position) as (λ t. nat_le (size_of b) position ≡ t → t ≡ false) [
+    let over : nat_le (size_of b) position ≡ false = elim (nat_le (size_of b) position) as (λ t. nat_le (size_of b) position ≡ t
+        → t ≡ false) [
       | true ↦ λ t. let fits = (le-Decides (size_of b) position).0 t in absurd (omega (arith, fits, gt))
       | false ↦ λ t. refl
     ] refl in
@@ -67,7 +70,8 @@ absent_inside (c ∷ front) b rest position lt gt =
     rw (some, fits, absent_inside front b rest (position - size_of c) (omega (arith, cons, lt)) (omega (arith, cons, lt, gt))) refl
 
 absent_behind : (batches : List Batch) (position : ℕ) → total_of batches < position → first_with position batches ≡ None
-absent_behind [] position lt = let some : (position == 0) ≡ false = ne_eqb position 0 (λ none. absurd (omega (arith, none, lt))) in rw some refl
+absent_behind [] position lt = let some : (position == 0) ≡ false = ne_eqb position 0 (λ none. absurd (omega (arith, none, lt))) in
+    rw some refl
 absent_behind (c ∷ batches) position lt =
     let cons = total-cons c batches in
     let some : (position == 0) ≡ false = ne_eqb position 0 (λ none. absurd (omega (arith, none, lt))) in
@@ -87,7 +91,8 @@ digest_kept Basic i y m start v e last = ap (λ (n : HistoryMarks). n.cell.bytes
 digest_kept Opt i y m start v e last = ap (λ (n : HistoryMarks). n.own.bytes) e
     ∙ ap (λ (bs : List Batch). register_of (own_values i.barrier bs)) (sym (last refl))
 
-pub kept_mark : (i : Instance) (y : History) (variant : Variant) (m : HistoryMarks) (mark : Waymark) (bs cs : List KeptBatch) {state : List ℕ}
+pub kept_mark : (i : Instance) (y : History) (variant : Variant) (m : HistoryMarks) (mark : Waymark)
+    (bs cs : List KeptBatch) {state : List ℕ}
     → variant ≡ i.variant → m ≡ marks_of i y → state ≡ state_after i.meaning (requests_of y.batches)
     → (i.variant ≡ Opt → EndsWithCurrent y) → kept_batches bs ≡ y.batches → kept_batches cs ≡ y.current → mark.count ≡ length bs
     → mark.position ≡ m.total → mark.digest ≡ digest_in variant m → mark.start ≡ length bs - length cs
@@ -129,7 +134,8 @@ module _ {variant : Variant} {meaning : Meaning} {barrier : List ℕ} {batches :
 
 -- What a stage shows.
 
-pub stage_found : (id : ℕ) (barrier : List ℕ) (before later : List (List RegisterEntry)) (items : List RegisterEntry) (stages : List SegmentStart) (n : ℕ)
+pub stage_found : (id : ℕ) (barrier : List ℕ) (before later : List (List RegisterEntry)) (items : List RegisterEntry)
+    (stages : List SegmentStart) (n : ℕ)
     (stage : SegmentStart) → slice_get stages n ≡ Some stage → stage.count ≡ length before + 1
     → AllByRecursion (IsStage id barrier (before ++ items ∷ later)) stages → stage ≡ stage_at id barrier (before ++ items ∷ [])
 stage_found id barrier before later items stages n stage found counts are =
@@ -139,7 +145,8 @@ stage_found id barrier before later items stages n stage found counts are =
     let same = (same_halves (before ++ items ∷ []) s.before later s.later size (append_assoc before (items ∷ []) later ∙ s.split)).0 in
     s.is ∙ ap (stage_at id barrier) (sym same)
 
-pub stage_made : (id : ℕ) (barrier : List ℕ) (before : List (List RegisterEntry)) (es : List RegisterEntry) {count : ℕ} {here : SegmentStart} {anchor : Digest}
+pub stage_made : (id : ℕ) (barrier : List ℕ) (before : List (List RegisterEntry)) (es : List RegisterEntry) {count : ℕ}
+    {here : SegmentStart} {anchor : Digest}
     {register : List ℕ} {marred clean : Bool} → here ≡ stage_at id barrier before → count ≡ length before + 1
     → register ≡ register_of (values_of barrier es) → anchor.bytes ≡ anchored_digest_of here.anchor.bytes register → marred ≡ has_value es
     → clean ≡ (here.is_clean && not marred)
@@ -170,7 +177,8 @@ nowhere variant meaning barrier {batches} marks bs {position} all are between =
     let P = IsWaymark variant meaning barrier batches in
     let m = each_found P marks between.at between.before are between.among in
     let parts : kept_batches bs ≡ m.front ++ m.rest = all ∙ m.split in
-    let counts : length bs ≡ length m.front + length m.rest = sym (length-map bs kept_batch) ∙ ap length parts ∙ length-append m.front m.rest in
+    let counts : length bs ≡ length m.front + length m.rest = sym (length-map bs kept_batch) ∙ ap length parts
+        ∙ length-append m.front m.rest in
     elim between.shown [
       | inl last ↦
           let both = and_parts (between.before.count == length bs) (nat_lt between.before.position position) last in

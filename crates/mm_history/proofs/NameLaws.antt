@@ -43,8 +43,10 @@ module _ (i : Instance) (y : History) (named : List Batch) (a e : List ℕ) wher
       (IsAt before ⊎ (IsBehind (length (items_of_all before)) before × IsWithin before segment rest)) ⊎ Places (before ++ segment ∷ []) rest
 
   at-Decides : (before : List (List RegisterEntry))
-      → Decides (is_at (not (has_value (items_of_all before))) (anchor_after i before) (length (items_of_all before)) named a e) (IsAt before)
-  at-Decides before = Decides-like (is_at (not (has_value (items_of_all before))) (anchor_after i before) (length (items_of_all before)) named a e)
+      → Decides (is_at (not (has_value (items_of_all before))) (anchor_after i before) (length (items_of_all before)) named a e)
+      (IsAt before)
+  at-Decides before = Decides-like (is_at (not (has_value (items_of_all before))) (anchor_after i before)
+      (length (items_of_all before)) named a e)
       (λ (p : ((has_value (items_of_all before) ≡ false) × (length named ≡ length (items_of_all before)))
       × ((a ≡ anchor_after i before) × (e ≡ zero_bytes))). record { clean = p.0.0; counted = p.0.1; anchor = p.1.0; extension = p.1.1 })
       (λ (p : IsAt before). ((p.clean, p.counted), (p.anchor, p.extension)))
@@ -98,7 +100,8 @@ module _ (i : Instance) (y : History) (named : List Batch) (a e : List ℕ) wher
     extension_is = p.extension;
   })
 
-  point_closed : (before : List (List RegisterEntry)) (segment : List RegisterEntry) (rest : List (List RegisterEntry)) → y.closed ≡ before ++ segment ∷ rest
+  point_closed : (before : List (List RegisterEntry)) (segment : List RegisterEntry) (rest : List (List RegisterEntry)) → y.closed ≡ before
+      ++ segment ∷ rest
       → IsBehind (length (items_of_all before)) before → IsWithin before segment rest → IsPoint i y named a e
   point_closed before segment rest is p within =
       let start : ℕ = length (items_of_all before) in
@@ -222,7 +225,8 @@ place-Decides Opt i y named rest (InOpt a e) first = point-Decides i y named a.b
 place-Decides _ i y named rest place first = (λ t. absurd (cc), λ p. absurd p)
 
 -- the first batches that are found, where another content of the same position names them
-pub first_beside : (i : Instance) (y : History) (content other : Content) → content.position ≡ other.position → (n : NamesPosition i y other)
+pub first_beside : (i : Instance) (y : History) (content other : Content) → content.position ≡ other.position
+    → (n : NamesPosition i y other)
     → first_with content.position y.batches ≡ Some n.named
 first_beside i y content other same n =
     (λ j. first_with ((same ∙ n.position) j) (n.first j)) ∙ first_is n.named n.rest
@@ -247,7 +251,8 @@ names-Decides i y content (Some named) e =
     )
 
 -- by what the test gave
-pub named_by : (i : Instance) (y : History) (content : Content) (r : Bool) → r ≡ is_named i y content → IsDecided r (NamesPosition i y content)
+pub named_by : (i : Instance) (y : History) (content : Content) (r : Bool) → r ≡ is_named i y content
+    → IsDecided r (NamesPosition i y content)
 named_by i y content r e =
     let whole = names-Decides i y content (first_with content.position y.batches) refl in
     subst (λ (t : Bool). IsDecided t (NamesPosition i y content)) (sym e) (decided (is_named i y content) whole)

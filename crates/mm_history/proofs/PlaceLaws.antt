@@ -69,7 +69,8 @@ module _ (id : ℕ) (barrier : List ℕ) (y : History) (named : List Batch) (a e
   -- behind more entries than there are named batches, only the open segment is left
   past : (before rest : List (List RegisterEntry)) → length named < length (items_of_all before)
       → is_inside_at barrier (anchor_at id barrier y.closed) y named a e ≡ some_place id barrier y named a e before rest
-  past before [] lt = rw (not_at (anchor_at id barrier before) (length (items_of_all before)) (not (has_value (items_of_all before))) lt) refl
+  past before [] lt = rw (not_at (anchor_at id barrier before) (length (items_of_all before)) (not (has_value (items_of_all before))) lt)
+      refl
   past before (segment ∷ rest) lt =
       rw (
         not_at (anchor_at id barrier before) (length (items_of_all before)) (not (has_value (items_of_all before))) lt,
@@ -100,7 +101,8 @@ module _ {A : Type 0} {id : ℕ} {barrier : List ℕ} {y : History} {a e : List 
     (l : k < length closed) (is : segment ≡ get_or closed k segment)
     (w : Walked id barrier y named a e closed k here entries later) (sized : size ≡ length segment.items)
     (clear : shut ≡ is_empty y.current) (ended : ends ≡ ((later - 1 == 0) && shut))
-    (test : tested ≡ is_here here.is_clean barrier here.anchor.bytes entries (kept_batches named) size ends a e) (not_here : tested ≡ false) where
+    (test : tested ≡ is_here here.is_clean barrier here.anchor.bytes entries (kept_batches named) size ends a e)
+    (not_here : tested ≡ false) where
   abbrev before : List (List RegisterEntry)
   before = kept_segments (take k closed)
 
@@ -124,7 +126,8 @@ module _ {A : Type 0} {id : ℕ} {barrier : List ℕ} {y : History} {a e : List 
       let x = cut in
       let last : ends ≡ (is_empty rest && is_empty y.current) = ended ∙ ap (λ (b : Bool). (later - 1 == 0) && b) clear
       ∙ ap (λ (b : Bool). b && is_empty y.current) (is_empty_by rest (later - 1) (omega (arith, x.left))) in
-      test ∙ (λ j. is_here (x.here_is j).is_clean barrier (x.here_is j).anchor.bytes (x.entries_is j) (kept_batches named) (sizes j) (last j) a e)
+      test ∙ (λ j. is_here (x.here_is j).is_clean barrier (x.here_is j).anchor.bytes (x.entries_is j) (kept_batches named)
+      (sizes j) (last j) a e)
 
   on_then : some_place id barrier y (kept_batches named) a e (before ++ items ∷ []) rest
       ≡ some_place id barrier y (kept_batches named) a e [] (kept_segments closed)

@@ -2,7 +2,8 @@
 use Rattle.mm_history.proofs.Below.{◌≡◌, ◌≢◌, ℕ, zero, suc, ◌+◌, ◌<◌, Bool, true, false, ◌||◌, List, [], ◌∷◌, ◌++◌, length, map, take, drop}
 use Rattle.mm_history.proofs.Below.{get_or, Some, refl, sym, ap, ◌∙◌, arith, Vec, not, nat_lt, bytes_eq, list_any, option_map, or_parts}
 use Rattle.mm_history.proofs.Below.{or_from, Decides-ltb, append-nil, map-append, take-map, drop_more, length-map, Batch}
-use Rattle.mm_history.proofs.Below.{members_of, Meaning, state_after, state_after-append, anchored_digest_of, register_of, own_values, RegisterEntry}
+use Rattle.mm_history.proofs.Below.{members_of, Meaning, state_after, state_after-append, anchored_digest_of, register_of, own_values}
+use Rattle.mm_history.proofs.Below.{RegisterEntry}
 use Rattle.mm_history.proofs.Below.{requests_of, values_of, is_long, KeptBatch, KeptEntry, kept_batch, kept_batches, kept_entries}
 use Rattle.mm_history.proofs.Below.{kept_segments, first_with, same_batches, anchor_at, is_behind}
 use Rattle.std.specs.Prelude.{◌&&◌}
@@ -90,6 +91,7 @@ segments_left {A} closed k segment l is =
     ap (map f) (drop_more closed k segment l) ∙ ap (λ (v : Vec KeptEntry A). f v ∷ map f (drop (k + 1) closed)) (sym is)
 
 pub anchor_more : (id : ℕ) (barrier : List ℕ) (before : List (List RegisterEntry)) (segment : List RegisterEntry)
-    → anchor_at id barrier (before ++ segment ∷ []) ≡ anchored_digest_of (anchor_at id barrier before) (register_of (values_of barrier segment))
+    → anchor_at id barrier (before ++ segment ∷ []) ≡ anchored_digest_of (anchor_at id barrier before)
+    (register_of (values_of barrier segment))
 anchor_more id barrier before segment = ap (anchor_of id) (map-append (values_of barrier) before (segment ∷ []))
     ∙ anchor-push id (map (values_of barrier) before) (values_of barrier segment)

@@ -20,7 +20,8 @@ use Rattle.mm_model.specs.DigestLaws.{summary-push, register-push, anchor-push}
 use Rattle.mm_model.specs.FormLaws.{reads_zero}
 use Rattle.mm_model.specs.HistoryLaws.{own_values-append, has_value-append, register_more}
 use Rattle.mm_model.specs.SegmentLaws.{joined-push}
-use Rattle.mm_history.specs.Marks.{marks_of, with_value, emptied_marks, closed_digest, closed_marks, linked_marks, grown_marks, opened_marks}
+use Rattle.mm_history.specs.Marks.{marks_of, with_value, emptied_marks, closed_digest, closed_marks, linked_marks, grown_marks}
+use Rattle.mm_history.specs.Marks.{opened_marks}
 
 pub own_more : (barrier : List ℕ) (batches : List Batch) (b : Batch)
     → register_of (own_values barrier (batches ++ b ∷ [])) ≡ extended_digest_of (register_of (own_values barrier batches)) (guard barrier b)
@@ -80,7 +81,8 @@ own_opened [] b = and_true (is_same_batch b b) ∙ (is_same_batch-Decides b b).1
 own_opened (x ∷ []) b = and_true (is_same_batch b b) ∙ (is_same_batch-Decides b b).1 refl
 own_opened (Own c ∷ y ∷ []) b = and_right (is_same_batch c b) false refl
 own_opened (Own c ∷ y ∷ z ∷ items) b =
-    ap (λ x. is_same_batch c b && x) (own_of_none (with_last_batch (y ∷ z ∷ items) b) ∙ still_some y z items b) ∙ and_right (is_same_batch c b) false refl
+    ap (λ x. is_same_batch c b && x) (own_of_none (with_last_batch (y ∷ z ∷ items) b) ∙ still_some y z items b)
+    ∙ and_right (is_same_batch c b) false refl
     ∙ sym (two_many (suc (length items)))
 own_opened (Value d ∷ y ∷ []) b = refl
 own_opened (Value d ∷ y ∷ z ∷ items) b = sym (two_many (suc (length items)))

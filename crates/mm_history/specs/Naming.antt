@@ -1,5 +1,6 @@
 -- Whether what a snapshot says names a position of a history, as a test from end to end.
-use Rattle.std.specs.Prelude.{ℕ, ◌-◌, ◌==◌, Bool, true, false, ◌&&◌, ◌||◌, not, List, [], ◌∷◌, ◌++◌, length, map, drop, Option, None, Some, if◌then◌else◌, nat_le, nat_lt}
+use Rattle.std.specs.Prelude.{ℕ, ◌-◌, ◌==◌, Bool, true, false, ◌&&◌, ◌||◌, not, List, [], ◌∷◌, ◌++◌, length, map, drop, Option, None, Some}
+use Rattle.std.specs.Prelude.{if◌then◌else◌, nat_le, nat_lt}
 use Rattle.std.specs.Str.{bytes_eq}
 use Rattle.std.specs.Option.{option_map}
 use Rattle.mm_digest.specs.declared.variant.Variant.{Variant}
@@ -83,7 +84,8 @@ abbrev pub some_place : ℕ → (barrier : List ℕ) → History → List Batch 
     → (before rest : List (List RegisterEntry))
     → Bool
 some_place id barrier y named anchor extension before [] =
-    is_at (not (has_value (items_of_all before))) (anchor_at id barrier before) (length (items_of_all before))
+    is_at (not (has_value (items_of_all before))) (anchor_at id barrier before)
+    (length (items_of_all before))
     named anchor extension
     || is_inside_at barrier (anchor_at id barrier y.closed) y named anchor extension
 some_place id barrier y named anchor extension before (segment ∷ rest) =
@@ -115,7 +117,8 @@ is_named i y content = is_named_at i y content (first_with content.position y.ba
 -- So it is decided, in either variant.
 abbrev pub BasicNamesAreDecided : Type 0
 BasicNamesAreDecided = (meaning : Meaning) (key : List ℕ) (y : History) (content : Content) →
-    IsDecided (is_named (basic_instance meaning key) y content) (NamesPosition (basic_instance meaning key) y content)
+    IsDecided (is_named (basic_instance meaning key) y content)
+    (NamesPosition (basic_instance meaning key) y content)
 
 abbrev pub OptNamesAreDecided : Type 0
 OptNamesAreDecided = (meaning : Meaning) (key barrier : List ℕ) (y : History) (content : Content) →

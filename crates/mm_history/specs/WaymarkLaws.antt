@@ -50,7 +50,8 @@ module _ {variant : Variant} {meaning : Meaning} {barrier : List ℕ} where
   ways_on {y} {z} {ways} more segments batches closed ends w = record {
     marks = subst (λ (bs : List Batch). AllByRecursion (IsWaymark variant meaning barrier bs) ways.marks.items) (sym batches)
         (each_then (mark_on y.batches more) ways.marks.items w.marks);
-    stages = λ opt. subst (λ (ss : List (List RegisterEntry)). AllByRecursion (IsStage meaning.id barrier ss) ways.stages.items) (sym closed)
+    stages = λ opt. subst (λ (ss : List (List RegisterEntry)). AllByRecursion (IsStage meaning.id barrier ss) ways.stages.items)
+        (sym closed)
         (each_then (stage_on y.closed segments) ways.stages.items (w.stages opt));
     ends = ends;
   }

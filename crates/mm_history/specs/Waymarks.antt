@@ -56,7 +56,8 @@ pub record EndsWithCurrent (y : History) : Type 0 where
 pub record AreWaymarks (variant : Variant) (meaning : Meaning) (barrier : List ℕ) (y : History)
     (ways : Waymarks) : Type 0 where
   pub marks : AllByRecursion (IsWaymark variant meaning barrier y.batches) ways.marks.items
-  pub stages : variant ≡ Opt → AllByRecursion (IsStage meaning.id barrier y.closed) ways.stages.items
+  pub stages : variant ≡ Opt → AllByRecursion (IsStage meaning.id barrier y.closed)
+      ways.stages.items
   pub ends : variant ≡ Opt → EndsWithCurrent y
 
 -- the position is between those of two waymarks, which are a batch apart

@@ -76,7 +76,8 @@ impl HistoryLists {
     /// Basic: one more batch.
     pub fn add(&mut self, batch: Batch<'_>) -> Result<(), Memory>
         ensures ok { OnOk result
-            (self.new ≡ history_after_commit Basic self.old.is_open self.old (batch_of batch.entry)) }
+            (self.new ≡ history_after_commit Basic self.old.is_open self.old (batch_of batch.entry))
+            }
         ensures err { OnErr result (self.new ≡ self.old) }
     {
         let kept = KeptBatch::copy_of(self.alloc, &batch)?;
@@ -86,7 +87,8 @@ impl HistoryLists {
 
     /// Opt: one more batch in the open segment.
     pub fn add_inside(&mut self, batch: Batch<'_>) -> Result<(), Memory>
-        ensures ok { OnOk result (self.new ≡ history_after_commit Opt true self.old (batch_of batch.entry)) }
+        ensures ok { OnOk result
+            (self.new ≡ history_after_commit Opt true self.old (batch_of batch.entry)) }
         ensures err { OnErr result (self.new ≡ self.old) }
     {
         self.batches.reserve(1)?;
@@ -103,7 +105,8 @@ impl HistoryLists {
 
     /// Opt: a batch opens a segment, and the last item becomes its own.
     pub fn open(&mut self, batch: Batch<'_>) -> Result<(), Memory>
-        ensures ok { OnOk result (self.new ≡ history_after_commit Opt false self.old (batch_of batch.entry)) }
+        ensures ok { OnOk result
+            (self.new ≡ history_after_commit Opt false self.old (batch_of batch.entry)) }
         ensures err { OnErr result (self.new ≡ self.old) }
     {
         self.batches.reserve(1)?;

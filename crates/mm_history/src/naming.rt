@@ -118,7 +118,8 @@ struct SoughtPlace<'a> {
 
 // Whether the place is at this anchor, behind so many entries.
 fn is_at(is_clean: bool, here: &Digest, start: usize, sought: &SoughtPlace<'_>) -> bool
-    ensures { result ≡ is_at is_clean here.now.bytes start (kept_batches sought.now.named.now) sought.now.anchor.now.bytes
+    ensures { result ≡ is_at is_clean here.now.bytes start (kept_batches sought.now.named.now)
+        sought.now.anchor.now.bytes
         sought.now.extension.now.bytes }
 {
     if !is_clean {
@@ -151,7 +152,8 @@ fn register_behind(barrier: &[u8; 32], start: usize, sought: &SoughtPlace<'_>) -
 fn is_behind(barrier: &[u8; 32], here: &Digest, start: usize, sought: &SoughtPlace<'_>) -> bool
     requires register { sought.now.register.now.bytes ≡ register_of (own_values barrier.now
         (drop sought.now.start (kept_batches sought.now.named.now))) }
-    ensures { result ≡ is_behind barrier.now here.now.bytes start (kept_batches sought.now.named.now)
+    ensures { result ≡ is_behind barrier.now here.now.bytes start
+        (kept_batches sought.now.named.now)
         sought.now.anchor.now.bytes sought.now.extension.now.bytes }
 {
     if start >= sought.named.len() {
@@ -168,7 +170,8 @@ fn is_inside(lists: &HistoryLists, barrier: &[u8; 32], last: &Digest, sought: &S
     requires register { sought.now.register.now.bytes ≡ register_of (own_values barrier.now
         (drop sought.now.start (kept_batches sought.now.named.now))) }
     requires ends { EndsWithCurrent lists.now }
-    ensures { result ≡ is_inside_at barrier.now last.now.bytes lists.now (kept_batches sought.now.named.now)
+    ensures { result ≡ is_inside_at barrier.now last.now.bytes lists.now
+        (kept_batches sought.now.named.now)
         sought.now.anchor.now.bytes sought.now.extension.now.bytes }
 {
     let start = lists.batches().len().saturating_sub(lists.current().len());
@@ -223,9 +226,11 @@ fn stage_behind(
     here: &SegmentStart,
     items: &[KeptEntry],
 ) -> SegmentStart
-    ensures { (id : ℕ) → (before later : List (List RegisterEntry)) → here.now ≡ stage_at id barrier.now before
+    ensures { (id : ℕ) → (before later : List (List RegisterEntry))
+        → here.now ≡ stage_at id barrier.now before
         → count ≡ length before + 1
-        → AllByRecursion (IsStage id barrier.now (before ++ kept_entries items.now ∷ later)) stages.now
+        → AllByRecursion (IsStage id barrier.now (before ++ kept_entries items.now ∷ later))
+        stages.now
         → result ≡ stage_at id barrier.now (before ++ kept_entries items.now ∷ []) }
 {
     if let Some(stage) = stages.get(count)
@@ -262,7 +267,8 @@ fn is_here(
 ) -> bool
     requires register { sought.now.register.now.bytes ≡ register_of (own_values barrier.now
         (drop sought.now.start (kept_batches sought.now.named.now))) }
-    ensures { result ≡ is_here is_clean barrier.now here.now.bytes start (kept_batches sought.now.named.now)
+    ensures { result ≡ is_here is_clean barrier.now here.now.bytes start
+        (kept_batches sought.now.named.now)
         size ends sought.now.anchor.now.bytes sought.now.extension.now.bytes }
 {
     if is_at(is_clean, here, start, sought) {
@@ -292,7 +298,8 @@ fn some_place(
         (drop sought.now.start (kept_batches sought.now.named.now))) }
     requires ends { EndsWithCurrent lists.now }
     requires stages { AllByRecursion (IsStage id barrier.now lists.now.closed) stages.now }
-    ensures { result ≡ some_place id barrier.now lists.now (kept_batches sought.now.named.now) sought.now.anchor.now.bytes
+    ensures { result ≡ some_place id barrier.now lists.now (kept_batches sought.now.named.now)
+        sought.now.anchor.now.bytes
         sought.now.extension.now.bytes [] lists.now.closed }
 {
     let closed = lists.closed();
@@ -353,7 +360,8 @@ fn is_place(
     requires ends { variant ≡ Opt → EndsWithCurrent lists.now }
     requires stages { variant ≡ Opt
         → AllByRecursion (IsStage id barrier.now lists.now.closed) stages.now }
-    ensures { result ≡ is_place_in variant id barrier.now lists.now (kept_batches known.now.named.now)
+    ensures { result ≡ is_place_in variant id barrier.now lists.now
+        (kept_batches known.now.named.now)
         place.now }
 {
     match variant {
@@ -382,7 +390,8 @@ fn is_place(
 
 // What a position of which nothing is kept has for `KnownPlace`, where all its batches are left out.
 fn digest_anew(variant: Variant, id: u8, named: &[KeptBatch]) -> Digest
-    ensures { (barrier : List ℕ) → result.bytes ≡ digest_behind variant id barrier (length named.now)
+    ensures { (barrier : List ℕ) → result.bytes ≡ digest_behind variant id barrier
+        (length named.now)
         (kept_batches named.now) }
 {
     match variant {
@@ -468,7 +477,8 @@ fn is_named_at(
 ) -> Result<bool, Memory>
     requires short { list_any is_long lists.now.batches ≡ false }
     requires ways { AreWaymarks variant (meaning_of «module».now) barrier.now lists.now ways.now }
-    requires mark { IsWaymark variant (meaning_of «module».now) barrier.now lists.now.batches mark.now }
+    requires mark { IsWaymark variant (meaning_of «module».now) barrier.now
+        lists.now.batches mark.now }
     requires position { body.now.position ≡ mark.now.position }
     ensures { IfOk result (λ yes. (key : List ℕ) → IsDecided yes
         (NamesPosition (instance_by variant (meaning_of «module».now) key barrier.now) lists.now

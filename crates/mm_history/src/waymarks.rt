@@ -69,8 +69,10 @@ impl Waymarks {
         variant: Variant,
         state: &[u8],
     ) -> Result<Waymarks, Memory>
-        ensures { IfOk result (λ ways. (i : Instance) → variant ≡ i.variant → marks.now ≡ marks_of i lists.now
-            → state.now ≡ state_after i.meaning (requests_of lists.now.batches) → EndsWithCurrent lists.now
+        ensures { IfOk result (λ ways. (i : Instance) → variant ≡ i.variant
+            → marks.now ≡ marks_of i lists.now
+            → state.now ≡ state_after i.meaning (requests_of lists.now.batches)
+            → EndsWithCurrent lists.now
             → AreWaymarks i.variant i.meaning i.barrier lists.now ways) }
     {
         let mut ways = Waymarks {

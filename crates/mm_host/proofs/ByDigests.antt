@@ -136,7 +136,8 @@ module _ (i : Instance) (d : Digests) (b : Batch) where
   place_lost (InBasic s) e = let clash : false ≡ true = verdict_lost false _ _ e in absurd (cc)
   place_lost (InOpt a x) e = verdict_lost shows_loss _ _ e
 
-  parts_as : (parts : Result Snapshot PartsFault) (why : Refusal) → finding_by_verdict i (digest_level i) d b parts ≡ Err why → IsOfOffer why
+  parts_as : (parts : Result Snapshot PartsFault) (why : Refusal) → finding_by_verdict i (digest_level i) d b parts ≡ Err why
+      → IsOfOffer why
   parts_as (Ok snapshot) why e =
       examined_as i.meaning i.key snapshot b ((digest_level i).verdict d snapshot.content b) why (mapped_err _ _ why e)
   parts_as (Err Form) why e = let is : why ≡ refusal.Form = cc in rw is tt

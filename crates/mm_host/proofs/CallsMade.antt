@@ -3,8 +3,10 @@
 use Rattle.mm_host.proofs.Below.{◌≡◌, ◌∙◌, ℕ, List, [], ◌∷◌, ◌++◌, Option, None, Some, Result, Ok, Err, refl, sym, ap, inl, inr}
 use Rattle.mm_host.proofs.Below.{append_assoc, lines_of, Variant, Standing, Meaning, Refusal, StoreFault, ReadsSlot, StoreStanding}
 use Rattle.mm_host.proofs.Below.{PendingRecord, Slots, slot_front, HostFault, SessionFault, Host, Resumed, Start, Answered, first_offer}
-use Rattle.mm_host.proofs.Below.{offer_slot, offer_after, IsCall, IsInHand, first_served_call, served_calls_in, store_fault_as, GoesAfterFinding}
-use Rattle.mm_host.proofs.Below.{GoesAfterOffer, result_of_start, SendsReply, reply_text, snapshot_at, SessionPlace, ServedCall, ServesCalls, GoesAfterResume}
+use Rattle.mm_host.proofs.Below.{offer_slot, offer_after, IsCall, IsInHand, first_served_call, served_calls_in, store_fault_as}
+use Rattle.mm_host.proofs.Below.{GoesAfterFinding}
+use Rattle.mm_host.proofs.Below.{GoesAfterOffer, result_of_start, SendsReply, reply_text, snapshot_at, SessionPlace, ServedCall}
+use Rattle.mm_host.proofs.Below.{ServesCalls, GoesAfterResume}
 use Rattle.mm_host.proofs.Below.{BeginsWith, IsSession, StopsAtOnce, IsWaiting, Saw, one_waiting, saw_two, AreAmong, requests_with}
 use Rattle.mm_host.proofs.Below.{served_lines, Answer}
 use Rattle.mm_recovery.specs.declared.fault.HostFault.TheVariants as host
@@ -34,7 +36,8 @@ pub data Begun (variant : Variant) (meaning : Meaning) (before after : Standing)
     (came : Result Resumed HostFault) : Type 0 where
   failed : after ≡ before → (why : StoreFault) → came ≡ Err (store_fault_as why) → Begun variant meaning before after offer waiting came
   starts : after ≡ before → waiting ≡ None → came ≡ Ok (Start offer) → Begun variant meaning before after offer waiting came
-  repeats : (p : PendingRecord) → waiting ≡ Some p → (call : Result Answer Refusal) → IsCall variant meaning before after offer p.request call
+  repeats : (p : PendingRecord) → waiting ≡ Some p → (call : Result Answer Refusal) → IsCall variant meaning before after
+      offer p.request call
       → TellsCall call came → Begun variant meaning before after offer waiting came
 
 module _ (variant : Variant) (meaning : Meaning) where
@@ -88,7 +91,8 @@ module _ (variant : Variant) (meaning : Meaning) (before after : Standing) where
     begun_start (Ok bytes) came old new same told r e = starts same refl (e ∙ ap (λ (b : List ℕ). Ok (Start b)) (r.gives slots told))
     begun_start (Err why) came old new same told r e = failed same why e
 
-    begun_repeat : (offer : Result (List ℕ) StoreFault) (came : Result Resumed HostFault) (old middle new : StoreStanding) (p : PendingRecord)
+    begun_repeat : (offer : Result (List ℕ) StoreFault) (came : Result Resumed HostFault) (old middle new : StoreStanding)
+        (p : PendingRecord)
         → old.slots ≡ Some slots → ReadsSlot (offer_slot p) old middle offer
         → GoesAfterOffer variant meaning before after offer middle new p came
         → Begun variant meaning before after (first_offer slots (Some p)) (Some p) came
@@ -169,7 +173,8 @@ module _ {variant : Variant} {meaning : Meaning} {before after : Standing} {old 
     {left left' received received' : Option (List ℕ)} {result : Result Unit SessionFault}
     (s : IsSession variant meaning before after old new left left' received received' result) where
   -- a session that began so
-  module _ (offer : List ℕ) (waiting : Option PendingRecord) (begun_by : Begun variant meaning before s.platform offer waiting s.begun) where
+  module _ (offer : List ℕ) (waiting : Option PendingRecord) (begun_by : Begun variant meaning before s.platform offer waiting s.begun)
+      where
     pub first_by : (first : Resumed) → s.begun ≡ Ok first → FirstCalls variant meaning before s.platform offer waiting first
     first_by first e =
         first_calls variant meaning before s.platform offer waiting first
@@ -223,7 +228,8 @@ module _ {variant : Variant} {meaning : Meaning} {before after : Standing} {old 
         begun_found variant meaning before s.platform slots r.waiting s.begun waiting old r.middle s.store w
         (saw_two slots r.finds.two old r.finds.middle r.middle r.waiting slots_told r.finds.reads r.finds.goes) r.goes
 
-    pub chain_of : Chain variant meaning (first_offer slots waiting) before after (served_calls_in waiting s.goes) (IsInHand waiting s.goes) result
+    pub chain_of : Chain variant meaning (first_offer slots waiting) before after (served_calls_in waiting s.goes)
+        (IsInHand waiting s.goes) result
     chain_of = chain_by (first_offer slots waiting) waiting begun_told s.goes
 
     pub among_input : (input : List ℕ) → left ≡ Some input
@@ -232,8 +238,10 @@ module _ {variant : Variant} {meaning : Meaning} {before after : Standing} {old 
         among_by (first_offer slots waiting) waiting begun_told input (read_of left left' input s.taken e s.consumed) s.goes
 
     -- what was told first
-    pub first_told : (g : SessionGoesOn variant meaning s.begun s.platform after s.store new left' s.taken s.sent result) (rest : List (List ℕ))
-        → served_lines (first_served_call waiting g.first ++ g.lines.calls) ++ rest ≡ requests_with waiting (served_lines g.lines.calls ++ rest)
+    pub first_told : (g : SessionGoesOn variant meaning s.begun s.platform after s.store new left' s.taken s.sent result)
+        (rest : List (List ℕ))
+        → served_lines (first_served_call waiting g.first ++ g.lines.calls) ++ rest ≡ requests_with waiting
+        (served_lines g.lines.calls ++ rest)
     first_told g rest = (first_by (first_offer slots waiting) waiting begun_told g.first g.begins).told g.lines.calls rest
 
   -- and over any store

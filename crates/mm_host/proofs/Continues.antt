@@ -1,7 +1,10 @@
 -- A session over an honest store goes on, also where the cell was read before.
-use Rattle.mm_host.proofs.Below.{◌≡◌, ◌∙◌, ℕ, List, Option, None, Some, Result, refl, [], Standing, Batch, Meaning, IsLawful, Instance, opt_instance}
-use Rattle.mm_host.proofs.Below.{History, Variant, Basic, Opt, inl, StoreStanding, PendingRecord, Slots, SessionFault, ContinuesFrom, MayGoOn}
-use Rattle.mm_host.proofs.Below.{MayStart, SessionContinues, FitsBy, history_with_values, names_alike, IsGenuine, first_offer, IsSnapshotAt, one_content}
+use Rattle.mm_host.proofs.Below.{◌≡◌, ◌∙◌, ℕ, List, Option, None, Some, Result, refl, [], Standing, Batch, Meaning, IsLawful, Instance}
+use Rattle.mm_host.proofs.Below.{opt_instance}
+use Rattle.mm_host.proofs.Below.{History, Variant, Basic, Opt, inl, StoreStanding, PendingRecord, Slots, SessionFault, ContinuesFrom}
+use Rattle.mm_host.proofs.Below.{MayGoOn}
+use Rattle.mm_host.proofs.Below.{MayStart, SessionContinues, FitsBy, history_with_values, names_alike, IsGenuine, first_offer, IsSnapshotAt}
+use Rattle.mm_host.proofs.Below.{one_content}
 use Rattle.mm_host.proofs.Below.{StepFault}
 use Rattle.mm_platform.specs.Steps.{items_beside, StepGoes, ReadCell}
 use Rattle.mm_host.proofs.Leading.{basic_laws}
@@ -36,7 +39,8 @@ module _ (meaning : Meaning) (key barrier : List ℕ) (y : History) (values : Li
   abbrev i : Instance
   i = opt_instance meaning key barrier
 
-  holds_looked : (bytes : List ℕ) (position : ℕ) → IsSnapshotAt i y bytes position → IsSnapshotAt i (history_with_values y values) bytes position
+  holds_looked : (bytes : List ℕ) (position : ℕ) → IsSnapshotAt i y bytes position
+      → IsSnapshotAt i (history_with_values y values) bytes position
   holds_looked bytes position h = record {
     content = h.content;
     right = h.right;

@@ -1,9 +1,12 @@
 -- What a session counts, by the steps: whose fault it is that it ends, and how often it is to write the cell.
 use Rattle.mm_host.proofs.Below.{ℕ, ◌≡◌, ◌≢◌, ◌+◌, ◌≤◌, List, [], ◌∷◌, length, Option, None, Some, Result, Ok, Err, refl, ap, ◌∙◌, subst}
 use Rattle.mm_host.proofs.Below.{inl, inr, arith, is_some, length-append, lines_of, lines_of-joined, lines_of-line, Variant, Basic, Opt}
-use Rattle.mm_host.proofs.Below.{Standing, StepFault, Meaning, Refusal, CountsHandedFault, fault_of, StoreStanding, HostFault, SessionFault, Host}
-use Rattle.mm_host.proofs.Below.{Resumed, Start, Answered, MayBeUntold, SendsReply, told_cause, refusal_text, reply_text, SessionPlace, ServedCall}
-use Rattle.mm_host.proofs.Below.{ServesCalls, served_lines, GoesAfterResume, BeginsWith, IsSession, Told, next_told, resumes_told, AnsweredWrites}
+use Rattle.mm_host.proofs.Below.{Standing, StepFault, Meaning, Refusal, CountsHandedFault, fault_of, StoreStanding, HostFault, SessionFault}
+use Rattle.mm_host.proofs.Below.{Host}
+use Rattle.mm_host.proofs.Below.{Resumed, Start, Answered, MayBeUntold, SendsReply, told_cause, refusal_text, reply_text, SessionPlace}
+use Rattle.mm_host.proofs.Below.{ServedCall}
+use Rattle.mm_host.proofs.Below.{ServesCalls, served_lines, GoesAfterResume, BeginsWith, IsSession, Told, next_told, resumes_told}
+use Rattle.mm_host.proofs.Below.{AnsweredWrites}
 use Rattle.mm_host.proofs.Below.{CameWrites, answered_writes, both_writes, next_came, new_most, resumes_came, counted_most, joined}
 use Rattle.mm_host.proofs.Below.{leads_rest, rests}
 use Rattle.std.specs.Prelude.{IsSome}
@@ -23,7 +26,8 @@ record Counts (variant : Variant) (requests : ℕ) (from to : SessionPlace) : Ty
   store : to.store.faults ≡ from.store.faults
   wrote : AnsweredWrites variant requests from.platform to.platform
 
-served_counts : (variant : Variant) (meaning : Meaning) (from to : SessionPlace) (calls : List ServedCall) → ServesCalls variant meaning from calls to
+served_counts : (variant : Variant) (meaning : Meaning) (from to : SessionPlace) (calls : List ServedCall)
+    → ServesCalls variant meaning from calls to
     → Counts variant (new_lines calls) from to
 served_counts variant meaning from to [] s = rw s (record {
   platform = refl;

@@ -1,10 +1,13 @@
 -- Calls one after another by lists, whatever is offered first that names a position where it is right.
 use Rattle.mm_host.proofs.Below.{◌≡◌, ◌≢◌, ◌∙◌, ◌+◌, ℕ, Bool, true, false, List, [], ◌∷◌, ◌++◌, Some, Result, Ok, refl, sym, ap, inl}
 use Rattle.mm_host.proofs.Below.{inr, arith, ◌⊎◌, if◌then◌else◌, nat_eq, nat_tests, Variant, Basic, Opt, Standing, Batch, One, Content}
-use Rattle.mm_host.proofs.Below.{offered_snapshot_of, sealed_snapshot_of, tag_of, parts_of, sealed_parts, Instance, History, Commit, history_after, requests_of}
+use Rattle.mm_host.proofs.Below.{offered_snapshot_of, sealed_snapshot_of, tag_of, parts_of, sealed_parts, Instance, History, Commit}
+use Rattle.mm_host.proofs.Below.{history_after, requests_of}
 use Rattle.mm_host.proofs.Below.{total_of, LostLife, life_of, StandsFor, IsGenuine, IsRight, issued_bytes, Answer, BatchAnswer, Refusal}
-use Rattle.mm_host.proofs.Below.{answer_on, IsWithin, right_content, batch_answer_of, batch_result_of, IsIdle, right_is, one_content, IsBatchStep, PendingRecord}
-use Rattle.mm_host.proofs.Below.{AreAskedInTurn, history_after_answer, offer_after, IsCall, CallsRunOver, answer_reply, IsSnapshotAt, ServedCall, served_lines}
+use Rattle.mm_host.proofs.Below.{answer_on, IsWithin, right_content, batch_answer_of, batch_result_of, IsIdle, right_is, one_content}
+use Rattle.mm_host.proofs.Below.{IsBatchStep, PendingRecord}
+use Rattle.mm_host.proofs.Below.{AreAskedInTurn, history_after_answer, offer_after, IsCall, CallsRunOver, answer_reply, IsSnapshotAt}
+use Rattle.mm_host.proofs.Below.{ServedCall, served_lines}
 use Rattle.mm_host.proofs.Below.{one_more, IsGrownBy, IsSame, Met, holds_issued, SessionFault, IsCallOnCourse}
 use Rattle.std.proofs.lemmas.Slice.Eq.{bytes_eq-Decides}
 use Rattle.mm_model.specs.Fit.{IsFit}
@@ -170,7 +173,8 @@ module _ {all others : List (List ℕ)} {asked : List Batch} {i : Instance} {fin
   ends_reach {at} {offer} (stops request h came (asks call c t) sent fault says is) =
       laws.reach at final offer request (batch_result_of call) c.goes
 
-  pub chain_reaches : {offer : List ℕ} {before : Standing} {told : List ServedCall} {hand : List ℕ → Type 0} {result : Result Unit SessionFault}
+  pub chain_reaches : {offer : List ℕ} {before : Standing} {told : List ServedCall} {hand : List ℕ → Type 0}
+      {result : Result Unit SessionFault}
       → Chain i.variant i.meaning offer before final told hand result → Reaches i.variant i before final
   chain_reaches {offer} {before} {told} c = calls_reach offer before c.at told c.calls (ends_reach c.ends)
 

@@ -1,13 +1,17 @@
 -- What the calls of a session lead to, in one form for both variants; how a history grows by a request; and the laws in Basic.
 use Rattle.mm_host.proofs.Below.{◌≡◌, ℕ, ◌≤◌, true, false, List, [], ◌++◌, Some, Result, Ok, sym, ap, ◌∙◌, append_assoc, append-nil}
 use Rattle.mm_host.proofs.Below.{last_position, Variant, Basic, Opt, Item, Standing, IsLawful, Batch, One, Content, IsClear, IsContent}
-use Rattle.mm_host.proofs.Below.{Instance, History, Commit, first_history, history_after, total_of, has_value, Digests, NamesPosition, content_of_issue, StandsFor}
+use Rattle.mm_host.proofs.Below.{Instance, History, Commit, first_history, history_after, total_of, has_value, Digests, NamesPosition}
+use Rattle.mm_host.proofs.Below.{content_of_issue, StandsFor}
 use Rattle.mm_host.proofs.Below.{BatchAnswer, Refusal, IsLedTo, IsCallOnCourse, AreAsked, AreShown, IsIdle, StandsAt, standing_items, bare}
 use Rattle.mm_host.proofs.Below.{PendingRecord, Met, IsGrownBy, IsSame, AreNoGuards, ◌+◌, Bool, ◌∷◌, arith, Meaning, requests_of, Answer}
-use Rattle.mm_host.proofs.Below.{answer_on, batch_answer_of, requests-push, said_last, IsBatchStep, CallsRunOver, answer_reply, ServedCall, refl, inl, inr}
+use Rattle.mm_host.proofs.Below.{answer_on, batch_answer_of, requests-push, said_last, IsBatchStep, CallsRunOver, answer_reply, ServedCall}
+use Rattle.mm_host.proofs.Below.{refl, inl, inr}
 use Rattle.mm_host.proofs.Below.{◌⊎◌, if◌then◌else◌, nat_eq, nat_tests, history_after_commit, Answered, first_served_call, IsAwaited}
-use Rattle.mm_host.proofs.Below.{one_more, ◌≢◌, ◌||◌, AllByRecursion, Contains, RegisterEntry, Own, Value, Spoiled, is_empty, are_own, life_by}
-use Rattle.mm_host.proofs.Below.{life_of, counted_entries, values_in, IsOutside, AreItems, has_value-append, InBasic, InOpt, summary_of, basic_instance}
+use Rattle.mm_host.proofs.Below.{one_more, ◌≢◌, ◌||◌, AllByRecursion, Contains, RegisterEntry, Own, Value, Spoiled, is_empty, are_own}
+use Rattle.mm_host.proofs.Below.{life_by}
+use Rattle.mm_host.proofs.Below.{life_of, counted_entries, values_in, IsOutside, AreItems, has_value-append, InBasic, InOpt, summary_of}
+use Rattle.mm_host.proofs.Below.{basic_instance}
 use Rattle.mm_host.proofs.Below.{IsPlaceOf, digest_of, total-nil, basic_met, basic_content}
 use Rattle.mm_model.specs.History.{items_of_all}
 use Rattle.mm_host.proofs.Below.{◌-◌, length, length-append}
@@ -155,7 +159,8 @@ steps_again i y after front request answer e same ends = rw (ap (λ (a : BatchAn
 pub CallsRunOver-append : (meaning : Meaning) (first middle last : List (List ℕ)) (calls more : List ServedCall)
     → CallsRunOver meaning first calls middle → CallsRunOver meaning middle more last → CallsRunOver meaning first (calls ++ more) last
 CallsRunOver-append meaning first middle last [] more r s = rw r at s
-CallsRunOver-append meaning first middle last (c ∷ calls) more r s = (r.0, r.1, CallsRunOver-append meaning r.0 middle last calls more r.2 s)
+CallsRunOver-append meaning first middle last (c ∷ calls) more r s =
+    (r.0, r.1, CallsRunOver-append meaning r.0 middle last calls more r.2 s)
 
 -- How a history grows by a request that is answered, and that its answer is a step of the module's run, or repeats the last one.
 
@@ -184,7 +189,8 @@ answered_first i y after p answer w at is (inr more) =
     )
 
 -- what a batch adds to the batches
-pub push_batches : (variant : Variant) (flag : Bool) (y : History) (b : Batch) → (history_after_commit variant flag y b).batches ≡ y.batches ++ b ∷ []
+pub push_batches : (variant : Variant) (flag : Bool) (y : History) (b : Batch) → (history_after_commit variant flag y b).batches ≡ y.batches
+    ++ b ∷ []
 push_batches Basic flag y b = refl
 push_batches Opt true y b = refl
 push_batches Opt false y b = refl
@@ -239,7 +245,8 @@ unspoiled Opt others y sound outside e =
 -- What the calls of a session lead to in Basic.
 
 basic_place : (meaning : Meaning) (key : List ℕ) (y : History) (named : List Batch) (place : Place)
-    → IsPlaceOf Basic (basic_instance meaning key) y named place → named ≡ [] → place ≡ (content_of_issue (basic_instance meaning key) first_history).place
+    → IsPlaceOf Basic (basic_instance meaning key) y named place → named ≡ []
+    → place ≡ (content_of_issue (basic_instance meaning key) first_history).place
 basic_place meaning key y named (InBasic s) p e = ap (λ (bytes : List ℕ). InBasic (digest_of bytes)) (p ∙ ap (summary_of meaning.id) e)
 basic_place meaning key y named (InOpt a b) p e = absurd p
 
@@ -267,5 +274,6 @@ basic_laws meaning lawful key all others asked final clear apart =
       like = λ y z e. e;
       grow = λ y z after b led l e. e ∙ ap (λ (bs : List Batch). bs ++ b ∷ []) l;
       begins = λ y led e. e;
-      placed = λ y content led n e. basic_place meaning key y n.named content.place n.place (names_none (basic_instance meaning key) y content n e);
+      placed = λ y content led n e. basic_place meaning key y n.named content.place n.place
+          (names_none (basic_instance meaning key) y content n e);
     }

@@ -3,12 +3,14 @@ use Rattle.mm_host.proofs.Below.{◌≡◌, ◌≢◌, ◌∙◌, ◌+◌, ◌-�
 use Rattle.mm_host.proofs.Below.{inl, arith, ◌⊎◌, nat_eq, take_all, MayGrow, longest_request, Standing, Batch, One, Content}
 use Rattle.mm_host.proofs.Below.{Instance, History, requests_of, total_of, LostLife, life_of, IsRight, Answer}
 use Rattle.mm_host.proofs.Below.{BatchAnswer, Refusal, batch_answer_of, batch_result_of}
-use Rattle.mm_host.proofs.Below.{StoreFault, WritesSlot, slots_with_bytes, StoreStanding, PendingRecord, pending_spelling, Slots, longest_slot}
+use Rattle.mm_host.proofs.Below.{StoreFault, WritesSlot, slots_with_bytes, StoreStanding, PendingRecord, pending_spelling, Slots}
+use Rattle.mm_host.proofs.Below.{longest_slot}
 use Rattle.mm_host.proofs.Below.{slot_front, slots_with, longest_slot-is, HostFault, Resumed, Start, Answered, IsNotBeyond}
 use Rattle.mm_host.proofs.Below.{waiting_position, refusal_fault, store_fault_as, FitsHistory, FitsBy, IsSnapshotAt, offer_slot, ◌∷◌}
 use Rattle.mm_host.proofs.Below.{history_after_answer, AreAskedInTurn, RecoversTo, position_at, snapshot_at}
 use Rattle.mm_host.proofs.Below.{GoesAfterRecord, record_for, SessionPlace, length-pending_spelling, NoMore, left_by, ask_exit}
-use Rattle.mm_host.proofs.Below.{refusal_told, CallsRunOver, [], issued_bytes, inr, Met, sealed_snapshot_of, first_offer, requests_with, IsCall}
+use Rattle.mm_host.proofs.Below.{refusal_told, CallsRunOver, [], issued_bytes, inr, Met, sealed_snapshot_of, first_offer, requests_with}
+use Rattle.mm_host.proofs.Below.{IsCall}
 use Rattle.mm_host.proofs.Below.{last_position, one_content, one_more, IsSame, subst, ◌≤◌}
 use Rattle.mm_host.proofs.Below.{◌<◌, false, take, nat_tests, Batch, StepFault, fault_of, GoesAfterAsk, fits_on, found_full, grows}
 use Rattle.mm_host.proofs.Below.{RefusesAs, Host, IsRight}
@@ -190,7 +192,8 @@ module _ {all others : List (List ℕ)} {asked : List Batch} {i : Instance} {fin
     recovered room More after middle new came it w g leads =
         let slots : Slots = put (pending_spelling next) in
         let can : Enters all others asked i y slots at.platform middle = enters room it middle w in
-        let o = subst (λ (bytes : List ℕ). (o : Met all others asked i y after bytes next (batch_result_of g.asked)) × More o.after) (sym offers)
+        let o = subst (λ (bytes : List ℕ). (o : Met all others asked i y after bytes next (batch_result_of g.asked)) × More o.after)
+            (sym offers)
         leads in
         let l = left_by all others asked i y slots at.platform middle can More after next (batch_result_of g.asked) refl o.0 o.1 in
         ask_exit More all others asked i laws.lawful y slots (Some next) next after g.asked middle new came l.0 l.1 g.asks.fits can.honest
@@ -269,7 +272,8 @@ module _ {all others : List (List ℕ)} {asked : List Batch} {i : Instance} {fin
       full_refused : (why : Refusal) (broken : Option StepFault) → fault_of why ≡ broken
           → (m : Met all others asked i y standing offer next (Err why))
           → (why ≡ refusal.Memory) ⊎ RefusesAs {T = Unit} (Err (Host (host.Refused why))) i.variant m.after
-      full_refused why (Some broken) has m = inr (refused_in why i.variant m.after (broken_refused why (life_of i.variant m.after) broken has))
+      full_refused why (Some broken) has m =
+          inr (refused_in why i.variant m.after (broken_refused why (life_of i.variant m.after) broken has))
       full_refused why None none m =
           let same : m.after.batches ≡ y.batches = full_same (Err why) m in
           elim (m.judged why refl none) [
@@ -362,10 +366,12 @@ module _ {all others : List (List ℕ)} {asked : List Batch} {i : Instance} {fin
           let clash : Ok (Answered answer) ≡ Err (store_fault_as why) = g.2 in absurd (cc)
       line_goes (Ok it) after middle new answer reaches w g =
           let told = refusal_told g.asked middle new (Ok (Answered answer)) g.goes in
-          let o = between_told y z at.platform after offer next g.asked (Answered answer) lines here s.follow s.between.0 reaches g.asks told
+          let o = between_told y z at.platform after offer next g.asked (Answered answer) lines here s.follow s.between.0
+              reaches g.asks told
           in
           let room : position < last_position = room_for after g.asked (Answered answer) told o.0 in
-          let r = recovered room (IsBetween then_is after (issued_bytes i then_is) lines) after middle new (Ok (Answered answer)) it w g o in
+          let r = recovered room (IsBetween then_is after (issued_bytes i then_is) lines) after middle new
+              (Ok (Answered answer)) it w g o in
           let f : FitsBy i (put (pending_spelling next)) y (Some next) = (enters room it middle w).fits.fits in
           let a = answers_of i y r.0.after next answer r.0.comes in
           let total : total_of r.0.after.batches ≡ total_of y.batches + 1 = sym a.0 ∙ ap (λ (n : ℕ). n + 1) settled.at_end in

@@ -1,11 +1,15 @@
 -- What a session reads, asks and tells, line by line, and how it ends; and it doesn't blame lines that are within the limits.
 use Rattle.mm_host.proofs.Below.{◌≡◌, ◌≢◌, ◌+◌, ℕ, List, [], length, Option, Result, Ok, Err, refl, subst, inl, inr, Variant, Standing}
 use Rattle.mm_host.proofs.Below.{Meaning, StoreStanding, HostFault, SessionFault, Host, Lines, Memory, WriteFault, Resumed, SendsReply}
-use Rattle.mm_host.proofs.Below.{session_result_of, reply_text, SessionPlace, IsAtRest, StopsInLine, ◌∙◌, ap, ◌⊎◌, Answer, Refusal, StoreFault, Answered}
-use Rattle.mm_host.proofs.Below.{IsCall, store_fault_as, refusal_fault, GoesAfterAsk, result_of_keep, snapshot_at, GoesAfterRecord, AsksNext, ◌∷◌, ◌++◌}
+use Rattle.mm_host.proofs.Below.{session_result_of, reply_text, SessionPlace, IsAtRest, StopsInLine, ◌∙◌, ap, ◌⊎◌, Answer, Refusal}
+use Rattle.mm_host.proofs.Below.{StoreFault, Answered}
+use Rattle.mm_host.proofs.Below.{IsCall, store_fault_as, refusal_fault, GoesAfterAsk, result_of_keep, snapshot_at, GoesAfterRecord}
+use Rattle.mm_host.proofs.Below.{AsksNext, ◌∷◌, ◌++◌}
 use Rattle.mm_host.proofs.Below.{None, Some, sym, append_assoc, suc, Consumes, IsAtEnd, AllByRecursion, IsUnbroken, joined_lines}
-use Rattle.mm_host.proofs.Below.{lines_of, lines_of-joined, lines_of-line, ServedCall, ServesCalls, served_lines, BeginsWith, ◌<◌, ◌≤◌, take}
-use Rattle.mm_host.proofs.Below.{drop, arith, length-append, length-take, take-append-drop, tail_of, lines_with_front, tail_with_front, IsLong}
+use Rattle.mm_host.proofs.Below.{lines_of, lines_of-joined, lines_of-line, ServedCall, ServesCalls, served_lines, BeginsWith, ◌<◌, ◌≤◌}
+use Rattle.mm_host.proofs.Below.{take}
+use Rattle.mm_host.proofs.Below.{drop, arith, length-append, length-take, take-append-drop, tail_of, lines_with_front, tail_with_front}
+use Rattle.mm_host.proofs.Below.{IsLong}
 use Rattle.mm_host.proofs.Below.{MayGrow, lines_of-append, tail_of-append, tail_of-joined, tail_of-unbroken, longest_request, LineLong}
 use Rattle.mm_host.proofs.Below.{BadLine, TooMuch, GoesAfterResume, IsSession, most_lines}
 use Rattle.mm_host.specs.Sessions.{ServesAllLines}
@@ -133,7 +137,8 @@ read_of (Some xs) (Some ys) input taken e c =
     let same : xs ≡ input = cc in
     record { rest = ys; is = sym same ∙ c; at_end = λ h. h }
 
-pub unbroken_served : (variant : Variant) (meaning : Meaning) (from to : SessionPlace) (calls : List ServedCall) → ServesCalls variant meaning from calls to
+pub unbroken_served : (variant : Variant) (meaning : Meaning) (from to : SessionPlace) (calls : List ServedCall)
+    → ServesCalls variant meaning from calls to
     → AllByRecursion IsUnbroken (served_lines calls)
 unbroken_served variant meaning from to [] s = tt
 unbroken_served variant meaning from to (c ∷ calls) s = (

@@ -49,7 +49,8 @@ module _ {variant : Variant} {meaning : Meaning} {before final : Standing} {old 
       g.lines.ends
 
 -- It ends with a line in hand, which was asked or not, or at rest.
-pub by_asked : {variant : Variant} {meaning : Meaning} {from : SessionPlace} {after : Standing} {new : StoreStanding} {left : Option (List ℕ)}
+pub by_asked : {variant : Variant} {meaning : Meaning} {from : SessionPlace} {after : Standing} {new : StoreStanding}
+    {left : Option (List ℕ)}
     {taken sent : List ℕ} (P : Result Unit SessionFault → Type 0) (rest : List (List ℕ)) (result : Result Unit SessionFault)
     (l : ServesAllLines variant meaning 1 from after new left taken sent result)
     → IsLineAsked variant meaning (length l.calls + 1) l.at after new left l.more l.last rest result l.ends

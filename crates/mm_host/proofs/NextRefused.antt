@@ -1,12 +1,17 @@
 -- The request behind those that a session told: where the digests at its end refuse it, the session is refused so, unless memory was
 -- wanting or something failed.
-use Rattle.mm_host.proofs.Below.{◌≡◌, ◌∙◌, ◌+◌, ◌≤◌, ℕ, Bool, true, false, List, [], ◌∷◌, ◌++◌, length, Option, None, Some, Result, Ok, Err, refl, sym, ap}
-use Rattle.mm_host.proofs.Below.{subst, inl, inr, ◌⊎◌, arith, IsSome, take, drop, take-append-drop, length-append, length-take, append_assoc}
-use Rattle.mm_host.proofs.Below.{append_cancel_left, append-nil, Variant, Basic, Opt, Standing, One, Batch, Meaning, Instance, Digests, Answer}
+use Rattle.mm_host.proofs.Below.{◌≡◌, ◌∙◌, ◌+◌, ◌≤◌, ℕ, Bool, true, false, List, [], ◌∷◌, ◌++◌, length, Option, None, Some, Result, Ok, Err}
+use Rattle.mm_host.proofs.Below.{refl, sym, ap}
+use Rattle.mm_host.proofs.Below.{subst, inl, inr, ◌⊎◌, arith, IsSome, take, drop, take-append-drop, length-append, length-take}
+use Rattle.mm_host.proofs.Below.{append_assoc}
+use Rattle.mm_host.proofs.Below.{append_cancel_left, append-nil, Variant, Basic, Opt, Standing, One, Batch, Meaning, Instance, Digests}
+use Rattle.mm_host.proofs.Below.{Answer}
 use Rattle.mm_host.proofs.Below.{Refusal, SessionFault, Host, Lines, Memory, WriteFault, LineLong, BadLine, TooMuch, IsCall, StoreFault}
-use Rattle.mm_host.proofs.Below.{offer_after, ServedCall, IsSession, StandsAt, StoreStanding, finding_at, digest_level, fault_of, by_refusal}
+use Rattle.mm_host.proofs.Below.{offer_after, ServedCall, IsSession, StandsAt, StoreStanding, finding_at, digest_level, fault_of}
+use Rattle.mm_host.proofs.Below.{by_refusal}
 use Rattle.mm_host.proofs.Below.{IsInHand, parts_of, HostFault, Resumed, SendsReply, reply_text, store_fault_as, refusal_fault}
-use Rattle.mm_host.proofs.Below.{snapshot_at, PendingRecord, Slots, slot_front, IsWaiting, first_offer, requests_with, served_lines, served_calls_in, first_served_call}
+use Rattle.mm_host.proofs.Below.{snapshot_at, PendingRecord, Slots, slot_front, IsWaiting, first_offer, requests_with, served_lines}
+use Rattle.mm_host.proofs.Below.{served_calls_in, first_served_call}
 use Rattle.mm_host.proofs.Below.{lines_of, lines_of-append, IsUnbroken, IsLong, longest_request, most_lines}
 use Rattle.mm_host.proofs.Below.{GoesAfterResume, StopsAtOnce, StopsInLine, lines_with_front, InBasic, InOpt}
 use Rattle.mm_host.proofs.Below.{if◌then◌else◌, later_record, SessionPlace, ReadsPending}
@@ -246,7 +251,8 @@ few_by (Err (Lines is)) l fault e = absurd (cc)
 -- A session whose next request is refused by the digests at its end.
 module _ {variant : Variant} {meaning : Meaning} {before after : Standing} {old new : StoreStanding}
     {left left' received received' : Option (List ℕ)} {result : Result Unit SessionFault}
-    (s : IsSession variant meaning before after old new left left' received received' result) (slots : Slots) (waiting : Option PendingRecord)
+    (s : IsSession variant meaning before after old new left left' received received' result) (slots : Slots)
+    (waiting : Option PendingRecord)
     (slots_told : old.slots ≡ Some slots) (w : IsWaiting (slot_front slots 2) (slot_front slots 3) waiting) (input : List ℕ)
     (left_told : left ≡ Some input) where
   abbrev Goes : Type 0
@@ -318,7 +324,8 @@ module _ {variant : Variant} {meaning : Meaning} {before after : Standing} {old 
         let next : lines_of (l.more ++ read.rest) ≡ request ∷ n.first.0 = append_cancel_left (served_lines l.calls) _ _ all in
         let calls = f.calls l.calls l.at.platform
         (served_calls variant meaning _ l.at l.calls l.serves) in
-        let there_at = calls_leave variant meaning key barrier first before l.at.platform (first_served_call waiting g.first ++ l.calls) calls d
+        let there_at = calls_leave variant meaning key barrier first before l.at.platform (first_served_call waiting g.first ++ l.calls)
+            calls d
         starts_at in
         let offer_is : offer_after first (first_served_call waiting g.first ++ l.calls) ≡ snapshot_at l.at.last =
         f.offers l.calls ∙ last_offer variant meaning _ l.at l.calls l.serves in

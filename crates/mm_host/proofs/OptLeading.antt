@@ -1,10 +1,12 @@
 -- What the calls of a session lead to in Opt.
 use Rattle.mm_host.proofs.Below.{◌≡◌, ℕ, Bool, true, false, List, [], ◌∷◌, ◌++◌, length, refl, sym, ap, ◌∙◌, inl, inr, append-nil}
-use Rattle.mm_host.proofs.Below.{zero_bytes, Opt, Meaning, Batch, InBasic, InOpt, Instance, opt_instance, RegisterEntry, History, first_history}
+use Rattle.mm_host.proofs.Below.{zero_bytes, Opt, Meaning, Batch, InBasic, InOpt, Instance, opt_instance, RegisterEntry, History}
+use Rattle.mm_host.proofs.Below.{first_history}
 use Rattle.mm_host.proofs.Below.{has_value, is_empty, IsPoint, at_anchor, in_closed, in_current, IsPlaceOf, anchor_after, content_of_issue}
 use Rattle.mm_host.proofs.Below.{digest_of, IsSound, batches_in, has_value-append, bare, ◌+◌, Some, Result, Ok, append_assoc, arith}
 use Rattle.mm_host.proofs.Below.{append_cancel_right, Item, Standing, IsLawful, One, Commit, history_after, register_value_of, total_of}
-use Rattle.mm_host.proofs.Below.{BatchAnswer, Refusal, counted_part, IsCallOnCourse, finding_at, digest_level, state_after_moves, items_after_moves, standing_items}
+use Rattle.mm_host.proofs.Below.{BatchAnswer, Refusal, counted_part, IsCallOnCourse, finding_at, digest_level, state_after_moves}
+use Rattle.mm_host.proofs.Below.{items_after_moves, standing_items}
 use Rattle.mm_host.proofs.Below.{counted_open, asks, Alike, still, grown_by, alike_commit, clean_open, issued_alike, names_after, opened}
 use Rattle.mm_host.proofs.Below.{same_closed, issued_content, answered_at, Hands, hands, IsClear, AreNoGuards, flag_kept, pushed_open}
 use Rattle.mm_host.proofs.Below.{shown_front, PendingRecord, one_more, Met, IsGrownBy, opt_met, opt_met_idle, opt_grown, issued_in_opt}
@@ -26,12 +28,14 @@ none_of : {A : Type 0} (xs ys : List A) → xs ++ ys ≡ [] → (xs ≡ []) × (
 none_of [] ys e = (refl, e)
 none_of (x ∷ xs) ys e = absurd (cc)
 
-marred_in : (before : List (List RegisterEntry)) (last : List RegisterEntry) → has_value last ≡ true → has_value (items_of_all (before ++ last ∷ [])) ≡ true
+marred_in : (before : List (List RegisterEntry)) (last : List RegisterEntry) → has_value last ≡ true
+    → has_value (items_of_all (before ++ last ∷ [])) ≡ true
 marred_in [] last e = ap has_value (append-nil last) ∙ e
 marred_in (segment ∷ before) last e =
     let rest = marred_in before last e in rw has_value-append (grind (arith, rest))
 
-clean_batches : (y : History) → IsSound y → has_value (items_of_all y.closed) ≡ false → y.batches ≡ batches_in (items_of_all y.closed) ++ y.current
+clean_batches : (y : History) → IsSound y → has_value (items_of_all y.closed) ≡ false → y.batches ≡ batches_in (items_of_all y.closed)
+    ++ y.current
 clean_batches y sound clean =
     elim sound.history [
       | inl c ↦ c.batches
@@ -64,7 +68,8 @@ first_point i y named a e sound none (in_closed p) = absurd (not_taken named p.d
 first_point i y named a e sound none (in_current p) = absurd (not_taken named p.done p.taken none p.named_is p.begun)
 
 pub opt_place : (meaning : Meaning) (key barrier : List ℕ) (y : History) (named : List Batch) (place : Place) → IsSound y
-    → IsPlaceOf Opt (opt_instance meaning key barrier) y named place → named ≡ [] → place ≡ (content_of_issue (opt_instance meaning key barrier) first_history).place
+    → IsPlaceOf Opt (opt_instance meaning key barrier) y named place → named ≡ []
+    → place ≡ (content_of_issue (opt_instance meaning key barrier) first_history).place
 opt_place meaning key barrier y named (InBasic s) sound p e = absurd p
 opt_place meaning key barrier y named (InOpt a b) sound p e =
     let f = first_point (opt_instance meaning key barrier) y named a.bytes b.bytes sound e p in
@@ -198,7 +203,8 @@ module _ (meaning : Meaning) (lawful : IsLawful meaning) (key barrier : List ℕ
 
 opt_grow : (meaning : Meaning) (key barrier : List ℕ) (y z after : History) (b : Batch) → IsSound after
     → (has_value (items_of_all y.closed) ≡ false → bare y ≡ bare z)
-    → bare after ≡ bare (history_after (opt_instance meaning key barrier) y (Commit b)) → bare after ≡ bare (history_after (opt_instance meaning key barrier) z (Commit b))
+    → bare after ≡ bare (history_after (opt_instance meaning key barrier) y (Commit b))
+    → bare after ≡ bare (history_after (opt_instance meaning key barrier) z (Commit b))
 opt_grow meaning key barrier y z after b sound like e =
     let clean : has_value (items_of_all y.closed) ≡ false =
     ap (λ (s : List (List RegisterEntry)). has_value (items_of_all s)) (sym (same_closed meaning key barrier y after b e))

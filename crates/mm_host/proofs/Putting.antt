@@ -26,7 +26,8 @@ unwritten : (slots : Slots) (bytes : List ℕ) (n m : ℕ) → n < 4 → m < 4 �
     → slot_front (slots_with slots n bytes) m ≡ slot_front slots m
 unwritten slots bytes n m small least unless = grind (arith, nat_tests, small, least, unless)
 
-pub put_next : (slots : Slots) (position : ℕ) (bytes : List ℕ) → IsPut slots (slots_with slots (2 + (position + 1) % 2) bytes) position bytes
+pub put_next : (slots : Slots) (position : ℕ) (bytes : List ℕ)
+    → IsPut slots (slots_with slots (2 + (position + 1) % 2) bytes) position bytes
 put_next slots position bytes = record {
   snapshots = λ n. unwritten slots bytes (2 + (position + 1) % 2) (n % 2) (omega arith) (omega arith) (λ e. omega (arith, e));
   here = unwritten slots bytes (2 + (position + 1) % 2) (2 + position % 2) (omega arith) (omega arith) (λ e. omega (arith, e));
@@ -59,7 +60,8 @@ record Reads (slots : Slots) (kept other : ℕ) (w : Option PendingRecord) : Typ
   reads_there : ReadsPending other (slot_front slots other) there
   later_of : IsLater here there w
 
-reads_of : (slots : Slots) (kept other : ℕ) (w : Option PendingRecord) → AreSides kept other → IsWaiting (slot_front slots 2) (slot_front slots 3) w
+reads_of : (slots : Slots) (kept other : ℕ) (w : Option PendingRecord) → AreSides kept other
+    → IsWaiting (slot_front slots 2) (slot_front slots 3) w
     → Reads slots kept other w
 reads_of slots kept other w (inl s) a = rw (s.0, s.1) (record {
   here = a.in_two;
@@ -132,7 +134,8 @@ elsewhere slot other position xs ys (Some q) None w v u n (inr e) h = absurd (om
 elsewhere slot other position xs ys a (Some q) w v u n (inr e) h = inr (omega (arith, n, u.0.parity, ap waiting_position e))
 
 -- Beside a record of this position, one of no later position than the next waits only as the next.
-torn : (slots other : Slots) (position : ℕ) (bytes : List ℕ) (w v : Option PendingRecord) → IsWaiting (slot_front slots 2) (slot_front slots 3) w
+torn : (slots other : Slots) (position : ℕ) (bytes : List ℕ) (w v : Option PendingRecord)
+    → IsWaiting (slot_front slots 2) (slot_front slots 3) w
     → waiting_position w ≡ position → IsWaiting (slot_front other 2) (slot_front other 3) v → waiting_position v ≤ position + 1
     → IsPut slots other position bytes → (v ≡ w) ⊎ (waiting_position v ≡ position + 1)
 torn slots other position bytes w v a at b few p =
@@ -241,6 +244,7 @@ pub full_fits : (i : Instance) (y : History) (slots other : Slots) (position : �
 full_fits i y slots other position next f h full at spelled p = record {
   waiting = f.waiting;
   is_waiting = waits_still slots other position (pending_spelling next) f.waiting f.is_waiting h
-      (beyond_none (2 + (position + 1) % 2) (slot_front other (2 + (position + 1) % 2)) next (omega (arith, at, full)) (p.next ∙ spelled)) p;
+      (beyond_none (2 + (position + 1) % 2) (slot_front other (2 + (position + 1) % 2)) next (omega (arith, at, full)) (p.next ∙ spelled))
+      p;
   fits = fits_moved i y slots other position (pending_spelling next) f.waiting p f.fits;
 }

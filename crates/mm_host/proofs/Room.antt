@@ -1,6 +1,8 @@
 -- Where there is a position for each request, none is refused as Full.
-use Rattle.mm_host.proofs.Below.{◌≡◌, ◌+◌, ◌-◌, ◌≤◌, ℕ, Bool, true, false, List, [], ◌∷◌, ◌++◌, Option, Some, Result, Err, length, arith, ap}
-use Rattle.mm_host.proofs.Below.{inl, inr, length-append, last_position, Variant, Standing, Batch, One, Meaning, Instance, History, total_of}
+use Rattle.mm_host.proofs.Below.{◌≡◌, ◌+◌, ◌-◌, ◌≤◌, ℕ, Bool, true, false, List, [], ◌∷◌, ◌++◌, Option, Some, Result, Err, length, arith}
+use Rattle.mm_host.proofs.Below.{ap}
+use Rattle.mm_host.proofs.Below.{inl, inr, length-append, last_position, Variant, Standing, Batch, One, Meaning, Instance, History}
+use Rattle.mm_host.proofs.Below.{total_of}
 use Rattle.mm_host.proofs.Below.{IsBatchStep, StoreStanding, PendingRecord, Slots, slot_front, IsWaiting, ServedCall, served_lines}
 use Rattle.mm_host.proofs.Below.{AreAmong, ContinuesTo, IsInHand, CallsRunOver, SessionFault, Host, IsSession, served_calls_in}
 use Rattle.mm_host.proofs.CallsMade.{chain_of, Ends, rests, stops}
@@ -28,7 +30,8 @@ runs_most meaning (c ∷ told) requests after r =
 
 module _ {variant : Variant} {meaning : Meaning} {before final : Standing} {old new : StoreStanding}
     {left left' received received' : Option (List ℕ)} {result : Result Unit SessionFault}
-    (s : IsSession variant meaning before final old new left left' received received' result) (slots : Slots) (waiting : Option PendingRecord)
+    (s : IsSession variant meaning before final old new left left' received received' result) (slots : Slots)
+    (waiting : Option PendingRecord)
     (slots_told : old.slots ≡ Some slots) (w : IsWaiting (slot_front slots 2) (slot_front slots 3) waiting)
     {all others : List (List ℕ)} {asked : List Batch} {i : Instance} (y : History) (requests : List (List ℕ))
     (among : AreAmong (served_calls_in waiting s.goes) (IsInHand waiting s.goes) requests)

@@ -2,15 +2,19 @@
 use Rattle.mm_host.proofs.Below.{bare, idle_again, ◌≡◌, ◌≢◌, ◌∙◌, ℕ, Bool, true, false, List, [], ◌∷◌, ◌++◌, Option, None, Some, Result}
 use Rattle.mm_host.proofs.Below.{Ok, Err, IsSome, refl, sym, ap, subst, inl, inr, append_assoc, ◌⊎◌, append_cancel_left, StepFault}
 use Rattle.mm_host.proofs.Below.{Standing, Batch, One, Meaning, Instance, opt_instance, History, requests_of, LostLife, life_of, StandsFor}
-use Rattle.mm_host.proofs.Below.{Answer, Refusal, IsWithin, batch_result_of, fault_of, unless_idle, StoreFault, StoreStanding, PendingRecord, Slots}
+use Rattle.mm_host.proofs.Below.{Answer, Refusal, IsWithin, batch_result_of, fault_of, unless_idle, StoreFault, StoreStanding}
+use Rattle.mm_host.proofs.Below.{PendingRecord, Slots}
 use Rattle.mm_host.proofs.Below.{slot_front, HostFault, SessionFault, Host, Resumed, AreAskedInTurn, AsksNothingNew, EndsRun, RunsOnce}
 use Rattle.mm_host.proofs.Below.{offer_after, first_offer, IsCall, IsInHand, CallsRunOver, served_calls_in, store_fault_as, refusal_fault}
 use Rattle.mm_host.proofs.Below.{MayHaveCommitted, ServedCall, IsSession, served_lines, grows, IsWaiting, Met, by_refusal, map}
 use Rattle.mm_host.proofs.Below.{AllByRecursion, Contains, fold, extended_message, Variant, Basic, Opt, Item, foreign_item, IsLawful}
-use Rattle.mm_host.proofs.Below.{digest_after, trail, RegisterEntry, Value, Foreign, history_after, register_value_of, are_own, has_value, is_empty, AreMessagesIn}
-use Rattle.mm_host.proofs.Below.{Digests, digests_of, opt_digests, messages_of_moves, state_after_moves, digest_level, list_level, AreShown, StandsAt}
+use Rattle.mm_host.proofs.Below.{digest_after, trail, RegisterEntry, Value, Foreign, history_after, register_value_of, are_own, has_value}
+use Rattle.mm_host.proofs.Below.{is_empty, AreMessagesIn}
+use Rattle.mm_host.proofs.Below.{Digests, digests_of, opt_digests, messages_of_moves, state_after_moves, digest_level, list_level, AreShown}
+use Rattle.mm_host.proofs.Below.{StandsAt}
 use Rattle.mm_host.proofs.Below.{foreign_items, standing_items, stands_at, stands_for, agrees_is, foreign_may, is_agrees, counted_open}
-use Rattle.mm_host.proofs.Below.{foreign_agrees, holds_open, within_items, within_of, foreign_all, holds_made, foreign_messages, history_with_values}
+use Rattle.mm_host.proofs.Below.{foreign_agrees, holds_open, within_items, within_of, foreign_all, holds_made, foreign_messages}
+use Rattle.mm_host.proofs.Below.{history_with_values}
 use Rattle.mm_host.proofs.Below.{taking_is, names_alike, shown_back, shown_front, shown_shut, MayStart, RunsOnceFrom, not_lost}
 use Rattle.mm_host.proofs.Below.{was_powered, append-nil, SessionRunsOnce, counted_part}
 use Rattle.mm_model.specs.declared.refusal.Refusal.TheVariants as refusal
@@ -94,7 +98,8 @@ module _ {all others : List (List ℕ)} {asked : List Batch} {i : Instance} {fin
         rw is (record {
           runs = runs_to y told hand m.after m.stands m.within run
               (line_committed z m.after request came sent fault hand h says (only_by call came t m.only)
-              (grows i z (pending_for request) (offer_after first told) m.after (batch_result_of call) m.comes)) (λ p. m.powered (powered p));
+              (grows i z (pending_for request) (offer_after first told) m.after (batch_result_of call) m.comes))
+              (λ p. m.powered (powered p));
           refuses = λ (why : Refusal) (r : Err fault ≡ Err (Host (host.Refused why))).
               let is = call_refused call came why t (told_refused came sent fault why says (cc)) in
               record {
@@ -111,7 +116,8 @@ module _ {all others : List (List ℕ)} {asked : List Batch} {i : Instance} {fin
   module _ {before : Standing} {old new : StoreStanding} {left left' received received' : Option (List ℕ)}
       {result : Result Unit SessionFault}
       (s : IsSession i.variant i.meaning before final old new left left' received received' result) (y z : History) (slots : Slots)
-      (waiting : Option PendingRecord) (slots_told : old.slots ≡ Some slots) (w : IsWaiting (slot_front slots 2) (slot_front slots 3) waiting)
+      (waiting : Option PendingRecord) (slots_told : old.slots ≡ Some slots)
+      (w : IsWaiting (slot_front slots 2) (slot_front slots 3) waiting)
       (requests : List (List ℕ)) (here : StandsIn all others asked i y z before (first_offer slots waiting))
       (powered : life_of i.variant z ≢ LostLife → life_of i.variant y ≢ LostLife)
       (may : May laws y before (first_offer slots waiting) requests)
@@ -170,7 +176,8 @@ unless_nothing i y offer (request ∷ []) unless = unless_idle i y offer (One re
 unless_nothing i y offer (request ∷ next ∷ requests) unless = inl (unless (λ k. k))
 
 pub minds_nothing : (meaning : Meaning) (key barrier : List ℕ) (y z : History) (offer : List ℕ) (requests : List (List ℕ))
-    → bare z ≡ bare y → AsksNothingNew (opt_instance meaning key barrier) y offer requests → MindsNothing (opt_instance meaning key barrier) z offer requests
+    → bare z ≡ bare y → AsksNothingNew (opt_instance meaning key barrier) y offer requests
+    → MindsNothing (opt_instance meaning key barrier) z offer requests
 minds_nothing meaning key barrier y z offer [] e k = tt
 minds_nothing meaning key barrier y z offer (request ∷ []) e k = (idle_again meaning key barrier y z offer (One request) e k, refl)
 minds_nothing meaning key barrier y z offer (request ∷ next ∷ requests) e k = absurd k
@@ -196,10 +203,12 @@ module _ (meaning : Meaning) (key barrier : List ℕ) where
       ap (λ (d : Digests). d.register) (opt_digests meaning key barrier y (Foreign v) (foreign_may i y y.is_open v))
 
   pub register_looked : (values : List (List ℕ)) (y : History)
-      → register_value_of i (state_after_moves (list_level i) y (map Foreign values)) ≡ digest_after extended_message (register_value_of i y) values
+      → register_value_of i (state_after_moves (list_level i) y (map Foreign values)) ≡ digest_after extended_message
+      (register_value_of i y) values
   register_looked [] y = refl
   register_looked (v ∷ values) y =
-      register_looked values (history_after i y (Foreign v)) ∙ ap (λ (s : List ℕ). digest_after extended_message s values) (register_pushed y v)
+      register_looked values (history_after i y (Foreign v)) ∙ ap (λ (s : List ℕ). digest_after extended_message s values)
+          (register_pushed y v)
 
   pub messages_looked : (values : List (List ℕ)) (y : History)
       → messages_of_moves i y (map Foreign values) ≡ trail extended_message (register_value_of i y) values
@@ -208,14 +217,16 @@ module _ (meaning : Meaning) (key barrier : List ℕ) where
       let s : List ℕ = register_value_of i y in
       ap (λ (ms : List (List ℕ)). ms ++ messages_of_moves i (history_after i y (Foreign v)) (map Foreign values))
       (foreign_messages meaning key barrier y y.is_open v)
-      ∙ ap (λ (ms : List (List ℕ)). extended_message s v ∷ ms) (rw (← register_pushed y v) (messages_looked values (history_after i y (Foreign v))))
+      ∙ ap (λ (ms : List (List ℕ)). extended_message s v ∷ ms)
+      (rw (← register_pushed y v) (messages_looked values (history_after i y (Foreign v))))
 
   shut_of : (y : History) (offer : List ℕ) (requests : List (List ℕ)) → AsksNothingNew i y offer requests → y.is_open ≡ false
   shut_of y offer [] k = k
   shut_of y offer (r ∷ []) k = k.shut
   shut_of y offer (r ∷ next ∷ requests) k = absurd k
 
-pub powered_looked : (values : List (List ℕ)) (y : History) → life_of Opt y ≢ LostLife → life_of Opt (history_with_values y values) ≢ LostLife
+pub powered_looked : (values : List (List ℕ)) (y : History) → life_of Opt y ≢ LostLife
+    → life_of Opt (history_with_values y values) ≢ LostLife
 powered_looked values y p =
     not_lost y.is_open (is_empty (y.items ++ map Value values)) (are_own (y.items ++ map Value values) y.current)
     (has_value (items_of_all y.closed))
@@ -227,7 +238,8 @@ module _ (meaning : Meaning) (lawful : IsLawful meaning) (entry before after : S
     {left left' received received' : Option (List ℕ)}
     {result : Result Unit SessionFault} (s : IsSession Opt meaning before after old new left left' received received' result)
     (key barrier : List ℕ) (y : History) (slots : Slots) (all others : List (List ℕ)) (asked : List Batch)
-    (requests : List (List ℕ)) (items more : List Item) (may : MayStart all others asked (opt_instance meaning key barrier) y slots entry old)
+    (requests : List (List ℕ)) (items more : List Item) (may : MayStart all others asked (opt_instance meaning key barrier)
+    y slots entry old)
     (known : entry.items ≡ Some items) (ends : after.items ≡ Some (standing_items y.is_open items ++ more)) where
   abbrev j : Instance
   j = opt_instance meaning key barrier
@@ -262,7 +274,8 @@ module _ (meaning : Meaning) (lawful : IsLawful meaning) (entry before after : S
       } in
       let is : with_register d (fold extended_digest_of d.register brought_by) ≡ digests_of j z =
       sym (foreign_made j d brought_by)
-      ∙ agrees_is j (state_after_moves (list_level j) y (map Foreign brought_by)) (state_after_moves (digest_level j) d (map Foreign brought_by))
+      ∙ agrees_is j (state_after_moves (list_level j) y (map Foreign brought_by))
+      (state_after_moves (digest_level j) d (map Foreign brought_by))
       (foreign_agrees meaning key barrier brought_by y d (is_agrees j y d refl))
       ∙ ap (digests_of j) (taking_is j brought_by y) in
       stands_for j before z (rw is at read)
@@ -275,8 +288,10 @@ module _ (meaning : Meaning) (lawful : IsLawful meaning) (entry before after : S
       let listed : AreMessagesIn (messages_of_moves j y (map Foreign brought_by)) all =
       rw (messages_looked meaning key barrier brought_by y, ← counted_open y e) (rw (foreign_values brought_by) at front.messages) in
       let outside : AllByRecursion (Contains others) brought_by = rw (foreign_of brought_by) at front.values in
-      rw (taking_is j brought_by y) at (within_of meaning key barrier all others asked (state_after_moves (list_level j) y (map Foreign brought_by))
-      (state_after_moves (digest_level j) d (map Foreign brought_by)) (holds_made meaning key barrier all others asked (map Foreign brought_by) y d
+      rw (taking_is j brought_by y) at
+      (within_of meaning key barrier all others asked (state_after_moves (list_level j) y (map Foreign brought_by))
+      (state_after_moves (digest_level j) d (map Foreign brought_by))
+      (holds_made meaning key barrier all others asked (map Foreign brought_by) y d
       (holds_open meaning key barrier all others asked y d e (is_agrees j y d refl) may.within)
       (foreign_all meaning key barrier all others asked brought_by y outside) listed))
 
@@ -355,7 +370,8 @@ run_over Opt meaning lawful entry before after values cell looked old new left l
     λ s key barrier y slots all others asked requests items more may f known ends shown_so.
     let e = enter_by meaning lawful entry before after values cell looked s key barrier y slots all others asked requests items more may
     known ends y.is_open refl shown_so in
-    runs_once (opt_laws meaning lawful key barrier all others asked after may.clear may.apart) s (history_with_values y values) y slots may.waiting
+    runs_once (opt_laws meaning lawful key barrier all others asked after may.clear may.apart) s (history_with_values y values) y
+    slots may.waiting
     may.told may.is_waiting requests e.0 (powered_looked values y) e.1 f
 
 -- behind a reading of the cell, whether that failed or not

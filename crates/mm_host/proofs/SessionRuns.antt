@@ -4,8 +4,10 @@ use Rattle.mm_host.proofs.Below.{Standing, Batch, One, Instance, History, reques
 use Rattle.mm_host.proofs.Below.{StoreStanding, PendingRecord, Refusal, HostFault, SessionFault, Host, Resumed, ContinuesTo, HasUntold}
 use Rattle.mm_host.proofs.Below.{MayBeUntold, RefusesAs, CallsRunOver, IsGrown, MayHaveCommitted, SendsReply, session_result_of}
 use Rattle.mm_host.proofs.Below.{reply_text, SessionPlace, ServedCall, IsAtRest, Ok, Slots, Answered, FitsBy}
-use Rattle.mm_host.proofs.Below.{RecoversTo, record_for, ServesCalls, served_lines, AreAmong, AreAskedInTurn, history_after_answer, snapshot_at}
-use Rattle.mm_host.proofs.Below.{batch_result_of, slot_front, Answer, IsInHand, first_served_call, served_calls_in, first_offer, requests_with}
+use Rattle.mm_host.proofs.Below.{RecoversTo, record_for, ServesCalls, served_lines, AreAmong, AreAskedInTurn, history_after_answer}
+use Rattle.mm_host.proofs.Below.{snapshot_at}
+use Rattle.mm_host.proofs.Below.{batch_result_of, slot_front, Answer, IsInHand, first_served_call, served_calls_in, first_offer}
+use Rattle.mm_host.proofs.Below.{requests_with}
 use Rattle.mm_host.proofs.Below.{AreNewFrom, AreToldOnce}
 use Rattle.mm_host.proofs.Below.{offer_slot, HostResumes, IsSession, GoesAfterResume, StopsAtOnce, NoMore, left_by, IsCall, IsWaiting}
 use Rattle.mm_host.proofs.Below.{recovers_by, Met, IfOk, subst, sym, total_of, refusal_fault, RunsTo, StandsFor, IsWithin, Variant}
@@ -56,7 +58,8 @@ line_committed z after line came sent fault hand h s (inr may) (inr more) = inr 
   grown = ap requests_of more ∙ requests-push z.batches (One line);
 })
 
-waiting_committed : (y after : History) (waiting : Option PendingRecord) (begun : Result Resumed HostFault) (sent : List ℕ) (fault : SessionFault)
+waiting_committed : (y after : History) (waiting : Option PendingRecord) (begun : Result Resumed HostFault) (sent : List ℕ)
+    (fault : SessionFault)
     (hand : List ℕ → Type 0) → ((p : PendingRecord) → waiting ≡ Some p → hand p.request) → SendsReply begun sent (Err fault)
     → (after.batches ≡ y.batches) ⊎ MayHaveCommitted begun → IsGrown y waiting after
     → (requests_of after.batches ≡ requests_of y.batches) ⊎ HasUntold hand (Err fault) (requests_of y.batches) (requests_of after.batches)
@@ -64,7 +67,8 @@ waiting_committed y after None begun sent fault hand h s o g = inl (ap requests_
 waiting_committed y after (Some p) begun sent fault hand h s o g = line_committed y after p.request begun sent fault hand (h p refl) s o g
 
 -- behind what was told
-module _ {all others : List (List ℕ)} {asked : List Batch} {i : Instance} (y : History) (told : List ServedCall) (hand : List ℕ → Type 0) where
+module _ {all others : List (List ℕ)} {asked : List Batch} {i : Instance} (y : History) (told : List ServedCall)
+    (hand : List ℕ → Type 0) where
   abbrev pub runs_to : {final : Standing} {result : Result Unit SessionFault} {requests : List (List ℕ)} (after : History)
       → StandsFor i final after → IsWithin all others asked i after → CallsRunOver i.meaning (requests_of y.batches) told requests
       → (requests_of after.batches ≡ requests) ⊎ HasUntold hand result requests (requests_of after.batches)
@@ -81,7 +85,8 @@ module _ {all others : List (List ℕ)} {asked : List Batch} {i : Instance} (y :
   }
 
 -- where this waited first
-module _ {all others : List (List ℕ)} {asked : List Batch} {i : Instance} (y : History) (first : Option PendingRecord) (told : List ServedCall)
+module _ {all others : List (List ℕ)} {asked : List Batch} {i : Instance} (y : History) (first : Option PendingRecord)
+    (told : List ServedCall)
     (hand : List ℕ → Type 0) where
   -- by what is left of the history and of the slots
   ends_at : {final : Standing} {u : History} {waiting : Option PendingRecord} {came : Result Resumed HostFault} {requests : List (List ℕ)}
@@ -138,7 +143,8 @@ module _ {all others : List (List ℕ)} {asked : List Batch} {i : Instance} {fin
     pub once : AreNewFrom (total_of y.batches) calls
     pub powered : life_of i.variant y ≢ LostLife → life_of i.variant settled.after ≢ LostLife
 
-  pub lines_come : (z : History) (from to : SessionPlace) (calls : List ServedCall) (rest : List (List ℕ)) (s : IsSettledAt all others asked i from)
+  pub lines_come : (z : History) (from to : SessionPlace) (calls : List ServedCall) (rest : List (List ℕ))
+      (s : IsSettledAt all others asked i from)
       → IsReady laws s z (served_lines calls ++ rest) → ServesCalls i.variant i.meaning from calls to
       → Reaches i.variant i to.platform final → AfterLines s.after to calls rest
   lines_come z from to [] rest s ready h reaches =
@@ -150,7 +156,8 @@ module _ {all others : List (List ℕ)} {asked : List Batch} {i : Instance} {fin
       (calls_reach laws c.answer.snapshot h.platform to.platform calls
       (served_calls i.variant i.meaning next to calls h.rest) reaches)
       h.asks.records h.asks.goes in
-      let r = lines_come (history_after_answer i z (snapshot_at from.last) c.line) next to calls rest b.settled_then b.ready h.rest reaches in
+      let r = lines_come (history_after_answer i z (snapshot_at from.last) c.line) next to calls rest b.settled_then b.ready
+          h.rest reaches in
       record {
         settled = r.settled;
         then_is = r.then_is;
@@ -163,7 +170,8 @@ module _ {all others : List (List ℕ)} {asked : List Batch} {i : Instance} {fin
 
 -- what the line in hand came to
 module _ {all others : List (List ℕ)} {asked : List Batch} {i : Instance} {final : Standing} (laws : Laws all others asked i final)
-    (at : SessionPlace) (settled : IsSettledAt all others asked i at) (z : History) (rest : List (List ℕ)) (ready : IsReady laws settled z rest)
+    (at : SessionPlace) (settled : IsSettledAt all others asked i at) (z : History) (rest : List (List ℕ))
+    (ready : IsReady laws settled z rest)
     (line : List ℕ) (new : StoreStanding) (came : Result Resumed HostFault) (within : MayGrow longest_request line) where
   line_came : (recorded : Result Unit StoreFault) (middle : StoreStanding)
       → WritesSlot (2 + (position_at at.last + 1) % 2) (pending_spelling (record_for at.last line)) at.store middle recorded
@@ -227,10 +235,12 @@ module _ {all others : List (List ℕ)} {asked : List Batch} {i : Instance} {fin
     recovered_by More after came none r leads =
         recovers_by More i.variant all others asked i laws.lawful y slots before after old enters s.store came none r
         (λ made p call e told c.
-        let o = leads made p call e c told in left_by all others asked i y slots before old enters More after p (batch_result_of call) e o.0 o.1)
+        let o = leads made p call e c told in left_by all others asked i y slots before old enters More after p
+            (batch_result_of call) e o.0 o.1)
 
     -- it is all
-    recovers_last : final ≡ s.platform → IsFirstAsked s waiting requests → RecoversTo all others asked i y slots waiting final s.store s.begun
+    recovers_last : final ≡ s.platform → IsFirstAsked s waiting requests → RecoversTo all others asked i y slots waiting
+        final s.store s.begun
     recovers_last same first =
         subst (λ (x : Standing). RecoversTo all others asked i y slots waiting x s.store s.begun) (sym same)
         (recovered_by NoMore s.platform s.begun (λ n e. tt) s.resumes (λ made p call e c told.
@@ -253,7 +263,8 @@ module _ {all others : List (List ℕ)} {asked : List Batch} {i : Instance} {fin
         (subst (λ (rs : List (List ℕ)). May laws y before (slot_front slots 0) rs)
         (all_lines ∙ ap (λ (v : Option PendingRecord). requests_with v lines) n)
         (subst (λ (v : Option PendingRecord). May laws y before (first_offer slots v) requests) n may)) in
-        subst (λ (v : Option PendingRecord). IsBetween laws (waiting_then laws z slots v) s.platform (offer_then laws z slots v) lines y) (sym n)
+        subst (λ (v : Option PendingRecord). IsBetween laws (waiting_then laws z slots v) s.platform (offer_then laws z slots v) lines y)
+            (sym n)
         (rests, here.same))
         (rw is at s.resumes)
         (λ made p call e c told.
@@ -333,7 +344,8 @@ module _ {all others : List (List ℕ)} {asked : List Batch} {i : Instance} {fin
             unspoiled = c.runs.unspoiled;
             powered = λ p. c.runs.powered (powered p);
           };
-          once = subst (λ (bs : List Batch). AreToldOnce (total_of bs) waiting (served_calls_in waiting s.goes)) (laws.batches y z here.same) c.once;
+          once = subst (λ (bs : List Batch). AreToldOnce (total_of bs) waiting (served_calls_in waiting s.goes))
+              (laws.batches y z here.same) c.once;
           room = c.room;
           slots_after = c.slots_after;
           honest = c.honest;
@@ -359,7 +371,8 @@ module _ {all others : List (List ℕ)} {asked : List Batch} {i : Instance} {fin
     made_among (inr g) a = (
       a.served.0,
       a.served.1,
-      line_among (first_served_call waiting g.first ++ g.lines.calls) (length g.lines.calls + 1) g.lines.at left' g.lines.more g.lines.last a result
+      line_among (first_served_call waiting g.first ++ g.lines.calls) (length g.lines.calls + 1) g.lines.at left' g.lines.more
+      g.lines.last a result
           g.lines.ends,
     )
 

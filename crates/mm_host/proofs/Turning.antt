@@ -1,7 +1,8 @@
 -- The steps of a session: its start, a turn from what the reader read and what came of the line, and the rest of it.
 use Rattle.mm_host.proofs.Below.{◌≡◌, ℕ, List, [], ◌++◌, Option, Result, Ok, Err, refl, ap, inl, inr, Appends-nil, Appends-trans}
 use Rattle.mm_host.proofs.Below.{Consumes-nil, Variant, Standing, Meaning, StoreStanding, HostFault, SessionFault, Host, Resumed}
-use Rattle.mm_host.proofs.Below.{HostResumes, SendsReply, TellsReply, session_result_of, reply_text, IsSession, ServesInput, ◌∙◌, ◌+◌, ◌≤◌, ◌∷◌, sym}
+use Rattle.mm_host.proofs.Below.{HostResumes, SendsReply, TellsReply, session_result_of, reply_text, IsSession, ServesInput, ◌∙◌, ◌+◌, ◌≤◌}
+use Rattle.mm_host.proofs.Below.{◌∷◌, sym}
 use Rattle.mm_host.proofs.Below.{append_assoc, arith, longest_request, Lines, WriteFault, AsksNext, SessionPlace, BeginsWith, StopsInLine}
 use Rattle.mm_host.proofs.Below.{most_lines, ServesNext, TurnGoes, length, Some, Consumes-trans, joined_lines, Answered, served_lines}
 use Rattle.mm_host.proofs.Below.{replies_to, ServesLine, AsksAndTells, TurnSends, ServedCall, turn_answer_of}

@@ -6,7 +6,8 @@ use Rattle.std.specs.Prelude.{◌⊎◌}
 use Rattle.std.specs.List.{Contains}
 use Rattle.mm_host.specs.Below.{lines_of, Variant, Basic, Opt, Content, Item, Standing, Batch, One, Meaning, History, Commit, history_after}
 use Rattle.mm_host.specs.Below.{requests_of, total_of, Instance, basic_instance, opt_instance, AreMessagesIn, IsClear, AreNoGuards}
-use Rattle.mm_host.specs.Below.{StandsFor, IsGenuine, issued_bytes, Refusal, IsWithin, right_messages, finding_at, right_content, list_level}
+use Rattle.mm_host.specs.Below.{StandsFor, IsGenuine, issued_bytes, Refusal, IsWithin, right_messages, finding_at, right_content}
+use Rattle.mm_host.specs.Below.{list_level}
 use Rattle.mm_host.specs.Below.{AreShown, IsIdle, fault_of, standing_items, StoreStanding, PendingRecord, Slots, slot_front, first_offer}
 use Rattle.mm_host.specs.Below.{IsWaiting, Refused}
 use Rattle.mm_host.specs.declared.fault.SessionFault.{SessionFault}
@@ -126,7 +127,8 @@ RunsOnceFrom Basic meaning entry before after old new left left' received receiv
     (key : List ℕ) (y : History) (slots : Slots) (all others : List (List ℕ)) (asked : List Batch)
     (requests : List (List ℕ)) →
     (may : MayStart all others asked (basic_instance meaning key) y slots entry old) →
-    AreAskedInTurn all asked (basic_instance meaning key) y (first_offer slots may.waiting) requests →
+    AreAskedInTurn all asked (basic_instance meaning key) y (first_offer slots may.waiting) requests
+    →
     RunsOnce all others asked (basic_instance meaning key) y slots may.waiting left after
     (served_calls_in may.waiting s.goes) (IsInHand may.waiting s.goes) requests result
 RunsOnceFrom Opt meaning entry before after old new left left' received received' result =
@@ -134,9 +136,11 @@ RunsOnceFrom Opt meaning entry before after old new left left' received received
     (key barrier : List ℕ) (y : History) (slots : Slots) (all others : List (List ℕ))
     (asked : List Batch) (requests : List (List ℕ)) (items more : List Item) →
     (may : MayStart all others asked (opt_instance meaning key barrier) y slots entry old) →
-    AreAskedInTurn all asked (opt_instance meaning key barrier) y (first_offer slots may.waiting) requests →
+    AreAskedInTurn all asked (opt_instance meaning key barrier) y
+    (first_offer slots may.waiting) requests →
     entry.items ≡ Some items → after.items ≡ Some (standing_items y.is_open items ++ more) →
-    ((AsksNothingNew (opt_instance meaning key barrier) y (first_offer slots may.waiting) requests → ⊥) →
+    ((AsksNothingNew (opt_instance meaning key barrier) y (first_offer slots may.waiting) requests
+    → ⊥) →
     AreShown all others (opt_instance meaning key barrier) y more) →
     RunsOnce all others asked (opt_instance meaning key barrier) y slots may.waiting left after
     (served_calls_in may.waiting s.goes) (IsInHand may.waiting s.goes) requests result

@@ -46,14 +46,16 @@ module _ {variant : Variant} {meaning : Meaning} {begun : Result Resumed HostFau
     {platform after : Standing} {store new : StoreStanding} {left : Option (List ℕ)}
     {taken sent : List ℕ} {result : Result Unit SessionFault} (waiting : Option PendingRecord) where
   -- the requests that a session told, each with its answer
-  abbrev pub served_calls_in : GoesAfterResume variant meaning begun platform after store new left taken sent
+  abbrev pub served_calls_in : GoesAfterResume variant meaning begun platform after store
+      new left taken sent
       result → List ServedCall
   served_calls_in (inl stops) = []
   served_calls_in (inr goes) = first_served_call waiting goes.first ++ goes.lines.calls
 
   -- the request in hand where a session stopped: what waited, or the line after those that were
   -- told
-  abbrev pub IsInHand : GoesAfterResume variant meaning begun platform after store new left taken sent
+  abbrev pub IsInHand : GoesAfterResume variant meaning begun platform after store
+      new left taken sent
       result → List ℕ → Type 0
   IsInHand (inl stops) request = (p : PendingRecord) × (waiting ≡ Some p) × (p.request ≡ request)
   IsInHand (inr goes) request = (held : List ℕ) × BeginsWith goes.lines.more request held
@@ -113,7 +115,8 @@ module _ (all others : List (List ℕ)) (asked : List Batch) (i : Instance) (y :
   -- What waited is told first, and each line once; no request is behind the last position. The
   -- slots fit that history too, so that the session may be gone on with. A refusal is a device's
   -- fault, or Full where every position is used up, or tells how that history has ended.
-  pub record ContinuesTo (waiting : Option PendingRecord) (standing : Standing) (kept : StoreStanding)
+  pub record ContinuesTo (waiting : Option PendingRecord) (standing : Standing)
+      (kept : StoreStanding)
       (told : List ServedCall) (hand : List ℕ → Type 0) (result : Result Unit SessionFault) : Type 0
     where
       pub runs : RunsTo standing told hand result

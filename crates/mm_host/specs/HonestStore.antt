@@ -1,6 +1,7 @@
 -- What a session comes to over an honest store, in either variant: it may be gone on with.
 use Rattle.std.specs.Prelude.{◌≡◌, ℕ, true, List, ◌++◌, Option, Some, Result}
-use Rattle.mm_host.specs.Below.{Variant, Basic, Opt, Item, Standing, Batch, Meaning, History, Instance, basic_instance, opt_instance, IsClear}
+use Rattle.mm_host.specs.Below.{Variant, Basic, Opt, Item, Standing, Batch, Meaning, History, Instance, basic_instance, opt_instance}
+use Rattle.mm_host.specs.Below.{IsClear}
 use Rattle.mm_host.specs.Below.{AreNoGuards, StandsFor, IsWithin, AreShown, standing_items, StoreStanding, Slots, FitsHistory, first_offer}
 use Rattle.mm_host.specs.declared.fault.SessionFault.{SessionFault}
 use Rattle.mm_host.specs.AnySlots.{AreAmong, AreAskedInTurn, AsksNothingNew}
@@ -34,7 +35,8 @@ ContinuesFrom Basic meaning entry before after old new left left' received recei
     (key : List ℕ) (y : History) (slots : Slots) (all others : List (List ℕ)) (asked : List Batch)
     (requests : List (List ℕ)) →
     (may : MayGoOn all others asked (basic_instance meaning key) y slots entry old) →
-    AreAskedInTurn all asked (basic_instance meaning key) y (first_offer slots may.fits.waiting) requests →
+    AreAskedInTurn all asked (basic_instance meaning key) y
+    (first_offer slots may.fits.waiting) requests →
     AreAmong (served_calls_in may.fits.waiting s.goes) (IsInHand may.fits.waiting s.goes) requests →
     ContinuesTo all others asked (basic_instance meaning key) y may.fits.waiting after new
     (served_calls_in may.fits.waiting s.goes)
@@ -44,11 +46,13 @@ ContinuesFrom Opt meaning entry before after old new left left' received receive
     (key barrier : List ℕ) (y : History) (slots : Slots) (all others : List (List ℕ))
     (asked : List Batch) (requests : List (List ℕ)) (items more : List Item) →
     (may : MayGoOn all others asked (opt_instance meaning key barrier) y slots entry old) →
-    AreAskedInTurn all asked (opt_instance meaning key barrier) y (first_offer slots may.fits.waiting)
+    AreAskedInTurn all asked (opt_instance meaning key barrier) y
+    (first_offer slots may.fits.waiting)
     requests →
     AreAmong (served_calls_in may.fits.waiting s.goes) (IsInHand may.fits.waiting s.goes) requests →
     entry.items ≡ Some items → after.items ≡ Some (standing_items y.is_open items ++ more) →
-    ((AsksNothingNew (opt_instance meaning key barrier) y (first_offer slots may.fits.waiting) requests → ⊥)
+    ((AsksNothingNew (opt_instance meaning key barrier) y
+    (first_offer slots may.fits.waiting) requests → ⊥)
     → AreShown all others (opt_instance meaning key barrier) y more) →
     ContinuesTo all others asked (opt_instance meaning key barrier) y may.fits.waiting after new
     (served_calls_in may.fits.waiting s.goes)

@@ -1,7 +1,8 @@
 -- How often a session is to write the cell.
 use Rattle.std.specs.Prelude.{◌≢◌, ◌+◌, ◌≤◌, ℕ, List, [], ◌∷◌, length, Option, Result}
 use Rattle.std.proofs.Common.{inl, inr}
-use Rattle.mm_host.specs.Below.{lines_of, Variant, Standing, Meaning, StoreStanding, WritesFor, new_requests_by, new_requests_at, HostFault, Resumed}
+use Rattle.mm_host.specs.Below.{lines_of, Variant, Standing, Meaning, StoreStanding, WritesFor, new_requests_by, new_requests_at, HostFault}
+use Rattle.mm_host.specs.Below.{Resumed}
 use Rattle.mm_host.specs.declared.fault.SessionFault.{SessionFault}
 use Rattle.mm_host.specs.Continuation.{MayBeUntold}
 use Rattle.mm_host.specs.Sessions.{ServedCall, GoesAfterResume, IsSession}
@@ -11,7 +12,8 @@ abbrev pub new_lines : List ServedCall → ℕ
 new_lines [] = 0
 new_lines (c ∷ calls) = new_requests_by c.answer.again + new_lines calls
 
-abbrev pub new_told_requests : {variant : Variant} {meaning : Meaning} {begun : Result Resumed HostFault}
+abbrev pub new_told_requests : {variant : Variant} {meaning : Meaning}
+    {begun : Result Resumed HostFault}
     {platform after : Standing}
     {store new : StoreStanding} {left : Option (List ℕ)} {taken sent : List ℕ}
     {result : Result Unit SessionFault}

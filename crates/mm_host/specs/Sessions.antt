@@ -79,7 +79,8 @@ abbrev pub most_lines : ℕ
 most_lines = 1000000
 
 -- Nothing more is asked or written.
-pub record IsAtRest (at : SessionPlace) (after : Standing) (new : StoreStanding) (sent : List ℕ) : Type 0
+pub record IsAtRest (at : SessionPlace) (after : Standing) (new : StoreStanding)
+    (sent : List ℕ) : Type 0
   where
     pub platform : after ≡ at.platform
     pub store : new ≡ at.store
@@ -105,7 +106,8 @@ pub record StopsAtOnce (begun : Result Resumed HostFault) (taken sent : List ℕ
 
 module _ (variant : Variant) (meaning : Meaning) where
   -- The line is asked and answered, and the session goes on.
-  pub record ServesFirst (from : SessionPlace) (c : ServedCall) (goes : SessionPlace → Type 0) : Type 0 where
+  pub record ServesFirst (from : SessionPlace) (c : ServedCall) (goes : SessionPlace
+      → Type 0) : Type 0 where
     pub within : MayGrow longest_request c.line
     pub platform : Standing
     pub store : StoreStanding
@@ -198,7 +200,8 @@ module _ (variant : Variant) (meaning : Meaning) where
 
   -- Some lines are served from where the session stands, of which the first would have this number,
   -- and there it ends; `bytes` were held before or taken.
-  pub record ServesAllLines (number : ℕ) (from : SessionPlace) (after : Standing) (new : StoreStanding)
+  pub record ServesAllLines (number : ℕ) (from : SessionPlace) (after : Standing)
+      (new : StoreStanding)
       (left : Option (List ℕ)) (bytes sent : List ℕ)
       (result : Result Unit SessionFault) : Type 0 where
     pub calls : List ServedCall
@@ -209,7 +212,8 @@ module _ (variant : Variant) (meaning : Meaning) where
     pub last : List ℕ
     pub took : bytes ≡ joined_lines (served_lines calls) ++ more
     pub wrote : sent ≡ replies_to calls ++ last
-    pub ends : TurnGoes (length calls + number) at after new left more [] last (turn_answer_of result)
+    pub ends : TurnGoes (length calls + number) at after new left more [] last
+        (turn_answer_of result)
 
   -- The lines of an input are served, where some bytes are held; with what was taken and written
   -- for them.

@@ -113,7 +113,8 @@ module _ {variant : Variant} {meaning : Meaning} where
         still = λ z. absurd (omega (arith, stopped, z));
       }
 
-  pub ends_writes : {at final : Standing} {offer : List ℕ} {hand : List ℕ → Type 0} {calls : List LifeCall} {result : Result Unit SessionFault}
+  pub ends_writes : {at final : Standing} {offer : List ℕ} {hand : List ℕ → Type 0} {calls : List LifeCall}
+      {result : Result Unit SessionFault}
       → Ends variant meaning at final offer hand calls result → LastWrites variant at final (session_stop result)
   ends_writes {at} {final} {result = result} (at_rest same none) = last_none variant at final (session_stop result) same
   ends_writes {at} {final} {offer} (stops request h gives c is came t sent fault says ends) =
@@ -208,7 +209,8 @@ openings_most false zero = omega arith
 openings_most false (suc n) = omega arith
 
 -- a part without a stop was to write the cell where it turned the flag
-pub turning : (stop : ℕ) (before after : Bool) (old new : Standing) (written : ℕ) → written ≤ 1 → (stop ≡ 0 → written ≡ turns_between before after)
+pub turning : (stop : ℕ) (before after : Bool) (old new : Standing) (written : ℕ) → written ≤ 1
+    → (stop ≡ 0 → written ≡ turns_between before after)
     → new.writes ≡ count_after_more written old.writes → Counts old new stop (turns_unless_stopped stop before after)
 turning zero before after old new written most whole writes =
     let is = whole refl in

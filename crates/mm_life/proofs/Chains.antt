@@ -163,7 +163,8 @@ module _ {variant : Variant} {meaning : Meaning} {before after : Standing} {old 
   began = begun_by variant meaning before s.platform s.resumes.waiting s.resumes.middle s.store s.begun s.resumes.goes
 
   chain_by : (goes : GoesAfterResume variant meaning s.begun s.platform after s.store new left' s.taken s.sent result)
-      → Chain variant meaning (first_bytes s) before after (served_calls_in waiting goes) (IsInHand waiting goes) (untold_calls s goes) result
+      → Chain variant meaning (first_bytes s) before after (served_calls_in waiting goes) (IsInHand waiting goes)
+      (untold_calls s goes) result
   chain_by (inl e) = record {
     at = before;
     calls = refl;

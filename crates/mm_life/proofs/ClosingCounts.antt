@@ -43,7 +43,8 @@ module _ (i : Instance) where
   closing_read values Done rest flag d behind =
       let h = behind (state_after_moves (digest_level i) d (map Foreign values)) (ap (λ (x : Digests). x.flag) (foreign_made i d values)) in
       record {
-        whole = λ w. h.whole w ∙ ap (λ (x : Digests). turns_between flag x.flag) (sym (state_after_moves-append i d (map Foreign values) rest.moves));
+        whole = λ w. h.whole w ∙ ap (λ (x : Digests). turns_between flag x.flag)
+            (sym (state_after_moves-append i d (map Foreign values) rest.moves));
         most = h.most;
       }
   closing_read values (Fails fault effect) rest flag d behind = record { whole = λ w. absurd (cc); most = omega arith }

@@ -1,5 +1,6 @@
 -- A life over one honest store, part after part, in either variant.
-use Rattle.std.proofs.Common.{◌≡◌, ◌≢◌, ◌≤◌, ◌+◌, ◌-◌, ◌∙◌, ◌⊎◌, ℕ, Bool, true, false, List, [], ◌∷◌, Option, None, Some, Result, Err, length}
+use Rattle.std.proofs.Common.{◌≡◌, ◌≢◌, ◌≤◌, ◌+◌, ◌-◌, ◌∙◌, ◌⊎◌, ℕ, Bool, true, false, List, [], ◌∷◌, Option, None, Some, Result, Err}
+use Rattle.std.proofs.Common.{length}
 use Rattle.std.proofs.Common.{arith, refl, sym, ap, subst, inl, inr, length-append}
 use Rattle.mm_platform.specs.Standing.{Standing}
 use Rattle.mm_module.specs.Batch.{Batch, One}
@@ -63,7 +64,8 @@ told_most meaning true requests after line before outputs s =
       ap (λ (xs : List (List ℕ)). length xs) s.2,
     )
 
-calls_reached : (meaning : Meaning) (waiting : Option PendingRecord) (c : ServedCall) (calls : List ServedCall) (requests after : List (List ℕ))
+calls_reached : (meaning : Meaning) (waiting : Option PendingRecord) (c : ServedCall) (calls : List ServedCall)
+    (requests after : List (List ℕ))
     → CallsRunOver meaning requests (c ∷ calls) after → reached_position waiting (c ∷ calls) ≤ length after
 calls_reached meaning waiting c [] requests after r =
     omega (
@@ -114,14 +116,16 @@ module _ {all others : List (List ℕ)} {asked : List Batch} {i : Instance} {IsS
       (chance : LeavesNoChance i.variant i.meaning old (Holds p) new s) where
     abbrev On : Type 0
     On =
-        ContinuesTo all others asked i y fits.waiting new p.new (served_calls_in fits.waiting s.goes) (IsInHand fits.waiting s.goes) p.result
+        ContinuesTo all others asked i y fits.waiting new p.new (served_calls_in fits.waiting s.goes)
+        (IsInHand fits.waiting s.goes) p.result
 
     waits : IsNextOrLast (requests_of y.batches) fits.waiting
     waits = next_or_last i slots y fits.waiting fits.fits
 
     fits_then : (c : On) → FitsHistory i c.slots_after c.runs.after
     fits_then c = elim (store_failed p.result) [
-      | inl failed ↦ c.fits (beyond_less c.slots_after (reached_position fits.waiting (served_calls_in fits.waiting s.goes)) (total_of c.runs.after.batches)
+      | inl failed ↦ c.fits (beyond_less c.slots_after (reached_position fits.waiting (served_calls_in fits.waiting s.goes))
+      (total_of c.runs.after.batches)
           (omega (
             arith,
             reached_most i.meaning fits.waiting (served_calls_in fits.waiting s.goes) (requests_of y.batches) c.runs.requests waits
@@ -183,7 +187,8 @@ module _ {all others : List (List ℕ)} {asked : List Batch} {i : Instance} {IsS
   }
 
   deed_stays : (y : History) (old : Standing) (deed : Deed) (new : Standing) → IsNoCall deed → IsSeen old (Does deed) new ⊎ IsStill old []
-      → DeedLeads i.variant i.meaning old deed new → StandsFor i old y → IsWithin all others asked i y → HistoryStays all others asked i y new
+      → DeedLeads i.variant i.meaning old deed new → StandsFor i old y → IsWithin all others asked i y
+      → HistoryStays all others asked i y new
   deed_stays y old deed new quiet (inl seen) f stands within = life.stays y old deed new quiet seen f stands within
   deed_stays y old deed new quiet (inr still) f stands within = life.stays_still y old deed new quiet still f stands within
 

@@ -1,5 +1,6 @@
 -- A session over an honest store, by the calls that it made: it goes on from a history that the slots fit.
-use Rattle.std.proofs.Common.{◌≡◌, ◌∙◌, ◌⊎◌, ℕ, true, List, [], ◌∷◌, ◌++◌, map, Option, None, Some, Result, Ok, Err, refl, sym, subst, inl, inr}
+use Rattle.std.proofs.Common.{◌≡◌, ◌∙◌, ◌⊎◌, ℕ, true, List, [], ◌∷◌, ◌++◌, map, Option, None, Some, Result, Ok, Err, refl, sym, subst, inl}
+use Rattle.std.proofs.Common.{inr}
 use Rattle.mm_base.specs.declared.replay_fault.ReplayFault.TheVariants.{WriteFault}
 use Rattle.mm_digest.specs.declared.variant.Variant.{Variant}
 use Rattle.mm_platform.specs.Standing.{Standing}
@@ -37,7 +38,8 @@ use Rattle.mm_host.specs.Continuation.{AreToldOnce, RefusesAs}
 use Rattle.mm_host.proofs.Above.{by_told, fits_room, unspoiled}
 use Rattle.mm_life.specs.OneList.{SessionSteps}
 use Rattle.mm_life.specs.Deeds.{LifeCall}
-use Rattle.mm_life.specs.SessionCalls.{bytes_of, first_bytes, first_calls, found_pending, IsInHandOf, last_calls, offered_calls, offer_after_finding}
+use Rattle.mm_life.specs.SessionCalls.{bytes_of, first_bytes, first_calls, found_pending, IsInHandOf, last_calls, offered_calls}
+use Rattle.mm_life.specs.SessionCalls.{offer_after_finding}
 use Rattle.mm_life.specs.SessionCalls.{recorded_calls, session_calls, told_calls, untold_calls}
 use Rattle.mm_life.proofs.Chains.{Chain, Ends, call_of, rests, session_chain, stops}
 use Rattle.mm_life.proofs.OneCall.{AreListed, makes_call}
@@ -57,7 +59,8 @@ module _ {all others : List (List ℕ)} {asked : List Batch} {i : Instance} {fin
       let l : AreListed all asked i (made ∷ []) = rw is at listed in
       rw is (l.batches.0, listed_first all asked i made [] l, tt)
 
-  asked_in_turn : (told : List ServedCall) (y z : History) (old at : Standing) (offer : List ℕ) (hand : List ℕ → Type 0) (untold : List LifeCall)
+  asked_in_turn : (told : List ServedCall) (y z : History) (old at : Standing) (offer : List ℕ) (hand : List ℕ → Type 0)
+      (untold : List LifeCall)
       (result : Result Unit SessionFault) → CallsInTurn i.variant i.meaning offer old told at
       → Ends i.variant i.meaning at final (offer_after offer told) hand untold result → StandsIn all others asked i y z old offer
       → Shows i.variant all others i y old final → AreListed all asked i (told_calls offer told ++ untold)
@@ -69,7 +72,8 @@ module _ {all others : List (List ℕ)} {asked : List Batch} {i : Instance} {fin
       let then_is : History = history_after_answer i z offer c.line in
       let first = listed_first all asked i made rest listed in
       let m = laws.met y old h.0 offer (pending_for c.line) (batch_answer_of c.answer)
-      (makes_call laws old h.0 offer c.line y (Ok (batch_answer_of c.answer)) h.1.goes s.stands s.within s.genuine listed.batches.0 first) shows
+      (makes_call laws old h.0 offer c.line y (Ok (batch_answer_of c.answer)) h.1.goes s.stands s.within s.genuine listed.batches.0 first)
+      shows
       (calls_reach laws c.answer.snapshot h.0 at told h.2 (ends_reach laws ends)) in
       let t = stepped_by laws y z old h.0 offer (pending_for c.line) c.answer s h.1.fits m.0 m.0.comes in (
         listed.batches.0,
@@ -99,7 +103,8 @@ module _ {all others : List (List ℕ)} {asked : List Batch} {i : Instance} {fin
       let m = makes_call laws before final offer request y (batch_result_of gives) c.goes s.stands s.within s.genuine l.batches.0 first in
       rw is ((l.batches.0, first, tt), inr (still.1 made is final m, refl))
 
-  asked_still : (y : History) (before : Standing) (offer : List ℕ) (told : List ServedCall) (hand : List ℕ → Type 0) (untold : List LifeCall)
+  asked_still : (y : History) (before : Standing) (offer : List ℕ) (told : List ServedCall) (hand : List ℕ → Type 0)
+      (untold : List LifeCall)
       (result : Result Unit SessionFault) → Chain i.variant i.meaning offer before final told hand untold result
       → StandsIn all others asked i y y before offer → AreListed all asked i (told_calls offer told ++ untold)
       → AreStill y before (told_calls offer told ++ untold) → AreAskedStill y before offer (served_lines told ++ requests_in untold)
@@ -118,7 +123,8 @@ module _ {all others : List (List ℕ)} {asked : List Batch} {i : Instance} {fin
       elim still.0 [ inl e ↦ absurd (cc) | inr one ↦ let clash = one.1 in absurd (cc) ]
 
 -- What a start came to where the store failed, or memory was wanting, before anything was asked.
-record Rests (before after : Standing) (slots : Slots) (honest : Bool) (new : StoreStanding) (came : Result Resumed HostFault) : Type 0 where
+record Rests (before after : Standing) (slots : Slots) (honest : Bool) (new : StoreStanding)
+    (came : Result Resumed HostFault) : Type 0 where
   same : after ≡ before
   told : new.slots ≡ Some slots
   is_honest : new.is_honest ≡ honest
@@ -126,11 +132,13 @@ record Rests (before after : Standing) (slots : Slots) (honest : Bool) (new : St
   is : came ≡ Err (store_fault_as why)
 
 -- It rests; or what the slots show was offered first, for what waits in them.
-data Opens (variant : Variant) (meaning : Meaning) (before after : Standing) (slots : Slots) (honest : Bool) (waiting : Option PendingRecord)
+data Opens (variant : Variant) (meaning : Meaning) (before after : Standing) (slots : Slots) (honest : Bool)
+    (waiting : Option PendingRecord)
     (found : Result (Option PendingRecord) StoreFault) (middle new : StoreStanding) (came : Result Resumed HostFault)
     (g : GoesAfterFinding variant meaning before after found middle new came) : Type 0 where
   unasked : Rests before after slots honest new came → Opens variant meaning before after slots honest waiting found middle new came g
-  offers : offer_after_finding variant meaning before after found middle new came g ≡ first_offer slots waiting → found_pending found ≡ waiting
+  offers : offer_after_finding variant meaning before after found middle new came g ≡ first_offer slots waiting → found_pending found
+      ≡ waiting
       → Opens variant meaning before after slots honest waiting found middle new came g
 
 module _ (variant : Variant) (meaning : Meaning) (before after : Standing) (slots : Slots) where
@@ -142,7 +150,8 @@ module _ (variant : Variant) (meaning : Meaning) (before after : Standing) (slot
       inr (record { same = same; told = r.slots ∙ told; is_honest = r.honest; why = why; is = e })
 
   offer_shown : (offer : Result (List ℕ) StoreFault) (first old new : StoreStanding) (p : PendingRecord) (came : Result Resumed HostFault)
-      → GoesAfterOffer variant meaning before after offer old new p came → first.slots ≡ Some slots → ReadsSlot (offer_slot p) first old offer
+      → GoesAfterOffer variant meaning before after offer old new p came → first.slots ≡ Some slots
+      → ReadsSlot (offer_slot p) first old offer
       → (bytes_of variant meaning before after offer ≡ slot_front slots (offer_slot p)) ⊎ Rests before after slots first.is_honest new came
   offer_shown (Ok bytes) first old new p came g told r = inl (r.gives slots told)
   offer_shown (Err why) first old new p came g told r =
@@ -180,12 +189,14 @@ module _ (variant : Variant) (meaning : Meaning) (before after : Standing) where
   offer_made (Err why) old new p came g m = absurd m
 
   first_made : (found : Result (Option PendingRecord) StoreFault) (middle new : StoreStanding) (came : Result Resumed HostFault)
-      (g : GoesAfterFinding variant meaning before after found middle new came) → IsMade variant meaning before after found middle new came g
+      (g : GoesAfterFinding variant meaning before after found middle new came) → IsMade variant meaning before after found
+      middle new came g
       → (p : PendingRecord) → found_pending found ≡ Some p
       → requests_in (first_calls variant meaning before after found middle new came g) ≡ p.request ∷ []
   first_made (Ok (Some q)) middle new came g m p e =
       let same : q ≡ p = cc in
-      subst (λ (x : PendingRecord). requests_in (offered_calls variant meaning before after g.offer g.middle new q came g.goes) ≡ x.request ∷ [])
+      subst (λ (x : PendingRecord). requests_in (offered_calls variant meaning before after g.offer g.middle new q came g.goes) ≡ x.request
+          ∷ [])
       same (offer_made g.offer g.middle new q came g.goes m)
   first_made (Ok None) middle new came g m p e = absurd m
   first_made (Err why) middle new came g m p e = absurd m
@@ -199,7 +210,8 @@ module _ (variant : Variant) (meaning : Meaning) (before after : Standing) where
 
 module _ (variant : Variant) (meaning : Meaning) (number : ℕ) (at : SessionPlace) (after : Standing) (new : StoreStanding)
     (left : Option (List ℕ)) (more sent : List ℕ) where
-  line_made : (result : Result Unit SessionFault) (e : TurnGoes variant meaning number at after new left more [] sent (turn_answer_of result))
+  line_made : (result : Result Unit SessionFault) (e : TurnGoes variant meaning number at after new left more [] sent
+      (turn_answer_of result))
       → IsLineAsked variant meaning number at after new left more sent
       (requests_in (last_calls variant meaning number at after new left more sent result e)) result e
   line_made (Err (Host fault)) e =
@@ -251,27 +263,34 @@ module _ {all others : List (List ℕ)} {asked : List Batch} {i : Instance} {fin
       → found_pending s.resumes.waiting ≡ fits.waiting → OnBy s.goes
   on_offers listed is found =
       let untold : List LifeCall = untold_calls s s.goes in
-      let k = subst (λ (bytes : List ℕ). Chain i.variant i.meaning bytes before final (served_calls_in fits.waiting s.goes) (IsInHandOf s) untold result)
-      is (subst (λ (w : Option PendingRecord). Chain i.variant i.meaning (first_bytes s) before final (served_calls_in w s.goes) (IsInHandOf s) untold
+      let k = subst (λ (bytes : List ℕ). Chain i.variant i.meaning bytes before final (served_calls_in fits.waiting s.goes)
+          (IsInHandOf s) untold result)
+      is (subst (λ (w : Option PendingRecord). Chain i.variant i.meaning (first_bytes s) before final (served_calls_in w s.goes)
+          (IsInHandOf s) untold
       result) found (session_chain s)) in
       let l = subst (λ (bytes : List ℕ). AreListed all asked i (told_calls bytes (served_calls_in fits.waiting s.goes) ++ untold)) is
-      (subst (λ (w : Option PendingRecord). AreListed all asked i (told_calls (first_bytes s) (served_calls_in w s.goes) ++ untold)) found listed) in
+      (subst (λ (w : Option PendingRecord). AreListed all asked i (told_calls (first_bytes s) (served_calls_in w s.goes) ++ untold)) found
+      listed) in
       let requests : List (List ℕ) = served_lines (served_calls_in fits.waiting s.goes) ++ requests_in untold in
       let follow : AreAskedStill laws y before (first_offer slots fits.waiting) requests = elim seen [
         | inl shows ↦ (
-          asked_in_turn laws (served_calls_in fits.waiting s.goes) y y before k.at (first_offer slots fits.waiting) (IsInHandOf s) untold result
+          asked_in_turn laws (served_calls_in fits.waiting s.goes) y y before k.at (first_offer slots fits.waiting)
+          (IsInHandOf s) untold result
               k.calls k.ends here shows l,
           inl shows,
         )
         | inr still ↦
-            asked_still laws y before (first_offer slots fits.waiting) (served_calls_in fits.waiting s.goes) (IsInHandOf s) untold result k here l
+            asked_still laws y before (first_offer slots fits.waiting) (served_calls_in fits.waiting s.goes) (IsInHandOf s)
+            untold result k here l
             (subst (λ (bytes : List ℕ). AreStill laws y before (told_calls bytes (served_calls_in fits.waiting s.goes) ++ untold)) is
-            (subst (λ (w : Option PendingRecord). AreStill laws y before (told_calls (first_bytes s) (served_calls_in w s.goes) ++ untold)) found still))
+            (subst (λ (w : Option PendingRecord). AreStill laws y before (told_calls (first_bytes s) (served_calls_in w s.goes) ++ untold))
+            found still))
       ] in
       let c = continues_by laws s y y slots fits.waiting told honest fits.is_waiting fits.fits requests here follow.1 follow.0
       (all_made s fits.waiting s.goes found) (λ p. p) in (
         c,
-        subst (λ (w : Option PendingRecord). SessionSteps i.meaning (requests_of y.batches) (served_calls_in w s.goes) (IsInHand w s.goes) result
+        subst (λ (w : Option PendingRecord). SessionSteps i.meaning (requests_of y.batches) (served_calls_in w s.goes)
+            (IsInHand w s.goes) result
             (requests_of c.runs.after.batches)) (sym found)
             (record { between = c.runs.requests; run = c.runs.run; committed = c.runs.committed }),
       )

@@ -2,7 +2,8 @@
 use Rattle.std.specs.Prelude.{◌&&◌, ◌+◌, if◌then◌else◌, nat_eq}
 use Rattle.std.specs.Option.{option_map_or}
 use Rattle.std.specs.Str.{bytes_eq}
-use Rattle.std.proofs.Common.{◌≡◌, ◌≢◌, ◌∙◌, ℕ, Bool, true, false, List, [], ◌∷◌, Option, None, Some, Result, Ok, Err, map, refl, sym, ap, subst}
+use Rattle.std.proofs.Common.{◌≡◌, ◌≢◌, ◌∙◌, ℕ, Bool, true, false, List, [], ◌∷◌, Option, None, Some, Result, Ok, Err, map, refl, sym, ap}
+use Rattle.std.proofs.Common.{subst}
 use Rattle.mm_digest.specs.declared.variant.Variant.TheVariants.{Opt}
 use Rattle.mm_seal.specs.Snapshot.{Content}
 use Rattle.mm_platform.specs.Standing.{Standing}
@@ -53,7 +54,8 @@ SaysAgain {S} level =
 
 old_found : {S : Type 0} (level : Level S) → SaysAgain level → (seen end : S) (b : Batch) (at : Result CallFinding Refusal) (lacks : Bool)
     (moves : List Move) (broken : Option StepFault) (gives : Result BatchAnswer Refusal)
-    → gives ≡ result_of_ending (call_ending_by level seen end b (finding_unless_wanting at lacks) moves broken) → IsNotNew gives → is_fresh at ≡ false
+    → gives ≡ result_of_ending (call_ending_by level seen end b (finding_unless_wanting at lacks) moves broken) → IsNotNew gives
+    → is_fresh at ≡ false
 old_found level says seen end b at lacks moves (Some fault) gives e n =
     let failed : (Some fault ≡ None) × (Device fault ≢ Memory) = subst IsNotNew e n in absurd (cc (failed.0))
 old_found level says seen end b (Err why) lacks moves None gives e n = refl

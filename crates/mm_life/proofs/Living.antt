@@ -37,12 +37,14 @@ pub record LifeLaws (all others : List (List ℕ)) (asked : List Batch) (i : Ins
   pub shows : (y : History) (old : Standing) (part : LifePart) (final : Standing) → IsSeen old part final → StandsFor i old y
       → Reaches i.variant i old final → Leads i old final → Shows i.variant all others i y old final
   pub stays : (y : History) (old : Standing) (deed : Deed) (new : Standing) → IsNoCall deed → IsSeen old (Does deed) new
-      → DeedLeads i.variant i.meaning old deed new → StandsFor i old y → IsWithin all others asked i y → HistoryStays all others asked i y new
+      → DeedLeads i.variant i.meaning old deed new → StandsFor i old y → IsWithin all others asked i y
+      → HistoryStays all others asked i y new
   pub few : (old : Standing) (calls : List LifeCall) → IsStill old calls → (calls ≡ []) ⊎ ((c : LifeCall) × (calls ≡ c ∷ []))
   pub idles : (y : History) (old new : Standing) (c : LifeCall) → IsStill old (c ∷ [])
       → Makes all others asked i y old new c.offer (pending_for c.request) (batch_result_of c.gives) → IsIdle i y c.offer (One c.request)
   pub stays_still : (y : History) (old : Standing) (deed : Deed) (new : Standing) → IsNoCall deed → IsStill old []
-      → DeedLeads i.variant i.meaning old deed new → StandsFor i old y → IsWithin all others asked i y → HistoryStays all others asked i y new
+      → DeedLeads i.variant i.meaning old deed new → StandsFor i old y → IsWithin all others asked i y
+      → HistoryStays all others asked i y new
 
 -- nobody else made a tag, so what is offered first is genuine
 first_genuine : (i : Instance) (y : History) (issued : List (List ℕ)) (calls : List LifeCall) → AllByRecursion (IsGenuine i y) issued
@@ -50,15 +52,18 @@ first_genuine : (i : Instance) (y : History) (issued : List (List ℕ)) (calls :
 first_genuine i y issued [] g u = tt
 first_genuine i y issued (c ∷ calls) g u = λ content right. each_at (IsGenuine i y) issued c.offer g (u content right) content right
 
-pub listed_left : (all : List (List ℕ)) (asked : List Batch) (i : Instance) (calls more : List LifeCall) → AreListed all asked i (calls ++ more)
+pub listed_left : (all : List (List ℕ)) (asked : List Batch) (i : Instance) (calls more : List LifeCall)
+    → AreListed all asked i (calls ++ more)
     → AreListed all asked i calls
 listed_left all asked i calls more a = record {
-  messages = each_left (Contains all) _ _ (rw (flat_map-append (λ (c : LifeCall). right_messages i (One c.request) (right_content i c.offer))
+  messages = each_left (Contains all) _ _
+      (rw (flat_map-append (λ (c : LifeCall). right_messages i (One c.request) (right_content i c.offer))
       calls more) at a.messages);
   batches = each_left (Contains asked) _ _ (rw (map-append (λ (c : LifeCall). One c.request) calls more) at a.batches);
 }
 
-pub listed_right : (all : List (List ℕ)) (asked : List Batch) (i : Instance) (calls more : List LifeCall) → AreListed all asked i (calls ++ more)
+pub listed_right : (all : List (List ℕ)) (asked : List Batch) (i : Instance) (calls more : List LifeCall)
+    → AreListed all asked i (calls ++ more)
     → AreListed all asked i more
 listed_right all asked i calls more a = record {
   messages = each_right (Contains all)
@@ -124,10 +129,12 @@ module _ {all others : List (List ℕ)} {asked : List Batch} {i : Instance} {IsS
       → IsFirstGenuine i y (part_calls i.variant i.meaning old (Holds p) new f)
       → AreListed all asked i (part_calls i.variant i.meaning old (Holds p) new f) → PartLived y old (Holds p) new f
   session_lives y old p new f stands within (inl seen) first listed =
-      chain_lives (life.laws new) y old (first_bytes f) (served_calls_of f) (IsInHandOf f) (untold_calls f f.goes) p.result (session_chain f) stands
+      chain_lives (life.laws new) y old (first_bytes f) (served_calls_of f) (IsInHandOf f) (untold_calls f f.goes) p.result
+      (session_chain f) stands
       within first listed life.leads (λ reaches leads. life.shows y old (Holds p) new seen stands reaches leads)
   session_lives y old p new f stands within (inr still) first listed =
-      chain_idles (life.laws new) y old (first_bytes f) (served_calls_of f) (IsInHandOf f) (untold_calls f f.goes) p.result (session_chain f) stands
+      chain_idles (life.laws new) y old (first_bytes f) (served_calls_of f) (IsInHandOf f) (untold_calls f f.goes) p.result
+      (session_chain f) stands
       within first listed (life.few old (session_calls f) still)
       (λ c one middle makes. life.idles y old middle c (subst (λ (calls : List LifeCall). IsStill old calls) one still) makes)
 

@@ -21,7 +21,8 @@ use Rattle.mm_host.specs.Sessions.{GoesAfterResume, ServedCall, IsSession}
 use Rattle.mm_host.specs.declared.fault.SessionFault.{SessionFault}
 use Rattle.mm_life.specs.Deeds.{LifeCall}
 use Rattle.mm_life.specs.Laws.{OffersSlots, SessionsOfferSlots}
-use Rattle.mm_life.specs.SessionCalls.{IsFirstOffered, bytes_of, first_bytes, first_calls, found_pending, offered_calls, offer_after_finding}
+use Rattle.mm_life.specs.SessionCalls.{IsFirstOffered, bytes_of, first_bytes, first_calls, found_pending, offered_calls}
+use Rattle.mm_life.specs.SessionCalls.{offer_after_finding}
 use Rattle.mm_life.specs.SessionCalls.{served_calls_of, told_calls, untold_calls}
 use Rattle.mm_life.proofs.Chains.{session_chain}
 use Rattle.mm_life.proofs.Sessions.{offered_by}
@@ -55,7 +56,8 @@ module _ (variant : Variant) (meaning : Meaning) (before after : Standing) (slot
   offers_repeat (Err why) first old new p came g told r w = offers_none why [] came g.2
 
   offers_by : (found : Result (Option PendingRecord) StoreFault) (first middle new : StoreStanding)
-      (came : Result Resumed HostFault) (g : GoesAfterFinding variant meaning before after found middle new came) → Saw slots first middle found
+      (came : Result Resumed HostFault) (g : GoesAfterFinding variant meaning before after found middle new came)
+      → Saw slots first middle found
       → Offers (offer_after_finding variant meaning before after found middle new came g)
       (first_calls variant meaning before after found middle new came g) came
   offers_by (Ok (Some p)) first middle new came g s =

@@ -2,7 +2,8 @@
 use Rattle.std.specs.List.{AllByRecursion, Contains}
 use Rattle.std.specs.Option.{option_map, option_map_or}
 use Rattle.std.specs.Prelude.{Err, Ok, Result, ◌&&◌, if◌then◌else◌, not}
-use Rattle.std.proofs.Common.{◌≡◌, ◌⊎◌, ◌∙◌, ◌++◌, ℕ, Bool, true, false, List, [], ◌∷◌, Option, Some, map, fold, arith, refl, sym, ap, subst, inl, inr}
+use Rattle.std.proofs.Common.{◌≡◌, ◌⊎◌, ◌∙◌, ◌++◌, ℕ, Bool, true, false, List, [], ◌∷◌, Option, Some, map, fold, arith, refl, sym, ap}
+use Rattle.std.proofs.Common.{subst, inl, inr}
 use Rattle.mm_digest.specs.Messages.{extended_digest_of, start_message}
 use Rattle.mm_digest.specs.declared.variant.Variant.TheVariants.{Opt}
 use Rattle.mm_seal.specs.Snapshot.{Content}
@@ -117,8 +118,10 @@ module _ (meaning : Meaning) (key barrier : List ℕ) (all others : List (List �
         let listed : AreMessagesIn (messages_of_moves I y (map Foreign values)) all =
         rw (messages_looked meaning key barrier values y, ← counted_open y e) (rw (foreign_values values) at a.messages) in
         let outside : AllByRecursion (Contains others) values = rw (foreign_of values) at a.values in
-        rw (taking_is I values y) at (within_of meaning key barrier all others asked (state_after_moves (list_level I) y (map Foreign values))
-        (state_after_moves (digest_level I) d (map Foreign values)) (holds_made meaning key barrier all others asked (map Foreign values) y d
+        rw (taking_is I values y) at
+        (within_of meaning key barrier all others asked (state_after_moves (list_level I) y (map Foreign values))
+        (state_after_moves (digest_level I) d (map Foreign values))
+        (holds_made meaning key barrier all others asked (map Foreign values) y d
         (holds_open meaning key barrier all others asked y d e (is_agrees I y d refl) within)
         (foreign_all meaning key barrier all others asked values y outside) listed))
 
@@ -261,7 +264,8 @@ module _ (meaning : Meaning) (lawful : IsLawful meaning) (key barrier : List ℕ
   })
 
   pub all_seen : (all others : List (List ℕ)) (asked : List Batch) (clear : IsClear all) (apart : AreNoGuards barrier others asked)
-      (start : Standing) (stages : List LifeStage) (f : IsLife Opt meaning start stages) → AreMessagesIn (register_messages O start stages f) all
+      (start : Standing) (stages : List LifeStage) (f : IsLife Opt meaning start stages)
+      → AreMessagesIn (register_messages O start stages f) all
       → AllByRecursion (Contains others) (others_values O start stages f) → AreSeen (opt_life all others asked clear apart) start stages f
   unfolding opt_life
   all_seen all others asked clear apart start [] f w v = tt

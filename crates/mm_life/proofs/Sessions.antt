@@ -51,14 +51,16 @@ first_by i y bytes (c ∷ told) untold is g = g
 first_by i y bytes [] [] is g = tt
 first_by i y bytes [] (c ∷ untold) is g = rw is g
 
-pub listed_rest : (all : List (List ℕ)) (asked : List Batch) (i : Instance) (c : LifeCall) (calls : List LifeCall) → AreListed all asked i (c ∷ calls)
+pub listed_rest : (all : List (List ℕ)) (asked : List Batch) (i : Instance) (c : LifeCall) (calls : List LifeCall)
+    → AreListed all asked i (c ∷ calls)
     → AreListed all asked i calls
 listed_rest all asked i c calls a = record {
   messages = each_right (Contains all) (right_messages i (One c.request) (right_content i c.offer)) _ a.messages;
   batches = a.batches.1;
 }
 
-pub listed_first : (all : List (List ℕ)) (asked : List Batch) (i : Instance) (c : LifeCall) (calls : List LifeCall) → AreListed all asked i (c ∷ calls)
+pub listed_first : (all : List (List ℕ)) (asked : List Batch) (i : Instance) (c : LifeCall) (calls : List LifeCall)
+    → AreListed all asked i (c ∷ calls)
     → AreMessagesIn (right_messages i (One c.request) (right_content i c.offer)) all
 listed_first all asked i c calls a = each_left (Contains all) (right_messages i (One c.request) (right_content i c.offer)) _ a.messages
 
@@ -287,9 +289,11 @@ module _ {all others : List (List ℕ)} {asked : List Batch} {i : Instance} {fin
       let none : untold ≡ [] = elim few [ inl e ↦ absurd (cc) | inr one ↦ cc (one.1) ] in
       let one : made ∷ untold ≡ made ∷ [] = cc in
       let call = k.calls.1 in
-      let makes = makes_call laws before k.calls.0 offer c.line y (Ok (batch_answer_of c.answer)) call.goes stands within first listed.batches.0
+      let makes = makes_call laws before k.calls.0 offer c.line y (Ok (batch_answer_of c.answer)) call.goes stands within
+          first listed.batches.0
       (listed_first all asked i made untold listed) in
-      let m = laws.idle y before k.calls.0 offer (pending_for c.line) (Ok (batch_answer_of c.answer)) makes (idle made one k.calls.0 makes) in
+      let m = laws.idle y before k.calls.0 offer (pending_for c.line) (Ok (batch_answer_of c.answer)) makes
+          (idle made one k.calls.0 makes) in
       ended y offer k.at (c ∷ []) hand untold (record {
         after = m.after;
         stands = rw k.calls.2 m.stands;

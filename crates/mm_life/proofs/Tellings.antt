@@ -69,7 +69,8 @@ module _ (meaning : Meaning) where
       ap (λ (ts : List Telling). tellings_of x ++ ts) (tellings_append xs ys)
       ∙ sym (append_assoc (tellings_of x) (tellings_in xs) (tellings_in ys))
 
-  ran_told : (calls : List ServedCall) (requests between after : List (List ℕ)) (more : List Reply) → CallsRunOver meaning requests calls between
+  ran_told : (calls : List ServedCall) (requests between after : List (List ℕ)) (more : List Reply)
+      → CallsRunOver meaning requests calls between
       → Ran meaning between (tellings_in more) after → Ran meaning requests (tellings_in (told_replies calls ++ more)) after
   ran_told [] requests between after more run r = ran_same requests between after (tellings_in more) run r
   ran_told (c ∷ calls) requests between after more run r =

@@ -88,7 +88,8 @@ module _ (meaning : Meaning) (key barrier : List ℕ) where
   pub still_open : (old new : Standing) → new.cell ≡ old.cell → has_open new ≡ has_open old
   still_open old new same = ap (λ (c : Option (List ℕ)). bytes_eq (option_map_or flag_in c []) (1 ∷ [])) same
 
-  pub unlost : (others : List (List ℕ)) (old new : Standing) (requests : List (List ℕ)) (waiting : Option PendingRecord) (told : List ServedCall)
+  pub unlost : (others : List (List ℕ)) (old new : Standing) (requests : List (List ℕ)) (waiting : Option PendingRecord)
+      (told : List ServedCall)
       (hand : List ℕ → Type 0) (result : Result Unit SessionFault) (after : List (List ℕ))
       → GoesOnOver others I old new requests waiting told hand result after → has_open old ≡ false
       → result ≢ Err (Host (Refused refusal.Lost))

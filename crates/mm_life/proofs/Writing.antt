@@ -40,11 +40,13 @@ still_counts old new values = record { in_hand = 0; few = omega arith; writes = 
 lost_counts : (old new : Standing) → PartCounts old (Does LosesPower) new 0
 lost_counts old new = record { in_hand = 0; few = omega arith; writes = omega arith }
 
-session_writes : (variant : Variant) (meaning : Meaning) (old new : Standing) (p : Program) (f : PartLeads variant meaning old (Holds p) new)
+session_writes : (variant : Variant) (meaning : Meaning) (old new : Standing) (p : Program)
+    (f : PartLeads variant meaning old (Holds p) new)
     → CallsWrite variant old new (new_replies (told_replies (served_calls_of f))) (session_stop p.result)
 session_writes variant meaning old new p f =
     let k = session_chain f in
-    record { at = k.at; answered = told_write variant meaning (served_calls_of f) (first_bytes f) old k.at k.calls; last = ends_writes k.ends }
+    record { at = k.at; answered = told_write variant meaning (served_calls_of f) (first_bytes f) old k.at k.calls; last =
+        ends_writes k.ends }
 
 -- a part, and the parts behind it
 joined_parts : (start : Standing) (stage : LifeStage) (stages : List LifeStage) (here later due : ℕ) → due ≡ here + later
@@ -74,7 +76,8 @@ module _ (meaning : Meaning) (key : List ℕ) where
       record { in_hand = c.in_hand; few = c.few; writes = c.writes }
 
   basic_lives : (stages : List LifeStage) (start : Standing) (f : IsLife Basic meaning start stages) (d : Digests)
-      → StandsAt (basic_instance meaning key) start d → WritesOnceEach start stages (new_replies (life_replies Basic meaning start stages f))
+      → StandsAt (basic_instance meaning key) start d
+      → WritesOnceEach start stages (new_replies (life_replies Basic meaning start stages f))
   basic_lives [] start f d s = no_parts start
   basic_lives (stage ∷ stages) start f d s =
       let n = part_stands Basic meaning key key start stage.part stage.after f.0 d s in

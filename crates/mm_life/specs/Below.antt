@@ -50,6 +50,7 @@ pub use Rattle.mm_recovery.specs.declared.fault.HostFault.{HostFault}
 pub use Rattle.mm_recovery.specs.declared.fault.HostFault.TheVariants.{Store}
 pub use Rattle.mm_recovery.specs.declared.resuming.Resumed.{Resumed}
 pub use Rattle.mm_host.specs.AnySlots.{MayStart}
-pub use Rattle.mm_host.specs.Continuation.{AreToldOnce, HasUntold, IsInHand, IsNotBeyond, RefusesAs, CallsRunOver, answer_reply, served_calls_in}
+pub use Rattle.mm_host.specs.Continuation.{AreToldOnce, HasUntold, IsInHand, IsNotBeyond, RefusesAs, CallsRunOver, answer_reply}
+pub use Rattle.mm_host.specs.Continuation.{served_calls_in}
 pub use Rattle.mm_host.specs.Sessions.{GoesAfterResume, SessionPlace, ServedCall, TurnGoes, IsSession, turn_answer_of}
 pub use Rattle.mm_host.specs.declared.fault.SessionFault.{SessionFault}

@@ -3,7 +3,8 @@
 use Rattle.std.specs.Prelude.{◌≡◌, ℕ, List, []}
 use Rattle.std.specs.List.{AllByRecursion, Contains}
 use Rattle.std.specs.Option.{option_map_or}
-use Rattle.mm_life.specs.Below.{Basic, Opt, Content, Standing, Batch, Meaning, History, Instance, basic_instance, opt_instance, IsClear, AreMessagesIn}
+use Rattle.mm_life.specs.Below.{Basic, Opt, Content, Standing, Batch, Meaning, History, Instance, basic_instance, opt_instance, IsClear}
+use Rattle.mm_life.specs.Below.{AreMessagesIn}
 use Rattle.mm_life.specs.Below.{NamesPosition, StandsFor, IsWithin, foreign_items}
 use Rattle.mm_life.specs.Deeds.{Calls, Deed, DeedLeads}
 use Rattle.mm_life.specs.Premises.{closing_messages, shown_messages}
@@ -11,7 +12,8 @@ use Rattle.mm_life.specs.Stages.{Does, LifePart}
 
 -- The platform stands for a history with the same requests, which names what was named before, and
 -- which holds what was asked.
-pub record HistoryStays (all others : List (List ℕ)) (asked : List Batch) (i : Instance) (y : History)
+pub record HistoryStays (all others : List (List ℕ)) (asked : List Batch)
+    (i : Instance) (y : History)
     (new : Standing) : Type 0 where
   pub after : History
   pub stands : StandsFor i new after
@@ -38,7 +40,8 @@ BasicDeedsStay =
     (meaning : Meaning) (key : List ℕ) (all others : List (List ℕ)) (asked : List Batch)
     (y : History) (old : Standing) (deed : Deed) (new : Standing) →
     IsClear all → IsNoCall deed → DeedLeads Basic meaning old deed new →
-    StandsFor (basic_instance meaning key) old y → IsWithin all others asked (basic_instance meaning key) y →
+    StandsFor (basic_instance meaning key) old y
+    → IsWithin all others asked (basic_instance meaning key) y →
     HistoryStays all others asked (basic_instance meaning key) y new
 
 -- In Opt too, where the register is seen.

@@ -1,7 +1,8 @@
 -- What is done to a platform between its programs, one deed at a time.
 use Rattle.std.specs.Prelude.{◌≡◌, ℕ, List, [], Result}
 use Rattle.std.specs.Option.{option_map}
-use Rattle.mm_life.specs.Below.{Variant, Standing, items_beside, Meaning, Answer, Refusal, IsCall, IsCheckpointOnCourse, CheckpointRefusal, Checkpointed}
+use Rattle.mm_life.specs.Below.{Variant, Standing, items_beside, Meaning, Answer, Refusal, IsCall, IsCheckpointOnCourse, CheckpointRefusal}
+use Rattle.mm_life.specs.Below.{Checkpointed}
 
 -- one call for a request: what was offered with it, and what it gave
 pub record LifeCall : Type 0 where

@@ -8,7 +8,8 @@ use Rattle.mm_life.specs.Deeds.{DeedLeads, Extends, LosesPower}
 abbrev pub ReadsAreDeeds : Type 0
 ReadsAreDeeds =
     (variant : Variant) (meaning : Meaning) (old new : Standing) (fault : Option StepFault)
-    (goes : StepGoes ReadCell old new fault) → DeedLeads variant meaning old (Extends goes.others) new
+    (goes : StepGoes ReadCell old new fault)
+    → DeedLeads variant meaning old (Extends goes.others) new
 
 -- A loss of power that was called for is one where it didn't fail; and else it is one, or nothing.
 pub record CyclesLead (variant : Variant) (meaning : Meaning) (old new : Standing)

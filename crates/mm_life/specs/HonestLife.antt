@@ -1,9 +1,12 @@
 -- A life over one honest store: each program starts over what the one before it left, and nobody
 -- else calls.
 use Rattle.std.specs.Prelude.{◌≡◌, ◌≢◌, ◌+◌, ◌-◌, ◌≤◌, ℕ, true, List, [], ◌∷◌, ◌++◌, Option, None, Some, Result, Err, length, ◌⊎◌}
-use Rattle.mm_life.specs.Below.{Variant, Basic, Opt, Standing, IsLawful, Meaning, History, first_history, requests_of, Instance, basic_instance}
-use Rattle.mm_life.specs.Below.{opt_instance, StandsFor, Batch, IsClear, AreNoGuards, IsWithin, Lost, Spoiled, life_of, first_history_on, first_slots}
-use Rattle.mm_life.specs.Below.{PendingRecord, Slots, slot_front, IsWaiting, IsInHand, ServedCall, SessionFault, served_calls_in, last_position}
+use Rattle.mm_life.specs.Below.{Variant, Basic, Opt, Standing, IsLawful, Meaning, History, first_history, requests_of, Instance}
+use Rattle.mm_life.specs.Below.{basic_instance}
+use Rattle.mm_life.specs.Below.{opt_instance, StandsFor, Batch, IsClear, AreNoGuards, IsWithin, Lost, Spoiled, life_of, first_history_on}
+use Rattle.mm_life.specs.Below.{first_slots}
+use Rattle.mm_life.specs.Below.{PendingRecord, Slots, slot_front, IsWaiting, IsInHand, ServedCall, SessionFault, served_calls_in}
+use Rattle.mm_life.specs.Below.{last_position}
 use Rattle.mm_life.specs.Below.{StoreStanding, AreToldOnce, FitsHistory, IsNotBeyond, RefusesAs, Store}
 use Rattle.mm_host.specs.declared.fault.SessionFault.TheVariants.{Host}
 use Rattle.mm_life.specs.Deeds.{Calls}
@@ -48,10 +51,12 @@ reached_position waiting (c ∷ next ∷ calls) = reached_position waiting (next
 
 -- Where the store failed, the bytes that a write of a record left aren't by chance a record of a
 -- later position than it was to have.
-abbrev pub LeavesNoChance : (variant : Variant) (meaning : Meaning) (old : Standing) (part : LifePart)
+abbrev pub LeavesNoChance : (variant : Variant) (meaning : Meaning) (old : Standing)
+    (part : LifePart)
     (new : Standing) → PartLeads variant meaning old part new → Type 0
 LeavesNoChance variant meaning old (Holds p) new s =
-    p.result ≡ Err (Host Store) → (waiting : Option PendingRecord) → WaitsInSlots p.old.slots waiting →
+    p.result ≡ Err (Host Store) → (waiting : Option PendingRecord)
+        → WaitsInSlots p.old.slots waiting →
     (slots : Slots) → p.new.slots ≡ Some slots →
     IsNotBeyond slots (reached_position waiting (served_calls_in waiting s.goes) + 1)
 LeavesNoChance variant meaning old (Does deed) new f = Unit {0}
@@ -144,7 +149,8 @@ BasicLifeGoesOn =
     IsClear (life_messages (basic_instance meaning key) start stages f) →
     AreNoChance Basic meaning start stages f →
     IsGoneOnWith (life_messages (basic_instance meaning key) start stages f) []
-    (life_batches (basic_instance meaning key) start stages f) (basic_instance meaning key) [] kept start stages f
+    (life_batches (basic_instance meaning key) start stages f) (basic_instance meaning key) []
+    kept start stages f
 
 -- Opt, from a register that others had extended by these values: the same, where besides the
 -- messages by which the register's items went into it share no digest, as it shows them behind each
@@ -163,5 +169,6 @@ OptLifeGoesOn =
     AreNoChance Opt meaning start stages f →
     IsGoneOnWith (opt_messages (opt_instance meaning key barrier) start stages f)
     (others_values (opt_instance meaning key barrier) start stages f)
-    (life_batches (opt_instance meaning key barrier) start stages f) (opt_instance meaning key barrier) [] kept start
+    (life_batches (opt_instance meaning key barrier) start stages f)
+    (opt_instance meaning key barrier) [] kept start
     stages f

@@ -110,7 +110,8 @@ abbrev pub BasicLivesWriteOnce : Type 0
 BasicLivesWriteOnce =
     (meaning : Meaning) (key : List ℕ) (y : History) (start : Standing) (stages : List LifeStage)
     (f : IsLife Basic meaning start stages) (requests : List (List ℕ)) →
-    StandsFor (basic_instance meaning key) start y → LifeFollows Basic meaning start stages f [] requests →
+    StandsFor (basic_instance meaning key) start y
+    → LifeFollows Basic meaning start stages f [] requests →
     BasicWrites meaning start stages f requests
 
 -- In Opt for each segment that was opened, and for each that was closed; however many requests were

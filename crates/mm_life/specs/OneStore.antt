@@ -42,9 +42,11 @@ abbrev pub IsGoneOnInBasic : (meaning : Meaning) (key : List ℕ) (start : Stand
     (kept : StoreStanding) (stages : List LifeStage) → IsLife Basic meaning start stages → Type 0
 IsGoneOnInBasic meaning key start kept stages f =
     ((gone : IsGoneOnWith (life_messages (basic_instance meaning key) start stages f) []
-    (life_batches (basic_instance meaning key) start stages f) (basic_instance meaning key) [] kept start stages f)
+    (life_batches (basic_instance meaning key) start stages f) (basic_instance meaning key) []
+    kept start stages f)
     × BasicWrites meaning start stages f gone.after)
-    ⊎ HasClash (basic_instance meaning key) (life_messages (basic_instance meaning key) start stages f) []
+    ⊎ HasClash (basic_instance meaning key)
+    (life_messages (basic_instance meaning key) start stages f) []
     (life_batches (basic_instance meaning key) start stages f)
 
 -- It is one, or gives evidence, where the platform told its cell before the first start, and an
@@ -85,15 +87,18 @@ abbrev pub IsGoneOnInOpt : (meaning : Meaning) (key barrier : List ℕ) (start :
 IsGoneOnInOpt meaning key barrier start kept stages f said last =
     (IsGoneOnWith (opt_messages (opt_instance meaning key barrier) start stages f)
     (others_values (opt_instance meaning key barrier) start stages f)
-    (life_batches (opt_instance meaning key barrier) start stages f) (opt_instance meaning key barrier) [] kept start
+    (life_batches (opt_instance meaning key barrier) start stages f)
+    (opt_instance meaning key barrier) [] kept start
     stages f
     × IsUnlost said last)
-    ⊎ HasClash (opt_instance meaning key barrier) (opt_messages (opt_instance meaning key barrier) start stages f)
+    ⊎ HasClash (opt_instance meaning key barrier)
+    (opt_messages (opt_instance meaning key barrier) start stages f)
     (others_values (opt_instance meaning key barrier) start stages f)
     (life_batches (opt_instance meaning key barrier) start stages f)
 
 -- a checkpoint that said this, and a loss of power, between two sessions
-abbrev pub stages_around : LifeStage → Result Checkpointed CheckpointRefusal → (closed empty : Standing)
+abbrev pub stages_around : LifeStage → Result Checkpointed CheckpointRefusal
+    → (closed empty : Standing)
     → LifeStage → List LifeStage
 stages_around first said closed empty second =
     first ∷ record { part = Does (Checkpoints said); after = closed }

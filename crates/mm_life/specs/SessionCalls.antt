@@ -2,8 +2,10 @@
 use Rattle.std.specs.Prelude.{◌≡◌, ℕ, List, [], ◌∷◌, ◌++◌, Option, None, Some, Result, Ok, Err}
 use Rattle.std.proofs.Common.{inl, inr}
 use Rattle.mm_base.specs.declared.replay_fault.ReplayFault.TheVariants.{WriteFault}
-use Rattle.mm_life.specs.Below.{Variant, Standing, Meaning, StoreFault, StoreStanding, PendingRecord, snapshot_at, GoesAfterRecord, AsksNext}
-use Rattle.mm_life.specs.Below.{GoesAfterFinding, GoesAfterOffer, AsksAndKeeps, HostFault, Resumed, GoesAfterResume, SessionPlace, ServedCall, TurnGoes}
+use Rattle.mm_life.specs.Below.{Variant, Standing, Meaning, StoreFault, StoreStanding, PendingRecord, snapshot_at, GoesAfterRecord}
+use Rattle.mm_life.specs.Below.{AsksNext}
+use Rattle.mm_life.specs.Below.{GoesAfterFinding, GoesAfterOffer, AsksAndKeeps, HostFault, Resumed, GoesAfterResume, SessionPlace}
+use Rattle.mm_life.specs.Below.{ServedCall, TurnGoes}
 use Rattle.mm_life.specs.Below.{IsSession, IsInHand, turn_answer_of, served_calls_in, SessionFault}
 use Rattle.mm_host.specs.declared.fault.SessionFault.TheVariants.{Host, Lines}
 use Rattle.mm_life.specs.Deeds.{LifeCall}
@@ -77,7 +79,8 @@ line_calls variant meaning before after {old} {new} last line {result} a =
 abbrev pub last_calls : (variant : Variant) (meaning : Meaning) (number : ℕ) (at : SessionPlace)
     (after : Standing) (new : StoreStanding) (left : Option (List ℕ)) (more sent : List ℕ)
     (result : Result Unit SessionFault)
-    → TurnGoes variant meaning number at after new left more [] sent (turn_answer_of result) → List LifeCall
+    → TurnGoes variant meaning number at after new left more [] sent (turn_answer_of result)
+    → List LifeCall
 last_calls variant meaning number at after new left more sent (Err (Host fault)) e =
     line_calls variant meaning at.platform after at.last e.line e.asks
 last_calls variant meaning number at after new left more sent (Err (Lines WriteFault)) e =
@@ -120,7 +123,8 @@ abbrev pub untold_calls : {variant : Variant} {meaning : Meaning} {before after 
     {old new : StoreStanding} {left left' received received' : Option (List ℕ)}
     {result : Result Unit SessionFault}
     (s : IsSession variant meaning before after old new left left' received received' result)
-    → GoesAfterResume variant meaning s.begun s.platform after s.store new left' s.taken s.sent result
+    → GoesAfterResume variant meaning s.begun s.platform after s.store new left'
+    s.taken s.sent result
     → List LifeCall
 untold_calls {variant} {meaning} {before} s (inl stops) =
     first_calls variant meaning before s.platform s.resumes.waiting s.resumes.middle s.store

@@ -10,7 +10,9 @@ use Rattle.mm_module.specs.PartLaws.{are_bytes-visible}
 use Rattle.mm_module.specs.TableLaws.{Table, IsTable, IsOutcome, table_by, table_is_lawful, table_is_short}
 use Rattle.mm_module.specs.Visible.{is_visible}
 use Rattle.mm_module.specs.Words.{words_of}
-use Rattle.mm_limiter.specs.Table.{TableState, Unset, Guarded, TableRequest, Guard, TableOutput, IsWrong, HasLeft, outcome_of, text_of, is_secret, request_of, is_guard, state_of, spelling_of, IsShortSecret, outcome_of_bytes, is_state, limiter}
+use Rattle.mm_limiter.specs.Table.{TableState, Unset, Guarded, TableRequest, Guard, TableOutput, IsWrong, HasLeft, outcome_of, text_of}
+use Rattle.mm_limiter.specs.Table.{is_secret, request_of, is_guard, state_of, spelling_of, IsShortSecret, outcome_of_bytes, is_state}
+use Rattle.mm_limiter.specs.Table.{limiter}
 
 -- what a secret and a guarded state keep
 pub record IsSecret (secret : List ℕ) : Type 0 where
@@ -118,7 +120,8 @@ short_secret state is = grind arith
 
 -- the secret after a request at a spelled state is short
 pub short_after : (state request : List ℕ) → is_state state ≡ true → (was : TableState) → was ≡ unwrap_or (state_of state) Unset
-    → (asked : Option TableRequest) → asked ≡ request_of (words_of request) → (after : TableState × TableOutput) → after ≡ outcome_of was asked
+    → (asked : Option TableRequest) → asked ≡ request_of (words_of request) → (after : TableState × TableOutput)
+    → after ≡ outcome_of was asked
     → IsShortSecret after.0
 short_after state request is was was_is asked asked_is after after_is =
     rw (after_is, asked_is, was_is)

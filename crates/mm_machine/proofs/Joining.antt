@@ -29,7 +29,8 @@ module _ {A R : Type 0} (o : OpMeaning A R) where
   StepEnds (Over it) middle new ended = (new ≡ middle) × (ended ≡ it)
 
   made_joins : (change : Move) (answer : A) (fault : Option StepFault) (old middle new : Standing) (ended : OpResult A R)
-      → StepGoes (act_in change) old middle fault → StepEnds (step_after_change o (record { change = change; answer = answer }) fault) middle new ended
+      → StepGoes (act_in change) old middle fault → StepEnds (step_after_change o (record { change = change; answer = answer }) fault)
+      middle new ended
       → OpActs o (remaining_acts change) answer old new ended
   made_joins (Extending value) answer None old middle new ended g e = goes_on middle g e
   made_joins (Emptying opening) answer None old middle new ended g e = goes_on middle g e

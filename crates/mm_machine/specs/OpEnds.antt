@@ -29,13 +29,15 @@ abbrev pub position_before : List Act → ℕ → Option ℕ
 position_before [] position = Some position
 position_before (act ∷ acts) position = None
 
--- A device step, and what comes behind it: it is done, and the rest follows; or it fails, and so the
+-- A device step, and what comes behind it: it is done, and the rest follows; or it fails, and so
+-- the
 -- call ends.
 pub data ActLeads {A R : Type 0} (act : Act) (commits : Option ℕ) (rest : Standing → Type 0)
     (old new : Standing) (ended : OpResult A R) : Type 0 where
   goes_on : (middle : Standing) → StepGoes act old middle None → rest middle
       → ActLeads act commits rest old new ended
-  breaks_off : (fault : StepFault) → StepGoes act old new (Some fault) → ended ≡ Broken fault commits
+  breaks_off : (fault : StepFault) → StepGoes act old new (Some fault)
+      → ended ≡ Broken fault commits
       → ActLeads act commits rest old new ended
 
 module _ {A R : Type 0} (position : ℕ) where
@@ -44,7 +46,8 @@ module _ {A R : Type 0} (position : ℕ) where
   abbrev pub ActsEndBy : List Act → A → Standing → Standing → OpResult A R → Type 0
   ActsEndBy [] answer old new ended = (new ≡ old) × (ended ≡ Answered answer)
   ActsEndBy (act ∷ acts) answer old new ended =
-      ActLeads act (position_before acts position) (λ middle. ActsEndBy acts answer middle new ended)
+      ActLeads act (position_before acts position)
+      (λ middle. ActsEndBy acts answer middle new ended)
       old new ended
 
   -- how a call ended at its last step
@@ -58,7 +61,8 @@ module _ {A R : Type 0} (o : OpMeaning A R) where
   OpActs acts answer old new ended = ActsEndBy (o.position answer) acts answer old new ended
 
   -- How a call ended that found this.
-  abbrev pub FindingEnds : Result (OpFinding A) (Halt R) → Standing → Standing → OpResult A R → Type 0
+  abbrev pub FindingEnds : Result (OpFinding A) (Halt R) → Standing → Standing → OpResult A R
+      → Type 0
   FindingEnds (Err why) old new ended = (new ≡ old) × (ended ≡ ending_by_halt why)
   FindingEnds (Ok found) old new ended = OpActs (acts_for found) (answer_in found) old new ended
 

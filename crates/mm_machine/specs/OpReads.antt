@@ -70,7 +70,8 @@ LeavesRoom _ standing = Unit {0}
 module _ {A R : Type 0} (o : OpMeaning A R) where
   -- The first step: the cell is read, and seen.
   abbrev pub OpLooks : Standing → Standing → Result (Sight A) (Halt R) → Type 0
-  OpLooks old new = StepDraws (StepGoes ReadCell old new) (λ seen. CellSays old (λ bytes. o.sees bytes seen))
+  OpLooks old new = StepDraws (StepGoes ReadCell old new)
+      (λ seen. CellSays old (λ bytes. o.sees bytes seen))
 
   -- The second: the register is read, and it is found what is to be done.
   abbrev pub OpWeighs : Cell → Standing → Standing → Result (OpFinding A) (Halt R) → Type 0
@@ -79,7 +80,8 @@ module _ {A R : Type 0} (o : OpMeaning A R) where
       (λ found. RegisterSays new (λ register. o.finds cell register found))
 
   -- What is found, by what was seen.
-  abbrev pub SightFinds : Result (Sight A) (Halt R) → Standing → Standing → Result (OpFinding A) (Halt R)
+  abbrev pub SightFinds : Result (Sight A) (Halt R) → Standing → Standing
+      → Result (OpFinding A) (Halt R)
       → Type 0
   SightFinds (Err why) old new given = (new ≡ old) × (given ≡ Err why)
   SightFinds (Ok (sight.Found found)) old new given = RoomIsMadeFor (Ok found) old new given

@@ -70,10 +70,12 @@ pub record FindingLeads {A R : Type 0} (by : Result (OpFinding A) (Halt R) → T
   pub gives : step ≡ step_of_finding found
 
 -- and behind what was seen
-abbrev pub SightLeads : {A R : Type 0} → Result (Sight A) (Halt R) → Standing → Standing → StepResult A R
+abbrev pub SightLeads : {A R : Type 0} → Result (Sight A) (Halt R) → Standing → Standing
+    → StepResult A R
     → Type 0
 SightLeads (Err why) old new step = (new ≡ old) × (step ≡ Over (ending_by_halt why))
-SightLeads (Ok (sight.Found found)) old new step = FindingLeads (RoomIsMadeFor (Ok found) old new) step
+SightLeads (Ok (sight.Found found)) old new step =
+    FindingLeads (RoomIsMadeFor (Ok found) old new) step
 SightLeads (Ok (sight.Cell cell)) old new step = (new ≡ old) × (step ≡ Going (Seen cell))
 
 module _ {A R : Type 0} (o : OpMeaning A R) where
@@ -92,7 +94,8 @@ module _ {A R : Type 0} (o : OpMeaning A R) where
       (position_if_last (change_after ready.change) (o.position ready.answer)))
 
   -- A changing step.
-  pub record ChangeGoes (ready : ReadyChange A) (old new : Standing) (step : StepResult A R) : Type 0 where
+  pub record ChangeGoes (ready : ReadyChange A) (old new : Standing)
+      (step : StepResult A R) : Type 0 where
     pub fault : Option StepFault
     pub goes : StepGoes (act_in ready.change) old new fault
     pub gives : step ≡ step_after_change ready fault

@@ -167,7 +167,8 @@ fn advance_first<O: Operation, P: Platform>(
     platform: &mut P,
     keys: &mut KeptKey,
 ) -> StepResult<O::Answer, O::Refusal>
-    ensures steps { FirstStepGoes (O.asked op.now) (P.standing platform.old) (P.standing platform.new)
+    ensures steps { FirstStepGoes (O.asked op.now) (P.standing platform.old)
+        (P.standing platform.new)
         result }
     ensures room { StepMayGoOn result (P.standing platform.new) }
 {
@@ -220,7 +221,8 @@ pub fn advance<O: Operation, P: Platform>(
     keys: &mut KeptKey,
 ) -> StepResult<O::Answer, O::Refusal>
     requires room { MayGoOn call (P.standing platform.old) }
-    ensures steps { OpSteps (O.asked op.now) call (P.standing platform.old) (P.standing platform.new)
+    ensures steps { OpSteps (O.asked op.now) call (P.standing platform.old)
+        (P.standing platform.new)
         result }
     ensures room { StepMayGoOn result (P.standing platform.new) }
 {

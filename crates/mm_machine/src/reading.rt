@@ -75,7 +75,8 @@ pub(crate) fn make_room<A: Drop, R, P: Platform>(
     found: OpFinding<A>,
     platform: &mut P,
 ) -> Result<OpFinding<A>, Halt<R>>
-    ensures rooms { RoomIsMadeFor (Ok found) (P.standing platform.old) (P.standing platform.new) result }
+    ensures rooms { RoomIsMadeFor (Ok found) (P.standing platform.old)
+        (P.standing platform.new) result }
     ensures room { LeavesRoom result (P.standing platform.new) }
 {
     if !extends(&found) {

@@ -1,9 +1,12 @@
 -- Opt: a fresh offer lists the messages that its batch adds to the history.
 use Rattle.mm_model.proofs.Below.{ℕ, ◌≡◌, ◌+◌, Bool, true, false, ◌&&◌, List, map, refl, sym, ap, ◌∙◌, inl, inr}
 use Rattle.mm_model.proofs.Below.{nat_eq, Contains, Opt, extended_message, Batch, size_of, Meaning, Content}
-use Rattle.mm_model.proofs.Below.{guard_message, guard, register_of, own_values, Instance, opt_instance, History, Commit, items_of_all, total_of}
-use Rattle.mm_model.proofs.Below.{values_of, is_empty, has_value, are_own, Life, Live, life_of, is_last, verdict_on, verdict_by_tests, NamesPosition}
-use Rattle.mm_model.proofs.Below.{IsSound, AreMessagesIn, IsClearFor, point_messages, batch_messages, at_the_end, items_taken_in, IsFreshSomehow}
+use Rattle.mm_model.proofs.Below.{guard_message, guard, register_of, own_values, Instance, opt_instance, History, Commit, items_of_all}
+use Rattle.mm_model.proofs.Below.{total_of}
+use Rattle.mm_model.proofs.Below.{values_of, is_empty, has_value, are_own, Life, Live, life_of, is_last, verdict_on, verdict_by_tests}
+use Rattle.mm_model.proofs.Below.{NamesPosition}
+use Rattle.mm_model.proofs.Below.{IsSound, AreMessagesIn, IsClearFor, point_messages, batch_messages, at_the_end, items_taken_in}
+use Rattle.mm_model.proofs.Below.{IsFreshSomehow}
 use Rattle.mm_model.proofs.Below.{reads_zero, values_of-own}
 use Rattle.mm_model.specs.declared.verdict.Verdict.TheVariants.{Fresh as IsFresh}
 use Rattle.mm_model.proofs.Opt.{second_listed}
@@ -38,7 +41,8 @@ module _ (i : Instance) (y : History) (named rest : List Batch) (a e : List ℕ)
               (second_listed i.meaning.id all q.clears.clear q.before q.taken v q.path listed there.0).1.0
         ]
 
-    fresh_on : (b : Batch) → IsSound y → Contains all (guard_message i.barrier b) → AreMessagesIn (point_messages a e (guard i.barrier b)) all
+    fresh_on : (b : Batch) → IsSound y → Contains all (guard_message i.barrier b)
+        → AreMessagesIn (point_messages a e (guard i.barrier b)) all
         → verdict_on Opt y (total_of named) b ≡ IsFresh → AreMessagesIn (batch_messages i y (Commit b)) all
     fresh_on b sound called call is =
         let both = judged_fresh (life_of Opt y) (nat_eq (total_of named) (total_of y.batches))

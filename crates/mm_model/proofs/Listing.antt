@@ -2,9 +2,12 @@
 use Rattle.mm_model.proofs.Below.{ℕ, ◌≡◌, ◌-◌, ◌≤◌, Bool, true, false, List, [], ◌∷◌, ◌++◌, length, map, take, drop, refl, sym, ap, ◌∙◌}
 use Rattle.mm_model.proofs.Below.{subst, arith, length-append, AllByRecursion, Contains, flat_map, append-nil, map-append, length-drop}
 use Rattle.mm_model.proofs.Below.{take-append-le, drop-append-le, take_all, take_at, drop_at, Opt, start_digest_of, extended_message}
-use Rattle.mm_model.proofs.Below.{anchored_message, Batch, Meaning, guard_message, closing_message, guard, own_values, Instance, opt_instance}
-use Rattle.mm_model.proofs.Below.{RegisterEntry, Own, Value, History, Move, Commit, Foreign, Placed, Close, items_of_all, extension_value, with_last_batch}
-use Rattle.mm_model.proofs.Below.{history_after, values_of, IsSound, IsClean, batches_in, AreMessagesIn, register_trail, closed_runs, runs_of, messages_of}
+use Rattle.mm_model.proofs.Below.{anchored_message, Batch, Meaning, guard_message, closing_message, guard, own_values, Instance}
+use Rattle.mm_model.proofs.Below.{opt_instance}
+use Rattle.mm_model.proofs.Below.{RegisterEntry, Own, Value, History, Move, Commit, Foreign, Placed, Close, items_of_all, extension_value}
+use Rattle.mm_model.proofs.Below.{with_last_batch}
+use Rattle.mm_model.proofs.Below.{history_after, values_of, IsSound, IsClean, batches_in, AreMessagesIn, register_trail, closed_runs}
+use Rattle.mm_model.proofs.Below.{runs_of, messages_of}
 use Rattle.mm_model.proofs.Below.{MayMove, batch_messages, each_append, trail_push}
 use Rattle.mm_model.proofs.Below.{nil_from_length, listed_value, own_values-append, values_of-append, length-batches_in, values_renamed}
 use Rattle.mm_model.specs.Chains.{register_of, anchor_of}
@@ -74,7 +77,8 @@ module _ (barrier : List ℕ) (all : List (List ℕ)) where
   guards_grow batches b w c =
       rw (map-append (guard_message barrier) batches (b ∷ [])) (each_append (Contains all) _ _ w (c, tt))
 
-  runs_commit : (y : History) (current : List Batch) (is_open : Bool) (items : List RegisterEntry) (b : Batch) → current ≡ y.current ++ b ∷ []
+  runs_commit : (y : History) (current : List Batch) (is_open : Bool) (items : List RegisterEntry) (b : Batch) → current ≡ y.current ++ b
+      ∷ []
       → AllByRecursion (RunsListed barrier all) (runs_of y) → Contains all (extended_message (register_of (own_values barrier y.current))
       (guard barrier b)) → AllByRecursion (RunsListed barrier all) (runs_of (record y {
         batches = y.batches ++ b ∷ [];
@@ -87,7 +91,8 @@ module _ (barrier : List ℕ) (all : List (List ℕ)) where
       rw (grown, front_stays y.batches y.current b)
       (each_append (RunsListed barrier all) _ _ parts.0 (run_grows barrier all y.current b parts.1 c, tt))
 
-commit_listed : (i : Instance) (y : History) (current : List Batch) (is_open : Bool) (items : List RegisterEntry) (b : Batch) (all : List (List ℕ))
+commit_listed : (i : Instance) (y : History) (current : List Batch) (is_open : Bool) (items : List RegisterEntry) (b : Batch)
+    (all : List (List ℕ))
     → current ≡ y.current ++ b ∷ [] → HistoryListed i y all → AreMessagesIn (register_trail (values_of i.barrier items)) all
     → AreMessagesIn (batch_messages i y (Commit b)) all
     → HistoryListed i (record y { batches = y.batches ++ b ∷ []; current = current; is_open = is_open; items = items }) all
@@ -146,7 +151,8 @@ module _ (meaning : Meaning) (key barrier : List ℕ) where
 
   -- by whether a segment is open
   listed_at : (y : History) (flag : Bool) (m : Move) (all : List (List ℕ)) → IsSound (flagged y flag) → MayMove I (flagged y flag) m
-      → HistoryListed I (flagged y flag) all → AreMessagesIn (move_messages I (flagged y flag) m) all → AreMessagesIn (batch_messages I y m) all
+      → HistoryListed I (flagged y flag) all → AreMessagesIn (move_messages I (flagged y flag) m) all
+      → AreMessagesIn (batch_messages I y m) all
       → HistoryListed I (history_after I (flagged y flag) m) all
   listed_at y true (Commit b) all sound may h w m =
       commit_listed I (flagged y true) (y.current ++ b ∷ []) true (y.items ++ Own b ∷ []) b all refl h
@@ -169,6 +175,7 @@ module _ (meaning : Meaning) (key barrier : List ℕ) where
   listed_at y flag _ all sound may h w m = items_listed I (flagged y flag) [] all h tt
 
   pub opt_messages : (y : History) (m : Move) (all : List (List ℕ)) → IsSound y → MayMove I y m → AreMessagesIn (messages_of Opt I y) all
-      → AreMessagesIn (move_messages I y m) all → AreMessagesIn (batch_messages I y m) all → AreMessagesIn (messages_of Opt I (history_after I y m)) all
+      → AreMessagesIn (move_messages I y m) all → AreMessagesIn (batch_messages I y m) all
+      → AreMessagesIn (messages_of Opt I (history_after I y m)) all
   opt_messages y m all sound may h w b =
       listed_history I (history_after I y m) all (listed_at y y.is_open m all sound may (history_listed I y all h) w b)

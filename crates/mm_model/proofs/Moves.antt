@@ -1,10 +1,14 @@
 -- What each move keeps and does: soundness, the digests, and the values that it leaves that stand for no batch.
 use Rattle.mm_model.proofs.Below.{ℕ, ◌≡◌, Bool, true, false, List, [], ◌∷◌, ◌++◌, refl, sym, ap, ◌∙◌, inl, inr, append_assoc}
 use Rattle.mm_model.proofs.Below.{map, append-nil, map-append, and_from, and_parts, Opt, Batch, Meaning, guard, register_of}
-use Rattle.mm_model.proofs.Below.{anchor_of, Instance, opt_instance, basic_instance, RegisterEntry, Own, Value, History, Move, Commit, Foreign, Placed, Reset, Close}
-use Rattle.mm_model.proofs.Below.{Power, items_of_all, with_last_batch, history_after, history_after_commit, is_empty, has_value, are_own, is_same_batch}
-use Rattle.mm_model.proofs.Below.{IsSound, AreItems, batches_in, IsOpening, IsAllowed, MayMove, Digests, digests_of, digests_after, digests_after_commit}
-use Rattle.mm_model.proofs.Below.{IsOutside, MoveBrings, each_append, each_left, is_same_batch-Decides, total-push, true_not_false, joined-push}
+use Rattle.mm_model.proofs.Below.{anchor_of, Instance, opt_instance, basic_instance, RegisterEntry, Own, Value, History, Move, Commit}
+use Rattle.mm_model.proofs.Below.{Foreign, Placed, Reset, Close}
+use Rattle.mm_model.proofs.Below.{Power, items_of_all, with_last_batch, history_after, history_after_commit, is_empty, has_value, are_own}
+use Rattle.mm_model.proofs.Below.{is_same_batch}
+use Rattle.mm_model.proofs.Below.{IsSound, AreItems, batches_in, IsOpening, IsAllowed, MayMove, Digests, digests_of, digests_after}
+use Rattle.mm_model.proofs.Below.{digests_after_commit}
+use Rattle.mm_model.proofs.Below.{IsOutside, MoveBrings, each_append, each_left, is_same_batch-Decides, total-push, true_not_false}
+use Rattle.mm_model.proofs.Below.{joined-push}
 use Rattle.mm_model.proofs.Below.{has_value-append, batches_in-append, register_more, values_renamed, renamed-push, if◌then◌else◌}
 use Rattle.mm_model.proofs.Below.{AllByRecursion, Contains, zero_bytes, anchored_digest_of, values_of, values_in}
 use Rattle.mm_model.proofs.Below.{summary-push, anchor-push, reads_zero}
@@ -18,7 +22,8 @@ has_value-push es d = has_value-append es (Value d ∷ []) ∙ or_right (has_val
 has_value-own : (es : List RegisterEntry) (b : Batch) → has_value es ≡ true → has_value (es ++ Own b ∷ []) ≡ true
 has_value-own es b h = has_value-append es (Own b ∷ []) ∙ or_left (has_value es) false h
 
-are_own-push : (es : List RegisterEntry) (bs : List Batch) (b : Batch) → are_own es bs ≡ true → are_own (es ++ Own b ∷ []) (bs ++ b ∷ []) ≡ true
+are_own-push : (es : List RegisterEntry) (bs : List Batch) (b : Batch) → are_own es bs ≡ true → are_own (es ++ Own b ∷ []) (bs ++ b ∷ [])
+    ≡ true
 are_own-push [] [] b h = and_from (is_same_batch b b) true ((is_same_batch-Decides b b).1 refl) refl
 are_own-push (Own c ∷ es) (d ∷ bs) b h =
     let both = and_parts (is_same_batch c d) (are_own es bs) h in
@@ -56,7 +61,8 @@ module _ (y : History) where
       elim (empty_cases y.current) [ inl none ↦ absurd (true_not_false (sym f ∙ sound.shut_is (ap is_empty none))) | inr some ↦ some ]
 
   -- the register's items alone change, and hold a value that stands for no batch
-  pub sound_items : (items : List RegisterEntry) → IsSound y → (y.is_open ≡ true → AreItems items y.current) → IsSound (record y { items = items })
+  pub sound_items : (items : List RegisterEntry) → IsSound y → (y.is_open ≡ true → AreItems items y.current)
+      → IsSound (record y { items = items })
   sound_items items sound h = record {
     open_is = sound.open_is;
     shut_is = sound.shut_is;
@@ -87,7 +93,8 @@ module _ (y : History) where
         filled = sound.filled;
         history = inl (record {
           clean = clean.clean;
-          batches = ap (λ (v : List Batch). v ++ b ∷ []) clean.batches ∙ append_assoc (batches_in (items_of_all y.closed)) y.current (b ∷ []);
+          batches = ap (λ (v : List Batch). v ++ b ∷ []) clean.batches ∙ append_assoc (batches_in (items_of_all y.closed))
+              y.current (b ∷ []);
         });
         register = λ _. elim (sound.register f) [
           | inl own ↦ inl (are_own-push y.items y.current b own)
@@ -96,7 +103,8 @@ module _ (y : History) where
         ];
       }
 
-  pub opening_clean : IsSound y → has_value (items_of_all y.closed) ≡ false → y.is_open ≡ false → y.batches ≡ batches_in (items_of_all y.closed)
+  pub opening_clean : IsSound y → has_value (items_of_all y.closed) ≡ false → y.is_open ≡ false
+      → y.batches ≡ batches_in (items_of_all y.closed)
   opening_clean sound clean shut = elim sound.history [
     | inl c ↦ rw (shut_current y sound shut, append-nil (batches_in (items_of_all y.closed))) at c.batches
     | inr m ↦ absurd (true_not_false (sym (marred_has y m) ∙ clean))
@@ -168,9 +176,11 @@ module _ (meaning : Meaning) (key barrier : List ℕ) where
   sound_moved y m = sound_at y y.is_open m
 
 pub basic_digests : (meaning : Meaning) (key : List ℕ) (y : History) (m : Move) → MayMove (basic_instance meaning key) y m
-    → digests_of (basic_instance meaning key) (history_after (basic_instance meaning key) y m) ≡ digests_after (basic_instance meaning key) (digests_of (basic_instance meaning key) y) m
+    → digests_of (basic_instance meaning key) (history_after (basic_instance meaning key) y m) ≡ digests_after (basic_instance meaning key)
+    (digests_of (basic_instance meaning key) y) m
 basic_digests meaning key y (Commit b) may =
-    λ j. record (digests_of (basic_instance meaning key) y) { digest = summary-push meaning.id y.batches b j; count = total-push y.batches b j }
+    λ j. record (digests_of (basic_instance meaning key) y) { digest = summary-push meaning.id y.batches b j; count =
+        total-push y.batches b j }
 basic_digests meaning key y (Foreign d) may =
     λ j. record (digests_of (basic_instance meaning key) y) { register = register_more zero_bytes y.items (Value d) j }
 basic_digests meaning key y Power may = λ j. record (digests_of (basic_instance meaning key) y) { register = reads_zero j }
@@ -182,7 +192,8 @@ module _ (meaning : Meaning) (key barrier : List ℕ) (y : History) where
 
   -- a commit, by whether a segment is open
   commit_digests : (b : Batch) (flag : Bool) → IsAllowed Opt flag (opt_instance meaning key barrier) y (Commit b)
-      → digests_of (opt_instance meaning key barrier) (history_after_commit Opt flag y b) ≡ digests_after_commit Opt flag (opt_instance meaning key barrier) before b
+      → digests_of (opt_instance meaning key barrier) (history_after_commit Opt flag y b) ≡ digests_after_commit Opt flag
+      (opt_instance meaning key barrier) before b
   commit_digests b true may = λ j. record before { register = register_more barrier y.items (Own b) j; count = total-push y.batches b j }
   commit_digests b false may =
       let items : register_of (values_of barrier (with_last_batch y.items b)) ≡ register_of (values_of barrier y.items) =
@@ -196,7 +207,8 @@ module _ (meaning : Meaning) (key barrier : List ℕ) (y : History) where
       ∙ anchor-push meaning.id (map (values_of barrier) y.closed) (values_of barrier y.items)
 
   pub opt_digests : (m : Move) → MayMove (opt_instance meaning key barrier) y m
-      → digests_of (opt_instance meaning key barrier) (history_after (opt_instance meaning key barrier) y m) ≡ digests_after (opt_instance meaning key barrier) before m
+      → digests_of (opt_instance meaning key barrier) (history_after (opt_instance meaning key barrier) y m)
+      ≡ digests_after (opt_instance meaning key barrier) before m
   opt_digests (Commit b) may = commit_digests b y.is_open may
   opt_digests (Foreign d) may = λ j. record before { register = register_more barrier y.items (Value d) j }
   opt_digests (Placed b) may = λ j. record before { register = register_more barrier y.items (Value (guard barrier b)) j }
@@ -221,7 +233,8 @@ outside_more others true closed items e h new =
     (each_append (Contains others) _ _ h (new refl))
 outside_more others false closed items e h new = h
 
-outside_less : (others : List (List ℕ)) (flag : Bool) (closed : List (List RegisterEntry)) (items : List RegisterEntry) → OutsideAt others flag closed items
+outside_less : (others : List (List ℕ)) (flag : Bool) (closed : List (List RegisterEntry)) (items : List RegisterEntry)
+    → OutsideAt others flag closed items
     → OutsideAt others flag closed []
 outside_less others true closed items h =
     rw (append-nil (items_of_all closed))

@@ -1,9 +1,11 @@
 -- A snapshot that names a position names it after each move; the snapshot of an answer names the last position.
 use Rattle.mm_model.proofs.Below.{ℕ, ◌≡◌, ◌≤◌, Bool, true, false, List, [], ◌∷◌, ◌++◌, length, refl, sym, ap, ◌∙◌, ◌⊎◌, inl, inr}
 use Rattle.mm_model.proofs.Below.{arith, append_assoc, length-append, append-nil, append_cancel_right, Opt, Batch, Meaning, Place}
-use Rattle.mm_model.proofs.Below.{InBasic, InOpt, Content, guard, Instance, basic_instance, opt_instance, RegisterEntry, Own, Value, History, Move, Commit, Foreign}
+use Rattle.mm_model.proofs.Below.{InBasic, InOpt, Content, guard, Instance, basic_instance, opt_instance, RegisterEntry, Own, Value}
+use Rattle.mm_model.proofs.Below.{History, Move, Commit, Foreign}
 use Rattle.mm_model.proofs.Below.{Placed, Close, items_of_all, history_after, with_last_batch, has_value, IsSound, IsClean, batches_in}
-use Rattle.mm_model.proofs.Below.{IsClosedPoint, IsCurrentPoint, IsPoint, at_anchor, in_closed, in_current, IsPlaceOf, NamesPosition, content_of_issue, issued_place}
+use Rattle.mm_model.proofs.Below.{IsClosedPoint, IsCurrentPoint, IsPoint, at_anchor, in_closed, in_current, IsPlaceOf, NamesPosition}
+use Rattle.mm_model.proofs.Below.{content_of_issue, issued_place}
 use Rattle.mm_model.proofs.Below.{MayMove, length-batches_in}
 use Rattle.mm_model.proofs.Below.{anchor_after, basic_stands}
 use Rattle.mm_model.proofs.Paths.{clean_size, current_clean, live_clean, shut_current}
@@ -43,7 +45,8 @@ module _ (i : Instance) (key : List ℕ) (y z : History) (more : List (List Regi
 -- a place in a history with the same closed segments, whose open one has perhaps more batches
 point_more : (i : Instance) (key : List ℕ) (y z : History) (more : List Batch) → z.closed ≡ y.closed → z.current ≡ y.current ++ more
     → z.batches ≡ y.batches ++ more → (named : List Batch) (a e : List ℕ)
-    → ((p : IsClosedPoint i y named a e) → (length p.taken ≤ length p.segment) ⊎ ((p.later ≡ []) × (z.current ≡ []))) → IsPoint i y named a e
+    → ((p : IsClosedPoint i y named a e) → (length p.taken ≤ length p.segment) ⊎ ((p.later ≡ []) × (z.current ≡ [])))
+    → IsPoint i y named a e
     → IsPoint (record i { key = key }) z named a e
 point_more i key y z more closed current batches named a e within =
     point_grown i key y z [] (closed ∙ sym (append-nil y.closed)) named a e

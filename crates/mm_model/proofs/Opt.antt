@@ -3,7 +3,8 @@ use Rattle.mm_model.proofs.Below.{ℕ, ◌≡◌, Bool, true, false, ◌||◌, L
 use Rattle.mm_model.proofs.Below.{if◌then◌else◌, Decides, bytes_eq, Contains, list_any, zero_bytes, anchored_message, anchored_digest_of}
 use Rattle.mm_model.proofs.Below.{register_of, anchor_of, is_empty, Point, forms_of, fits_fresh, fits_again, AreMessagesIn, IsClear}
 use Rattle.mm_model.proofs.Below.{register_trail, form_messages, point_messages, anchor-push, same_tests, IsFreshPath, IsFreshSomehow}
-use Rattle.mm_model.proofs.Below.{IsAgainPath, IsAgainSomehow, true_not_false, HasListedMessages, IsClearFromStart, point_of, fresh_tells, again_tells, zero_register}
+use Rattle.mm_model.proofs.Below.{IsAgainPath, IsAgainSomehow, true_not_false, HasListedMessages, IsClearFromStart, point_of, fresh_tells}
+use Rattle.mm_model.proofs.Below.{again_tells, zero_register}
 use Rattle.mm_model.proofs.Below.{listed_segment, reads_zero}
 use Rattle.std.proofs.lemmas.Bool.Decides.{Decides-or}
 
@@ -38,20 +39,24 @@ module _ (id : ℕ) where
 
   -- the messages of its place, where there is one
   pub second_listed : (all : List (List ℕ)) → IsClear all → (before : List (List (List ℕ))) (rest : List (List ℕ)) (v : List ℕ)
-      → HasListedMessages id all before rest → AreMessagesIn (point_messages (anchor_of id before) (register_of rest) v) all → is_empty rest ≡ false
+      → HasListedMessages id all before rest → AreMessagesIn (point_messages (anchor_of id before) (register_of rest) v) all
+      → is_empty rest ≡ false
       → Contains all (anchored_message (anchor_of id before) (register_of rest))
       × AreMessagesIn (form_messages (anchored_digest_of (anchor_of id before) (register_of rest)) zero_bytes v) all
   second_listed all clear before rest v l m some =
       let there : bytes_eq (register_of rest) zero_bytes ≡ false = zero_tells all clear rest l.last ∙ some in rw there at m.1.1
 
-module _ (id : ℕ) (all : List (List ℕ)) (clears : IsClearFromStart id all) (flag : Bool) (closed : List (List (List ℕ))) (items : List (List ℕ))
-    (before : List (List (List ℕ))) (rest : List (List ℕ)) (k : HasListedMessages id all closed items) (l : HasListedMessages id all before rest) where
+module _ (id : ℕ) (all : List (List ℕ)) (clears : IsClearFromStart id all) (flag : Bool) (closed : List (List (List ℕ)))
+    (items : List (List ℕ))
+    (before : List (List (List ℕ))) (rest : List (List ℕ)) (k : HasListedMessages id all closed items)
+    (l : HasListedMessages id all before rest) where
   pub fresh_somehow : (is_empty rest ≡ false → Contains all (anchored_message (anchor_of id before) (register_of rest)))
       → Decides (list_any (fits_fresh flag (anchor_of id closed) (register_of items)) (forms_of (anchor_of id before) (register_of rest)))
       (IsFreshSomehow flag closed items before rest)
   fresh_somehow closes =
       let test = fits_fresh flag (anchor_of id closed) (register_of items) in
-      on_forms (IsFreshPath flag closed items before rest) (IsFreshPath flag closed items (before ++ rest ∷ []) []) test (point_of id before rest)
+      on_forms (IsFreshPath flag closed items before rest) (IsFreshPath flag closed items (before ++ rest ∷ []) []) test
+      (point_of id before rest)
       (closed_point id before rest) rest (bytes_eq (register_of rest) zero_bytes) (zero_tells all clears.clear rest l.last)
       (fresh_tells id all clears flag closed items before rest k l) (λ some.
       subst (λ (x : Point). Decides (test x) (IsFreshPath flag closed items (before ++ rest ∷ []) [])) (second_is id before rest)
@@ -63,7 +68,8 @@ module _ (id : ℕ) (all : List (List ℕ)) (clears : IsClearFromStart id all) (
       (IsAgainSomehow flag closed items v before rest)
   again_somehow v m =
       let test = fits_again flag (anchor_of id closed) (register_of items) v in
-      on_forms (IsAgainPath flag closed items v before rest) (IsAgainPath flag closed items v (before ++ rest ∷ []) []) test (point_of id before rest)
+      on_forms (IsAgainPath flag closed items v before rest) (IsAgainPath flag closed items v (before ++ rest ∷ []) []) test
+      (point_of id before rest)
       (closed_point id before rest) rest (bytes_eq (register_of rest) zero_bytes) (zero_tells all clears.clear rest l.last)
       (again_tells id all clears flag closed items v before rest k l (m.0, (m.1.0, tt))) (λ some.
       let second = second_listed id all clears.clear before rest v l m some in

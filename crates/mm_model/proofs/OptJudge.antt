@@ -1,16 +1,23 @@
 -- Opt: from a sound history the verdict by digests is the verdict on the history.
 use Rattle.mm_model.proofs.Below.{ℕ, ◌≡◌, ◌+◌, Bool, true, false, ◌&&◌, List, [], ◌∷◌, ◌++◌, length, map, refl, sym, ap, ◌∙◌}
 use Rattle.mm_model.proofs.Below.{subst, inl, inr, nat_eq, if◌then◌else◌, Decides, bytes_eq, AllByRecursion, Contains, list_any}
-use Rattle.mm_model.proofs.Below.{append-nil, map-append, Opt, zero_bytes, start_digest_of, anchored_message, Batch, size_of, guard_message, closing_message}
-use Rattle.mm_model.proofs.Below.{guard, register_of, anchor_of, own_values, Meaning, Place, InBasic, InOpt, Content, Instance, opt_instance, RegisterEntry}
-use Rattle.mm_model.proofs.Below.{History, items_of_all, total_of, register_value_of, values_of, cell_digest_of, is_empty, has_value, are_own}
+use Rattle.mm_model.proofs.Below.{append-nil, map-append, Opt, zero_bytes, start_digest_of, anchored_message, Batch, size_of, guard_message}
+use Rattle.mm_model.proofs.Below.{closing_message}
+use Rattle.mm_model.proofs.Below.{guard, register_of, anchor_of, own_values, Meaning, Place, InBasic, InOpt, Content, Instance}
+use Rattle.mm_model.proofs.Below.{opt_instance, RegisterEntry}
+use Rattle.mm_model.proofs.Below.{History, items_of_all, total_of, register_value_of, values_of, cell_digest_of, is_empty, has_value}
+use Rattle.mm_model.proofs.Below.{are_own}
 use Rattle.mm_model.proofs.Below.{Life, Live, Spoiled, Lost, life_by, life_of, is_lost_life, verdict_by_digests, forms_of, fits_fresh}
-use Rattle.mm_model.proofs.Below.{fits_again, is_last, verdict_by, opt_verdict, verdict_on, verdict_by_tests, IsPoint, IsPlaceOf, NamesPosition, anchor_after}
-use Rattle.mm_model.proofs.Below.{AreMessagesIn, IsClear, IsClearFor, register_trail, point_messages, messages_of, counted_entries, values_in}
+use Rattle.mm_model.proofs.Below.{fits_again, is_last, verdict_by, opt_verdict, verdict_on, verdict_by_tests, IsPoint, IsPlaceOf}
+use Rattle.mm_model.proofs.Below.{NamesPosition, anchor_after}
+use Rattle.mm_model.proofs.Below.{AreMessagesIn, IsClear, IsClearFor, register_trail, point_messages, messages_of, counted_entries}
+use Rattle.mm_model.proofs.Below.{values_in}
 use Rattle.mm_model.proofs.Below.{AreNoGuards, IsSound, IsClean, batches_in, each_left, each_right, each_append, trail_front}
 use Rattle.mm_model.proofs.Below.{same_own_values, same_tests, at_the_end, before_the_last, verdicts, true_not_false, items_taken_in}
-use Rattle.mm_model.proofs.Below.{IsFreshSomehow, IsAgainSomehow, fresh_joins, again_joins, PathReaches, IsHeld, fresh_from, again_from, HasListedMessages, IsClearFromStart}
-use Rattle.mm_model.proofs.Below.{own_values-append, values_of-append, joined-values, has_value-append, values_of-clean, values_of-own, meets}
+use Rattle.mm_model.proofs.Below.{IsFreshSomehow, IsAgainSomehow, fresh_joins, again_joins, PathReaches, IsHeld, fresh_from, again_from}
+use Rattle.mm_model.proofs.Below.{HasListedMessages, IsClearFromStart}
+use Rattle.mm_model.proofs.Below.{own_values-append, values_of-append, joined-values, has_value-append, values_of-clean, values_of-own}
+use Rattle.mm_model.proofs.Below.{meets}
 use Rattle.std.proofs.lemmas.Bool.{or_left, or_right, false_from_ne_true}
 use Rattle.mm_digest.specs.declared.digest.Digest.{Digest}
 use Rattle.std.proofs.lemmas.List.Elements.{Contains-append_left, Contains-append_right, Contains-push, Contains-push_cases}
@@ -124,7 +131,8 @@ told Live here = here
 told _ here = false
 
 verdict_told : (life : Life) (fresh again here repeat : Bool) → (is_lost_life life ≡ false → fresh ≡ told life here)
-    → (is_lost_life life ≡ false → again ≡ told life repeat) → verdict_by (is_lost_life life) fresh again ≡ verdict_by_tests life here repeat
+    → (is_lost_life life ≡ false → again ≡ told life repeat) → verdict_by (is_lost_life life) fresh again
+    ≡ verdict_by_tests life here repeat
 verdict_told Live fresh again here repeat f g = rw (f refl, g refl) (verdicts here repeat)
 verdict_told Spoiled fresh again here repeat f g = rw (f refl, g refl) refl
 verdict_told Lost fresh again here repeat f g = refl
@@ -203,7 +211,8 @@ module _ (i : Instance) (y : History) (named rest : List Batch) (a e : List ℕ)
       → list_any (fits_fresh y.is_open (anchor_of i.meaning.id closed_here) (register_of items_here)) (forms_of a e)
       ≡ told (life_of Opt y) counts_here
   fresh_told sound foreign closes =
-      rw (q.anchor_is, q.extension_is) (test_told sound named (IsFreshSomehow y.is_open closed_here items_here q.before q.taken) _ counts_here
+      rw (q.anchor_is, q.extension_is)
+      (test_told sound named (IsFreshSomehow y.is_open closed_here items_here q.before q.taken) _ counts_here
       (fresh_somehow i.meaning.id all q.clears y.is_open closed_here items_here q.before q.taken q.history q.path closes)
       (at_the_end y.batches named rest q.first)
       (λ f. sym q.flat ∙ fresh_joins y.is_open closed_here items_here q.before q.taken f ∙ flat_here) fresh_path guards_of_named
@@ -242,8 +251,10 @@ module _ (i : Instance) (y : History) (named rest : List Batch) (a e : List ℕ)
       (again_told sound b foreign called listed))
 
 pub opt_is_judged : (meaning : Meaning) (key barrier : List ℕ) (y : History) (offered : Content) (b : Batch) (all : List (List ℕ))
-    → IsSound y → IsClearFor all (opt_instance meaning key barrier) y offered.place b → NamesPosition (opt_instance meaning key barrier) y offered
-    → verdict_by_digests barrier y.is_open (cell_digest_of (opt_instance meaning key barrier) Opt y) (register_value_of (opt_instance meaning key barrier) y)
+    → IsSound y → IsClearFor all (opt_instance meaning key barrier) y offered.place b
+    → NamesPosition (opt_instance meaning key barrier) y offered
+    → verdict_by_digests barrier y.is_open (cell_digest_of (opt_instance meaning key barrier) Opt y)
+    (register_value_of (opt_instance meaning key barrier) y)
     offered.place b ≡ verdict_on Opt y offered.position b
 opt_is_judged meaning key barrier y offered b all sound clear names =
     let i = opt_instance meaning key barrier in

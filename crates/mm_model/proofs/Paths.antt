@@ -2,10 +2,12 @@
 use Rattle.mm_model.proofs.Below.{ℕ, ◌≡◌, ◌+◌, ◌-◌, ◌≤◌, Bool, true, false, List, [], ◌∷◌, ◌++◌, length, map, take, drop, refl}
 use Rattle.mm_model.proofs.Below.{sym, ap, ◌∙◌, subst, ◌⊎◌, inl, inr, arith, append_assoc, length-append, append-nil, append_cancel_right}
 use Rattle.mm_model.proofs.Below.{length-map, length-drop, drop-append-le, or_parts, AllByRecursion, zero_bytes, extended_message, Batch}
-use Rattle.mm_model.proofs.Below.{guard, register_of, own_values, Instance, RegisterEntry, History, items_of_all, extension_value, values_of, is_empty}
+use Rattle.mm_model.proofs.Below.{guard, register_of, own_values, Instance, RegisterEntry, History, items_of_all, extension_value}
+use Rattle.mm_model.proofs.Below.{values_of, is_empty}
 use Rattle.mm_model.proofs.Below.{has_value, IsClosedPoint, IsPoint, at_anchor, in_closed, in_current, anchor_after, AreMessagesIn}
 use Rattle.mm_model.proofs.Below.{register_trail, closed_runs, runs_of, IsSound, IsClean, IsMarred, batches_in, each_left, each_right}
-use Rattle.mm_model.proofs.Below.{trail_front, same_halves, joined-append, joined-push, true_not_false, nil_from_length, PathReaches, reads_zero}
+use Rattle.mm_model.proofs.Below.{trail_front, same_halves, joined-append, joined-push, true_not_false, nil_from_length, PathReaches}
+use Rattle.mm_model.proofs.Below.{reads_zero}
 use Rattle.mm_model.proofs.Below.{own_values-append, has_value-append, batches_in-append, length-batches_in, values_of-clean, sooner}
 use Rattle.std.proofs.Math.Seq.{take-append-add}
 
@@ -25,7 +27,8 @@ shut_current y sound shut =
     elim (empty_cases y.current) [ inl none ↦ none | inr some ↦ absurd (true_not_false (sym (sound.open_is some) ∙ shut)) ]
 
 module _ (y : History) where
-  begins_by : (before between whole : List (List RegisterEntry)) (rest : List Batch) → whole ≡ before ++ between → has_value (items_of_all whole) ≡ false
+  begins_by : (before between whole : List (List RegisterEntry)) (rest : List Batch) → whole ≡ before ++ between
+      → has_value (items_of_all whole) ≡ false
       → y.batches ≡ batches_in (items_of_all whole) ++ rest → Begins y before
   begins_by before between whole rest split clean batches =
       let all : items_of_all whole ≡ items_of_all before ++ items_of_all between = ap items_of_all split ∙ joined-append before between in
@@ -41,7 +44,8 @@ module _ (y : History) where
   pub begins_clean : (before later : List (List RegisterEntry)) → IsClean y → y.closed ≡ before ++ later → Begins y before
   begins_clean before later h split = begins_by before later y.closed y.current split h.clean h.batches
 
-  begins_marred : (before later : List (List RegisterEntry)) → IsMarred y → y.closed ≡ before ++ later → is_empty later ≡ false → Begins y before
+  begins_marred : (before later : List (List RegisterEntry)) → IsMarred y → y.closed ≡ before ++ later → is_empty later ≡ false
+      → Begins y before
   begins_marred before later h split some =
       let s = sooner before later h.before h.last (sym split ∙ h.split) some in
       begins_by before s.between h.before h.rest s.is h.clean h.batches
@@ -73,7 +77,8 @@ module _ (y : History) where
   done_is : (before : List (List RegisterEntry)) (done more : List Batch) → Begins y before → y.batches ≡ done ++ more
       → length done ≡ length (items_of_all before) → done ≡ batches_in (items_of_all before)
   done_is before done more h e l =
-      (same_halves done (batches_in (items_of_all before)) more h.tail (l ∙ sym (length-batches_in (items_of_all before) h.clean)) (sym e ∙ h.is)).0
+      (same_halves done (batches_in (items_of_all before)) more h.tail (l ∙ sym (length-batches_in (items_of_all before) h.clean))
+      (sym e ∙ h.is)).0
 
 flat_is : (barrier : List ℕ) (y : History) (before : List (List RegisterEntry)) (done taken named : List Batch) → Begins y before
     → done ≡ batches_in (items_of_all before) → named ≡ done ++ taken → values_of barrier (items_of_all before)
@@ -138,7 +143,8 @@ runs_behind : (P : List Batch → Type 0) (s : List RegisterEntry) (before : Lis
 runs_behind P s [] segment later bs h = h.1
 runs_behind P s (t ∷ before) segment later bs h = h.1
 
-run_holds : (P : List Batch → Type 0) (before : List (List RegisterEntry)) (segment : List RegisterEntry) (later : List (List RegisterEntry))
+run_holds : (P : List Batch → Type 0) (before : List (List RegisterEntry)) (segment : List RegisterEntry)
+    (later : List (List RegisterEntry))
     (bs done more : List Batch) → bs ≡ done ++ more → length done ≡ length (items_of_all before)
     → AllByRecursion P (closed_runs (before ++ segment ∷ later) bs) → P (run_at segment later more)
 run_holds P [] segment later bs done more e l h =
@@ -156,7 +162,8 @@ takes_whole n xs ys l =
     let e : n ≡ length xs + (n - length xs) = omega (arith, l) in
     ap (λ (k : ℕ). take k (xs ++ ys)) e ∙ take-append-add xs ys (n - length xs)
 
-run_listed : (barrier : List ℕ) (all : List (List ℕ)) (segment : List RegisterEntry) (later : List (List RegisterEntry)) (taken more : List Batch)
+run_listed : (barrier : List ℕ) (all : List (List ℕ)) (segment : List RegisterEntry) (later : List (List RegisterEntry))
+    (taken more : List Batch)
     → (length taken ≤ length segment) ⊎ (later ≡ []) → RunsListed barrier all (run_at segment later (taken ++ more))
     → RunsListed barrier all taken
 run_listed barrier all segment [] taken more fits w = listed_front barrier all taken more w
@@ -176,7 +183,8 @@ module _ (y : History) where
 
   -- how many batches there are, by the closed segments before one, that one and those behind it
   pub clean_size : IsClean y → (before : List (List RegisterEntry)) (segment : List RegisterEntry) (later : List (List RegisterEntry))
-      → y.closed ≡ before ++ segment ∷ later → length y.batches ≡ length (items_of_all before) + (length segment + length (items_of_all later))
+      → y.closed ≡ before ++ segment ∷ later → length y.batches ≡ length (items_of_all before)
+      + (length segment + length (items_of_all later))
       + length y.current
   clean_size h before segment later split =
       let all = ap length h.batches in let cut = length-append (batches_in (items_of_all y.closed)) y.current in

@@ -21,7 +21,8 @@ new_judged false true = refl
 new_judged _ _ = refl
 
 pub basic_stands_here : (meaning : Meaning) (key register : List ℕ) (y : History) (offered : Content) (b : Batch) (all : List (List ℕ))
-    → IsClear all → AreMessagesIn (history_messages (basic_instance meaning key) y) all → NamesPosition (basic_instance meaning key) y offered
+    → IsClear all → AreMessagesIn (history_messages (basic_instance meaning key) y) all
+    → NamesPosition (basic_instance meaning key) y offered
     → is_new (verdict_by_digests zero_bytes false (cell_digest_of (basic_instance meaning key) Basic y) register offered.place b) ≡ is_new
     (verdict_on Basic y offered.position b)
 basic_stands_here meaning key register y offered b all clear history names =
@@ -50,7 +51,8 @@ opt_on i y named rest a e b all sound q listed foreign =
     (rw (q.anchor_is, q.extension_is, there) at listed).0)))
 
 pub opt_stands_here : (meaning : Meaning) (key barrier : List ℕ) (y : History) (offered : Content) (b : Batch) (all : List (List ℕ))
-    → IsSound y → IsClear all → AreMessagesIn (history_messages (opt_instance meaning key barrier) y) all → AreMessagesIn (place_messages offered.place) all
+    → IsSound y → IsClear all → AreMessagesIn (history_messages (opt_instance meaning key barrier) y) all
+    → AreMessagesIn (place_messages offered.place) all
     → AreNoGuards barrier (values_in (counted_entries y)) y.batches → NamesPosition (opt_instance meaning key barrier) y offered
     → is_new (verdict_by_digests barrier y.is_open (cell_digest_of (opt_instance meaning key barrier) Opt y)
     (register_value_of (opt_instance meaning key barrier) y) offered.place b) ≡ is_new (verdict_on Opt y offered.position b)

@@ -4,7 +4,8 @@ pub use Rattle.sha2.specs.Sha256.{sha256}
 pub use Rattle.mm_base.specs.FieldLaws.{append-injective}
 pub use Rattle.mm_base.specs.Limits.{last_position, limit_of, longest_request, most_members}
 pub use Rattle.mm_digest.specs.LengthLaws.{length-hmac_of, length-start_digest_of, length-zero_bytes}
-pub use Rattle.mm_digest.specs.Messages.{anchored_message, anchored_digest_of, extended_message, extended_digest_of, start_message, start_digest_of, zero_bytes}
+pub use Rattle.mm_digest.specs.Messages.{anchored_message, anchored_digest_of, extended_message, extended_digest_of, start_message}
+pub use Rattle.mm_digest.specs.Messages.{start_digest_of, zero_bytes}
 pub use Rattle.mm_digest.specs.declared.digest.Digest.{Digest}
 pub use Rattle.mm_digest.specs.declared.variant.Variant.{Variant}
 pub use Rattle.mm_digest.specs.declared.variant.Variant.TheVariants.{Basic, Opt}

@@ -1,7 +1,8 @@
 -- Chains of digests: one more item, and equal ends of equal lists.
 use Rattle.std.proofs.Common.{◌≡◌, ◌≢◌, ◌++◌, length, refl, sym, ap, ◌∙◌, inl, inr, ℕ, List, [], ◌∷◌}
 use Rattle.std.specs.List.{AllByRecursion, Contains}
-use Rattle.mm_model.specs.Below.{length-sha256, sha256, length-zero_bytes, length-start_digest_of, zero_bytes, start_digest_of, extended_message, Basic}
+use Rattle.mm_model.specs.Below.{length-sha256, sha256, length-zero_bytes, length-start_digest_of, zero_bytes, start_digest_of}
+use Rattle.mm_model.specs.Below.{extended_message, Basic}
 use Rattle.mm_model.specs.Below.{Opt, Batch}
 use Rattle.mm_model.specs.Chains.{digest_after, trail, link, link_message, closing_message, summary_of, anchor_of, register_of}
 use Rattle.mm_model.specs.Messages.{AreMessagesIn, IsClear}
@@ -51,7 +52,8 @@ module _ {A : Type 0} (f : List ℕ → A → List ℕ) (s : List ℕ) where
   pub trail_front : (xs ys : List A) (all : List (List ℕ)) → AreMessagesIn (trail f s (xs ++ ys)) all → AreMessagesIn (trail f s xs) all
   trail_front xs ys all w = each_left (Contains all) (trail f s xs) (trail f (digest_after f s xs) ys) (rw (trail-append f s xs ys) at w)
 
-  pub trail_last : (xs : List A) (x : A) (all : List (List ℕ)) → AreMessagesIn (trail f s (xs ++ x ∷ [])) all → Contains all (f (digest_after f s xs) x)
+  pub trail_last : (xs : List A) (x : A) (all : List (List ℕ)) → AreMessagesIn (trail f s (xs ++ x ∷ [])) all
+      → Contains all (f (digest_after f s xs) x)
   trail_last xs x all w = (each_right (Contains all) (trail f s xs) _ (rw (trail-append f s xs (x ∷ [])) at w)).0
 
   pub trail_push : (xs : List A) (x : A) (all : List (List ℕ)) → AreMessagesIn (trail f s xs) all → Contains all (f (digest_after f s xs) x)
@@ -61,13 +63,15 @@ module _ {A : Type 0} (f : List ℕ → A → List ℕ) (s : List ℕ) where
 module _ {A : Type 0} (f : List ℕ → A → List ℕ) (start : List ℕ) (Fine : A → Type 0) (all : List (List ℕ)) where
   abbrev pub AreSameFrom : List A → Type 0
   AreSameFrom xs =
-      (ys : List A) → AllByRecursion Fine xs → AllByRecursion Fine ys → AreMessagesIn (trail f start xs) all → AreMessagesIn (trail f start ys) all
+      (ys : List A) → AllByRecursion Fine xs → AllByRecursion Fine ys → AreMessagesIn (trail f start xs) all
+      → AreMessagesIn (trail f start ys) all
       → digest_after f start xs ≡ digest_after f start ys → xs ≡ ys
 
   -- a chain that took a step doesn't end at its start
   pub never_back : IsTellingChain f start Fine all → (xs : List A) (x : A) → AreMessagesIn (trail f start (xs ++ x ∷ [])) all
       → digest_after f start (xs ++ x ∷ []) ≢ start
-  never_back telling xs x w e = telling.leaves (digest_after f start xs) x (trail_last f start xs x all w) (sym (after-push f start xs x) ∙ e)
+  never_back telling xs x w e = telling.leaves (digest_after f start xs) x (trail_last f start xs x all w)
+      (sym (after-push f start xs x) ∙ e)
 
   same_none : IsTellingChain f start Fine all → AreSameFrom []
   same_none telling ys fx fy wx wy e = elim (ends ys) [

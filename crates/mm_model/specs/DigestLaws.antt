@@ -5,11 +5,13 @@ use Rattle.std.proofs.lemmas.Slice.Eq.{bytes_eq-Decides}
 use Rattle.std.specs.Bool.{Decides}
 use Rattle.std.specs.List.{AllByRecursion, Contains, fold}
 use Rattle.std.specs.Str.{bytes_eq}
-use Rattle.mm_model.specs.Below.{sha256, append-injective, length-zero_bytes, length-start_digest_of, zero_bytes, start_message, extended_message}
+use Rattle.mm_model.specs.Below.{sha256, append-injective, length-zero_bytes, length-start_digest_of, zero_bytes, start_message}
+use Rattle.mm_model.specs.Below.{extended_message}
 use Rattle.mm_model.specs.Below.{Basic, Opt, Batch, One, Many}
 use Rattle.mm_digest.specs.Messages.{start_digest_of, extended_digest_of, anchored_digest_of}
 use Rattle.mm_platform.specs.Standing as platform
-use Rattle.mm_model.specs.Chains.{digest_after, trail, link_message, guard_message, closing_message, link, guard, summary_of, register_of, anchor_of}
+use Rattle.mm_model.specs.Chains.{digest_after, trail, link_message, guard_message, closing_message, link, guard, summary_of, register_of}
+use Rattle.mm_model.specs.Chains.{anchor_of}
 use Rattle.mm_model.specs.ChainsWords.{own_values}
 use Rattle.mm_model.specs.Messages.{AreMessagesIn, IsClear, register_trail}
 use Rattle.mm_model.specs.ChainLaws.{IsTellingChain, same_chains, after-push}
@@ -54,7 +56,8 @@ same_registers all clear vs ws wv ww e =
     (each_unit vs) (each_unit ws) wv ww e
 
 module _ (id : ℕ) (all : List (List ℕ)) where
-  link_telling : IsClear all → Contains all (start_message Basic id) → IsTellingChain link_message (start_digest_of Basic id) (λ _. Unit {0}) all
+  link_telling : IsClear all → Contains all (start_message Basic id) → IsTellingChain link_message (start_digest_of Basic id)
+      (λ _. Unit {0}) all
   unfolding start_digest_of
   link_telling clear starts = record {
     sized = length-start_digest_of Basic id;
@@ -63,7 +66,8 @@ module _ (id : ℕ) (all : List (List ℕ)) where
   }
 
   pub same_summaries : IsClear all → Contains all (start_message Basic id) → (bs cs : List Batch)
-      → AreMessagesIn (trail link_message (start_digest_of Basic id) bs) all → AreMessagesIn (trail link_message (start_digest_of Basic id) cs) all
+      → AreMessagesIn (trail link_message (start_digest_of Basic id) bs) all
+      → AreMessagesIn (trail link_message (start_digest_of Basic id) cs) all
       → summary_of id bs ≡ summary_of id cs → bs ≡ cs
   unfolding summary_of
   same_summaries clear starts bs cs wb wc e =
@@ -79,14 +83,16 @@ module _ (id : ℕ) (all : List (List ℕ)) where
         let same : closing_message a vs ≡ start_message Opt id = clear.apart (closing_message a vs) (start_message Opt id) c starts e in
         omega (arith, heads_of 3 0 (a ++ digest_after extended_message zero_bytes vs) (2 ∷ id ∷ []) same);
     tells = λ a b vs ws la lb lv lw e.
-        let both = tagged_parts 3 3 a b (digest_after extended_message zero_bytes vs) (digest_after extended_message zero_bytes ws) la lb e in
+        let both = tagged_parts 3 3 a b (digest_after extended_message zero_bytes vs) (digest_after extended_message zero_bytes ws) la lb
+            e in
         (both.0, same_registers all clear vs ws lv lw both.1);
   }
 
   -- equal anchors, equal segments
   pub same_anchors : IsClear all → Contains all (start_message Opt id) → (ls ks : List (List (List ℕ)))
       → AllByRecursion (λ vs. AreMessagesIn (register_trail vs) all) ls → AllByRecursion (λ vs. AreMessagesIn (register_trail vs) all) ks
-      → AreMessagesIn (trail closing_message (start_digest_of Opt id) ls) all → AreMessagesIn (trail closing_message (start_digest_of Opt id) ks) all
+      → AreMessagesIn (trail closing_message (start_digest_of Opt id) ls) all
+      → AreMessagesIn (trail closing_message (start_digest_of Opt id) ks) all
       → anchor_of id ls ≡ anchor_of id ks → ls ≡ ks
   unfolding anchor_of
   same_anchors clear starts ls ks fl fk wl wk e =

@@ -11,16 +11,19 @@ use Rattle.mm_model.specs.History.{History, Commit, first_history, history_after
 use Rattle.mm_model.specs.Life.{Life, life_of}
 use Rattle.mm_model.specs.Verdicts.{is_last, verdict_on, verdict_by_tests}
 use Rattle.mm_model.specs.Sound.{IsSound}
-use Rattle.mm_model.specs.Messages.{AreMessagesIn, IsClear, IsClearFor, AreNoGuards, history_messages, offer_messages, values_in, counted_entries}
+use Rattle.mm_model.specs.Messages.{AreMessagesIn, IsClear, IsClearFor, AreNoGuards, history_messages, offer_messages, values_in}
+use Rattle.mm_model.specs.Messages.{counted_entries}
 use Rattle.mm_model.specs.Moves.{IsOutside}
 use Rattle.mm_model.specs.ListLaws.{each_left, each_right}
 use Rattle.mm_model.specs.ChainLaws.{trail_push}
 
 -- the verdict where the history has ended
 pub ended : (l : Life) (y : History) (p : ℕ) (b : Batch) → life_of Opt y ≡ l
-    → verdict_on Opt y p b ≡ verdict_by_tests l (nat_eq p (total_of y.batches)) (nat_eq (p + size_of b) (total_of y.batches) && is_last y.batches b)
+    → verdict_on Opt y p b ≡ verdict_by_tests l (nat_eq p (total_of y.batches)) (nat_eq (p + size_of b) (total_of y.batches)
+    && is_last y.batches b)
 ended l y p b e =
-    ap (λ (k : Life). verdict_by_tests k (nat_eq p (total_of y.batches)) (nat_eq (p + size_of b) (total_of y.batches) && is_last y.batches b)) e
+    ap (λ (k : Life). verdict_by_tests k (nat_eq p (total_of y.batches)) (nat_eq (p + size_of b) (total_of y.batches)
+        && is_last y.batches b)) e
 
 within_itself : (ms ns : List (List ℕ)) → AreMessagesIn ms (ms ++ ns) × AreMessagesIn ns (ms ++ ns)
 within_itself ms ns =

@@ -16,7 +16,8 @@ positions_to (suc n) = positions_to n ++ suc n ∷ []
 
 -- what is said of each position of a history, from 0 on, with the batch
 abbrev pub verdicts_by_position : Variant → History → Batch → List Verdict
-verdicts_by_position variant y b = map (λ p. verdict_on variant y p b) (positions_to (total_of y.batches))
+verdicts_by_position variant y b =
+    map (λ p. verdict_on variant y p b) (positions_to (total_of y.batches))
 
 -- the same for a Basic history of requests, with a request
 abbrev pub basic_verdicts : List (List ℕ) → List ℕ → List Verdict

@@ -4,7 +4,8 @@ use Rattle.std.proofs.lemmas.Bool.Decides.{Decides-and}
 use Rattle.std.specs.Bool.{Decides}
 use Rattle.std.specs.List.{AllByRecursion, Contains}
 use Rattle.std.specs.Str.{bytes_eq}
-use Rattle.mm_model.specs.Below.{zero_bytes, start_message, start_digest_of, extended_message, extended_digest_of, anchored_message, anchored_digest_of, Opt}
+use Rattle.mm_model.specs.Below.{zero_bytes, start_message, start_digest_of, extended_message, extended_digest_of, anchored_message}
+use Rattle.mm_model.specs.Below.{anchored_digest_of, Opt}
 use Rattle.mm_model.specs.Chains.{trail, closing_message, register_of, anchor_of}
 use Rattle.mm_model.specs.Verdicts.{Point, fits_fresh, fits_again}
 use Rattle.mm_model.specs.Messages.{AreMessagesIn, IsClear, register_trail, form_messages}
@@ -42,7 +43,8 @@ module _ (all : List (List ℕ)) where
       → Decides (bytes_eq (register_of vs) (register_of ws)) (vs ≡ ws)
   same_register clear vs ws l k = bytes_decide _ _ (same_registers all clear vs ws l k) (ap register_of)
 
-  pub zero_register : IsClear all → (vs : List (List ℕ)) → AreMessagesIn (register_trail vs) all → Decides (bytes_eq (register_of vs) zero_bytes)
+  pub zero_register : IsClear all → (vs : List (List ℕ)) → AreMessagesIn (register_trail vs) all
+      → Decides (bytes_eq (register_of vs) zero_bytes)
       (vs ≡ [])
   zero_register clear vs l = bytes_decide _ _ (register_nonzero all clear vs l) (λ e. ap register_of e ∙ reads_zero)
 
@@ -53,9 +55,11 @@ unfolding register_of
 listed_value all rest v l c = trail_push extended_message zero_bytes rest v all l c
 
 module _ (id : ℕ) (all : List (List ℕ)) where
-  pub fresh_tells : IsClearFromStart id all → (flag : Bool) (closed : List (List (List ℕ))) (items : List (List ℕ)) (before : List (List (List ℕ)))
+  pub fresh_tells : IsClearFromStart id all → (flag : Bool) (closed : List (List (List ℕ))) (items : List (List ℕ))
+      (before : List (List (List ℕ)))
       (rest : List (List ℕ)) → HasListedMessages id all closed items → HasListedMessages id all before rest
-      → Decides (fits_fresh flag (anchor_of id closed) (register_of items) (point_of id before rest)) (IsFreshPath flag closed items before rest)
+      → Decides (fits_fresh flag (anchor_of id closed) (register_of items) (point_of id before rest))
+      (IsFreshPath flag closed items before rest)
   fresh_tells clears true closed items before rest k l =
       Decides-and (bytes_eq (anchor_of id before) (anchor_of id closed)) (bytes_eq (register_of rest) (register_of items))
       (same_anchor id all clears before closed rest items l k) (same_register all clears.clear rest items l.last k.last)
@@ -64,7 +68,8 @@ module _ (id : ℕ) (all : List (List ℕ)) where
       (same_anchor id all clears before closed rest items l k) (zero_register all clears.clear rest l.last)
 
   -- the messages with the values closed into one more segment
-  pub listed_segment : (before : List (List (List ℕ))) (values : List (List ℕ)) → AllByRecursion (λ vs. AreMessagesIn (register_trail vs) all)
+  pub listed_segment : (before : List (List (List ℕ))) (values : List (List ℕ))
+      → AllByRecursion (λ vs. AreMessagesIn (register_trail vs) all)
       before → AreMessagesIn (trail closing_message (start_digest_of Opt id) before) all → AreMessagesIn (register_trail values) all
       → Contains all (anchored_message (anchor_of id before) (register_of values)) → HasListedMessages id all (before ++ values ∷ []) []
   unfolding register_of anchor_of
@@ -77,11 +82,13 @@ module _ (id : ℕ) (all : List (List ℕ)) where
   pub again_tells : IsClearFromStart id all → (flag : Bool) (closed : List (List (List ℕ))) (items : List (List ℕ)) (v : List ℕ)
       (before : List (List (List ℕ))) (rest : List (List ℕ)) → HasListedMessages id all closed items → HasListedMessages id all before rest
       → AreMessagesIn (form_messages (anchor_of id before) (register_of rest) v) all
-      → Decides (fits_again flag (anchor_of id closed) (register_of items) v (point_of id before rest)) (IsAgainPath flag closed items v before
+      → Decides (fits_again flag (anchor_of id closed) (register_of items) v (point_of id before rest))
+      (IsAgainPath flag closed items v before
       rest)
   again_tells clears true closed items v before rest k l m =
       let longer = listed_value all rest v l.last m.0 in
-      Decides-and (bytes_eq (anchor_of id before) (anchor_of id closed)) (bytes_eq (extended_digest_of (register_of rest) v) (register_of items))
+      Decides-and (bytes_eq (anchor_of id before) (anchor_of id closed))
+      (bytes_eq (extended_digest_of (register_of rest) v) (register_of items))
       (same_anchor id all clears before closed rest items l k)
       (rw (register-push rest v) at (same_register all clears.clear (rest ++ v ∷ []) items longer k.last))
   again_tells clears false closed items v before rest k l m =
@@ -89,6 +96,7 @@ module _ (id : ℕ) (all : List (List ℕ)) where
       let called : Contains all (anchored_message (anchor_of id before) (register_of (rest ++ v ∷ []))) =
       rw (register-push rest v) m.1.0 in
       let closes = listed_segment before (rest ++ v ∷ []) l.inner l.outer longer called in
-      let is : anchor_of id (before ++ (rest ++ v ∷ []) ∷ []) ≡ anchored_digest_of (anchor_of id before) (extended_digest_of (register_of rest) v) =
+      let is : anchor_of id (before ++ (rest ++ v ∷ []) ∷ []) ≡ anchored_digest_of (anchor_of id before)
+          (extended_digest_of (register_of rest) v) =
       anchor-push id before (rest ++ v ∷ []) ∙ ap (anchored_digest_of (anchor_of id before)) (register-push rest v) in
       rw is at (same_anchor id all clears (before ++ (rest ++ v ∷ []) ∷ []) closed [] items closes k)

@@ -42,7 +42,8 @@ module _ (barrier : List ℕ) where
   values_of-append es fs = map-append (extension_value barrier) es fs
 
   -- the values of segments, one after another
-  pub joined-values : (segments : List (List RegisterEntry)) → items_of_all (map (values_of barrier) segments) ≡ values_of barrier (items_of_all segments)
+  pub joined-values : (segments : List (List RegisterEntry)) → items_of_all (map (values_of barrier) segments) ≡ values_of barrier
+      (items_of_all segments)
   joined-values [] = refl
   joined-values (s ∷ ss) = rw (joined-values ss) (sym (values_of-append s (items_of_all ss)))
 
@@ -105,11 +106,13 @@ renamed-push (y ∷ z ∷ items) x b = ap (λ v. y ∷ v) (renamed-push (z ∷ i
 renamed-push _ x b = refl
 
 pub register_more : (barrier : List ℕ) (items : List RegisterEntry) (e : RegisterEntry)
-    → register_of (values_of barrier (items ++ e ∷ [])) ≡ extended_digest_of (register_of (values_of barrier items)) (extension_value barrier e)
+    → register_of (values_of barrier (items ++ e ∷ [])) ≡ extended_digest_of (register_of (values_of barrier items))
+    (extension_value barrier e)
 register_more barrier items e =
     ap register_of (values_of-append barrier items (e ∷ [])) ∙ register-push (values_of barrier items) (extension_value barrier e)
 
 pub values_renamed : (barrier : List ℕ) (front : List RegisterEntry) (b : Batch)
-    → values_of barrier (with_last_batch (front ++ Value (guard barrier b) ∷ []) b) ≡ values_of barrier (front ++ Value (guard barrier b) ∷ [])
+    → values_of barrier (with_last_batch (front ++ Value (guard barrier b) ∷ []) b) ≡ values_of barrier
+    (front ++ Value (guard barrier b) ∷ [])
 values_renamed barrier (x ∷ y ∷ front) b = ap (λ v. extension_value barrier x ∷ v) (values_renamed barrier (y ∷ front) b)
 values_renamed barrier _ b = refl

@@ -44,7 +44,8 @@ life_by _ _ _ _ = Spoiled
 abbrev pub life_of : Variant → History → Life
 life_of Basic y = Live
 life_of Opt y =
-    life_by y.is_open (is_empty y.items) (are_own y.items y.current) (has_value (items_of_all y.closed))
+    life_by y.is_open (is_empty y.items) (are_own y.items y.current)
+    (has_value (items_of_all y.closed))
 
 -- power was lost inside an open segment
 abbrev pub is_lost : Life → Bool

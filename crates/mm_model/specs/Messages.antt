@@ -3,12 +3,14 @@
 use Rattle.std.specs.Prelude.{ℕ, ◌-◌, Bool, true, List, [], ◌∷◌, map, take, drop, if◌then◌else◌, ◌≡◌, ◌≢◌, ◌++◌, length}
 use Rattle.std.specs.List.{flat_map, AllByRecursion, Contains}
 use Rattle.std.specs.Str.{bytes_eq}
-use Rattle.mm_model.specs.Below.{sha256, zero_bytes, start_message, start_digest_of, extended_message, extended_digest_of, anchored_message, anchored_digest_of}
+use Rattle.mm_model.specs.Below.{sha256, zero_bytes, start_message, start_digest_of, extended_message, extended_digest_of, anchored_message}
+use Rattle.mm_model.specs.Below.{anchored_digest_of}
 use Rattle.mm_model.specs.Below.{Variant, Basic, Opt, Place, InBasic, InOpt, Batch}
 use Rattle.mm_model.specs.Chains.{trail, link_message, guard_message, closing_message, guard}
 use Rattle.mm_model.specs.ChainsWords.{own_values}
 use Rattle.mm_model.specs.Instance.{Instance}
-use Rattle.mm_model.specs.History.{RegisterEntry, Own, Value, History, Move, Commit, Foreign, Placed, Close, register_value_of, items_of_all}
+use Rattle.mm_model.specs.History.{RegisterEntry, Own, Value, History, Move, Commit, Foreign, Placed, Close, register_value_of}
+use Rattle.mm_model.specs.History.{items_of_all}
 use Rattle.mm_model.specs.HistoryWords.{values_of}
 use Rattle.mm_model.specs.Places.{anchor_after}
 
@@ -35,14 +37,16 @@ register_trail values = trail extended_message zero_bytes values
 -- each closing.
 abbrev pub messages_of : Variant → Instance → History → List (List ℕ)
 messages_of Basic i y =
-    start_message Basic i.meaning.id ∷ trail link_message (start_digest_of Basic i.meaning.id) y.batches
+    start_message Basic i.meaning.id ∷ trail link_message
+    (start_digest_of Basic i.meaning.id) y.batches
 messages_of Opt i y =
     start_message Opt i.meaning.id ∷
     (map (guard_message i.barrier) y.batches
     ++ flat_map (λ run. register_trail (own_values i.barrier run)) (runs_of y)
     ++ flat_map (λ segment. register_trail (values_of i.barrier segment)) y.closed
     ++ register_trail (values_of i.barrier y.items)
-    ++ trail closing_message (start_digest_of Opt i.meaning.id) (map (values_of i.barrier) y.closed))
+    ++ trail closing_message (start_digest_of Opt i.meaning.id)
+    (map (values_of i.barrier) y.closed))
 
 abbrev pub history_messages : Instance → History → List (List ℕ)
 history_messages i y = messages_of i.variant i y

@@ -5,7 +5,8 @@ use Rattle.mm_model.specs.Below.{zero_bytes, extended_message, extended_digest_o
 use Rattle.mm_model.specs.Chains.{link, guard, guard_message, register_of}
 use Rattle.mm_model.specs.ChainsWords.{own_values}
 use Rattle.mm_model.specs.Instance.{Instance}
-use Rattle.mm_model.specs.History.{RegisterEntry, Value, History, Move, Commit, Foreign, Placed, Reset, Close, Power, items_of_all, total_of, register_value_of, with_last_batch}
+use Rattle.mm_model.specs.History.{RegisterEntry, Value, History, Move, Commit, Foreign, Placed, Reset, Close, Power, items_of_all}
+use Rattle.mm_model.specs.History.{total_of, register_value_of, with_last_batch}
 use Rattle.mm_model.specs.HistoryWords.{cell_digest_of}
 use Rattle.mm_model.specs.Life.{is_empty, has_value}
 use Rattle.mm_model.specs.Sound.{batches_in}
@@ -54,16 +55,19 @@ digests_of i y = record {
 -- Basic writes the cell; Opt extends the register inside a segment, and sets the cell's flag to
 -- open one
 abbrev pub digests_after_commit : Variant → Bool → Instance → Digests → Batch → Digests
-digests_after_commit Basic flag i d b = record d { digest = link d.digest b; count = d.count + size_of b }
+digests_after_commit Basic flag i d b =
+    record d { digest = link d.digest b; count = d.count + size_of b }
 digests_after_commit Opt true i d b =
-    record d { register = extended_digest_of d.register (guard i.barrier b); count = d.count + size_of b }
+    record d { register = extended_digest_of d.register (guard i.barrier b); count =
+        d.count + size_of b }
 digests_after_commit Opt false i d b = record d { flag = true; count = d.count + size_of b }
 
 -- what a move does to the digests: the effect of the device step that makes it
 abbrev pub digests_after : Instance → Digests → Move → Digests
 digests_after i d (Commit b) = digests_after_commit i.variant d.flag i d b
 digests_after i d (Foreign v) = record d { register = extended_digest_of d.register v }
-digests_after i d (Placed b) = record d { register = extended_digest_of d.register (guard i.barrier b) }
+digests_after i d (Placed b) =
+    record d { register = extended_digest_of d.register (guard i.barrier b) }
 digests_after i d Reset = record d { register = zero_bytes }
 digests_after i d Close = record d { digest = anchored_digest_of d.digest d.register; flag = false }
 digests_after i d Power = record d { register = zero_bytes }

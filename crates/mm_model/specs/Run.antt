@@ -8,7 +8,8 @@ pub record Run (M : Type 0) : Type 0 where
   pub requests : List (List ℕ)
 
 -- the state and the last output are those of the requests
-pub record IsStateOfRun (meaning : Meaning) (requests : List (List ℕ)) (state output : List ℕ) : Type 0
+pub record IsStateOfRun (meaning : Meaning) (requests : List (List ℕ))
+    (state output : List ℕ) : Type 0
   where
     pub state_is : state ≡ state_after meaning requests
     pub output_is : output ≡ last_output_after meaning requests

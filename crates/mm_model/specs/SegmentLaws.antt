@@ -61,13 +61,16 @@ abbrev pub IsAgainSomehow : {A : Type 0} → Bool → List (List A) → List A �
 IsAgainSomehow flag closed items v before rest =
     IsAgainPath flag closed items v before rest ⊎ (is_empty rest ≡ false) × IsAgainPath flag closed items v (before ++ rest ∷ []) []
 
-closed_joins : {A : Type 0} (before : List (List A)) (rest : List A) → items_of_all before ++ rest ≡ items_of_all (before ++ rest ∷ []) ++ []
+closed_joins : {A : Type 0} (before : List (List A)) (rest : List A) → items_of_all before ++ rest ≡ items_of_all (before ++ rest ∷ [])
+    ++ []
 closed_joins before rest = sym (append-nil (items_of_all (before ++ rest ∷ [])) ∙ joined-push before rest)
 
 again_here : {A : Type 0} (flag : Bool) (closed : List (List A)) (items : List A) (v : A) (before : List (List A)) (rest : List A)
-    → IsAgainPath flag closed items v before rest → (items_of_all before ++ rest) ++ v ∷ [] ≡ items_of_all closed ++ items_taken_in flag items
+    → IsAgainPath flag closed items v before rest → (items_of_all before ++ rest) ++ v ∷ [] ≡ items_of_all closed
+    ++ items_taken_in flag items
 again_here true closed items v before rest f =
-    append_assoc (items_of_all before) rest (v ∷ []) ∙ ap (λ w. items_of_all w ++ (rest ++ v ∷ [])) f.0 ∙ ap (λ w. items_of_all closed ++ w) f.1
+    append_assoc (items_of_all before) rest (v ∷ []) ∙ ap (λ w. items_of_all w ++ (rest ++ v ∷ [])) f.0
+    ∙ ap (λ w. items_of_all closed ++ w) f.1
 again_here false closed items v before rest f =
     append_assoc (items_of_all before) rest (v ∷ []) ∙ closed_joins before (rest ++ v ∷ []) ∙ ap (λ w. items_of_all w ++ []) f
 
@@ -76,7 +79,8 @@ module _ {A : Type 0} (flag : Bool) (closed : List (List A)) (items : List A) wh
   pub fresh_joins : (before : List (List A)) (rest : List A) → IsFreshSomehow flag closed items before rest
       → items_of_all before ++ rest ≡ items_of_all closed ++ items_taken_in flag items
   fresh_joins before rest (inl f) = ap (λ v. items_of_all v ++ rest) f.0 ∙ ap (λ v. items_of_all closed ++ v) f.1
-  fresh_joins before rest (inr g) = closed_joins before rest ∙ ap (λ v. items_of_all v ++ []) g.1.0 ∙ ap (λ v. items_of_all closed ++ v) g.1.1
+  fresh_joins before rest (inr g) = closed_joins before rest ∙ ap (λ v. items_of_all v ++ []) g.1.0
+      ∙ ap (λ v. items_of_all closed ++ v) g.1.1
 
   pub again_joins : (v : A) (before : List (List A)) (rest : List A) → IsAgainSomehow flag closed items v before rest
       → (items_of_all before ++ rest) ++ v ∷ [] ≡ items_of_all closed ++ items_taken_in flag items
@@ -162,7 +166,8 @@ again_after {A} flag before items v rest (segment ∷ later) filled held (inl wi
 behind : {A : Type 0} (before later closed : List (List A)) (rest more : List A) → closed ≡ before ++ later
     → items_of_all before ++ rest ≡ items_of_all closed ++ more → rest ≡ items_of_all later ++ more
 behind before later closed rest more split e = append_cancel_left (items_of_all before) rest (items_of_all later ++ more)
-    (e ∙ ap (λ v. v ++ more) (ap items_of_all split ∙ joined-append before later) ∙ append_assoc (items_of_all before) (items_of_all later) more)
+    (e ∙ ap (λ v. v ++ more) (ap items_of_all split ∙ joined-append before later) ∙ append_assoc (items_of_all before)
+    (items_of_all later) more)
 
 module _ {A : Type 0} (flag : Bool) (closed before later : List (List A)) (items : List A) where
   pub fresh_from : (rest : List A) → closed ≡ before ++ later → AllByRecursion (λ x. is_empty x ≡ false) later → IsHeld flag items
@@ -178,4 +183,5 @@ module _ {A : Type 0} (flag : Bool) (closed before later : List (List A)) (items
   again_from v rest split filled held reach e =
       rw split
       (again_after flag before items v rest later filled held reach
-      (behind before later closed (rest ++ v ∷ []) (items_taken_in flag items) split (sym (append_assoc (items_of_all before) rest (v ∷ [])) ∙ e)))
+      (behind before later closed (rest ++ v ∷ []) (items_taken_in flag items) split (sym (append_assoc (items_of_all before) rest (v ∷ []))
+      ∙ e)))

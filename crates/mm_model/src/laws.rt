@@ -92,9 +92,11 @@ pub fn summaries_are_told_apart()
 /// Basic: on an offer that names a position, the verdict by digests is the verdict on the history.
 pub fn basic_verdict_is_judged()
     ensures { (meaning : Meaning) (key register : List ℕ) (y : History) (offered : Content)
-        (b : Batch) (all : List (List ℕ)) → IsClearFor all (basic_instance meaning key) y offered.place b →
+        (b : Batch) (all : List (List ℕ)) → IsClearFor all (basic_instance meaning key) y
+        offered.place b →
         NamesPosition (basic_instance meaning key) y offered →
-        verdict_by_digests zero_bytes false (cell_digest_of (basic_instance meaning key) Basic y) register
+        verdict_by_digests zero_bytes false (cell_digest_of (basic_instance meaning key) Basic y)
+        register
         offered.place b
         ≡ verdict_on Basic y offered.position b }
 {}
@@ -107,7 +109,8 @@ pub fn opt_verdict_is_judged()
         (b : Batch) (all : List (List ℕ)) → IsSound y →
         IsClearFor all (opt_instance meaning key barrier) y offered.place b →
         NamesPosition (opt_instance meaning key barrier) y offered →
-        verdict_by_digests barrier y.is_open (cell_digest_of (opt_instance meaning key barrier) Opt y)
+        verdict_by_digests barrier y.is_open
+        (cell_digest_of (opt_instance meaning key barrier) Opt y)
         (register_value_of (opt_instance meaning key barrier) y) offered.place b
         ≡ verdict_on Opt y offered.position b }
 {}
@@ -126,13 +129,15 @@ pub fn ended_histories_accept_nothing()
         (b : Batch) (all : List (List ℕ)) → IsSound y →
         IsClearFor all (opt_instance meaning key barrier) y offered.place b →
         NamesPosition (opt_instance meaning key barrier) y offered → life_of Opt y ≡ Spoiled →
-        verdict_by_digests barrier y.is_open (cell_digest_of (opt_instance meaning key barrier) Opt y)
+        verdict_by_digests barrier y.is_open
+        (cell_digest_of (opt_instance meaning key barrier) Opt y)
         (register_value_of (opt_instance meaning key barrier) y) offered.place b ≡ Stale }
     ensures lost { (meaning : Meaning) (key barrier : List ℕ) (y : History) (offered : Content)
         (b : Batch) (all : List (List ℕ)) → IsSound y →
         IsClearFor all (opt_instance meaning key barrier) y offered.place b →
         NamesPosition (opt_instance meaning key barrier) y offered → life_of Opt y ≡ LostLife →
-        verdict_by_digests barrier y.is_open (cell_digest_of (opt_instance meaning key barrier) Opt y)
+        verdict_by_digests barrier y.is_open
+        (cell_digest_of (opt_instance meaning key barrier) Opt y)
         (register_value_of (opt_instance meaning key barrier) y) offered.place b ≡ Lost }
 {}
 
@@ -141,8 +146,10 @@ pub fn ended_histories_accept_nothing()
 pub fn offers_stand_here()
     ensures basic { (meaning : Meaning) (key register : List ℕ) (y : History) (offered : Content)
         (b : Batch) (all : List (List ℕ)) → IsClear all →
-        AreMessagesIn (history_messages (basic_instance meaning key) y) all → NamesPosition (basic_instance meaning key) y offered →
-        is_new (verdict_by_digests zero_bytes false (cell_digest_of (basic_instance meaning key) Basic y)
+        AreMessagesIn (history_messages (basic_instance meaning key) y) all
+        → NamesPosition (basic_instance meaning key) y offered →
+        is_new (verdict_by_digests zero_bytes false
+        (cell_digest_of (basic_instance meaning key) Basic y)
         register offered.place b)
         ≡ is_new (verdict_on Basic y offered.position b) }
     ensures opt { (meaning : Meaning) (key barrier : List ℕ) (y : History) (offered : Content)

@@ -24,27 +24,32 @@ ghost use Rattle.mm_model.specs.Moves.{MayMove, digests_of, digests_after, IsOut
 pub fn moves_keep_histories_sound()
     ensures first { IsSound first_history }
     ensures next { (meaning : Meaning) (key barrier : List ℕ) (y : History) (m : Move) → IsSound y →
-        MayMove (opt_instance meaning key barrier) y m → IsSound (history_after (opt_instance meaning key barrier) y m) }
+        MayMove (opt_instance meaning key barrier) y m
+        → IsSound (history_after (opt_instance meaning key barrier) y m) }
 {}
 
 /// A snapshot that names a position of a history names it after each move.
 pub fn moves_keep_names()
     ensures basic { (meaning : Meaning) (key : List ℕ) (y : History) (m : Move)
         (offered : Content) → NamesPosition (basic_instance meaning key) y offered →
-        NamesPosition (basic_instance meaning key) (history_after (basic_instance meaning key) y m) offered }
+        NamesPosition (basic_instance meaning key) (history_after (basic_instance meaning key) y m)
+        offered }
     ensures opt { (meaning : Meaning) (key barrier : List ℕ) (y : History) (m : Move)
         (offered : Content) → IsSound y → MayMove (opt_instance meaning key barrier) y m →
         NamesPosition (opt_instance meaning key barrier) y offered →
-        NamesPosition (opt_instance meaning key barrier) (history_after (opt_instance meaning key barrier) y m) offered }
+        NamesPosition (opt_instance meaning key barrier)
+        (history_after (opt_instance meaning key barrier) y m) offered }
 {}
 
 /// The snapshot of an answer names the last position, in Opt where no closed segment is spoiled.
 pub fn answers_name_the_last_position()
     ensures basic { (meaning : Meaning) (key : List ℕ) (y : History)
-        → NamesPosition (basic_instance meaning key) y (content_of_issue (basic_instance meaning key) y) }
+        → NamesPosition (basic_instance meaning key) y
+        (content_of_issue (basic_instance meaning key) y) }
     ensures opt { (meaning : Meaning) (key barrier : List ℕ) (y : History) → IsSound y →
         has_value (items_of_all y.closed) ≡ false →
-        NamesPosition (opt_instance meaning key barrier) y (content_of_issue (opt_instance meaning key barrier) y) }
+        NamesPosition (opt_instance meaning key barrier) y
+        (content_of_issue (opt_instance meaning key barrier) y) }
 {}
 
 /// Opt: where others put in each value that stands for no batch and counts, they did after each move too.
@@ -52,7 +57,8 @@ pub fn moves_keep_values_outside()
     ensures first { (others : List (List ℕ)) → IsOutside others first_history }
     ensures next { (meaning : Meaning) (key barrier : List ℕ) (others : List (List ℕ)) (y : History)
         (m : Move) → IsOutside others y → MayMove (opt_instance meaning key barrier) y m →
-        MoveBrings Opt y.is_open others y m → IsOutside others (history_after (opt_instance meaning key barrier) y m) }
+        MoveBrings Opt y.is_open others y m
+        → IsOutside others (history_after (opt_instance meaning key barrier) y m) }
 {}
 
 /// A move does to the digests what the device step that makes it does.
@@ -63,8 +69,10 @@ pub fn moves_are_device_steps()
         ≡ digests_after (basic_instance meaning key) (digests_of (basic_instance meaning key) y) m }
     ensures opt { (meaning : Meaning) (key barrier : List ℕ) (y : History) (m : Move) →
         MayMove (opt_instance meaning key barrier) y m →
-        digests_of (opt_instance meaning key barrier) (history_after (opt_instance meaning key barrier) y m)
-        ≡ digests_after (opt_instance meaning key barrier) (digests_of (opt_instance meaning key barrier) y) m }
+        digests_of (opt_instance meaning key barrier)
+        (history_after (opt_instance meaning key barrier) y m)
+        ≡ digests_after (opt_instance meaning key barrier)
+        (digests_of (opt_instance meaning key barrier) y) m }
 {}
 
 /// Basic: where the messages of a history are listed, and a batch's link message is, those of the history with
@@ -73,16 +81,19 @@ pub fn basic_messages_go_on()
     ensures { (meaning : Meaning) (key : List ℕ) (y : History) (b : Batch) (all : List (List ℕ)) →
         AreMessagesIn (history_messages (basic_instance meaning key) y) all →
         Contains all (link_message (summary_of meaning.id y.batches) b) →
-        AreMessagesIn (history_messages (basic_instance meaning key) (history_after (basic_instance meaning key) y (Commit b))) all }
+        AreMessagesIn (history_messages (basic_instance meaning key)
+        (history_after (basic_instance meaning key) y (Commit b))) all }
 {}
 
 /// The commit of a batch as a whole is its moves: where it opens a segment, the extension of the register and
 /// then the commit.
 pub fn whole_commits_are_moves()
     ensures basic { (meaning : Meaning) (key : List ℕ) (y : History) (b : Batch) →
-        with_batch Basic y b ≡ history_after_moves (basic_instance meaning key) y (commit_moves Basic y.is_open b) }
+        with_batch Basic y b ≡ history_after_moves (basic_instance meaning key) y
+        (commit_moves Basic y.is_open b) }
     ensures opt { (meaning : Meaning) (key barrier : List ℕ) (y : History) (b : Batch) →
-        with_batch Opt y b ≡ history_after_moves (opt_instance meaning key barrier) y (commit_moves Opt y.is_open b) }
+        with_batch Opt y b ≡ history_after_moves (opt_instance meaning key barrier) y
+        (commit_moves Opt y.is_open b) }
 {}
 
 /// Opt: where the messages of a sound history are listed, and those of a move and of its batch are, those of the
@@ -93,7 +104,8 @@ pub fn opt_messages_go_on()
         AreMessagesIn (history_messages (opt_instance meaning key barrier) y) all →
         AreMessagesIn (move_messages (opt_instance meaning key barrier) y m) all →
         AreMessagesIn (batch_messages (opt_instance meaning key barrier) y m) all →
-        AreMessagesIn (history_messages (opt_instance meaning key barrier) (history_after (opt_instance meaning key barrier) y m))
+        AreMessagesIn (history_messages (opt_instance meaning key barrier)
+        (history_after (opt_instance meaning key barrier) y m))
         all }
 {}
 
@@ -103,6 +115,7 @@ pub fn fresh_offers_list_their_batch()
     ensures { (meaning : Meaning) (key barrier : List ℕ) (y : History) (offered : Content)
         (b : Batch) (all : List (List ℕ)) → IsSound y →
         IsClearFor all (opt_instance meaning key barrier) y offered.place b →
-        NamesPosition (opt_instance meaning key barrier) y offered → verdict_on Opt y offered.position b ≡ Fresh →
+        NamesPosition (opt_instance meaning key barrier) y offered
+        → verdict_on Opt y offered.position b ≡ Fresh →
         AreMessagesIn (batch_messages (opt_instance meaning key barrier) y (Commit b)) all }
 {}

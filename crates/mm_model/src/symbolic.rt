@@ -131,7 +131,8 @@ impl Symbolic {
     pub fn extend(&mut self, value: &Digest) -> Result<(), Memory>
         ensures variant { self.new.variant ≡ self.old.variant }
         ensures ok { (i : Instance)
-            → OnOk result (self.new.history ≡ history_after i self.old.history (Foreign value.now.bytes)) }
+            → OnOk result (self.new.history ≡ history_after i self.old.history
+            (Foreign value.now.bytes)) }
         ensures err { OnErr result (self.new.history ≡ self.old.history) }
     {
         self.items.push(KeptEntry::Value(*value))?;
@@ -149,7 +150,8 @@ impl Symbolic {
     pub fn reset(&mut self)
         requires { self.old.history.is_open ≡ false }
         ensures variant { self.new.variant ≡ self.old.variant }
-        ensures history { (i : Instance) → self.new.history ≡ history_after i self.old.history Reset }
+        ensures history { (i : Instance) → self.new.history
+            ≡ history_after i self.old.history Reset }
     {
         self.empty_register();
     }
@@ -173,14 +175,16 @@ impl Symbolic {
     /// Loses power: the register is empty afterwards.
     pub fn power(&mut self)
         ensures variant { self.new.variant ≡ self.old.variant }
-        ensures history { (i : Instance) → self.new.history ≡ history_after i self.old.history Power }
+        ensures history { (i : Instance) → self.new.history
+            ≡ history_after i self.old.history Power }
     {
         self.empty_register();
     }
 
     fn empty_register(&mut self)
         ensures variant { self.new.variant ≡ self.old.variant }
-        ensures history { (i : Instance) → self.new.history ≡ history_after i self.old.history Power }
+        ensures history { (i : Instance) → self.new.history
+            ≡ history_after i self.old.history Power }
     {
         self.items.clear();
     }

@@ -1,5 +1,6 @@
 -- Laws of words.
-use Rattle.std.proofs.Common.{◌≡◌, ℕ, suc, ◌<◌, ◌≤◌, ◌+◌, List, [], ◌∷◌, length, take, drop, Bool, true, false, not, cond, Option, Some, None, nat_lt, refl, ap, arith}
+use Rattle.std.proofs.Common.{◌≡◌, ℕ, suc, ◌<◌, ◌≤◌, ◌+◌, List, [], ◌∷◌, length, take, drop, Bool, true, false, not, cond, Option, Some}
+use Rattle.std.proofs.Common.{None, nat_lt, refl, ap, arith}
 use Rattle.std.specs.List.{onto_first, position, position_or_len}
 use Rattle.std.specs.Option.{MatchOption}
 use Rattle.std.proofs.lemmas.List.Splits.{slice_split_first, length-slice_split}

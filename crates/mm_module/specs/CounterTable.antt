@@ -1,5 +1,6 @@
 -- The counter: a value of 64 bits.
-use Rattle.std.specs.Prelude.{ℕ, ◌+◌, ◌^◌, ◌==◌, ◌&&◌, Bool, nat_lt, List, [], ◌∷◌, length, replicate, codes, Option, Some, None, option_map, if◌then◌else◌}
+use Rattle.std.specs.Prelude.{ℕ, ◌+◌, ◌^◌, ◌==◌, ◌&&◌, Bool, nat_lt, List, [], ◌∷◌, length, replicate, codes, Option, Some, None}
+use Rattle.std.specs.Prelude.{option_map, if◌then◌else◌}
 use Rattle.std.specs.Fmt.{decimal}
 use Rattle.std.specs.Str.{bytes_eq}
 use Rattle.mm_base.specs.Decimals.{decimal_number}
@@ -36,7 +37,8 @@ text_of Bad = codes "bad"
 
 -- what a request does to a state
 unfoldable pub outcome_of_bytes : List ℕ → List ℕ → ℕ × CounterOutput
-outcome_of_bytes state request = outcome_of (number_of_eight_bytes state) (request_of (words_of request))
+outcome_of_bytes state request = outcome_of (number_of_eight_bytes state)
+    (request_of (words_of request))
 
 -- a state: 8 bytes
 unfoldable pub is_state : List ℕ → Bool

@@ -65,6 +65,7 @@ pub number_of_eight_bytes-eight : (n : ℕ) → n < 2 ^ 64 → number_of_eight_b
 unfolding number_of_eight_bytes eight_bytes
 number_of_eight_bytes-eight n small = from_be_bytes-to_be_bytes_8 n small
 
-pub eight-number_of_eight_bytes : (bytes : List ℕ) → length bytes ≡ 8 → are_bytes bytes ≡ true → eight_bytes (number_of_eight_bytes bytes) ≡ bytes
+pub eight-number_of_eight_bytes : (bytes : List ℕ) → length bytes ≡ 8 → are_bytes bytes ≡ true → eight_bytes (number_of_eight_bytes bytes)
+    ≡ bytes
 unfolding number_of_eight_bytes eight_bytes
 eight-number_of_eight_bytes bytes eight is = be_bytes_8 bytes _ eight (get_or-small bytes is) refl

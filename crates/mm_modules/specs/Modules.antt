@@ -16,7 +16,8 @@ use Rattle.mm_quota.specs.Ids.{small_ledger, small_ledger_is_short}
 use Rattle.mm_quota.specs.LedgerListings.{ledger_is_listed, ledger_listing, quota_is_listed, quota_listing}
 use Rattle.mm_receipted.specs.ReceiptListing.{receipt_is_listed, receipt_listing}
 use Rattle.mm_modules.specs.declared.any.AnyModule.{AnyModule}
-use Rattle.mm_modules.specs.declared.any.AnyModule.TheVariants.{Counter, Limiter, Quota, Ledger, Dispenser, ReceiptCounter, ReceiptLimiter, ReceiptQuota}
+use Rattle.mm_modules.specs.declared.any.AnyModule.TheVariants.{Counter, Limiter, Quota, Ledger, Dispenser, ReceiptCounter, ReceiptLimiter}
+use Rattle.mm_modules.specs.declared.any.AnyModule.TheVariants.{ReceiptQuota}
 
 -- what each module brings
 abbrev pub listing_of : AnyModule → Listing

@@ -1,8 +1,10 @@
 -- A cell is read exactly where its bytes are spelled.
 use Rattle.mm_move.proofs.Below.{◌≡◌, ℕ, ◌++◌, Bool, true, false, List, length, get_or, Result, Ok, Err, refl, sym, ap, ◌∙◌, subst, arith}
 use Rattle.mm_move.proofs.Below.{◌==◌, slice_index, if◌then◌else◌, bytes_eq, cell_length, Variant, Basic, Opt, variant_byte, Cell}
-use Rattle.mm_move.proofs.Below.{CellFault, Blank, Unspelled, IsCell, flag_byte, WaitingCell, MovedCell, variant_in, moved_spelling, IsWaiting}
-use Rattle.mm_move.proofs.Below.{IsRetired, IsMoved, SpellsMoved, waiting_cell_in, retired_cell_in, live_cell_in, moved_cell_in, is_fit_for_variant, moved_cell_by, CellsAreRead}
+use Rattle.mm_move.proofs.Below.{CellFault, Blank, Unspelled, IsCell, flag_byte, WaitingCell, MovedCell, variant_in, moved_spelling}
+use Rattle.mm_move.proofs.Below.{IsWaiting}
+use Rattle.mm_move.proofs.Below.{IsRetired, IsMoved, SpellsMoved, waiting_cell_in, retired_cell_in, live_cell_in, moved_cell_in}
+use Rattle.mm_move.proofs.Below.{is_fit_for_variant, moved_cell_by, CellsAreRead}
 use Rattle.mm_seal.specs.Cell.{cell_spelling, blank_cell}
 use Rattle.mm_move.specs.declared.cell.RetiredCell.{RetiredCell}
 use Rattle.mm_move.specs.declared.cell.MovedCell.TheVariants as moved
@@ -85,7 +87,8 @@ moved_back cell is =
     let bytes : List ℕ = moved_spelling cell in
     let spelled : is_spelled_by bytes cell ≡ true =
     both_true (is_fit_for_variant cell) (bytes_eq bytes bytes) (fitting cell is) (bytes_are bytes bytes refl) in
-    ap (λ (b : Bool). if b then Err Blank else moved_cell_by bytes (moved_cell_in bytes)) (not_blank cell) ∙ ap (moved_cell_by bytes) (back cell is)
+    ap (λ (b : Bool). if b then Err Blank else moved_cell_by bytes (moved_cell_in bytes)) (not_blank cell)
+        ∙ ap (moved_cell_by bytes) (back cell is)
     ∙ ap (λ (b : Bool). if b then Ok cell else Err Unspelled) spelled
 
 -- what a reading that succeeds has found
@@ -106,7 +109,8 @@ is_read bytes cell e =
 
 abbrev formed_as : Bool → Bool → List ℕ → MovedCell
 formed_as waits left bytes =
-    if waits then moved.Waiting (waiting_cell_in bytes) else (if left then moved.Retired (retired_cell_in bytes) else moved.Live (live_cell_in bytes))
+    if waits then moved.Waiting (waiting_cell_in bytes) else (if left then moved.Retired (retired_cell_in bytes) else moved.Live
+    (live_cell_in bytes))
 
 formed : (waits left : Bool) (bytes : List ℕ) → length bytes ≡ cell_length → is_fit_for_variant (formed_as waits left bytes) ≡ true
     → IsMoved (formed_as waits left bytes)

@@ -9,11 +9,14 @@ use Rattle.mm_model.specs.declared.refusal.Refusal.TheVariants.{Device}
 use Rattle.mm_call.specs.Untouched.{CountsHandedFault, IsUntouched}
 use Rattle.mm_call.specs.UntouchedLaws.{read_untouched, blamed, blamed_later}
 use Rattle.mm_move.specs.declared.refusal.MoveRefusal.TheVariants.{Core}
-use Rattle.mm_move.specs.Moves.{BytesRead, ReadsBytes, move_answer, WritesCell, MakesMoveStep, MoveGoesOn, MoveFinds, EndsAfterRead, AreMoveSteps, MoveStepsRefused, MoveStepsBy, MovePromise}
+use Rattle.mm_move.specs.Moves.{BytesRead, ReadsBytes, move_answer, WritesCell, MakesMoveStep, MoveGoesOn, MoveFinds, EndsAfterRead}
+use Rattle.mm_move.specs.Moves.{AreMoveSteps, MoveStepsRefused, MoveStepsBy, MovePromise}
 
 done_by : {A : Type 0} (finds : List ℕ → Result (ReadyMove A) MoveRefusal) (old middle new : Standing) (bytes : List ℕ)
-    (found : Result (ReadyMove A) MoveRefusal) (result : Result A MoveRefusal) (fault : Option StepFault) → StepGoes ReadCell old middle fault
-    → BytesRead fault old (Ok bytes) → IsOrNoMemory (finds bytes) found → MoveGoesOn found middle new result → AreMoveSteps finds old new result
+    (found : Result (ReadyMove A) MoveRefusal) (result : Result A MoveRefusal) (fault : Option StepFault)
+    → StepGoes ReadCell old middle fault
+    → BytesRead fault old (Ok bytes) → IsOrNoMemory (finds bytes) found → MoveGoesOn found middle new result
+    → AreMoveSteps finds old new result
 done_by finds old middle new bytes found result None g b f w = record {
   middle = middle;
   fault = None;
@@ -25,7 +28,8 @@ done_by finds old middle new bytes found result (Some fault) g b f w = absurd (c
 -- a first step that was done, and the rest
 pub read_done : {A : Type 0} (finds : List ℕ → Result (ReadyMove A) MoveRefusal) (old middle new : Standing) (bytes : List ℕ)
     (found : Result (ReadyMove A) MoveRefusal) (result : Result A MoveRefusal)
-    → ReadsBytes old middle (Ok bytes) → IsOrNoMemory (finds bytes) found → MoveGoesOn found middle new result → AreMoveSteps finds old new result
+    → ReadsBytes old middle (Ok bytes) → IsOrNoMemory (finds bytes) found → MoveGoesOn found middle new result
+    → AreMoveSteps finds old new result
 read_done finds old middle new bytes found result r f w = done_by finds old middle new bytes found result r.fault r.goes r.gives f w
 
 -- what a move leaves and counts
@@ -34,7 +38,8 @@ record Keeps {A : Type 0} (old new : Standing) (result : Result A MoveRefusal) :
   pub faults : CountsHandedFault (move_fault_in result) old.faults new.faults
   pub steps : MoveStepsBy result old new
 
-keeps_failed : {A : Type 0} (old new : Standing) (fault : StepFault) (result : Result A MoveRefusal) → StepGoes ReadCell old new (Some fault)
+keeps_failed : {A : Type 0} (old new : Standing) (fault : StepFault) (result : Result A MoveRefusal)
+    → StepGoes ReadCell old new (Some fault)
     → result ≡ Err (Core (Device fault)) → Keeps old new result
 keeps_failed {A} old new fault result g e = subst (λ (r : Result A MoveRefusal). Keeps old new r) (sym e) (record {
   untouched = λ h _. absurd (cc);
@@ -59,7 +64,8 @@ keeps_answered {A} old new answer result g e = subst (λ (r : Result A MoveRefus
 })
 
 keeps_written : {A : Type 0} (old middle new : Standing) (next : List ℕ) (answer : A) (result : Result A MoveRefusal)
-    (fault : Option StepFault) → StepGoes ReadCell old middle None → StepGoes (WriteCell next) middle new fault → result ≡ move_answer answer fault
+    (fault : Option StepFault) → StepGoes ReadCell old middle None → StepGoes (WriteCell next) middle new fault
+    → result ≡ move_answer answer fault
     → Keeps old new result
 keeps_written {A} old middle new next answer result None g w e = subst (λ (r : Result A MoveRefusal). Keeps old new r) (sym e) (record {
   untouched = λ _ (is : false ≡ true). absurd (cc);

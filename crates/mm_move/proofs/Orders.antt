@@ -1,8 +1,10 @@
 -- No order of refusals hands on a device's fault.
 use Rattle.mm_move.proofs.Below.{◌≡◌, ℕ, Bool, true, false, List, Option, None, Some, Result, Ok, Err, refl, ◌||◌, if◌then◌else◌, bytes_eq}
 use Rattle.mm_move.proofs.Below.{Digest, Variant, Cell, CellFault, Blank, Unspelled, PartsFault, Form, Kind, Content, Snapshot, tag_of}
-use Rattle.mm_move.proofs.Below.{MovedCell, WaitingCell, ReadyMove, MoveRefusal, is_barred, is_other, is_place_at, retired_cell_from, offer_by}
-use Rattle.mm_move.proofs.Below.{right_offer, retirement_by, retirement_in, ticket_by, right_ticket, acceptance_by, acceptance_again_by, acceptance_in}
+use Rattle.mm_move.proofs.Below.{MovedCell, WaitingCell, ReadyMove, MoveRefusal, is_barred, is_other, is_place_at, retired_cell_from}
+use Rattle.mm_move.proofs.Below.{offer_by}
+use Rattle.mm_move.proofs.Below.{right_offer, retirement_by, retirement_in, ticket_by, right_ticket, acceptance_by, acceptance_again_by}
+use Rattle.mm_move.proofs.Below.{acceptance_in}
 use Rattle.mm_move.proofs.Below.{retired_spelling, move_fault_in, summary_in, TicketContent, TaggedTicket, ticket_tag, ticket_of}
 use Rattle.std.specs.Prelude.{not}
 use Rattle.mm_module.specs.Meaning.{Meaning}
@@ -50,12 +52,14 @@ module _ (meaning : Meaning) where
       → move_fault_in (retirement_in meaning variant link nonce offer read) ≡ None
   retires_no_fault variant link nonce offer (Ok (Live cell)) =
       no_fault_if (Lacks (ReadyMove (List ℕ))) (is_other variant meaning.id cell.variant cell.module) _ _ refl
-      (no_fault_if (Lacks (ReadyMove (List ℕ))) (is_barred variant cell.barrier link) _ _ refl (no_fault_if (Lacks (ReadyMove (List ℕ))) cell.flag _
+      (no_fault_if (Lacks (ReadyMove (List ℕ))) (is_barred variant cell.barrier link) _ _ refl
+      (no_fault_if (Lacks (ReadyMove (List ℕ))) cell.flag _
       _ refl (leaves_no_fault variant link nonce cell.summary (Some (retired_spelling (retired_cell_from cell nonce)))
       (right_offer meaning variant cell.key offer) (offer_no_fault meaning cell.key (parts_of variant meaning.id offer)))))
   retires_no_fault variant link nonce offer (Ok (Left cell)) =
       no_fault_if (Lacks (ReadyMove (List ℕ))) (is_other variant meaning.id cell.variant cell.module) _ _ refl
-      (no_fault_if (Lacks (ReadyMove (List ℕ))) (not (bytes_eq cell.nonce nonce)) _ _ refl (leaves_no_fault variant link nonce cell.summary None
+      (no_fault_if (Lacks (ReadyMove (List ℕ))) (not (bytes_eq cell.nonce nonce)) _ _ refl
+      (leaves_no_fault variant link nonce cell.summary None
       (right_offer meaning variant cell.key offer) (offer_no_fault meaning cell.key (parts_of variant meaning.id offer))))
   retires_no_fault variant link nonce offer (Err Blank) = refl
   retires_no_fault variant link nonce offer _ = refl

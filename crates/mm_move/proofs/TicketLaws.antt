@@ -17,7 +17,8 @@ use Rattle.mm_seal.specs.declared.snapshot.Place.TheVariants.{Basic, Opt}
 use Rattle.mm_seal.specs.PartsWords.{is_bounded, is_same_variant}
 use Rattle.mm_move.specs.Tickets.{ticket_front, tagged_ticket_in, ticket_by, ticket_of}
 use Rattle.mm_move.specs.Readings.{IsBounded}
-use Rattle.mm_move.proofs.Parts.{take_front, drop_front, drop_past, length-part, both_true, and_parts, is_false, le_is, le_tells, eq_is, eq_tells, bytes_tell, bytes_are}
+use Rattle.mm_move.proofs.Parts.{take_front, drop_front, drop_past, length-part, both_true, and_parts, is_false, le_is, le_tells, eq_is}
+use Rattle.mm_move.proofs.Parts.{eq_tells, bytes_tell, bytes_are}
 use Rattle.mm_move.proofs.CellLaws.{variant_back}
 
 pub length-zero_bytes : length zero_bytes ≡ 32
@@ -124,7 +125,8 @@ module _ (bytes : List ℕ) where
       }
 
   -- what is signed stands before the tag
-  pub signed_in : is_spelled_by bytes (tagged_ticket_in bytes) ≡ true → take (length bytes - 32) bytes ≡ signed_bytes (tagged_ticket_in bytes).ticket
+  pub signed_in : is_spelled_by bytes (tagged_ticket_in bytes) ≡ true → take (length bytes - 32) bytes
+      ≡ signed_bytes (tagged_ticket_in bytes).ticket
   signed_in e =
       let tagged : TaggedTicket = tagged_ticket_in bytes in let f = is_found tagged e in let w = whole f.long in
       let signed : List ℕ = signed_bytes tagged.ticket in
@@ -151,7 +153,8 @@ read_by true true one tagged e = (refl, refl, cc)
 read_by _ _ one tagged e = cc
 
 ticket_tells : (variant : Variant) (id : ℕ) (bytes : List ℕ) (tagged : TaggedTicket) → ticket_of variant id bytes ≡ Ok tagged
-    → (is_spelled_by bytes (tagged_ticket_in bytes) ≡ true) × (is_for variant id (tagged_ticket_in bytes) ≡ true) × (tagged_ticket_in bytes ≡ tagged)
+    → (is_spelled_by bytes (tagged_ticket_in bytes) ≡ true) × (is_for variant id (tagged_ticket_in bytes) ≡ true)
+    × (tagged_ticket_in bytes ≡ tagged)
 unfolding ticket_of
 ticket_tells variant id bytes tagged e =
     read_by (is_spelled_by bytes (tagged_ticket_in bytes)) (is_for variant id (tagged_ticket_in bytes)) (tagged_ticket_in bytes) tagged e

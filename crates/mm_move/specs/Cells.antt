@@ -1,5 +1,6 @@
 -- The bytes of the cell of a platform that a module lives on, is awaited on, or has left.
-use Rattle.std.specs.Prelude.{◌≡◌, ◌↔◌, ◌==◌, ◌&&◌, ℕ, Bool, true, false, not, List, ◌∷◌, ◌++◌, length, slice_index, Result, Ok, Err, if◌then◌else◌}
+use Rattle.std.specs.Prelude.{◌≡◌, ◌↔◌, ◌==◌, ◌&&◌, ℕ, Bool, true, false, not, List, ◌∷◌, ◌++◌, length, slice_index, Result, Ok, Err}
+use Rattle.std.specs.Prelude.{if◌then◌else◌}
 use Rattle.std.specs.Str.{bytes_eq}
 use Rattle.mm_base.specs.Limits.{cell_length}
 use Rattle.mm_digest.specs.declared.variant.Variant.{Variant}
@@ -115,7 +116,8 @@ moved_cell_by bytes cell = if is_spelled_by bytes cell then Ok cell else Err Uns
 
 -- what these 104 bytes are, as a cell
 unfoldable pub moved_cell_of : List ℕ → Result MovedCell CellFault
-moved_cell_of bytes = if bytes_eq bytes blank_cell then Err Blank else moved_cell_by bytes (moved_cell_in bytes)
+moved_cell_of bytes = if bytes_eq bytes blank_cell then Err Blank else moved_cell_by bytes
+    (moved_cell_in bytes)
 
 -- A cell is read exactly where 104 bytes spell it.
 abbrev pub CellsAreRead : Type 0

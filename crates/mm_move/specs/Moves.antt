@@ -38,7 +38,8 @@ pub record WritesCell {A : Type 0} (next : List ℕ) (answer : A) (old new : Sta
   pub gives : result ≡ move_answer answer fault
 
 -- There is no last step where the move was made before.
-abbrev pub MakesMoveStep : {A : Type 0} → Option (List ℕ) → A → Standing → Standing → Result A MoveRefusal
+abbrev pub MakesMoveStep : {A : Type 0} → Option (List ℕ) → A → Standing → Standing
+    → Result A MoveRefusal
     → Type 0
 MakesMoveStep None answer old new result = (new ≡ old) × (result ≡ Ok answer)
 MakesMoveStep (Some next) answer old new result = WritesCell next answer old new result
@@ -61,14 +62,16 @@ pub record MoveFinds {A : Type 0} (finds : List ℕ → Result (ReadyMove A) Mov
   pub goes_on : MoveGoesOn found middle new result
 
 -- after the first step: a fault ends the move
-abbrev pub EndsAfterRead : {A : Type 0} → (List ℕ → Result (ReadyMove A) MoveRefusal) → Option StepFault
+abbrev pub EndsAfterRead : {A : Type 0} → (List ℕ → Result (ReadyMove A) MoveRefusal)
+    → Option StepFault
     → Standing → Standing → Standing → Result A MoveRefusal → Type 0
 EndsAfterRead finds None old middle new result = MoveFinds finds old middle new result
 EndsAfterRead finds (Some fault) old middle new result =
     (new ≡ middle) × (result ≡ Err (Core (Device fault)))
 
 -- The steps of a move: it reads the cell, and by what it finds there it ends, or writes the cell.
-pub record AreMoveSteps {A : Type 0} (finds : List ℕ → Result (ReadyMove A) MoveRefusal) (old new : Standing)
+pub record AreMoveSteps {A : Type 0} (finds : List ℕ → Result (ReadyMove A) MoveRefusal)
+    (old new : Standing)
     (result : Result A MoveRefusal) : Type 0 where
   pub middle : Standing
   pub fault : Option StepFault
@@ -93,7 +96,8 @@ MoveStepsBy (Ok answer) old new = ReadsOnce old new ⊎ ReadsAndWrites old new
 MoveStepsBy (Err why) old new = MoveStepsRefused (move_fault_of why) old new
 
 -- One move over a platform, by what it finds in the cell's bytes.
-pub record MovePromise {A : Type 0} (finds : List ℕ → Result (ReadyMove A) MoveRefusal) (old new : Standing)
+pub record MovePromise {A : Type 0} (finds : List ℕ → Result (ReadyMove A) MoveRefusal)
+    (old new : Standing)
     (result : Result A MoveRefusal) : Type 0 where
   -- the steps that were made, and what each gave; want of memory may come in place of what is not
   -- refused

@@ -66,11 +66,13 @@ abbrev pub invitation_by : WaitingCell → Result (ReadyMove Invited) MoveRefusa
 invitation_by next = Ok (record { next = Some (waiting_spelling next); answer = Done })
 
 -- a blank or a retired cell is free, and the cell that would be written has been
-abbrev pub invitation_in : WaitingCell → Result MovedCell CellFault → Result (ReadyMove Invited) MoveRefusal
+abbrev pub invitation_in : WaitingCell → Result MovedCell CellFault
+    → Result (ReadyMove Invited) MoveRefusal
 invitation_in next (Err Blank) = invitation_by next
 invitation_in next (Ok (Left cell)) = invitation_by next
 invitation_in next (Ok (Waits cell)) =
-    refuse_if (not (is_same_waiting cell next)) Already (Ok (record { next = None; answer = Again }))
+    refuse_if (not (is_same_waiting cell next)) Already
+        (Ok (record { next = None; answer = Again }))
 invitation_in next (Ok (Live cell)) = Err Already
 invitation_in next (Err Unspelled) = Err Already
 
@@ -131,12 +133,14 @@ retirement_in meaning variant link nonce offer (Ok (Live cell)) =
     refuse_if (is_other variant meaning.id cell.variant cell.module) (Core core.Cell)
     (refuse_if (is_barred variant cell.barrier link) Barrier
     (refuse_if cell.flag Open
-    (retirement_by variant link nonce cell.summary (Some (retired_spelling (retired_cell_from cell nonce)))
+    (retirement_by variant link nonce cell.summary
+    (Some (retired_spelling (retired_cell_from cell nonce)))
     (right_offer meaning variant cell.key offer))))
 retirement_in meaning variant link nonce offer (Ok (Left cell)) =
     refuse_if (is_other variant meaning.id cell.variant cell.module) (Core core.Cell)
     (refuse_if (not (bytes_eq cell.nonce nonce)) Gone
-    (retirement_by variant link nonce cell.summary None (right_offer meaning variant cell.key offer)))
+    (retirement_by variant link nonce cell.summary None
+    (right_offer meaning variant cell.key offer)))
 
 -- Acceptance. The ticket is read, its state is one of the module's, and its tag is right under the
 -- link's key:
@@ -154,7 +158,8 @@ right_ticket meaning variant key bytes = ticket_by meaning key (ticket_of varian
 
 -- the answer: the ticket's position, and its content sealed under the cell's key
 abbrev pub acceptance_of : List ℕ → Content → Accepted
-acceptance_of key content = record { position = content.position; snapshot = sealed_snapshot_of key content }
+acceptance_of key content =
+    record { position = content.position; snapshot = sealed_snapshot_of key content }
 
 -- the cell that an acceptance writes
 abbrev pub live_cell_from : WaitingCell → Content → Cell

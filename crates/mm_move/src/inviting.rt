@@ -38,7 +38,8 @@ pub fn invite<P: Platform>(
     key: &[u8; 32],
 ) -> Result<Invited, MoveRefusal>
     ensures moved { MovePromise (λ bytes.
-        invitation_in (waiting_for link.now variant «module» nonce.now key.now) (moved_cell_of bytes))
+        invitation_in (waiting_for link.now variant «module» nonce.now key.now)
+        (moved_cell_of bytes))
         (P.standing platform.old) (P.standing platform.new) result }
     ensures memory { result ≢ Err (MoveRefusal.Core Refusal.Memory) }
 {

@@ -42,7 +42,8 @@ pub fn go_on<A: Drop, P: Platform>(
 
 // The last step, which writes the cell: there is none where the move was made before.
 fn make<A: Drop, P: Platform>(ready: ReadyMove<A>, platform: &mut P) -> Result<A, MoveRefusal>
-    ensures { MakesMoveStep ready.next ready.answer (P.standing platform.old) (P.standing platform.new)
+    ensures { MakesMoveStep ready.next ready.answer (P.standing platform.old)
+        (P.standing platform.new)
         result }
 {
     let ReadyMove { next, answer } = ready;

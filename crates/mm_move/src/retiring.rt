@@ -46,7 +46,8 @@ pub fn retire<M: Module, P: Platform>(
     offer: &[u8],
 ) -> Result<Bytes, MoveRefusal>
     ensures { MovePromise (λ bytes.
-        retirement_in (M.meaning «module».now) variant link.now nonce.now offer.now (moved_cell_of bytes))
+        retirement_in (M.meaning «module».now) variant link.now nonce.now offer.now
+        (moved_cell_of bytes))
         (P.standing platform.old) (P.standing platform.new) result }
 {
     retire_by(alloc, module, variant, platform, link, nonce, offer)
@@ -62,7 +63,8 @@ fn retire_by<M: Module, P: Platform>(
     offer: &[u8],
 ) -> Result<Bytes, MoveRefusal>
     ensures { AreMoveSteps (λ bytes.
-        retirement_in (M.meaning «module».now) variant link.now nonce.now offer.now (moved_cell_of bytes))
+        retirement_in (M.meaning «module».now) variant link.now nonce.now offer.now
+        (moved_cell_of bytes))
         (P.standing platform.old) (P.standing platform.new) result }
 {
     match read(platform) {
@@ -113,7 +115,8 @@ fn leave_live<M: Module>(
     offer: &[u8],
     cell: &Cell,
 ) -> Result<ReadyMove<Bytes>, MoveRefusal>
-    ensures { IsOrNoMemory (retirement_in (M.meaning «module».now) variant link.now nonce.now offer.now
+    ensures { IsOrNoMemory (retirement_in (M.meaning «module».now) variant link.now
+        nonce.now offer.now
         (Ok (Live cell.now))) result }
 {
     if is_other(variant, module.id(), cell.variant, cell.module) {
@@ -148,7 +151,8 @@ fn leave_again<M: Module>(
     offer: &[u8],
     cell: &RetiredCell,
 ) -> Result<ReadyMove<Bytes>, MoveRefusal>
-    ensures { IsOrNoMemory (retirement_in (M.meaning «module».now) variant link.now nonce.now offer.now
+    ensures { IsOrNoMemory (retirement_in (M.meaning «module».now) variant link.now
+        nonce.now offer.now
         (Ok (Left cell.now))) result }
 {
     if is_other(variant, module.id(), cell.variant, cell.module) {

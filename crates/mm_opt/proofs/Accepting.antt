@@ -2,9 +2,12 @@
 use Rattle.mm_opt.proofs.Below.{◌≡◌, ℕ, ◌+◌, Bool, true, false, List, length, Result, Ok, Err, refl, sym, ap, ◌∙◌, subst, inl, inr}
 use Rattle.mm_opt.proofs.Below.{if◌then◌else◌, nat_le, bytes_eq, last_position, Opt, Meaning, Batch, normal_batch, members_of-normal}
 use Rattle.mm_opt.proofs.Below.{PartsFault, Form, Kind, InBasic, InOpt, Content, Snapshot, ReadsParts, variant_of, tag_of, guard, Instance}
-use Rattle.mm_opt.proofs.Below.{opt_instance, verdict_by_digests, Digests, BatchAnswer, Refusal, Verdict, check_of_offer, check_by_tests, IsOrMemory, digest_level}
-use Rattle.mm_opt.proofs.Below.{place_after_batch, Accepted, accepted_from, accepted_at, finding_with, accepted_in, cell_at, Accepts, is_memory}
-use Rattle.mm_opt.proofs.Below.{lacks_in, BatchFinding, Repeat, Change, Extending, Emptying, has_lost_power, verdict_at, verdict_of, answer_of, place_after}
+use Rattle.mm_opt.proofs.Below.{opt_instance, verdict_by_digests, Digests, BatchAnswer, Refusal, Verdict, check_of_offer, check_by_tests}
+use Rattle.mm_opt.proofs.Below.{IsOrMemory, digest_level}
+use Rattle.mm_opt.proofs.Below.{place_after_batch, Accepted, accepted_from, accepted_at, finding_with, accepted_in, cell_at, Accepts}
+use Rattle.mm_opt.proofs.Below.{is_memory}
+use Rattle.mm_opt.proofs.Below.{lacks_in, BatchFinding, Repeat, Change, Extending, Emptying, has_lost_power, verdict_at, verdict_of}
+use Rattle.mm_opt.proofs.Below.{answer_of, place_after}
 use Rattle.mm_opt.proofs.Below.{change_by, opened_cell, answer_in, finding_from, finding_in_offer, finding_unless, finding_in, FindsIn}
 use Rattle.mm_machine.specs.declared.change.Change as change
 use Rattle.mm_seal.specs.declared.snapshot.Place.{Place}
@@ -38,7 +41,8 @@ module _ (i : Instance) (seen : Digests) (b : Batch) where
   as_unless true x found so = refl
   as_unless false x found so = so
 
-  as_or : (y : Result BatchFinding Refusal) (x : Result Accepted Refusal) (found : Result BatchFinding Refusal) → AsFound i seen b x y → IsOrMemory y found
+  as_or : (y : Result BatchFinding Refusal) (x : Result Accepted Refusal) (found : Result BatchFinding Refusal) → AsFound i seen b x y
+      → IsOrMemory y found
       → AsFound i seen b (accepted_in x (lacks_in found)) found
   as_or (Err why) x found so o = rw o (ap (λ (y : Result Accepted Refusal). accepted_in y (is_memory why)) so)
   as_or (Ok it) x found so (inl e) =
@@ -69,7 +73,8 @@ module _ (meaning : Meaning) (key barrier : List ℕ) (seen : Digests) (b : Batc
       subst (λ (f : Bool). place_after (cell_at here (record seen { flag = f })) seen.register (guard barrier (normal_batch b))
       again ≡ place_after_batch Opt f again here seen (normal_batch b)) e (places flag again)
     where
-      places : (flag again : Bool) → place_after (cell_at here (record seen { flag = flag })) seen.register (guard barrier (normal_batch b)) again
+      places : (flag again : Bool) → place_after (cell_at here (record seen { flag = flag })) seen.register
+          (guard barrier (normal_batch b)) again
           ≡ place_after_batch Opt flag again here seen (normal_batch b)
       places true true = refl
       places false true = refl
@@ -110,7 +115,8 @@ module _ (meaning : Meaning) (key barrier : List ℕ) (seen : Digests) (b : Batc
 
   -- what is found in the cell and the register of these digests
   pub as_found : (offer : List ℕ) (found : Result BatchFinding Refusal) → FindsIn meaning (cell_at here seen) seen.register offer b found
-      → AsFound here seen (normal_batch b) (accepted_in (accepted_at here (digest_level here) seen (normal_batch b) offer) (lacks_in found)) found
+      → AsFound here seen (normal_batch b) (accepted_in (accepted_at here (digest_level here) seen (normal_batch b) offer) (lacks_in found))
+      found
   as_found offer found f =
       as_or here seen (normal_batch b) (finding_in meaning (cell_at here seen) seen.register f.taken b)
       (accepted_at here (digest_level here) seen (normal_batch b) offer) found
@@ -118,5 +124,6 @@ module _ (meaning : Meaning) (key barrier : List ℕ) (seen : Digests) (b : Batc
       (if (digest_level here).is_lost seen then Err refusal.Lost else accepted_from here (digest_level here) seen (normal_batch b) p)
       (finding_in meaning (cell_at here seen) seen.register f.taken b)) (parts_are Opt meaning.id offer f.taken f.reads)
       (as_unless here seen (normal_batch b) (has_lost_power (cell_at here seen) seen.register)
-      (accepted_from here (digest_level here) seen (normal_batch b) f.taken) (finding_in_offer meaning (cell_at here seen) seen.register f.taken b)
+      (accepted_from here (digest_level here) seen (normal_batch b) f.taken)
+      (finding_in_offer meaning (cell_at here seen) seen.register f.taken b)
       (as_read f.taken offer f.reads))) f.found_is

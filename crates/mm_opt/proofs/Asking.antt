@@ -1,7 +1,9 @@
 -- The ends of a call: what holds of each holds of every call; so that each answer is fit.
 use Rattle.mm_opt.proofs.Below.{◌≡◌, ℕ, List, Result, Ok, Err, sym, ◌∙◌, subst, refl, IfOk, Standing, Meaning, IsLawful, Batch, Cell}
-use Rattle.mm_opt.proofs.Below.{CellFault, Blank, Unspelled, IsCell, ReadsCell, BatchAnswer, Refusal, Long, AskResult, AreStepsToEnd, EndsByFinding, IsCallToEnd}
-use Rattle.mm_opt.proofs.Below.{IsWholeCall, result_of, end_of_refusal, each_call, ends_result, steps_give, given_all, BatchFinding, acts_for, answer_in}
+use Rattle.mm_opt.proofs.Below.{CellFault, Blank, Unspelled, IsCell, ReadsCell, BatchAnswer, Refusal, Long, AskResult, AreStepsToEnd}
+use Rattle.mm_opt.proofs.Below.{EndsByFinding, IsCallToEnd}
+use Rattle.mm_opt.proofs.Below.{IsWholeCall, result_of, end_of_refusal, each_call, ends_result, steps_give, given_all, BatchFinding}
+use Rattle.mm_opt.proofs.Below.{acts_for, answer_in}
 use Rattle.mm_opt.proofs.Below.{is_cell_of, cell_in, opt_call}
 use Rattle.mm_model.specs.Fit.{IsFit}
 use Rattle.mm_opt.proofs.Reading.{ReadsOn, ReadsOwnCell, ReadsRegister, reads_told}
@@ -12,7 +14,8 @@ pub refused_first : (why : Refusal) (found : Result BatchFinding Refusal) (meani
     (b : Batch) (ended : AskResult) → ReadsOn meaning offer b (Err why) first second found → EndsByFinding opt_call found second new ended
     → (new ≡ first) × (ended ≡ end_of_refusal why)
 refused_first why found meaning first second new offer b ended on e =
-    let x : (new ≡ second) × (ended ≡ end_of_refusal why) = subst (λ (f : Result BatchFinding Refusal). EndsByFinding opt_call f second new ended) on.1 e in
+    let x : (new ≡ second) × (ended ≡ end_of_refusal why) =
+        subst (λ (f : Result BatchFinding Refusal). EndsByFinding opt_call f second new ended) on.1 e in
     (x.0 ∙ on.0, x.1)
 
 module _ (meaning : Meaning) (offer : List ℕ) (b : Batch) (old : Standing) (P : Standing → Result BatchAnswer Refusal → Type 0) where
@@ -22,7 +25,8 @@ module _ (meaning : Meaning) (offer : List ℕ) (b : Batch) (old : Standing) (P 
     pub refuses : (why : Refusal) (one : Standing) → ReadsOwnCell meaning.id old one (Err why) → P one (Err why)
     pub later_refuses : (why : Refusal) (cell : Cell) (one two : Standing) → ReadsOwnCell meaning.id old one (Ok cell)
         → ReadsRegister meaning offer b cell one two (Err why) → P two (Err why)
-    pub commits : (found : BatchFinding) (cell : Cell) (one two new : Standing) (ended : AskResult) → ReadsOwnCell meaning.id old one (Ok cell)
+    pub commits : (found : BatchFinding) (cell : Cell) (one two new : Standing) (ended : AskResult)
+        → ReadsOwnCell meaning.id old one (Ok cell)
         → ReadsRegister meaning offer b cell one two (Ok found) → AreStepsToEnd (acts_for found) (answer_in found) two new ended
         → P new (result_of ended)
 

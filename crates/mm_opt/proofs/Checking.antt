@@ -2,17 +2,21 @@
 use Rattle.mm_opt.proofs.Below.{◌≡◌, ℕ, Bool, true, false, List, [], ◌∷◌, map, Option, None, Some, Result, Ok, Err, refl, sym, ap, ◌∙◌}
 use Rattle.mm_opt.proofs.Below.{subst}
 use Rattle.mm_opt.proofs.Below.{arith, ◌≤◌, ◌&&◌, is_some, IsSome, bytes_eq, fold, Variant, Basic, Opt, zero_bytes, extended_digest_of}
-use Rattle.mm_opt.proofs.Below.{length-anchored_digest_of, IsCell, cell_spelling, reads_cell-same, Cell, CellFault, Item, Standing, StepFault}
+use Rattle.mm_opt.proofs.Below.{length-anchored_digest_of, IsCell, cell_spelling, reads_cell-same, Cell, CellFault, Item, Standing}
+use Rattle.mm_opt.proofs.Below.{StepFault}
 use Rattle.mm_opt.proofs.Below.{Act, StepGoes, ReadCell, ReadRegister, WriteCell, Meaning, Long, Instance, opt_instance, Close, Foreign}
 use Rattle.mm_opt.proofs.Below.{Digests, digests_of, DeviceStep, Writes, checkpoint_steps, AskResult, Refused, Course, StepFate, walk}
-use Rattle.mm_opt.proofs.Below.{has_close, StaysOn, CheckpointEnding, checkpoint_ending, checkpoint_ending_by, checkpoint_outcome, CheckpointsAgree}
-use Rattle.mm_opt.proofs.Below.{basic_checkpoints_agree, opt_checkpoints_agree, state_after_moves, digest_level, list_level, instance_by, cell_at}
+use Rattle.mm_opt.proofs.Below.{has_close, StaysOn, CheckpointEnding, checkpoint_ending, checkpoint_ending_by, checkpoint_outcome}
+use Rattle.mm_opt.proofs.Below.{CheckpointsAgree}
+use Rattle.mm_opt.proofs.Below.{basic_checkpoints_agree, opt_checkpoints_agree, state_after_moves, digest_level, list_level, instance_by}
+use Rattle.mm_opt.proofs.Below.{cell_at}
 use Rattle.mm_opt.proofs.Below.{items_after_move}
 use Rattle.mm_opt.proofs.Below.{StandsAt, stands_at, stands_for, agrees_is, is_agrees, with_register, IsWrite}
 use Rattle.mm_opt.proofs.Below.{IsTrail}
 use Rattle.mm_opt.proofs.Below.{leads, stepped, trail_on, trail_fails, trail_last, told_by, begins_at, course_by, fate_of, Tale, tale_on}
 use Rattle.mm_opt.proofs.Below.{reading_tale, Checkpointed, CheckpointRefusal, Segment, Open, Shut, closing_fault_of, closing_fault_in}
-use Rattle.mm_opt.proofs.Below.{segment_by, segment_in, closed_cell, FindsSegment, LooksAtSegment, WeighsRegister, ClosesSegment, CheckpointGoesBy}
+use Rattle.mm_opt.proofs.Below.{segment_by, segment_in, closed_cell, FindsSegment, LooksAtSegment, WeighsRegister, ClosesSegment}
+use Rattle.mm_opt.proofs.Below.{CheckpointGoesBy}
 use Rattle.mm_opt.proofs.Below.{IsCheckpointOnCourse, checkpoint_result, opt_call}
 use Rattle.mm_model.specs.Steps.{Reads}
 use Rattle.mm_model.specs.declared.refusal.Refusal.TheVariants.{Device as Faulted}
@@ -58,14 +62,17 @@ GoesBy i d c old new result = CheckpointGoesBy i d (checkpoint_outcome i (digest
 concluded : (i : Instance) (d : Digests) (c : Course) (steps : List DeviceStep) (old new : Standing) (fault : Option StepFault)
     (result : Result Checkpointed CheckpointRefusal) → StandsAt i old d → checkpoint_steps i.variant d.flag (lost_on i d c) ≡ steps
     → IsTrail i d c.fates 1 steps old new fault
-    → ((closed : Bool) → result ≡ checkpoint_result (checkpoint_ending_by fault closed (checkpoint_ending i.variant d.flag (lost_on i d c))))
+    → ((closed : Bool) → result ≡ checkpoint_result
+    (checkpoint_ending_by fault closed (checkpoint_ending i.variant d.flag (lost_on i d c))))
     → GoesBy i d c old new result
 concluded i d c steps old new fault result s e t is =
     let all : List DeviceStep = checkpoint_steps i.variant d.flag (lost_on i d c) in
     let closed : Bool = has_close (walk c.fates 1 all).moves in
-    let l = leads i d c.fates 1 all old new fault s (subst (λ (st : List DeviceStep). IsTrail i d c.fates 1 st old new fault) (sym e) t) in record {
+    let l = leads i d c.fates 1 all old new fault s (subst (λ (st : List DeviceStep). IsTrail i d c.fates 1 st old new fault) (sym e) t) in
+        record {
       gives = is closed
-          ∙ ap (λ (f : Option StepFault). checkpoint_result (checkpoint_ending_by f closed (checkpoint_ending i.variant d.flag (lost_on i d c)))) (sym l.broken);
+          ∙ ap (λ (f : Option StepFault). checkpoint_result
+          (checkpoint_ending_by f closed (checkpoint_ending i.variant d.flag (lost_on i d c)))) (sym l.broken);
       stands = l.stands;
       items = l.items;
       steps = l.steps;
@@ -82,7 +89,8 @@ over_refused : (why : CheckpointRefusal) (steps : List DeviceStep) (said : Check
 over_refused (refusal.Device fault) steps said h = (λ (none : Some fault ≡ None). absurd (cc), λ closed. refl)
 over_refused _ steps said h = (λ _. (h refl).0, λ closed. (h refl).1)
 
-trail_over : (fault : Option StepFault) (i : Instance) (d : Digests) (fates : ℕ → StepFate) (n : ℕ) (step : DeviceStep) (steps : List DeviceStep)
+trail_over : (fault : Option StepFault) (i : Instance) (d : Digests) (fates : ℕ → StepFate) (n : ℕ) (step : DeviceStep)
+    (steps : List DeviceStep)
     (old new : Standing) → (fault ≡ None → steps ≡ []) → StepIsMade i d (fates n) step old new fault
     → IsTrail i d fates n (step ∷ steps) old new fault
 trail_over None i d fates n step steps old new over s = rw (over refl) (trail_last i d fates n step old new None s)
@@ -142,7 +150,8 @@ shows_closed true i items = refl
 shows_closed false i items = refl
 
 -- the write that closes a segment
-write_closed : (meaning : Meaning) (key barrier : List ℕ) (d : Digests) (next : List ℕ) → IsCell (cell_at (opt_instance meaning key barrier) d)
+write_closed : (meaning : Meaning) (key barrier : List ℕ) (d : Digests) (next : List ℕ)
+    → IsCell (cell_at (opt_instance meaning key barrier) d)
     → next ≡ closed_cell (cell_at (opt_instance meaning key barrier) d) d.register → IsWrite (opt_instance meaning key barrier) d next Close
 write_closed meaning key barrier d next spells next_is = record {
   spells = record { summary = length-anchored_digest_of d.digest d.register; key = spells.key; barrier = spells.barrier; variant = tt };
@@ -172,7 +181,8 @@ module _ (meaning : Meaning) (key barrier : List ℕ) (d : Digests) (old one two
   value others = fold extended_digest_of (fold extended_digest_of d.register l.goes.others) others
 
   -- power was lost where it reads zero
-  found_is : (fault : Option StepFault) (g : StepGoes ReadRegister one two fault) (rest : List StepFate) (found : Result (List ℕ) CheckpointRefusal)
+  found_is : (fault : Option StepFault) (g : StepGoes ReadRegister one two fault) (rest : List StepFate)
+      (found : Result (List ℕ) CheckpointRefusal)
       (f : FindsClosing cell two found) → ClosingIs (lost_on I d (on fault g rest)) cell f.register found
   found_is fault g rest found f =
       let lost : lost_on I d (on fault g rest) ≡ bytes_eq f.register zero_bytes =
@@ -195,7 +205,8 @@ module _ (meaning : Meaning) (key barrier : List ℕ) (d : Digests) (old one two
       (trail_over fault I then c.fates 2 Reads (closing_steps lost) one two over.0
       (stepped I then ReadRegister Reads one two fault w.goes tt))) over.1
 
-  closed_goes : (next : List ℕ) (w : WeighsRegister cell one two (Ok next)) → cell ≡ cell_at I d → (new : Standing) (fault : Option StepFault)
+  closed_goes : (next : List ℕ) (w : WeighsRegister cell one two (Ok next)) → cell ≡ cell_at I d
+      → (new : Standing) (fault : Option StepFault)
       (g : StepGoes (WriteCell next) two new fault)
       → GoesBy I d (on None w.goes (fate_of (WriteCell next) two new fault g ∷ [])) old new (closed_or fault)
   closed_goes next w mine new fault g =
@@ -213,7 +224,8 @@ module _ (meaning : Meaning) (key barrier : List ℕ) (d : Digests) (old one two
       (trail_on I then c.fates 2 Reads (Writes Close ∷ []) one two new fault (stepped I then ReadRegister Reads one two None w.goes tt)
       (trail_last I both c.fates 3 (Writes Close) two new fault
       (stepped I both (WriteCell next) (Writes Close) two new fault g writes))))
-      (λ closed. closed_told fault closed ∙ sym (λ j. checkpoint_result (checkpoint_ending_by fault closed (checkpoint_ending Opt (is_open j) (r.0 j)))))
+      (λ closed. closed_told fault closed
+      ∙ sym (λ j. checkpoint_result (checkpoint_ending_by fault closed (checkpoint_ending Opt (is_open j) (r.0 j)))))
 
 -- In either variant, by digests and by lists
 
@@ -239,7 +251,8 @@ agree Basic meaning key barrier = basic_checkpoints_agree meaning key
 agree Opt meaning key barrier = opt_checkpoints_agree meaning key barrier
 
 checks_by : (old new : Standing) (fault : Option StepFault) (result : Result Checkpointed CheckpointRefusal) (fates : List StepFate)
-    → closing_fault_in result ≡ fault → Tale fates 0 old new (ended_as fault) → GoesOn old new result fates → IsCheckpointOnCourse old new result
+    → closing_fault_in result ≡ fault → Tale fates 0 old new (ended_as fault) → GoesOn old new result fates
+    → IsCheckpointOnCourse old new result
 checks_by old new fault result fates e t goes = record {
   course = course_by fates old false;
   tells = told_by old fates (λ plan is_on known at. t.met_all plan (begins_at old plan is_on known at));
@@ -254,7 +267,8 @@ checks_by old new fault result fates e t goes = record {
         gives = g.gives ∙ ap checkpoint_result same.ending;
         stands = stands_for i new (checkpoint_outcome i (list_level i) y c).state
             (subst (λ (x : Digests). StandsAt i new x)
-            (agrees_is i (checkpoint_outcome i (list_level i) y c).state (checkpoint_outcome i (digest_level i) d c).state same.agrees) g.stands);
+            (agrees_is i (checkpoint_outcome i (list_level i) y c).state (checkpoint_outcome i (digest_level i) d c).state same.agrees)
+            g.stands);
         within = same.within;
       };
   plans = λ plan is_on known at.

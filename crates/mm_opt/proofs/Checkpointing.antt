@@ -3,10 +3,12 @@ use Rattle.mm_opt.proofs.Below.{◌≡◌, ℕ, Bool, true, false, List, Option,
 use Rattle.mm_opt.proofs.Below.{bytes_eq}
 use Rattle.mm_opt.proofs.Below.{Variant, Basic, Opt, zero_bytes, StepFault, Standing, ReadCell, WriteCell, ReadRegister, StepGoes, Cell}
 use Rattle.mm_opt.proofs.Below.{CellFault}
-use Rattle.mm_opt.proofs.Below.{CountsHandedFault, blamed, blamed_later, read_untouched, register_untouched, then_untouched, Checkpointed, CheckpointRefusal, Segment, Open, Shut, StepsAre}
+use Rattle.mm_opt.proofs.Below.{CountsHandedFault, blamed, blamed_later, read_untouched, register_untouched, then_untouched, Checkpointed}
+use Rattle.mm_opt.proofs.Below.{CheckpointRefusal, Segment, Open, Shut, StepsAre}
 use Rattle.mm_opt.proofs.Below.{closing_fault_of, closing_fault_in, segment_by, segment_in, closed_cell, closing_by, LooksAtSegment}
 use Rattle.mm_opt.proofs.Below.{FindsSegment, WeighsRegister}
-use Rattle.mm_opt.proofs.Below.{WritesClosing, result_of_closing_write, EndsClosing, EndsLooking, ClosesSegment, LeavesStill, ClosingStepsRefused}
+use Rattle.mm_opt.proofs.Below.{WritesClosing, result_of_closing_write, EndsClosing, EndsLooking, ClosesSegment, LeavesStill}
+use Rattle.mm_opt.proofs.Below.{ClosingStepsRefused}
 use Rattle.mm_opt.proofs.Below.{ClosingStepsBy}
 use Rattle.mm_seal.specs.declared.cell.CellFault.TheVariants as fault
 use Rattle.mm_opt.specs.declared.segment.Checkpointed.TheVariants.{Done, NoSegment}
@@ -35,12 +37,14 @@ module _ (old : Standing) (P : Standing → Result Checkpointed CheckpointRefusa
 
   module _ (each : Each) where
     closed : (written : Result Checkpointed StepFault) (cell : Cell) (next : List ℕ) (one two new : Standing)
-        → LooksAtSegment old one (Ok (Open cell)) → WeighsRegister cell one two (Ok next) → WritesClosing next two new written → P new (result_of_closing_write written)
+        → LooksAtSegment old one (Ok (Open cell)) → WeighsRegister cell one two (Ok next) → WritesClosing next two new written
+        → P new (result_of_closing_write written)
     closed (Ok it) cell next one two new l w c = rw c.gives (each.closes None cell next one two new l w c.goes)
     closed (Err fault) cell next one two new l w c = each.closes (Some fault) cell next one two new l w c.goes
 
     weighed : (found : Result (List ℕ) CheckpointRefusal) (cell : Cell) (one two new : Standing)
-        (result : Result Checkpointed CheckpointRefusal) → LooksAtSegment old one (Ok (Open cell)) → WeighsRegister cell one two found → EndsClosing found two new result → P new result
+        (result : Result Checkpointed CheckpointRefusal) → LooksAtSegment old one (Ok (Open cell)) → WeighsRegister cell one two found
+        → EndsClosing found two new result → P new result
     weighed (Err why) cell one two new result l w e = rw (e.0, e.1) (each.later_refuses why cell one two l w)
     weighed (Ok next) cell one two new result l w e = rw e.gives (closed e.written cell next one two new l w e.closes)
 
@@ -97,7 +101,8 @@ never_lost (Err fault.Blank) e = cc
 never_lost (Err fault.Cell) e = cc
 never_lost (Ok cell) e = never_by cell.variant cell.flag cell e
 
-first_steps : (why : CheckpointRefusal) (old one : Standing) → StepsAre 1 0 old one → (closing_fault_of why ≡ None → FindsSegment old (Err why))
+first_steps : (why : CheckpointRefusal) (old one : Standing) → StepsAre 1 0 old one
+    → (closing_fault_of why ≡ None → FindsSegment old (Err why))
     → ClosingStepsRefused why old one
 first_steps (refusal.Device fault) old one s f = one_step s
 first_steps refusal.Lost old one s f = absurd (never_lost (f refl).sees.read (f refl).sees.found_is)

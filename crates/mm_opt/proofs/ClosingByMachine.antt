@@ -1,11 +1,14 @@
 -- A checkpoint by the machine is the one that the definitions of a checkpoint give.
-use Rattle.mm_opt.proofs.Below.{◌≡◌, ℕ, false, List, [], ◌∷◌, Option, None, Some, Result, Ok, Err, refl, sym, ap, ◌∙◌, subst, ◌+◌, ◌≤◌, arith}
-use Rattle.mm_opt.proofs.Below.{StepFault, Standing, Cell, StepGoes, ReadCell, ReadRegister, WriteCell, Checkpointed, CheckpointRefusal, Segment}
+use Rattle.mm_opt.proofs.Below.{◌≡◌, ℕ, false, List, [], ◌∷◌, Option, None, Some, Result, Ok, Err, refl, sym, ap, ◌∙◌, subst, ◌+◌, ◌≤◌}
+use Rattle.mm_opt.proofs.Below.{arith}
+use Rattle.mm_opt.proofs.Below.{StepFault, Standing, Cell, StepGoes, ReadCell, ReadRegister, WriteCell, Checkpointed, CheckpointRefusal}
+use Rattle.mm_opt.proofs.Below.{Segment}
 use Rattle.mm_opt.proofs.Below.{Open, Shut, closing_fault_of, closing_fault_in, EndsLooking, EndsClosing, FindsSegment, ClosesSegment}
 use Rattle.std.specs.Result.{result_map_both}
 use Rattle.mm_machine.specs.Acts.{MayChange, act_in, is_extension_left, number_in}
 use Rattle.mm_machine.specs.OpEnds.{OpActs, FindingEnds, OpEnds, goes_on, breaks_off}
-use Rattle.mm_machine.specs.OpReads.{CellSays, StepDraws, SightFinds, FindsRoom, OpLooks as LooksAt, RegisterSays, RoomIsMadeFor, OpWeighs as WeighsAt}
+use Rattle.mm_machine.specs.OpReads.{CellSays, StepDraws, SightFinds, FindsRoom, OpLooks as LooksAt, RegisterSays, RoomIsMadeFor}
+use Rattle.mm_machine.specs.OpReads.{OpWeighs as WeighsAt}
 use Rattle.mm_machine.specs.OpSteps.{MayGoOn, SightLeads, OpSteps, act_of, ending_by_halt, number_of, step_of_finding, step_after_change}
 use Rattle.mm_machine.specs.declared.call.OpResult.{OpResult}
 use Rattle.mm_machine.specs.declared.call.OpResult.TheVariants.{Answered, Broken}
@@ -98,7 +101,8 @@ looks_to old new =
 weighs_to : (cell : Cell) (old new : Standing) (given : Result (OpFinding Checkpointed) Why) → WeighsAt closing_operation cell old new given
     → ReadsTo write_finding (StepGoes ReadRegister old new) (FindsClosing cell new) given
 weighs_to cell old new =
-    reads_to write_finding (StepGoes ReadRegister old new) (FindsClosing cell new) (λ given. RegisterSays new (λ register. closing_operation.finds cell register given))
+    reads_to write_finding (StepGoes ReadRegister old new) (FindsClosing cell new)
+    (λ given. RegisterSays new (λ register. closing_operation.finds cell register given))
     (λ given s. record {
       found = s.said.found;
       finds_it = record { register = s.register; told = s.told; found_is = s.said.finds_it };
@@ -115,7 +119,8 @@ module _ (new : Standing) (ended : OpResult Checkpointed CheckpointRefusal) wher
       subst (λ (x : Standing). FindingEnds closing_operation it x new ended) s.0
       (subst (λ (x : Result (OpFinding Checkpointed) Why). FindingEnds closing_operation x middle new ended) s.1 e)
 
-  closed : (next : List ℕ) (old : Standing) → OpActs closing_operation (WriteCell next ∷ []) Done old new ended → ClosesBy next old new (result_of_end ended)
+  closed : (next : List ℕ) (old : Standing) → OpActs closing_operation (WriteCell next ∷ []) Done old new ended
+      → ClosesBy next old new (result_of_end ended)
   closed next old (goes_on middle g e) = record {
     written = Ok Done;
     closes = record { goes = subst (λ (x : Standing). StepGoes (WriteCell next) old x None) (sym e.0) g; gives = refl };
@@ -129,7 +134,8 @@ module _ (new : Standing) (ended : OpResult Checkpointed CheckpointRefusal) wher
   halts why old e = (e.0, ap result_of_end e.1 ∙ halt_told why)
 
   weighed : (found : Result (List ℕ) CheckpointRefusal) (one middle : Standing) (given : Result (OpFinding Checkpointed) Why)
-      → RoomIsMadeFor (halted write_finding found) one middle given → FindingEnds closing_operation given middle new ended → EndsClosing found one new (result_of_end ended)
+      → RoomIsMadeFor (halted write_finding found) one middle given → FindingEnds closing_operation given middle new ended
+      → EndsClosing found one new (result_of_end ended)
   weighed (Err why) one middle given r e = halts why one (moved r e)
   weighed (Ok next) one middle given r e = closed next one (moved r e)
 
@@ -181,7 +187,8 @@ pub record StepsAs (it : OpStage Checkpointed) (old new : Standing) (step : Step
   pub counts : Counts (number_of 3 it) step
 
 module _ (it : OpStage Checkpointed) (old new : Standing) where
-  steps_as : {step : StepResult Checkpointed CheckpointRefusal} (fault : Option StepFault) (to : StepResult Checkpointed CheckpointRefusal) → step ≡ to
+  steps_as : {step : StepResult Checkpointed CheckpointRefusal} (fault : Option StepFault) (to : StepResult Checkpointed CheckpointRefusal)
+      → step ≡ to
       → fault_stepped to ≡ fault → StepIsClosing to → Counts (number_of 3 it) to → {middle : Standing} → new ≡ middle
       → StepGoes (act_of it) old middle fault → StepsAs it old new step
   steps_as fault to e f closes counts same g =

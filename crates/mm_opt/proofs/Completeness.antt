@@ -1,13 +1,18 @@
 -- A right offer that the verdict on the history accepts is answered, where a call's steps bring nothing into a segment.
 use Rattle.mm_opt.proofs.Below.{◌≡◌, ℕ, ◌+◌, ◌≤◌, ◌^◌, Bool, true, false, List, [], ◌∷◌, ◌++◌, length, map, Option, None, Some, Result, Ok}
 use Rattle.mm_opt.proofs.Below.{Err, refl, sym, ap, ◌∙◌, subst, inl, inr, le-leb, if◌then◌else◌, nat_eq, nat_le, bytes_eq, Opt}
-use Rattle.mm_opt.proofs.Below.{StepFault, Standing, Meaning, Batch, size_of, normal_batch, members_of-normal, Content, tag_of, offered_snapshot_of}
-use Rattle.mm_opt.proofs.Below.{Instance, opt_instance, History, Move, Foreign, Value, total_of, verdict_on, verdict_by_tests, is_last, Digests, digests_of}
+use Rattle.mm_opt.proofs.Below.{StepFault, Standing, Meaning, Batch, size_of, normal_batch, members_of-normal, Content, tag_of}
+use Rattle.mm_opt.proofs.Below.{offered_snapshot_of}
+use Rattle.mm_opt.proofs.Below.{Instance, opt_instance, History, Move, Foreign, Value, total_of, verdict_on, verdict_by_tests, is_last}
+use Rattle.mm_opt.proofs.Below.{Digests, digests_of}
 use Rattle.mm_opt.proofs.Below.{IsRight, ask_steps, BatchAnswer, Refusal, Verdict, Fresh, Again, call_outcome, call_ending_by}
 use Rattle.mm_opt.proofs.Below.{result_of_ending, End, Done, Course, StepsWalk, walk, finding_by_verdict, finding_at, finding_with}
-use Rattle.mm_opt.proofs.Below.{finding_unless_wanting, is_fresh, CountsHandedFault, IsAccepted, IsAnswered, check_of_verdict, check_by_tests, list_level, digest_level}
-use Rattle.mm_opt.proofs.Below.{state_after_moves, fault_in, items_after_moves, stands_at, asked_for, same_batches, is_agrees, before, sight_is, opt_calls_agree}
-use Rattle.mm_opt.proofs.Below.{two_reads, life_bare, opt_tied, steps_of_change, asks, foreign_first, foreign_move_values-first, IsWholeCall}
+use Rattle.mm_opt.proofs.Below.{finding_unless_wanting, is_fresh, CountsHandedFault, IsAccepted, IsAnswered, check_of_verdict}
+use Rattle.mm_opt.proofs.Below.{check_by_tests, list_level, digest_level}
+use Rattle.mm_opt.proofs.Below.{state_after_moves, fault_in, items_after_moves, stands_at, asked_for, same_batches, is_agrees, before}
+use Rattle.mm_opt.proofs.Below.{sight_is, opt_calls_agree}
+use Rattle.mm_opt.proofs.Below.{two_reads, life_bare, opt_tied, steps_of_change, asks, foreign_first, foreign_move_values-first}
+use Rattle.mm_opt.proofs.Below.{IsWholeCall}
 use Rattle.mm_opt.proofs.Below.{opt_call}
 use Rattle.std.proofs.Common.{◌&&◌}
 use Rattle.std.proofs.lemmas.Slice.Eq.{bytes_eq-Decides}
@@ -58,7 +63,8 @@ found_right i y offer b content live right fits =
     let v : Verdict = verdict_on i.variant y content.position b in
     let e : check_by_tests (i.meaning.is_spelled content.state) (bytes_eq tag tag) v (nat_le (content.position + size_of b) (2 ^ 48))
     ≡ check_of_verdict v true = rw (spelled, (bytes_eq-Decides tag tag).1 refl, le-leb (content.position + size_of b) (2 ^ 48) fits) refl in
-    ap (λ (l : Life). if is_lost l then Err refusal.Lost else finding_by_verdict i (list_level i) y b (parts_of i.variant i.meaning.id offer))
+    ap (λ (l : Life). if is_lost l then Err refusal.Lost else finding_by_verdict i (list_level i) y b
+        (parts_of i.variant i.meaning.id offer))
     live
     ∙ ap (finding_by_verdict i (list_level i) y b) parts
     ∙ ap (finding_with content) e
@@ -88,7 +94,8 @@ nil_front (x ∷ xs) ys e = absurd (cc)
 none_brought : (v : List (List ℕ)) (e : End) (w : List (List ℕ)) (f : End) (rest : StepsWalk) → (two_reads v e w f rest).broken ≡ None
     → foreign_move_values (two_reads v e w f rest).moves ≡ [] → (v ≡ []) × (w ≡ [])
 none_brought v Done w Done rest whole none =
-    let one = nil_front v (foreign_move_values (map Foreign w ++ rest.moves)) (sym (foreign_move_values-first v (map Foreign w ++ rest.moves)) ∙ none) in
+    let one = nil_front v (foreign_move_values (map Foreign w ++ rest.moves))
+        (sym (foreign_move_values-first v (map Foreign w ++ rest.moves)) ∙ none) in
     (one.0, (nil_front w (foreign_move_values rest.moves) (sym (foreign_move_values-first w rest.moves) ∙ one.1)).0)
 none_brought v Done w (Fails fault made) rest whole none = absurd (cc)
 none_brought v (Fails fault made) w f rest whole none = absurd (cc)
@@ -109,7 +116,8 @@ sees_live false meaning key barrier y c live e none =
 -- a call that found an offer that is accepted, or lacked memory, or was broken off
 answered_by : (broken : Option StepFault) (lacks : Bool) (i : Instance) (sees end : History) (b : Batch) (moves : List Move)
     (old new : Standing) (x : Result CallFinding Refusal) → (broken ≡ None → IsFound x)
-    → CountsHandedFault (fault_in (result_of_ending (call_ending_by (list_level i) sees end b (finding_unless_wanting x lacks) moves broken))) old.faults new.faults
+    → CountsHandedFault (fault_in
+    (result_of_ending (call_ending_by (list_level i) sees end b (finding_unless_wanting x lacks) moves broken))) old.faults new.faults
     → IsAnswered (result_of_ending (call_ending_by (list_level i) sees end b (finding_unless_wanting x lacks) moves broken)) old new
 answered_by (Some fault) lacks i sees end b moves old new x finds blames = inr (inr (refl, blames))
 answered_by None false i sees end b moves old new x finds blames = rw (finds refl).is (inl refl)
@@ -148,7 +156,8 @@ complete meaning old new offer batch result calls blames short key barrier y all
     (asks y.is_open (is_fresh found) b) in
     let brought : walked.broken ≡ None → y.is_open ≡ true → (v ≡ []) × (u ≡ []) = λ whole e.
     let t = counts_open i y d moves e tie in
-    let more_is : t.more ≡ more = shown_same old.items (items_after_moves i d moves) items (standing_items y.is_open items) more t.more known
+    let more_is : t.more ≡ more = shown_same old.items (items_after_moves i d moves) items (standing_items y.is_open items)
+        more t.more known
     (t.are items) (sym g.items ∙ ends) in
     let empty : foreign_move_values moves ≡ [] = ap (λ (f : Bool). foreign_move_values (counted_moves f moves)) (sym e) ∙ t.tied.values
     ∙ ap foreign_items more_is ∙ alone e in

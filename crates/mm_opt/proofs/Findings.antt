@@ -3,7 +3,8 @@ use Rattle.mm_opt.proofs.Below.{◌≡◌, ℕ, Bool, true, false, List, length,
 use Rattle.mm_opt.proofs.Below.{inl, inr, arith, IsTrue, nat_tests, Standing}
 use Rattle.mm_opt.proofs.Below.{nat_le, bytes_eq, last_position, IsLawful, Meaning, Batch, size_of, Cell, CellFault, Blank, IsCell}
 use Rattle.mm_opt.proofs.Below.{Unspelled, PartsFault, Form, Kind, Snapshot, tag_of, BatchAnswer, Refusal, Verdict, Fresh, Again}
-use Rattle.mm_opt.proofs.Below.{check_of_verdict, check_of_offer, check_by_tests, fault_of, fault_in, IsOrMemory, BatchFinding, Repeat, Change, Extending, Emptying}
+use Rattle.mm_opt.proofs.Below.{check_of_verdict, check_of_offer, check_by_tests, fault_of, fault_in, IsOrMemory, BatchFinding, Repeat}
+use Rattle.mm_opt.proofs.Below.{Change, Extending, Emptying}
 use Rattle.mm_opt.proofs.Below.{is_cell_of, own_cell, cell_in, batch_value, has_lost_power, verdict_of, answer_of, answer_in, change_by}
 use Rattle.mm_opt.proofs.Below.{finding_from, finding_in_offer, finding_unless, finding_in, opened_cell}
 use Rattle.mm_opt.proofs.Below.{Opt, StepsAre, one_step, two_steps, StepsRefused, extension_at, extension_after, place_after}
@@ -112,7 +113,8 @@ module _ (meaning : Meaning) (cell : Cell) (b : Batch) where
 
   from_made : (r : Result Bool Refusal) (value : List ℕ) (answer : Bool → BatchAnswer) → IsSecondIn r
       → ((again : Bool) → (answer again).again ≡ again)
-      → ((again : Bool) → r ≡ Ok again → IsLawful meaning → IsCell cell → IsFit b (answer again)) → IsMade (finding_from r cell value answer)
+      → ((again : Bool) → r ≡ Ok again → IsLawful meaning → IsCell cell → IsFit b (answer again))
+      → IsMade (finding_from r cell value answer)
   from_made (Err why) value answer second says fit = second
   from_made (Ok true) value answer second says fit = record { shape = says true; by_flag = tt; fit = fit true refl }
   from_made (Ok false) value answer second says fit =

@@ -1,5 +1,6 @@
 -- The first cell and snapshot.
-use Rattle.mm_opt.proofs.Below.{◌≡◌, ℕ, false, List, [], ap, ◌∙◌, Opt, zero_bytes, start_digest_of, Meaning, Cell, InOpt, cell_spelling, Content}
+use Rattle.mm_opt.proofs.Below.{◌≡◌, ℕ, false, List, [], ap, ◌∙◌, Opt, zero_bytes, start_digest_of, Meaning, Cell, InOpt, cell_spelling}
+use Rattle.mm_opt.proofs.Below.{Content}
 use Rattle.mm_opt.proofs.Below.{sealed_snapshot_of, anchor_of, opt_instance, first_history, cell_of, issued_bytes, anchor-nil}
 use Rattle.mm_digest.specs.declared.digest.Digest.{Digest}
 use Rattle.mm_model.specs.PlacesWords.{digest_of}
@@ -16,7 +17,8 @@ made_content meaning anchor extension =
 
 module _ (meaning : Meaning) (said : ℕ) (anchor : Digest) (key barrier : List ℕ) (id_is : said ≡ meaning.id)
     (start_is : anchor.bytes ≡ start_digest_of Opt said) where
-  pub first_cell : cell_spelling (made_cell said anchor key barrier) ≡ cell_spelling (cell_of (opt_instance meaning key barrier) first_history)
+  pub first_cell : cell_spelling (made_cell said anchor key barrier)
+      ≡ cell_spelling (cell_of (opt_instance meaning key barrier) first_history)
   first_cell =
       let a = first_anchor meaning.id said anchor id_is start_is in λ j. cell_spelling (made_cell (id_is j) (digest_of (a j)) key barrier)
 

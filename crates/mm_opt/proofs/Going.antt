@@ -1,9 +1,13 @@
 -- A call of Opt is the walk of its steps on a course, by digests and by lists.
 use Rattle.mm_opt.proofs.Below.{◌≡◌, ℕ, Bool, true, false, List, [], ◌∷◌, length, map, None, Result, Ok, Err, refl, sym, ap, ◌∙◌}
-use Rattle.mm_opt.proofs.Below.{subst, arith, fold, Opt, zero_bytes, extended_digest_of, Standing, ReadCell, ReadRegister, next_plan, Meaning}
-use Rattle.mm_opt.proofs.Below.{Batch, normal_batch, Cell, IsCell, guard, Instance, opt_instance, Commit, Foreign, Placed, Reset, Digests, DeviceStep, Reading}
-use Rattle.mm_opt.proofs.Below.{Changes, Writes, ask_steps, is_long, BatchAnswer, Refusal, AskResult, EndsByFinding, IsCallToEnd, IsWholeCall, IsCallSoFar}
-use Rattle.mm_opt.proofs.Below.{IsCallOnCourse, Course, StepFate, step_moves, end_of_refusal, EndsAsCall, Accepted, accepted_at, accepted_in}
+use Rattle.mm_opt.proofs.Below.{subst, arith, fold, Opt, zero_bytes, extended_digest_of, Standing, ReadCell, ReadRegister, next_plan}
+use Rattle.mm_opt.proofs.Below.{Meaning}
+use Rattle.mm_opt.proofs.Below.{Batch, normal_batch, Cell, IsCell, guard, Instance, opt_instance, Commit, Foreign, Placed, Reset, Digests}
+use Rattle.mm_opt.proofs.Below.{DeviceStep, Reading}
+use Rattle.mm_opt.proofs.Below.{Changes, Writes, ask_steps, is_long, BatchAnswer, Refusal, AskResult, EndsByFinding, IsCallToEnd}
+use Rattle.mm_opt.proofs.Below.{IsWholeCall, IsCallSoFar}
+use Rattle.mm_opt.proofs.Below.{IsCallOnCourse, Course, StepFate, step_moves, end_of_refusal, EndsAsCall, Accepted, accepted_at}
+use Rattle.mm_opt.proofs.Below.{accepted_in}
 use Rattle.mm_opt.proofs.Below.{is_fresh, state_after_moves, digest_level, fault_of, fault_in, cell_at, StandsAt}
 use Rattle.mm_opt.proofs.Below.{with_register, IsWrite, steps_of_change, asks, fate_of, ends_fates, tale_on, reading_tale, MakesAll, AsMade}
 use Rattle.mm_opt.proofs.Below.{Told, course_by, lacks_in, told_on, refused_reading, told_reading, sees, finds, opt_calls_agree}
@@ -44,7 +48,8 @@ module _ (meaning : Meaning) (key barrier : List ℕ) (seen : Digests) (b : Batc
           λ (w : List (List ℕ)).
               let r : List ℕ = extended_digest_of (fold extended_digest_of zero_bytes w) (guard barrier b) in
               let same : state_after_moves (digest_level here) e (step_moves (Changes (Placed b)) true w) ≡ with_register seen r =
-              ap (λ (y : Digests). state_after_moves (digest_level here) y (step_moves (Changes (Placed b)) true w)) (reset_kept here seen v)
+              ap (λ (y : Digests). state_after_moves (digest_level here) y (step_moves (Changes (Placed b)) true w))
+                  (reset_kept here seen v)
               ∙ placed_kept here (with_register seen zero_bytes) w b in (
                 subst (λ (y : Digests). IsWrite here y opening.next (Commit b)) (sym same)
                     (write_opened meaning key barrier (with_register seen r) b opening.next shut is next_is),
@@ -105,13 +110,15 @@ module _ (meaning : Meaning) (offer : List ℕ) (b : Batch) (old new : Standing)
       let x : Result Accepted Refusal = finds i d c offer (normal_batch b) in
       subst (λ (st : List DeviceStep). Told i d (sees i d c) c.fates 1 st (normal_batch b) x old new ended)
       (sym (asks d.flag (is_fresh x) (normal_batch b)))
-      (refused_reading i d (next_plan old) 1 (Reading ∷ steps_of_change d.flag (is_fresh x) (normal_batch b)) (normal_batch b) x ReadCell tt old one one new
+      (refused_reading i d (next_plan old) 1 (Reading ∷ steps_of_change d.flag (is_fresh x) (normal_batch b)) (normal_batch b) x ReadCell
+      tt old one one new
       refl (sees i d c) (fault_of why) why ended refl r.goes e
       (λ (quiet : fault_of why ≡ None). absurd (unseen why meaning key barrier d old s (r.finds quiet)))))
 
   -- where it doesn't
   found_to : (cell : Cell) (found : Result BatchFinding Refusal) (one two : Standing) → ReadsOwnCell meaning.id old one (Ok cell)
-      → ReadsRegister meaning offer b cell one two found → EndsByFinding opt_call found two new ended → EndsAsCall Opt meaning old new offer b ended
+      → ReadsRegister meaning offer b cell one two found → EndsByFinding opt_call found two new ended
+      → EndsAsCall Opt meaning old new offer b ended
   found_to cell found one two r on e =
       let later : List StepFate = fate_of ReadRegister one on.middle (fault_in found) on.goes ∷ ends_fates opt_call found two new ended e in
       let lacks : Bool = lacks_in found in
@@ -137,13 +144,16 @@ module _ (meaning : Meaning) (offer : List ℕ) (b : Batch) (old new : Standing)
       (sym (two_brought i d r.goes.others on.goes.others))
       (as_made meaning key barrier (with_register d value) (normal_batch b) found (x (with_register d value)) s.spells
       (as_found meaning key barrier (with_register d value) b offer found (rw (own, read) at f.said))) in
-      subst (λ (y : Digests). Told i d y fates 1 (ask_steps Opt d.flag (is_fresh (x y)) (normal_batch b)) (normal_batch b) (x y) old new ended)
+      subst (λ (y : Digests). Told i d y fates 1 (ask_steps Opt d.flag (is_fresh (x y)) (normal_batch b)) (normal_batch b)
+          (x y) old new ended)
       (sym (seen_is i d r.goes.others on.goes.others))
       (subst (λ (st : List DeviceStep). Told i d seen fates 1 st (normal_batch b) (x seen) old new ended)
       (sym (asks d.flag (is_fresh (x seen)) (normal_batch b)))
-      (told_on i d seen (next_plan old) 1 (Reading ∷ steps_of_change d.flag (is_fresh (x seen)) (normal_batch b)) (normal_batch b) (x seen) ReadCell tt old one
+      (told_on i d seen (next_plan old) 1 (Reading ∷ steps_of_change d.flag (is_fresh (x seen)) (normal_batch b)) (normal_batch b) (x seen)
+      ReadCell tt old one
       one new refl later ended r.goes
-      (told_reading i first (next_plan old) 2 (steps_of_change d.flag (is_fresh (x seen)) (normal_batch b)) (normal_batch b) (x seen) ReadRegister tt one
+      (told_reading i first (next_plan old) 2 (steps_of_change d.flag (is_fresh (x seen)) (normal_batch b)) (normal_batch b) (x seen)
+      ReadRegister tt one
       on.middle two new room opt_call found ended on.goes e makes))))
 
 -- a call from its first step to its end

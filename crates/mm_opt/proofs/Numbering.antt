@@ -1,6 +1,8 @@
 -- The number of the step behind one that goes on is the next.
-use Rattle.mm_opt.proofs.Below.{◌≡◌, ℕ, ◌+◌, Bool, List, Option, None, Some, Result, Ok, Err, refl, StepFault, Standing, Meaning, Batch, Cell}
-use Rattle.mm_opt.proofs.Below.{BatchAnswer, Refusal, Begun, Seen, Changing, BatchFinding, Repeat, Change, Extending, Emptying, Placing, Writing}
+use Rattle.mm_opt.proofs.Below.{◌≡◌, ℕ, ◌+◌, Bool, List, Option, None, Some, Result, Ok, Err, refl, StepFault, Standing, Meaning, Batch}
+use Rattle.mm_opt.proofs.Below.{Cell}
+use Rattle.mm_opt.proofs.Below.{BatchAnswer, Refusal, Begun, Seen, Changing, BatchFinding, Repeat, Change, Extending, Emptying, Placing}
+use Rattle.mm_opt.proofs.Below.{Writing}
 use Rattle.mm_opt.proofs.Below.{BatchStage, finding_of_machine, opt_operation}
 use Rattle.mm_machine.specs.Acts.{number_in}
 use Rattle.mm_machine.specs.OpMeaning.{OpMeaning}
@@ -52,5 +54,6 @@ module _ (meaning : Meaning) (offer : List ℕ) (b : Batch) where
   pub numbers : (stage next : BatchStage) (old new : Standing) → stepping.OpSteps asked stage old new (Going next)
       → stepping.number_of 5 next ≡ stepping.number_of 5 stage + 1
   numbers Begun next old new s = begun_next s.seen old s.middle new next s.looks s.leads
-  numbers (Seen cell) next old new s = seen_next s.found cell old new next (weighs_told meaning offer b cell old new s.found s.finds) s.gives
+  numbers (Seen cell) next old new s = seen_next s.found cell old new next (weighs_told meaning offer b cell old new s.found s.finds)
+      s.gives
   numbers (Changing ready) next old new s = change_next ready.change ready.answer s.fault next s.gives

@@ -1,6 +1,7 @@
 -- What the reading steps of a call find: a device's fault is told among the refusals, and want of memory for its own extension too.
 use Rattle.mm_opt.proofs.Below.{◌≡◌, ℕ, Bool, true, false, List, None, Some, Result, Ok, Err, refl, sym, ap, subst, inr, Standing, StepGoes}
-use Rattle.mm_opt.proofs.Below.{ReadCell, ReadRegister, Meaning, Batch, Cell, BatchAnswer, Refusal, IsOrMemory, fault_in, finding_in, BatchFinding, FindsIn, opt_operation}
+use Rattle.mm_opt.proofs.Below.{ReadCell, ReadRegister, Meaning, Batch, Cell, BatchAnswer, Refusal, IsOrMemory, fault_in, finding_in}
+use Rattle.mm_opt.proofs.Below.{BatchFinding, FindsIn, opt_operation}
 use Rattle.mm_opt.proofs.Below.{CallReads, IsQuiet, finding_of_machine, refusal_of_halt}
 use Rattle.mm_machine.specs.OpMeaning.{OpMeaning}
 use Rattle.mm_machine.specs.OpReads as machine
@@ -23,7 +24,8 @@ abbrev pub HasRoom : Result BatchFinding Refusal → Standing → Standing → T
 HasRoom (Ok found) middle new = new ≡ record middle { spare = new.spare }
 HasRoom (Err why) middle new = new ≡ middle
 
-pub room_only : (found : Result BatchFinding Refusal) (middle new : Standing) → HasRoom found middle new → new ≡ record middle { spare = new.spare }
+pub room_only : (found : Result BatchFinding Refusal) (middle new : Standing) → HasRoom found middle new
+    → new ≡ record middle { spare = new.spare }
 room_only (Ok found) middle new room = room
 room_only (Err why) middle new room = rw room refl
 
@@ -72,7 +74,8 @@ module _ (meaning : Meaning) (offer : List ℕ) (b : Batch) where
         → RegisterSays middle (λ register. FindsIn meaning cell register offer b found)
     said found s = record { register = s.register; told = s.told; size = s.size; said = s.said.finds }
 
-    weighed : (found : Result BatchFinding (Halt Refusal)) → machine.OpWeighs asked cell old middle found → Weighed (finding_of_machine found)
+    weighed : (found : Result BatchFinding (Halt Refusal)) → machine.OpWeighs asked cell old middle found
+        → Weighed (finding_of_machine found)
     weighed (Ok found) w = (w.0, λ none. said (Ok found) w.1)
     weighed (Err (Fault fault)) w = (w, λ (none : Some fault ≡ None). absurd (cc))
     weighed (Err (Refused why)) w =
@@ -100,7 +103,8 @@ module _ (meaning : Meaning) (offer : List ℕ) (b : Batch) where
           },
     )
 
-    roomed : (found : Result BatchFinding Refusal) (new : Standing) → Weighed found → HasRoom found middle new → ReadsRegister cell old new found
+    roomed : (found : Result BatchFinding Refusal) (new : Standing) → Weighed found → HasRoom found middle new
+        → ReadsRegister cell old new found
     roomed found new w room = record { middle = middle; goes = w.0; finds = w.1; room = room }
 
     room_for : (extends : Bool) (found : BatchFinding) (given : Result BatchFinding (Halt Refusal)) (new : Standing) → Weighed (Ok found)
@@ -109,7 +113,8 @@ module _ (meaning : Meaning) (offer : List ℕ) (b : Batch) where
     room_for true found (Ok it) new w r = rw (r.1) (roomed (Ok found) new w r.0.same)
     room_for true found (Err why) new w r = rw (r.1) (roomed (Err Memory) new (wanting found w) r.0)
 
-    rooms : (found given : Result BatchFinding (Halt Refusal)) (new : Standing) → Weighed (finding_of_machine found) → RoomIsMadeFor found middle new given
+    rooms : (found given : Result BatchFinding (Halt Refusal)) (new : Standing) → Weighed (finding_of_machine found)
+        → RoomIsMadeFor found middle new given
         → ReadsRegister cell old new (finding_of_machine given)
     rooms (Err why) given new w r = rw (r.1) (roomed (Err (refusal_of_halt why)) new w r.0)
     rooms (Ok found) given new w r = room_for (machine.has_extension found) found given new w r

@@ -5,7 +5,8 @@ use Rattle.mm_opt.proofs.Below.{Item, own_item, Standing, item_values, register_
 use Rattle.mm_opt.proofs.Below.{Meaning, Batch, Cell, IsCell, cell_spelling, reads_cell-same, guard, Instance, opt_instance, Move, Commit}
 use Rattle.mm_opt.proofs.Below.{Foreign, Placed, Reset, Digests, digests_after, Refusal}
 use Rattle.mm_opt.proofs.Below.{state_after_moves, digest_level}
-use Rattle.mm_opt.proofs.Below.{cell_at, StandsAt, items_after_move, IsChange, IsWrite, register_of_items, reads_beside, StepFault, StepGoes, ReadCell}
+use Rattle.mm_opt.proofs.Below.{cell_at, StandsAt, items_after_move, IsChange, IsWrite, register_of_items, reads_beside, StepFault}
+use Rattle.mm_opt.proofs.Below.{StepGoes, ReadCell}
 use Rattle.mm_opt.proofs.Below.{ReadRegister}
 use Rattle.mm_opt.proofs.Below.{with_register, foreign_made, state_after_moves-append}
 use Rattle.mm_machine.specs.OpReads.{CellSays}
@@ -21,11 +22,13 @@ two_brought i d v w =
     ap (λ (e : Digests). state_after_moves (digest_level i) e (map Foreign w)) (foreign_made i d v)
     ∙ foreign_made i (with_register d (fold extended_digest_of d.register v)) w
 
-pub seen_is : (i : Instance) (d : Digests) (v w : List (List ℕ)) → state_after_moves (digest_level i) d (map Foreign v ++ (map Foreign w ++ []))
+pub seen_is : (i : Instance) (d : Digests) (v w : List (List ℕ)) → state_after_moves (digest_level i) d
+    (map Foreign v ++ (map Foreign w ++ []))
     ≡ state_after_moves (digest_level i) (state_after_moves (digest_level i) d (map Foreign v)) (map Foreign w)
 seen_is i d v w =
     state_after_moves-append i d (map Foreign v) (map Foreign w ++ [])
-    ∙ ap (λ (ms : List Move). state_after_moves (digest_level i) (state_after_moves (digest_level i) d (map Foreign v)) ms) (append-nil (map Foreign w))
+    ∙ ap (λ (ms : List Move). state_after_moves (digest_level i) (state_after_moves (digest_level i) d (map Foreign v)) ms)
+    (append-nil (map Foreign w))
 
 -- The changing steps
 
@@ -45,7 +48,8 @@ shows_placed : (flag : Bool) (i : Instance) (b : Batch) (items : List Item)
 shows_placed true i b items = refl
 shows_placed false i b items = refl
 
-pub change_emptied : (meaning : Meaning) (key barrier : List ℕ) (d : Digests) → IsChange (opt_instance meaning key barrier) d ResetRegister Reset
+pub change_emptied : (meaning : Meaning) (key barrier : List ℕ) (d : Digests) → IsChange (opt_instance meaning key barrier) d
+    ResetRegister Reset
 change_emptied meaning key barrier d =
     record { cell = λ r. refl; register = λ r. refl; shows = shows_reset d.flag (opt_instance meaning key barrier) }
 
@@ -88,7 +92,8 @@ same_number n = grind (arith, nat_tests)
 
 -- the cell that is found
 pub seen_cell : (meaning : Meaning) (key barrier : List ℕ) (d : Digests) (old : Standing) (found : Result Cell Refusal)
-    → CellSays old (λ bytes. SeesCell meaning.id bytes found) → StandsAt (opt_instance meaning key barrier) old d → found ≡ Ok (cell_at (opt_instance meaning key barrier) d)
+    → CellSays old (λ bytes. SeesCell meaning.id bytes found) → StandsAt (opt_instance meaning key barrier) old d
+    → found ≡ Ok (cell_at (opt_instance meaning key barrier) d)
 seen_cell meaning key barrier d old found f s =
     let i : Instance = opt_instance meaning key barrier in
     let same : f.said.read ≡ Ok (cell_at i d) =
@@ -102,10 +107,12 @@ read_value None r register e h = cc
 read_value (Some xs) r register e h = let f : register_after (item_values xs) ≡ r = cc in h xs refl ∙ f
 
 pub read_is : (meaning : Meaning) (key barrier : List ℕ) (d : Digests) (old one two : Standing) (fault : Option StepFault)
-    (r : StepGoes ReadCell old one None) (g : StepGoes ReadRegister one two fault) (register : List ℕ) → StandsAt (opt_instance meaning key barrier) old d
+    (r : StepGoes ReadCell old one None) (g : StepGoes ReadRegister one two fault) (register : List ℕ)
+    → StandsAt (opt_instance meaning key barrier) old d
     → ((xs : List Item) → two.items ≡ Some xs → register ≡ register_after (item_values xs))
     → register ≡ fold extended_digest_of (fold extended_digest_of d.register r.others) g.others
 read_is meaning key barrier d old one two fault r g register s told =
     let before : List ℕ = fold extended_digest_of d.register r.others in
-    read_value two.items (fold extended_digest_of before g.others) register (ap register_of_items g.items ∙ reads_beside one.items g.others before
+    read_value two.items (fold extended_digest_of before g.others) register
+    (ap register_of_items g.items ∙ reads_beside one.items g.others before
     (ap register_of_items r.items ∙ reads_beside old.items r.others d.register s.reads)) told

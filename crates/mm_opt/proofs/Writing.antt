@@ -2,7 +2,8 @@
 use Rattle.mm_opt.proofs.Below.{◌≡◌, ℕ, true, false, List, Some, Result, Ok, Err, refl, sym, ap, ◌∙◌, inl, inr, next_count, Standing}
 use Rattle.mm_opt.proofs.Below.{Meaning, Batch, Cell, CellFault, IsCell, cell_spelling, reads_cell-same, is_long, BatchAnswer, Refusal}
 use Rattle.mm_opt.proofs.Below.{Long}
-use Rattle.mm_opt.proofs.Below.{AskResult, goes_on, breaks_off, AreStepsToEnd, IsCallToEnd, IsWholeCall, result_of, each_call, answered_result, BatchFinding, Repeat, Change, Extending, Emptying}
+use Rattle.mm_opt.proofs.Below.{AskResult, goes_on, breaks_off, AreStepsToEnd, IsCallToEnd, IsWholeCall, result_of, each_call}
+use Rattle.mm_opt.proofs.Below.{answered_result, BatchFinding, Repeat, Change, Extending, Emptying}
 use Rattle.mm_opt.proofs.Below.{remaining_acts, is_cell_of, cell_in, acts_for, answer_in, opt_call, Opt, StepsAre}
 use Rattle.mm_opt.proofs.Below.{three_steps, four_steps, five_steps, StepsRefused, StepsBy, WritesByFlag}
 use Rattle.mm_machine.specs.declared.change.Change as change
@@ -48,7 +49,8 @@ module _ (meaning : Meaning) (b : Batch) (old two new : Standing) (cell : Cell) 
       let clash : false ≡ true = sym clear ∙ ap (λ (x : Cell). x.flag) (told c is at) ∙ set in cc
 
   change_counted : (change : change.Change) (answer : BatchAnswer)
-      → Made meaning cell b (Change (record { change = change; answer = answer })) → AreStepsToEnd (remaining_acts change) answer two new ended
+      → Made meaning cell b (Change (record { change = change; answer = answer })) → AreStepsToEnd (remaining_acts change)
+      answer two new ended
       → Counted old new (result_of ended)
   change_counted (Extending value) answer m (breaks_off fault g e) =
       rw e (quiet (Device fault) old new (three_steps (g.steps ∙ ap next_count t.0, g.writes ∙ t.1)) (g.writes ∙ t.1))
@@ -69,7 +71,8 @@ module _ (meaning : Meaning) (b : Batch) (old two new : Standing) (cell : Cell) 
       (h.writes ∙ g.writes ∙ t.1))
   change_counted (Emptying opening) answer m (goes_on third g (goes_on fourth h (breaks_off fault k e))) =
       let five : StepsAre 5 1 old new =
-      (k.steps ∙ ap next_count (h.steps ∙ ap next_count (g.steps ∙ ap next_count t.0)), k.writes ∙ ap next_count (h.writes ∙ g.writes ∙ t.1)) in
+      (k.steps ∙ ap next_count (h.steps ∙ ap next_count (g.steps ∙ ap next_count t.0)), k.writes
+      ∙ ap next_count (h.writes ∙ g.writes ∙ t.1)) in
       rw e (
         five_steps five,
         record {
@@ -80,7 +83,8 @@ module _ (meaning : Meaning) (b : Batch) (old two new : Standing) (cell : Cell) 
       )
   change_counted (Emptying opening) answer m (goes_on third g (goes_on fourth h (goes_on last k s))) =
       let five : StepsAre 5 1 old last =
-      (k.steps ∙ ap next_count (h.steps ∙ ap next_count (g.steps ∙ ap next_count t.0)), k.writes ∙ ap next_count (h.writes ∙ g.writes ∙ t.1)) in
+      (k.steps ∙ ap next_count (h.steps ∙ ap next_count (g.steps ∙ ap next_count t.0)), k.writes
+      ∙ ap next_count (h.writes ∙ g.writes ∙ t.1)) in
       answered_result (Counted old) answer last new ended s (
         rw m.shape (inr five),
         record {

@@ -61,7 +61,8 @@ abbrev pub finding_in_offer : Meaning → Cell → List ℕ → Result Snapshot 
 finding_in_offer meaning cell register (Err Form) b = Err refusal.Form
 finding_in_offer meaning cell register (Err Kind) b = Err refusal.Kind
 finding_in_offer meaning cell register (Ok offered) b =
-    finding_from (check_of_offer meaning cell.key offered b (verdict_of cell register offered b)) cell
+    finding_from (check_of_offer meaning cell.key offered b (verdict_of cell register offered b))
+    cell
     (batch_value cell b)
     (answer_of meaning cell register offered.content b)
 

@@ -5,6 +5,7 @@ use Rattle.mm_opt.specs.Below.{Standing, Batch, Meaning, BatchAnswer, Refusal}
 use Rattle.mm_opt.specs.OptCall.{opt_call}
 
 -- One call over a platform, that offered these bytes and asked for the batch.
-abbrev pub OptAskPromise : Meaning → Standing → Standing → List ℕ → Batch → Result BatchAnswer Refusal
+abbrev pub OptAskPromise : Meaning → Standing → Standing → List ℕ → Batch
+    → Result BatchAnswer Refusal
     → Type 0
 OptAskPromise = AskPromise opt_call

@@ -28,7 +28,8 @@ pub use Rattle.mm_model.specs.declared.verdict.Verdict.{Verdict}
 pub use Rattle.mm_call.specs.Answers.{answer_at}
 pub use Rattle.mm_call.specs.CallPremises.{IsWithin}
 pub use Rattle.mm_call.specs.CallKind.{CallKind}
-pub use Rattle.mm_call.specs.Checkpoints.{CheckpointOutcome, Closes, CheckpointEnding, HasNone, IsClosedWithin, LostPower, NoSegment, Stops, checkpoint_outcome}
+pub use Rattle.mm_call.specs.Checkpoints.{CheckpointOutcome, Closes, CheckpointEnding, HasNone, IsClosedWithin, LostPower, NoSegment, Stops}
+pub use Rattle.mm_call.specs.Checkpoints.{checkpoint_outcome}
 pub use Rattle.mm_call.specs.Courses.{AreTold, Course}
 pub use Rattle.mm_call.specs.EndedCall.{StaysPlanned}
 pub use Rattle.mm_call.specs.Untouched.{CountsHandedFault, IsUntouched}

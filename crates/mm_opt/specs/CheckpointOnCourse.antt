@@ -1,8 +1,10 @@
 -- That a checkpoint over a platform is the checkpoint on some course, by digests and by lists.
 use Rattle.std.specs.Prelude.{◌≡◌, ℕ, List, Result, Ok, Err, is_some}
 use Rattle.std.specs.Option.{option_map}
-use Rattle.mm_opt.specs.Below.{Variant, Standing, Batch, Meaning, History, Instance, Digests, digests_of, StandsFor, IsWithin, CheckpointEnding}
-use Rattle.mm_opt.specs.Below.{Closes, HasNone, NoSegment, LostPower, Stops, CheckpointOutcome, checkpoint_outcome, IsClosedWithin, Course, AreTold}
+use Rattle.mm_opt.specs.Below.{Variant, Standing, Batch, Meaning, History, Instance, Digests, digests_of, StandsFor, IsWithin}
+use Rattle.mm_opt.specs.Below.{CheckpointEnding}
+use Rattle.mm_opt.specs.Below.{Closes, HasNone, NoSegment, LostPower, Stops, CheckpointOutcome, checkpoint_outcome, IsClosedWithin, Course}
+use Rattle.mm_opt.specs.Below.{AreTold}
 use Rattle.mm_opt.specs.Below.{StaysPlanned, list_level, digest_level, instance_by, StandsAt, items_after_moves, count_after_more}
 use Rattle.mm_opt.specs.declared.segment.Checkpointed.{Checkpointed as Said}
 use Rattle.mm_opt.specs.declared.segment.Checkpointed.TheVariants as said
@@ -21,7 +23,8 @@ checkpoint_result (Stops fault closed) = Err (refusal.Device fault)
 -- The checkpoint over a platform that stood at these digests was this one: its result; the cell and
 -- the register; what the register shows of its moves; and its steps, and those of them that write
 -- the cell.
-pub record CheckpointGoesBy (i : Instance) (d : Digests) (o : CheckpointOutcome Digests) (old new : Standing)
+pub record CheckpointGoesBy (i : Instance) (d : Digests) (o : CheckpointOutcome Digests)
+    (old new : Standing)
     (result : Result Said CheckpointRefusal) : Type 0 where
   pub gives : result ≡ checkpoint_result o.ending
   pub stands : StandsAt i new o.state
@@ -41,7 +44,8 @@ pub record CheckpointContinues (all others : List (List ℕ)) (asked : List Batc
 -- A checkpoint over a platform: there is a course, which is that of the plan where one is told, on
 -- which it goes from any digests that the platform stands at, and from any history that it stands
 -- for, in either variant. Under a plan the platform stays on, unless the checkpoint was cut.
-pub record IsCheckpointOnCourse (old new : Standing) (result : Result Said CheckpointRefusal) : Type 0 where
+pub record IsCheckpointOnCourse (old new : Standing)
+    (result : Result Said CheckpointRefusal) : Type 0 where
   pub course : Course
   pub tells : AreTold old course.fates
   pub goes : (variant : Variant) (meaning : Meaning) (key barrier : List ℕ) (d : Digests) →

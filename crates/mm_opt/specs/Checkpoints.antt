@@ -48,7 +48,8 @@ pub record FindsSegment (old : Standing) (found : Result Segment CheckpointRefus
   pub sees : SeesSegment bytes found
 
 -- The first step, and what is found where it doesn't fail.
-pub record LooksAtSegment (old new : Standing) (found : Result Segment CheckpointRefusal) : Type 0 where
+pub record LooksAtSegment (old new : Standing) (found : Result Segment CheckpointRefusal) : Type 0
+    where
   pub goes : StepGoes ReadCell old new (closing_fault_in found)
   pub finds : closing_fault_in found ≡ None → FindsSegment old found
 
@@ -91,7 +92,8 @@ pub record WritesClosing (next : List ℕ) (old new : Standing)
   pub gives : IfOk written (λ it. it ≡ Done)
 
 -- a device's fault is handed on as it is
-abbrev pub result_of_closing_write : Result Checkpointed StepFault → Result Checkpointed CheckpointRefusal
+abbrev pub result_of_closing_write : Result Checkpointed StepFault
+    → Result Checkpointed CheckpointRefusal
 result_of_closing_write (Ok it) = Ok it
 result_of_closing_write (Err fault) = Err (refusal.Device fault)
 

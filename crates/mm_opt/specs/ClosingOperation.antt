@@ -56,7 +56,8 @@ IsClosing _ = Unit {0}
 
 -- what is told of how the machine ended: a device's fault is handed on; and memory never lacks, as
 -- a checkpoint extends nothing
-abbrev pub result_of_end : OpResult Checkpointed CheckpointRefusal → Result Checkpointed CheckpointRefusal
+abbrev pub result_of_end : OpResult Checkpointed CheckpointRefusal
+    → Result Checkpointed CheckpointRefusal
 result_of_end (ended.Answered it) = Ok it
 result_of_end (ended.Refused why) = Err why
 result_of_end (ended.Broken fault commits) = Err (refusal.Device fault)

@@ -52,7 +52,8 @@ pub fn prepare<M: Module, P: Platform>(
         CallReads (opt_operation (M.meaning «module».now) offer.now (One request.now))
         (P.standing platform.old) (P.standing platform.new) result }
     ensures goes { is_long (One request.now) ≡ false →
-        IsCallSoFar opt_call (M.meaning «module».now) (P.standing platform.old) (P.standing platform.new)
+        IsCallSoFar opt_call (M.meaning «module».now) (P.standing platform.old)
+        (P.standing platform.new)
         offer.now (One request.now) result }
     ensures room { LeavesRoom result (P.standing platform.new) }
     ensures faults { CountsHandedFault (fault_in result)

@@ -2,7 +2,8 @@
 -- snapshot is issued.
 use Rattle.mm_outcome.proofs.Below.{found_with_tells, unless_lost, bytes_eq, tag_of, position_if_committed, has_commit}
 use Rattle.mm_outcome.proofs.Parts.{broken_reply}
-use Rattle.mm_outcome.proofs.Below.{◌≡◌, ℕ, ◌+◌, ◌≤◌, Bool, true, false, List, [], ◌∷◌, ◌++◌, length, IsTrue, Option, None, Some, Result, Ok}
+use Rattle.mm_outcome.proofs.Below.{◌≡◌, ℕ, ◌+◌, ◌≤◌, Bool, true, false, List, [], ◌∷◌, ◌++◌, length, IsTrue, Option, None, Some, Result}
+use Rattle.mm_outcome.proofs.Below.{Ok}
 use Rattle.mm_outcome.proofs.Below.{Err, refl, sym, ap, subst, arith, length-append, All, nat_tests}
 use Rattle.mm_outcome.proofs.Below.{All-nil, All-cons, last_position, longest_request, most_members, Variant, Basic, Opt, Meaning, IsLawful}
 use Rattle.mm_outcome.proofs.Below.{outputs_from, length-outputs_from, Batch, members_of, size_of, normal_batch, members_of-normal}
@@ -50,7 +51,8 @@ walk_sizes b fresh w (batch one is) = omega (arith, ap sizes_of one)
 called_few : (i : Instance) (d : Digests) (c : Course) (bytes : List ℕ) (b : Batch)
     → (call_outcome i (digest_level i) d c bytes b).state.count ≤ d.count + size_of b
 called_few i d c bytes b =
-    let fresh : Bool = is_fresh (finding_unless_wanting (finding_at i (digest_level i) (state_seen i (digest_level i) d c) b bytes) c.lacks) in
+    let fresh : Bool = is_fresh (finding_unless_wanting (finding_at i (digest_level i) (state_seen i (digest_level i) d c) b bytes)
+        c.lacks) in
     let w : StepsWalk = walk c.fates 1 (ask_steps i.variant d.flag fresh b) in
     omega (arith, count-made i w.moves d, walk_sizes b fresh w (call_commits i.variant c.fates d.flag fresh b))
 

@@ -1,15 +1,25 @@
 -- In either variant, what is told by digests is what is expected.
-use Rattle.mm_outcome.proofs.Below.{ℕ, List, refl, sym, Contains, Meaning, Batch, Instance, basic_instance, History, Foreign, PowerMove, Move, history_after}
-use Rattle.mm_outcome.proofs.Below.{IsClear, reads_zero, IsPlain, IsWithin, agrees-moved, plain-moved, summary-nil, plain_outside, basic_same}
+use Rattle.mm_outcome.proofs.Below.{ℕ, List, refl, sym, Contains, Meaning, Batch, Instance, basic_instance, History, Foreign, PowerMove}
+use Rattle.mm_outcome.proofs.Below.{Move, history_after}
+use Rattle.mm_outcome.proofs.Below.{IsClear, reads_zero, IsPlain, IsWithin, agrees-moved, plain-moved, summary-nil, plain_outside}
+use Rattle.mm_outcome.proofs.Below.{basic_same}
 use Rattle.mm_outcome.proofs.Below.{basic_checkpoint_same, course_of, EventsAgree, AreMessagesIn, history_messages, counted_part}
-use Rattle.mm_outcome.proofs.Below.{AllByRecursion, KeepsHistory, first_digests, first_history, start_message, Basic, ◌≡◌, ◌+◌, Bool, true, false}
-use Rattle.mm_outcome.proofs.Below.{cond, [], ◌∷◌, ◌++◌, map, ap, ◌∙◌, subst, ◌==◌, if◌then◌else◌, filter, append-nil, Opt, Meddle, opt_instance, Value}
-use Rattle.mm_outcome.proofs.Below.{Reset, AreNoGuards, Digests, digests_after, DeviceStep, Reads, Changes, Writes, ask_steps, checkpoint_steps, each_left}
-use Rattle.mm_outcome.proofs.Below.{each_right, each_append, sound_moved, outside_moved, first_sound, first_outside, list_level, state_after_moves}
-use Rattle.mm_outcome.proofs.Below.{finding_at, is_fresh, finding_unless_wanting, End, Done, Fails, StepFate, Course, StepsWalk, step_moves, walk_from_step}
-use Rattle.mm_outcome.proofs.Below.{walk, state_seen, counted_moves, moves_from_reset, messages_of_moves, foreign_move_values, anchor-nil, opt_agrees_moved}
-use Rattle.mm_outcome.proofs.Below.{foreign_may, power_may, power_brings, holds_moved, foreign_fine, asks, history_with_values, taking_is, messages-made}
-use Rattle.mm_outcome.proofs.Below.{foreign_move_values-append, foreign_move_values-foreign, foreign_move_values-first, moves_from_reset-foreign, AreOwn, own_asked, own_checked}
+use Rattle.mm_outcome.proofs.Below.{AllByRecursion, KeepsHistory, first_digests, first_history, start_message, Basic, ◌≡◌, ◌+◌, Bool, true}
+use Rattle.mm_outcome.proofs.Below.{false}
+use Rattle.mm_outcome.proofs.Below.{cond, [], ◌∷◌, ◌++◌, map, ap, ◌∙◌, subst, ◌==◌, if◌then◌else◌, filter, append-nil, Opt, Meddle}
+use Rattle.mm_outcome.proofs.Below.{opt_instance, Value}
+use Rattle.mm_outcome.proofs.Below.{Reset, AreNoGuards, Digests, digests_after, DeviceStep, Reads, Changes, Writes, ask_steps}
+use Rattle.mm_outcome.proofs.Below.{checkpoint_steps, each_left}
+use Rattle.mm_outcome.proofs.Below.{each_right, each_append, sound_moved, outside_moved, first_sound, first_outside, list_level}
+use Rattle.mm_outcome.proofs.Below.{state_after_moves}
+use Rattle.mm_outcome.proofs.Below.{finding_at, is_fresh, finding_unless_wanting, End, Done, Fails, StepFate, Course, StepsWalk, step_moves}
+use Rattle.mm_outcome.proofs.Below.{walk_from_step}
+use Rattle.mm_outcome.proofs.Below.{walk, state_seen, counted_moves, moves_from_reset, messages_of_moves, foreign_move_values, anchor-nil}
+use Rattle.mm_outcome.proofs.Below.{opt_agrees_moved}
+use Rattle.mm_outcome.proofs.Below.{foreign_may, power_may, power_brings, holds_moved, foreign_fine, asks, history_with_values, taking_is}
+use Rattle.mm_outcome.proofs.Below.{messages-made}
+use Rattle.mm_outcome.proofs.Below.{foreign_move_values-append, foreign_move_values-foreign, foreign_move_values-first}
+use Rattle.mm_outcome.proofs.Below.{moves_from_reset-foreign, AreOwn, own_asked, own_checked}
 use Rattle.mm_outcome.proofs.Below.{Shape, still, reset, shape, bare, listed_bare, holds_open, within_of, within_items, reset_messages}
 use Rattle.mm_outcome.proofs.Below.{opt_calls_agree_by_lists, read_moves, opt_checkpoints_agree_by_lists}
 use Rattle.mm_call.specs.MoveLaws.{IsBasicMove}
@@ -78,12 +88,14 @@ due_outside others (m ∷ meddles) h n =
 
 -- what others put in among the moves of a walk is what comes before its steps
 
-step_brings : (step : DeviceStep) (made : Bool) (values : List (List ℕ)) → AreOwn (step ∷ []) → foreign_move_values (step_moves step made values) ≡ values
+step_brings : (step : DeviceStep) (made : Bool) (values : List (List ℕ)) → AreOwn (step ∷ [])
+    → foreign_move_values (step_moves step made values) ≡ values
 step_brings Reads made values own = foreign_move_values-foreign values
 step_brings (Changes m) true values own = foreign_move_values-first values (m ∷ []) ∙ ap (λ w. values ++ w) own.0 ∙ append-nil values
 step_brings (Changes m) false values own = foreign_move_values-first values [] ∙ append-nil values
 step_brings (Writes m) true values own =
-    foreign_move_values-append (m ∷ []) (map Foreign values) ∙ ap (λ w. w ++ foreign_move_values (map Foreign values)) own.0 ∙ foreign_move_values-foreign values
+    foreign_move_values-append (m ∷ []) (map Foreign values) ∙ ap (λ w. w ++ foreign_move_values (map Foreign values)) own.0
+    ∙ foreign_move_values-foreign values
 step_brings (Writes m) false values own = foreign_move_values-foreign values
 
 module _ (others : List (List ℕ)) where
@@ -133,10 +145,12 @@ module _ (meaning : Meaning) (key barrier : List ℕ) (all others : List (List �
       let back = each_right (Contains all) (messages_of_moves I y (map Foreign values))
       (messages_of_moves I (state_after_moves (list_level I) y (map Foreign values)) (Reset ∷ rest))
       (subst W (messages-made I (map Foreign values) (Reset ∷ rest) y) listed.0) in
-      let after : Within (messages_of_moves I (bare y) rest) all = each_right (Contains all) (move_messages I (history_with_values y values) Reset)
+      let after : Within (messages_of_moves I (bare y) rest) all =
+          each_right (Contains all) (move_messages I (history_with_values y values) Reset)
       (messages_of_moves I (bare y) rest) (subst (λ z. Within (messages_of_moves I z (Reset ∷ rest)) all) (taking_is I values y) back) in
       subst (AreListed (bare y)) (sym (moves_from_reset-foreign values (Reset ∷ rest))) (
-        subst (λ w. Within (w ++ messages_of_moves I (bare y) rest) all) (sym (reset_messages meaning key barrier (bare y) y.is_open)) after,
+        subst (λ w. Within (w ++ messages_of_moves I (bare y) rest) all) (sym (reset_messages meaning key barrier (bare y) y.is_open))
+        after,
         each_right (Contains others) values (foreign_move_values rest)
             (subst (AllByRecursion (Contains others)) (foreign_move_values-first values (Reset ∷ rest)) listed.1),
       )
@@ -204,7 +218,8 @@ module _ (meaning : Meaning) (key barrier : List ℕ) (all others : List (List �
   opt_gives clear apart = record {
     calls = λ y d stop meddles bytes b k a.
         let c : Course = course_of stop meddles in
-        let fresh : Bool = is_fresh (finding_unless_wanting (finding_at i (list_level i) (state_seen i (list_level i) y c) b bytes) c.lacks) in
+        let fresh : Bool = is_fresh
+            (finding_unless_wanting (finding_at i (list_level i) (state_seen i (list_level i) y c) b bytes) c.lacks) in
         let among = walk_among others c.fates (ask_steps Opt y.is_open fresh b) 1 (own_asked y.is_open fresh b)
         (λ n. due_outside others meddles a.outside n) in
         let counts = call_counted meaning key barrier all others y c.fates y.is_open fresh b (a.messages, among) in

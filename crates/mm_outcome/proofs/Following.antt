@@ -1,15 +1,19 @@
 -- A schedule gives the same by digests as by lists: one induction over events, for both variants.
 use Rattle.mm_outcome.proofs.Below.{ℕ, ◌+◌, Bool, true, false, List, [], ◌∷◌, ◌++◌, map, Option, None, Some, refl, sym, ap, subst}
 use Rattle.mm_outcome.proofs.Below.{if◌then◌else◌, AllByRecursion, Contains, Meddle, Stop, Batch, normal_batch, Instance, History, Foreign}
-use Rattle.mm_outcome.proofs.Below.{PowerMove, history_after, is_long, AreMessagesIn, Digests, digests_after, IsGenuine, each_left, each_right, list_level, digest_level}
+use Rattle.mm_outcome.proofs.Below.{PowerMove, history_after, is_long, AreMessagesIn, Digests, digests_after, IsGenuine, each_left}
+use Rattle.mm_outcome.proofs.Below.{each_right, list_level, digest_level}
 use Rattle.mm_outcome.proofs.Below.{state_after_moves, right_content, CallOutcome, call_outcome, CheckpointOutcome, checkpoint_outcome}
-use Rattle.mm_outcome.proofs.Below.{IsSameCheckpoint, messages_of_moves, right_messages, IsSameCall, Event, Ask, Checkpoint, Power, Extend, Reply}
+use Rattle.mm_outcome.proofs.Below.{IsSameCheckpoint, messages_of_moves, right_messages, IsSameCall, Event, Ask, Checkpoint, Power, Extend}
+use Rattle.mm_outcome.proofs.Below.{Reply}
 use Rattle.mm_outcome.proofs.Below.{offered_bytes, Outcome, way_of, course_of, reply_of, snapshots_of, outcome_by}
-use Rattle.mm_outcome.proofs.Below.{outcome_without_call, ask_event_outcome, closing_reply, checkpoint_event_outcome, event_outcome, outcome_of_events, moves_of}
+use Rattle.mm_outcome.proofs.Below.{outcome_without_call, ask_event_outcome, closing_reply, checkpoint_event_outcome, event_outcome}
+use Rattle.mm_outcome.proofs.Below.{outcome_of_events, moves_of}
 use Rattle.mm_outcome.proofs.Below.{event_messages, messages_from, event_foreign_values, batches_of, AreGenuine}
 use Rattle.mm_outcome.proofs.Below.{foreign_values, asked_batches, IsGenuineOffer, AgreesThroughout, KeepsHistory, IsSameOutcome}
 use Rattle.mm_outcome.proofs.Parts.{ask_moves, asking_messages}
-use Rattle.mm_outcome.proofs.Below.{start_message, first_history, first_digests, first_issued, run_messages, outcome_by_lists, outcome_by_digests}
+use Rattle.mm_outcome.proofs.Below.{start_message, first_history, first_digests, first_issued, run_messages, outcome_by_lists}
+use Rattle.mm_outcome.proofs.Below.{outcome_by_digests}
 use Rattle.mm_outcome.proofs.Below.{IsGenuineRun, each_self}
 use Rattle.mm_outcome.specs.OneEvent.{IsEventWithin}
 use Rattle.mm_outcome.proofs.Below.{Move}
@@ -42,7 +46,8 @@ pub record Variants (all others : List (List ℕ)) (asked_for : List Batch) (i :
   pub power : (y : History) (d : Digests) → KeepsHistory all others asked_for i y d
       → KeepsHistory all others asked_for i (history_after i y PowerMove) (digests_after i d PowerMove)
   pub foreign : (y : History) (d : Digests) (v : List ℕ) → KeepsHistory all others asked_for i y d → Contains others v
-      → Within (messages_of_moves i y (Foreign v ∷ [])) all → KeepsHistory all others asked_for i (history_after i y (Foreign v)) (digests_after i d (Foreign v))
+      → Within (messages_of_moves i y (Foreign v ∷ [])) all → KeepsHistory all others asked_for i (history_after i y (Foreign v))
+      (digests_after i d (Foreign v))
   pub starts : Contains all (start_message i.variant i.meaning.id) → KeepsHistory all others asked_for i first_history (first_digests i)
 
 module _ (all others : List (List ℕ)) (asked_for : List Batch) (i : Instance) (v : Variants all others asked_for i) where
@@ -55,7 +60,8 @@ module _ (all others : List (List ℕ)) (asked_for : List Batch) (i : Instance) 
   abbrev Then : History → Digests → List Move → Type 0
   Then y d moves = Kept (state_after_moves (list_level i) y moves) (state_after_moves (digest_level i) d moves)
 
-  outcome_same : (stop : Stop) (issued : List (List ℕ)) (o : CallOutcome History) (p : CallOutcome Digests) → IsSameCall all others asked_for i o p
+  outcome_same : (stop : Stop) (issued : List (List ℕ)) (o : CallOutcome History) (p : CallOutcome Digests)
+      → IsSameCall all others asked_for i o p
       → Same (outcome_by (list_level i) stop issued o) (outcome_by (digest_level i) stop issued p)
   outcome_same stop issued o p s =
       let k : Kept o.state p.state = record { agrees = s.agrees; within = s.within } in record {
@@ -102,7 +108,8 @@ module _ (all others : List (List ℕ)) (asked_for : List Batch) (i : Instance) 
       (b : Batch) → Kept y d → AllByRecursion (Contains others) (map (λ m. m.value.bytes) meddles)
       → AllByRecursion (Contains asked_for) (if is_long b then [] else normal_batch b ∷ []) → Within (asking_messages i bytes b) all
       → IsGenuineOffer i y bytes → Within (messages_of_moves i y (ask_moves i y meddles stop bytes b)) all
-      → Same (ask_event_outcome i (list_level i) y issued meddles stop bytes b) (ask_event_outcome i (digest_level i) d issued meddles stop bytes b)
+      → Same (ask_event_outcome i (list_level i) y issued meddles stop bytes b)
+      (ask_event_outcome i (digest_level i) d issued meddles stop bytes b)
   offered_same y d issued meddles stop None b k outside batches listed genuine messages =
       uncalled_same y d issued (reply.No cause.Snapshot) k
   offered_same y d issued meddles stop (Some bytes) b k outside batches listed genuine messages =
@@ -142,7 +149,8 @@ module _ (all others : List (List ℕ)) (asked_for : List Batch) (i : Instance) 
       (each_right (Contains others) (event_foreign_values event) (foreign_values events) outside)
       (each_right (Contains asked_for) (batches_of event) (asked_batches events) among) back genuine.1 in
       let P : List (List ℕ)
-      → Type 0 = λ w. AgreesThroughout i (outcome_of_events i (list_level i) o.state o.issued events) (outcome_of_events i (digest_level i) p.state w events) in
+      → Type 0 = λ w. AgreesThroughout i (outcome_of_events i (list_level i) o.state o.issued events)
+      (outcome_of_events i (digest_level i) p.state w events) in
       let later = subst P (sym same.issued) rest in
       record {
         replies = λ j. same.reply j ∷ later.replies j;

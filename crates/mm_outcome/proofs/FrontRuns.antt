@@ -1,8 +1,11 @@
 -- A schedule goes on from what stands after its first events; and each first part of it is one run, where it meets the premises.
-use Rattle.mm_outcome.proofs.Below.{ℕ, ◌+◌, ◌≡◌, List, [], ◌∷◌, ◌++◌, refl, sym, ap, ◌∙◌, add_assoc, zero-add, append_assoc, Instance, History}
+use Rattle.mm_outcome.proofs.Below.{ℕ, ◌+◌, ◌≡◌, List, [], ◌∷◌, ◌++◌, refl, sym, ap, ◌∙◌, add_assoc, zero-add, append_assoc, Instance}
+use Rattle.mm_outcome.proofs.Below.{History}
 use Rattle.mm_outcome.proofs.Below.{Event, Level, list_level, Outcome, event_outcome, RunOutcome, outcome_of_events, messages_of_moves}
-use Rattle.mm_outcome.proofs.Below.{event_messages, moves_of, messages_from, outcome_joined_to, subst, Contains-append_left, Contains, flat_map}
-use Rattle.mm_outcome.proofs.Below.{digest_level, start_message, Variant, instance_by, Meaning, first_history, requests_of, IsClear, IsEventRun, Reply}
+use Rattle.mm_outcome.proofs.Below.{event_messages, moves_of, messages_from, outcome_joined_to, subst, Contains-append_left, Contains}
+use Rattle.mm_outcome.proofs.Below.{flat_map}
+use Rattle.mm_outcome.proofs.Below.{digest_level, start_message, Variant, instance_by, Meaning, first_history, requests_of, IsClear}
+use Rattle.mm_outcome.proofs.Below.{IsEventRun, Reply}
 use Rattle.mm_outcome.proofs.Below.{outcome_by_lists}
 use Rattle.mm_outcome.proofs.Below.{outcome_by_digests, first_digests, first_issued, AreGenuine, IsClearRun, IsGenuineRun}
 use Rattle.mm_outcome.proofs.Below.{batches_of, event_foreign_values, run_messages, each_left, each_self}
@@ -31,7 +34,8 @@ followed_by o rest = record {
   writes = o.writes + rest.writes;
 }
 
-event_first : {S : Type 0} (o : Outcome S) (f g : RunOutcome S) → followed_by o (outcome_joined_to f g) ≡ outcome_joined_to (followed_by o f) g
+event_first : {S : Type 0} (o : Outcome S) (f g : RunOutcome S) → followed_by o (outcome_joined_to f g) ≡ outcome_joined_to
+    (followed_by o f) g
 event_first o f g = λ j. record {
   state = g.state;
   issued = g.issued;
@@ -89,7 +93,8 @@ clear_fronts i front later c =
       clear = clear_within (some ++ more) some (subst IsClear (ap (λ (ms : List (List ℕ)). start_message i.variant i.meaning.id ∷ ms)
           (messages-append i front later first_history (first_issued i))) c.clear)
           (each_left (Contains (some ++ more)) some more (each_self [] (some ++ more)));
-      apart = λ is d b value batch. c.apart is d b (first_of_all event_foreign_values front later d value) (first_of_all batches_of front later b
+      apart = λ is d b value batch. c.apart is d b (first_of_all event_foreign_values front later d value)
+          (first_of_all batches_of front later b
           batch);
     }
 

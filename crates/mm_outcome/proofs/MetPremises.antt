@@ -1,17 +1,25 @@
 -- The premises of the laws are met: by a run of one request in Basic, and by one of three in Opt, with a segment closed between them.
 use Rattle.mm_outcome.proofs.Below.{ℕ, ◌≡◌, Bool, true, false, List, [], ◌∷◌, ◌++◌, refl, subst, arith, Contains, Basic, Opt}
-use Rattle.mm_outcome.proofs.Below.{Batch, counter, counter_is_lawful, Meaning, link_message, Instance, basic_instance, opt_instance, History}
-use Rattle.mm_outcome.proofs.Below.{first_history, AreMessagesIn, offer_messages, NamesPosition, anchor_after, content_of_issue, IsGenuine, issued_bytes}
+use Rattle.mm_outcome.proofs.Below.{Batch, counter, counter_is_lawful, Meaning, link_message, Instance, basic_instance, opt_instance}
+use Rattle.mm_outcome.proofs.Below.{History}
+use Rattle.mm_outcome.proofs.Below.{first_history, AreMessagesIn, offer_messages, NamesPosition, anchor_after, content_of_issue, IsGenuine}
+use Rattle.mm_outcome.proofs.Below.{issued_bytes}
 use Rattle.mm_outcome.proofs.Below.{ask_steps, each_append, basic_issued, Quiet, Content, IsContent, finding_at, right_content}
-use Rattle.mm_outcome.proofs.Below.{finding_unless_wanting, is_fresh, one_ask, course_of, list_level, parts_of, right_messages, messages_of_moves}
+use Rattle.mm_outcome.proofs.Below.{finding_unless_wanting, is_fresh, one_ask, course_of, list_level, parts_of, right_messages}
+use Rattle.mm_outcome.proofs.Below.{messages_of_moves}
 use Rattle.mm_outcome.proofs.Below.{IsClearRun, IsGenuineRun, run_messages, state_seen, walk, summary-nil, ◌≤◌, ◌+◌, nat_le, Ok, Err, sym}
 use Rattle.mm_outcome.proofs.Below.{ap, ◌∙◌, if◌then◌else◌, slice_index, bytes_eq, last_position, extended_message, anchored_message}
-use Rattle.mm_outcome.proofs.Below.{anchored_digest_of, size_of, IsLawful, state_after-is_spelled, Event, Ask, Checkpoint, Extend, Last, variant_of}
-use Rattle.mm_outcome.proofs.Below.{offered_snapshot_of, tag_of, InOpt, sealed_parts, guard, Own, Value, Move, Commit, Foreign, Placed, Reset, Close}
+use Rattle.mm_outcome.proofs.Below.{anchored_digest_of, size_of, IsLawful, state_after-is_spelled, Event, Ask, Checkpoint, Extend, Last}
+use Rattle.mm_outcome.proofs.Below.{variant_of}
+use Rattle.mm_outcome.proofs.Below.{offered_snapshot_of, tag_of, InOpt, sealed_parts, guard, Own, Value, Move, Commit, Foreign, Placed}
+use Rattle.mm_outcome.proofs.Below.{Reset, Close}
 use Rattle.mm_outcome.proofs.Below.{requests_of, total_of, verdict_on, life_of, is_lost, form_messages, issued_place, digest_of, Fresh}
-use Rattle.mm_outcome.proofs.Below.{first_sound, reads_zero, opt_issued, CallOutcome, call_outcome, call_outcome_with, CallFinding, finding_by_verdict, finding_with}
-use Rattle.mm_outcome.proofs.Below.{check_by_tests, Outcome, outcome_of_events, event_outcome, outcome_by, outcome_by_lists, first_issued, world_barrier, two_segments}
-use Rattle.mm_outcome.proofs.Below.{after_two_segments, moves_of, event_messages, messages_from, IsGenuineEvent, AreGenuine, each_at, Option}
+use Rattle.mm_outcome.proofs.Below.{first_sound, reads_zero, opt_issued, CallOutcome, call_outcome, call_outcome_with, CallFinding}
+use Rattle.mm_outcome.proofs.Below.{finding_by_verdict, finding_with}
+use Rattle.mm_outcome.proofs.Below.{check_by_tests, Outcome, outcome_of_events, event_outcome, outcome_by, outcome_by_lists, first_issued}
+use Rattle.mm_outcome.proofs.Below.{world_barrier, two_segments}
+use Rattle.mm_outcome.proofs.Below.{after_two_segments, moves_of, event_messages, messages_from, IsGenuineEvent, AreGenuine, each_at}
+use Rattle.mm_outcome.proofs.Below.{Option}
 use Rattle.mm_outcome.proofs.Below.{Some, offered_bytes, ask_event_outcome, IsGenuineOffer}
 use Rattle.mm_outcome.proofs.Parts.{ask_moves, asking_messages}
 use Rattle.mm_digest.specs.Messages.{start_digest_of, zero_bytes, extended_digest_of}
@@ -55,7 +63,8 @@ basic_met key =
     let found = finding_unless_wanting (finding_at i (list_level i) (state_seen i (list_level i) first_history (course_of Quiet [])) five
     (issued_bytes i first_history)) false in
     let heard = right_messages i five (right_content i (issued_bytes i first_history)) in
-    let made = messages_of_moves i first_history (walk (course_of Quiet []).fates 1 (ask_steps Basic false (is_fresh found) five)).moves in (
+    let made = messages_of_moves i first_history (walk (course_of Quiet []).fates 1 (ask_steps Basic false (is_fresh found) five)).moves in
+        (
       record {
         clear = clear_within all (run_messages i one_ask) basic_clear (
           basic_listed.0,
@@ -68,7 +77,8 @@ basic_met key =
       (is_genuine i first_history first_history formed (basic_issued counter key first_history), tt),
     )
 
-pub anchor_nil : (meaning : Meaning) (key barrier : List ℕ) → anchor_after (opt_instance meaning key barrier) [] ≡ start_digest_of Opt meaning.id
+pub anchor_nil : (meaning : Meaning) (key barrier : List ℕ) → anchor_after (opt_instance meaning key barrier) []
+    ≡ start_digest_of Opt meaning.id
 unfolding anchor_of
 anchor_nil meaning key barrier = refl
 
@@ -217,10 +227,12 @@ module _ (meaning : Meaning) (lawful : IsLawful meaning) (key barrier d : List �
   called_is : (offered y : History) → total_of offered.batches ≤ last_position → is_lost (life_of Opt y) ≡ false
       → verdict_on Opt y (total_of offered.batches) five ≡ Fresh → nat_le (total_of offered.batches + 1) last_position ≡ true
       → call_outcome here (list_level here) y (course_of Quiet []) (issued_bytes here offered) five ≡ call offered y
-  called_is offered y few live at fits = ap (λ f. call_outcome_with here (list_level here) y y (course_of Quiet []) five (finding_unless_wanting f
+  called_is offered y few live at fits =
+      ap (λ f. call_outcome_with here (list_level here) y y (course_of Quiet []) five (finding_unless_wanting f
       false))
       (found_fresh meaning key barrier y five (content_of_issue here offered) (issued_bytes here offered) live
-      (sealed_parts key (content_of_issue here offered) Opt meaning.id (opt_content meaning lawful key barrier offered few) (of_opt offered.is_open
+      (sealed_parts key (content_of_issue here offered) Opt meaning.id (opt_content meaning lawful key barrier offered few)
+      (of_opt offered.is_open
       offered) refl)
       (state_after-is_spelled meaning lawful (requests_of offered.batches)) at fits)
 
@@ -261,7 +273,8 @@ module _ (meaning : Meaning) (lawful : IsLawful meaning) (key barrier d : List �
   closed_met = met_first all here asked_twice issued_thrice (Checkpoint [] Quiet) (Extend d ∷ five_asked ∷ []) after_two_segments
       (event_outcome here (list_level here) asked_twice issued_thrice (Checkpoint [] Quiet)) (Close ∷ []) refl refl tt tt (closing_made, tt)
       (met_first all here closed_then issued_thrice (Extend d) (five_asked ∷ []) after_two_segments
-      (event_outcome here (list_level here) closed_then issued_thrice (Extend d)) (Foreign d ∷ []) refl refl tt tt (others_made, tt) last_met)
+      (event_outcome here (list_level here) closed_then issued_thrice (Extend d)) (Foreign d ∷ []) refl refl tt tt
+      (others_made, tt) last_met)
 
   -- the request inside the segment, and the one that opens it
   first_met : Met all here first_history (first_issued here) (events_with d) after_two_segments
@@ -296,7 +309,8 @@ segments_met key =
     )
 
 -- and its first request alone is a run that meets them
-pub opt_met : (key : List ℕ) → IsClearRun (opt_instance counter key world_barrier) one_ask × IsGenuineRun (opt_instance counter key world_barrier) one_ask
+pub opt_met : (key : List ℕ) → IsClearRun (opt_instance counter key world_barrier) one_ask
+    × IsGenuineRun (opt_instance counter key world_barrier) one_ask
 opt_met key =
     let i = opt_instance counter key world_barrier in
     let later : List Event = five_asked ∷ Checkpoint [] Quiet ∷ Extend ff_bytes ∷ five_asked ∷ [] in

@@ -2,15 +2,20 @@
 -- names one.
 use Rattle.mm_outcome.proofs.Below.{ℕ, ◌≡◌, Bool, true, false, List, [], ◌∷◌, Option, None, Some, Result, Ok, Err, refl, sym, ap, ◌∙◌}
 use Rattle.mm_outcome.proofs.Below.{AllByRecursion, Variant, Basic, Opt, Meaning, Batch, normal_batch, StepFault, Stop}
-use Rattle.mm_outcome.proofs.Below.{Instance, basic_instance, opt_instance, History, Move, Foreign, Close, PowerMove, history_after, first_history, items_of_all, life_of}
-use Rattle.mm_outcome.proofs.Below.{has_value, is_lost, IsSound, NamesPosition, content_issued, Content, DeviceStep, Reads, Writes, ask_steps}
+use Rattle.mm_outcome.proofs.Below.{Instance, basic_instance, opt_instance, History, Move, Foreign, Close, PowerMove, history_after}
+use Rattle.mm_outcome.proofs.Below.{first_history, items_of_all, life_of}
+use Rattle.mm_outcome.proofs.Below.{has_value, is_lost, IsSound, NamesPosition, content_issued, Content, DeviceStep, Reads, Writes}
+use Rattle.mm_outcome.proofs.Below.{ask_steps}
 use Rattle.mm_outcome.proofs.Below.{checkpoint_steps, Refusal, first_sound, sound_moved, basic_names, basic_issued, opt_names, opt_issued}
-use Rattle.mm_outcome.proofs.Below.{list_level, state_after_moves, CallFinding, finding_at, finding_unless_wanting, is_fresh, StepFate, Course, StepsWalk, walk, has_close}
+use Rattle.mm_outcome.proofs.Below.{list_level, state_after_moves, CallFinding, finding_at, finding_unless_wanting, is_fresh, StepFate}
+use Rattle.mm_outcome.proofs.Below.{Course, StepsWalk, walk, has_close}
 use Rattle.mm_outcome.proofs.Below.{CallOutcome, state_seen, call_ending_by, call_outcome, CheckpointOutcome}
-use Rattle.mm_outcome.proofs.Below.{checkpoint_outcome, foreign_move_values, not_lost, live_found, foreign_fine, power_fine, ready_closing, before, sight}
+use Rattle.mm_outcome.proofs.Below.{checkpoint_outcome, foreign_move_values, not_lost, live_found, foreign_fine, power_fine, ready_closing}
+use Rattle.mm_outcome.proofs.Below.{before, sight}
 use Rattle.mm_outcome.proofs.Below.{sight_is, Ready, walk_fine, asks, unlacked, opt_closes, closed_kept, AllMay, may_of, first_in}
 use Rattle.mm_outcome.proofs.Below.{ask_may, each_self, each_append, Event, Outcome}
-use Rattle.mm_outcome.proofs.Below.{course_of, snapshots_of, moves_after_call, outcome_by, moves_after_checkpoint, event_outcome, RunOutcome, outcome_of_events}
+use Rattle.mm_outcome.proofs.Below.{course_of, snapshots_of, moves_after_call, outcome_by, moves_after_checkpoint, event_outcome}
+use Rattle.mm_outcome.proofs.Below.{RunOutcome, outcome_of_events}
 use Rattle.mm_outcome.proofs.Below.{first_issued, IsIssued, IssuedNamePositions, IsSoundIn, KeepsNames, EventsKeepNames}
 use Rattle.mm_outcome.proofs.Below.{AreOwn, instance_by, zero_bytes}
 use Rattle.mm_outcome.proofs.EachWay.{in_any_way, then_all, closing_all}
@@ -32,7 +37,8 @@ none_may : (variant : Variant) (i : Instance) (y : History) → MayIn variant i 
 none_may Basic i y = tt
 none_may Opt i y = tt
 
-each_issued : (i : Instance) (y z : History) → ((content : Content) → NamesPosition i y content → NamesPosition i z content) → (xs : List (List ℕ))
+each_issued : (i : Instance) (y z : History) → ((content : Content) → NamesPosition i y content → NamesPosition i z content)
+    → (xs : List (List ℕ))
     → AllByRecursion (IsIssued i y) xs → AllByRecursion (IsIssued i z) xs
 each_issued i y z go [] h = tt
 each_issued i y z go (x ∷ xs) h =
@@ -43,7 +49,8 @@ each_issued i y z go (x ∷ xs) h =
 pub record Keeping (i : Instance) : Type 0 where
   pub made : (moves : List Move) (y : History) → IsSoundIn i.variant y → MayIn i.variant i y moves
       → Lasts i y (state_after_moves (list_level i) y moves)
-  pub call_may : (y : History) (c : Course) (bytes : List ℕ) (b : Batch) → MayIn i.variant i y (call_outcome i (list_level i) y c bytes b).moves
+  pub call_may : (y : History) (c : Course) (bytes : List ℕ) (b : Batch)
+      → MayIn i.variant i y (call_outcome i (list_level i) y c bytes b).moves
   pub check_may : (y : History) (c : Course) → MayIn i.variant i y (checkpoint_outcome i (list_level i) y c).moves
   pub power_may : (y : History) → MayIn i.variant i y (PowerMove ∷ [])
   pub foreign_may : (y : History) (value : List ℕ) → MayIn i.variant i y (Foreign value ∷ [])
@@ -127,7 +134,8 @@ walk_may meaning key barrier fates steps y own ready =
 
 -- those of a checkpoint
 checkpoint_may : (meaning : Meaning) (key barrier : List ℕ) (y : History) (c : Course) (flag lost : Bool) → y.is_open ≡ flag
-    → is_lost (life_of Opt (sight y c)) ≡ lost → AllMay (opt_instance meaning key barrier) y (walk c.fates 1 (checkpoint_steps Opt flag lost)).moves
+    → is_lost (life_of Opt (sight y c)) ≡ lost → AllMay (opt_instance meaning key barrier) y
+    (walk c.fates 1 (checkpoint_steps Opt flag lost)).moves
 checkpoint_may meaning key barrier y c false lost e is = walk_may meaning key barrier c.fates (Reads ∷ []) y tt (λ others o. tt)
 checkpoint_may meaning key barrier y c true true e is = walk_may meaning key barrier c.fates (Reads ∷ Reads ∷ []) y tt (λ others o p. tt)
 checkpoint_may meaning key barrier y c true false e is =
@@ -164,7 +172,8 @@ module _ (meaning : Meaning) (key barrier : List ℕ) where
   opt_keeping = record {
     made = opt_made;
     call_may = ask_may meaning key barrier;
-    check_may = λ y c. checkpoint_may meaning key barrier y c y.is_open (is_lost (life_of Opt (state_after_moves (list_level me) y (before c)))) refl
+    check_may = λ y c. checkpoint_may meaning key barrier y c y.is_open
+        (is_lost (life_of Opt (state_after_moves (list_level me) y (before c)))) refl
         (ap (λ x. is_lost (life_of Opt x)) (sym (sight_is me y c)));
     power_may = λ y. ((power_fine meaning key barrier [] [] [] y).may, tt);
     foreign_may = λ y value. ((foreign_fine meaning key barrier [] (value ∷ []) [] y value (first_in value [])).may, tt);

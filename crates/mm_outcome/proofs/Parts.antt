@@ -1,5 +1,6 @@
 -- Parts of what the definitions say of a call, which proofs speak of alone.
-use Rattle.mm_outcome.proofs.Below.{ℕ, ◌-◌, length, Bool, List, [], Option, if◌then◌else◌, Batch, normal_batch, History, Move, Instance, is_long}
+use Rattle.mm_outcome.proofs.Below.{ℕ, ◌-◌, length, Bool, List, [], Option, if◌then◌else◌, Batch, normal_batch, History, Move, Instance}
+use Rattle.mm_outcome.proofs.Below.{is_long}
 use Rattle.mm_outcome.proofs.Below.{call_outcome}
 use Rattle.mm_outcome.proofs.Below.{right_messages, list_level, course_of, Meddle, Stop}
 use Rattle.std.specs.Option.{option_map_or}
@@ -22,7 +23,8 @@ stopped_reply how closed = if closed then reply.Closed how else reply.Nothing ho
 -- the moves of a call that is asked, and the messages of what is asked of a right offer
 abbrev pub ask_moves : Instance → History → List Meddle → Stop → Option (List ℕ) → Batch → List Move
 ask_moves i y meddles stop offered b =
-    option_map_or (λ bytes. if is_long b then [] else (call_outcome i (list_level i) y (course_of stop meddles) bytes (normal_batch b)).moves) offered []
+    option_map_or (λ bytes. if is_long b then [] else (call_outcome i (list_level i) y (course_of stop meddles) bytes
+    (normal_batch b)).moves) offered []
 
 abbrev pub asking_messages : Instance → Option (List ℕ) → Batch → List (List ℕ)
 asking_messages i offered b =

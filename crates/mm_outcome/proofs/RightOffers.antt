@@ -1,7 +1,9 @@
 -- What a right offer says; and that an issued snapshot, as a right offer, names a position.
 use Rattle.mm_outcome.proofs.Below.{◌≡◌, ℕ, ◌≤◌, ◌∙◌, List, length, Some, Ok, refl, sym, ap, subst, arith, get_or, last_position}
-use Rattle.mm_outcome.proofs.Below.{Variant, Basic, Opt, parts_of, sealed_parts, Content, IsContent, offered_snapshot_of, tag_of, InOpt, Batch, IsLawful}
-use Rattle.mm_outcome.proofs.Below.{state_after, state_after-is_spelled, History, requests_of, total_of, Instance, NamesPosition, right_content}
+use Rattle.mm_outcome.proofs.Below.{Variant, Basic, Opt, parts_of, sealed_parts, Content, IsContent, offered_snapshot_of, tag_of, InOpt}
+use Rattle.mm_outcome.proofs.Below.{Batch, IsLawful}
+use Rattle.mm_outcome.proofs.Below.{state_after, state_after-is_spelled, History, requests_of, total_of, Instance, NamesPosition}
+use Rattle.mm_outcome.proofs.Below.{right_content}
 use Rattle.std.proofs.lemmas.Slice.Eq.{bytes_eq-Decides}
 use Rattle.mm_base.specs.Limits.{limit_of}
 use Rattle.mm_digest.specs.LengthLaws.{length-zero_bytes}
@@ -18,7 +20,8 @@ use Rattle.mm_outcome.specs.Laws.{IsIssued}
 
 pub said_of : (i : Instance) (bytes : List ℕ) (content : Content) → IsRight i bytes content → right_content i bytes ≡ Some content
 said_of i bytes content right =
-    let parts : parts_of i.variant i.meaning.id bytes ≡ Ok (offered_snapshot_of i.key content) = ap (parts_of i.variant i.meaning.id) right.sealed
+    let parts : parts_of i.variant i.meaning.id bytes ≡ Ok (offered_snapshot_of i.key content) =
+        ap (parts_of i.variant i.meaning.id) right.sealed
     ∙ sealed_parts i.key content i.variant i.meaning.id right.formed right.variant right.id in
     right_is i (parts_of i.variant i.meaning.id bytes) (offered_snapshot_of i.key content) parts right.state
     ((bytes_eq-Decides (tag_of i.key content) (tag_of i.key content)).1 refl)

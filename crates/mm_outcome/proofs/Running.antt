@@ -1,17 +1,23 @@
 -- What is expected is a run of the machine, in each variant.
-use Rattle.mm_outcome.proofs.Below.{ℕ, ◌≡◌, ◌+◌, ◌-◌, Bool, true, false, ◌&&◌, List, [], ◌∷◌, ◌++◌, length, Option, None, Some, Result, Ok, Err}
+use Rattle.mm_outcome.proofs.Below.{ℕ, ◌≡◌, ◌+◌, ◌-◌, Bool, true, false, ◌&&◌, List, [], ◌∷◌, ◌++◌, length, Option, None, Some, Result, Ok}
+use Rattle.mm_outcome.proofs.Below.{Err}
 use Rattle.mm_outcome.proofs.Below.{refl, sym, ap, ◌∙◌, subst, nat_eq, bytes_eq, and_parts, Meaning, state_after, outputs_from}
 use Rattle.mm_outcome.proofs.Below.{Batch, members_of, size_of, normal_batch, members_of-normal, length-outputs_from, length-append, arith}
 use Rattle.mm_outcome.proofs.Below.{PartsFault, Form, Kind}
 use Rattle.mm_outcome.proofs.Below.{Snapshot, tag_of, parts_of, StepFault, Meddle, Stop, Instance, History, Move}
-use Rattle.mm_outcome.proofs.Below.{requests_of, total_of, first_history, Life, Live, life_of, is_lost, is_last, verdict_by_tests, verdict_on}
-use Rattle.mm_outcome.proofs.Below.{ask_steps, Refusal, check_of_verdict, check_of_offer, list_level, state_after_moves, CallFinding, finding_by_verdict, finding_at}
-use Rattle.mm_outcome.proofs.Below.{finding_unless_wanting, is_fresh, Course, StepsWalk, walk, moves_seen, has_commit, Answers, Breaks, CallOutcome}
+use Rattle.mm_outcome.proofs.Below.{requests_of, total_of, first_history, Life, Live, life_of, is_lost, is_last, verdict_by_tests}
+use Rattle.mm_outcome.proofs.Below.{verdict_on}
+use Rattle.mm_outcome.proofs.Below.{ask_steps, Refusal, check_of_verdict, check_of_offer, list_level, state_after_moves, CallFinding}
+use Rattle.mm_outcome.proofs.Below.{finding_by_verdict, finding_at}
+use Rattle.mm_outcome.proofs.Below.{finding_unless_wanting, is_fresh, Course, StepsWalk, walk, moves_seen, has_commit, Answers, Breaks}
+use Rattle.mm_outcome.proofs.Below.{CallOutcome}
 use Rattle.mm_outcome.proofs.Below.{reading_steps, call_ending_by, call_outcome, position_if_committed, CheckpointEnding, Stops}
-use Rattle.mm_outcome.proofs.Below.{CheckpointOutcome, checkpoint_outcome_with, same_batches, more_batches, Commits, nothing, batch, commits-none}
+use Rattle.mm_outcome.proofs.Below.{CheckpointOutcome, checkpoint_outcome_with, same_batches, more_batches, Commits, nothing, batch}
+use Rattle.mm_outcome.proofs.Below.{commits-none}
 use Rattle.mm_outcome.proofs.Below.{call_commits, commits_batch, seen_none, admitted_tells, weighed_tells, found_with_tells, unless_lost}
 use Rattle.mm_outcome.proofs.Below.{requests-push, said_last, again_of, fresh_of, unlacked, checkpoint_none, Event, Ask}
-use Rattle.mm_outcome.proofs.Below.{Checkpoint, IsTold, IsBatchStep, IsStepWithoutBatch, IsRunStep, IsEventRun, Way, Reply, offered_bytes, Outcome}
+use Rattle.mm_outcome.proofs.Below.{Checkpoint, IsTold, IsBatchStep, IsStepWithoutBatch, IsRunStep, IsEventRun, Way, Reply, offered_bytes}
+use Rattle.mm_outcome.proofs.Below.{Outcome}
 use Rattle.mm_outcome.proofs.Below.{way_of, course_of, reply_of, outcome_by, closing_reply}
 use Rattle.mm_outcome.proofs.Below.{checkpoint_event_outcome, event_outcome, RunOutcome, outcome_of_events, first_issued, ExpectedRuns}
 use Rattle.mm_model.specs.BatchLaws.{HasLastBatch, is_last_tells}
@@ -20,7 +26,8 @@ use Rattle.mm_schedule.specs.declared.reply.Reply.TheVariants.{Told, Kept}
 use Rattle.mm_outcome.proofs.EachWay.{asked_either, then_all, closing_all}
 
 -- a repeat that is accepted is one of the last batch, whatever the life of the history
-repeat_admitted : (life : Life) (here repeat fits again : Bool) → check_of_verdict (verdict_by_tests life here repeat) fits ≡ Ok again → again ≡ true
+repeat_admitted : (life : Life) (here repeat fits again : Bool) → check_of_verdict (verdict_by_tests life here repeat) fits ≡ Ok again
+    → again ≡ true
     → repeat ≡ true
 repeat_admitted Live here repeat fits again e = (admitted_tells here repeat fits again e).1
 repeat_admitted _ here repeat fits again e = λ _. cc
@@ -29,7 +36,8 @@ repeat_admitted _ here repeat fits again e = λ _. cc
 repeats_from : (i : Instance) (y : History) (b : Batch) (parts : Result Snapshot PartsFault) (found : CallFinding)
     → finding_by_verdict i (list_level i) y b parts ≡ Ok found → found.again ≡ true → HasLastBatch y.batches b
 repeats_from i y b (Ok snapshot) found is again =
-    let t = found_with_tells snapshot.content (check_of_offer i.meaning i.key snapshot b (verdict_on i.variant y snapshot.content.position b)) found is
+    let t = found_with_tells snapshot.content
+        (check_of_offer i.meaning i.key snapshot b (verdict_on i.variant y snapshot.content.position b)) found is
     in
     let w = weighed_tells (i.meaning.is_spelled snapshot.content.state) (bytes_eq snapshot.tag (tag_of i.key snapshot.content)) _ _
     found.again t.1 in
@@ -149,14 +157,16 @@ checkpointed_steps i y issued meddles stop is_lost =
     let c : Course = course_of stop meddles in
     let o : CheckpointOutcome History = checkpoint_outcome_with i (list_level i) y c is_lost in
     closing_stays (way_of stop) o.ending _ _
-    (ap requests_of (closing_all (λ moves. (state_after_moves (list_level i) o.state moves).batches ≡ o.state.batches) refl refl stop o.ending
+    (ap requests_of (closing_all (λ moves. (state_after_moves (list_level i) o.state moves).batches ≡ o.state.batches) refl
+    refl stop o.ending
     ∙ same_batches i o.moves y (checkpoint_none i.variant y.is_open is_lost c.fates)))
 
 pub event_steps : (i : Instance) (y : History) (issued : List (List ℕ)) (event : Event)
     → (let o : Outcome History = event_outcome i (list_level i) y issued event in
     IsRunStep i.meaning (requests_of y.batches) event o.reply (requests_of o.state.batches))
 event_steps i y issued (Ask meddles stop offer b) =
-    asked_either i (list_level i) y issued (λ o. IsBatchStep i.meaning (requests_of y.batches) b o.reply (requests_of o.state.batches)) meddles
+    asked_either i (list_level i) y issued (λ o. IsBatchStep i.meaning (requests_of y.batches) b o.reply (requests_of o.state.batches))
+    meddles
     stop
     (offered_bytes issued offer) b (λ why. refl) (λ bytes short. members_steps i.meaning _ _ (normal_batch b) b _ (members_of-normal b)
     (called_steps i y issued meddles stop bytes (normal_batch b)))

@@ -22,8 +22,10 @@ pub use Rattle.mm_model.specs.Standing.{IsGenuine}
 pub use Rattle.mm_model.specs.Steps.{Reads}
 pub use Rattle.mm_model.specs.declared.refusal.Refusal.{Refusal}
 pub use Rattle.mm_call.specs.CallPremises.{IsWithin, messages_of_moves, right_messages}
-pub use Rattle.mm_call.specs.CallOutcome.{Answers, Breaks, CallOutcome, CallEnding, Refuses, call_outcome, call_outcome_by, reading_steps, state_seen}
-pub use Rattle.mm_call.specs.Checkpoints.{CheckpointOutcome, Closes, CheckpointEnding, HasNone, LostPower, NoSegment, Stops, checkpoint_outcome}
+pub use Rattle.mm_call.specs.CallOutcome.{Answers, Breaks, CallOutcome, CallEnding, Refuses, call_outcome, call_outcome_by, reading_steps}
+pub use Rattle.mm_call.specs.CallOutcome.{state_seen}
+pub use Rattle.mm_call.specs.Checkpoints.{CheckpointOutcome, Closes, CheckpointEnding, HasNone, LostPower, NoSegment, Stops}
+pub use Rattle.mm_call.specs.Checkpoints.{checkpoint_outcome}
 pub use Rattle.mm_call.specs.Courses.{Course, fate_by_plan, walk}
 pub use Rattle.mm_call.specs.CallFinding.{right_content}
 pub use Rattle.mm_call.specs.Levels.{DigestsAgree, Level, digest_level, list_level}

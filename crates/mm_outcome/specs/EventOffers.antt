@@ -12,5 +12,6 @@ bytes_with_flipped_bit offset bytes =
 abbrev pub offered_bytes : List (List ℕ) → Offer → Option (List ℕ)
 offered_bytes issued (Number number) = slice_get issued number
 offered_bytes issued Last = slice_get issued (length issued - 1)
-offered_bytes issued (Flip number byte) = option_map (bytes_with_flipped_bit byte) (slice_get issued number)
+offered_bytes issued (Flip number byte) = option_map (bytes_with_flipped_bit byte)
+    (slice_get issued number)
 offered_bytes issued (Raw bytes) = Some bytes

@@ -1,10 +1,14 @@
 -- A schedule followed by a level: each event's reply, and what stands after it.
 use Rattle.std.specs.Prelude.{ℕ, ◌+◌, ◌-◌, false, List, [], ◌∷◌, ◌++◌, length, fold, Option, None, Some, Err, if◌then◌else◌}
 use Rattle.std.specs.Option.{option_map_or}
-use Rattle.mm_outcome.specs.Below.{zero_bytes, start_digest_of, sealed_snapshot_of, Plan, Meddle, Stop, Cut, Drop, Batch, One, normal_batch, History, Move, Foreign}
-use Rattle.mm_outcome.specs.Below.{PowerMove, first_history, Instance, is_long, Digests, content_of_issue, Reads, Refusal, CallEnding, Answers, Refuses}
-use Rattle.mm_outcome.specs.Below.{Breaks, CallOutcome, call_outcome, call_outcome_by, CheckpointEnding, Closes, HasNone, NoSegment, LostPower, Stops, CheckpointOutcome}
-use Rattle.mm_outcome.specs.Below.{checkpoint_outcome, Course, fate_by_plan, walk, Level, list_level, digest_level, Event, Ask, Checkpoint, Power}
+use Rattle.mm_outcome.specs.Below.{zero_bytes, start_digest_of, sealed_snapshot_of, Plan, Meddle, Stop, Cut, Drop, Batch, One, normal_batch}
+use Rattle.mm_outcome.specs.Below.{History, Move, Foreign}
+use Rattle.mm_outcome.specs.Below.{PowerMove, first_history, Instance, is_long, Digests, content_of_issue, Reads, Refusal, CallEnding}
+use Rattle.mm_outcome.specs.Below.{Answers, Refuses}
+use Rattle.mm_outcome.specs.Below.{Breaks, CallOutcome, call_outcome, call_outcome_by, CheckpointEnding, Closes, HasNone, NoSegment}
+use Rattle.mm_outcome.specs.Below.{LostPower, Stops, CheckpointOutcome}
+use Rattle.mm_outcome.specs.Below.{checkpoint_outcome, Course, fate_by_plan, walk, Level, list_level, digest_level, Event, Ask, Checkpoint}
+use Rattle.mm_outcome.specs.Below.{Power}
 use Rattle.mm_outcome.specs.Below.{Extend, Cause, Reply, Way}
 use Rattle.mm_model.specs.declared.refusal.Refusal.TheVariants as refusal
 use Rattle.mm_schedule.specs.declared.reply.Way.TheVariants as way
@@ -83,19 +87,24 @@ outcome_by level stop issued o = record {
 
 -- nothing was called
 abbrev pub outcome_without_call : {S : Type 0} → S → List (List ℕ) → Reply → Outcome S
-outcome_without_call s issued said = record { state = s; issued = issued; reply = said; steps = 0; writes = 0 }
+outcome_without_call s issued said = record { state = s; issued = issued; reply = said; steps = 0;
+    writes = 0 }
 
 -- the number isn't issued, or the batch is too long: then nothing is called, and nothing meddles
-abbrev pub ask_event_outcome : {S : Type 0} → Instance → Level S → S → List (List ℕ) → List Meddle → Stop
+abbrev pub ask_event_outcome : {S : Type 0} → Instance → Level S → S → List (List ℕ) → List Meddle
+    → Stop
     → Option (List ℕ) → Batch → Outcome S
-ask_event_outcome i level s issued meddles stop None b = outcome_without_call s issued (reply.No cause.Snapshot)
+ask_event_outcome i level s issued meddles stop None b =
+    outcome_without_call s issued (reply.No cause.Snapshot)
 ask_event_outcome i level s issued meddles stop (Some bytes) b =
     if is_long b then outcome_without_call s issued (reply.No cause.Long)
-    else outcome_by level stop issued (call_outcome i level s (course_of stop meddles) bytes (normal_batch b))
+    else outcome_by level stop issued (call_outcome i level s (course_of stop meddles) bytes
+    (normal_batch b))
 
 -- The cell is none that a call goes on with: the call reads it, makes no further step, and is
 -- refused.
-abbrev pub read_only_outcome : {S : Type 0} → Level S → S → List (List ℕ) → List Meddle → Stop → Refusal
+abbrev pub read_only_outcome : {S : Type 0} → Level S → S → List (List ℕ) → List Meddle → Stop
+    → Refusal
     → Outcome S
 read_only_outcome level s issued meddles stop why =
     outcome_by level stop issued
@@ -103,9 +112,11 @@ read_only_outcome level s issued meddles stop why =
     (walk (course_of stop meddles).fates 1 (Reads ∷ [])))
 
 -- the same behind the tests for a number that isn't issued and for a batch that is too long
-abbrev pub vain_ask_outcome : {S : Type 0} → Level S → S → List (List ℕ) → List Meddle → Stop → Refusal
+abbrev pub vain_ask_outcome : {S : Type 0} → Level S → S → List (List ℕ) → List Meddle → Stop
+    → Refusal
     → Option (List ℕ) → Batch → Outcome S
-vain_ask_outcome level s issued meddles stop why None b = outcome_without_call s issued (reply.No cause.Snapshot)
+vain_ask_outcome level s issued meddles stop why None b =
+    outcome_without_call s issued (reply.No cause.Snapshot)
 vain_ask_outcome level s issued meddles stop why (Some bytes) b =
     if is_long b then outcome_without_call s issued (reply.No cause.Long)
     else read_only_outcome level s issued meddles stop why
@@ -123,7 +134,8 @@ moves_after_checkpoint stop (Stops fault closed) = moves_after_stop stop
 moves_after_checkpoint stop closing = []
 
 -- what a checkpoint comes to in a schedule
-abbrev pub checkpoint_event_outcome : {S : Type 0} → Level S → Stop → List (List ℕ) → CheckpointOutcome S
+abbrev pub checkpoint_event_outcome : {S : Type 0} → Level S → Stop → List (List ℕ)
+    → CheckpointOutcome S
     → Outcome S
 checkpoint_event_outcome level stop issued o = record {
   state = fold level.made o.state (moves_after_checkpoint stop o.ending);
@@ -138,18 +150,22 @@ abbrev pub event_outcome : {S : Type 0} → Instance → Level S → S → List 
 event_outcome i level s issued (Ask meddles stop offer b) =
     ask_event_outcome i level s issued meddles stop (offered_bytes issued offer) b
 event_outcome i level s issued (Checkpoint meddles stop) =
-    checkpoint_event_outcome level stop issued (checkpoint_outcome i level s (course_of stop meddles))
-event_outcome i level s issued Power = outcome_without_call (level.made s PowerMove) issued reply.Power
+    checkpoint_event_outcome level stop issued
+    (checkpoint_outcome i level s (course_of stop meddles))
+event_outcome i level s issued Power = outcome_without_call (level.made s PowerMove)
+    issued reply.Power
 event_outcome i level s issued (Extend value) =
     outcome_without_call (level.made s (Foreign value)) issued reply.Extended
 
 -- one event where the cell is none that a call goes on with
-abbrev pub vain_event_outcome : {S : Type 0} → Level S → S → List (List ℕ) → Refusal → Event → Outcome S
+abbrev pub vain_event_outcome : {S : Type 0} → Level S → S → List (List ℕ) → Refusal → Event
+    → Outcome S
 vain_event_outcome level s issued why (Ask meddles stop offer b) =
     vain_ask_outcome level s issued meddles stop why (offered_bytes issued offer) b
 vain_event_outcome level s issued why (Checkpoint meddles stop) =
     read_only_outcome level s issued meddles stop why
-vain_event_outcome level s issued why Power = outcome_without_call (level.made s PowerMove) issued reply.Power
+vain_event_outcome level s issued why Power = outcome_without_call (level.made s PowerMove)
+    issued reply.Power
 vain_event_outcome level s issued why (Extend value) =
     outcome_without_call (level.made s (Foreign value)) issued reply.Extended
 
@@ -194,4 +210,5 @@ abbrev pub outcome_by_lists : Instance → List Event → RunOutcome History
 outcome_by_lists i events = outcome_of_events i (list_level i) first_history (first_issued i) events
 
 abbrev pub outcome_by_digests : Instance → List Event → RunOutcome Digests
-outcome_by_digests i events = outcome_of_events i (digest_level i) (first_digests i) (first_issued i) events
+outcome_by_digests i events = outcome_of_events i (digest_level i) (first_digests i)
+    (first_issued i) events

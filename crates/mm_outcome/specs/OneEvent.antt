@@ -1,14 +1,16 @@
 -- The laws of one event.
 use Rattle.std.specs.Prelude.{◌≡◌, ℕ, List, [], ◌∷◌, ◌++◌, ◌⊎◌}
 use Rattle.std.specs.List.{AllByRecursion, Contains}
-use Rattle.mm_outcome.specs.Below.{Variant, Basic, Opt, Content, Batch, History, requests_of, Instance, AreMessagesIn, IsClear, Digests, NamesPosition}
+use Rattle.mm_outcome.specs.Below.{Variant, Basic, Opt, Content, Batch, History, requests_of, Instance, AreMessagesIn, IsClear, Digests}
+use Rattle.mm_outcome.specs.Below.{NamesPosition}
 use Rattle.mm_outcome.specs.Below.{IsSound, messages_of_moves, IsWithin, list_level, digest_level, DigestsAgree, Event, IsRunStep}
 use Rattle.mm_outcome.specs.Folds.{Outcome, event_outcome}
 use Rattle.mm_outcome.specs.Laws.{IsIssued}
 use Rattle.mm_outcome.specs.Premises.{moves_of, event_messages, event_foreign_values, batches_of, AreApartIn, IsGenuineEvent}
 
 -- the digests are those of the history, which is within the list
-pub record KeepsHistory (all others : List (List ℕ)) (asked_for : List Batch) (i : Instance) (y : History)
+pub record KeepsHistory (all others : List (List ℕ)) (asked_for : List Batch)
+    (i : Instance) (y : History)
     (d : Digests) : Type 0 where
   pub agrees : DigestsAgree i y d
   pub within : IsWithin all others asked_for i y

@@ -21,6 +21,7 @@ pub record IsOneRun (i : Instance) (events : List Event) (replies : List Reply) 
 abbrev pub FrontsAreOneRun : Instance → List Event → Type 0
 FrontsAreOneRun i events = (front rest : List Event) → events ≡ front ++ rest →
     let it : RunOutcome Digests = outcome_by_digests i front in
-    (outcome_by_digests i events ≡ outcome_joined_to it (outcome_of_events i (digest_level i) it.state it.issued rest))
+    (outcome_by_digests i events ≡ outcome_joined_to it
+    (outcome_of_events i (digest_level i) it.state it.issued rest))
     × (IsClearRun i front → IsGenuineRun i front
     → IsOneRun i front it.replies it.state.count it.issued)

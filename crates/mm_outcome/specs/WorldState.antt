@@ -1,7 +1,8 @@
 -- A world as contracts see it: a platform with a module on it that follows a schedule, by digests.
 use Rattle.std.specs.Prelude.{◌≡◌, ℕ, ◌-◌, ◌^◌, List, length, min, ◌⊎◌}
 use Rattle.std.specs.List.{range_with_len}
-use Rattle.mm_outcome.specs.Below.{Meddle, Stop, meaning_of, Instance, Digests, state_seen, reading_steps, digest_level, instance_by, count_after_more}
+use Rattle.mm_outcome.specs.Below.{Meddle, Stop, meaning_of, Instance, Digests, state_seen, reading_steps, digest_level, instance_by}
+use Rattle.mm_outcome.specs.Below.{count_after_more}
 use Rattle.mm_outcome.specs.Below.{Event, Ask, Power, Header, Reply}
 use Rattle.mm_outcome.specs.Folds.{Outcome, course_of, event_outcome, first_issued, first_digests}
 
@@ -74,6 +75,7 @@ world_after_reading stop meddles world = record world {
 -- Memory was wanting for this event: nothing has changed, but that a call may have made its reading
 -- steps.
 abbrev pub EventWantsMemory : Event → WorldState → WorldState → Type 0
-EventWantsMemory (Ask meddles stop offer b) old new = (new ≡ old) ⊎ (new ≡ world_after_reading stop meddles old)
+EventWantsMemory (Ask meddles stop offer b) old new =
+    (new ≡ old) ⊎ (new ≡ world_after_reading stop meddles old)
 EventWantsMemory Power old new = ⊥
 EventWantsMemory event old new = new ≡ old

@@ -78,10 +78,13 @@ pub fn issued_snapshots_name_positions()
 /// of others, and commits a request behind them.
 pub fn premises_are_met()
     ensures basic { (key : List ℕ)
-        → IsClearRun (basic_instance counter key) one_ask × IsGenuineRun (basic_instance counter key) one_ask }
+        → IsClearRun (basic_instance counter key) one_ask
+        × IsGenuineRun (basic_instance counter key) one_ask }
     ensures opt { (key : List ℕ) → IsClearRun (opt_instance counter key world_barrier) one_ask
         × IsGenuineRun (opt_instance counter key world_barrier) one_ask }
-    ensures segments { (key : List ℕ) → IsClearRun (opt_instance counter key world_barrier) two_segments
+    ensures segments { (key : List ℕ)
+        → IsClearRun (opt_instance counter key world_barrier) two_segments
         × IsGenuineRun (opt_instance counter key world_barrier) two_segments
-        × ((outcome_by_lists (opt_instance counter key world_barrier) two_segments).state ≡ after_two_segments) }
+        × ((outcome_by_lists (opt_instance counter key world_barrier) two_segments).state
+        ≡ after_two_segments) }
 {}

@@ -1,8 +1,10 @@
 -- One page of a write: it is there already, it is written, or a look-up failed.
 use Rattle.mm_pages.proofs.Below.{ℕ, ◌≡◌, Bool, true, false, Result, Option, Some, None, Ok, Err, List, [], length, get_or, refl, ap, sym}
 use Rattle.mm_pages.proofs.Below.{◌∙◌, subst, arith, ◌&&◌, bytes_eq, Failed, next_count, Digest, Slots, slot_in, unsynced_with_mark}
-use Rattle.mm_pages.proofs.Below.{slots_with_bytes, with_slot-same, marks_alone, page_of, bytes_with_page, PageStanding, WritesPage, slots_with_change, count_after_so_many, may_be_same}
-use Rattle.mm_pages.proofs.Below.{look_count, change_count, one_if, Rows, row_in, rows_with, kept_digest, page_digest, row_with_digest, DropsPage}
+use Rattle.mm_pages.proofs.Below.{slots_with_bytes, with_slot-same, marks_alone, page_of, bytes_with_page, PageStanding, WritesPage}
+use Rattle.mm_pages.proofs.Below.{slots_with_change, count_after_so_many, may_be_same}
+use Rattle.mm_pages.proofs.Below.{look_count, change_count, one_if, Rows, row_in, rows_with, kept_digest, page_digest, row_with_digest}
+use Rattle.mm_pages.proofs.Below.{DropsPage}
 use Rattle.mm_pages.proofs.Below.{IsInStep, HoldsPage, IsPutAt, WriteFails, ChangesSlot, PutsOnePage}
 use Rattle.mm_pages.proofs.BytesLaws.{get_or-page_of, put_at}
 use Rattle.mm_pages.proofs.RowLaws.{row_in-with_row, with_row-twice, with_row-same, keeping-alike}
@@ -39,7 +41,8 @@ slots_stay slot slots = left_by (stays slot (λ was now. Unit {0}) slots (λ tol
 -- a page was looked up
 looked : {slot page : ℕ} {part : List ℕ} {digest : Digest} {kept : Option Digest} {old new : PageStanding} {result : Result Bool Failed}
     (rows : Rows) → HoldsPage slot page kept digest part old new result → digest ≡ page_digest part
-    → kept ≡ kept_digest (row_in rows slot) page → new.page_reads ≡ count_after_so_many (look_count (row_in rows slot) page part) old.page_reads
+    → kept ≡ kept_digest (row_in rows slot) page → new.page_reads ≡ count_after_so_many
+    (look_count (row_in rows slot) page part) old.page_reads
 looked {old = old} rows h d k =
     ap (λ (x : PageStanding). x.page_reads) h.same ∙ (λ j. count_after_so_many (one_if (may_be_same (k j) (d j))) old.page_reads)
 

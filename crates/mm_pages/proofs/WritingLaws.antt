@@ -1,11 +1,16 @@
 -- The steps of a write, one after another.
 use Rattle.mm_pages.proofs.Below.{ℕ, ◌≡◌, ◌+◌, ◌*◌, ◌<◌, ◌≤◌, suc, true, false, Option, Some, Result, Ok, Err, List, ◌++◌, length}
 use Rattle.mm_pages.proofs.Below.{get_or, take, drop, refl, ap, sym, ◌∙◌, subst, inl, inr, arith, ◌-◌, length-append, is_err, cases_lt}
-use Rattle.mm_pages.proofs.Below.{Failed, CountRose, Digest, Slots, slot_in, slots_with, slots_with_bytes, slot_in-with_slot, with_slot-same}
-use Rattle.mm_pages.proofs.Below.{putting-twice, marks_alone, marked_last, unsynced_with_mark, CachedDevice, resized_bytes, page_of, page_count, PageStanding}
-use Rattle.mm_pages.proofs.Below.{ReadsLength, SyncsPages, slots_with_change, count_after_so_many, may_be_same, look_count, total_of_looks, change_count, changes_of, one_if}
-use Rattle.mm_pages.proofs.Below.{Rows, row_in, rows_with, kept_digest, page_digest, row_with_digest, digests_of_pages, IsPutAt, SlotFails, WriteFails}
-use Rattle.mm_pages.proofs.Below.{ChangesSlot, PutsOnePage, IsFilled, PutsFirstPages, FitsSlot, FitsAndSyncs, EndsInSync, PutsWholeSlot, PutsBytes}
+use Rattle.mm_pages.proofs.Below.{Failed, CountRose, Digest, Slots, slot_in, slots_with, slots_with_bytes, slot_in-with_slot}
+use Rattle.mm_pages.proofs.Below.{with_slot-same}
+use Rattle.mm_pages.proofs.Below.{putting-twice, marks_alone, marked_last, unsynced_with_mark, CachedDevice, resized_bytes, page_of}
+use Rattle.mm_pages.proofs.Below.{page_count, PageStanding}
+use Rattle.mm_pages.proofs.Below.{ReadsLength, SyncsPages, slots_with_change, count_after_so_many, may_be_same, look_count, total_of_looks}
+use Rattle.mm_pages.proofs.Below.{change_count, changes_of, one_if}
+use Rattle.mm_pages.proofs.Below.{Rows, row_in, rows_with, kept_digest, page_digest, row_with_digest, digests_of_pages, IsPutAt, SlotFails}
+use Rattle.mm_pages.proofs.Below.{WriteFails}
+use Rattle.mm_pages.proofs.Below.{ChangesSlot, PutsOnePage, IsFilled, PutsFirstPages, FitsSlot, FitsAndSyncs, EndsInSync, PutsWholeSlot}
+use Rattle.mm_pages.proofs.Below.{PutsBytes}
 use Rattle.mm_pages.proofs.BytesLaws.{get_or-page_of, page_of-same, resized-same, resized-length}
 use Rattle.mm_pages.proofs.RowLaws.{row_in-with_row, with_row-twice, with_row-same, keeping-next, kept_of-next, length-digests_of}
 use Rattle.mm_pages.proofs.RowLaws.{take-digests_of}
@@ -209,7 +214,8 @@ puts_all {slot} {bytes} {old} {mid} {new} {rows} {some} f r ends =
       faults = s.counted_faults.kept ∙ g.faults ∙ f.faults;
       lengths = rw (ap (λ (x : PageStanding). x.length_writes) s.same, sym f.lengths) g.lengths;
       synced =
-          marked_last slot false old.unsynced ends.fitted.unsynced new.unsynced (g.marks ∙ f.marks) (ap (λ (x : PageStanding). x.unsynced) s.same);
+          marked_last slot false old.unsynced ends.fitted.unsynced new.unsynced (g.marks ∙ f.marks)
+              (ap (λ (x : PageStanding). x.unsynced) s.same);
       rows_are =
           r ∙ (λ j. rows_with (f.rows_are j) slot (cut j))
           ∙ with_row-twice rows slot _ (digests_of_pages bytes count);
@@ -238,7 +244,8 @@ fails_at_end {slot} {bytes} {some = some} f r g =
     fails_after f (record { paged = g; row = take (page_count (length bytes)) (row_in some slot); rows_are = r })
 
 -- a write that didn't fail, of a store that is seen so
-pub put_whole : {D : Type 0} (pages : D → PageStanding) (slot : ℕ) (bytes : List ℕ) (x y : CachedDevice D) (new : PageStanding) (after : Rows)
+pub put_whole : {D : Type 0} (pages : D → PageStanding) (slot : ℕ) (bytes : List ℕ) (x y : CachedDevice D)
+    (new : PageStanding) (after : Rows)
     (result : Result Unit Failed) → x ≡ y → PutsBytes slot bytes (pages x.device) new x.rows after result → is_err result ≡ false →
     PutsWholeSlot slot bytes (pages y.device) new y.rows after
 put_whole pages slot bytes x y new after result same p e = grind (arith, same, p, e)

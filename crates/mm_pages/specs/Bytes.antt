@@ -11,7 +11,8 @@ page_of bytes page = resized_bytes 256 (drop (256 * page) bytes)
 
 -- the bytes with a page's put in place; a hole before it is filled with zero bytes
 unfoldable pub bytes_with_page : ℕ → List ℕ → List ℕ → List ℕ
-bytes_with_page page part bytes = resized_bytes (256 * page) bytes ++ (part ++ drop (256 * page + 256) bytes)
+bytes_with_page page part bytes = resized_bytes (256 * page) bytes
+    ++ (part ++ drop (256 * page + 256) bytes)
 
 -- how many pages that many bytes fill
 abbrev pub page_count : ℕ → ℕ

@@ -51,7 +51,8 @@ pub record WritesPage (slot page : ℕ) (part : List ℕ) (old new : PageStandin
       → LeavesSlot slot (bytes_with_page page part) old.slots new.slots result
 
 -- and so does a write of a length
-pub record SetsLength (slot size : ℕ) (old new : PageStanding) (result : Result Unit Failed) : Type 0 where
+pub record SetsLength (slot size : ℕ) (old new : PageStanding)
+    (result : Result Unit Failed) : Type 0 where
   pub same : new ≡ record old {
     slots = new.slots;
     faults = new.faults;
@@ -59,7 +60,8 @@ pub record SetsLength (slot size : ℕ) (old new : PageStanding) (result : Resul
     unsynced = unsynced_with_mark slot true old.unsynced;
   }
   pub counted_faults : CountsFaults old.faults new.faults result
-  pub leaves : old.is_honest ≡ true → LeavesSlot slot (resized_bytes size) old.slots new.slots result
+  pub leaves : old.is_honest ≡ true → LeavesSlot slot (resized_bytes size)
+      old.slots new.slots result
 
 -- what a sync of a slot of an honest device leaves: all as it was after Ok, and any bytes there
 -- after it failed
@@ -68,7 +70,8 @@ KeepsSlot slot old new (Ok _) = new ≡ old
 KeepsSlot slot old new (Err _) = (left : List ℕ) × (new ≡ slots_with_bytes slot left old)
 
 -- after Ok the slot is synced, and after a sync that failed it is not
-pub record SyncsPages (slot : ℕ) (old new : PageStanding) (result : Result Unit Failed) : Type 0 where
+pub record SyncsPages (slot : ℕ) (old new : PageStanding)
+    (result : Result Unit Failed) : Type 0 where
   pub same : new ≡ record old {
     slots = new.slots;
     faults = new.faults;

@@ -27,7 +27,8 @@ look_count row page part = one_if (may_be_same (kept_digest row page) (page_dige
 -- that of the new page
 abbrev pub total_of_looks : List (Option Digest) → List ℕ → ℕ → ℕ
 total_of_looks row bytes zero = 0
-total_of_looks row bytes (suc count) = look_count row count (page_of bytes count) + total_of_looks row bytes count
+total_of_looks row bytes (suc count) = look_count row count (page_of bytes count)
+    + total_of_looks row bytes count
 
 -- 1 where the page is another
 abbrev pub change_count : List ℕ → List ℕ → ℕ

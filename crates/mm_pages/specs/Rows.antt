@@ -1,5 +1,6 @@
 -- The digests that are kept of the pages of each slot.
-use Rattle.std.specs.Prelude.{◌≡◌, length, ℕ, ◌==◌, ◌+◌, zero, suc, List, [], ◌∷◌, ◌++◌, take, drop, slice_index_or, Option, Some, None, if◌then◌else◌}
+use Rattle.std.specs.Prelude.{◌≡◌, length, ℕ, ◌==◌, ◌+◌, zero, suc, List, [], ◌∷◌, ◌++◌, take, drop, slice_index_or, Option, Some, None}
+use Rattle.std.specs.Prelude.{if◌then◌else◌}
 use Rattle.sha2.specs.Sha256.{sha256}
 use Rattle.mm_digest.specs.declared.digest.Digest.{Digest}
 use Rattle.mm_pages.specs.Bytes.{page_of}

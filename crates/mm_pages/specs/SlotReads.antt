@@ -9,7 +9,8 @@ use Rattle.mm_store.specs.declared.store.TheConstants.{LONGEST_SLOT}
 use Rattle.mm_pages.specs.PageStanding.{PageStanding}
 
 -- a read of a slot
-pub record GivesBytes (slot : ℕ) (old new : PageStanding) (result : Result (List ℕ) StoreFault) : Type 0
+pub record GivesBytes (slot : ℕ) (old new : PageStanding)
+    (result : Result (List ℕ) StoreFault) : Type 0
   where
     pub same : new ≡ record old { faults = new.faults; page_reads = new.page_reads }
     pub counted_faults : CountsFailures old.faults new.faults result

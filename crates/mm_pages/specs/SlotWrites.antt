@@ -1,5 +1,6 @@
 -- What the steps of a write do to a device of pages and to the digests that are kept.
-use Rattle.std.specs.Prelude.{◌≡◌, ◌⊎◌, ◌<◌, ◌≤◌, ◌+◌, ◌*◌, ℕ, Bool, true, false, ◌&&◌, List, ◌++◌, drop, length, slice_index, Option, Some, Result, Ok, Err, IfOk}
+use Rattle.std.specs.Prelude.{◌≡◌, ◌⊎◌, ◌<◌, ◌≤◌, ◌+◌, ◌*◌, ℕ, Bool, true, false, ◌&&◌, List, ◌++◌, drop, length, slice_index, Option, Some}
+use Rattle.std.specs.Prelude.{Result, Ok, Err, IfOk}
 use Rattle.std.specs.Str.{bytes_eq}
 use Rattle.mm_base.specs.declared.fault.Failed.{Failed}
 use Rattle.mm_base.specs.Faults.{next_count, CountRose, CountsFaults}
@@ -27,7 +28,8 @@ pub record HoldsPage (slot page : ℕ) (kept : Option Digest) (digest : Digest) 
     (old new : PageStanding)
     (result : Result Bool Failed) : Type 0 where
   pub same : new ≡ record old
-      { faults = new.faults; page_reads = count_after_so_many (one_if (may_be_same kept digest)) old.page_reads }
+      { faults = new.faults; page_reads =
+      count_after_so_many (one_if (may_be_same kept digest)) old.page_reads }
   pub counted_faults : CountsFaults old.faults new.faults result
   pub holds : IfOk result (λ is. (slots : Slots) → old.slots ≡ Some slots
       → is ≡ (may_be_same kept digest && bytes_eq (page_of (slot_in slots slot) page) part))
@@ -46,7 +48,8 @@ IsPutAt page part was now = IsPutIn (256 * page) 256 part was now
 pub record SlotFails (slot : ℕ) (old new : PageStanding) : Type 0 where
   pub honest : new.is_honest ≡ old.is_honest
   pub faults : CountRose old.faults new.faults
-  pub leaves : old.is_honest ≡ true → (left : List ℕ) × (new.slots ≡ slots_with_bytes slot left old.slots)
+  pub leaves : old.is_honest ≡ true
+      → (left : List ℕ) × (new.slots ≡ slots_with_bytes slot left old.slots)
   pub marks : MarksAlone slot old.unsynced new.unsynced
 
 -- a write that failed: of the digests, none but those of its slot changed
@@ -68,20 +71,24 @@ pub record ChangesPages (count : ℕ) (old new : PageStanding) : Type 0 where
   pub still : count ≡ 0 → new.slots ≡ old.slots
 
 -- one page of a write
-pub record PutsOnePage (slot page : ℕ) (part : List ℕ) (old new : PageStanding) (rows after : Rows) : Type 0
+pub record PutsOnePage (slot page : ℕ) (part : List ℕ) (old new : PageStanding)
+    (rows after : Rows) : Type 0
   where
     pub honest : new.is_honest ≡ old.is_honest
     pub faults : new.faults ≡ old.faults
     pub lengths : new.length_writes ≡ old.length_writes
     pub marks : MarksAlone slot old.unsynced new.unsynced
-    pub rows_are : after ≡ rows_with rows slot (row_with_digest page (page_digest part) (row_in rows slot))
-    pub looks : new.page_reads ≡ count_after_so_many (look_count (row_in rows slot) page part) old.page_reads
+    pub rows_are : after ≡ rows_with rows slot
+        (row_with_digest page (page_digest part) (row_in rows slot))
+    pub looks : new.page_reads ≡ count_after_so_many
+        (look_count (row_in rows slot) page part) old.page_reads
     pub puts : old.is_honest ≡ true → ChangesSlot slot (IsPutAt page part) old.slots new.slots
     pub changes : (told : Slots) → old.slots ≡ Some told
         → IsInStep (row_in rows slot) page (slot_in told slot)
         → ChangesPages (change_count (page_of (slot_in told slot) page) part) old new
 
-abbrev pub PutsPage : ℕ → ℕ → List ℕ → PageStanding → PageStanding → Rows → Rows → Result Unit Failed → Type 0
+abbrev pub PutsPage : ℕ → ℕ → List ℕ → PageStanding → PageStanding → Rows → Rows
+    → Result Unit Failed → Type 0
 PutsPage slot page part old new rows after (Ok _) = PutsOnePage slot page part old new rows after
 PutsPage slot page part old new rows after (Err _) = WriteFails slot old new rows after
 
@@ -99,13 +106,15 @@ pub record PutsFirstPages (slot count : ℕ) (bytes : List ℕ) (old new : PageS
   pub marks : MarksAlone slot old.unsynced new.unsynced
   pub rows_are : after ≡ rows_with rows slot
       (digests_of_pages bytes count ++ drop count (row_in rows slot))
-  pub looks : new.page_reads ≡ count_after_so_many (total_of_looks (row_in rows slot) bytes count) old.page_reads
+  pub looks : new.page_reads ≡ count_after_so_many (total_of_looks (row_in rows slot) bytes count)
+      old.page_reads
   pub fills : old.is_honest ≡ true → ChangesSlot slot (IsFilled count bytes) old.slots new.slots
   pub changes : old.is_honest ≡ true → (told : Slots) → old.slots ≡ Some told
       → AreDigestsOf (row_in rows slot) (slot_in told slot)
       → ChangesPages (changes_of (slot_in told slot) bytes count) old new
 
-abbrev pub PutsAllPages : ℕ → List ℕ → PageStanding → PageStanding → Rows → Rows → Result Unit Failed → Type 0
+abbrev pub PutsAllPages : ℕ → List ℕ → PageStanding → PageStanding → Rows → Rows
+    → Result Unit Failed → Type 0
 PutsAllPages slot bytes old new rows after (Ok _) =
     PutsFirstPages slot (page_count (length bytes)) bytes old new rows after
 PutsAllPages slot bytes old new rows after (Err _) = WriteFails slot old new rows after
@@ -123,7 +132,8 @@ pub record FitsSlot (slot size : ℕ) (old new : PageStanding) : Type 0 where
   pub lengths : IsOneMoreAtMost old.length_writes new.length_writes
   pub settled : (told : Slots) → old.slots ≡ Some told → length (slot_in told slot) ≡ size
       → new.length_writes ≡ old.length_writes
-  pub slots : old.is_honest ≡ true → new.slots ≡ slots_with_change slot (resized_bytes size) old.slots
+  pub slots : old.is_honest ≡ true → new.slots ≡ slots_with_change slot
+      (resized_bytes size) old.slots
   pub marks : MarksAlone slot old.unsynced new.unsynced
 
 abbrev pub FitsLength : ℕ → ℕ → PageStanding → PageStanding → Result Unit Failed → Type 0
@@ -141,7 +151,8 @@ EndsInSync slot size old new (Ok _) = FitsAndSyncs slot size old new
 EndsInSync slot size old new (Err _) = SlotFails slot old new
 
 -- a whole write
-pub record PutsWholeSlot (slot : ℕ) (bytes : List ℕ) (old new : PageStanding) (rows after : Rows) : Type 0
+pub record PutsWholeSlot (slot : ℕ) (bytes : List ℕ) (old new : PageStanding)
+    (rows after : Rows) : Type 0
   where
     pub honest : new.is_honest ≡ old.is_honest
     pub faults : new.faults ≡ old.faults
@@ -159,6 +170,7 @@ pub record PutsWholeSlot (slot : ℕ) (bytes : List ℕ) (old new : PageStanding
         → AreDigestsOf (row_in rows slot) (slot_in told slot)
         → slot_in told slot ≡ bytes → new.length_writes ≡ old.length_writes
 
-abbrev pub PutsBytes : ℕ → List ℕ → PageStanding → PageStanding → Rows → Rows → Result Unit Failed → Type 0
+abbrev pub PutsBytes : ℕ → List ℕ → PageStanding → PageStanding → Rows → Rows → Result Unit Failed
+    → Type 0
 PutsBytes slot bytes old new rows after (Ok _) = PutsWholeSlot slot bytes old new rows after
 PutsBytes slot bytes old new rows after (Err _) = WriteFails slot old new rows after

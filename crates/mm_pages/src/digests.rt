@@ -133,7 +133,8 @@ impl SlotDigests {
         requires slot { slot < 4 }
         requires page { page < 4297 }
         requires reached { page ≤ length (row_in self.old slot) }
-        ensures { self.new ≡ rows_with self.old slot (row_with_digest page digest (row_in self.old slot)) }
+        ensures { self.new ≡ rows_with self.old slot
+            (row_with_digest page digest (row_in self.old slot)) }
     {
         match slot {
             0 => self.zero.keep(page, digest),

@@ -285,7 +285,8 @@ impl MemPages {
     // Begins a call, and tells whether it is the one that is to fail.
     fn is_to_fail(&mut self) -> bool
         ensures fails { IsTrue result ↔ (self.old.ahead ≡ 1) }
-        ensures after { self.new ≡ (if result then sheets_after_fault self.old else sheets_after_call self.old) }
+        ensures after { self.new
+            ≡ (if result then sheets_after_fault self.old else sheets_after_call self.old) }
         ensures later { self.old.faults ≤ self.new.faults }
     {
         let fails = self.ahead == 1;
@@ -301,7 +302,8 @@ impl MemPages {
         requires { slot < 4 }
         ensures fails { IsTrue result ↔ (self.old.ahead ≡ 1) }
         ensures after { self.new
-            ≡ (if result then sheets_after_slot_fault slot self.old else sheets_after_call self.old) }
+            ≡ (if result then sheets_after_slot_fault slot self.old else sheets_after_call self.old)
+            }
         ensures later { self.old.faults ≤ self.new.faults }
     {
         if !self.is_to_fail() {
@@ -318,7 +320,8 @@ impl PageDevice for MemPages {
 
     fn length(&mut self, slot: u8) -> Result<u32, Failed>
         requires { slot < 4 }
-        ensures reads { ReadsLength slot (standing_of_sheets self.old) (standing_of_sheets self.new) result }
+        ensures reads { ReadsLength slot (standing_of_sheets self.old)
+            (standing_of_sheets self.new) result }
         ensures failing { IsErr result ↔ (self.old.ahead ≡ 1) }
         ensures after { self.new ≡ sheets_after_read self.old result }
     {
@@ -331,7 +334,8 @@ impl PageDevice for MemPages {
     fn read_page(&mut self, slot: u8, page: u16, into: &mut [u8; 256]) -> Result<(), Failed>
         requires slot { slot < 4 }
         requires page { page < 4297 }
-        ensures reads { ReadsPage slot page (standing_of_sheets self.old) (standing_of_sheets self.new) into.new
+        ensures reads { ReadsPage slot page (standing_of_sheets self.old)
+            (standing_of_sheets self.new) into.new
             result }
         ensures failing { IsErr result ↔ (self.old.ahead ≡ 1) }
         ensures after { self.new ≡ record (sheets_after_read self.old result) {
@@ -349,7 +353,8 @@ impl PageDevice for MemPages {
     fn write_page(&mut self, slot: u8, page: u16, bytes: &[u8; 256]) -> Result<(), Failed>
         requires slot { slot < 4 }
         requires page { page < 4297 }
-        ensures writes { WritesPage slot page bytes.now (standing_of_sheets self.old) (standing_of_sheets self.new)
+        ensures writes { WritesPage slot page bytes.now (standing_of_sheets self.old)
+            (standing_of_sheets self.new)
             result }
         ensures failing { IsErr result ↔ (self.old.ahead ≡ 1) }
         ensures after { self.new
@@ -369,9 +374,11 @@ impl PageDevice for MemPages {
     fn set_length(&mut self, slot: u8, length: u32) -> Result<(), Failed>
         requires slot { slot < 4 }
         requires most { length ≤ 1100032 }
-        ensures sets { SetsLength slot length (standing_of_sheets self.old) (standing_of_sheets self.new) result }
+        ensures sets { SetsLength slot length (standing_of_sheets self.old)
+            (standing_of_sheets self.new) result }
         ensures failing { IsErr result ↔ (self.old.ahead ≡ 1) }
-        ensures after { self.new ≡ record (sheets_after_change slot (resized_bytes length) self.old result) {
+        ensures after { self.new
+            ≡ record (sheets_after_change slot (resized_bytes length) self.old result) {
           length_writes = next_count self.old.length_writes;
         } }
     {
@@ -386,7 +393,8 @@ impl PageDevice for MemPages {
 
     fn sync(&mut self, slot: u8) -> Result<(), Failed>
         requires { slot < 4 }
-        ensures syncs { SyncsPages slot (standing_of_sheets self.old) (standing_of_sheets self.new) result }
+        ensures syncs { SyncsPages slot (standing_of_sheets self.old)
+            (standing_of_sheets self.new) result }
         ensures failing { IsErr result ↔ (self.old.ahead ≡ 1) }
         ensures after { self.new ≡ sheets_after_sync slot self.old result }
     {

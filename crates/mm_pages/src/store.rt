@@ -98,7 +98,8 @@ impl<D: PageDevice + Drop> Store for PageStore<D> {
             → (told : Slots) → (D.pages self.old.device).slots ≡ Some told
             → AreDigestsOf (row_in self.old.rows slot) (slot_in told slot)
             → (D.pages self.new.device).page_writes
-            ≡ count_after_so_many (changes_of (slot_in told slot) bytes.now (page_count (length bytes.now)))
+            ≡ count_after_so_many
+            (changes_of (slot_in told slot) bytes.now (page_count (length bytes.now)))
             (D.pages self.old.device).page_writes) }
         ensures step { KeepsStep (D.pages self.old.device) (D.pages self.new.device) self.old.rows
             self.new.rows }
@@ -106,7 +107,8 @@ impl<D: PageDevice + Drop> Store for PageStore<D> {
         // A length is set once at most, and not at all where the bytes are there already.
         ensures settled { OnOk result ((D.pages self.old.device).is_honest ≡ true
             → (told : Slots) → (D.pages self.old.device).slots ≡ Some told
-            → AreDigestsOf (row_in self.old.rows slot) (slot_in told slot) → slot_in told slot ≡ bytes.now
+            → AreDigestsOf (row_in self.old.rows slot) (slot_in told slot) → slot_in told slot
+            ≡ bytes.now
             → (D.pages self.new.device).length_writes ≡ (D.pages self.old.device).length_writes) }
         ensures lengths { OnOk result (IsOneMoreAtMost (D.pages self.old.device).length_writes
             (D.pages self.new.device).length_writes) }

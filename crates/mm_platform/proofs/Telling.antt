@@ -43,7 +43,8 @@ as_told act old new fault step plan known =
 pub answer-alike : (one other : Standing) → AreAlike one other → next_answer one ≡ next_answer other
 answer-alike one other a = ap next_answer a.same
 
-pub stepped-alike : (act : Act) (one other : Standing) → AreAlike one other → AreAlike (standing_after_step act one) (standing_after_step act other)
+pub stepped-alike : (act : Act) (one other : Standing) → AreAlike one other → AreAlike (standing_after_step act one)
+    (standing_after_step act other)
 stepped-alike act one other a =
     record { spare = spare_after act (is_next_made other) a.spare; same = ap (standing_after_step act) a.same }
 
@@ -59,7 +60,8 @@ if-alike : (b c : Bool) (x y z w : Standing × Option StepFault) → b ≡ c →
     → ActsAlike (if b then x else y) (if c then z else w)
 if-alike b c x y z w e p q = grind (arith, e, p, q)
 
-pub acted-alike : (acts : List Act) (one other : Standing) → AreAlike one other → ActsAlike (outcome_of_acts acts one) (outcome_of_acts acts other)
+pub acted-alike : (acts : List Act) (one other : Standing) → AreAlike one other → ActsAlike (outcome_of_acts acts one)
+    (outcome_of_acts acts other)
 acted-alike [] one other a = (a, refl)
 acted-alike (act ∷ acts) one other a =
     if-alike (is_none (next_answer one)) (is_none (next_answer other)) _ _ _ _ (ap is_none (answer-alike one other a))
@@ -68,7 +70,8 @@ acted-alike (act ∷ acts) one other a =
 
 -- what comes of the first step, by its answer
 first_acted : (act : Act) (acts : List Act) (old new : Standing) (fault answer : Option StepFault) → answer ≡ next_answer old
-    → ActsAlike (new, fault) (if is_none answer then outcome_of_acts acts (standing_after_step act old) else (standing_after_step act old, next_answer old))
+    → ActsAlike (new, fault) (if is_none answer then outcome_of_acts acts (standing_after_step act old)
+    else (standing_after_step act old, next_answer old))
     → ActsAsTold (act ∷ acts) old new fault
 first_acted act acts old new fault answer e alike =
     let all : ActsAlike (new, fault) (outcome_of_acts (act ∷ acts) old) =
@@ -90,7 +93,8 @@ told_then act acts old mid new fault step plan known rest =
     let told = as_told act old mid None step plan known in
     let same = acted-alike acts mid (standing_after_step act old) told.stands in
     first_acted act acts old new fault None told.answer
-    (alike-then new (outcome_of_acts acts mid).0 (outcome_of_acts acts (standing_after_step act old)).0 rest.stands same.0, rest.answer ∙ same.1)
+    (alike-then new (outcome_of_acts acts mid).0 (outcome_of_acts acts (standing_after_step act old)).0 rest.stands same.0, rest.answer
+    ∙ same.1)
 
 -- the last step, whatever it answers
 pub told_last : (act : Act) (old new : Standing) (fault : Option StepFault) → StepGoes act old new fault

@@ -17,7 +17,8 @@ beside-beside first second (Some xs) =
     ap Some (append_assoc xs (map foreign_item first) (map foreign_item second)
     ∙ ap (λ ys. xs ++ ys) (sym (map-append foreign_item first second)))
 
-pub rose_by : (fault : StepFault) (old new : Standing) (made : Bool) → DeviceStepEnds (Some fault) old new made → CountRose old.faults new.faults
+pub rose_by : (fault : StepFault) (old new : Standing) (made : Bool) → DeviceStepEnds (Some fault) old new made
+    → CountRose old.faults new.faults
 rose_by fault old new made e = grind (arith, e)
 
 pub first_failed : (value bytes : List ℕ) (old one : Standing) (fault : StepFault) → StepGoes ReadCell old one (Some fault)
@@ -66,7 +67,8 @@ all_called value bytes old one two three fault a b c = record {
     before = a.others ++ b.others;
     after = c.others;
     cell = c.cell ∙ ap (cell_after (WriteCell bytes) c.is_made) (b.cell ∙ a.cell);
-    items = c.items ∙ ap (items_beside c.others) (b.items ∙ ap (λ i. items_after (ExtendRegister value) b.is_made (items_beside b.others i)) a.items
+    items = c.items ∙ ap (items_beside c.others)
+        (b.items ∙ ap (λ i. items_after (ExtendRegister value) b.is_made (items_beside b.others i)) a.items
         ∙ ap (λ i. items_after (ExtendRegister value) b.is_made i) (beside-beside a.others b.others old.items));
   };
   ends = ends_calls fault old one two three b.is_made c.is_made b.ends.made a.ends.faults b.ends.faults c.ends;

@@ -2,7 +2,8 @@
 use Rattle.std.proofs.Common.{◌≡◌, ℕ, ◌+◌, ◌-◌, ◌≤◌, Bool, true, false, not, List, [], ◌∷◌, ◌++◌, Option, Some, refl, sym, ◌∙◌, ap, arith}
 use Rattle.mm_platform.specs.declared.fault.StepFault.{StepFault}
 use Rattle.mm_platform.specs.Standing.{Item, own_item, Plan, Standing}
-use Rattle.mm_platform.specs.Steps.{Act, ResetRegister, ExtendRegister, taken_room, DeviceStepEnds, fault_by_plan, is_made_by_plan, is_on_by_plan, values_by_plan, faults_after, StepGoesByPlan, StepGoes}
+use Rattle.mm_platform.specs.Steps.{Act, ResetRegister, ExtendRegister, taken_room, DeviceStepEnds, fault_by_plan, is_made_by_plan}
+use Rattle.mm_platform.specs.Steps.{is_on_by_plan, values_by_plan, faults_after, StepGoesByPlan, StepGoes}
 use Rattle.mm_platform.specs.PlannedSteps.{next_plan, next_answer, is_next_made, standing_in_step, spare_after, standing_after_step}
 
 -- a step ends as its plan says

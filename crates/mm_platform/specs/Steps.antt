@@ -1,5 +1,6 @@
 -- What each device step does to what stands on a platform.
-use Rattle.std.specs.Prelude.{◌≡◌, ℕ, ◌+◌, ◌≤◌, ◌==◌, Bool, true, false, not, List, [], ◌∷◌, ◌++◌, Option, None, Some, IsSome, map, if◌then◌else◌}
+use Rattle.std.specs.Prelude.{◌≡◌, ℕ, ◌+◌, ◌≤◌, ◌==◌, Bool, true, false, not, List, [], ◌∷◌, ◌++◌, Option, None, Some, IsSome, map}
+use Rattle.std.specs.Prelude.{if◌then◌else◌}
 use Rattle.std.specs.Option.{option_map}
 use Rattle.mm_base.specs.Faults.{next_count, CountRose}
 use Rattle.mm_platform.specs.declared.fault.StepFault.{StepFault}
@@ -101,7 +102,8 @@ faults_after None faults = faults
 faults_after (Some fault) faults = next_count faults
 
 -- the step goes as the plan says
-pub record StepGoesByPlan (plan : Plan) (old new : Standing) (is_made : Bool) (others : List (List ℕ))
+pub record StepGoesByPlan (plan : Plan) (old new : Standing) (is_made : Bool)
+    (others : List (List ℕ))
     (fault : Option StepFault) : Type 0 where
   pub answers : fault ≡ fault_by_plan old.is_on plan
   pub makes : is_made ≡ is_made_by_plan old.is_on plan

@@ -65,5 +65,6 @@ pub trait Register: Device {
 pub trait Platform: Nv + Register {
     /// Loses power and gets it back: the register is zero afterwards, and the cell stays.
     fn cycle(&mut self) -> Result<(), StepFault>
-        ensures { PowerCycles (Self.standing self.old) (Self.standing self.new) (result_err result) };
+        ensures { PowerCycles (Self.standing self.old) (Self.standing self.new)
+            (result_err result) };
 }

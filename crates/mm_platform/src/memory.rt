@@ -105,7 +105,8 @@ impl MemPlatform {
     /// Puts this stop in place of the one that is planned. Its steps are counted from where the plan was made,
     /// and what others bring stays planned.
     pub fn stop_with(&mut self, stop: Stop)
-        ensures { self.new ≡ record self.old { plan = option_map (plan_with_stop stop) self.old.plan } }
+        ensures { self.new ≡ record self.old
+            { plan = option_map (plan_with_stop stop) self.old.plan } }
     {
         self.stop = stop;
     }
@@ -149,7 +150,8 @@ impl MemPlatform {
     /// Others extend the register by this value, now. After want of memory nothing has changed.
     pub fn foreign(&mut self, value: &Digest) -> Result<(), Memory>
         ensures ok { OnOk result
-            (self.new ≡ record self.old { items = items_beside (value.now.bytes ∷ []) self.old.items }) }
+            (self.new ≡ record self.old
+            { items = items_beside (value.now.bytes ∷ []) self.old.items }) }
         ensures err { OnErr result (self.new ≡ self.old) }
     {
         self.register.reserve(self.spare + self.meddles.len() + 1)?;

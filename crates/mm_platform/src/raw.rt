@@ -28,7 +28,8 @@ pub trait RawNv: Device {
 
     /// Loses power and gets it back: the register is zero afterwards, and the bytes stay.
     fn raw_cycle(&mut self) -> Result<(), StepFault>
-        ensures { PowerCycles (Self.standing self.old) (Self.standing self.new) (result_err result) };
+        ensures { PowerCycles (Self.standing self.old) (Self.standing self.new)
+            (result_err result) };
 
     /// A platform that tells its bytes has 209.
     ghost is_whole: { (it : Self) (bytes : List ℕ) → (Self.standing it).cell ≡ Some bytes

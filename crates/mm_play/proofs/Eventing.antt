@@ -4,7 +4,8 @@ use Rattle.mm_play.proofs.Below.{Result, Ok, Err, Option, None, Some, refl, sym,
 use Rattle.mm_play.proofs.Below.{most_events, LineRefusal, Bad, Much, play_outcome, outcome_of_lines, AllByRecursion, longest_line}
 use Rattle.mm_play.specs.Counting.{same_answer, no_answer}
 use Rattle.mm_play.specs.KeptBytes.{most_kept_bytes}
-use Rattle.mm_play.specs.Stage.{EventStage, EventSteps, HeadStage, PlayState, play_state, LineStage, InEvents, is_over, event_answer, line_answer, answer_by}
+use Rattle.mm_play.specs.Stage.{EventStage, EventSteps, HeadStage, PlayState, play_state, LineStage, InEvents, is_over, event_answer}
+use Rattle.mm_play.specs.Stage.{line_answer, answer_by}
 use Rattle.mm_play.specs.StageShows.{state_behind_events, replies, TakesEvents}
 use Rattle.mm_play.proofs.Runs.{first_answered, none_answered}
 use Rattle.std.proofs.lemmas.List.Sums.{sum_by-append}
@@ -96,7 +97,8 @@ module _ {G E R : Type 0} (heads : HeadStage G R) (s : EventStage R) (steps : Ev
       let reads : map (steps.event_in r.stage) before ≡ map Some events = cc in
       let stage : next.stage ≡ steps.after r.stage event = ap (λ (x : PlayState R). x.stage) so in
       let bytes : next.read ≡ r.read + length line = ap (λ (x : PlayState R). x.read) so in
-      let stands : s.kept (state_behind_events steps (steps.after r.stage e) events) ≡ s.kept (state_behind_events steps next.stage events) = cc in
+      let stands : s.kept (state_behind_events steps (steps.after r.stage e) events)
+          ≡ s.kept (state_behind_events steps next.stage events) = cc in
       let sums : sum_by length (first ∷ before) ≡ length line + sum_by length before = rw head (sums_more first before) in
       let counts : s.events next.stage ≡ s.events r.stage + 1 = ap s.events stage ∙ takes.counts r.stage event in
       let reading : steps.event_in next.stage ≡ steps.event_in r.stage = ap steps.event_in stage ∙ takes.reads r.stage event in
@@ -112,7 +114,8 @@ module _ {G E R : Type 0} (heads : HeadStage G R) (s : EventStage R) (steps : Ev
       → AnsweredEvents r (line ∷ lines) (steps.reply r.stage event ++ written) last
   answered_more r line lines event written last is few short a =
       let counts : s.events (steps.after r.stage event) ≡ s.events r.stage + 1 = takes.counts r.stage event in
-      let bytes : r.read + length line + sum_by length lines ≡ r.read + sum_by length (line ∷ lines) = omega (arith, sums_more line lines) in
+      let bytes : r.read + length line + sum_by length lines ≡ r.read + sum_by length (line ∷ lines) =
+          omega (arith, sums_more line lines) in
       record {
         events = event ∷ a.events;
         read = ap (λ first. first ∷ map (steps.event_in r.stage) lines) is ∙ ap (λ others. Some event ∷ others)
@@ -125,7 +128,8 @@ module _ {G E R : Type 0} (heads : HeadStage G R) (s : EventStage R) (steps : Ev
       }
 
   pub answered_events : (lines : List (List ℕ)) (number : ℕ) (r : PlayState R) (written : List ℕ) (last : P)
-      → outcome_of_lines (line_answer heads s) number (InEvents r) lines ≡ play_outcome written (Ok last) → AnsweredEvents r lines written last
+      → outcome_of_lines (line_answer heads s) number (InEvents r) lines ≡ play_outcome written (Ok last)
+      → AnsweredEvents r lines written last
   answered_events [] number r written last h =
       let none = none_answered (line_answer heads s) number (InEvents r) written last h in
       record {

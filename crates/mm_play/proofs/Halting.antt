@@ -2,7 +2,8 @@
 use Rattle.mm_play.proofs.Below.{◌≡◌, ◌∙◌, ◌+◌, ◌<◌, ℕ, Bool, true, false, cond, List, [], ◌∷◌, ◌++◌, length, nat_lt, Result, Ok, Err}
 use Rattle.mm_play.proofs.Below.{Option, None, Some, refl, sym, ap, subst, append-nil, append_assoc, arith, inl, inr, ◌⊎◌}
 use Rattle.mm_play.proofs.Below.{IsUnbroken, lines_of, tail_of, joined_lines, ReplayFault, BadLine, LineLong, TooMuch}
-use Rattle.mm_play.proofs.Below.{longest_line, LineRefusal, Bad, Much, PlayOutcome, play_outcome, stopped_outcome, outcome_after_bytes, outcome_of_lines, outcome_of_tail, outcome_at_end, outcome_then, outcome_of_rest}
+use Rattle.mm_play.proofs.Below.{longest_line, LineRefusal, Bad, Much, PlayOutcome, play_outcome, stopped_outcome, outcome_after_bytes}
+use Rattle.mm_play.proofs.Below.{outcome_of_lines, outcome_of_tail, outcome_at_end, outcome_then, outcome_of_rest}
 use Rattle.mm_play.proofs.Below.{outcome_of_input, HoldsOfWhole}
 use Rattle.std.proofs.lemmas.List.Elements.{All-append, All-replicate}
 use Rattle.std.specs.Prelude.{replicate, ◌≢◌}
@@ -85,7 +86,8 @@ module _ {P : Type 0} (answer : P → List ℕ → Result (List ℕ × P) LineRe
   module _ (closing : P → Option (List ℕ)) (player : P) where
     -- What a run over an input comes to: all lines are answered, and the last ones are written; or it stops at a line, or behind all.
     abbrev pub ComesTo : List (List ℕ) → List ℕ → List ℕ → Result P ReplayFault → Type 0
-    ComesTo lines tail written (Ok end) = (said : List ℕ) × (last : List ℕ) × (tail ≡ []) × (outcome_of_lines answer 1 player lines ≡ play_outcome said (Ok end))
+    ComesTo lines tail written (Ok end) = (said : List ℕ) × (last : List ℕ) × (tail ≡ [])
+        × (outcome_of_lines answer 1 player lines ≡ play_outcome said (Ok end))
         × (closing end ≡ Some last) × (written ≡ said ++ last)
     ComesTo lines tail written (Err fault) = HaltsAt 1 player lines written fault
         ⊎ ((next : P) × (outcome_of_lines answer 1 player lines ≡ play_outcome written (Ok next)) × TailStops tail (1 + length lines) fault)
@@ -93,7 +95,8 @@ module _ {P : Type 0} (answer : P → List ℕ → Result (List ℕ × P) LineRe
     abbrev ComesIn : List (List ℕ) → List ℕ → PlayOutcome P → Type 0
     ComesIn lines tail t = ComesTo lines tail t.written t.outcome
 
-    ends_at : (lines : List (List ℕ)) (tail said : List ℕ) (next : P) (why : ReplayFault) → outcome_of_lines answer 1 player lines ≡ play_outcome said (Ok next)
+    ends_at : (lines : List (List ℕ)) (tail said : List ℕ) (next : P) (why : ReplayFault) → outcome_of_lines answer 1 player lines
+        ≡ play_outcome said (Ok next)
         → TailStops tail (1 + length lines) why → ComesTo lines tail (said ++ []) (Err why)
     ends_at lines tail said next why went s = inr (next, went ∙ ap (λ (w : List ℕ). play_outcome w (Ok next)) (sym (append-nil said)), s)
 
@@ -102,13 +105,15 @@ module _ {P : Type 0} (answer : P → List ℕ → Result (List ℕ × P) LineRe
     comes_by lines tail written (Err why) went = inl went
     comes_by lines [] written (Ok next) went = by (closing next) refl
       where
-        by : (last : Option (List ℕ)) → closing next ≡ last → ComesIn lines [] (outcome_after_bytes written (outcome_at_end (1 + length lines) next last))
+        by : (last : Option (List ℕ)) → closing next ≡ last
+            → ComesIn lines [] (outcome_after_bytes written (outcome_at_end (1 + length lines) next last))
         by None is = ends_at lines [] written next (BadLine (1 + length lines)) went refl
         by (Some last) is = (written, last, refl, went, is, refl)
     comes_by lines (byte ∷ bytes) written (Ok next) went = by (nat_lt longest_line (length (byte ∷ bytes))) refl
       where
         by : (long : Bool) → nat_lt longest_line (length (byte ∷ bytes)) ≡ long → ComesIn lines (byte ∷ bytes)
-            (outcome_after_bytes written (cond long (stopped_outcome (LineLong (1 + length lines))) (stopped_outcome {P = P} (BadLine (1 + length lines)))))
+            (outcome_after_bytes written (cond long (stopped_outcome (LineLong (1 + length lines)))
+            (stopped_outcome {P = P} (BadLine (1 + length lines)))))
         by true is =
             ends_at lines (byte ∷ bytes) written next (LineLong (1 + length lines)) went (refl, is_longer (length (byte ∷ bytes)) is)
         by false is = ends_at lines (byte ∷ bytes) written next (BadLine (1 + length lines)) went refl
@@ -116,7 +121,8 @@ module _ {P : Type 0} (answer : P → List ℕ → Result (List ℕ × P) LineRe
     pub comes : (input : List ℕ) → ComesIn (lines_of input) (tail_of input) (outcome_of_input answer closing player input)
     comes input = comes_by (lines_of input) (tail_of input) _ _ (ran_by (lines_of input) 1 player)
 
-    pub comes_so : (input written : List ℕ) (outcome : Result P ReplayFault) → outcome_of_input answer closing player input ≡ play_outcome written outcome
+    pub comes_so : (input written : List ℕ) (outcome : Result P ReplayFault) → outcome_of_input answer closing player input
+        ≡ play_outcome written outcome
         → ComesTo (lines_of input) (tail_of input) written outcome
     comes_so input written outcome is =
         subst (λ (t : PlayOutcome P). ComesTo (lines_of input) (tail_of input) t.written t.outcome) is (comes input)
@@ -147,10 +153,12 @@ module _ {P : Type 0} (answer : P → List ℕ → Result (List ℕ × P) LineRe
         All-append (λ byte. byte ≢ 10) tail long_bytes (unbroken_tail input) zero_unbroken in
         let size : length (tail ++ long_bytes) ≡ length tail + (longest_line + 1) =
         length-append tail long_bytes ∙ ap (λ (n : ℕ). length tail + n) long_size in
-        let long : outcome_of_rest answer closing (1 + length lines) next ((tail ++ long_bytes) ++ []) ≡ stopped_outcome (LineLong (1 + length lines)) =
+        let long : outcome_of_rest answer closing (1 + length lines) next ((tail ++ long_bytes) ++ [])
+            ≡ stopped_outcome (LineLong (1 + length lines)) =
         outcome_of_rest-long answer closing (1 + length lines) next (tail ++ long_bytes) [] unbroken (omega (arith, size)) in
         ap (outcome_of_input answer closing player) split ∙ more
-        ∙ ap (outcome_after_bytes written) (ap (outcome_of_rest answer closing (1 + length lines) next) (sym (append-nil (tail ++ long_bytes))) ∙ long)
+        ∙ ap (outcome_after_bytes written) (ap (outcome_of_rest answer closing (1 + length lines) next)
+        (sym (append-nil (tail ++ long_bytes))) ∙ long)
         ∙ ap (λ (w : List ℕ). play_outcome w (Err (LineLong (1 + length lines)))) (append-nil written)
 
     no_bad : (number m : ℕ) → (let a : Result P ReplayFault = Err (LineLong number) in a ≡ Err (BadLine m)) → ⊥
@@ -159,7 +167,8 @@ module _ {P : Type 0} (answer : P → List ℕ → Result (List ℕ × P) LineRe
     pub bad_at : (left : Option (List ℕ)) (taken sent : List ℕ) (number : ℕ)
         → HoldsOfWhole left taken (λ input. outcome_of_input answer closing player input ≡ play_outcome sent (Err (BadLine number)))
         → HaltsAt 1 player (lines_of taken) sent (BadLine number)
-        ⊎ (IsAtEnd left × ((next : P) × (outcome_of_lines answer 1 player (lines_of taken) ≡ play_outcome sent (Ok next)) × (number ≡ 1 + length (lines_of taken))))
+        ⊎ (IsAtEnd left × ((next : P) × (outcome_of_lines answer 1 player (lines_of taken) ≡ play_outcome sent (Ok next))
+            × (number ≡ 1 + length (lines_of taken))))
     bad_at left taken sent number (inr w) = elim (comes_so taken sent (Err (BadLine number)) w.1) [ inl h ↦ inl h | inr t ↦ inr (w.0, t) ]
     bad_at left taken sent number (inl each) =
         elim (comes_so taken sent (Err (BadLine number))

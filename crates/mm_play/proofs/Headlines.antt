@@ -1,20 +1,24 @@
 -- The headline of a command over events, from the run of its lines.
 use Rattle.mm_play.proofs.Below.{◌≡◌, ◌∙◌, ◌+◌, ◌≤◌, ◌<◌, ℕ, List, [], ◌∷◌, ◌++◌, length, map, Result, Ok, Err, Option, None, Some}
 use Rattle.mm_play.proofs.Below.{refl, sym, ap, subst, append-nil, append_assoc, arith, inl, inr, ◌⊎◌, AllByRecursion, IsUnbroken, lines_of}
-use Rattle.mm_play.proofs.Below.{tail_of, joined_lines, ReplayFault, Memory, ReadFault, WriteFault, BadLine, LineLong, TooMuch, longest_line}
-use Rattle.mm_play.proofs.Below.{LineRefusal, Bad, Much, play_outcome, outcome_of_lines, outcome_of_input, HoldsOfWhole, AnswerFits, IsFrontOf}
+use Rattle.mm_play.proofs.Below.{tail_of, joined_lines, ReplayFault, Memory, ReadFault, WriteFault, BadLine, LineLong, TooMuch}
+use Rattle.mm_play.proofs.Below.{longest_line}
+use Rattle.mm_play.proofs.Below.{LineRefusal, Bad, Much, play_outcome, outcome_of_lines, outcome_of_input, HoldsOfWhole, AnswerFits}
+use Rattle.mm_play.proofs.Below.{IsFrontOf}
 use Rattle.mm_base.specs.InputLaws.{joined-append}
 use Rattle.mm_play.specs.Counting.{same_answer, no_answer}
 use Rattle.mm_play.specs.HeadingStep.{HeadingStep, More, Begins}
 use Rattle.mm_play.specs.Headline.{EventPlayer, HeadingLeads, IsNextLine, IsOver, IsLeft, TextWentOut, AreAnswered}
-use Rattle.mm_play.specs.Stage.{EventStage, EventSteps, HeadStage, play_state, LineStage, AtHeading, InEvents, head_answer, line_answer, closing_lines}
+use Rattle.mm_play.specs.Stage.{EventStage, EventSteps, HeadStage, play_state, LineStage, AtHeading, InEvents, head_answer, line_answer}
+use Rattle.mm_play.specs.Stage.{closing_lines}
 use Rattle.mm_play.specs.StageShows.{heading_step_by, StageShows}
 use Rattle.mm_play.proofs.Eventing.{AreShort, AnsweredEvents, IsOverIn, is_short, answered_events, much_over, bad_none}
 use Rattle.mm_play.proofs.Halting.{ComesTo, comes, comes_so, bad_at}
 use Rattle.mm_play.proofs.Runs.{first_answered, FirstAnswered, none_answered}
 use Rattle.mm_play.proofs.Splitting.{whole_input, unbroken_lines, unbroken_tail}
 
-lead_more : {G H : Type 0} (head : G → List ℕ → Option (HeadingStep G H)) (at next : G) (line : List ℕ) (lines : List (List ℕ)) (to : HeadingStep G H)
+lead_more : {G H : Type 0} (head : G → List ℕ → Option (HeadingStep G H)) (at next : G) (line : List ℕ) (lines : List (List ℕ))
+    (to : HeadingStep G H)
     → head at line ≡ Some (More next) → HeadingLeads head next lines to → HeadingLeads head at (line ∷ lines) to
 lead_more head at next line [] to is lead = is ∙ ap Some (sym lead)
 lead_more head at next line (more ∷ lines) to is lead = (next, is, lead)
@@ -43,7 +47,8 @@ parts : (taken : List ℕ) (done rest : List (List ℕ)) → lines_of taken ≡ 
     → taken ≡ joined_lines done ++ (joined_lines rest ++ tail_of taken)
 parts taken done rest split =
     whole_input taken ∙ ap (λ (ls : List (List ℕ)). joined_lines ls ++ tail_of taken) split
-    ∙ ap (λ (l : List ℕ). l ++ tail_of taken) (joined-append done rest) ∙ append_assoc (joined_lines done) (joined_lines rest) (tail_of taken)
+    ∙ ap (λ (l : List ℕ). l ++ tail_of taken) (joined-append done rest) ∙ append_assoc (joined_lines done)
+    (joined_lines rest) (tail_of taken)
 
 -- the line of this number is too long, or the bytes behind the last
 abbrev IsLongAt : ℕ → ℕ → List ℕ → Type 0
@@ -116,7 +121,8 @@ module _ {G H E S R : Type 0} (p : EventPlayer G H E S) (heads : HeadStage G R) 
       inl (record { to = at; leads = refl; stands = none.1; silent = none.0; short = tt })
   opened (line ∷ lines) number at written last h =
       let f = first_answered answer number (AtHeading at) line lines written last h in
-      by (λ to ran. opened lines (number + 1) to written last ran) f (p.head at line) refl (ap (λ (x : Option (HeadingStep G R)). head_answer x) (sym (shows.leads at line)) ∙ f.replied)
+      by (λ to ran. opened lines (number + 1) to written last ran) f (p.head at line) refl
+          (ap (λ (x : Option (HeadingStep G R)). head_answer x) (sym (shows.leads at line)) ∙ f.replied)
     where
       ran_from : (f : FirstAnswered answer number (AtHeading at) line lines written last) (to : P)
           → (let x : List ℕ × P = ([], to) in x ≡ f.reply) → outcome_of_lines answer (number + 1) to lines ≡ play_outcome written (Ok last)
@@ -124,8 +130,10 @@ module _ {G H E S R : Type 0} (p : EventPlayer G H E S) (heads : HeadStage G R) 
           ap (λ (x : List ℕ × P). outcome_of_lines answer (number + 1) x.1 lines) said ∙ f.ran
           ∙ ap (λ (w : List ℕ). play_outcome w (Ok last)) (ap (λ (x : List ℕ × P). x.0 ++ f.more) said ∙ sym f.whole)
 
-      by : ((to : G) → outcome_of_lines answer (number + 1) (AtHeading to) lines ≡ play_outcome written (Ok last) → Opened to lines written last)
-          → (f : FirstAnswered answer number (AtHeading at) line lines written last) (found : Option (HeadingStep G H)) → p.head at line ≡ found
+      by : ((to : G) → outcome_of_lines answer (number + 1) (AtHeading to) lines ≡ play_outcome written (Ok last)
+          → Opened to lines written last)
+          → (f : FirstAnswered answer number (AtHeading at) line lines written last) (found : Option (HeadingStep G H))
+          → p.head at line ≡ found
           → head_answer (heading_step_by begun found) ≡ Ok f.reply → Opened at (line ∷ lines) written last
       by on f None is h = absurd (no_answer Bad f.reply.0 f.reply.1 h)
       by on f (Some (More next)) is h =
@@ -164,7 +172,8 @@ module _ {G H E S R : Type 0} (p : EventPlayer G H E S) (heads : HeadStage G R) 
       | inr large ↦ inr (omega (arith, large, shows.kept header events))
     ]
 
-    abbrev begun_so : (lines : List (List ℕ)) (written : List ℕ) (last : P) → BegunEvents p.start lines written last → AreAnswered p Holds lines
+    abbrev begun_so : (lines : List (List ℕ)) (written : List ℕ) (last : P) → BegunEvents p.start lines written last
+        → AreAnswered p Holds lines
     begun_so lines written last e = record {
       heads = e.front;
       others = e.others;
@@ -224,13 +233,15 @@ module _ {G H E S R : Type 0} (p : EventPlayer G H E S) (heads : HeadStage G R) 
         × AllByRecursion (λ line. IsUnbroken line × (length line ≤ longest_line)) done × Continues left after stop sent result done
 
     -- a line of the heading is refused as none, and never as one too many
-    head_bad : (found : Option (HeadingStep G H)) → (let x : Result (List ℕ × P) LineRefusal = head_answer (heading_step_by begun found) in x ≡ Err Bad)
+    head_bad : (found : Option (HeadingStep G H)) → (let x : Result (List ℕ × P) LineRefusal = head_answer (heading_step_by begun found) in
+        x ≡ Err Bad)
         → found ≡ None
     head_bad None h = refl
     head_bad (Some (More to)) h = cc
     head_bad (Some (Begins header)) h = cc
 
-    head_much : (found : Option (HeadingStep G H)) → (let x : Result (List ℕ × P) LineRefusal = head_answer (heading_step_by begun found) in x ≡ Err Much)
+    head_much : (found : Option (HeadingStep G H)) → (let x : Result (List ℕ × P) LineRefusal = head_answer (heading_step_by begun found) in
+        x ≡ Err Much)
         → ⊥
     head_much None h = cc
     head_much (Some (More to)) h = cc
@@ -258,7 +269,8 @@ module _ {G H E S R : Type 0} (p : EventPlayer G H E S) (heads : HeadStage G R) 
             joined_lines rest ++ tail_of taken,
             parts taken done rest split,
             both_short done u.0 (all_short p.start done written next o),
-            continues left (joined_lines rest ++ tail_of taken) [] sent result done written next o (λ h. at_head h u.1) (λ e. at_events e u.1)
+            continues left (joined_lines rest ++ tail_of taken) [] sent result done written next o (λ h. at_head h u.1)
+            (λ e. at_events e u.1)
                 went,
           )
 
@@ -278,17 +290,21 @@ module _ {G H E S R : Type 0} (p : EventPlayer G H E S) (heads : HeadStage G R) 
 
     -- by how it ended
     pub tells : {T : Type 0} (next : P) (left : Option (List ℕ)) (taken sent : List ℕ) (result : Result T ReplayFault)
-        → AnswerFits (outcome_of_lines answer 1 (AtHeading p.start)) (outcome_of_input answer closing (AtHeading p.start)) next left taken sent result
+        → AnswerFits (outcome_of_lines answer 1 (AtHeading p.start)) (outcome_of_input answer closing (AtHeading p.start)) next left
+        taken sent result
         → ToldOf left taken [] sent result
     tells {T} next left taken sent (Ok r) settled =
         let c = comes_so answer closing (AtHeading p.start) taken sent (Ok next) settled.1 in
-        told_at left taken sent T (Ok r) (lines_of taken) [] c.0 next (whole_lines taken) c.3 (λ h u. (settled.0, c.2)) (λ e u. (settled.0, c.2))
+        told_at left taken sent T (Ok r) (lines_of taken) [] c.0 next (whole_lines taken) c.3 (λ h u. (settled.0, c.2))
+        (λ e u. (settled.0, c.2))
         (λ text end w e. (c.1, sym e ∙ c.4, c.5 ∙ ap (λ (l : List ℕ). l ++ c.1) w))
     tells {T} next left taken sent (Err ReadFault) settled =
-        told_at left taken sent T (Err ReadFault) (lines_of taken) [] sent settled.1.0 (whole_lines taken) settled.1.1 (λ h u. (unbroken_tail taken, settled.0))
+        told_at left taken sent T (Err ReadFault) (lines_of taken) [] sent settled.1.0 (whole_lines taken) settled.1.1
+        (λ h u. (unbroken_tail taken, settled.0))
         (λ e u. (unbroken_tail taken, settled.0)) (λ text end w e. all_text sent text w)
     tells {T} next left taken sent (Err WriteFault) settled =
-        by (outcome_of_input answer closing (AtHeading p.start) taken).written (outcome_of_input answer closing (AtHeading p.start) taken).outcome
+        by (outcome_of_input answer closing (AtHeading p.start) taken).written
+        (outcome_of_input answer closing (AtHeading p.start) taken).outcome
         (for_these left taken (λ input. IsFrontOf sent (outcome_of_input answer closing (AtHeading p.start) input).written) settled)
         (comes answer closing (AtHeading p.start) taken)
       where
@@ -297,7 +313,8 @@ module _ {G H E S R : Type 0} (p : EventPlayer G H E S) (heads : HeadStage G R) 
             → ToldOf {T = T} left taken [] sent (Err WriteFault)
         by written (Ok end) front c =
             told_at left taken sent T (Err WriteFault) (lines_of taken) [] c.0 end (whole_lines taken) c.3 (λ h u. tt) (λ e u. tt)
-            (λ text last w e. inr (c.2, c.1, sym e ∙ c.4, front_text sent written (text ++ c.1) (c.5 ∙ ap (λ (l : List ℕ). l ++ c.1) w) front))
+            (λ text last w e. inr (c.2, c.1, sym e ∙ c.4, front_text sent written (text ++ c.1)
+            (c.5 ∙ ap (λ (l : List ℕ). l ++ c.1) w) front))
         by written (Err why) front (inl h) =
             told_at left taken sent T (Err WriteFault) h.done (h.line ∷ h.rest) written h.next h.split h.ran (λ h u. tt) (λ e u. tt)
             (λ text last w e. inl (front_text sent written text w front))
@@ -305,7 +322,8 @@ module _ {G H E S R : Type 0} (p : EventPlayer G H E S) (heads : HeadStage G R) 
             told_at left taken sent T (Err WriteFault) (lines_of taken) [] written t.0 (whole_lines taken) t.1 (λ h u. tt) (λ e u. tt)
             (λ text last w e. inl (front_text sent written text w front))
     tells {T} next left taken sent (Err Memory) settled =
-        let it = told_at left settled.0 sent T (Err Memory) (lines_of settled.0) [] sent settled.2 (whole_lines settled.0) settled.3 (λ h u. tt) (λ e u. tt)
+        let it = told_at left settled.0 sent T (Err Memory) (lines_of settled.0) [] sent settled.2 (whole_lines settled.0) settled.3
+            (λ h u. tt) (λ e u. tt)
         (λ text end w e. all_text sent text w) in (
           it.0,
           it.1 ++ settled.1.0,
@@ -335,12 +353,14 @@ module _ {G H E S R : Type 0} (p : EventPlayer G H E S) (heads : HeadStage G R) 
                 ),
               )) (λ text end w e. all_text sent text w)
           | inr t ↦ told_at left taken sent T (Err (BadLine number)) (lines_of taken) [] sent t.1.0 (whole_lines taken) t.1.1
-              (λ h u. (omega (arith, t.1.2), inr (t.0, unbroken_tail taken))) (λ e u. (omega (arith, t.1.2), inr (t.0, unbroken_tail taken)))
+              (λ h u. (omega (arith, t.1.2), inr (t.0, unbroken_tail taken)))
+              (λ e u. (omega (arith, t.1.2), inr (t.0, unbroken_tail taken)))
               (λ text end w e. all_text sent text w)
         ]
     tells {T} next left taken sent (Err (LineLong number)) settled =
         elim (comes_so answer closing (AtHeading p.start) taken sent (Err (LineLong number))
-        (for_these left taken (λ input. outcome_of_input answer closing (AtHeading p.start) input ≡ play_outcome sent (Err (LineLong number))) settled)) [
+        (for_these left taken (λ input. outcome_of_input answer closing (AtHeading p.start) input ≡ play_outcome sent
+        (Err (LineLong number))) settled)) [
           | inl h ↦ told_at left taken sent T (Err (LineLong number)) h.done (h.line ∷ h.rest) sent h.next h.split h.ran
               (λ at u. long_line number (length h.done) h.line h.rest (tail_of taken) h.stops.0 u.0 h.stops.1)
               (λ e u. long_line number (length h.done) h.line h.rest (tail_of taken) h.stops.0 u.0 h.stops.1)
@@ -352,9 +372,11 @@ module _ {G H E S R : Type 0} (p : EventPlayer G H E S) (heads : HeadStage G R) 
         ]
     tells {T} next left taken sent (Err TooMuch) settled =
         elim (comes_so answer closing (AtHeading p.start) taken sent (Err TooMuch)
-        (for_these left taken (λ input. outcome_of_input answer closing (AtHeading p.start) input ≡ play_outcome sent (Err TooMuch)) settled)) [
+        (for_these left taken (λ input. outcome_of_input answer closing (AtHeading p.start) input ≡ play_outcome sent (Err TooMuch))
+        settled)) [
           | inl h ↦ told_at left taken sent T (Err TooMuch) h.done (h.line ∷ h.rest) sent h.next h.split h.ran
-              (λ at u. absurd (head_much (p.head at.to h.line) (ap (λ (x : Option (HeadingStep G R)). head_answer x) (sym (shows.leads at.to h.line))
+              (λ at u. absurd (head_much (p.head at.to h.line)
+              (ap (λ (x : Option (HeadingStep G R)). head_answer x) (sym (shows.leads at.to h.line))
               ∙ ap (λ (x : P). answer x h.line) (sym at.stands) ∙ h.stops)))
               (λ e u. (
                 h.line,

@@ -1,10 +1,13 @@
 -- How a run goes on over more lines, and where it stops.
 use Rattle.mm_play.proofs.Below.{◌≡◌, ◌∙◌, ◌<◌, ◌≤◌, ◌+◌, ℕ, Bool, true, false, cond, List, [], ◌∷◌, ◌++◌, length, Result, Ok, Err, Option}
 use Rattle.mm_play.proofs.Below.{refl, sym, ap, append_assoc, append-nil, arith, nat_lt, length-append, nat_tests, AllByRecursion}
-use Rattle.mm_play.proofs.Below.{IsUnbroken, lines_of, tail_of, joined_lines, lines_with_front, tail_with_front, lines_of-append, tail_of-append}
+use Rattle.mm_play.proofs.Below.{IsUnbroken, lines_of, tail_of, joined_lines, lines_with_front, tail_with_front, lines_of-append}
+use Rattle.mm_play.proofs.Below.{tail_of-append}
 use Rattle.mm_play.proofs.Below.{lines_of-line, tail_of-line, lines_of-joined, tail_of-joined, lines_of-unbroken, tail_of-unbroken}
-use Rattle.mm_play.proofs.Below.{ReplayFault, BadLine, LineLong, longest_line, LineRefusal, PlayOutcome, play_outcome, stopped_outcome, outcome_after_bytes, refusal_at}
-use Rattle.mm_play.proofs.Below.{outcome_of_answer, outcome_of_lines, outcome_of_tail, outcome_then, outcome_of_both, outcome_of_rest, outcome_of_input}
+use Rattle.mm_play.proofs.Below.{ReplayFault, BadLine, LineLong, longest_line, LineRefusal, PlayOutcome, play_outcome, stopped_outcome}
+use Rattle.mm_play.proofs.Below.{outcome_after_bytes, refusal_at}
+use Rattle.mm_play.proofs.Below.{outcome_of_answer, outcome_of_lines, outcome_of_tail, outcome_then, outcome_of_both, outcome_of_rest}
+use Rattle.mm_play.proofs.Below.{outcome_of_input}
 
 is_long : {n : ℕ} → longest_line < n → nat_lt longest_line n ≡ true
 is_long h = grind (arith, nat_tests)
@@ -27,7 +30,8 @@ written_of h = ap (λ (x : PlayOutcome _). x.written) h
 pub outcome_of : {P : Type 0} {t u : PlayOutcome P} → t ≡ u → t.outcome ≡ u.outcome
 outcome_of h = ap (λ (x : PlayOutcome _). x.outcome) h
 
-pub told_is : {P : Type 0} (t : PlayOutcome P) (written : List ℕ) (outcome : Result P ReplayFault) → t.written ≡ written → t.outcome ≡ outcome
+pub told_is : {P : Type 0} (t : PlayOutcome P) (written : List ℕ) (outcome : Result P ReplayFault) → t.written ≡ written
+    → t.outcome ≡ outcome
     → t ≡ play_outcome written outcome
 told_is t written outcome w o = λ i. play_outcome (w i) (o i)
 
@@ -48,7 +52,8 @@ module _ {P : Type 0} (answer : P → List ℕ → Result (List ℕ × P) LineRe
   turned = by (nat_lt longest_line (length line)) refl (answer player line) refl
     where
       by : (long : Bool) → nat_lt longest_line (length line) ≡ long → (said : Result (List ℕ × P) LineRefusal) → answer player line ≡ said
-          → Turned (cond long (stopped_outcome (LineLong number)) (outcome_of_answer (λ next. outcome_of_lines answer (number + 1) next lines) number said))
+          → Turned (cond long (stopped_outcome (LineLong number))
+          (outcome_of_answer (λ next. outcome_of_lines answer (number + 1) next lines) number said))
       by true long said is = Long (is_longer (length line) long) refl
       by false short (Err why) is = Refuses why is refl
       by false short (Ok reply) is = Replies reply short is refl
@@ -81,21 +86,24 @@ module _ {P : Type 0} (answer : P → List ℕ → Result (List ℕ × P) LineRe
           }
 
 -- there is no line
-pub none_answered : {P : Type 0} (answer : P → List ℕ → Result (List ℕ × P) LineRefusal) (number : ℕ) (player : P) (written : List ℕ) (last : P)
+pub none_answered : {P : Type 0} (answer : P → List ℕ → Result (List ℕ × P) LineRefusal) (number : ℕ) (player : P)
+    (written : List ℕ) (last : P)
     → outcome_of_lines answer number player [] ≡ play_outcome written (Ok last) → (written ≡ []) × (last ≡ player)
 none_answered answer number player written last h = (sym (written_of h), sym (ok_same player last (outcome_of h)))
 
 -- the run over these lines, and then over more
 pub run-append : {P : Type 0} (answer : P → List ℕ → Result (List ℕ × P) LineRefusal) (number : ℕ) (player : P) (lines more : List (List ℕ))
     (sent : List ℕ) (last : P) → outcome_of_lines answer number player lines ≡ play_outcome sent (Ok last)
-    → outcome_of_lines answer number player (lines ++ more) ≡ outcome_after_bytes sent (outcome_of_lines answer (number + length lines) last more)
+    → outcome_of_lines answer number player (lines ++ more) ≡ outcome_after_bytes sent
+    (outcome_of_lines answer (number + length lines) last more)
 run-append answer number player [] more sent last h =
     let at_last = ok_same player last (outcome_of h) in
     rw (at_last, ← written_of h) (ap (λ n. outcome_of_lines answer n last more) (omega arith))
 run-append answer number player (line ∷ lines) more sent last h =
     let f = first_answered answer number player line lines sent last h in
     rw (f.short, f.replied, run-append answer (number + 1) f.reply.1 lines more f.more last f.ran)
-    (outcome_after_bytes-twice f.reply.0 f.more _ ∙ ap (λ n. outcome_after_bytes (f.reply.0 ++ f.more) (outcome_of_lines answer n last more)) (omega arith)
+    (outcome_after_bytes-twice f.reply.0 f.more _
+    ∙ ap (λ n. outcome_after_bytes (f.reply.0 ++ f.more) (outcome_of_lines answer n last more)) (omega arith)
     ∙ ap (λ bytes. outcome_after_bytes bytes (outcome_of_lines answer (number + length (line ∷ lines)) last more)) (sym f.whole))
 
 -- what comes after lines that were all answered goes after what they wrote
@@ -112,7 +120,8 @@ module _ {P : Type 0} (answer : P → List ℕ → Result (List ℕ × P) LineRe
   -- A run that answered these lines goes on with the rest of the input.
   pub outcome_of_rest-joined : (player : P) (lines : List (List ℕ)) (rest sent : List ℕ) (last : P) → AllByRecursion IsUnbroken lines
       → outcome_of_lines answer 1 player lines ≡ play_outcome sent (Ok last)
-      → outcome_of_input answer closing player (joined_lines lines ++ rest) ≡ outcome_after_bytes sent (outcome_of_rest answer closing (1 + length lines) last rest)
+      → outcome_of_input answer closing player (joined_lines lines ++ rest) ≡ outcome_after_bytes sent
+      (outcome_of_rest answer closing (1 + length lines) last rest)
   outcome_of_rest-joined player lines rest sent last each went =
       let behind : 1 + length (lines ++ lines_of rest) ≡ 1 + length lines + length (lines_of rest) =
       omega (arith, length-append lines (lines_of rest)) in
@@ -133,7 +142,8 @@ module _ {P : Type 0} (answer : P → List ℕ → Result (List ℕ × P) LineRe
     -- The first line is answered, and the run goes on.
     pub outcome_of_rest-answered : (line rest reply : List ℕ) (next : P) → IsUnbroken line → length line ≤ longest_line
         → answer player line ≡ Ok (reply, next)
-        → outcome_of_rest answer closing number player (line ++ 10 ∷ rest) ≡ outcome_after_bytes reply (outcome_of_rest answer closing (number + 1) next rest)
+        → outcome_of_rest answer closing number player (line ++ 10 ∷ rest) ≡ outcome_after_bytes reply
+        (outcome_of_rest answer closing (number + 1) next rest)
     outcome_of_rest-answered line rest reply next unbroken short h =
         let behind : number + length (line ∷ lines_of rest) ≡ number + 1 + length (lines_of rest) = omega arith in
         rw (lines_of-line line rest unbroken, tail_of-line line rest unbroken, behind, is_short short, h)
@@ -152,8 +162,10 @@ module _ {P : Type 0} (answer : P → List ℕ → Result (List ℕ × P) LineRe
             let long : longest_line < length ((byte ∷ front) ++ tail) = omega (arith, length-append (byte ∷ front) tail) in
             rw (is_long long) (ap (λ n. stopped_outcome {P = P} (LineLong n)) (omega arith))
 
-        by_lines : (lines : List (List ℕ)) (tail : List ℕ) → outcome_of_both (outcome_of_lines answer number player (lines_with_front bytes lines))
-            (outcome_of_tail closing (number + length (lines_with_front bytes lines)) (tail_with_front bytes lines tail)) ≡ stopped_outcome (LineLong number)
+        by_lines : (lines : List (List ℕ)) (tail : List ℕ)
+            → outcome_of_both (outcome_of_lines answer number player (lines_with_front bytes lines))
+            (outcome_of_tail closing (number + length (lines_with_front bytes lines)) (tail_with_front bytes lines tail))
+            ≡ stopped_outcome (LineLong number)
         by_lines [] tail = long_tail bytes tail long
         by_lines (line ∷ lines) tail =
             let too_long : longest_line < length (bytes ++ line) = omega (arith, length-append bytes line) in rw (is_long too_long) refl
@@ -171,7 +183,9 @@ module _ {P : Type 0} (answer : P → List ℕ → Result (List ℕ × P) LineRe
 
 -- One more line was answered.
 pub run-more : {P : Type 0} (answer : P → List ℕ → Result (List ℕ × P) LineRefusal) (player : P) (lines : List (List ℕ))
-    (line sent reply : List ℕ) (last next : P) → outcome_of_lines answer 1 player lines ≡ play_outcome sent (Ok last) → length line ≤ longest_line
+    (line sent reply : List ℕ) (last next : P) → outcome_of_lines answer 1 player lines ≡ play_outcome sent (Ok last)
+    → length line ≤ longest_line
     → answer last line ≡ Ok (reply, next) → outcome_of_lines answer 1 player (lines ++ line ∷ []) ≡ play_outcome (sent ++ reply) (Ok next)
 run-more answer player lines line sent reply last next went short h =
-    rw (run-append answer 1 player lines (line ∷ []) sent last went, is_short short, h) (ap (λ bytes. play_outcome (sent ++ bytes) (Ok next)) (append-nil reply))
+    rw (run-append answer 1 player lines (line ∷ []) sent last went, is_short short, h)
+    (ap (λ bytes. play_outcome (sent ++ bytes) (Ok next)) (append-nil reply))

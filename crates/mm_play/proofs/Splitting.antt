@@ -7,7 +7,8 @@ use Rattle.mm_play.proofs.Below.{IsUnbroken, lines_of, tail_of, joined_lines, li
 
 whole_by : (is_break : Bool) (byte : ℕ) (lines : List (List ℕ)) (tail : List ℕ) → (is_break ≡ true → byte ≡ 10)
     → byte ∷ (joined_lines lines ++ tail)
-    ≡ joined_lines (cond is_break ([] ∷ lines) (lines_with_front (byte ∷ []) lines)) ++ cond is_break tail (tail_with_front (byte ∷ []) lines tail)
+    ≡ joined_lines (cond is_break ([] ∷ lines) (lines_with_front (byte ∷ []) lines)) ++ cond is_break tail
+    (tail_with_front (byte ∷ []) lines tail)
 whole_by true byte lines tail lf = ap (λ n. n ∷ (joined_lines lines ++ tail)) (lf refl)
 whole_by false byte [] tail lf = refl
 whole_by false byte (line ∷ lines) tail lf = refl

@@ -4,7 +4,8 @@ use Rattle.mm_play.proofs.Below.{◌≡◌, ◌∙◌, ◌+◌, ℕ, Bool, true,
 use Rattle.mm_play.proofs.Below.{subst, append_assoc, append-nil, arith, inl, inr, length-append, Appends, Consumes, AllByRecursion}
 use Rattle.mm_play.proofs.Below.{Appends-nil, Appends-trans, Consumes-nil, Consumes-trans, IsUnbroken, joined_lines, lines_of-joined}
 use Rattle.mm_play.proofs.Below.{lines_of-unbroken, tail_of-joined, tail_of-unbroken, joined-append, ReplayFault, Memory, ReadFault}
-use Rattle.mm_play.proofs.Below.{WriteFault, LineRefusal, PlayOutcome, play_outcome, stopped_outcome, outcome_after_bytes, outcome_of_lines, outcome_of_rest, outcome_of_input, IsFrontOf, HoldsOfWhole}
+use Rattle.mm_play.proofs.Below.{WriteFault, LineRefusal, PlayOutcome, play_outcome, stopped_outcome, outcome_after_bytes, outcome_of_lines}
+use Rattle.mm_play.proofs.Below.{outcome_of_rest, outcome_of_input, IsFrontOf, HoldsOfWhole}
 use Rattle.mm_play.proofs.Below.{AnswerFits, PlaysInput, TurnPlays, PlaysNext}
 use Rattle.mm_play.proofs.Runs.{run-more, outcome_of_rest-joined}
 use Rattle.mm_play.proofs.Turning.{front_after}
@@ -74,7 +75,8 @@ module _ {P : Type 0} {answer : P → List ℕ → Result (List ℕ × P) LineRe
         unbroken = AllByRecursion-snoc s.lines a.2.line s.unbroken a.2.unbroken;
         counted = omega (arith, s.counted, length-append s.lines (a.2.line ∷ []));
         ran = run-more answer first s.lines a.2.line (s.sent ++ pending) a.0 player next s.ran a.2.short a.2.answered
-            ∙ ap (λ b. play_outcome b (Ok next)) (rw append_assoc (ap (λ b. s.sent ++ b) (sym a.1) ∙ sym (append_assoc s.sent t.sent pending')));
+            ∙ ap (λ b. play_outcome b (Ok next))
+            (rw append_assoc (ap (λ b. s.sent ++ b) (sym a.1) ∙ sym (append_assoc s.sent t.sent pending')));
       }
 
   -- The rest of the input goes after what was taken so far.
@@ -96,7 +98,8 @@ module _ {P : Type 0} {answer : P → List ℕ → Result (List ℕ × P) LineRe
   -- What was told where the turn ends the run.
   settled_by : (said : List ℕ) (fault : ReplayFault)
       → TurnPlays answer (outcome_of_rest answer closing number player) player next left'' (held ++ t.taken) held' pending said (Err fault)
-      → AnswerFits {T = Unit {0}} (outcome_of_lines answer 1 first) (outcome_of_input answer closing first) next left'' (s.taken ++ t.taken) (s.sent ++ said)
+      → AnswerFits {T = Unit {0}} (outcome_of_lines answer 1 first) (outcome_of_input answer closing first) next left''
+      (s.taken ++ t.taken) (s.sent ++ said)
       (Err fault)
   settled_by said ReadFault w =
       rw (
@@ -118,10 +121,12 @@ module _ {P : Type 0} {answer : P → List ℕ → Result (List ℕ × P) LineRe
     rw (← append-nil (joined_lines s.lines), lines_of-joined s.lines [] s.unbroken, append-nil s.lines, w) s.ran,
   )
   settled_by said fault w =
-      for_whole (λ t. t ≡ stopped_outcome fault) (λ t. t ≡ play_outcome (s.sent ++ said) (Err fault)) (λ t h. rw (h, w.0, append-nil) refl) w.1
+      for_whole (λ t. t ≡ stopped_outcome fault) (λ t. t ≡ play_outcome (s.sent ++ said) (Err fault))
+      (λ t h. rw (h, w.0, append-nil) refl) w.1
 
   plays_with : (came : Result (Unit {0}) ReplayFault)
-      → AnswerFits (outcome_of_lines answer 1 first) (outcome_of_input answer closing first) next left'' (s.taken ++ t.taken) (s.sent ++ t.sent) came
+      → AnswerFits (outcome_of_lines answer 1 first) (outcome_of_input answer closing first) next left'' (s.taken ++ t.taken)
+      (s.sent ++ t.sent) came
       → PlaysInput answer closing first next left left'' received received'' came
   plays_with came settled = record {
     taken = s.taken ++ t.taken;
@@ -136,7 +141,8 @@ module _ {P : Type 0} {answer : P → List ℕ → Result (List ℕ × P) LineRe
       → PlaysInput {T = Unit {0}} answer closing first next left left'' received received'' (Err fault)
   plays_stopped fault is =
       plays_with (Err fault)
-      (subst (λ (b : List ℕ). AnswerFits {T = Unit {0}} (outcome_of_lines answer 1 first) (outcome_of_input answer closing first) next left'' (s.taken ++ t.taken)
+      (subst (λ (b : List ℕ). AnswerFits {T = Unit {0}} (outcome_of_lines answer 1 first) (outcome_of_input answer closing first) next
+      left'' (s.taken ++ t.taken)
       (s.sent ++ b) (Err fault)) (all_sent (rw is at t.is_sent)) (settled_by (t.sent ++ pending') fault (went_by (Err fault) is)))
 
   -- The input ended.

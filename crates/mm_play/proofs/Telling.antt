@@ -2,8 +2,10 @@
 -- not refused.
 use Rattle.mm_play.proofs.Below.{◌≡◌, ◌∙◌, ◌+◌, ℕ, List, [], ◌∷◌, ◌++◌, length, Result, Ok, Err, Option, None, Some, refl, sym, ap}
 use Rattle.mm_play.proofs.Below.{append-nil, arith, inl, inr, ◌⊎◌, lines_of, tail_of, ReplayFault, Memory, ReadFault, WriteFault, BadLine}
-use Rattle.mm_play.proofs.Below.{LineLong, TooMuch, LineRefusal, PlayOutcome, play_outcome, outcome_of_lines, outcome_of_input, HoldsOfWhole, AnswerFits, IsFrontOf, AnswersFirst, AnswersAllLines}
-use Rattle.mm_play.proofs.Below.{AnswersWholeInput, RefusesMuch, TellsOutput, StopsAnywhere, StopsBeforeLine, Consumes, IsUnrefused, PlaysInput}
+use Rattle.mm_play.proofs.Below.{LineLong, TooMuch, LineRefusal, PlayOutcome, play_outcome, outcome_of_lines, outcome_of_input}
+use Rattle.mm_play.proofs.Below.{HoldsOfWhole, AnswerFits, IsFrontOf, AnswersFirst, AnswersAllLines}
+use Rattle.mm_play.proofs.Below.{AnswersWholeInput, RefusesMuch, TellsOutput, StopsAnywhere, StopsBeforeLine, Consumes, IsUnrefused}
+use Rattle.mm_play.proofs.Below.{PlaysInput}
 use Rattle.mm_play.proofs.Halting.{comes, comes_so, ComesTo, HaltsAt, TailStops}
 use Rattle.mm_play.proofs.Runs.{not_ok}
 
@@ -93,8 +95,10 @@ module _ {P : Type 0} (answer : P → List ℕ → Result (List ℕ × P) LineRe
       })) (λ input t. absurd t) s
 
 -- an answer other than Ok means the same for any call
-pub settles_err : {P : Type 0} (A B : Type 0) (lines : List (List ℕ) → PlayOutcome P) (whole : List ℕ → PlayOutcome P) (next : P) (left : Option (List ℕ))
-    (taken sent : List ℕ) (fault : ReplayFault) → (let r : Result A ReplayFault = Err fault in AnswerFits lines whole next left taken sent r)
+pub settles_err : {P : Type 0} (A B : Type 0) (lines : List (List ℕ) → PlayOutcome P) (whole : List ℕ → PlayOutcome P) (next : P)
+    (left : Option (List ℕ))
+    (taken sent : List ℕ) (fault : ReplayFault)
+    → (let r : Result A ReplayFault = Err fault in AnswerFits lines whole next left taken sent r)
     → (let r : Result B ReplayFault = Err fault in AnswerFits lines whole next left taken sent r)
 settles_err A B lines whole next left taken sent Memory s = s
 settles_err A B lines whole next left taken sent _ s = s
@@ -103,7 +107,8 @@ settles_err A B lines whole next left taken sent _ s = s
 module _ {P R : Type 0} {answer : P → List ℕ → Result (List ℕ × P) LineRefusal} {closing : P → Option (List ℕ)} {first player next : P}
     {left left' received received' : Option (List ℕ)} {result : Result (Unit {0}) ReplayFault} where
   as_said : player ≡ first → PlaysInput answer closing player next left left' received received' result → (said : Result R ReplayFault)
-      → ((taken sent : List ℕ) → AnswerFits (outcome_of_lines answer 1 first) (outcome_of_input answer closing first) next left' taken sent result
+      → ((taken sent : List ℕ) → AnswerFits (outcome_of_lines answer 1 first) (outcome_of_input answer closing first) next left'
+      taken sent result
       → AnswerFits (outcome_of_lines answer 1 first) (outcome_of_input answer closing first) next left' taken sent said)
       → PlaysInput answer closing first next left left' received received' said
   as_said begins played said settles =
@@ -129,7 +134,8 @@ module _ {P R : Type 0} {answer : P → List ℕ → Result (List ℕ × P) Line
       → (let said : Result R ReplayFault = Err fault in PlaysInput answer closing first next left left' received received' said)
   plays_err begins played fault is =
       as_said begins played (Err fault)
-      (λ taken sent settled. settles_err (Unit {0}) R (outcome_of_lines answer 1 first) (outcome_of_input answer closing first) next left' taken sent fault
+      (λ taken sent settled. settles_err (Unit {0}) R (outcome_of_lines answer 1 first) (outcome_of_input answer closing first) next
+      left' taken sent fault
       (rw is at settled))
 
 -- what holds of the whole input holds of all bytes there were
@@ -144,7 +150,8 @@ whole_holds (Some xs) (Some ys) taken holds c w bytes is =
       | inr h ↦ rw (← all, c, h.0, append-nil) h.1
     ]
 
-pub completed : {P T : Type 0} (lines : List (List ℕ) → PlayOutcome P) (whole : List ℕ → PlayOutcome P) (next : P) (left left' : Option (List ℕ))
+pub completed : {P T : Type 0} (lines : List (List ℕ) → PlayOutcome P) (whole : List ℕ → PlayOutcome P) (next : P)
+    (left left' : Option (List ℕ))
     (taken sent : List ℕ) (result : Result T ReplayFault) → Consumes left left' taken → AnswerFits lines whole next left' taken sent result
     → (bytes : List ℕ) (end : P) → left ≡ Some bytes → (whole bytes).outcome ≡ Ok end → IsUnrefused result
 completed lines whole next left left' taken sent (Ok _) c s bytes end is ran = tt
@@ -162,4 +169,5 @@ pub unrefused : {P T : Type 0} {answer : P → List ℕ → Result (List ℕ × 
     → PlaysInput answer closing first next left left' received received' result
     → (bytes : List ℕ) (end : P) → left ≡ Some bytes → (outcome_of_input answer closing first bytes).outcome ≡ Ok end → IsUnrefused result
 unrefused {answer = answer} {closing = closing} {first = first} {next = next} {left = left} {left' = left'} {result = result} p =
-    completed (outcome_of_lines answer 1 first) (outcome_of_input answer closing first) next left left' p.taken p.sent result p.consumed p.settled
+    completed (outcome_of_lines answer 1 first) (outcome_of_input answer closing first) next left left' p.taken p.sent result
+    p.consumed p.settled

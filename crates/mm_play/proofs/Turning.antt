@@ -2,7 +2,8 @@
 -- first, and nothing is pending where it ends the run.
 use Rattle.mm_play.proofs.Below.{◌≡◌, ◌∙◌, ◌+◌, ℕ, Bool, true, false, List, [], ◌∷◌, ◌++◌, take, drop, Result, Ok, Err, Option, refl, sym}
 use Rattle.mm_play.proofs.Below.{ap, append_assoc, arith, inl, inr, length-take, take-append-drop, ReplayFault, Memory, BadLine, LineLong}
-use Rattle.mm_play.proofs.Below.{TooMuch, longest_line, LineRefusal, refusal_at, stopped_outcome, outcome_of_rest, HoldsOfWhole, PlayerAnswers, TurnPlays, TurnAdvances, ◌≢◌}
+use Rattle.mm_play.proofs.Below.{TooMuch, longest_line, LineRefusal, refusal_at, stopped_outcome, outcome_of_rest, HoldsOfWhole}
+use Rattle.mm_play.proofs.Below.{PlayerAnswers, TurnPlays, TurnAdvances, ◌≢◌}
 use Rattle.mm_play.proofs.Below.{length, subst, append-nil, Appends-trans, Consumes-nil, IsUnbroken, ReadFault, WriteFault, PlayOutcome}
 use Rattle.mm_play.proofs.Below.{outcome_after_bytes, IsFrontOf, SendsDue, SendsAndAnswers, IsSent, PlaysNext}
 use Rattle.mm_base.specs.Lines.{MayGrow}
@@ -137,7 +138,8 @@ module _ {P : Type 0} (answer : P → List ℕ → Result (List ℕ × P) LineRe
   went_cut (Ok true) w front =
       inl (λ more. let after : PlayOutcome P = outcome_of_rest answer closing (number + 1) next (held ++ more) in
       let is : outcome_of_rest answer closing number player (bytes ++ more) ≡ outcome_after_bytes w.0 after =
-      rw (w.2.cut, append_assoc) (outcome_of_rest-answered answer closing number player w.2.line (held ++ more) w.0 next w.2.unbroken w.2.short
+      rw (w.2.cut, append_assoc) (outcome_of_rest-answered answer closing number player w.2.line (held ++ more) w.0 next
+      w.2.unbroken w.2.short
       w.2.answered) in
       rw (is, ← append_assoc) (front_of_more sent (pending ++ w.0) after.written (rw w.1 at front)))
   went_cut (Ok false) w front = inr (w.0, rw w.2 (rw w.3 at front))
@@ -148,7 +150,8 @@ module _ {P : Type 0} (answer : P → List ℕ → Result (List ℕ × P) LineRe
 -- ---- turns
 
 -- the sink failed before the line was read
-pub turn_cut : {P : Type 0} (answer : P → List ℕ → Result (List ℕ × P) LineRefusal) (closing : P → Option (List ℕ)) (number : ℕ) (player : P)
+pub turn_cut : {P : Type 0} (answer : P → List ℕ → Result (List ℕ × P) LineRefusal) (closing : P → Option (List ℕ))
+    (number : ℕ) (player : P)
     (left : Option (List ℕ)) (held held' : List ℕ) {received received' : Option (List ℕ)} {pending pending' : List ℕ}
     {due : Result (Unit {0}) write.WriteFault} {fault : write.WriteFault}
     → SendsDue received received' pending pending' due → due ≡ Err fault

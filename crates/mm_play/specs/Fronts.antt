@@ -9,7 +9,8 @@ abbrev pub IsFrontOf : List ℕ → List ℕ → Type 0
 IsFrontOf front bytes = (rest : List ℕ) × (front ++ rest ≡ bytes)
 
 -- After Ok this is the reply, and the player is the one after it.
-abbrev pub GivesReply : {P : Type 0} → Result (List ℕ × P) LineRefusal → P → Result (List ℕ) ReplyFault
+abbrev pub GivesReply : {P : Type 0} → Result (List ℕ × P) LineRefusal → P
+    → Result (List ℕ) ReplyFault
     → Type 0
 GivesReply answer next (Ok reply) = answer ≡ Ok (reply, next)
 GivesReply answer next (Err fault.Memory) = Unit {0}

@@ -23,12 +23,14 @@ pub record EventPlayer (G H E S : Type 0) : Type 0 where
   pub kept : S → ℕ
 
 -- Lines of a heading lead from one place in it to another, or to the header that they name.
-abbrev pub HeadingLeads : {G H : Type 0} → (G → List ℕ → Option (HeadingStep G H)) → G → List (List ℕ)
+abbrev pub HeadingLeads : {G H : Type 0} → (G → List ℕ → Option (HeadingStep G H)) → G
+    → List (List ℕ)
     → HeadingStep G H → Type 0
 HeadingLeads head at [] to = to ≡ More at
 HeadingLeads head at (line ∷ []) to = head at line ≡ Some to
 HeadingLeads head at (line ∷ next ∷ lines) to =
-    (between : _) × (head at line ≡ Some (More between)) × HeadingLeads head between (next ∷ lines) to
+    (between : _) × (head at line ≡ Some (More between)) × HeadingLeads head between
+    (next ∷ lines) to
 
 -- The bytes begin with this line.
 abbrev pub IsNextLine : List ℕ → List ℕ → Type 0

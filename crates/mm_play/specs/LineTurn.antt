@@ -1,6 +1,7 @@
 -- What one turn does: it reads a line and has it answered, or meets the end of the input. Replies
 -- that are not sent yet are pending.
-use Rattle.std.specs.Prelude.{◌≡◌, ℕ, ◌≤◌, List, [], ◌∷◌, ◌++◌, length, Option, Some, None, Result, Ok, Err, OnOk, OnErr, Bool, true, false, ◌⊎◌}
+use Rattle.std.specs.Prelude.{◌≡◌, ℕ, ◌≤◌, List, [], ◌∷◌, ◌++◌, length, Option, Some, None, Result, Ok, Err, OnOk, OnErr, Bool, true, false}
+use Rattle.std.specs.Prelude.{◌⊎◌}
 use Rattle.std.specs.Io.KnownBytes.{Appends, Consumes, IsAtEnd}
 use Rattle.mm_base.specs.Input.{IsUnbroken}
 use Rattle.mm_base.specs.Lines.{MayGrow}
@@ -78,7 +79,8 @@ module _ {P : Type 0} (answer : P → List ℕ → Result (List ℕ × P) LineRe
     abbrev pub TurnPlays : Result Bool ReplayFault → Type 0
     TurnPlays (Ok true) =
         (reply : List ℕ) × (said ≡ pending ++ reply) × AnswersLine player next bytes held reply
-    TurnPlays (Ok false) = IsAtEnd left × (last : List ℕ) × (rest bytes ≡ play_outcome last (Ok next))
+    TurnPlays (Ok false) = IsAtEnd left × (last : List ℕ)
+        × (rest bytes ≡ play_outcome last (Ok next))
         × (said ≡ pending ++ last)
     TurnPlays (Err ReadFault) = (said ≡ pending) × MayGrow longest_line bytes
     TurnPlays (Err WriteFault) =

@@ -30,23 +30,27 @@ refusal_at number Bad = BadLine number
 refusal_at number Much = TooMuch
 
 -- the run goes on after the player's answer to the line of this number
-abbrev pub outcome_of_answer : {P : Type 0} → (P → PlayOutcome P) → ℕ → Result (List ℕ × P) LineRefusal → PlayOutcome P
+abbrev pub outcome_of_answer : {P : Type 0} → (P → PlayOutcome P) → ℕ
+    → Result (List ℕ × P) LineRefusal → PlayOutcome P
 outcome_of_answer on number (Ok reply) = outcome_after_bytes reply.0 (on reply.1)
 outcome_of_answer on number (Err refused) = stopped_outcome (refusal_at number refused)
 
 -- one line: too long, or refused, or answered
-abbrev pub outcome_of_turn : {P : Type 0} → (P → List ℕ → Result (List ℕ × P) LineRefusal) → (P → PlayOutcome P) → ℕ → P
+abbrev pub outcome_of_turn : {P : Type 0} → (P → List ℕ → Result (List ℕ × P) LineRefusal)
+    → (P → PlayOutcome P) → ℕ → P
     → List ℕ → PlayOutcome P
 outcome_of_turn answer on number player line =
     if nat_lt longest_line (length line) then stopped_outcome (LineLong number)
     else outcome_of_answer on number (answer player line)
 
 -- the run over whole lines, of which the first has this number
-abbrev pub outcome_of_lines : {P : Type 0} → (P → List ℕ → Result (List ℕ × P) LineRefusal) → ℕ → P → List (List ℕ)
+abbrev pub outcome_of_lines : {P : Type 0} → (P → List ℕ → Result (List ℕ × P) LineRefusal) → ℕ → P
+    → List (List ℕ)
     → PlayOutcome P
 outcome_of_lines answer number player [] = play_outcome [] (Ok player)
 outcome_of_lines answer number player (line ∷ lines) =
-    outcome_of_turn answer (λ next. outcome_of_lines answer (number + 1) next lines) number player line
+    outcome_of_turn answer (λ next. outcome_of_lines answer (number + 1) next lines)
+    number player line
 
 -- the input ends where a line of this number would begin: the last lines are written, or a line is
 -- missing
@@ -62,7 +66,8 @@ outcome_of_tail closing number (byte ∷ bytes) player =
     else stopped_outcome (BadLine number)
 
 -- what comes once these bytes were written, where the lines were all answered
-abbrev pub outcome_then : {P : Type 0} → (P → PlayOutcome P) → List ℕ → Result P ReplayFault → PlayOutcome P
+abbrev pub outcome_then : {P : Type 0} → (P → PlayOutcome P) → List ℕ → Result P ReplayFault
+    → PlayOutcome P
 outcome_then on written (Ok player) = outcome_after_bytes written (on player)
 outcome_then on written (Err fault) = play_outcome written (Err fault)
 

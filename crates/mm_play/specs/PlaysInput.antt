@@ -13,7 +13,8 @@ use Rattle.mm_play.specs.Fronts.{IsFrontOf}
 -- It holds of the whole input, of which these bytes were taken: whatever follows them, or nothing,
 -- where the source is at its end.
 abbrev pub HoldsOfWhole : Option (List ℕ) → List ℕ → (List ℕ → Type 0) → Type 0
-HoldsOfWhole left taken holds = ((rest : List ℕ) → holds (taken ++ rest)) ⊎ (IsAtEnd left × holds taken)
+HoldsOfWhole left taken holds = ((rest : List ℕ) → holds (taken ++ rest))
+    ⊎ (IsAtEnd left × holds taken)
 
 -- What stands behind the last LF may still grow into a line: a longer one is told as such, and no
 -- more of it is read.
@@ -22,7 +23,8 @@ IsTailShort taken = length (tail_of taken) ≤ longest_line
 
 -- How the answer fits what was taken of the input and written. `lines` is the run over whole lines,
 -- `whole` that over a whole input.
-module _ {P T : Type 0} (lines : List (List ℕ) → PlayOutcome P) (whole : List ℕ → PlayOutcome P) (next : P)
+module _ {P T : Type 0} (lines : List (List ℕ) → PlayOutcome P)
+    (whole : List ℕ → PlayOutcome P) (next : P)
     (left : Option (List ℕ)) (taken sent : List ℕ) where
   abbrev pub AnswerFits : Result T ReplayFault → Type 0
   -- Ok: the input was taken to its end, and the run over it was written whole.
@@ -32,12 +34,14 @@ module _ {P T : Type 0} (lines : List (List ℕ) → PlayOutcome P) (whole : Lis
   AnswerFits (Err ReadFault) =
       IsTailShort taken × ((after : P) × (lines (lines_of taken) ≡ play_outcome sent (Ok after)))
   -- The sink failed: what went out is a front of what the run writes.
-  AnswerFits (Err WriteFault) = HoldsOfWhole left taken (λ input. IsFrontOf sent (whole input).written)
+  AnswerFits (Err WriteFault) =
+      HoldsOfWhole left taken (λ input. IsFrontOf sent (whole input).written)
   -- Want of memory: some first lines are answered.
   AnswerFits (Err Memory) = (front : List ℕ) × IsFrontOf front taken × (after : P)
       × (lines (lines_of front) ≡ play_outcome sent (Ok after))
   -- Else the run stops so.
-  AnswerFits (Err fault) = HoldsOfWhole left taken (λ input. whole input ≡ play_outcome sent (Err fault))
+  AnswerFits (Err fault) =
+      HoldsOfWhole left taken (λ input. whole input ≡ play_outcome sent (Err fault))
 
 -- A count of faults rose exactly where it is to blame for the answer, and then by exactly one: no
 -- call follows one that failed.
@@ -68,5 +72,6 @@ pub record PlaysInput {P T : Type 0} (answer : P → List ℕ → Result (List �
   pub sent : List ℕ
   pub consumed : Consumes left left' taken
   pub appended : Appends received received' sent
-  pub settled : AnswerFits (outcome_of_lines answer 1 player) (outcome_of_input answer closing player) next left' taken sent
+  pub settled : AnswerFits (outcome_of_lines answer 1 player)
+      (outcome_of_input answer closing player) next left' taken sent
       result

@@ -1,6 +1,7 @@
 -- A command over events, line by line: the lines of its heading, and then an event in each line,
 -- until one is too many.
-use Rattle.std.specs.Prelude.{◌≡◌, ℕ, ◌+◌, ◌-◌, ◌^◌, min, Bool, ◌||◌, nat_le, nat_lt, List, [], length, Option, None, Some, Result, Ok, Err, ◌⊎◌, if◌then◌else◌}
+use Rattle.std.specs.Prelude.{◌≡◌, ℕ, ◌+◌, ◌-◌, ◌^◌, min, Bool, ◌||◌, nat_le, nat_lt, List, [], length, Option, None, Some, Result, Ok, Err}
+use Rattle.std.specs.Prelude.{◌⊎◌, if◌then◌else◌}
 use Rattle.mm_base.specs.Limits.{most_events}
 use Rattle.mm_play.specs.HeadingStep.{HeadingStep, More, Begins}
 use Rattle.mm_play.specs.KeptBytes.{most_kept_bytes}
@@ -92,7 +93,8 @@ module _ {H R : Type 0} (heads : HeadStage H R) (s : EventStage R) where
   remaining_lines (InEvents r) = most_events - s.events r.stage
 
 -- Memory was wanting for the event that a line spells.
-abbrev pub EventLacksMemory : {E R : Type 0} → EventSteps E R → (R → E → R → Type 0) → R → List ℕ → R
+abbrev pub EventLacksMemory : {E R : Type 0} → EventSteps E R → (R → E → R → Type 0) → R → List ℕ
+    → R
     → Type 0
 EventLacksMemory steps wants old line new =
     (event : _) × (steps.event_in old line ≡ Some event) × wants old event new

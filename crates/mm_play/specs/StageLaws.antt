@@ -5,7 +5,8 @@ use Rattle.std.proofs.lemmas.Bool.Decides.{nat_tests}
 use Rattle.mm_base.specs.Limits.{most_events}
 use Rattle.mm_play.specs.Counting.{no_answer, same_next, left_or}
 use Rattle.mm_play.specs.HeadingStep.{HeadingStep, More, Begins}
-use Rattle.mm_play.specs.Stage.{EventStage, HeadStage, PlayState, play_state, LineStage, AtHeading, InEvents, is_over, event_answer, head_answer, line_answer, remaining_lines}
+use Rattle.mm_play.specs.Stage.{EventStage, HeadStage, PlayState, play_state, LineStage, AtHeading, InEvents, is_over, event_answer}
+use Rattle.mm_play.specs.Stage.{head_answer, line_answer, remaining_lines}
 use Rattle.mm_play.specs.declared.player.LineRefusal.TheVariants.{Bad, Much}
 
 -- of two answers to a line that are one the stages behind it are one

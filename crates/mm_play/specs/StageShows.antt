@@ -21,7 +21,8 @@ module _ {E R : Type 0} (steps : EventSteps E R) where
     pub counts : (r : R) (event : E) → s.events (steps.after r event) ≡ s.events r + 1
 
 -- where a heading leads, with what begins behind its header
-abbrev pub heading_step_by : {G H R : Type 0} → (H → R) → Option (HeadingStep G H) → Option (HeadingStep G R)
+abbrev pub heading_step_by : {G H R : Type 0} → (H → R) → Option (HeadingStep G H)
+    → Option (HeadingStep G R)
 heading_step_by begun None = None
 heading_step_by begun (Some (More at)) = Some (More at)
 heading_step_by begun (Some (Begins header)) = Some (Begins (begun header))
@@ -31,7 +32,8 @@ pub record StageShows {G H E S R : Type 0} (p : EventPlayer G H E S) (heads : He
     (s : EventStage R) (steps : EventSteps E R) (begun : H → R)
     (shown : H → List E → S) : Type 0 where
   pub takes : TakesEvents steps s
-  pub leads : (at : G) (line : List ℕ) → heads.behind at line ≡ heading_step_by begun (p.head at line)
+  pub leads : (at : G) (line : List ℕ) → heads.behind at line
+      ≡ heading_step_by begun (p.head at line)
   pub reads : (header : H) → steps.event_in (begun header) ≡ p.event_in header
   pub first : (header : H) → s.events (begun header) ≡ 0
   pub text : (header : H) (events : List E)

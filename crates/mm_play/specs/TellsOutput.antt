@@ -46,16 +46,19 @@ TellsOutput some all much left taken sent (Err Memory) =
     (front : List ℕ) × IsFrontOf front taken × some (lines_of front) sent
 -- the replies to all lines before the one that stopped it
 TellsOutput some all much left taken sent (Err (BadLine line)) =
-    HoldsOfWhole left taken (λ input. AnswersFirst some (StopsBeforeLine line) (lines_of input) sent)
+    HoldsOfWhole left taken
+    (λ input. AnswersFirst some (StopsBeforeLine line) (lines_of input) sent)
 TellsOutput some all much left taken sent (Err (LineLong line)) =
-    HoldsOfWhole left taken (λ input. AnswersFirst some (StopsBeforeLine line) (lines_of input) sent)
+    HoldsOfWhole left taken
+    (λ input. AnswersFirst some (StopsBeforeLine line) (lines_of input) sent)
 TellsOutput some all much left taken sent (Err TooMuch) =
     HoldsOfWhole left taken (λ input. AnswersFirst some much (lines_of input) sent)
 
 module _ {P : Type 0} (answer : P → List ℕ → Result (List ℕ × P) LineRefusal) where
   -- By a player: these lines are answered so.
   abbrev pub AnswersAllLines : P → List (List ℕ) → List ℕ → Type 0
-  AnswersAllLines player lines written = (next : P) × (outcome_of_lines answer 1 player lines ≡ play_outcome written (Ok next))
+  AnswersAllLines player lines written =
+      (next : P) × (outcome_of_lines answer 1 player lines ≡ play_outcome written (Ok next))
 
   -- They are answered, and the last lines are written behind.
   pub record AnswersWholeInput (closing : P → Option (List ℕ)) (player : P) (lines : List (List ℕ))

@@ -73,7 +73,8 @@ fn read_and_reply<P: Player, S: Source>(
     pending: &mut Bytes,
 ) -> Result<bool, ReplayFault>
     requires { IsUnbroken reader.old → pending.old ≡ [] }
-    ensures advances { TurnAdvances P.answer P.closing number player.old player.new (S.left input.old)
+    ensures advances { TurnAdvances P.answer P.closing number player.old player.new
+        (S.left input.old)
         (S.left input.new) reader.old reader.new pending.old pending.new result }
     ensures read { IsBlamed (is_read_fault result) (S.faults input.old) (S.faults input.new) }
     ensures unwritten { is_write_fault result ≡ false }
@@ -127,7 +128,8 @@ fn send_then<K: Sink>(
 ) -> Result<bool, ReplayFault>
     requires { is_write_fault came ≡ false }
     ensures none { pending.new ≡ [] }
-    ensures sent { SendsAndAnswers came (K.received out.old) (K.received out.new) pending.old result }
+    ensures sent { SendsAndAnswers came (K.received out.old) (K.received out.new)
+        pending.old result }
     ensures wrote { IsBlamed (is_write_fault result) (K.faults out.old) (K.faults out.new) }
 {
     match send(alloc, pending, out) {

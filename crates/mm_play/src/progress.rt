@@ -46,7 +46,8 @@ impl<S: PlayStage + Drop> Progress<S> {
     #[inline(always)]
     pub fn count_line(&mut self, line: &[u8])
         requires { self.old.read + length line.now ≤ most_kept_bytes }
-        ensures { play_state_of self.new ≡ play_state self.old.stage (self.old.read + length line.now) }
+        ensures { play_state_of self.new ≡ play_state self.old.stage
+            (self.old.read + length line.now) }
     {
         self.read += line.len() as u64;
     }
@@ -67,7 +68,8 @@ impl<S: PlayStage + Drop> Progress<S> {
     /// changed. After want of memory the line isn't counted, and the stage is as `PlayStage::play` leaves it then.
     pub fn reply_to_line(&mut self, alloc: Global, line: &[u8]) -> Result<Bytes, ReplyFault>
         requires { length line.now ≤ longest_line }
-        ensures { RepliesToLine S.plays S.wants line.now (play_state_of self.old) (play_state_of self.new)
+        ensures { RepliesToLine S.plays S.wants line.now (play_state_of self.old)
+            (play_state_of self.new)
             result }
     {
         if self.is_full(line) {

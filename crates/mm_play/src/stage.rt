@@ -37,7 +37,8 @@ pub trait PlayStage {
         requires short { length line.now ≤ longest_line }
         requires few { plays.events self.old < most_events }
         requires room { plays.kept self.old ≤ most_kept_bytes }
-        ensures { StageAnswersEvent (wants self.old line.now self.new) (plays.answer self.old line.now)
+        ensures { StageAnswersEvent (wants self.old line.now self.new)
+            (plays.answer self.old line.now)
             self.old self.new result };
 
     /// What is written last.

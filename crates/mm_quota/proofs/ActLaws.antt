@@ -1,8 +1,10 @@
 -- What an action does to the bytes of a ledger.
 use Rattle.mm_quota.proofs.Below.{Result, Ok, Err, IfOk, ◌≡◌, ◌+◌, ◌^◌, ◌<◌, ◌≤◌, Bool, true, false, nat_le, List, [], ◌++◌, length}
 use Rattle.mm_quota.proofs.Below.{Option, Some, None, is_some, option_map, if◌then◌else◌, refl, sym, ◌∙◌, ap, arith, subst, nat_tests}
-use Rattle.mm_quota.proofs.Below.{LedgerAccount, LedgerAction, LedgerRequest, On, LedgerOutput, account_of_name, accounts_with, decision_of, is_name, is_account, request_of}
-use Rattle.mm_quota.proofs.Below.{is_rising_from, account_bytes, body_of, count_bytes, is_state, ledger_of, outcome_of_bytes, greatest_limit, IsFoundIfAny}
+use Rattle.mm_quota.proofs.Below.{LedgerAccount, LedgerAction, LedgerRequest, On, LedgerOutput, account_of_name, accounts_with, decision_of}
+use Rattle.mm_quota.proofs.Below.{is_name, is_account, request_of}
+use Rattle.mm_quota.proofs.Below.{is_rising_from, account_bytes, body_of, count_bytes, is_state, ledger_of, outcome_of_bytes}
+use Rattle.mm_quota.proofs.Below.{greatest_limit, IsFoundIfAny}
 use Rattle.mm_quota.proofs.Below.{account_of_name-found, length-after, put-place, is_state-SpellsLedger, IsAccount-from}
 use Rattle.mm_quota.proofs.Below.{IsSpelled, as_account}
 use Rattle.std.specs.Prelude.{ℕ, min}
@@ -50,13 +52,15 @@ put-is most bytes name action account is named acts puts =
     → Type 0 = λ change. IsPutIfAny (nat_le most (length (ledger_of bytes))) name (account_of_name name (ledger_of bytes)) change in
     subst P puts d.change
 
-count-case : (most : ℕ) (accounts : List LedgerAccount) (account : LedgerAccount) (there : Bool) → is_some (account_of_name account.name accounts) ≡ there
+count-case : (most : ℕ) (accounts : List LedgerAccount) (account : LedgerAccount) (there : Bool)
+    → is_some (account_of_name account.name accounts) ≡ there
     → is_rising_from [] accounts ≡ true → (there ≡ false → nat_le most (length accounts) ≡ false) → most < 2 ^ 16
     → (if there then length accounts else min (length accounts + 1) 65535) ≡ length (accounts_with account accounts)
 count-case most accounts account there is rising room small = grind (arith, nat_tests, length-after (put-place account accounts) [] rising)
 
 -- the bytes with the account at its place are those of the ledger with the account
-pub put-spelled : (most count : ℕ) (bytes name front back : List ℕ) (account : LedgerAccount) (there : Bool) → most < 2 ^ 16 → IsSpelled bytes
+pub put-spelled : (most count : ℕ) (bytes name front back : List ℕ) (account : LedgerAccount) (there : Bool) → most < 2 ^ 16
+    → IsSpelled bytes
     → IsPut (nat_le most (length (ledger_of bytes))) name (account_of_name name (ledger_of bytes)) account
     → there ≡ is_some (account_of_name name (ledger_of bytes))
     → count ≡ (if there then length (ledger_of bytes) else min (length (ledger_of bytes) + 1) 65535)
@@ -75,7 +79,8 @@ is_some-as_account None = refl
 is_some-as_account (Some account) = refl
 
 -- a decision on what was counted and found is one on the ledger
-pub decided : (most count : ℕ) (bytes name : List ℕ) (found : Option LedgerAccount) (action : LedgerAction) (decision : Option LedgerAccount × LedgerOutput)
+pub decided : (most count : ℕ) (bytes name : List ℕ) (found : Option LedgerAccount) (action : LedgerAction)
+    (decision : Option LedgerAccount × LedgerOutput)
     → decision ≡ decision_of (nat_le most count) name found action → count ≡ length (ledger_of bytes)
     → found ≡ account_of_name name (ledger_of bytes)
     → decision ≡ decision_of (nat_le most (length (ledger_of bytes))) name (account_of_name name (ledger_of bytes)) action

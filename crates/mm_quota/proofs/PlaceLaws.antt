@@ -1,7 +1,8 @@
 -- Going through the accounts of a ledger.
 use Rattle.mm_quota.proofs.Below.{◌≡◌, suc, ◌+◌, ◌^◌, ◌<◌, ◌≤◌, ◌&&◌, Bool, true, false, nat_le, List, [], ◌∷◌, ◌++◌, length, take}
 use Rattle.mm_quota.proofs.Below.{drop, Option, Some, None, option_map, option_and_then, refl, sym, ◌∙◌, ap, arith, subst, append_assoc}
-use Rattle.mm_quota.proofs.Below.{length-append, nat_tests, and-true, LedgerAccount, order_of, account_of_name, accounts_with, used_total, is_account, is_rising_from}
+use Rattle.mm_quota.proofs.Below.{length-append, nat_tests, and-true, LedgerAccount, order_of, account_of_name, accounts_with, used_total}
+use Rattle.mm_quota.proofs.Below.{is_account, is_rising_from}
 use Rattle.mm_quota.proofs.Below.{account_bytes, body_of, account_at, accounts_from, count_of_bytes, holds_ledger, ledger_of}
 use Rattle.mm_quota.proofs.Below.{used_total-le, account_of_name-other, account_of_name-this, account_of_name-absent, bytes_eq-order}
 use Rattle.mm_quota.proofs.Below.{account_at-account_bytes, ReadsBody, accounts_from-reads, IsSpelled, has_rising_from}
@@ -85,7 +86,8 @@ pub record Finding (bytes name body rest : List ℕ) (count number : ℕ) : Type
   pub whole : body ≡ front ++ rest
   pub fits : length rest ≤ length body
   pub named : account_of_name name (ledger_of bytes) ≡ account_of_name name todo
-  pub puts : (new : LedgerAccount) → new.name ≡ name → body_of (accounts_with new (ledger_of bytes)) ≡ front ++ body_of (accounts_with new todo)
+  pub puts : (new : LedgerAccount) → new.name ≡ name → body_of (accounts_with new (ledger_of bytes)) ≡ front
+      ++ body_of (accounts_with new todo)
 
 pub Finding-begins : (bytes name body : List ℕ) (count : ℕ) → IsSpelled bytes → body ≡ drop 2 bytes → count ≡ length (ledger_of bytes)
     → Finding bytes name body body count 0
@@ -119,7 +121,8 @@ NextOf bytes name body rest count number None = ⊥
 NextOf bytes name body rest count number (Some front) = NextPlace bytes name body rest count number front.0 front.1
 
 -- where the account of the name is put
-pub place-is : (bytes name body rest : List ℕ) (place : AccountPlace) → (account_of_name name (ledger_of bytes) ≡ option_map as_account place.found)
+pub place-is : (bytes name body rest : List ℕ) (place : AccountPlace)
+    → (account_of_name name (ledger_of bytes) ≡ option_map as_account place.found)
     × Stands bytes name body rest place.back.now → place.front.now ≡ take (length body - length rest) body
     → IsAccountPlace name (ledger_of bytes) place
 place-is bytes name body rest place is front_is =
@@ -133,7 +136,8 @@ in-front body front rest whole =
 
 put-by : (new account : LedgerAccount) (accounts : List LedgerAccount) (name : List ℕ) (order : Ordering) → new.name ≡ name
     → order_of name account.name ≡ order
-    → accounts_with new (account ∷ accounts) ≡ match_ordering order (new ∷ account ∷ accounts) (new ∷ accounts) (account ∷ accounts_with new accounts)
+    → accounts_with new (account ∷ accounts) ≡ match_ordering order (new ∷ account ∷ accounts) (new ∷ accounts)
+    (account ∷ accounts_with new accounts)
 put-by new account accounts name order named is =
     let e : order_of new.name account.name ≡ order = ap (λ (n : List ℕ). order_of n account.name) named ∙ is in rw e refl
 
@@ -149,7 +153,8 @@ Finding-given bytes name body rest count number front is going read =
     let later = (and-true (is_lt (order_of is.previous account.name)) (is_rising_from account.name others) rising).1 in
     let puts = λ (new : LedgerAccount) (is_named : new.name ≡ name) (order : Ordering) (o : order_of name account.name ≡ order).
     is.puts new is_named
-    ∙ ap (λ (all : List LedgerAccount). is.front ++ body_of all) (ap (accounts_with new) n.is ∙ put-by new account others name order is_named o) in
+    ∙ ap (λ (all : List LedgerAccount). is.front ++ body_of all) (ap (accounts_with new) n.is ∙ put-by new account others name
+    order is_named o) in
     let spelled : rest ≡ account_bytes account ++ body_of others = is.left.spelled ∙ ap body_of n.is in
     let split : body ≡ (is.front ++ account_bytes account) ++ body_of others = is.whole ∙ ap (λ (b : List ℕ). is.front ++ b) spelled
     ∙ sym (append_assoc is.front (account_bytes account) (body_of others)) in
@@ -187,15 +192,18 @@ pub accounts_from-suc : (count number : ℕ) (rest : List ℕ) → number < coun
 accounts_from-suc count number rest going = let n : count - number ≡ suc (count - (number + 1)) = omega arith in rw n refl
 
 -- the rest follows, where a formed account of a later name stands in front of it
-pub follow-next : (previous rest : List ℕ) (count number : ℕ) (front : LedgerAccount × List ℕ) → number < count → Some front ≡ account_at rest
+pub follow-next : (previous rest : List ℕ) (count number : ℕ) (front : LedgerAccount × List ℕ) → number < count
+    → Some front ≡ account_at rest
     → true ≡ is_account front.0 → true ≡ is_lt (order_of previous front.0.name)
-    → has_rising_from previous (accounts_from (count - number) rest) ≡ has_rising_from front.0.name (accounts_from (count - (number + 1)) front.1)
+    → has_rising_from previous (accounts_from (count - number) rest) ≡ has_rising_from front.0.name
+    (accounts_from (count - (number + 1)) front.1)
 follow-next previous rest count number front going read formed later =
     ap (λ (a : Option (List LedgerAccount)). has_rising_from previous a) (accounts_from-suc count number rest going
     ∙ ap (λ (f : Option (LedgerAccount × List ℕ)). option_and_then
     (λ (g : LedgerAccount × List ℕ). option_map (λ accounts. g.0 ∷ accounts) (accounts_from (count - (number + 1)) g.1)) f) (sym read)) ∙
     follow-front previous front.0 (accounts_from (count - (number + 1)) front.1) ∙
-    ap (λ (b : Bool). b && (is_lt (order_of previous front.0.name) && has_rising_from front.0.name (accounts_from (count - (number + 1)) front.1)))
+    ap (λ (b : Bool). b && (is_lt (order_of previous front.0.name) && has_rising_from front.0.name
+        (accounts_from (count - (number + 1)) front.1)))
     (sym formed) ∙
     ap (λ (b : Bool). b && has_rising_from front.0.name (accounts_from (count - (number + 1)) front.1)) (sym later)
 

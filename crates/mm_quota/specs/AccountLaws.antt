@@ -33,7 +33,8 @@ IsAccount-from account is =
       within = grind (arith, nat_tests);
     }
 
-pub is_account-made : (account : LedgerAccount) → is_name account.name ≡ true → account.limit ≤ greatest_limit → account.used ≤ account.limit
+pub is_account-made : (account : LedgerAccount) → is_name account.name ≡ true → account.limit ≤ greatest_limit
+    → account.used ≤ account.limit
     → is_account account ≡ true
 unfolding is_account
 is_account-made account named limited within = grind (arith, nat_tests)

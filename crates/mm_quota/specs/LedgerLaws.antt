@@ -72,7 +72,8 @@ pub data PutsAccount (new : LedgerAccount) : List LedgerAccount → List LedgerA
 
 puts-by : (new account : LedgerAccount) (accounts : List LedgerAccount) (order : Ordering) → order_of new.name account.name ≡ order
     → PutsAccount new accounts (accounts_with new accounts)
-    → PutsAccount new (account ∷ accounts) (match_ordering order (new ∷ account ∷ accounts) (new ∷ accounts) (account ∷ accounts_with new accounts))
+    → PutsAccount new (account ∷ accounts) (match_ordering order (new ∷ account ∷ accounts) (new ∷ accounts)
+    (account ∷ accounts_with new accounts))
 puts-by new account accounts Less is later = Before is
 puts-by new account accounts Equal is later = Instead is
 puts-by new account accounts Greater is later = Behind is later
@@ -139,7 +140,8 @@ abbrev pub IsFoundIfAny : (LedgerAccount → Bool) → List ℕ → Option Ledge
 IsFoundIfAny p name None = Unit {0}
 IsFoundIfAny p name (Some account) = IsFound p name account
 
-found-first : (p : LedgerAccount → Bool) (name : List ℕ) (account : LedgerAccount) (more : Option LedgerAccount) → p account ≡ true → IsFoundIfAny p name more
+found-first : (p : LedgerAccount → Bool) (name : List ℕ) (account : LedgerAccount) (more : Option LedgerAccount) → p account ≡ true
+    → IsFoundIfAny p name more
     → IsFoundIfAny p name (if bytes_eq name account.name then Some account else more)
 found-first p name account more passed later = grind (arith, bytes_eq-Decides name account.name)
 

@@ -4,7 +4,8 @@ use Rattle.std.proofs.Common.{refl, sym, ◌∙◌, ap, arith}
 use Rattle.std.specs.Str.{bytes_eq}
 use Rattle.std.proofs.lemmas.Slice.Eq.{bytes_eq-Decides}
 use Rattle.mm_module.specs.Words.{words_of}
-use Rattle.mm_quota.specs.Table.{LedgerAccount, LedgerRequest, Sum, On, account_of_name, accounts_after, outcome_of, request_of, is_account, spelling_of, is_state, ledger_of, outcome_of_bytes}
+use Rattle.mm_quota.specs.Table.{LedgerAccount, LedgerRequest, Sum, On, account_of_name, accounts_after, outcome_of, request_of, is_account}
+use Rattle.mm_quota.specs.Table.{spelling_of, is_state, ledger_of, outcome_of_bytes}
 use Rattle.mm_quota.specs.LedgerLaws.{account_of_name-found, others-after, put-place}
 use Rattle.mm_quota.specs.IsLedger.{IsLedger}
 use Rattle.mm_quota.specs.SpellingLaws.{is_state-SpellsLedger, ledger_of-spelling_of}

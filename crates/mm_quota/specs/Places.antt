@@ -6,7 +6,9 @@ use Rattle.mm_quota.specs.declared.place.AccountPlace.{AccountPlace}
 
 -- The account of a name, where there is one, with the bytes of the accounts before and behind it:
 -- what is put there takes its place among them.
-pub record IsAccountPlace (name : List ℕ) (accounts : List LedgerAccount) (place : AccountPlace) : Type 0 where
+pub record IsAccountPlace (name : List ℕ) (accounts : List LedgerAccount)
+    (place : AccountPlace) : Type 0 where
   pub account : option_map as_account place.found ≡ account_of_name name accounts
-  pub puts : (new : LedgerAccount) → new.name ≡ name → body_of (accounts_with new accounts) ≡ place.front.now
+  pub puts : (new : LedgerAccount) → new.name ≡ name → body_of (accounts_with new accounts)
+      ≡ place.front.now
       ++ (account_bytes new ++ place.back.now)

@@ -1,5 +1,6 @@
 -- The laws of the quota ledger.
-use Rattle.std.specs.Prelude.{◌≡◌, ℕ, ◌+◌, ◌*◌, ◌^◌, ◌<◌, ◌≤◌, Bool, true, false, nat_le, List, [], ◌∷◌, length, Option, Some, None, is_some}
+use Rattle.std.specs.Prelude.{◌≡◌, ℕ, ◌+◌, ◌*◌, ◌^◌, ◌<◌, ◌≤◌, Bool, true, false, nat_le, List, [], ◌∷◌, length, Option, Some, None}
+use Rattle.std.specs.Prelude.{is_some}
 use Rattle.std.proofs.Common.{refl, sym, arith, subst}
 use Rattle.std.specs.declared.cmp.Ordering.TheVariants.{Less}
 use Rattle.std.specs.List.{list_all}
@@ -9,10 +10,13 @@ use Rattle.mm_module.specs.LineLaws.{and-true, IsText, is_unbroken-decimal, leng
 use Rattle.mm_module.specs.Meaning.{IsLawful, IsShort}
 use Rattle.mm_module.specs.TableLaws.{Table, IsTable, IsOutcome, table_by, table_is_lawful, table_is_short}
 use Rattle.mm_module.specs.Words.{words_of}
-use Rattle.mm_quota.specs.Table.{LedgerAccount, LedgerAction, Open, LedgerRequest, Sum, On, LedgerOutput, IsUsed, IsOver, IsUnder, HasLeft, HasSum, order_of, account_of_name, used_total, decision_of, accounts_after, outcome_of, text_of, is_name, request_of, is_account, count_bytes, spelling_of, ledger_of, outcome_of_bytes, quota, greatest_limit}
+use Rattle.mm_quota.specs.Table.{LedgerAccount, LedgerAction, Open, LedgerRequest, Sum, On, LedgerOutput, IsUsed, IsOver, IsUnder, HasLeft}
+use Rattle.mm_quota.specs.Table.{HasSum, order_of, account_of_name, used_total, decision_of, accounts_after, outcome_of, text_of, is_name}
+use Rattle.mm_quota.specs.Table.{request_of, is_account, count_bytes, spelling_of, ledger_of, outcome_of_bytes, quota, greatest_limit}
 use Rattle.mm_quota.specs.LedgerLaws.{put-place, rises-after, all-after, length-after, IsFoundIfAny, account_of_name-found}
 use Rattle.mm_quota.specs.IsLedger.{IsLedger}
-use Rattle.mm_quota.specs.SpellingLaws.{is_state-SpellsLedger, are_bytes-state, length-spelling_of, is_state-spelling_of, ledger_of-spelling_of}
+use Rattle.mm_quota.specs.SpellingLaws.{is_state-SpellsLedger, are_bytes-state, length-spelling_of, is_state-spelling_of}
+use Rattle.mm_quota.specs.SpellingLaws.{ledger_of-spelling_of}
 use Rattle.mm_quota.specs.AccountLaws.{IsAccount-from, is_account-made}
 
 -- an action and a request that can be read
@@ -55,7 +59,8 @@ pub record IsDecision (full : Bool) (wanted : List ℕ) (found : Option LedgerAc
   pub change : IsPutIfAny full wanted found decision.0
   pub said : SaysNumber decision.1
 
-pub decision_of-is : (full : Bool) (name : List ℕ) (found : Option LedgerAccount) (action : LedgerAction) → is_name name ≡ true → IsAction action
+pub decision_of-is : (full : Bool) (name : List ℕ) (found : Option LedgerAccount) (action : LedgerAction) → is_name name ≡ true
+    → IsAction action
     → IsFoundIfAny is_account name found → IsDecision full name found (decision_of full name found action)
 decision_of-is full name found action named is there = grind (arith, nat_tests, IsAccount-from, is_account-made)
 
@@ -80,7 +85,8 @@ settled-ledger most accounts name (Some account) is ledger =
     }
 
 -- the sum of what is used
-pub used_total-le : (accounts : List LedgerAccount) → list_all is_account accounts ≡ true → used_total accounts ≤ greatest_limit * length accounts
+pub used_total-le : (accounts : List LedgerAccount) → list_all is_account accounts ≡ true → used_total accounts
+    ≤ greatest_limit * length accounts
 used_total-le [] all = omega arith
 used_total-le (account ∷ accounts) all =
     let w = and-true (is_account account) (list_all is_account accounts) all in

@@ -1,5 +1,6 @@
 -- Laws of the bytes of a ledger.
-use Rattle.std.specs.Prelude.{◌≡◌, ℕ, zero, suc, ◌+◌, ◌*◌, ◌^◌, ◌<◌, ◌≤◌, true, nat_le, List, [], ◌∷◌, ◌++◌, length, take, drop, Option, Some, None, option_map, option_and_then, if◌then◌else◌}
+use Rattle.std.specs.Prelude.{◌≡◌, ℕ, zero, suc, ◌+◌, ◌*◌, ◌^◌, ◌<◌, ◌≤◌, true, nat_le, List, [], ◌∷◌, ◌++◌, length, take, drop, Option}
+use Rattle.std.specs.Prelude.{Some, None, option_map, option_and_then, if◌then◌else◌}
 use Rattle.std.proofs.Common.{unwrap_or, refl, sym, ◌∙◌, ap, arith, append_assoc, length-append}
 use Rattle.std.specs.List.{list_all}
 use Rattle.std.proofs.Math.Seq.{take-append_seam, drop-append_seam}
@@ -11,8 +12,10 @@ use Rattle.mm_base.specs.Fields.{eight_bytes}
 use Rattle.mm_module.specs.Bytes.{is_byte, are_bytes}
 use Rattle.mm_module.specs.LineLaws.{and-true, and-both, is_byte-rem}
 use Rattle.mm_module.specs.Numbers.{number_of_eight_bytes}
-use Rattle.mm_module.specs.PartLaws.{take-front, drop-front, are_bytes-take, are_bytes-drop, are_bytes-append, are_bytes-visible, get_or-small, length-eight, are_bytes-eight, number_of_eight_bytes-eight, eight-number_of_eight_bytes}
-use Rattle.mm_quota.specs.Table.{LedgerAccount, is_account, is_ledger, count_bytes, count_of_bytes, account_bytes, body_of, spelling_of, account_after, account_at, accounts_from, accounts_of, holds_ledger, is_state, ledger_of}
+use Rattle.mm_module.specs.PartLaws.{take-front, drop-front, are_bytes-take, are_bytes-drop, are_bytes-append, are_bytes-visible}
+use Rattle.mm_module.specs.PartLaws.{get_or-small, length-eight, are_bytes-eight, number_of_eight_bytes-eight, eight-number_of_eight_bytes}
+use Rattle.mm_quota.specs.Table.{LedgerAccount, is_account, is_ledger, count_bytes, count_of_bytes, account_bytes, body_of, spelling_of}
+use Rattle.mm_quota.specs.Table.{account_after, account_at, accounts_from, accounts_of, holds_ledger, is_state, ledger_of}
 use Rattle.mm_quota.specs.AccountLaws.{IsAccount-from}
 use Rattle.mm_quota.specs.IsLedger.{IsLedger, SpellsLedger}
 
@@ -68,7 +71,8 @@ abbrev pub IsFront : List ℕ → Option (LedgerAccount × List ℕ) → Type 0
 IsFront bytes None = Unit {0}
 IsFront bytes (Some front) = bytes ≡ account_bytes front.0 ++ front.1
 
-eight-front : (bytes : List ℕ) → are_bytes bytes ≡ true → 8 ≤ length bytes → eight_bytes (number_of_eight_bytes (take 8 bytes)) ≡ take 8 bytes
+eight-front : (bytes : List ℕ) → are_bytes bytes ≡ true → 8 ≤ length bytes → eight_bytes (number_of_eight_bytes (take 8 bytes))
+    ≡ take 8 bytes
 eight-front bytes is long = eight-number_of_eight_bytes _ (length-take-le 8 bytes long) (are_bytes-take 8 bytes is)
 
 account-front : (count : ℕ) (bytes : List ℕ) → are_bytes bytes ≡ true → count + 16 ≤ length bytes

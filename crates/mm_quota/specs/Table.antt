@@ -1,5 +1,6 @@
 -- The quota ledger: accounts with a name, a limit and what is used, in the order of their names.
-use Rattle.std.specs.Prelude.{ℕ, zero, suc, ◌+◌, ◌-◌, ◌^◌, ◌==◌, ◌&&◌, Bool, true, false, nat_le, List, [], ◌∷◌, ◌++◌, length, take, drop, codes, Option, Some, None, unwrap_or, option_map, option_and_then, if◌then◌else◌}
+use Rattle.std.specs.Prelude.{ℕ, zero, suc, ◌+◌, ◌-◌, ◌^◌, ◌==◌, ◌&&◌, Bool, true, false, nat_le, List, [], ◌∷◌, ◌++◌, length, take, drop}
+use Rattle.std.specs.Prelude.{codes, Option, Some, None, unwrap_or, option_map, option_and_then, if◌then◌else◌}
 use Rattle.std.specs.declared.cmp.Ordering.{Ordering}
 use Rattle.std.specs.Cmp.Lexicographic.{slice_cmp}
 use Rattle.std.specs.Fmt.{decimal}
@@ -70,7 +71,8 @@ used_total (account ∷ accounts) = account.used + used_total accounts
 
 -- The account that an action puts, where it puts one, and what is said: from whether the ledger is
 -- full, and the account of the name, where there is one.
-abbrev pub decision_of : Bool → List ℕ → Option LedgerAccount → LedgerAction → Option LedgerAccount × LedgerOutput
+abbrev pub decision_of : Bool → List ℕ → Option LedgerAccount → LedgerAction → Option LedgerAccount
+    × LedgerOutput
 decision_of full name (Some account) (Open limit) = (None, IsThere)
 decision_of full name None (Open limit) = if full then (None, IsFull)
     else (Some (record { name = name; limit = limit; used = 0 }), IsOpened)
@@ -97,7 +99,8 @@ accounts_after accounts None = accounts
 accounts_after accounts (Some account) = accounts_with account accounts
 
 -- the accounts after a request, and what is said, in a ledger of at most so many accounts
-abbrev pub outcome_of : ℕ → List LedgerAccount → Option LedgerRequest → List LedgerAccount × LedgerOutput
+abbrev pub outcome_of : ℕ → List LedgerAccount → Option LedgerRequest → List LedgerAccount
+    × LedgerOutput
 outcome_of most accounts (Some Sum) = (accounts, HasSum (used_total accounts))
 outcome_of most accounts (Some (On name action)) =
     let decision = decision_of (nat_le most (length accounts)) name (account_of_name name accounts)
@@ -156,7 +159,8 @@ is_account account =
 -- the names rise strictly from this one on
 abbrev pub is_rising_from : List ℕ → List LedgerAccount → Bool
 is_rising_from name [] = true
-is_rising_from name (account ∷ accounts) = is_lt (order_of name account.name) && is_rising_from account.name accounts
+is_rising_from name (account ∷ accounts) = is_lt (order_of name account.name)
+    && is_rising_from account.name accounts
 
 -- a ledger of at most so many accounts
 unfoldable pub is_ledger : ℕ → List LedgerAccount → Bool
@@ -233,7 +237,8 @@ ledger_of bytes = unwrap_or (accounts_of bytes) []
 
 -- what a request does to a spelled ledger
 unfoldable pub outcome_of_bytes : ℕ → List ℕ → List ℕ → List LedgerAccount × LedgerOutput
-outcome_of_bytes most state request = outcome_of most (ledger_of state) (request_of (words_of request))
+outcome_of_bytes most state request =
+    outcome_of most (ledger_of state) (request_of (words_of request))
 
 -- the ledger of this id, of at most so many accounts, as a module
 abbrev pub quota : ℕ → ℕ → Meaning

@@ -1,8 +1,10 @@
 -- Receipts that aren't forged never clash: each known pair is one, and two of one position are equal.
 use Rattle.mm_receipt.proofs.Below.{◌≡◌, ◌∙◌, ◌+◌, ◌≤◌, ◌==◌, ◌++◌, ℕ, Bool, true, false, cond, nat_lt, List, [], ◌∷◌}
 use Rattle.mm_receipt.proofs.Below.{length, Option, Some, None, Result, Ok, Err, refl, sym, ap, subst, arith}
-use Rattle.mm_receipt.proofs.Below.{first_answered, receipts-true, no-clash, AskedRequest, CheckTally, CheckState, pair_at, request_by_space}
-use Rattle.mm_receipt.proofs.Below.{is_too_much, known_at, verdict_against, receipt_verdict, pair_verdict, verdict_text, tally_after_pair, first_answer_by}
+use Rattle.mm_receipt.proofs.Below.{first_answered, receipts-true, no-clash, AskedRequest, CheckTally, CheckState, pair_at}
+use Rattle.mm_receipt.proofs.Below.{request_by_space}
+use Rattle.mm_receipt.proofs.Below.{is_too_much, known_at, verdict_against, receipt_verdict, pair_verdict, verdict_text, tally_after_pair}
+use Rattle.mm_receipt.proofs.Below.{first_answer_by}
 use Rattle.mm_receipt.proofs.Below.{reply_of_first, reply_of_second, receipts_answer, first_tally}
 use Rattle.std.specs.Prelude.{if◌then◌else◌}
 use Rattle.std.specs.BTreeMap.{is_at, insert_entry}
@@ -71,7 +73,8 @@ module _ (inner : Meaning) (requests : List (List ℕ)) (counted : AllByRecursio
   sound-at number (entry ∷ known) sound =
       sound-here number entry known (is_at (nat_cmp number) entry.0) refl sound.0 (sound-at number known sound.1)
 
-  sound-by : (number : ℕ) (pair : GoodPair) (entry : ℕ × GoodPair) (known rest : List (ℕ × GoodPair)) (below same : Bool) → (number == entry.0) ≡ same
+  sound-by : (number : ℕ) (pair : GoodPair) (entry : ℕ × GoodPair) (known rest : List (ℕ × GoodPair)) (below same : Bool)
+      → (number == entry.0) ≡ same
       → IsUnforged inner requests key number pair.request pair.output → IsSound entry → AreSound known → AreSound rest
       → AreSound (match_ordering (cond below Less (cond same Equal Greater)) ((number, pair) ∷ entry ∷ known) ((entry.0, pair) ∷ known)
       (entry ∷ rest))
@@ -81,7 +84,8 @@ module _ (inner : Meaning) (requests : List (List ℕ)) (counted : AllByRecursio
       (subst (λ n. IsUnforged inner requests key n pair.request pair.output) e new, more)
   sound-by number pair entry known rest false false is new old more later = (old, later)
 
-  sound-insert : (number : ℕ) (pair : GoodPair) (known : List (ℕ × GoodPair)) → IsUnforged inner requests key number pair.request pair.output
+  sound-insert : (number : ℕ) (pair : GoodPair) (known : List (ℕ × GoodPair)) → IsUnforged inner requests key number
+      pair.request pair.output
       → AreSound known → AreSound (insert_entry nat_cmp known number pair)
   sound-insert number pair [] new sound = (new, tt)
   sound-insert number pair (entry ∷ known) new sound =
@@ -91,7 +95,8 @@ module _ (inner : Meaning) (requests : List (List ℕ)) (counted : AllByRecursio
   same_bytes : (a b : List ℕ) → a ≡ b → bytes_eq a b ≡ true
   same_bytes a b is = grind (arith, bytes_eq-Decides)
 
-  beside-good : (asked : AskedRequest) (output : List ℕ) (known : Option GoodPair) → IsUnforged inner requests key asked.position asked.request output
+  beside-good : (asked : AskedRequest) (output : List ℕ) (known : Option GoodPair) → IsUnforged inner requests key asked.position
+      asked.request output
       → SoundAt asked.position known → verdict_against known asked.request output ≡ Good
   beside-good asked output None new sound = refl
   beside-good asked output (Some pair) new sound =
@@ -148,18 +153,22 @@ module _ (inner : Meaning) (requests : List (List ℕ)) (counted : AllByRecursio
       → (reply ≡ said) × (mid ≡ record { tally = after; asked = None })
   settled tally after line said reply mid h = grind (arith, nat_tests)
 
-  unforged : (asked : AskedRequest) (line : List ℕ) → IsFormed asked → WasTagged inner requests key (record { asked = asked; output = line })
+  unforged : (asked : AskedRequest) (line : List ℕ) → IsFormed asked
+      → WasTagged inner requests key (record { asked = asked; output = line })
       → check_of_receipt key asked.position asked.request line ≡ Ok tt → IsUnforged inner requests key asked.position asked.request line
   unforged asked line formed genuine accepted =
       record { near = formed.near; short = formed.short; accepted = accepted; tagged = genuine accepted }
 
-  true-pair : (asked : AskedRequest) (line : List ℕ) → IsFormed asked → WasTagged inner requests key (record { asked = asked; output = line })
+  true-pair : (asked : AskedRequest) (line : List ℕ) → IsFormed asked
+      → WasTagged inner requests key (record { asked = asked; output = line })
       → IsTrue inner requests key (record { asked = asked; output = line })
   true-pair asked line formed genuine accepted =
       receipts-true inner requests counted key asked.position asked.request line (unforged asked line formed genuine accepted)
 
-  honest-from : (lines : List (List ℕ)) (number : ℕ) (tally : CheckTally) (asked : Option AskedRequest) (written : List ℕ) (next : CheckState)
-      → Stands tally asked → outcome_of_lines receipts_answer number (record { tally = tally; asked = asked }) lines ≡ play_outcome written (Ok next)
+  honest-from : (lines : List (List ℕ)) (number : ℕ) (tally : CheckTally) (asked : Option AskedRequest) (written : List ℕ)
+      (next : CheckState)
+      → Stands tally asked → outcome_of_lines receipts_answer number (record { tally = tally; asked = asked }) lines
+      ≡ play_outcome written (Ok next)
       → AllByRecursion (WasTagged inner requests key) (pairs_of asked lines) → IsHonest inner requests key (pairs_of asked lines) written
   honest-from [] number tally asked written next s ran genuine =
       record { plain = sym (ap (λ (t : PlayOutcome CheckState). t.written) ran); right = tt }
@@ -184,7 +193,8 @@ module _ (inner : Meaning) (requests : List (List ℕ)) (counted : AllByRecursio
       let answer = check_of_receipt key asked.position asked.request line in
       let new : answer ≡ Ok tt → IsUnforged inner requests key asked.position asked.request line = unforged asked line s.formed genuine.0 in
       let plain : pair_verdict tally asked line ≡ receipt_verdict answer None asked.request line =
-      ap (λ (k : List ℕ). receipt_verdict (check_of_receipt k asked.position asked.request line) (known_at asked.position tally.known) asked.request
+      ap (λ (k : List ℕ). receipt_verdict (check_of_receipt k asked.position asked.request line)
+          (known_at asked.position tally.known) asked.request
       line) s.keyed
       ∙ verdict-alone asked line (known_at asked.position tally.known) answer new (sound-at asked.position tally.known s.sound) in
       let after = tally_after_pair tally asked line (pair_verdict tally asked line) in

@@ -1,6 +1,8 @@
 -- What a check does with a line, with the end of an input, and with a whole input.
-use Rattle.mm_receipt.proofs.Below.{◌≡◌, ◌∙◌, ℕ, List, ◌++◌, Option, Some, None, Result, Ok, Err, ap, LineRefusal, plays_err, tells, AskedRequest}
-use Rattle.mm_receipt.proofs.Below.{CheckTally, CheckState, second_answer, reply_of_second, receipts_answer, receipts_closing, closing_at, last_line}
+use Rattle.mm_receipt.proofs.Below.{◌≡◌, ◌∙◌, ℕ, List, ◌++◌, Option, Some, None, Result, Ok, Err, ap, LineRefusal, plays_err, tells}
+use Rattle.mm_receipt.proofs.Below.{AskedRequest}
+use Rattle.mm_receipt.proofs.Below.{CheckTally, CheckState, second_answer, reply_of_second, receipts_answer, receipts_closing, closing_at}
+use Rattle.mm_receipt.proofs.Below.{last_line}
 use Rattle.mm_receipt.proofs.Below.{first_check}
 use Rattle.mm_base.specs.declared.replay_fault.ReplayFault.{ReplayFault}
 use Rattle.mm_play.specs.declared.player.ReplyFault.{ReplyFault}
@@ -12,8 +14,10 @@ use Rattle.mm_receipt.specs.declared.report.ReceiptReport.{ReceiptReport}
 use Rattle.mm_receipt.specs.Reports.{AnswersHonestly, ChecksReceipts, ChecksHonestly, EndsHonestly}
 use Rattle.mm_receipt.proofs.HonestLaws.{honest}
 
-settled-answer : (it : CheckState) (old : CheckTally) (asked : AskedRequest) (line : List ℕ) (answer : Result (List ℕ × CheckTally) LineRefusal)
-    → it ≡ record { tally = old; asked = Some asked } → second_answer old asked line ≡ answer → receipts_answer it line ≡ reply_of_second answer
+settled-answer : (it : CheckState) (old : CheckTally) (asked : AskedRequest) (line : List ℕ)
+    (answer : Result (List ℕ × CheckTally) LineRefusal)
+    → it ≡ record { tally = old; asked = Some asked } → second_answer old asked line ≡ answer → receipts_answer it line
+    ≡ reply_of_second answer
 settled-answer it old asked line answer is said = ap (λ (c : CheckState). receipts_answer c line) is ∙ ap reply_of_second said
 
 pub takes-second : (it : CheckState) (old : CheckTally) (asked : AskedRequest) (line : List ℕ) (new : CheckTally) (next : CheckState)
@@ -32,7 +36,8 @@ checks-err key {next = next} begins played fault is = record { next = next; play
 
 -- ---- what is said, where no receipt is forged
 
-answers-honestly : (key : List ℕ) (lines : List (List ℕ)) (written : List ℕ) → AnswersAllLines receipts_answer (first_check key) lines written
+answers-honestly : (key : List ℕ) (lines : List (List ℕ)) (written : List ℕ)
+    → AnswersAllLines receipts_answer (first_check key) lines written
     → AnswersHonestly key lines written
 answers-honestly key lines written a = record { answered = a; honest = honest key lines written a.0 a.1 }
 

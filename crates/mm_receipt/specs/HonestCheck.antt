@@ -32,7 +32,8 @@ text_alone position (Ok _) = verdict_text position Good
 
 abbrev pub pair_text_alone : List ℕ → GivenPair → List ℕ
 pair_text_alone key pair =
-    text_alone pair.asked.position (check_of_receipt key pair.asked.position pair.asked.request pair.output)
+    text_alone pair.asked.position
+    (check_of_receipt key pair.asked.position pair.asked.request pair.output)
 
 abbrev pub all_texts_alone : List ℕ → List GivenPair → List ℕ
 all_texts_alone key [] = []
@@ -53,7 +54,8 @@ IsTrue inner requests key pair =
 
 -- Each pair is answered as if it came alone, so that none is `clash`; and the good pairs are those
 -- of the run.
-pub record IsHonest (inner : Meaning) (requests : List (List ℕ)) (key : List ℕ) (pairs : List GivenPair)
+pub record IsHonest (inner : Meaning) (requests : List (List ℕ)) (key : List ℕ)
+    (pairs : List GivenPair)
     (written : List ℕ) : Type 0 where
   pub plain : written ≡ all_texts_alone key pairs
   pub right : AllByRecursion (IsTrue inner requests key) pairs

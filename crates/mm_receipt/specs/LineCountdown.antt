@@ -5,7 +5,9 @@ use Rattle.std.proofs.lemmas.Bool.Decides.{nat_tests}
 use Rattle.mm_play.specs.declared.player.LineRefusal.TheVariants.{Much}
 use Rattle.mm_receipt.specs.declared.pair.AskedRequest.{AskedRequest}
 use Rattle.mm_receipt.specs.declared.pair.PairVerdict.{PairVerdict}
-use Rattle.mm_receipt.specs.ReceiptCheck.{CheckTally, CheckState, most_pairs, is_too_much, pair_at, first_answer_by, pair_verdict, verdict_text, tally_after_pair, reply_of_first, reply_of_second, pair_answer, receipts_answer, remaining_lines_at}
+use Rattle.mm_receipt.specs.ReceiptCheck.{CheckTally, CheckState, most_pairs, is_too_much, pair_at, first_answer_by, pair_verdict}
+use Rattle.mm_receipt.specs.ReceiptCheck.{verdict_text, tally_after_pair, reply_of_first, reply_of_second, pair_answer, receipts_answer}
+use Rattle.mm_receipt.specs.ReceiptCheck.{remaining_lines_at}
 
 first_counts : (tally : CheckTally) (line : List ℕ) (found : Option AskedRequest) (reply : List ℕ)
     (next : CheckState)
@@ -19,11 +21,13 @@ after-pairs tally asked output verdict = grind arith
 
 second_counts : (tally after : CheckTally) (line said reply : List ℕ) (next : CheckState)
     → after.pairs ≡ tally.pairs + 1
-    → reply_of_second (if is_too_much tally line then Err Much else Ok (said, after)) ≡ Ok (reply, next)
+    → reply_of_second (if is_too_much tally line then Err Much else Ok (said, after))
+    ≡ Ok (reply, next)
     → remaining_lines_at next < 2 * (most_pairs - tally.pairs) - 1
 second_counts tally after line said reply next one h = grind (arith, nat_tests)
 
-counts_at : (tally : CheckTally) (asked : Option AskedRequest) (line reply : List ℕ) (next : CheckState)
+counts_at : (tally : CheckTally) (asked : Option AskedRequest) (line reply : List ℕ)
+    (next : CheckState)
     → pair_answer tally asked line ≡ Ok (reply, next)
     → remaining_lines_at next < remaining_lines_at (record { tally = tally; asked = asked })
 counts_at tally None line reply next h = first_counts tally line (pair_at line) reply next h

@@ -1,6 +1,7 @@
 -- The check of receipts: pairs of lines, a request with its position and then the output, each
 -- answered in a line.
-use Rattle.std.specs.Prelude.{ℕ, ◌+◌, ◌-◌, ◌*◌, ◌&&◌, ◌||◌, Bool, nat_le, nat_lt, List, [], ◌∷◌, ◌++◌, length, take, drop, codes, Option, Some, None, Result, Ok, Err, if◌then◌else◌}
+use Rattle.std.specs.Prelude.{ℕ, ◌+◌, ◌-◌, ◌*◌, ◌&&◌, ◌||◌, Bool, nat_le, nat_lt, List, [], ◌∷◌, ◌++◌, length, take, drop, codes, Option}
+use Rattle.std.specs.Prelude.{Some, None, Result, Ok, Err, if◌then◌else◌}
 use Rattle.std.specs.BTreeMap.{is_at, insert_entry}
 use Rattle.std.specs.Fmt.{decimal}
 use Rattle.std.specs.List.{position}
@@ -72,7 +73,8 @@ abbrev pub verdict_against : Option GoodPair → List ℕ → List ℕ → PairV
 verdict_against None request output = Good
 verdict_against (Some pair) request output = verdict_by_pair pair request output
 
-abbrev pub receipt_verdict : Result (Unit {0}) NotReceipt → Option GoodPair → List ℕ → List ℕ → PairVerdict
+abbrev pub receipt_verdict : Result (Unit {0}) NotReceipt → Option GoodPair → List ℕ → List ℕ
+    → PairVerdict
 receipt_verdict (Err Form) known request output = NoForm
 receipt_verdict (Err Tag) known request output = NoTag
 receipt_verdict (Ok _) known request output = verdict_against known request output
@@ -112,7 +114,8 @@ tally_after_pair tally asked output Good =
     tally_with_good (tally_with_known (tally_with_pair tally output) asked output)
 tally_after_pair tally asked output _ = tally_with_pair tally output
 
-abbrev pub first_answer_by : CheckTally → List ℕ → Option AskedRequest → Result (AskedRequest × CheckTally) LineRefusal
+abbrev pub first_answer_by : CheckTally → List ℕ → Option AskedRequest
+    → Result (AskedRequest × CheckTally) LineRefusal
 first_answer_by tally line None = Err Bad
 first_answer_by tally line (Some asked) =
     if is_too_much tally line then Err Much
@@ -123,7 +126,8 @@ abbrev pub first_answer : CheckTally → List ℕ → Result (AskedRequest × Ch
 first_answer tally line = first_answer_by tally line (pair_at line)
 
 -- the second line of a pair, and the reply
-abbrev pub second_answer : CheckTally → AskedRequest → List ℕ → Result (List ℕ × CheckTally) LineRefusal
+abbrev pub second_answer : CheckTally → AskedRequest → List ℕ
+    → Result (List ℕ × CheckTally) LineRefusal
 second_answer tally asked line =
     if is_too_much tally line then Err Much
     else Ok (
@@ -137,15 +141,18 @@ pub record CheckState : Type 0 where
   pub tally : CheckTally
   pub asked : Option AskedRequest
 
-abbrev pub reply_of_first : Result (AskedRequest × CheckTally) LineRefusal → Result (List ℕ × CheckState) LineRefusal
+abbrev pub reply_of_first : Result (AskedRequest × CheckTally) LineRefusal
+    → Result (List ℕ × CheckState) LineRefusal
 reply_of_first (Ok first) = Ok ([], record { tally = first.1; asked = Some first.0 })
 reply_of_first (Err why) = Err why
 
-abbrev pub reply_of_second : Result (List ℕ × CheckTally) LineRefusal → Result (List ℕ × CheckState) LineRefusal
+abbrev pub reply_of_second : Result (List ℕ × CheckTally) LineRefusal
+    → Result (List ℕ × CheckState) LineRefusal
 reply_of_second (Ok second) = Ok (second.0, record { tally = second.1; asked = None })
 reply_of_second (Err why) = Err why
 
-abbrev pub pair_answer : CheckTally → Option AskedRequest → List ℕ → Result (List ℕ × CheckState) LineRefusal
+abbrev pub pair_answer : CheckTally → Option AskedRequest → List ℕ
+    → Result (List ℕ × CheckState) LineRefusal
 pair_answer tally None line = reply_of_first (first_answer tally line)
 pair_answer tally (Some asked) line = reply_of_second (second_answer tally asked line)
 

@@ -19,7 +19,8 @@ tally_of tally =
     }
 
 -- The first line of a pair was taken, with this answer.
-abbrev pub TakesFirst : Result (AskedRequest × checking.CheckTally) LineRefusal → checking.CheckTally
+abbrev pub TakesFirst : Result (AskedRequest × checking.CheckTally) LineRefusal
+    → checking.CheckTally
     → Result AskedRequest ReplyFault → Type 0
 TakesFirst answer next (Ok asked) = answer ≡ Ok (asked, next)
 TakesFirst answer next (Err fault.Memory) = Unit {0}

@@ -119,7 +119,8 @@ pub fn receipts<S: Source, K: Sink>(
 
     // Lines of that form within the limits are not refused.
     ensures complete { (bytes : List ℕ) → (next : CheckState) → S.left input.old ≡ Some bytes
-        → (outcome_of_input receipts_answer receipts_closing (first_check key.now) bytes).outcome ≡ Ok next
+        → (outcome_of_input receipts_answer receipts_closing (first_check key.now) bytes).outcome
+        ≡ Ok next
         → IsUnrefused result }
 
     // Where a run of short requests tagged the message of each output that is accepted: no line is `clash P`, and each

@@ -127,7 +127,8 @@ impl Tally {
 
     // Remembers a good pair.
     fn remember(&mut self, alloc: Global, asked: AskedRequest, output: &[u8]) -> Result<(), Memory>
-        ensures { OnOk result (tally_of self.new ≡ tally_with_known (tally_of self.old) asked output.now) }
+        ensures { OnOk result (tally_of self.new ≡ tally_with_known (tally_of self.old)
+            asked output.now) }
     {
         let output = Bytes::copy_of(alloc, output)?;
         let AskedRequest { position, request } = asked;

@@ -1,5 +1,6 @@
 -- The laws of a module that gives receipts, from those of the module inside.
-use Rattle.std.specs.Prelude.{◌≡◌, ℕ, ◌+◌, ◌≤◌, ◌==◌, ◌&&◌, Bool, true, nat_le, List, [], ◌∷◌, ◌++◌, length, take, drop, Option, Some, None, if◌then◌else◌}
+use Rattle.std.specs.Prelude.{◌≡◌, ℕ, ◌+◌, ◌≤◌, ◌==◌, ◌&&◌, Bool, true, nat_le, List, [], ◌∷◌, ◌++◌, length, take, drop, Option, Some, None}
+use Rattle.std.specs.Prelude.{if◌then◌else◌}
 use Rattle.std.proofs.Common.{refl, ◌∙◌, ap, arith, rules, length-append}
 use Rattle.std.proofs.lemmas.Bool.Decides.{nat_tests}
 use Rattle.std.proofs.lemmas.List.{length-take-le, length-drop}
@@ -14,11 +15,13 @@ use Rattle.mm_module.specs.Bytes.{is_byte, are_bytes}
 use Rattle.mm_module.specs.LineLaws.{is_unbroken, and-true, and-both, IsText, is_unbroken-All}
 use Rattle.mm_module.specs.Meaning.{Meaning, IsLawful, IsShort}
 use Rattle.mm_module.specs.Numbers.{number_of_eight_bytes}
-use Rattle.mm_module.specs.PartLaws.{take-front, drop-front, are_bytes-take, are_bytes-drop, are_bytes-append, are_bytes-All, length-eight, are_bytes-eight, number_of_eight_bytes-eight}
+use Rattle.mm_module.specs.PartLaws.{take-front, drop-front, are_bytes-take, are_bytes-drop, are_bytes-append, are_bytes-All, length-eight}
+use Rattle.mm_module.specs.PartLaws.{are_bytes-eight, number_of_eight_bytes-eight}
 use Rattle.mm_module.specs.TableLaws.{Table, IsTable, is-true, table_is_lawful}
 use Rattle.mm_module.specs.ValueLaws.{IsValue, MayBeValue, value_at-value, is_unbroken-encoded}
 use Rattle.mm_receipted.specs.Receipts.{receipt_message, digits_of}
-use Rattle.mm_receipted.specs.Table.{ReceiptState, outcome_of, first_receipt_state, key_bytes, spelling_of, is_keyed, is_front, receipt_state_after, receipt_state_in, is_state, receipted_module}
+use Rattle.mm_receipted.specs.Table.{ReceiptState, outcome_of, first_receipt_state, key_bytes, spelling_of, is_keyed, is_front}
+use Rattle.mm_receipted.specs.Table.{receipt_state_after, receipt_state_in, is_state, receipted_module}
 
 -- what is kept has its form, but for the state inside
 pub record IsKept (kept : ReceiptState) : Type 0 where
@@ -121,7 +124,8 @@ keeps-behind count (form ∷ rest) few long all =
       long = omega (arith, length-drop 32 rest, long);
     }
 
-behind-front : (inner : Meaning) (bytes : List ℕ) → SpellsKept inner bytes → KeepsBehind (number_of_eight_bytes (take 8 bytes)) (drop 8 bytes)
+behind-front : (inner : Meaning) (bytes : List ℕ) → SpellsKept inner bytes
+    → KeepsBehind (number_of_eight_bytes (take 8 bytes)) (drop 8 bytes)
 behind-front inner bytes is =
     keeps-behind _ (drop 8 bytes) is.few (omega (arith, length-drop 8 bytes, is.long))
     (are_bytes-drop 8 bytes is.all)

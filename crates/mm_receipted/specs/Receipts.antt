@@ -1,5 +1,6 @@
 -- Receipts: what a module said to a request at a position, under a key.
-use Rattle.std.specs.Prelude.{ℕ, ◌==◌, ◌&&◌, ◌||◌, Bool, nat_le, List, [], ◌∷◌, ◌++◌, length, take, drop, Option, Some, None, Result, Ok, Err, if◌then◌else◌}
+use Rattle.std.specs.Prelude.{ℕ, ◌==◌, ◌&&◌, ◌||◌, Bool, nat_le, List, [], ◌∷◌, ◌++◌, length, take, drop, Option, Some, None, Result, Ok}
+use Rattle.std.specs.Prelude.{Err, if◌then◌else◌}
 use Rattle.std.specs.List.{list_all}
 use Rattle.std.specs.Str.{bytes_eq}
 use Rattle.hex.specs.Hex.{encode_lower}
@@ -47,4 +48,5 @@ check_of_parts key position request (Some parts) =
 
 -- whether an output is the receipt of what stands behind its digits
 abbrev pub check_of_receipt : List ℕ → ℕ → List ℕ → List ℕ → Result (Unit {0}) NotReceipt
-check_of_receipt key position request output = check_of_parts key position request (receipt_parts output)
+check_of_receipt key position request output =
+    check_of_parts key position request (receipt_parts output)

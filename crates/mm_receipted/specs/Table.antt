@@ -1,5 +1,6 @@
 -- A module round another, which counts requests and gives receipts.
-use Rattle.std.specs.Prelude.{ℕ, ◌+◌, ◌%◌, ◌==◌, ◌&&◌, ◌||◌, Bool, false, nat_le, List, [], ◌∷◌, ◌++◌, length, take, drop, replicate, codes, Option, Some, None, if◌then◌else◌}
+use Rattle.std.specs.Prelude.{ℕ, ◌+◌, ◌%◌, ◌==◌, ◌&&◌, ◌||◌, Bool, false, nat_le, List, [], ◌∷◌, ◌++◌, length, take, drop, replicate, codes}
+use Rattle.std.specs.Prelude.{Option, Some, None, if◌then◌else◌}
 use Rattle.std.specs.Str.{bytes_eq}
 use Rattle.mm_base.specs.Fields.{eight_bytes}
 use Rattle.mm_base.specs.Limits.{last_position}
@@ -38,14 +39,16 @@ outcome_under_key inner kept request key = (
   receipt_of key (kept.count + 1) request (inner.says kept.inner request),
 )
 
-abbrev pub outcome_by_key : Meaning → ReceiptState → List ℕ → Option (List ℕ) → ReceiptState × List ℕ
+abbrev pub outcome_by_key : Meaning → ReceiptState → List ℕ → Option (List ℕ)
+    → ReceiptState × List ℕ
 outcome_by_key inner kept request None = outcome_without_key kept (key_of_words (words_of request))
 outcome_by_key inner kept request (Some key) = outcome_under_key inner kept request key
 
 -- what a request does, and what is said: there are 2^48 positions
 abbrev pub outcome_of : Meaning → ReceiptState → List ℕ → ReceiptState × List ℕ
 outcome_of inner kept request =
-    if kept.count == last_position then (kept, codes "full") else outcome_by_key inner kept request kept.key
+    if kept.count == last_position then (kept, codes "full") else outcome_by_key inner
+    kept request kept.key
 
 -- before every request
 abbrev pub first_receipt_state : Meaning → ReceiptState

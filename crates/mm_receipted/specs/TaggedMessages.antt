@@ -39,7 +39,8 @@ pub record WasRun (inner : Meaning) (requests : List (List ℕ)) (position : ℕ
   pub before : ℕ
   pub place : position ≡ before + 1
   pub asked : slice_get requests before ≡ Some request
-  pub said : slice_get (outputs_from (receipted_module inner) (receipted_module inner).first requests)
+  pub said : slice_get (outputs_from (receipted_module inner)
+      (receipted_module inner).first requests)
       before ≡ Some output
 
 -- an unforged receipt tells the request at its position and what was said to it

@@ -141,9 +141,11 @@ fn text_of_key(alloc: Global, key: Option<[u8; 32]>) -> Result<Bytes, Memory>
 fn step_unkeyed(alloc: Global, kept: KeptState<'_>, request: &[u8]) -> Result<Stepped, Memory>
     requires { kept.count < last_position }
     ensures state { IfOk result (λ stepped. stepped.state
-        ≡ spelling_of (outcome_without_key (kept_state_of kept.entry) (key_of_words (words_of request.now))).0) }
+        ≡ spelling_of (outcome_without_key (kept_state_of kept.entry)
+        (key_of_words (words_of request.now))).0) }
     ensures output { IfOk result (λ stepped. stepped.output
-        ≡ (outcome_without_key (kept_state_of kept.entry) (key_of_words (words_of request.now))).1) }
+        ≡ (outcome_without_key (kept_state_of kept.entry) (key_of_words (words_of request.now))).1)
+        }
 {
     let key = key_of(request);
     Ok(Stepped {
@@ -166,9 +168,11 @@ impl<M: Short> Receipted<M> {
         requires room { kept.count < last_position }
         ensures state { IfOk result (λ stepped. stepped.state
             ≡ spelling_of
-            (outcome_under_key (M.meaning self.now.inner) (kept_state_of kept.entry) request.now key.now).0) }
+            (outcome_under_key (M.meaning self.now.inner) (kept_state_of kept.entry)
+            request.now key.now).0) }
         ensures output { IfOk result (λ stepped. stepped.output
-            ≡ (outcome_under_key (M.meaning self.now.inner) (kept_state_of kept.entry) request.now key.now).1) }
+            ≡ (outcome_under_key (M.meaning self.now.inner) (kept_state_of kept.entry)
+            request.now key.now).1) }
     {
         let position = kept.count + 1;
         let stepped = self.inner.step(alloc, kept.inner, request)?;

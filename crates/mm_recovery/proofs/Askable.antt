@@ -1,5 +1,6 @@
 -- A line of at most 4,096 bytes isn't too long to be asked, and its record fits a slot.
-use Rattle.mm_recovery.proofs.Below.{ℕ, ◌≡◌, ◌≢◌, false, List, length, refl, arith, nat_lt, list_any, nat_tests, longest_request, One, is_long}
+use Rattle.mm_recovery.proofs.Below.{ℕ, ◌≡◌, ◌≢◌, false, List, length, refl, arith, nat_lt, list_any, nat_tests, longest_request, One}
+use Rattle.mm_recovery.proofs.Below.{is_long}
 use Rattle.mm_recovery.proofs.Below.{◌+◌, ◌≤◌, ap, length-append, length-sha256, PendingRecord, length-pending_front}
 use Rattle.std.proofs.lemmas.List.Folds.{list_any_none}
 use Rattle.mm_base.specs.Lines.{MayGrow}
@@ -26,7 +27,8 @@ unfolding pending_spelling
 length-pending_spelling p =
     simp length-append (omega (arith, length-pending_front p, length-sha256 (pending_front p)))
 
-pub record_short : (p : PendingRecord) (bytes : List ℕ) → bytes ≡ pending_spelling p → length p.request ≤ longest_request → length bytes ≤ 1100000
+pub record_short : (p : PendingRecord) (bytes : List ℕ) → bytes ≡ pending_spelling p → length p.request ≤ longest_request
+    → length bytes ≤ 1100000
 record_short p bytes e h = omega (arith, ap length e, length-pending_spelling p)
 
 -- A record's bytes tell its position.

@@ -1,9 +1,12 @@
 -- How often calls are to write the cell, and what flag they leave: one of either core, and calls one after another.
 use Rattle.mm_recovery.proofs.Below.{◌≡◌, ◌∙◌, ◌+◌, ◌≤◌, ℕ, zero, suc, Bool, true, false, List, Some, Ok, refl, sym, ap, inl, inr, arith}
-use Rattle.mm_recovery.proofs.Below.{◌⊎◌, next_count, Variant, Basic, Opt, Standing, Answer, count_after_more, WritesAtMostOnce, LeavesOpen, TellsFlag}
+use Rattle.mm_recovery.proofs.Below.{◌⊎◌, next_count, Variant, Basic, Opt, Standing, Answer, count_after_more, WritesAtMostOnce, LeavesOpen}
+use Rattle.mm_recovery.proofs.Below.{TellsFlag}
 use Rattle.mm_recovery.proofs.Below.{WritesByOpening, WritesFor, is_open_after, openings, Option, None, Result, Err, StepFault, cell_after}
-use Rattle.mm_recovery.proofs.Below.{Meaning, Batch, PartsFault, IsCell, ReadsCell, SpellsCell, cell_spelling, Snapshot, BatchAnswer, Refusal}
-use Rattle.mm_recovery.proofs.Below.{Memory, Device, is_long, batch_answer_of, batch_result_of, AskResult, goes_on, breaks_off, EndsByFinding, result_of, acts_for, answer_in}
+use Rattle.mm_recovery.proofs.Below.{Meaning, Batch, PartsFault, IsCell, ReadsCell, SpellsCell, cell_spelling, Snapshot, BatchAnswer}
+use Rattle.mm_recovery.proofs.Below.{Refusal}
+use Rattle.mm_recovery.proofs.Below.{Memory, Device, is_long, batch_answer_of, batch_result_of, AskResult, goes_on, breaks_off}
+use Rattle.mm_recovery.proofs.Below.{EndsByFinding, result_of, acts_for, answer_in}
 use Rattle.mm_recovery.proofs.Below.{fault_of, IsOrMemory, refused_result, CallReads, Long, StepsRefused, StepsBy, opt_call}
 use Rattle.mm_recovery.proofs.Below.{StepsAnswered, StepsFrom, CallWrites, IsNewAt, LeavesFlag, new_requests_by, [], ◌∷◌}
 use Rattle.mm_platform.specs.Steps.{Act}
@@ -40,7 +43,8 @@ opens_sum flag n m before middle after e f = grind (arith, e, f)
 open_sum : (flag : Bool) (n m : ℕ) → is_open_after (is_open_after flag n) m ≡ is_open_after flag (n + m)
 open_sum flag n m = grind arith
 
-once_by : (flag : Bool) (n before after : ℕ) → after ≡ count_after_more (openings flag n) before → (after ≡ before) ⊎ (after ≡ next_count before)
+once_by : (flag : Bool) (n before after : ℕ) → after ≡ count_after_more (openings flag n) before → (after ≡ before)
+    ⊎ (after ≡ next_count before)
 once_by flag n before after e = grind (arith, e)
 
 -- where nothing was written
@@ -115,7 +119,8 @@ both_writes variant n m before middle after a b = record {
 }
 
 -- Basic
-basic_answered : (again : Bool) (old new : Standing) → StepsAnswered Basic again old new → new.writes ≡ count_after_more (new_requests_by again) old.writes
+basic_answered : (again : Bool) (old new : Standing) → StepsAnswered Basic again old new
+    → new.writes ≡ count_after_more (new_requests_by again) old.writes
 basic_answered again old new s = grind (arith, s)
 
 -- the requests that a refused call came to write
@@ -286,5 +291,6 @@ module _ (meaning : Meaning) (old new : Standing) (offer : List ℕ) (b : Batch)
         new = refl;
         writes = opt_answered answer.again old new (a.steps short) a.writes.once
             (λ flag t. rw (sym t.shows) (a.writes.answers t.cell t.is_cell t.tells));
-        leaves = ends_flag meaning offer b old new c.ended (batch_answer_of answer) (sym c.gives) c.asks.found c.asks.middle c.asks.reads c.asks.ends;
+        leaves = ends_flag meaning offer b old new c.ended (batch_answer_of answer) (sym c.gives) c.asks.found c.asks.middle
+            c.asks.reads c.asks.ends;
       }

@@ -1,8 +1,10 @@
 -- What each exit of a recovery, and of one more request, is told as: whose fault it is, and how often the cell was to be written.
 use Rattle.mm_recovery.proofs.Below.{ℕ, ◌≡◌, ◌≢◌, ◌≤◌, Bool, List, Option, None, Some, Result, Ok, Err, refl, sym, ap, ◌∙◌}
 use Rattle.mm_recovery.proofs.Below.{arith, Variant, Standing, Meaning, Answer, Refusal, Long, CountsHandedFault, fault_of}
-use Rattle.mm_recovery.proofs.Below.{StoreFault, CountsFailures, StoreStanding, PendingRecord, HostFault, Resumed, store_fault_as, refusal_fault}
-use Rattle.mm_recovery.proofs.Below.{GoesAfterRecord, AsksNext, GoesAfterTwo, result_of_start, result_of_keep, GoesAfterAsk, GoesAfterOffer, GoesAfterFinding, HostResumes}
+use Rattle.mm_recovery.proofs.Below.{StoreFault, CountsFailures, StoreStanding, PendingRecord, HostFault, Resumed, store_fault_as}
+use Rattle.mm_recovery.proofs.Below.{refusal_fault}
+use Rattle.mm_recovery.proofs.Below.{GoesAfterRecord, AsksNext, GoesAfterTwo, result_of_start, result_of_keep, GoesAfterAsk, GoesAfterOffer}
+use Rattle.mm_recovery.proofs.Below.{GoesAfterFinding, HostResumes}
 use Rattle.mm_recovery.proofs.Below.{IsCall, CallWrites, WritesFor, new_requests_by, IsNewOf, RequestWrites, new_requests_at}
 use Rattle.mm_recovery.specs.Blame.{BlamesHostFault, IsNamed}
 use Rattle.mm_recovery.proofs.CellWriting.{AnsweredWrites, LeadsOver, leads_answer, leads_rest, rests}
@@ -76,7 +78,8 @@ module _ (variant : Variant) (meaning : Meaning) (before after : Standing) where
   refused_exit why old new b short c s = grind (arith, b, short, c, s)
 
   kept_exit : (answer : Answer) (written : Result Unit StoreFault) (old new : StoreStanding) → after.faults ≡ before.faults
-      → CallWrites variant (Ok answer) before after → CountsFailures old.faults new.faults written → Exit old new (result_of_keep answer written)
+      → CallWrites variant (Ok answer) before after → CountsFailures old.faults new.faults written
+      → Exit old new (result_of_keep answer written)
   kept_exit answer (Ok it) old new s c k =
       exit_of (s, k) (record { remembered = λ e. absurd (cc); short = λ e. absurd (cc) }) c.requests c.new c.writes
       (leads_answer variant answer c.requests before after c.leaves)
@@ -93,7 +96,8 @@ module _ (variant : Variant) (meaning : Meaning) (before after : Standing) where
       rw g.gives (kept_exit answer g.written first new a.faults a.counts (rw (sym s) g.writes.counted))
 
   -- what waited
-  offered_exit : (offer : Result (List ℕ) StoreFault) (old middle new : StoreStanding) (p : PendingRecord) (result : Result Resumed HostFault)
+  offered_exit : (offer : Result (List ℕ) StoreFault) (old middle new : StoreStanding) (p : PendingRecord)
+      (result : Result Resumed HostFault)
       → CountsFailures old.faults middle.faults offer → GoesAfterOffer variant meaning before after offer middle new p result
       → Exit old new result
   offered_exit (Err why) old middle new p result c g = failed_exit (List ℕ) why old middle new result c g

@@ -1,13 +1,20 @@
 -- What one call for a request comes to by lists, in either variant.
-use Rattle.mm_recovery.proofs.Below.{arith, ◌≡◌, ◌≢◌, ℕ, List, [], ◌∷◌, ◌++◌, Option, None, Some, Result, Ok, Err, refl, ◌∙◌, subst, inl, inr}
-use Rattle.mm_recovery.proofs.Below.{Variant, Basic, Opt, Item, Standing, StepFault, Meaning, IsLawful, Batch, One, Content, Instance, basic_instance}
-use Rattle.mm_recovery.proofs.Below.{opt_instance, History, Commit, history_after, Life, LostLife, life_of, digests_of, NamesPosition, StandsFor, BatchAnswer, Refusal}
-use Rattle.mm_recovery.proofs.Below.{Memory, IsAsked, IsWithin, call_outcome, result_of_ending, CallContinues, IsCallOnCourse, Course, finding_at, list_level, ◌⊎◌}
-use Rattle.mm_recovery.proofs.Below.{digest_level, AreAsked, AreShown, IsIdle, fault_of, stands_at, bare, asked_for, asked_idle, basic_asked}
+use Rattle.mm_recovery.proofs.Below.{arith, ◌≡◌, ◌≢◌, ℕ, List, [], ◌∷◌, ◌++◌, Option, None, Some, Result, Ok, Err, refl, ◌∙◌, subst, inl}
+use Rattle.mm_recovery.proofs.Below.{inr}
+use Rattle.mm_recovery.proofs.Below.{Variant, Basic, Opt, Item, Standing, StepFault, Meaning, IsLawful, Batch, One, Content, Instance}
+use Rattle.mm_recovery.proofs.Below.{basic_instance}
+use Rattle.mm_recovery.proofs.Below.{opt_instance, History, Commit, history_after, Life, LostLife, life_of, digests_of, NamesPosition}
+use Rattle.mm_recovery.proofs.Below.{StandsFor, BatchAnswer, Refusal}
+use Rattle.mm_recovery.proofs.Below.{Memory, IsAsked, IsWithin, call_outcome, result_of_ending, CallContinues, IsCallOnCourse, Course}
+use Rattle.mm_recovery.proofs.Below.{finding_at, list_level, ◌⊎◌}
+use Rattle.mm_recovery.proofs.Below.{digest_level, AreAsked, AreShown, IsIdle, fault_of, stands_at, bare, asked_for, asked_idle}
+use Rattle.mm_recovery.proofs.Below.{basic_asked}
 use Rattle.mm_recovery.proofs.Below.{names_made, basic_comes, comes, HistoryGrows, Alike, alike_call, names_after, answered_clean_as}
 use Rattle.mm_recovery.proofs.Below.{PendingRecord, IsRefusedAs, Bool, true, false, map, guard, RegisterEntry, Value, Move, Foreign, Reset}
-use Rattle.mm_recovery.proofs.Below.{history_after_commit, items_of_all, with_last_batch, are_own, has_value, is_empty, life_by, IsAllowed, ask_steps, CallFinding}
-use Rattle.mm_recovery.proofs.Below.{finding_unless_wanting, is_fresh, state_after_moves, before, AllMay, ask_may, last_position, total_of, ◌≤◌}
+use Rattle.mm_recovery.proofs.Below.{history_after_commit, items_of_all, with_last_batch, are_own, has_value, is_empty, life_by, IsAllowed}
+use Rattle.mm_recovery.proofs.Below.{ask_steps, CallFinding}
+use Rattle.mm_recovery.proofs.Below.{finding_unless_wanting, is_fresh, state_after_moves, before, AllMay, ask_may, last_position, total_of}
+use Rattle.mm_recovery.proofs.Below.{◌≤◌}
 use Rattle.mm_call.specs.ShownItems.{standing_items}
 use Rattle.mm_recovery.proofs.Refusing.{grows, MayRefuse, IsOffered, offered_then, found_refused, has_room, keeps_refused, judged_refused}
 use Rattle.mm_recovery.proofs.Slots.{IsIssued, issued_in_basic, issued_in_opt}
@@ -44,7 +51,8 @@ module _ (meaning : Meaning) (key barrier : List ℕ) where
   abbrev KeepsPower : List Move → Type 0
   KeepsPower moves = (y : History) → AllMay I y moves → IsPowered y → IsPowered (state_after_moves (list_level I) y moves)
 
-  may_split : (xs ys : List Move) (y : History) → AllMay I y (xs ++ ys) → AllMay I y xs × AllMay I (state_after_moves (list_level I) y xs) ys
+  may_split : (xs ys : List Move) (y : History) → AllMay I y (xs ++ ys)
+      → AllMay I y xs × AllMay I (state_after_moves (list_level I) y xs) ys
   may_split [] ys y may = (tt, may)
   may_split (x ∷ xs) ys y may = let rest = may_split xs ys (history_after I y x) may.1 in ((may.0, rest.0), rest.1)
 
@@ -71,7 +79,8 @@ module _ (meaning : Meaning) (key barrier : List ℕ) where
   pub stays_powered : (y : History) (c : Course) (offer : List ℕ) (b : Batch) → life_of Opt y ≢ LostLife
       → life_of Opt (call_outcome I (list_level I) y c offer b).state ≢ LostLife
   stays_powered y c offer b h =
-      let found : Result CallFinding Refusal = finding_unless_wanting (finding_at I (list_level I) (state_after_moves (list_level I) y (before c)) b offer) c.lacks
+      let found : Result CallFinding Refusal =
+          finding_unless_wanting (finding_at I (list_level I) (state_after_moves (list_level I) y (before c)) b offer) c.lacks
       in
       let end : History = (call_outcome I (list_level I) y c offer b).state in
       not_lost end.is_open (is_empty end.items) (are_own end.items end.current) (has_value (items_of_all end.closed))
@@ -91,7 +100,8 @@ IsGrownBy i y waiting after =
     ⊎ ((p : PendingRecord) × (waiting ≡ Some p) × IsSame i.variant after (history_after i y (Commit (One p.request))))
 
 basic_grown : (meaning : Meaning) (key : List ℕ) (y after : History) (p : PendingRecord)
-    → (after.batches ≡ y.batches) ⊎ (after.batches ≡ y.batches ++ One p.request ∷ []) → IsGrownBy (basic_instance meaning key) y (Some p) after
+    → (after.batches ≡ y.batches) ⊎ (after.batches ≡ y.batches ++ One p.request ∷ [])
+    → IsGrownBy (basic_instance meaning key) y (Some p) after
 basic_grown meaning key y after p h = grind (arith, h)
 
 pub opt_grown : (meaning : Meaning) (key barrier : List ℕ) (y after : History) (p : PendingRecord)
@@ -170,7 +180,8 @@ module _ (meaning : Meaning) (lawful : IsLawful meaning) (key : List ℕ) (all o
       (names_made meaning key o.moves y) come (λ answer e. issued_in_basic meaning lawful key o.state)
       (basic_grown meaning key y o.state p (grows i y p offer o.state (result_of_ending o.ending) come)) (λ h e. cc)
 
-  pub basic_called : IsOffered (basic_instance meaning key) y p offer → Met all others asked (basic_instance meaning key) y new offer p gives
+  pub basic_called : IsOffered (basic_instance meaning key) y p offer → Met all others asked (basic_instance meaning key) y
+      new offer p gives
   basic_called f = basic_met
 
 -- what is asked of the moves of a call is known by the register's items, or the call is idle
@@ -179,7 +190,8 @@ module _ (meaning : Meaning) (lawful : IsLawful meaning) (key barrier : List ℕ
     (c : IsCallOnCourse Opt meaning old new offer (One p.request) gives) (s : StandsFor (opt_instance meaning key barrier) old y)
     (a : AreAsked all others asked (opt_instance meaning key barrier) y offer (One p.request)) where
   opt_met_by : IsAsked all others asked (opt_instance meaning key barrier) y
-      (call_outcome (opt_instance meaning key barrier) (digest_level (opt_instance meaning key barrier)) (digests_of (opt_instance meaning key barrier) y) c.course offer
+      (call_outcome (opt_instance meaning key barrier) (digest_level (opt_instance meaning key barrier))
+      (digests_of (opt_instance meaning key barrier) y) c.course offer
       (One p.request)).moves offer (One p.request)
       → Met all others asked (opt_instance meaning key barrier) y new offer p gives
   opt_met_by is_asked =
@@ -195,7 +207,8 @@ module _ (meaning : Meaning) (lawful : IsLawful meaning) (key barrier : List ℕ
       (opt_grown meaning key barrier y o.state p alike) (stays_powered meaning key barrier y c.course offer (One p.request))
 
   pub opt_met : (items more : List Item) → old.items ≡ Some items → new.items ≡ Some (standing_items y.is_open items ++ more)
-      → ((IsIdle (opt_instance meaning key barrier) y offer (One p.request) → ⊥) → AreShown all others (opt_instance meaning key barrier) y more)
+      → ((IsIdle (opt_instance meaning key barrier) y offer (One p.request) → ⊥)
+      → AreShown all others (opt_instance meaning key barrier) y more)
       → Met all others asked (opt_instance meaning key barrier) y new offer p gives
   opt_met items more known ends shown_so =
       let i : Instance = opt_instance meaning key barrier in
@@ -208,6 +221,7 @@ module _ (meaning : Meaning) (lawful : IsLawful meaning) (key barrier : List ℕ
   opt_met_idle idle = opt_met_by (asked_idle meaning key barrier all others asked y c.course offer (One p.request) a idle)
 
   pub opt_called : (items more : List Item) → old.items ≡ Some items → new.items ≡ Some (standing_items y.is_open items ++ more)
-      → ((IsIdle (opt_instance meaning key barrier) y offer (One p.request) → ⊥) → AreShown all others (opt_instance meaning key barrier) y more)
+      → ((IsIdle (opt_instance meaning key barrier) y offer (One p.request) → ⊥)
+      → AreShown all others (opt_instance meaning key barrier) y more)
       → IsOffered (opt_instance meaning key barrier) y p offer → Met all others asked (opt_instance meaning key barrier) y new offer p gives
   opt_called items more known ends shown_so f = opt_met items more known ends shown_so

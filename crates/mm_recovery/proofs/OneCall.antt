@@ -1,7 +1,8 @@
 -- One call of either variant promises what the cores' whole calls do.
 use Rattle.mm_recovery.proofs.Below.{arith, ◌≡◌, ℕ, false, List, Result, sym, subst, Variant, Basic, Opt}
 use Rattle.mm_recovery.proofs.Below.{Standing, Meaning, IsLawful, Batch, One, IsFit, is_long, Answer, BatchAnswer, Refusal}
-use Rattle.mm_recovery.proofs.Below.{AskResult, result_of, CountsHandedFault, batch_answer_of, batch_result_of, fault_in, ask_call, AskPromise, StepsBy, CallWrites, IsCall}
+use Rattle.mm_recovery.proofs.Below.{AskResult, result_of, CountsHandedFault, batch_answer_of, batch_result_of, fault_in, ask_call}
+use Rattle.mm_recovery.proofs.Below.{AskPromise, StepsBy, CallWrites, IsCall}
 use Rattle.std.specs.Prelude.{IfOk}
 use Rattle.mm_ask.specs.WholeAsk.{IsWholeAsk}
 use Rattle.mm_ask.proofs.Above.{asked_whole}
@@ -15,7 +16,8 @@ asked_in variant meaning lawful old new offer b ended result short whole is =
 
 -- what holds of the answer to a batch of one
 of_whole : (result : Result Answer Refusal) (old new : Standing) (request : List ℕ)
-    → CountsHandedFault (fault_in (batch_result_of result)) old.faults new.faults → IfOk (batch_result_of result) (λ all. IsFit (One request) all)
+    → CountsHandedFault (fault_in (batch_result_of result)) old.faults new.faults
+    → IfOk (batch_result_of result) (λ all. IsFit (One request) all)
     → CountsHandedFault (fault_in result) old.faults new.faults × IfOk result (λ answer. IsFit (One request) (batch_answer_of answer))
 of_whole result old new request b f = grind (arith, b, f)
 

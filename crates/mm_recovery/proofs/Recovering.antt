@@ -1,11 +1,18 @@
 -- Every exit of a recovery leaves slots that fit the history.
-use Rattle.mm_recovery.proofs.Below.{arith, ◌≡◌, ℕ, ◌-◌, ◌%◌, true, List, Option, None, Some, Result, Ok, Err, refl, sym, ap, ◌∙◌, subst, inl}
-use Rattle.mm_recovery.proofs.Below.{◌≤◌, IfOk, ◌⊎◌, Variant, Basic, Opt, Standing, Meaning, IsLawful, Batch, One, Instance, basic_instance, opt_instance, inr}
-use Rattle.mm_recovery.proofs.Below.{History, total_of, StandsFor, Answer, BatchAnswer, life_of, Refusal, batch_answer_of, batch_result_of, AreAsked, fault_of}
-use Rattle.mm_recovery.proofs.Below.{StepFault, StoreFault, ReadsSlot, WritesSlot, slots_with_bytes, StoreStanding, PendingRecord, Slots, slot_front, slots_with}
-use Rattle.mm_recovery.proofs.Below.{last_position, IsFit, HostFault, Resumed, Start, store_fault_as, refusal_fault, IsWaiting, result_of_start}
-use Rattle.mm_recovery.proofs.Below.{result_of_keep, GoesAfterAsk, GoesAfterOffer, GoesAfterFinding, HostResumes, IsCall, offer_slot, IsSnapshotAt, FitsBy, IsAskedFor}
-use Rattle.mm_recovery.proofs.Below.{AnswersAt, CanRecover, IsGrown, AsksIdly, ResumeComesTo, MayHaveCommitted, HostRecovers, RecoversTo, one_reading}
+use Rattle.mm_recovery.proofs.Below.{arith, ◌≡◌, ℕ, ◌-◌, ◌%◌, true, List, Option, None, Some, Result, Ok, Err, refl, sym, ap, ◌∙◌, subst}
+use Rattle.mm_recovery.proofs.Below.{inl}
+use Rattle.mm_recovery.proofs.Below.{◌≤◌, IfOk, ◌⊎◌, Variant, Basic, Opt, Standing, Meaning, IsLawful, Batch, One, Instance, basic_instance}
+use Rattle.mm_recovery.proofs.Below.{opt_instance, inr}
+use Rattle.mm_recovery.proofs.Below.{History, total_of, StandsFor, Answer, BatchAnswer, life_of, Refusal, batch_answer_of, batch_result_of}
+use Rattle.mm_recovery.proofs.Below.{AreAsked, fault_of}
+use Rattle.mm_recovery.proofs.Below.{StepFault, StoreFault, ReadsSlot, WritesSlot, slots_with_bytes, StoreStanding, PendingRecord, Slots}
+use Rattle.mm_recovery.proofs.Below.{slot_front, slots_with}
+use Rattle.mm_recovery.proofs.Below.{last_position, IsFit, HostFault, Resumed, Start, store_fault_as, refusal_fault, IsWaiting}
+use Rattle.mm_recovery.proofs.Below.{result_of_start}
+use Rattle.mm_recovery.proofs.Below.{result_of_keep, GoesAfterAsk, GoesAfterOffer, GoesAfterFinding, HostResumes, IsCall, offer_slot}
+use Rattle.mm_recovery.proofs.Below.{IsSnapshotAt, FitsBy, IsAskedFor}
+use Rattle.mm_recovery.proofs.Below.{AnswersAt, CanRecover, IsGrown, AsksIdly, ResumeComesTo, MayHaveCommitted, HostRecovers, RecoversTo}
+use Rattle.mm_recovery.proofs.Below.{one_reading}
 use Rattle.mm_recovery.proofs.Below.{GoesAfterTwo, GoesAfterThree}
 use Rattle.mm_recovery.proofs.Below.{FitsHistory, IsWithin}
 use Rattle.mm_recovery.specs.LastAnswer.{position_at, snapshot_at}
@@ -64,7 +71,8 @@ may_commit why broken has =
     (λ e. tt) (λ w n e. rw e refl) why has
 
 -- what stands once the request that waits was asked
-pub record Left (all others : List (List ℕ)) (asked : List Batch) (i : Instance) (y : History) (slots : Slots) (waiting : Option PendingRecord)
+pub record Left (all others : List (List ℕ)) (asked : List Batch) (i : Instance) (y : History) (slots : Slots)
+    (waiting : Option PendingRecord)
     (p : PendingRecord) (standing : Standing) (gives : Result BatchAnswer Refusal) : Type 0 where
   pub met : Met all others asked i y standing (slot_front slots (offer_slot p)) p gives
   pub open met use *
@@ -80,7 +88,8 @@ offered_by i y slots p w f =
 
 -- What came, with more that is known of the history where it is gone on with.
 abbrev pub Recovered : (More : History → Type 0) (all others : List (List ℕ)) (asked : List Batch) (i : Instance) (y : History)
-    (slots : Slots) (waiting : Option PendingRecord) (standing : Standing) (kept : StoreStanding) (result : Result Resumed HostFault) → Type 0
+    (slots : Slots) (waiting : Option PendingRecord) (standing : Standing) (kept : StoreStanding) (result : Result Resumed HostFault)
+    → Type 0
 Recovered More all others asked i y slots waiting standing kept result =
     (r : RecoversTo all others asked i y slots waiting standing kept result) × IfOk result (λ (resumed : Resumed). More r.after)
 
@@ -88,7 +97,8 @@ Recovered More all others asked i y slots waiting standing kept result =
 abbrev pub LeadsOn : (More : History → Type 0) (all others : List (List ℕ)) (asked : List Batch) (variant : Variant) (i : Instance)
     (y : History) (slots : Slots) (waiting : Option PendingRecord) (before after : Standing) (result : Result Resumed HostFault) → Type 0
 LeadsOn More all others asked variant i y slots waiting before after result =
-    (p : PendingRecord) (call : Result Answer Refusal) → waiting ≡ Some p → ((why : Refusal) → call ≡ Err why → result ≡ Err (refusal_fault why))
+    (p : PendingRecord) (call : Result Answer Refusal) → waiting ≡ Some p
+    → ((why : Refusal) → call ≡ Err why → result ≡ Err (refusal_fault why))
     → IsCall variant i.meaning before after (slot_front slots (offer_slot p)) p.request call
     → (l : Left all others asked i y slots waiting p after (batch_result_of call)) × More l.after
 
@@ -146,7 +156,8 @@ module _ (More : History → Type 0) (all others : List (List ℕ)) (asked : Lis
       (holds_issued i lawful l.after bytes answer.position (l.issues (batch_answer_of answer) refl)
       (subst (λ (n : ℕ). n ≤ last_position) at fit.most) (ap (λ (b : BatchAnswer). b.snapshot) a.answer_is) at) (inr tt) a m
   keep_exit answer (Err fault.Memory) old new l m fit h t a here w =
-      settle (Ok (batch_answer_of answer)) slots new (Err (store_fault_as fault.Memory)) l (elsewhere_same slots p) (w.leaves h ∙ t) (w.honest ∙ h)
+      settle (Ok (batch_answer_of answer)) slots new (Err (store_fault_as fault.Memory)) l (elsewhere_same slots p)
+      (w.leaves h ∙ t) (w.honest ∙ h)
       tt tt (inr tt) tt tt
   keep_exit answer (Err fault.Failed) old new l m fit h t a here w =
       let left = w.leaves h in
@@ -158,7 +169,8 @@ module _ (More : History → Type 0) (all others : List (List ℕ)) (asked : Lis
       → (l.after.batches ≡ y.batches) ⊎ MayHaveCommitted {T = Resumed} (Err (refusal_fault why))
   only_by why broken e l = grind (arith, may_commit, e, l)
 
-  asked_exit : (call : Result Answer Refusal) (old new : StoreStanding) (result : Result Resumed HostFault) (l : LeftBy (batch_result_of call))
+  asked_exit : (call : Result Answer Refusal) (old new : StoreStanding) (result : Result Resumed HostFault)
+      (l : LeftBy (batch_result_of call))
       → More l.after → IfOk call (λ answer. IsFit (One p.request) (batch_answer_of answer)) → old.is_honest ≡ true → old.slots ≡ Some slots
       → GoesAfterAsk call old new result → Recovered More all others asked i y slots (Some p) standing new result
   asked_exit (Err why) old new result l m fit h t g =
@@ -171,7 +183,8 @@ module _ (More : History → Type 0) (all others : List (List ℕ)) (asked : Lis
       let a = answered_at i y p (slot_front slots (offer_slot p)) l.after l.fits.0 l.fits.1 answer l.comes in
       rw g.gives (keep_exit answer g.written old new l m fit h t a.0 a.1 g.writes)
 
-  pub ask_exit : (call : Result Answer Refusal) (old new : StoreStanding) (result : Result Resumed HostFault) (l : LeftBy (batch_result_of call))
+  pub ask_exit : (call : Result Answer Refusal) (old new : StoreStanding) (result : Result Resumed HostFault)
+      (l : LeftBy (batch_result_of call))
       → More l.after → IfOk call (λ answer. IsFit (One p.request) (batch_answer_of answer)) → old.is_honest ≡ true → old.slots ≡ Some slots
       → GoesAfterAsk call old new result → Recovered More all others asked i y slots waiting standing new result
   ask_exit call old new result l m fit h t g =
@@ -203,7 +216,8 @@ module _ (all others : List (List ℕ)) (asked : List Batch) (i : Instance) (y :
   waits_at : (p : PendingRecord) → can.fits.waiting ≡ Some p → IsWaiting (slot_front slots 2) (slot_front slots 3) (Some p)
   waits_at p e = rw (sym e) can.fits.is_waiting
 
-  pub left_by : (More : History → Type 0) (after : Standing) (p : PendingRecord) (gives : Result BatchAnswer Refusal) → can.fits.waiting ≡ Some p
+  pub left_by : (More : History → Type 0) (after : Standing) (p : PendingRecord) (gives : Result BatchAnswer Refusal) → can.fits.waiting
+      ≡ Some p
       → (o : Met all others asked i y after (slot_front slots (offer_slot p)) p gives) → More o.after
       → (l : Left all others asked i y slots can.fits.waiting p after gives) × More l.after
   left_by More after p gives e o m = (record { met = o; is = e; is_waiting = waits_at p e; fits = fits_at p e }, m)
@@ -214,7 +228,8 @@ module _ (all others : List (List ℕ)) (asked : List Batch) (i : Instance) (y :
 -- what an honest store's slots ask of the call for what waits
 module _ (all others : List (List ℕ)) (asked : List Batch) (i : Instance) (y : History) (slots : Slots) (before : Standing)
     (old : StoreStanding) (can : CanRecover all others asked i y slots before old) where
-  pub asked_at : (p : PendingRecord) → can.fits.waiting ≡ Some p → AreAsked all others asked i y (slot_front slots (offer_slot p)) (One p.request)
+  pub asked_at : (p : PendingRecord) → can.fits.waiting ≡ Some p
+      → AreAsked all others asked i y (slot_front slots (offer_slot p)) (One p.request)
   asked_at p e =
       let a : IsAskedFor all asked i slots (Some p) = subst (λ (w : Option PendingRecord). IsAskedFor all asked i slots w) e can.is_asked in
       record {
@@ -248,7 +263,8 @@ module _ (More : History → Type 0) (variant : Variant) (all others : List (Lis
   -- an exit where nothing was asked
   still : (new : StoreStanding) (result : Result Resumed HostFault) → after ≡ before → new.slots ≡ Some slots → new.is_honest ≡ true
       → IfOk result (λ resumed. slot_front slots (position_at resumed % 2) ≡ snapshot_at resumed)
-      → IfOk result (λ resumed. IsSnapshotAt i y (snapshot_at resumed) (position_at resumed)) → ResumeComesTo i y slots can.fits.waiting y result
+      → IfOk result (λ resumed. IsSnapshotAt i y (snapshot_at resumed) (position_at resumed))
+      → ResumeComesTo i y slots can.fits.waiting y result
       → IfOk result (λ (resumed : Resumed). More y) → Came new result
   still new result s t h n g c m = (
     record {
@@ -342,7 +358,8 @@ recovers Basic meaning lawful before after old new result r = λ key y slots all
     let i : Instance = basic_instance meaning key in
     (recovers_by NoMore Basic all others asked i lawful y slots before after old (entered can) new result (λ n e. tt) r
     (λ made p call e told c. left_by all others asked i y slots before old (entered can) NoMore after p (batch_result_of call) e
-    (basic_met meaning lawful key all others asked y before after (slot_front slots (offer_slot p)) p (batch_result_of call) c.goes can.stands
+    (basic_met meaning lawful key all others asked y before after (slot_front slots (offer_slot p)) p (batch_result_of call)
+    c.goes can.stands
     (asked_at all others asked i y slots before old can p e)) tt)).0
 recovers Opt meaning lawful before after old new result r = λ key barrier y slots all others asked items more can known ends shown_so.
     let i : Instance = opt_instance meaning key barrier in

@@ -1,12 +1,16 @@
 -- What a call for the request that waits makes of the history, and why it is refused.
-use Rattle.mm_recovery.proofs.Below.{◌≡◌, ℕ, ◌+◌, ◌-◌, ◌≤◌, true, false, List, [], ◌∷◌, ◌++◌, Result, Ok, refl, sym, ap, ◌∙◌, subst, arith, inl}
+use Rattle.mm_recovery.proofs.Below.{◌≡◌, ℕ, ◌+◌, ◌-◌, ◌≤◌, true, false, List, [], ◌∷◌, ◌++◌, Result, Ok, refl, sym, ap, ◌∙◌, subst, arith}
+use Rattle.mm_recovery.proofs.Below.{inl}
 use Rattle.mm_recovery.proofs.Below.{inr, ◌⊎◌, nat_eq, nat_tests, Batch, One, Content, Instance, History, total_of, IsRight, total-push}
-use Rattle.mm_recovery.proofs.Below.{BatchAnswer, Refusal, HistoryGrows, kept, grown, one_content, PendingRecord, IsSnapshotAt, IsAwaited, Some, Answer, batch_answer_of}
+use Rattle.mm_recovery.proofs.Below.{BatchAnswer, Refusal, HistoryGrows, kept, grown, one_content, PendingRecord, IsSnapshotAt, IsAwaited}
+use Rattle.mm_recovery.proofs.Below.{Some, Answer, batch_answer_of}
 use Rattle.mm_recovery.proofs.Below.{AnswersAt, NamesPosition, IsGenuine, Bool, ◌&&◌, map, Option, None, Err, if◌then◌else◌}
 use Rattle.mm_recovery.proofs.Below.{last_position, Variant, StepFault, Snapshot, tag_of, offered_snapshot_of, PartsFault, Move, Foreign}
 use Rattle.mm_recovery.proofs.Below.{Life, life_of, is_lost, Reads, ask_steps, Memory, Lost, before_the_last}
-use Rattle.mm_recovery.proofs.Below.{call_ending_by, result_of_ending, call_outcome, Course, End, StepFate, StepsWalk, walk, walk_from_step, moves_seen, state_seen}
-use Rattle.mm_recovery.proofs.Below.{reading_steps, CallFinding, finding_by_verdict, finding_at, finding_with, finding_unless_wanting, is_fresh, list_level}
+use Rattle.mm_recovery.proofs.Below.{call_ending_by, result_of_ending, call_outcome, Course, End, StepFate, StepsWalk, walk, walk_from_step}
+use Rattle.mm_recovery.proofs.Below.{moves_seen, state_seen}
+use Rattle.mm_recovery.proofs.Below.{reading_steps, CallFinding, finding_by_verdict, finding_at, finding_with, finding_unless_wanting}
+use Rattle.mm_recovery.proofs.Below.{is_fresh, list_level}
 use Rattle.mm_call.specs.Levels.{Level}
 use Rattle.mm_recovery.proofs.Below.{state_after_moves, check_of_verdict, same_batches, seen_none, fault_of, IsWaiting}
 use Rattle.mm_recovery.proofs.Below.{IsRefusedAs, call_commits, fresh_found, unlacked, found_with_tells, weighed_tells, unless_lost}
@@ -99,7 +103,8 @@ offered_then i y s p offer same o =
     record { content = o.content; right = o.right; at = o.at; awaited = awaited_then y s p same o.awaited; most = o.most }
 
 -- a record that waits is one of those that were read, so its position is at most 2^48
-pub waiting_most : (two three : List ℕ) (waiting : Option PendingRecord) (p : PendingRecord) → IsWaiting two three waiting → waiting ≡ Some p
+pub waiting_most : (two three : List ℕ) (waiting : Option PendingRecord) (p : PendingRecord) → IsWaiting two three waiting
+    → waiting ≡ Some p
     → p.position ≤ last_position
 waiting_most two three waiting p w e = grind (arith, w, e)
 
@@ -227,7 +232,8 @@ keeps_refused i y c b offer why e none =
 
 -- Where a call commits there was a position for it.
 
-admitted_room : (life : Life) (here repeat fits again : Bool) → check_of_verdict (verdict_by_tests life here repeat) fits ≡ Ok again → again ≡ false
+admitted_room : (life : Life) (here repeat fits again : Bool) → check_of_verdict (verdict_by_tests life here repeat) fits ≡ Ok again
+    → again ≡ false
     → (here ≡ true) × (fits ≡ true)
 admitted_room ends here repeat fits again e new = grind (arith, e, new)
 
@@ -235,7 +241,8 @@ within_last : (n total : ℕ) → nat_eq n total ≡ true → nat_le (n + 1) las
 within_last n total here fits = grind (arith, nat_tests, here, fits)
 
 module _ (i : Instance) (s : History) (request : List ℕ) where
-  room_from : (parts : Result Snapshot PartsFault) (found : CallFinding) → finding_by_verdict i (list_level i) s (One request) parts ≡ Ok found
+  room_from : (parts : Result Snapshot PartsFault) (found : CallFinding) → finding_by_verdict i (list_level i) s (One request) parts
+      ≡ Ok found
       → found.again ≡ false → total_of s.batches + 1 ≤ last_position
   room_from (Err why) found e new = grind (arith, e)
   room_from (Ok snapshot) found e new =
@@ -256,7 +263,8 @@ module _ (i : Instance) (y : History) (c : Course) (request offer : List ℕ) wh
   room_by : (w : StepsWalk) (found : Result CallFinding Refusal)
       → found_unless_wanting (finding_at i (list_level i) (state_seen i (list_level i) y c) (One request) offer) c.lacks ≡ found
       → Commits (One request) (is_fresh found) w
-      → ((state_after_moves (list_level i) y w.moves).batches ≡ y.batches) ⊎ (total_of (state_after_moves (list_level i) y w.moves).batches ≤ last_position)
+      → ((state_after_moves (list_level i) y w.moves).batches ≡ y.batches) ⊎ (total_of (state_after_moves (list_level i) y w.moves).batches
+      ≤ last_position)
   room_by w found is (nothing none unless) = inl (same_batches i w.moves y none)
   room_by w found is (batch one fresh) =
       let f = fresh_found found fresh in

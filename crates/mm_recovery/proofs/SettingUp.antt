@@ -1,13 +1,20 @@
 -- Bytes that several calls take, and what each exit of a first start leaves, tells and counts.
 use Rattle.mm_recovery.proofs.Below.{◌≡◌, ℕ, ◌+◌, ◌<◌, ◌≤◌, List, length, take, drop, Option, Ok, sym, ap, ◌∙◌, subst, arith, take-add}
 use Rattle.mm_recovery.proofs.Below.{Consumes, IsAtEnd, Consumes-both, TakesBytes, Bool, true, false, [], ◌∷◌, map, None, Some, Result, Err}
-use Rattle.mm_recovery.proofs.Below.{refl, inl, inr, ◌⊎◌, length-take, length-drop, option_map, CountRose, Variant, Basic, Opt, length-zero_bytes}
-use Rattle.mm_recovery.proofs.Below.{Meaning, IsLawful, blank_cell, cell_spelling, StepFault, Item, Standing, item_values, folded_of, WriteCell}
-use Rattle.mm_recovery.proofs.Below.{DeviceStepEnds, cell_after, register_of, Value, first_history, StandsFor, cell_of, issued_bytes, Instance}
-use Rattle.mm_recovery.proofs.Below.{instance_by, StoreFault, StoreStanding, Slots, slots_with, CountsFailures, slots_with_bytes, InitFault, Devices}
-use Rattle.mm_recovery.proofs.Below.{LooksAtCell, instance_from, SlotPut, first_puts, PutsAll, result_of_write, GoesAfterAllPuts, SetsUp, GoesAfterTaking}
-use Rattle.mm_recovery.proofs.Below.{GoesAfterLooking, InitGoes, first_history_on, ShowsValues, InstanceBegins, InitLeaves, TellsUse, BlamesDevice, take-nil, take_all}
-use Rattle.mm_recovery.proofs.Below.{Contains, start_message, Batch, basic_instance, opt_instance, IsSound, IsWithin, ReadsPending, longest_slot, slot_front}
+use Rattle.mm_recovery.proofs.Below.{refl, inl, inr, ◌⊎◌, length-take, length-drop, option_map, CountRose, Variant, Basic, Opt}
+use Rattle.mm_recovery.proofs.Below.{length-zero_bytes}
+use Rattle.mm_recovery.proofs.Below.{Meaning, IsLawful, blank_cell, cell_spelling, StepFault, Item, Standing, item_values, folded_of}
+use Rattle.mm_recovery.proofs.Below.{WriteCell}
+use Rattle.mm_recovery.proofs.Below.{DeviceStepEnds, cell_after, register_of, Value, first_history, StandsFor, cell_of, issued_bytes}
+use Rattle.mm_recovery.proofs.Below.{Instance}
+use Rattle.mm_recovery.proofs.Below.{instance_by, StoreFault, StoreStanding, Slots, slots_with, CountsFailures, slots_with_bytes, InitFault}
+use Rattle.mm_recovery.proofs.Below.{Devices}
+use Rattle.mm_recovery.proofs.Below.{LooksAtCell, instance_from, SlotPut, first_puts, PutsAll, result_of_write, GoesAfterAllPuts, SetsUp}
+use Rattle.mm_recovery.proofs.Below.{GoesAfterTaking}
+use Rattle.mm_recovery.proofs.Below.{GoesAfterLooking, InitGoes, first_history_on, ShowsValues, InstanceBegins, InitLeaves, TellsUse}
+use Rattle.mm_recovery.proofs.Below.{BlamesDevice, take-nil, take_all}
+use Rattle.mm_recovery.proofs.Below.{Contains, start_message, Batch, basic_instance, opt_instance, IsSound, IsWithin, ReadsPending}
+use Rattle.mm_recovery.proofs.Below.{longest_slot, slot_front}
 use Rattle.mm_recovery.proofs.Below.{reads_none-short, longest_slot-is, IsWaiting, first_slots, IsFirstStore}
 use Rattle.std.proofs.lemmas.List.{length-take}
 use Rattle.std.specs.List.{fold}
@@ -53,7 +60,8 @@ sound_first values = record {
 first_issued : (variant : Variant) (meaning : Meaning) (key barrier : List ℕ) (values : List (List ℕ)) → IsLawful meaning
     → IsIssued (instance_by variant meaning key barrier) (first_history_on values)
 first_issued Basic meaning key barrier values lawful = issued_in_basic meaning lawful key (first_history_on values)
-first_issued Opt meaning key barrier values lawful = issued_in_opt meaning lawful key barrier (first_history_on values) (sound_first values) refl
+first_issued Opt meaning key barrier values lawful = issued_in_opt meaning lawful key barrier (first_history_on values)
+    (sound_first values) refl
 
 -- the first snapshot fits a slot
 pub first_short : (variant : Variant) (meaning : Meaning) (key barrier snapshot : List ℕ) → IsLawful meaning
@@ -94,10 +102,12 @@ first_store i values lawful issues same within = record {
 pub is_first : (variant : Variant) (meaning : Meaning) (key barrier : List ℕ) (values : List (List ℕ)) → IsLawful meaning
     → IsFirstStore (instance_by variant meaning key barrier) (first_history_on values)
 is_first Basic meaning key barrier values lawful =
-    first_store (basic_instance meaning key) values lawful (first_issued Basic meaning key barrier values lawful) refl (λ all others asked h.
+    first_store (basic_instance meaning key) values lawful (first_issued Basic meaning key barrier values lawful) refl
+    (λ all others asked h.
     record { sound = record { closed = refl; shut = refl }; outside = tt; listed = (h, tt); batches = tt })
 is_first Opt meaning key barrier values lawful =
-    first_store (opt_instance meaning key barrier) values lawful (first_issued Opt meaning key barrier values lawful) refl (λ all others asked h.
+    first_store (opt_instance meaning key barrier) values lawful (first_issued Opt meaning key barrier values lawful) refl
+    (λ all others asked h.
     record { sound = sound_first values; outside = tt; listed = (h, tt); batches = tt })
 
 -- The store after puts: its count, and where all were written its slots, which are synced.
@@ -231,7 +241,8 @@ module _ (variant : Variant) (meaning : Meaning) (lawful : IsLawful meaning) (be
   -- the exits of the source
   take_exit : (after : Devices) (middle : Standing) (left : Option (List ℕ)) (source_faults : ℕ) (taken : Result (List ℕ) Failed)
       (result : Result Unit InitFault) → FoundBlank middle → TakesBytes before.left left before.source_faults source_faults taken
-      → GoesAfterTaking variant meaning (record { platform = middle; store = before.store; left = left; source_faults = source_faults }) after
+      → GoesAfterTaking variant meaning (record { platform = middle; store = before.store; left = left; source_faults = source_faults })
+      after
       taken result → Comes after result
   take_exit after middle left source_faults (Err why) result f t g = rw (g.0, g.1) (came f.cell f.blank f.faults t.counted.failed refl)
   take_exit after middle left source_faults (Ok secrets) result f t (inl few) =

@@ -13,7 +13,8 @@ BlamesHostFault (Err Store) before after old new =
     (after.faults ≡ before.faults) × CountRose old.faults new.faults
 BlamesHostFault (Err (Refused why)) before after old new =
     Blames (fault_of why) before.faults after.faults × (new.faults ≡ old.faults)
-BlamesHostFault result before after old new = (after.faults ≡ before.faults) × (new.faults ≡ old.faults)
+BlamesHostFault result before after old new = (after.faults ≡ before.faults)
+    × (new.faults ≡ old.faults)
 
 -- A refusal is never want of memory, and never a request that is too long.
 pub record IsNamed {T : Type 0} (result : Result T HostFault) : Type 0 where

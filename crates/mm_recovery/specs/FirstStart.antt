@@ -3,7 +3,8 @@ use Rattle.std.specs.Prelude.{◌≡◌, ◌≢◌, ℕ, Bool, true, false, List
 use Rattle.std.specs.Io.KnownBytes.{Consumes}
 use Rattle.std.specs.List.{Contains}
 use Rattle.std.specs.Option.{option_map}
-use Rattle.mm_recovery.specs.Below.{CountRose, start_message, Variant, Basic, Opt, blank_cell, Standing, item_values, Batch, Meaning, History, Value}
+use Rattle.mm_recovery.specs.Below.{CountRose, start_message, Variant, Basic, Opt, blank_cell, Standing, item_values, Batch, Meaning}
+use Rattle.mm_recovery.specs.Below.{History, Value}
 use Rattle.mm_recovery.specs.Below.{first_history, Instance, StandsFor, issued_bytes, IsWithin, Slots, UnsyncedSlots, synced_slots}
 use Rattle.mm_recovery.specs.declared.init_fault.InitFault.{InitFault}
 use Rattle.mm_recovery.specs.declared.init_fault.InitFault.TheVariants.{Platform, Already, ReadFault, Store}
@@ -35,7 +36,8 @@ pub record IsFirstStore (i : Instance) (y : History) : Type 0 where
 -- 64 bytes were taken. Where the platform tells its cell, and in Opt the register, it stands for
 -- the first history of their instance; and an honest store that tells its slots holds the first
 -- ones. A store stays as honest as it was, and where it tells which slots are synced, all are.
-pub record InstanceBegins (variant : Variant) (meaning : Meaning) (before after : Devices) : Type 0 where
+pub record InstanceBegins (variant : Variant) (meaning : Meaning)
+    (before after : Devices) : Type 0 where
   pub secrets : List ℕ
   pub counted : length secrets ≡ 64
   pub taken : Consumes before.left after.left secrets
@@ -65,7 +67,8 @@ TellsByCell cell (Err (Platform fault)) = Unit {0}
 TellsByCell cell result = cell ≡ blank_cell
 
 abbrev pub TellsUse : Devices → Result Unit InitFault → Type 0
-TellsUse before result = (cell : List ℕ) → before.platform.cell ≡ Some cell → TellsByCell cell result
+TellsUse before result = (cell : List ℕ) → before.platform.cell ≡ Some cell
+    → TellsByCell cell result
 
 -- whose fault is told
 abbrev pub is_platforms : Result Unit InitFault → Bool

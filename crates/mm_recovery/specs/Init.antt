@@ -4,8 +4,10 @@ use Rattle.std.specs.Prelude.{◌≡◌, ◌≤◌, ◌<◌, ◌↔◌, ℕ, Boo
 use Rattle.std.specs.Prelude.{Err, IfOk, MatchResult, ◌⊎◌}
 use Rattle.std.specs.Io.KnownBytes.{Consumes, IsAtEnd}
 use Rattle.std.specs.Result.{result_err}
-use Rattle.mm_recovery.specs.Below.{CountsFaults, Failed, Variant, blank_cell, cell_spelling, Standing, ReadCell, WriteCell, StepGoes, StepFault}
-use Rattle.mm_recovery.specs.Below.{Meaning, first_history, Instance, cell_of, issued_bytes, instance_by, WritesSlot, StoreStanding, StoreFault}
+use Rattle.mm_recovery.specs.Below.{CountsFaults, Failed, Variant, blank_cell, cell_spelling, Standing, ReadCell, WriteCell, StepGoes}
+use Rattle.mm_recovery.specs.Below.{StepFault}
+use Rattle.mm_recovery.specs.Below.{Meaning, first_history, Instance, cell_of, issued_bytes, instance_by, WritesSlot, StoreStanding}
+use Rattle.mm_recovery.specs.Below.{StoreFault}
 use Rattle.mm_recovery.specs.declared.init_fault.InitFault.{InitFault}
 use Rattle.mm_recovery.specs.declared.init_fault.InitFault.TheVariants.{Memory, Platform, Already, ReadFault, Short}
 use Rattle.mm_recovery.specs.InitFaults.{init_fault_as}
@@ -82,7 +84,8 @@ pub record WritesCell (cell : List ℕ) (before after : Standing)
   pub gives : result ≡ result_of_write written
 
 -- The store is set up, and then the cell is written.
-abbrev pub GoesAfterAllPuts : List ℕ → Standing → Standing → Result Unit StoreFault → Result Unit InitFault
+abbrev pub GoesAfterAllPuts : List ℕ → Standing → Standing → Result Unit StoreFault
+    → Result Unit InitFault
     → Type 0
 GoesAfterAllPuts cell before after (Err why) result =
     (after ≡ before) × (result ≡ Err (init_fault_as why))

@@ -1,9 +1,12 @@
 -- What a host program that goes on after a stop comes to, by lists alone.
 use Rattle.std.specs.Prelude.{◌≡◌, ◌≢◌, ℕ, true, List, [], ◌∷◌, ◌++◌, Option, None, Some, Result, Ok, Err, nat_eq, ◌⊎◌, ◌%◌, IfOk, IsSome}
 use Rattle.std.specs.List.{Contains}
-use Rattle.mm_recovery.specs.Below.{Variant, Basic, Opt, Item, Standing, Batch, One, Meaning, History, total_of, Instance, basic_instance, opt_instance, Life}
-use Rattle.mm_recovery.specs.Below.{Spoiled, LostLife, life_of, AreMessagesIn, IsClear, AreNoGuards, StandsFor, Answer, Refusal, Device, Lost, Stale}
-use Rattle.mm_recovery.specs.Below.{answer_on, IsWithin, right_messages, right_content, batch_answer_of, AreShown, IsIdle, fault_of, standing_items}
+use Rattle.mm_recovery.specs.Below.{Variant, Basic, Opt, Item, Standing, Batch, One, Meaning, History, total_of, Instance, basic_instance}
+use Rattle.mm_recovery.specs.Below.{opt_instance, Life}
+use Rattle.mm_recovery.specs.Below.{Spoiled, LostLife, life_of, AreMessagesIn, IsClear, AreNoGuards, StandsFor, Answer, Refusal, Device}
+use Rattle.mm_recovery.specs.Below.{Lost, Stale}
+use Rattle.mm_recovery.specs.Below.{answer_on, IsWithin, right_messages, right_content, batch_answer_of, AreShown, IsIdle, fault_of}
+use Rattle.mm_recovery.specs.Below.{standing_items}
 use Rattle.mm_recovery.specs.Below.{StoreStanding, PendingRecord, Slots, slot_front}
 use Rattle.mm_recovery.specs.declared.fault.HostFault.{HostFault}
 use Rattle.mm_recovery.specs.declared.fault.HostFault.TheVariants.{Refused}
@@ -14,11 +17,13 @@ use Rattle.mm_recovery.specs.LastAnswer.{position_at, snapshot_at}
 
 -- What is asked for the request that waits: it is among those asked, and the messages of its offer
 -- are in the list.
-abbrev pub IsAskedFor : List (List ℕ) → List Batch → Instance → Slots → Option PendingRecord → Type 0
+abbrev pub IsAskedFor : List (List ℕ) → List Batch → Instance → Slots → Option PendingRecord
+    → Type 0
 IsAskedFor all asked i slots None = Unit {0}
 IsAskedFor all asked i slots (Some p) =
     Contains asked (One p.request)
-    × AreMessagesIn (right_messages i (One p.request) (right_content i (slot_front slots (offer_slot p))))
+    × AreMessagesIn (right_messages i (One p.request)
+    (right_content i (slot_front slots (offer_slot p))))
     all
 
 -- What is asked for a recovery: the store is honest, and tells its slots; the platform stands for
@@ -68,9 +73,11 @@ IsRefusedAs why _ = ⊥
 -- It begins with the first snapshot exactly where nothing waits.
 abbrev pub ResumeComesTo : Instance → History → Slots → Option PendingRecord → History
     → Result Resumed HostFault → Type 0
-ResumeComesTo i y slots waiting after (Ok (Start first)) = (waiting ≡ None) × (first ≡ slot_front slots 0)
+ResumeComesTo i y slots waiting after (Ok (Start first)) =
+    (waiting ≡ None) × (first ≡ slot_front slots 0)
 ResumeComesTo i y slots waiting after (Ok (Answered answer)) = AnswersAt i y waiting after answer
-ResumeComesTo i y slots waiting after (Err (Refused why)) = IsRefusedAs why (life_of i.variant after)
+ResumeComesTo i y slots waiting after (Err (Refused why)) =
+    IsRefusedAs why (life_of i.variant after)
 ResumeComesTo i y slots waiting after result = Unit {0}
 
 -- A request may have been committed where it is answered, and where memory, the store or a device
@@ -99,7 +106,8 @@ pub record RecoversTo (all others : List (List ℕ)) (asked : List Batch) (i : I
   pub honest : kept.is_honest ≡ true
   pub newest : IfOk result
       (λ resumed. slot_front slots_after (position_at resumed % 2) ≡ snapshot_at resumed)
-  pub holds : IfOk result (λ resumed. IsSnapshotAt i after (snapshot_at resumed) (position_at resumed))
+  pub holds : IfOk result (λ resumed. IsSnapshotAt i after (snapshot_at resumed)
+      (position_at resumed))
   pub powered : life_of i.variant y ≢ LostLife → life_of i.variant after ≢ LostLife
   pub comes : ResumeComesTo i y slots waiting after result
 
@@ -111,7 +119,8 @@ abbrev pub HostRecovers : Variant → Meaning → Standing → Standing → Stor
 HostRecovers Basic meaning before after old new result =
     (key : List ℕ) (y : History) (slots : Slots) (all others : List (List ℕ)) (asked : List Batch)
     (can : CanRecover all others asked (basic_instance meaning key) y slots before old) →
-    RecoversTo all others asked (basic_instance meaning key) y slots can.fits.waiting after new result
+    RecoversTo all others asked (basic_instance meaning key) y slots
+    can.fits.waiting after new result
 HostRecovers Opt meaning before after old new result =
     (key barrier : List ℕ) (y : History) (slots : Slots) (all others : List (List ℕ))
     (asked : List Batch) (items more : List Item)
@@ -119,4 +128,5 @@ HostRecovers Opt meaning before after old new result =
     before.items ≡ Some items → after.items ≡ Some (standing_items y.is_open items ++ more) →
     ((AsksIdly (opt_instance meaning key barrier) y slots can.fits.waiting → ⊥)
     → AreShown all others (opt_instance meaning key barrier) y more) →
-    RecoversTo all others asked (opt_instance meaning key barrier) y slots can.fits.waiting after new result
+    RecoversTo all others asked (opt_instance meaning key barrier) y slots
+    can.fits.waiting after new result

@@ -1,6 +1,7 @@
 -- The steps by which a host program goes on after a stop. Nothing is asked for them.
 use Rattle.std.specs.Prelude.{◌≡◌, ◌-◌, ◌%◌, ℕ, List, Option, None, Some, Result, Ok, Err}
-use Rattle.mm_recovery.specs.Below.{Variant, Standing, Meaning, Answer, Refusal, ReadsSlot, WritesSlot, StoreStanding, PendingRecord, StoreFault}
+use Rattle.mm_recovery.specs.Below.{Variant, Standing, Meaning, Answer, Refusal, ReadsSlot, WritesSlot, StoreStanding, PendingRecord}
+use Rattle.mm_recovery.specs.Below.{StoreFault}
 use Rattle.mm_recovery.specs.declared.fault.HostFault.{HostFault}
 use Rattle.mm_recovery.specs.declared.resuming.Resumed.{Resumed}
 use Rattle.mm_recovery.specs.declared.resuming.Resumed.TheVariants.{Start, Answered}
@@ -9,7 +10,8 @@ use Rattle.mm_recovery.specs.WaitingRequest.{TakesWaiting}
 use Rattle.mm_recovery.specs.HostCall.{IsCall}
 
 -- Slots 2 and 3 are read, and the later record's request is taken.
-abbrev pub GoesAfterThree : List ℕ → Result (List ℕ) StoreFault → Result (Option PendingRecord) StoreFault
+abbrev pub GoesAfterThree : List ℕ → Result (List ℕ) StoreFault
+    → Result (Option PendingRecord) StoreFault
     → Type 0
 GoesAfterThree two (Err why) result = result ≡ Err why
 GoesAfterThree two (Ok three) result = TakesWaiting two three result
@@ -37,7 +39,8 @@ abbrev pub result_of_start : Result (List ℕ) StoreFault → Result Resumed Hos
 result_of_start (Ok snapshot) = Ok (Start snapshot)
 result_of_start (Err why) = Err (store_fault_as why)
 
-pub record StartsFromSlot (old new : StoreStanding) (result : Result Resumed HostFault) : Type 0 where
+pub record StartsFromSlot (old new : StoreStanding)
+    (result : Result Resumed HostFault) : Type 0 where
   pub zero : Result (List ℕ) StoreFault
   pub reads : ReadsSlot 0 old new zero
   pub gives : result ≡ result_of_start zero

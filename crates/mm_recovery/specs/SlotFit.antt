@@ -1,6 +1,7 @@
 -- Which slots fit a history: from them the host goes on.
 use Rattle.std.specs.Prelude.{◌≡◌, ◌+◌, ◌-◌, ◌%◌, ℕ, List, Option, None, Some, ◌⊎◌}
-use Rattle.mm_recovery.specs.Below.{Content, One, History, total_of, Instance, NamesPosition, IsRight, EndsWith, PendingRecord, Slots, slot_front}
+use Rattle.mm_recovery.specs.Below.{Content, One, History, total_of, Instance, NamesPosition, IsRight, EndsWith, PendingRecord, Slots}
+use Rattle.mm_recovery.specs.Below.{slot_front}
 use Rattle.mm_recovery.specs.WaitingRequest.{IsWaiting}
 
 -- the slot of the snapshot before the position of a request that waits

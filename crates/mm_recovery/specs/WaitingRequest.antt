@@ -6,7 +6,8 @@ use Rattle.mm_recovery.specs.Below.{longest_request, MayGrow, PendingRecord, Rea
 abbrev pub later_record : Option PendingRecord → Option PendingRecord → Option PendingRecord
 later_record None three = three
 later_record (Some two) None = Some two
-later_record (Some two) (Some three) = if nat_le three.position two.position then Some two else Some three
+later_record (Some two) (Some three) = if nat_le three.position two.position then Some
+    two else Some three
 
 -- In these bytes of slots 2 and 3 the later valid record waits, where there is one.
 pub record IsWaiting (two three : List ℕ) (waiting : Option PendingRecord) : Type 0 where
@@ -17,7 +18,8 @@ pub record IsWaiting (two three : List ℕ) (waiting : Option PendingRecord) : T
   pub is : waiting ≡ later_record in_two in_three
 
 -- what waits is taken, or memory is wanting
-pub record TakesWaiting (two three : List ℕ) (result : Result (Option PendingRecord) StoreFault) : Type 0
+pub record TakesWaiting (two three : List ℕ)
+    (result : Result (Option PendingRecord) StoreFault) : Type 0
   where
     pub waiting : Option PendingRecord
     pub is_waiting : IsWaiting two three waiting

@@ -56,7 +56,8 @@ module _ (old new : WorldState) (event : Event) (said : Reply) (events : ℕ) (f
   stands_after = λ j. record { header = f.header j; digests = same j; issued = f.issued j; events = events + 1 }
 
 -- where memory was wanting nothing is issued or committed
-pub keeps_still : (event : Event) (old new : WorldState) (events : ℕ) → KeepsWorld old events → EventWantsMemory event old new → KeepsWorld new events
+pub keeps_still : (event : Event) (old new : WorldState) (events : ℕ) → KeepsWorld old events → EventWantsMemory event old new
+    → KeepsWorld new events
 keeps_still event old new events k w =
     let s = stays event old new w in
     record {
@@ -65,7 +66,8 @@ keeps_still event old new events k w =
       fits = omega (arith, s.count, k.fits);
     }
 
-pub event_wants : (old : ReplayState) (event : Event) (was now : WorldState) (events : ℕ) → replay_state_in was events ≡ old → EventWantsMemory event was now
+pub event_wants : (old : ReplayState) (event : Event) (was now : WorldState) (events : ℕ) → replay_state_in was events ≡ old
+    → EventWantsMemory event was now
     → ReplayLacksMemory old event (replay_state_in now events)
 event_wants old event was now events view w =
     subst (λ (r : ReplayState). ReplayLacksMemory r event (replay_state_in now events)) view (was, now, refl, w, refl)

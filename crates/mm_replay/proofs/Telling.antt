@@ -1,6 +1,7 @@
 -- A replay shows of events what is told of a whole replay.
 use Rattle.mm_replay.proofs.Below.{◌≡◌, ◌∙◌, ℕ, suc, List, [], ◌∷◌, ◌++◌, length, Option, None, Some, refl, ap, subst, sym, Header, Digests}
-use Rattle.mm_replay.proofs.Below.{Event, end_line, Reply, promises-kept, RunOutcome, outcome_of_events, outcome_by_digests, world_of, digest_level, sum_by}
+use Rattle.mm_replay.proofs.Below.{Event, end_line, Reply, promises-kept, RunOutcome, outcome_of_events, outcome_by_digests, world_of}
+use Rattle.mm_replay.proofs.Below.{digest_level, sum_by}
 use Rattle.mm_replay.proofs.Below.{meaning_by, option_map}
 use Rattle.std.specs.Prelude.{take}
 use Rattle.std.specs.List.{flat_map}
@@ -69,7 +70,8 @@ pub by_digests_so : FrontsRun → RunsAreDecided → (header : Header) (events :
 by_digests_so law decided header events = record {
   exact = λ front. refl;
   headline = record {
-    each = one_each (world_of header) (digest_level (world_of header)) events (first_digests (world_of header)) (first_issued (world_of header));
+    each = one_each (world_of header) (digest_level (world_of header)) events (first_digests (world_of header))
+        (first_issued (world_of header));
     first = λ front later is.
         let i = world_of header in
         let it : RunOutcome Digests = outcome_by_digests i front in
@@ -82,7 +84,8 @@ by_digests_so law decided header events = record {
     unless_evidence = λ front later is. elim (known front).decided [
       | inl p ↦
           let own = law header.variant (meaning_of header.«module») world_key world_barrier events front later is in
-          inl (promised_run header.variant header.«module» world_key world_barrier front (run_result_by_digests header front) (own.1 p.0 p.1))
+          inl (promised_run header.variant header.«module» world_key world_barrier front
+          (run_result_by_digests header front) (own.1 p.0 p.1))
       | inr evidence ↦ inr evidence
     ];
   };
@@ -123,12 +126,14 @@ issued_behind : (events : List Event) (r : ReplayState) → (state_behind_events
 issued_behind [] r = refl
 issued_behind (event ∷ events) r = issued_behind events (replay_steps.after r event)
 
-texts_behind : (events : List Event) (r : ReplayState) → flat_map text_of_replies (followed_in r events).replies ≡ replies replay_steps r events
+texts_behind : (events : List Event) (r : ReplayState) → flat_map text_of_replies (followed_in r events).replies
+    ≡ replies replay_steps r events
 texts_behind [] r = refl
 texts_behind (event ∷ events) r =
     ap (λ (text : List ℕ). text_of_replies (outcome_of r event).reply ++ text) (texts_behind events (replay_steps.after r event))
 
-leads_so : (found : Option Header) → (let x : Option (HeadingStep HeaderLine ReplayState) = option_map (λ header. Begins (first_replay_state header)) found in
+leads_so : (found : Option Header) → (let x : Option (HeadingStep HeaderLine ReplayState) =
+    option_map (λ header. Begins (first_replay_state header)) found in
     x ≡ heading_step_by first_replay_state (option_map (λ header. Begins header) found))
 leads_so None = refl
 leads_so (Some header) = refl
@@ -141,8 +146,10 @@ shows = record {
   first = λ header. refl;
   text = λ header events. texts_behind events (first_replay_state header);
   last = λ header events.
-      ap (λ (d : Digests). end_line d.count (length (followed_in (first_replay_state header) events).issued)) (sym (state_behind events (first_replay_state header)))
-      ∙ ap (λ (xs : List (List ℕ)). end_line (state_behind_events replay_steps (first_replay_state header) events).digests.count (length xs))
+      ap (λ (d : Digests). end_line d.count (length (followed_in (first_replay_state header) events).issued))
+          (sym (state_behind events (first_replay_state header)))
+      ∙ ap (λ (xs : List (List ℕ)). end_line (state_behind_events replay_steps (first_replay_state header) events).digests.count
+      (length xs))
       (sym (issued_behind events (first_replay_state header)));
   kept = λ header events. ap (λ (xs : List (List ℕ)). sum_by length xs) (sym (issued_behind events (first_replay_state header)));
 }

@@ -42,7 +42,8 @@ replay_player = record {
 
 -- One run of an instance of the module; and what the module promises of a run holds of the requests
 -- and of the replies.
-pub record IsPromisedRun (i : Instance) («module» : AnyModule) (events : List Event) (shown : RunResult)
+pub record IsPromisedRun (i : Instance) («module» : AnyModule) (events : List Event)
+    (shown : RunResult)
     : Type 0 where
   pub run : IsOneRun i events shown.replies shown.committed shown.issued
   pub promised : ModulePromises «module» run.requests shown.replies
@@ -51,7 +52,8 @@ pub record IsPromisedRun (i : Instance) («module» : AnyModule) (events : List 
 -- is one run; and each first part of the events is one, or one holds evidence in hand: two
 -- different messages of the run with one digest, a message with digest zero, a value of others that
 -- is the guard of a batch, or an offer that is forged.
-pub record AreOneRun (header : Header) (events : List Event) (shown : List Event → RunResult) : Type 0
+pub record AreOneRun (header : Header) (events : List Event) (shown : List Event
+    → RunResult) : Type 0
   where
     pub each : length (shown events).replies ≡ length events
     pub first : (front later : List Event) → events ≡ front ++ later

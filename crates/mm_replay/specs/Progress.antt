@@ -15,12 +15,14 @@ running_replay p = running_replay_at p.replay.stage p.replay.read
 
 -- The event of this line was answered, or it is one too many and nothing has changed; or memory was
 -- wanting for it, and the line isn't counted.
-abbrev pub AnswersEvent : RunningReplay → RunningReplay → List ℕ → Event → Result Reply ReplyFault → Type 0
+abbrev pub AnswersEvent : RunningReplay → RunningReplay → List ℕ → Event → Result Reply ReplyFault
+    → Type 0
 AnswersEvent old new line event (Ok reply) =
     (is_too_much old line ≡ false) × (reply ≡ (running_outcome old event).reply)
     × (new ≡ running_replay_after old line event)
 AnswersEvent old new line event (Err fault.Memory) =
-    (is_too_much old line ≡ false) × ReplayLacksMemory (replay_state_of old) event (replay_state_of new)
+    (is_too_much old line ≡ false) × ReplayLacksMemory (replay_state_of old) event
+    (replay_state_of new)
     × (new.read ≡ old.read)
 AnswersEvent old new line event (Err (fault.Refused Bad)) = ⊥
 AnswersEvent old new line event (Err (fault.Refused Much)) =

@@ -16,7 +16,8 @@ replay_state_in world events = record {
 -- Memory was wanting for an event: so it was in its world, and the event isn't counted.
 abbrev pub ReplayLacksMemory : ReplayState → Event → ReplayState → Type 0
 ReplayLacksMemory old event new =
-    (was : WorldState) × (now : WorldState) × (replay_state_in was old.events ≡ old) × EventWantsMemory event was now
+    (was : WorldState) × (now : WorldState) × (replay_state_in was old.events ≡ old)
+    × EventWantsMemory event was now
     × (replay_state_in now old.events ≡ new)
 
 -- The world has issued no more snapshots, and committed no more requests, than so many events can.

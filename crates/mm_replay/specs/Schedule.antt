@@ -12,7 +12,8 @@ use Rattle.mm_call.specs.Levels.{digest_level}
 use Rattle.mm_outcome.specs.Folds.{Outcome, event_outcome, first_issued, first_digests}
 use Rattle.mm_outcome.specs.WorldState.{world_of}
 use Rattle.mm_play.specs.HeadingStep.{Begins}
-use Rattle.mm_play.specs.Stage.{EventStage, EventSteps, HeadStage, LineStage, AtHeading, InEvents, answer_to, is_over, line_answer, closing_lines, play_state}
+use Rattle.mm_play.specs.Stage.{EventStage, EventSteps, HeadStage, LineStage, AtHeading, InEvents, answer_to, is_over, line_answer}
+use Rattle.mm_play.specs.Stage.{closing_lines, play_state}
 use Rattle.mm_play.specs.declared.player.LineRefusal.{LineRefusal}
 use Rattle.mm_replay.specs.Text.{text_of_replies}
 use Rattle.mm_replay.specs.declared.heading.HeaderLine.{HeaderLine}
@@ -113,7 +114,8 @@ abbrev pub running_outcome : RunningReplay → Event → Outcome Digests
 running_outcome r event = outcome_of (replay_state_of r) event
 
 abbrev pub running_replay_after : RunningReplay → List ℕ → Event → RunningReplay
-running_replay_after r line event = running_replay_at (replay_state_after (replay_state_of r) event) (r.read + length line)
+running_replay_after r line event = running_replay_at (replay_state_after (replay_state_of r) event)
+    (r.read + length line)
 
 -- one event more would be too many, or its line too many bytes
 abbrev pub is_too_much : RunningReplay → List ℕ → Bool

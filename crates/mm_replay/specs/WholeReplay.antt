@@ -15,8 +15,10 @@ ReportsReplay (InEvents r) report =
 
 -- What was taken of the input and written fits the answer line by line; and as a whole it is the
 -- replies to the events, with the headline.
-abbrev pub ReplaysSchedule : (left left' received received' : Option (List ℕ)) → Result Report ReplayFault
+abbrev pub ReplaysSchedule : (left left' received received' : Option (List ℕ))
+    → Result Report ReplayFault
     → Type 0
 ReplaysSchedule left left' received received' result =
-    PlaysEvents replay_player IsByDigests replay_heads replay_stage ReportsReplay left left' received received'
+    PlaysEvents replay_player IsByDigests replay_heads replay_stage ReportsReplay left left'
+    received received'
     result

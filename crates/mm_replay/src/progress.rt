@@ -24,7 +24,8 @@ impl ReplayProgress {
 
     /// A replay at its first event.
     pub fn new(alloc: Global, header: &Header) -> Result<ReplayProgress, Memory>
-        ensures { IfOk result (λ progress. running_replay progress ≡ first_running_replay header.now) }
+        ensures { IfOk result (λ progress. running_replay progress
+            ≡ first_running_replay header.now) }
     {
         let replaying = ScheduleReplay::new(alloc, header)?;
         Ok(ReplayProgress {
@@ -57,7 +58,8 @@ impl ReplayProgress {
 
     /// Puts the last line at the end.
     pub fn put_last_line(&self, into: &mut Bytes) -> Result<(), Memory>
-        ensures { OnOk result (into.new ≡ into.old ++ end_line (running_replay self.now).digests.count
+        ensures { OnOk result
+            (into.new ≡ into.old ++ end_line (running_replay self.now).digests.count
             (length (running_replay self.now).issued)) }
     {
         self.replay.stage.put_last_line(into)

@@ -69,8 +69,10 @@ impl ScheduleReplay {
         ensures reply { IfOk result
             (λ reply. reply ≡ (outcome_of self.old (event_of_view event.entry)).reply) }
         ensures printable { IfOk result IsPrintable }
-        ensures after { OnOk result (self.new ≡ replay_state_after self.old (event_of_view event.entry)) }
-        ensures wants { OnErr result (ReplayLacksMemory self.old (event_of_view event.entry) self.new) }
+        ensures after { OnOk result
+            (self.new ≡ replay_state_after self.old (event_of_view event.entry)) }
+        ensures wants { OnErr result
+            (ReplayLacksMemory self.old (event_of_view event.entry) self.new) }
     {
         let reply = self.world.follow(event)?;
         self.events += 1;
@@ -80,8 +82,10 @@ impl ScheduleReplay {
     // The reply to an event where it lies, as text.
     fn written_reply(&mut self, alloc: Global, event: EventView<'_>) -> Result<Bytes, ReplyFault>
         requires { self.old.events < most_events }
-        ensures { StageAnswersEvent (ReplayLacksMemory self.old (event_of_view event.entry) self.new)
-            (answer_by replay_steps self.old (Some (event_of_view event.entry))) self.old self.new result }
+        ensures { StageAnswersEvent
+            (ReplayLacksMemory self.old (event_of_view event.entry) self.new)
+            (answer_by replay_steps self.old (Some (event_of_view event.entry))) self.old
+            self.new result }
     {
         let reply = match self.follow(event) {
             Ok(reply) => reply,

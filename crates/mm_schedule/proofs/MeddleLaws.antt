@@ -8,7 +8,8 @@ pub behind_none : (front : List Meddle) (line : List ℕ) → Some (front, line)
 behind_none front line = rw (append-nil front) refl
 
 behind_one : (front : List Meddle) (first : Meddle) (read : Option (List Meddle × List ℕ))
-    → meddles_behind (front ++ first ∷ []) read ≡ meddles_behind front (read >>= λ (others : List Meddle × List ℕ). Some (first ∷ others.0, others.1))
+    → meddles_behind (front ++ first ∷ []) read ≡ meddles_behind front
+    (read >>= λ (others : List Meddle × List ℕ). Some (first ∷ others.0, others.1))
 behind_one front first None = refl
 behind_one front first (Some later) = rw (append_assoc front (first ∷ []) later.0) refl
 
@@ -25,7 +26,8 @@ unfolding meddles_at
 over front room rest least line some none = rw (some, none) (behind_none front line)
 
 -- what stands there is no meddle
-pub bad : (front : List Meddle) (room rest least : ℕ) (line words : List ℕ) → room ≡ suc rest → rest_after_prefix (codes "meddle ") line ≡ Some
+pub bad : (front : List Meddle) (room rest least : ℕ) (line words : List ℕ) → room ≡ suc rest → rest_after_prefix (codes "meddle ") line
+    ≡ Some
     words → meddle_at least words ≡ None → None ≡ meddles_behind front (meddles_at room least line)
 unfolding meddles_at
 bad front room rest least line words some found none = rw (some, found, none) refl

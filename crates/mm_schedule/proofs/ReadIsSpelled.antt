@@ -6,7 +6,8 @@ use Rattle.mm_schedule.proofs.Below.{spelled_by_reading, One, Many, Meddle, Stop
 use Rattle.mm_schedule.proofs.Below.{SpellsEvent, SpellsMeddles, SpellsNumber, SpellsOffer, SpellsPrefix, SpellsStep, SpellsStop}
 use Rattle.mm_schedule.proofs.Below.{SpellsValue, ask_call_text, rest_after_prefix, word_at}
 use Rattle.mm_base.specs.Decimals.{decimal_number}
-use Rattle.mm_schedule.specs.Grammar.{call_at, event_at, fail_stop_at, meddle_at, meddles_at, offer_at, prefixed_call_at, raw_offer_at, stop_at, stop_step_at}
+use Rattle.mm_schedule.specs.Grammar.{call_at, event_at, fail_stop_at, meddle_at, meddles_at, offer_at, prefixed_call_at, raw_offer_at}
+use Rattle.mm_schedule.specs.Grammar.{stop_at, stop_step_at}
 use Rattle.mm_schedule.specs.GrammarWords.{flip_at}
 use Rattle.mm_module.specs.Values.{value_at}
 use Rattle.mm_schedule.specs.Words.{bytes_at, number_at, step_at}
@@ -282,7 +283,8 @@ call-spelled meddles stop line rest text ending event few meddled stopped parts 
               offer.text,
               offer.spelled,
               front
-                  (ask_call_text (One a.0.1) offer.text) (after-front (codes "ask ") rest v.0 v.1 ∙ ap (λ (back : List ℕ). codes "ask " ++ back)
+                  (ask_call_text (One a.0.1) offer.text) (after-front (codes "ask ") rest v.0 v.1
+                  ∙ ap (λ (back : List ℕ). codes "ask " ++ back)
                   offer.parts ∙ simp append_assoc),
             )
         | inr v ↦ elim (found_or (rest_after_prefix (codes "batch ") rest) _ None event v.1) [

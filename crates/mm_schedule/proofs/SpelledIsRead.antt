@@ -13,7 +13,8 @@ use Rattle.std.proofs.lemmas.Str.Parse.{numerals_by_value, tells_all_ascii_digit
 use Rattle.std.specs.Char.{is_ascii_digit}
 use Rattle.std.specs.Fmt.{decimal}
 use Rattle.mm_base.specs.Decimals.{decimal_number}
-use Rattle.mm_schedule.specs.Grammar.{call_at, event_at, fail_stop_at, meddle_at, meddles_at, offer_at, prefixed_call_at, raw_offer_at, stop_at, stop_step_at}
+use Rattle.mm_schedule.specs.Grammar.{call_at, event_at, fail_stop_at, meddle_at, meddles_at, offer_at, prefixed_call_at, raw_offer_at}
+use Rattle.mm_schedule.specs.Grammar.{stop_at, stop_step_at}
 use Rattle.mm_schedule.specs.GrammarWords.{flip_at}
 use Rattle.mm_module.specs.Values.{value_at}
 use Rattle.mm_schedule.specs.Words.{rest_after_prefix, bytes_at, number_at, step_at, word_at}

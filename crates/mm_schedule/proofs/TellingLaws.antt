@@ -76,7 +76,8 @@ step-tells meaning requests _ (Told again before said) between more after s is =
 step-tells meaning requests _ _ between more after s is = tt
 
 run-tells : (meaning : Meaning) (requests : List (List ℕ)) (es : List events.Event) (replies : List Reply) (after : List (List ℕ))
-    → IsEventRun meaning requests es replies after → AllByRecursion (WasSaid (outputs_from meaning meaning.first after)) (tellings_in replies)
+    → IsEventRun meaning requests es replies after → AllByRecursion (WasSaid (outputs_from meaning meaning.first after))
+    (tellings_in replies)
 run-tells meaning requests [] [] after r = tt
 run-tells meaning requests (event ∷ es) (reply ∷ replies) after r =
     let g = run-grows meaning r.0 es replies after r.2 in

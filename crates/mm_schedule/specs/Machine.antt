@@ -48,12 +48,15 @@ IsStepWithoutBatch requests Extended after = after ≡ requests
 abbrev pub IsRunStep : Meaning → List (List ℕ) → events.Event → Reply → List (List ℕ) → Type 0
 IsRunStep meaning requests (events.Ask meddles stop offer batch) reply after =
     IsBatchStep meaning requests batch reply after
-IsRunStep meaning requests (events.Checkpoint meddles stop) reply after = IsStepWithoutBatch requests reply after
+IsRunStep meaning requests (events.Checkpoint meddles stop) reply after =
+    IsStepWithoutBatch requests reply after
 IsRunStep meaning requests events.Power reply after = IsStepWithoutBatch requests reply after
-IsRunStep meaning requests (events.Extend value) reply after = IsStepWithoutBatch requests reply after
+IsRunStep meaning requests (events.Extend value) reply after =
+    IsStepWithoutBatch requests reply after
 
 -- one step after another: a reply for each event, all on one list of requests
-abbrev pub IsEventRun : Meaning → List (List ℕ) → List events.Event → List Reply → List (List ℕ) → Type 0
+abbrev pub IsEventRun : Meaning → List (List ℕ) → List events.Event → List Reply → List (List ℕ)
+    → Type 0
 IsEventRun meaning requests [] [] after = after ≡ requests
 IsEventRun meaning requests [] (reply ∷ replies) after = ⊥
 IsEventRun meaning requests (event ∷ events) [] after = ⊥

@@ -15,4 +15,5 @@ ModulePromises it requests replies = (listing_of it).promise requests (tellings_
 abbrev pub RunsKeepPromises : Type 0
 RunsKeepPromises =
     («module» : AnyModule) (events : List Event) (replies : List Reply) (requests : List (List ℕ))
-    → IsEventRun (meaning_of «module») [] events replies requests → ModulePromises «module» requests replies
+    → IsEventRun (meaning_of «module») [] events replies requests
+    → ModulePromises «module» requests replies

@@ -77,7 +77,8 @@ pub record SpellsPrefix (meddles : List Meddle) (stop : Stop) (line call : List 
 -- the line of an event
 abbrev pub SpellsEvent : Event → List ℕ → Type 0
 SpellsEvent (Ask meddles stop offer batch) line =
-    (from : List ℕ) × SpellsOffer offer from × SpellsPrefix meddles stop line (ask_call_text batch from)
+    (from : List ℕ) × SpellsOffer offer from × SpellsPrefix meddles stop line
+    (ask_call_text batch from)
 SpellsEvent (Checkpoint meddles stop) line = SpellsPrefix meddles stop line (codes "checkpoint")
 SpellsEvent Power line = line ≡ codes "power"
 SpellsEvent (Extend value) line =

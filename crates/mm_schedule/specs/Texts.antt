@@ -39,5 +39,7 @@ abbrev pub meddles_and_rest : Meddles × Bor (List ℕ) → List Meddle × List 
 meddles_and_rest read = (meddles_of read.0, read.1.now)
 
 -- the same behind meddles that were read before
-abbrev pub meddles_behind : List Meddle → Option (List Meddle × List ℕ) → Option (List Meddle × List ℕ)
-meddles_behind front read = option_map (λ (later : List Meddle × List ℕ). (front ++ later.0, later.1)) read
+abbrev pub meddles_behind : List Meddle → Option (List Meddle × List ℕ)
+    → Option (List Meddle × List ℕ)
+meddles_behind front read =
+    option_map (λ (later : List Meddle × List ℕ). (front ++ later.0, later.1)) read

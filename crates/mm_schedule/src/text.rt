@@ -67,7 +67,8 @@ pub fn event_in<'a>(line: &'a [u8], meddles: &mut Meddles) -> Option<EventText<'
 /// A call with what comes before it.
 #[tactic(auto, unfolding(crate::specs::Grammar::prefixed_call_at))]
 fn prefixed_in<'a>(line: &'a [u8], meddles: &mut Meddles) -> Option<EventText<'a>>
-    ensures { option_map (texts.event_in (meddles_of meddles.new)) result ≡ prefixed_call_at line.now }
+    ensures { option_map (texts.event_in (meddles_of meddles.new)) result
+        ≡ prefixed_call_at line.now }
 {
     let line = read_meddles(meddles, line)?;
     let (stop, line) = stop_in(line)?;

@@ -1,5 +1,6 @@
 -- Bytes that spell a snapshot have its fields at their places, and what bytes are taken apart to.
-use Rattle.std.proofs.Common.{ℕ, ◌≡◌, ◌+◌, ◌-◌, ◌≤◌, Bool, true, false, List, ◌++◌, length, take, drop, Result, Ok, Err, refl, ap, ◌∙◌, arith, length-append, length-drop, append_assoc}
+use Rattle.std.proofs.Common.{ℕ, ◌≡◌, ◌+◌, ◌-◌, ◌≤◌, Bool, true, false, List, ◌++◌, length, take, drop, Result, Ok, Err, refl, ap, ◌∙◌}
+use Rattle.std.proofs.Common.{arith, length-append, length-drop, append_assoc}
 use Rattle.std.specs.Prelude.{if◌then◌else◌, ◌==◌, slice_index}
 use Rattle.std.specs.Int.{w64, from_be_bytes}
 use Rattle.std.proofs.Math.Seq.{take-append_seam, drop-append_seam}
@@ -16,7 +17,8 @@ use Rattle.mm_seal.specs.declared.snapshot.Place.TheVariants.{Basic, Opt}
 use Rattle.mm_base.specs.Fields.{eight_bytes, four_bytes}
 use Rattle.mm_seal.specs.Body.{place_length}
 use Rattle.mm_seal.specs.CellLaws.{variant_byte-injective}
-use Rattle.mm_seal.specs.Snapshot.{Content, Snapshot, IsPlace, SpellsSnapshot, IsOfKind, IsNoSnapshot, ReadsParts, place_spelling, snapshot_front, snapshot_spelling, variant_of}
+use Rattle.mm_seal.specs.Snapshot.{Content, Snapshot, IsPlace, SpellsSnapshot, IsOfKind, IsNoSnapshot, ReadsParts, place_spelling}
+use Rattle.mm_seal.specs.Snapshot.{snapshot_front, snapshot_spelling, variant_of}
 use Rattle.mm_seal.specs.SnapshotWords.{front_head}
 use Rattle.mm_base.specs.FieldLaws.{length-eight_bytes, length-four_bytes}
 use Rattle.mm_seal.specs.SnapshotLaws.{length-snapshot_front, reads_parts-same}

@@ -17,8 +17,10 @@ sealed_parts key x variant id is v i =
     sym (parts_are variant id (sealed_snapshot_of key x) (Ok (offered_snapshot_of key x)) (sealed_reads key x variant id is v i))
 
 -- two contents of one sealed text are one, whatever the keys
-pub sealed_once : (key other : List ℕ) (x y : Content) → IsContent x → IsContent y → sealed_snapshot_of key x ≡ sealed_snapshot_of other y → x ≡ y
+pub sealed_once : (key other : List ℕ) (x y : Content) → IsContent x → IsContent y → sealed_snapshot_of key x ≡ sealed_snapshot_of other y
+    → x ≡ y
 sealed_once key other x y ix iy e =
     let t = sealed_snapshot_of-spells other y iy in
     ap (λ (s : Snapshot). s.content)
-    (same_snapshot (sealed_snapshot_of key x) (offered_snapshot_of key x) (offered_snapshot_of other y) (sealed_snapshot_of-spells key x ix) (t.0, e ∙ t.1))
+    (same_snapshot (sealed_snapshot_of key x) (offered_snapshot_of key x) (offered_snapshot_of other y)
+    (sealed_snapshot_of-spells key x ix) (t.0, e ∙ t.1))

@@ -94,7 +94,8 @@ IsOtherKind bytes variant id =
 
 -- what taking an offer apart gives: there is one answer for each list of bytes
 abbrev pub ReadsParts : List ℕ → Variant → ℕ → Result Snapshot PartsFault → Type 0
-ReadsParts bytes variant id (Ok snapshot) = SpellsSnapshot bytes snapshot × IsOfKind variant id snapshot
+ReadsParts bytes variant id (Ok snapshot) = SpellsSnapshot bytes snapshot
+    × IsOfKind variant id snapshot
 ReadsParts bytes variant id (Err Form) = IsNoSnapshot bytes
 ReadsParts bytes variant id (Err Kind) = IsOtherKind bytes variant id
 

@@ -1,5 +1,6 @@
 -- Laws of the snapshot's spelling.
-use Rattle.std.proofs.Common.{Result, Ok, Err, subst, ℕ, ◌≡◌, ◌≢◌, ◌+◌, ◌<◌, ◌≤◌, ◌^◌, List, [], ◌∷◌, ◌++◌, length, get_or, refl, ap, sym, ◌∙◌, arith, length-append, append_assoc}
+use Rattle.std.proofs.Common.{Result, Ok, Err, subst, ℕ, ◌≡◌, ◌≢◌, ◌+◌, ◌<◌, ◌≤◌, ◌^◌, List, [], ◌∷◌, ◌++◌, length, get_or, refl, ap, sym}
+use Rattle.std.proofs.Common.{◌∙◌, arith, length-append, append_assoc}
 use Rattle.std.proofs.lemmas.List.{append-nil}
 use Rattle.std.proofs.lemmas.Bool.Decides.{nat_tests}
 use Rattle.mm_base.specs.Limits.{limit_of}
@@ -10,7 +11,8 @@ use Rattle.mm_seal.specs.declared.snapshot.Place.{Place}
 use Rattle.mm_seal.specs.declared.snapshot.Place.TheVariants.{Basic, Opt}
 use Rattle.mm_base.specs.Fields.{eight_bytes, four_bytes}
 use Rattle.mm_seal.specs.Fields.{version_of}
-use Rattle.mm_seal.specs.Snapshot.{Content, IsContent, IsPlace, Snapshot, snapshot_spelling, HasOneSpelling, variant_of, place_spelling, snapshot_front, SpellsSnapshot, IsOfKind, ReadsParts, tag_of, sealed_snapshot_of}
+use Rattle.mm_seal.specs.Snapshot.{Content, IsContent, IsPlace, Snapshot, snapshot_spelling, HasOneSpelling, variant_of, place_spelling}
+use Rattle.mm_seal.specs.Snapshot.{snapshot_front, SpellsSnapshot, IsOfKind, ReadsParts, tag_of, sealed_snapshot_of}
 use Rattle.mm_seal.specs.SnapshotWords.{front_head}
 use Rattle.mm_digest.specs.LengthLaws.{length-hmac_of}
 use Rattle.mm_seal.specs.declared.snapshot.PartsFault.{PartsFault}

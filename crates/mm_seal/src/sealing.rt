@@ -119,7 +119,8 @@ impl SealingKey {
     pub fn seal(&mut self, alloc: Global, body: &Body<'_>) -> Result<Bytes, Memory>
         requires position { body.now.position ≤ last_position }
         requires state { length body.now.state.now ≤ limit_of body.now.module }
-        ensures sealed { IfOk result (λ bytes. bytes ≡ sealed_snapshot_of self.old (content_of body.now)) }
+        ensures sealed { IfOk result
+            (λ bytes. bytes ≡ sealed_snapshot_of self.old (content_of body.now)) }
         ensures same { self.new ≡ self.old }
     {
         let mut bytes = front(alloc, body)?;

@@ -1,20 +1,29 @@
 -- A command on the first side comes by digests to what it comes to by lists; and so does each event.
 use Rattle.mm_sides.proofs.Below.{ℕ, ◌≡◌, Bool, true, false, List, [], ◌∷◌, ◌++◌, map, Option, None, Some, Result, Ok, Err, refl, sym, ap}
 use Rattle.mm_sides.proofs.Below.{◌∙◌, subst, if◌then◌else◌, AllByRecursion, Contains, Variant, Batch, Meaning, state_after, StepFault}
-use Rattle.mm_sides.proofs.Below.{Meddle, Stop, Content, sealed_snapshot_of, Instance, History, requests_of, total_of, AreMessagesIn, IsClear, Digests}
-use Rattle.mm_sides.proofs.Below.{NamesPosition, content_of_issue, place_messages, each_left, each_right, each_append, messages_of_moves, StepFate, StepsWalk, walk}
-use Rattle.mm_sides.proofs.Below.{list_level, digest_level, state_after_moves, instance_by, TicketContent, summary_in, course_of, KeepsHistory, AreApartIn}
-use Rattle.mm_sides.proofs.Below.{Role, Effect, Invites, Leaves, Enters, MoveNotes, is_live, Pair, Both, lists_move, digests_move, MoveCommand}
+use Rattle.mm_sides.proofs.Below.{Meddle, Stop, Content, sealed_snapshot_of, Instance, History, requests_of, total_of, AreMessagesIn}
+use Rattle.mm_sides.proofs.Below.{IsClear, Digests}
+use Rattle.mm_sides.proofs.Below.{NamesPosition, content_of_issue, place_messages, each_left, each_right, each_append, messages_of_moves}
+use Rattle.mm_sides.proofs.Below.{StepFate, StepsWalk, walk}
+use Rattle.mm_sides.proofs.Below.{list_level, digest_level, state_after_moves, instance_by, TicketContent, summary_in, course_of}
+use Rattle.mm_sides.proofs.Below.{KeepsHistory, AreApartIn}
+use Rattle.mm_sides.proofs.Below.{Role, Effect, Invites, Leaves, Enters, MoveNotes, is_live, Pair, Both, lists_move, digests_move}
+use Rattle.mm_sides.proofs.Below.{MoveCommand}
 use Rattle.mm_sides.proofs.Below.{DenialCause, FoundMove, BothAct, Plain, Moves, Entered, move_steps, is_moved, effect_if, effect_of}
-use Rattle.mm_sides.proofs.Below.{stopped_moves, state_after_steps, sides_after_effect_if, sides_after_issue, effect_reply, move_end_outcome, outcome_if_found, found_command, outcome_here}
-use Rattle.mm_sides.proofs.Below.{notes_with_effect_if, read_moves, found_moves, command_messages, messages_here, others_values_in, batches_in, IsGenuineHere}
+use Rattle.mm_sides.proofs.Below.{stopped_moves, state_after_steps, sides_after_effect_if, sides_after_issue, effect_reply}
+use Rattle.mm_sides.proofs.Below.{move_end_outcome, outcome_if_found, found_command, outcome_here}
+use Rattle.mm_sides.proofs.Below.{notes_with_effect_if, read_moves, found_moves, command_messages, messages_here, others_values_in}
+use Rattle.mm_sides.proofs.Below.{batches_in, IsGenuineHere}
 use Rattle.mm_sides.proofs.Below.{IsOursIn, history_now}
-use Rattle.mm_sides.proofs.Found.{Fits, FitsFound, FitsIn, finding_fits, IsFine, pushed_last, unbroken, found_is, ended_told, affected_order, EntersSo, enters_so}
-use Rattle.mm_sides.proofs.Outer.{AreOuter, found_outer, stopped_outer, due_among, IsAlike, same_batches, same_open, brought_alike, events_agree, stop_listed, outer_keeps}
+use Rattle.mm_sides.proofs.Found.{Fits, FitsFound, FitsIn, finding_fits, IsFine, pushed_last, unbroken, found_is, ended_told}
+use Rattle.mm_sides.proofs.Found.{affected_order, EntersSo, enters_so}
+use Rattle.mm_sides.proofs.Outer.{AreOuter, found_outer, stopped_outer, due_among, IsAlike, same_batches, same_open, brought_alike}
+use Rattle.mm_sides.proofs.Outer.{events_agree, stop_listed, outer_keeps}
 use Rattle.mm_sides.proofs.InOrder.{not_dead, invites_none, leaves_live}
 use Rattle.mm_sides.proofs.OneHistory.{live_history, away_history, affected_history}
 use Rattle.mm_sides.proofs.OneLive.{IsOrdered}
-use Rattle.mm_sides.proofs.Rests.{names_cross, alike_names, issued_cross, within_cross, cell_cross, digest_rests, says_again, rests_listed, flag_shut, sound_in, issued_here, here_tells, end_of}
+use Rattle.mm_sides.proofs.Rests.{names_cross, alike_names, issued_cross, within_cross, cell_cross, digest_rests, says_again, rests_listed}
+use Rattle.mm_sides.proofs.Rests.{flag_shut, sound_in, issued_here, here_tells, end_of}
 use Rattle.mm_sides.proofs.Behind.{alike_rests_in, behind_later, IsBehind, rests_in, RestsIn, went_alike, went_here}
 use Rattle.mm_sides.proofs.Twins.{Twin, twin, IsNamed, Kept, Goes, each_goes, brought_kept, now_within, plain_goes}
 use Rattle.mm_sides.proofs.WentOn.{WentOn}
@@ -33,7 +42,8 @@ module _ (variant : Variant) (meaning : Meaning) (key key' barrier : List ℕ) (
 
   -- what an effect that is made tells of the history where the first side was brought to
   abbrev Makes : History → Option Effect → Type 0
-  Makes z (Some (Leaves ticket)) = (z.is_open ≡ false) × NamesPosition me z ticket.content × (ticket.content ≡ content_of_issue me z) × RestsIn me.variant z
+  Makes z (Some (Leaves ticket)) = (z.is_open ≡ false) × NamesPosition me z ticket.content × (ticket.content ≡ content_of_issue me z)
+      × RestsIn me.variant z
   Makes z effect = Unit {0}
 
   -- what by digests says where the module stands once it has entered
@@ -80,7 +90,8 @@ module _ (variant : Variant) (meaning : Meaning) (key key' barrier : List ℕ) (
       let now : history_now l ≡ y = live_history l (leaves_live l.first.role ticket fine.0) in
       let own : IsNamed all me y ticket = (
         made.1,
-        subst (λ (c : Content). AreMessagesIn (place_messages c.place) all) (sym made.2) (rests_listed variant meaning key barrier y all made.0),
+        subst (λ (c : Content). AreMessagesIn (place_messages c.place) all) (sym made.2)
+            (rests_listed variant meaning key barrier y all made.0),
       ) in
       record {
         at = record x { away = x.first.count };
@@ -163,7 +174,8 @@ module _ (variant : Variant) (meaning : Meaning) (key key' barrier : List ℕ) (
   told_goes : (pair : Pair) (l : Both History History) (x : Twin) (notes : MoveNotes) (effect : Effect) (made : Option Effect)
       → Kept all others asked me them l x (notes_with_effect_if made notes) → Says l x effect → Goes all others asked me them notes
       (record { both = sides_after_issue lists_move pair me l effect; reply = effect_reply lists_move me l effect; effect = made })
-      (record { both = sides_after_issue digests_move pair me (twin l x) effect; reply = effect_reply digests_move me (twin l x) effect; effect = made })
+      (record { both = sides_after_issue digests_move pair me (twin l x) effect; reply = effect_reply digests_move me (twin l x) effect;
+      effect = made })
   told_goes pair l x notes (Enters ticket) made k says = record {
     at = x;
     same = λ j. record {
@@ -192,7 +204,8 @@ module _ (variant : Variant) (meaning : Meaning) (key key' barrier : List ℕ) (
 
   -- a move
 
-  stopped_listed : (y : History) (stop : Stop) (broken : Option StepFault) → AreMessagesIn (messages_of_moves me y (stopped_moves stop broken)) all
+  stopped_listed : (y : History) (stop : Stop) (broken : Option StepFault)
+      → AreMessagesIn (messages_of_moves me y (stopped_moves stop broken)) all
   stopped_listed y stop None = tt
   stopped_listed y stop (Some fault) = stop_listed me y all stop
 
@@ -204,7 +217,8 @@ module _ (variant : Variant) (meaning : Meaning) (key key' barrier : List ℕ) (
   brings : (y : History) (d : Digests) (meddles : List Meddle) (stop : Stop) (found : Result FoundMove DenialCause)
       → KeepsHistory all others asked me y d → AllByRecursion (Contains others) (map (λ (m : Meddle). m.value.bytes) meddles)
       → AreMessagesIn (messages_of_moves me y (read_moves meddles stop (move_steps found))) all
-      → Brings y (state_after_steps lists_move me y meddles stop (move_steps found)) (state_after_steps digests_move me d meddles stop (move_steps found))
+      → Brings y (state_after_steps lists_move me y meddles stop (move_steps found))
+      (state_after_steps digests_move me d meddles stop (move_steps found))
   brings y d meddles stop found k outside listed =
       let fates : ℕ → StepFate = (course_of stop meddles).fates in
       let w : StepsWalk = walk fates 1 (move_steps found) in
@@ -223,7 +237,8 @@ module _ (variant : Variant) (meaning : Meaning) (key key' barrier : List ℕ) (
   same_issued : (y z : History) → IsAlike y z → content_of_issue me y ≡ content_of_issue me z
   same_issued y z a = issued_cross variant meaning key key barrier y z.items ∙ ap (content_of_issue me) (sym a.is)
 
-  module _ (notes : MoveNotes) (role : Role) (y z : History) (d e : Digests) (b : Brings y z d) (k : KeepsHistory all others asked me y e) where
+  module _ (notes : MoveNotes) (role : Role) (y z : History) (d e : Digests) (b : Brings y z d)
+      (k : KeepsHistory all others asked me y e) where
     makes_by : (again moved : Bool) (effect : Effect) → Fits lists_move me y notes role again effect
         → Makes z (if again then None else effect_if moved effect)
     makes_by false true (Leaves ticket) fits =
@@ -246,7 +261,8 @@ module _ (variant : Variant) (meaning : Meaning) (key key' barrier : List ℕ) (
   -- what is told of a move that wasn't broken off
   says_by : (l : Both History History) (x : Twin) (notes : MoveNotes) (again moved : Bool) (effect : Effect)
       → (a : Affects l x notes (if again then None else effect_if moved effect)) → (again ≡ false → moved ≡ true)
-      → (again ≡ true → Says l x effect) → Says (sides_after_effect_if lists_move l (if again then None else effect_if moved effect)) a.at effect
+      → (again ≡ true → Says l x effect) → Says (sides_after_effect_if lists_move l (if again then None else effect_if moved effect)) a.at
+      effect
   says_by l x notes true moved (Enters ticket) a done says =
       subst (λ (t : Twin). digests_move.says me t.first ticket.content ≡ content_of_issue me l.first.at) (sym a.entering) (says refl)
   says_by l x notes false true (Enters ticket) a done says = a.entering
@@ -277,7 +293,8 @@ module _ (variant : Variant) (meaning : Meaning) (key key' barrier : List ℕ) (
         (says_by l x notes found.again (is_moved (fates 1).ends (fates 2).ends) found.effect a (unbroken fates found.again whole)
         (again_says found.again found.effect fits))
 
-  moved_goes : (pair : Pair) (l : Both History History) (x : Twin) (notes : MoveNotes) (meddles : List Meddle) (stop : Stop) (command : MoveCommand)
+  moved_goes : (pair : Pair) (l : Both History History) (x : Twin) (notes : MoveNotes) (meddles : List Meddle) (stop : Stop)
+      (command : MoveCommand)
       (found : Option (Result FoundMove DenialCause)) → Kept all others asked me them l x notes
       → IsOrdered l.first.role l.second.role notes (outcome_if_found lists_move pair me l meddles stop command found)
       → FitsIn lists_move me l.first.at notes l.first.role found
@@ -309,7 +326,8 @@ module _ (variant : Variant) (meaning : Meaning) (key key' barrier : List ℕ) (
       (λ live. subst (λ w. AllByRecursion (IsNamed all me w) notes.retired) (live_history l live) k.named) fates found a fits))
 
   -- one event on the first side
-  pub here_goes : (pair : Pair) (l : Both History History) (x : Twin) (notes : MoveNotes) (act : BothAct) → Kept all others asked me them l x notes
+  pub here_goes : (pair : Pair) (l : Both History History) (x : Twin) (notes : MoveNotes) (act : BothAct)
+      → Kept all others asked me them l x notes
       → IsOrdered l.first.role l.second.role notes (outcome_here lists_move pair me l act)
       → AllByRecursion (Contains others) (others_values_in act) → AllByRecursion (Contains asked) (batches_in act)
       → AreMessagesIn (messages_here pair me l act) all → IsGenuineHere me l act → IsOursIn pair l.tickets notes act
@@ -323,7 +341,8 @@ module _ (variant : Variant) (meaning : Meaning) (key key' barrier : List ℕ) (
       let back = each_right (Contains all) (command_messages me l.first command)
       (messages_of_moves me l.first.at (found_moves meddles stop found)) listed in
       subst (λ (f : Option (Result FoundMove DenialCause)). Goes all others asked me them notes
-      (outcome_if_found lists_move pair me l meddles stop command found) (outcome_if_found digests_move pair me (twin l x) meddles stop command f))
+      (outcome_if_found lists_move pair me l meddles stop command found)
+      (outcome_if_found digests_move pair me (twin l x) meddles stop command f))
       (sym (finding_same variant meaning key barrier all others asked clear apart pair them l x notes command k
       (now_within variant meaning key key' barrier all others asked clear apart l x notes k) genuine ours front))
       (moved_goes pair l x notes meddles stop command found k s (finding_fits lists_move pair me notes l command ours) outside back)

@@ -1,8 +1,10 @@
 -- A side that the module left, and the history that goes on from where it left.
-use Rattle.mm_sides.proofs.Below.{ℕ, ◌≡◌, ◌∙◌, ◌++◌, ◌∷◌, Bool, true, false, List, [], inl, inr, refl, sym, ap, append-nil, Variant, Basic, Opt}
+use Rattle.mm_sides.proofs.Below.{ℕ, ◌≡◌, ◌∙◌, ◌++◌, ◌∷◌, Bool, true, false, List, [], inl, inr, refl, sym, ap, append-nil, Variant, Basic}
+use Rattle.mm_sides.proofs.Below.{Opt}
 use Rattle.mm_sides.proofs.Below.{Batch, Meaning, History, RegisterEntry, Move, history_after, Instance, items_of_all, has_value, life_of}
 use Rattle.mm_sides.proofs.Below.{LiveHistory, list_level, state_after_moves, instance_by, Event, event_outcome, IsSoundIn, Role}
-use Rattle.mm_sides.proofs.Below.{Foreign, PowerMove, lives, Content, NamesPosition, total_of, nat_eq, requests_of, state_after, Digests, AreMessagesIn}
+use Rattle.mm_sides.proofs.Below.{Foreign, PowerMove, lives, Content, NamesPosition, total_of, nat_eq, requests_of, state_after, Digests}
+use Rattle.mm_sides.proofs.Below.{AreMessagesIn}
 use Rattle.mm_sides.proofs.Below.{IsClear, place_messages, IsWithin, DigestsAgree, digest_level, stands_here, Retired}
 use Rattle.mm_sides.proofs.Below.{is_new, One, zero_bytes, sound_shut, if◌then◌else◌}
 use Rattle.std.proofs.Common.{append_assoc}
@@ -54,7 +56,8 @@ went_moved i y PowerMove = went_items y []
 went_moves : (i : Instance) (moves : List Move) (y : History) → WentOn y (state_after_moves (list_level i) y moves)
 went_moves i [] y = went_here y
 went_moves i (m ∷ moves) y =
-    went_further y (history_after i y m) (state_after_moves (list_level i) (history_after i y m) moves) (went_moved i y m) (went_moves i moves (history_after i y m))
+    went_further y (history_after i y m) (state_after_moves (list_level i) (history_after i y m) moves) (went_moved i y m)
+    (went_moves i moves (history_after i y m))
 
 -- an event leads on
 pub went_event : (i : Instance) (y : History) (issued : List (List ℕ)) (event : Event)
@@ -119,7 +122,8 @@ opt_rests y sound live shut =
       shut = shut;
       clean = l.clean;
       batches = elim sound.history [
-        | inl c ↦ c.batches ∙ ap (λ (bs : List Batch). batches_in (items_of_all y.closed) ++ bs) none ∙ append-nil (batches_in (items_of_all y.closed))
+        | inl c ↦ c.batches ∙ ap (λ (bs : List Batch). batches_in (items_of_all y.closed) ++ bs) none
+            ∙ append-nil (batches_in (items_of_all y.closed))
         | inr m ↦ absurd (true_not_false (sym (marred_value y m) ∙ l.clean))
       ];
     }
@@ -146,7 +150,8 @@ behind_alike role variant y x z alike b = tt
 -- An offer to such a side, of what names a position of the history.
 
 -- at the last position it says what the side has there
-pub end_behind : (i : Instance) (y z : History) (c : Content) → WentOn y z → NamesPosition i z c → nat_eq c.position (total_of y.batches) ≡ true
+pub end_behind : (i : Instance) (y z : History) (c : Content) → WentOn y z → NamesPosition i z c → nat_eq c.position (total_of y.batches)
+    ≡ true
     → IsAtEnd i y c
 end_behind i y z c w n last =
     let same : n.named ≡ y.batches =

@@ -1,10 +1,14 @@
 -- Whole schedules of both sides agree, by digests and by lists; and they go on from what stands after their first events.
 use Rattle.mm_sides.proofs.Below.{ℕ, ◌≡◌, List, [], ◌∷◌, ◌++◌, refl, sym, ap, subst, AllByRecursion, Contains, start_message, Variant}
 use Rattle.mm_sides.proofs.Below.{Basic, Opt, Batch, Meaning, Instance, History, first_history, AreMessagesIn, IsClear, Digests, each_left}
-use Rattle.mm_sides.proofs.Below.{each_right, each_self, instance_by, first_digests, KeepsHistory, AreApartIn, MoveNotes, no_notes, Which, First}
-use Rattle.mm_sides.proofs.Below.{Second, Pair, instance_on, Both, sides_swapped, Mover, lists_move, digests_move, first_lists, first_both, BothAct}
-use Rattle.mm_sides.proofs.Below.{BothEvent, BothReply, BothOutcome, outcome_here, both_outcome, BothRunOutcome, both_outcome_of_events, notes_with_effect_if}
-use Rattle.mm_sides.proofs.Below.{both_event_messages, both_messages_from, both_messages, others_values_in, both_others, batches_in, both_batches}
+use Rattle.mm_sides.proofs.Below.{each_right, each_self, instance_by, first_digests, KeepsHistory, AreApartIn, MoveNotes, no_notes, Which}
+use Rattle.mm_sides.proofs.Below.{First}
+use Rattle.mm_sides.proofs.Below.{Second, Pair, instance_on, Both, sides_swapped, Mover, lists_move, digests_move, first_lists, first_both}
+use Rattle.mm_sides.proofs.Below.{BothAct}
+use Rattle.mm_sides.proofs.Below.{BothEvent, BothReply, BothOutcome, outcome_here, both_outcome, BothRunOutcome, both_outcome_of_events}
+use Rattle.mm_sides.proofs.Below.{notes_with_effect_if}
+use Rattle.mm_sides.proofs.Below.{both_event_messages, both_messages_from, both_messages, others_values_in, both_others, batches_in}
+use Rattle.mm_sides.proofs.Below.{both_batches}
 use Rattle.mm_sides.proofs.Below.{IsGenuineIn, AreGenuineFrom, IsNew, IsOursIn, AreFreshFrom, PairsAgree, PairsAgreeThroughout}
 use Rattle.mm_sides.proofs.Below.{both_outcome_joined, PairsGoOn, basic_begins, opt_begins}
 use Rattle.mm_sides.proofs.InOrder.{roles_begin}
@@ -44,7 +48,8 @@ module _ (pair : Pair) (all others : List (List ℕ)) (asked : List Batch) (clea
       let o : BothOutcome History History = outcome_here lists_move pair i (sides_swapped l) act in
       let g = here_goes pair.variant pair.meaning pair.second_key pair.first_key pair.barrier all others asked clear
       (apart_cross pair.variant pair.meaning pair.first_key pair.second_key pair.barrier others asked apart) pair (sides_swapped l)
-      (turned_twin x) notes act back (here_ordered pair i (sides_swapped l) notes act back.order new ours) outside batches listed genuine ours in
+      (turned_twin x) notes act back (here_ordered pair i (sides_swapped l) notes act back.order new ours) outside batches
+      listed genuine ours in
       record {
         at = turned_twin g.at;
         same = ap (λ (w : BothOutcome Digests ℕ). record w { both = sides_swapped w.both }) g.same;

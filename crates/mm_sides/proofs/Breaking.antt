@@ -23,7 +23,8 @@ use Rattle.mm_outcome.specs.Premises.{IsGenuineOffer}
 use Rattle.mm_evidence.specs.Evidence.{IsForged}
 use Rattle.mm_evidence.proofs.Above.{clash_apart, clash_or, found_or_none, names_by, offer_apart, offer_or}
 use Rattle.mm_sides.specs.Both.{sides_seen_from}
-use Rattle.mm_sides.specs.Evidence.{accepted, asked, breach, clash, HasPairEvidence, invited, IsBreach, notes_after, PairsAreDecided, retired}
+use Rattle.mm_sides.specs.Evidence.{accepted, asked, breach, clash, HasPairEvidence, invited, IsBreach, notes_after, PairsAreDecided}
+use Rattle.mm_sides.specs.Evidence.{retired}
 use Rattle.mm_sides.specs.Premises.{IsClearPair, IsFreshPair, IsGenuinePair, IsGenuinePlain}
 
 -- tickets are compared
@@ -127,7 +128,8 @@ module _ (pair : Pair) (both : Both History History) (notes : MoveNotes) (event 
 
   -- offers, of an instance whose names are decided
   module _ (named : (y : History) (content : Content) → IsDecided (is_named at_side y content) (NamesPosition at_side y content)) where
-    module _ (meddles : List Meddle) (stop : Stop) (nonce : List ℕ) (offer : Offer) (is : event.act ≡ Moves meddles stop (Retire nonce offer))
+    module _ (meddles : List Meddle) (stop : Stop) (nonce : List ℕ) (offer : Offer)
+        (is : event.act ≡ Moves meddles stop (Retire nonce offer))
       where
         stood : (here.first.role ≡ Live) ⊎ ((left : List ℕ) × (here.first.role ≡ Retired left))
             → Breach ⊎ IsGenuineOffer at_side (history_now here) (offered_bytes here.first.issued offer)
@@ -145,7 +147,8 @@ module _ (pair : Pair) (both : Both History History) (notes : MoveNotes) (event 
 
     genuine_plain : (e : Event) → event.act ≡ Plain e → (role : Role) → here.first.role ≡ role
         → Breach ⊎ IsGenuinePlain role at_side here.first e
-    genuine_plain (Ask meddles stop offer b) is Live at = elim (offer_or at_side named here.first.at (offered_bytes here.first.issued offer)) [
+    genuine_plain (Ask meddles stop offer b) is Live at =
+        elim (offer_or at_side named here.first.at (offered_bytes here.first.issued offer)) [
       | inl f ↦ inl (asked meddles stop offer b is at f)
       | inr fine ↦ inr fine
     ]

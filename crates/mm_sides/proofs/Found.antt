@@ -1,12 +1,17 @@
 -- What a move finds fits the role of its side, and tells of where the side stands.
 use Rattle.mm_sides.proofs.Below.{ℕ, ◌≡◌, Bool, true, false, List, Option, None, Some, Result, Ok, Err, refl, sym, [], ◌∷◌, ◌++◌}
 use Rattle.mm_sides.proofs.Below.{if◌then◌else◌, Contains, bytes_eq, bytes_eq-Decides, PartsFault, Form, Kind, parts_of, Content, Snapshot}
-use Rattle.mm_sides.proofs.Below.{tag_of, Refusal, Instance, check_by_tests, weighed_only, accepting_verdict, StepFate, End, Done, Fails, walk}
-use Rattle.mm_sides.proofs.Below.{walk_from_step, TicketContent, offered_bytes, Role, Live, Waiting, Retired, Effect, Invites, Leaves, Enters}
-use Rattle.mm_sides.proofs.Below.{MoveNotes, is_live, MayTake, IsFreshEffect, IsLastTicket, AreInOrder, EntersLast, Pair, Both, Mover, MoveCommand}
+use Rattle.mm_sides.proofs.Below.{tag_of, Refusal, Instance, check_by_tests, weighed_only, accepting_verdict, StepFate, End, Done, Fails}
+use Rattle.mm_sides.proofs.Below.{walk}
+use Rattle.mm_sides.proofs.Below.{walk_from_step, TicketContent, offered_bytes, Role, Live, Waiting, Retired, Effect, Invites, Leaves}
+use Rattle.mm_sides.proofs.Below.{Enters}
+use Rattle.mm_sides.proofs.Below.{MoveNotes, is_live, MayTake, IsFreshEffect, IsLastTicket, AreInOrder, EntersLast, Pair, Both, Mover}
+use Rattle.mm_sides.proofs.Below.{MoveCommand}
 use Rattle.mm_sides.proofs.Below.{Invite, Retire, Accept, DenialCause, Open, Gone, Nonce, Already, FoundMove, stands_here, verdict_here}
-use Rattle.mm_sides.proofs.Below.{invitation_on, found_retirement_by, retirement_with, retirement_on, ticket_in, entry_by_ticket, repeated_entry, acceptance_on, is_moved}
-use Rattle.mm_sides.proofs.Below.{effect_if, effect_of, found_retirement, found_acceptance, found_command, BothOutcome, sides_after_effect_if, sides_after_issue, effect_reply, move_end_outcome}
+use Rattle.mm_sides.proofs.Below.{invitation_on, found_retirement_by, retirement_with, retirement_on, ticket_in, entry_by_ticket}
+use Rattle.mm_sides.proofs.Below.{repeated_entry, acceptance_on, is_moved}
+use Rattle.mm_sides.proofs.Below.{effect_if, effect_of, found_retirement, found_acceptance, found_command, BothOutcome}
+use Rattle.mm_sides.proofs.Below.{sides_after_effect_if, sides_after_issue, effect_reply, move_end_outcome}
 use Rattle.mm_sides.proofs.Below.{notes_with_effect_if, IsNew, IsOurs, IsOursOffered, IsOursFor, Reads, StepFault, Stop, plain_reply}
 use Rattle.mm_sides.proofs.InOrder.{not_dead, roles_go_on, roles_enter_last}
 
@@ -43,7 +48,8 @@ pub unbroken : (fates : ℕ → StepFate) (again : Bool) → (walk fates 1 (if a
 unbroken fates true e f = not_dead f
 unbroken fates false e f = both_done (fates 1).brings (fates 2).brings (fates 1).ends (fates 2).ends e
 
-pub found_is : (f g : FoundMove) → (let r : Result FoundMove DenialCause = Ok f in let s : Result FoundMove DenialCause = Ok g in r ≡ s) → f ≡ g
+pub found_is : (f g : FoundMove) → (let r : Result FoundMove DenialCause = Ok f in let s : Result FoundMove DenialCause = Ok g in r ≡ s)
+    → f ≡ g
 found_is f g e = cc
 
 -- The module leaves where no segment is open, by an offer that stands there.
@@ -75,7 +81,8 @@ abbrev pub FitsIn : {S A : Type 0} → Mover S A → Instance → S → MoveNote
 FitsIn mover i at notes role None = Unit {0}
 FitsIn mover i at notes role (Some found) = FitsFound mover i at notes role found
 
-if_either : (P : Result FoundMove DenialCause → Type 0) (b : Bool) (x y : Result FoundMove DenialCause) → (b ≡ true → P x) → (b ≡ false → P y)
+if_either : (P : Result FoundMove DenialCause → Type 0) (b : Bool) (x y : Result FoundMove DenialCause) → (b ≡ true → P x)
+    → (b ≡ false → P y)
     → P (if b then x else y)
 if_either P true x y p q = p refl
 if_either P false x y p q = q refl
@@ -97,7 +104,8 @@ module _ {S A : Type 0} (mover : Mover S A) (i : Instance) (at : S) (notes : Mov
 
   left_fits : (role : Role) (again : Bool) (nonce : List ℕ) (c : Content) (result : Result Bool Refusal)
       → (again ≡ false → ((ticket : TicketContent) → MayTake role (Leaves ticket)) × ((mover.level i).is_open at ≡ false))
-      → ((fresh : Bool) → result ≡ Ok fresh → stands_here (mover.level i) at c ≡ true) → F role (found_retirement_by mover i at again nonce c result)
+      → ((fresh : Bool) → result ≡ Ok fresh → stands_here (mover.level i) at c ≡ true)
+      → F role (found_retirement_by mover i at again nonce c result)
   left_fits role again nonce c (Err why) may here = tt
   left_fits role again nonce c (Ok fresh) may here = λ e. (
     (may e).0 (record { nonce = nonce; content = mover.says i at c }),
@@ -152,8 +160,10 @@ module _ {S A : Type 0} (mover : Mover S A) (i : Instance) (at : S) (notes : Mov
   by_ticket pair role issued None ours = tt
   by_ticket pair role issued (Some bytes) ours = accepted_fits role (ticket_in pair bytes) ours
 
-pub finding_fits : {S A : Type 0} (mover : Mover S A) (pair : Pair) (i : Instance) (notes : MoveNotes) (both : Both S A) (command : MoveCommand)
-    → IsOursFor pair both.tickets notes command → FitsIn mover i both.first.at notes both.first.role (found_command mover pair i both command)
+pub finding_fits : {S A : Type 0} (mover : Mover S A) (pair : Pair) (i : Instance) (notes : MoveNotes) (both : Both S A)
+    (command : MoveCommand)
+    → IsOursFor pair both.tickets notes command → FitsIn mover i both.first.at notes both.first.role
+    (found_command mover pair i both command)
 finding_fits mover pair i notes both (Invite nonce) ours = invited_fits mover i both.first.at notes both.first.role nonce
 finding_fits mover pair i notes both (Retire nonce offer) ours =
     by_snapshot mover i both.first.at notes both.first.role both.first.issued nonce (offered_bytes both.first.issued offer)
@@ -205,7 +215,8 @@ module _ {S A : Type 0} (mover : Mover S A) (pair : Pair) (i : Instance) where
     pub none : plain_reply o.reply ≡ []
     pub effect_is : o.effect ≡ effect
 
-  pub ended_told : (both : Both S A) (stop : Stop) (broken : Option StepFault) (found : Result FoundMove DenialCause) (effect : Option Effect)
+  pub ended_told : (both : Both S A) (stop : Stop) (broken : Option StepFault) (found : Result FoundMove DenialCause)
+      (effect : Option Effect)
       → IsEnded both effect (move_end_outcome mover pair i both stop broken found effect)
   ended_told both stop (Some fault) found effect = record {
     tells = record { role = refl; at = refl; second = refl; away = refl; committed = refl };
@@ -223,7 +234,8 @@ module _ {S A : Type 0} (mover : Mover S A) (pair : Pair) (i : Instance) where
 -- what an effect makes of the roles
 pub affected_order : {S A : Type 0} (mover : Mover S A) (both : Both S A) (notes : MoveNotes) (effect : Option Effect)
     → AreInOrder both.first.role both.second.role notes → IsFine both.first.role notes effect
-    → (let after : Both S A = sides_after_effect_if mover both effect in AreInOrder after.first.role after.second.role (notes_with_effect_if effect notes))
+    → (let after : Both S A = sides_after_effect_if mover both effect in AreInOrder after.first.role after.second.role
+    (notes_with_effect_if effect notes))
 affected_order mover both notes None h fine = h
 affected_order mover both notes (Some (Invites nonce)) h fine =
     roles_go_on both.first.role both.second.role notes (Invites nonce) h fine.0 fine.1

@@ -2,7 +2,8 @@
 use Rattle.mm_sides.proofs.Below.{ℕ, ◌≡◌, Bool, true, false, List, [], ◌∷◌, ◌++◌, map, refl, sym, ap, ◌∙◌, subst, inl, inr, AllByRecursion}
 use Rattle.mm_sides.proofs.Below.{Contains, map-append, All-from_recursion, All-contains, Contains-append_left, Contains-push}
 use Rattle.mm_sides.proofs.Below.{Contains-push_cases, each_append, each_self, TicketContent, Role, Blank, Live, Waiting, Retired, Invites}
-use Rattle.mm_sides.proofs.Below.{Leaves, Enters, is_live, MoveNotes, notes_with_effect, nonces_of, IsAwaited, WaitsElse, WaitApart, IsSomewhere, here}
+use Rattle.mm_sides.proofs.Below.{Leaves, Enters, is_live, MoveNotes, notes_with_effect, nonces_of, IsAwaited, WaitsElse, WaitApart}
+use Rattle.mm_sides.proofs.Below.{IsSomewhere, here}
 use Rattle.mm_sides.proofs.Below.{there, away, AreInOrder, MayTake, RolesBegin, RolesSwap, RolesGoOn, RolesEnterLast, AtMostOne}
 use Rattle.mm_sides.proofs.Below.{RolesAreOne}
 

@@ -1,6 +1,7 @@
 -- The one history: the sides exchanged have the same, and what an effect makes of it.
 use Rattle.mm_sides.proofs.Below.{◌≡◌, Bool, true, false, Option, Some, refl, sym, ap, ◌∙◌, History, Effect, Invites, Leaves, Enters}
-use Rattle.mm_sides.proofs.Below.{MoveNotes, is_live, AreInOrder, Both, sides_swapped, lists_move, sides_after_effect_if, history_at, history_now}
+use Rattle.mm_sides.proofs.Below.{MoveNotes, is_live, AreInOrder, Both, sides_swapped, lists_move, sides_after_effect_if, history_at}
+use Rattle.mm_sides.proofs.Below.{history_now}
 use Rattle.mm_sides.proofs.InOrder.{not_dead, invites_none, leaves_live, roles_are_one}
 use Rattle.mm_sides.proofs.Found.{IsFine}
 use Rattle.mm_sides.proofs.Outer.{IsAlike}

@@ -1,9 +1,12 @@
 -- At each moment at most one side is live, and the module enters one only where none is, by its last ticket.
 use Rattle.mm_sides.proofs.Below.{ℕ, ◌≡◌, List, [], ◌∷◌, Option, None, Some, Result, sym, subst, Meddle, Stop, Instance, History, StepFate}
 use Rattle.mm_sides.proofs.Below.{walk, course_of, Role, Effect, Enters, MoveNotes, no_notes, AreInOrder, EntersLast, Which, First, Second}
-use Rattle.mm_sides.proofs.Below.{Pair, instance_on, Both, sides_swapped, lists_move, first_lists, MoveCommand, DenialCause, FoundMove, BothAct, Plain}
-use Rattle.mm_sides.proofs.Below.{Moves, BothEvent, BothOutcome, sides_after_effect_if, state_after_steps, effect_of, move_steps, found_command, outcome_of_found_move}
-use Rattle.mm_sides.proofs.Below.{outcome_if_found, outcome_here, both_outcome, notes_with_effect_if, IsNew, IsOursIn, AreFreshFrom, EntersAlone, IsOneFrom}
+use Rattle.mm_sides.proofs.Below.{Pair, instance_on, Both, sides_swapped, lists_move, first_lists, MoveCommand, DenialCause, FoundMove}
+use Rattle.mm_sides.proofs.Below.{BothAct, Plain}
+use Rattle.mm_sides.proofs.Below.{Moves, BothEvent, BothOutcome, sides_after_effect_if, state_after_steps, effect_of, move_steps}
+use Rattle.mm_sides.proofs.Below.{found_command, outcome_of_found_move}
+use Rattle.mm_sides.proofs.Below.{outcome_if_found, outcome_here, both_outcome, notes_with_effect_if, IsNew, IsOursIn, AreFreshFrom}
+use Rattle.mm_sides.proofs.Below.{EntersAlone, IsOneFrom}
 use Rattle.mm_sides.proofs.Below.{OneIsLive}
 use Rattle.mm_sides.proofs.InOrder.{roles_begin, roles_swap, roles_are_one}
 use Rattle.mm_sides.proofs.Found.{FitsIn, IsFine, finding_fits, effect_fine, IsEnded, ended_told, affected_order, EntersSo, enters_so}
@@ -16,7 +19,8 @@ pub record IsOrdered (this other : Role) (notes : MoveNotes) (o : BothOutcome Hi
 
 moved_ordered : (pair : Pair) (i : Instance) (both : Both History History) (notes : MoveNotes) (meddles : List Meddle) (stop : Stop)
     (command : MoveCommand) (found : Option (Result FoundMove DenialCause)) → AreInOrder both.first.role both.second.role notes
-    → FitsIn lists_move i both.first.at notes both.first.role found → IsNew notes (outcome_if_found lists_move pair i both meddles stop command
+    → FitsIn lists_move i both.first.at notes both.first.role found
+    → IsNew notes (outcome_if_found lists_move pair i both meddles stop command
     found).effect → IsOrdered both.first.role both.second.role notes (outcome_if_found lists_move pair i both meddles stop command found)
 moved_ordered pair i both notes meddles stop command None h may new = record { order = h; alone = tt; fine = tt }
 moved_ordered pair i both notes meddles stop command (Some found) h may new =
@@ -26,7 +30,8 @@ moved_ordered pair i both notes meddles stop command (Some found) h may new =
     { first = record both.first { at = state_after_steps lists_move i both.first.at meddles stop (move_steps found) } } in
     let o : BothOutcome History History = outcome_of_found_move lists_move pair i both meddles stop found in
     let ended : IsEnded lists_move pair i (sides_after_effect_if lists_move here effect) effect o =
-    ended_told lists_move pair i (sides_after_effect_if lists_move here effect) stop (walk fates 1 (move_steps found)).broken found effect in
+    ended_told lists_move pair i (sides_after_effect_if lists_move here effect) stop (walk fates 1 (move_steps found)).broken found
+    effect in
     let fine : IsFine both.first.role notes effect =
     effect_fine lists_move i both.first.at notes both.first.role fates found may (subst (IsNew notes) ended.effect_is new) in
     let order = affected_order lists_move here notes effect h fine in
@@ -34,7 +39,8 @@ moved_ordered pair i both notes meddles stop command (Some found) h may new =
     record {
       order = subst (λ (e : Option Effect). AreInOrder o.both.first.role o.both.second.role (notes_with_effect_if e notes)) back
           (subst (λ (r : Role). AreInOrder r o.both.second.role (notes_with_effect_if effect notes)) (sym ended.tells.role)
-          (subst (λ (s : _). AreInOrder (sides_after_effect_if lists_move here effect).first.role s.role (notes_with_effect_if effect notes))
+          (subst (λ (s : _). AreInOrder (sides_after_effect_if lists_move here effect).first.role s.role
+          (notes_with_effect_if effect notes))
           (sym ended.tells.second) order));
       alone = subst (EntersSo both.first.role both.second.role notes) back (enters_so both.first.role both.second.role notes effect h fine);
       fine = subst (IsFine both.first.role notes) back fine;
@@ -50,7 +56,8 @@ here_ordered pair i both notes (Moves meddles stop command) h new ours =
     (finding_fits lists_move pair i notes both command ours) new
 
 -- turned, where the second side is in front
-swapped_last : (this other : Role) (notes : MoveNotes) (ticket : _) → EntersLast this other notes ticket → EntersLast other this notes ticket
+swapped_last : (this other : Role) (notes : MoveNotes) (ticket : _) → EntersLast this other notes ticket
+    → EntersLast other this notes ticket
 swapped_last this other notes ticket h = record { not_here = h.not_there; not_there = h.not_here; last = h.last }
 
 alone_first : (notes : MoveNotes) (both : Both History History) (effect : Option Effect)

@@ -1,15 +1,19 @@
 -- A run in which the module moves once meets the premises.
 use Rattle.mm_sides.proofs.Below.{ℕ, ◌≡◌, Bool, true, false, List, [], ◌∷◌, ◌++◌, length, Option, Some, Result, Ok, refl}
 use Rattle.mm_sides.proofs.Below.{sym, ap, ◌∙◌, subst, arith, if◌then◌else◌, Contains, bytes_eq, Variant, Basic, Opt, start_message}
-use Rattle.mm_sides.proofs.Below.{zero_bytes, Quiet, parts_of, Content, IsContent, variant_of, tag_of, sealed_snapshot_of, offered_snapshot_of, Instance}
-use Rattle.mm_sides.proofs.Below.{basic_instance, opt_instance, History, first_history, IsClear, NamesPosition, content_of_issue, IsGenuine, place_messages, Reads, Refusal}
+use Rattle.mm_sides.proofs.Below.{zero_bytes, Quiet, parts_of, Content, IsContent, variant_of, tag_of, sealed_snapshot_of}
+use Rattle.mm_sides.proofs.Below.{offered_snapshot_of, Instance}
+use Rattle.mm_sides.proofs.Below.{basic_instance, opt_instance, History, first_history, IsClear, NamesPosition, content_of_issue, IsGenuine}
+use Rattle.mm_sides.proofs.Below.{place_messages, Reads, Refusal}
 use Rattle.mm_sides.proofs.Below.{messages_of_moves, list_level, instance_by, place_at, summary_in, TicketContent}
 use Rattle.mm_sides.proofs.Below.{IsTicket, TaggedTicket, ticket_tag, ticket_of, bytes_are, tickets_are_read, anchor_nil, clear_within}
 use Rattle.mm_sides.proofs.Below.{one_ask, run_messages, AreApartIn, Live, Waiting, Retired, Leaves, Enters, Invites, MoveNotes, no_notes}
-use Rattle.mm_sides.proofs.Below.{notes_with_effect, First, Second, Pair, Both, lists_move, first_lists, sides_swapped, Invite, Retire, Accept, FoundMove}
+use Rattle.mm_sides.proofs.Below.{notes_with_effect, First, Second, Pair, Both, lists_move, first_lists, sides_swapped, Invite, Retire}
+use Rattle.mm_sides.proofs.Below.{Accept, FoundMove}
 use Rattle.mm_sides.proofs.Below.{DenialCause, stands_here, ticket_in}
 use Rattle.mm_sides.proofs.Below.{BothEvent, BothOutcome, Moves, Invited, Left, Entered, found_command, both_outcome}
-use Rattle.mm_sides.proofs.Below.{both_outcome_of_events, both_outcome_by_lists, notes_with_effect_if, read_moves, found_moves, offer_closing_messages}
+use Rattle.mm_sides.proofs.Below.{both_outcome_of_events, both_outcome_by_lists, notes_with_effect_if, read_moves, found_moves}
+use Rattle.mm_sides.proofs.Below.{offer_closing_messages}
 use Rattle.mm_sides.proofs.Below.{both_event_messages, both_messages, both_messages_from, AreFreshFrom, IsNew, IsOurs, IsOursIn, one_move}
 use Rattle.mm_sides.proofs.Below.{counters, MovesOnce}
 use Rattle.mm_digest.specs.LengthLaws.{length-zero_bytes, length-start_digest_of, length-hmac_of}
@@ -106,7 +110,8 @@ clear_start : (variant : Variant) (first_key barrier : List ℕ) → IsClear (ru
 clear_start Basic first_key barrier in_basic in_opt =
     clear_within (run_messages (basic_instance counter first_key) one_ask) (start_message Basic counter.id ∷ []) in_basic (first_of _ _, tt)
 clear_start Opt first_key barrier in_basic in_opt =
-    clear_within (run_messages (opt_instance counter first_key world_barrier) one_ask) (start_message Opt counter.id ∷ []) in_opt (first_of _ _, tt)
+    clear_within (run_messages (opt_instance counter first_key world_barrier) one_ask) (start_message Opt counter.id ∷ []) in_opt
+    (first_of _ _, tt)
 
 apart : (variant : Variant) (first_key barrier : List ℕ)
     → (let i = instance_by variant counter first_key barrier in AreApartIn i.variant i [] [])
@@ -212,7 +217,8 @@ module _ (variant : Variant) (first_key second_key barrier link nonce : List ℕ
 
   none_by_retiring : both_event_messages pair waiting retired ≡ []
   none_by_retiring = ap (λ (m : List (List ℕ)). m
-      ++ messages_of_moves here first_history (found_moves [] Quiet (found_command lists_move pair here waiting (Retire nonce Last)))) closed_by
+      ++ messages_of_moves here first_history (found_moves [] Quiet (found_command lists_move pair here waiting (Retire nonce Last))))
+      closed_by
       ∙ quiet here first_history (found_command lists_move pair here waiting (Retire nonce Last))
 
   none_by_accepting : both_event_messages pair gone accepted ≡ []

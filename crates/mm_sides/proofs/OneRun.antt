@@ -7,8 +7,10 @@ use Rattle.mm_sides.proofs.Below.{course_of, event_outcome, vain_event_outcome, 
 use Rattle.mm_sides.proofs.Below.{Live, Effect, Invites, Enters, is_live, MoveNotes, no_notes, AreInOrder, Which}
 use Rattle.mm_sides.proofs.Below.{First, Second, Pair, key_of, instance_on, Both, sides_swapped, lists_move, first_lists, MoveCommand}
 use Rattle.mm_sides.proofs.Below.{Accept, DenialCause, FoundMove, BothAct, Plain, Moves, BothEvent, BothOutcome, plain_outcome}
-use Rattle.mm_sides.proofs.Below.{sides_after_effect_if, state_after_steps, effect_of, move_steps, found_command, outcome_of_found_move, outcome_if_found, unissued_reply, outcome_here}
-use Rattle.mm_sides.proofs.Below.{both_outcome, BothRunOutcome, both_outcome_of_events, notes_with_effect_if, IsNew, IsOursIn, AreFreshFrom, plain_events_in}
+use Rattle.mm_sides.proofs.Below.{sides_after_effect_if, state_after_steps, effect_of, move_steps, found_command, outcome_of_found_move}
+use Rattle.mm_sides.proofs.Below.{outcome_if_found, unissued_reply, outcome_here}
+use Rattle.mm_sides.proofs.Below.{both_outcome, BothRunOutcome, both_outcome_of_events, notes_with_effect_if, IsNew, IsOursIn, AreFreshFrom}
+use Rattle.mm_sides.proofs.Below.{plain_events_in}
 use Rattle.mm_sides.proofs.Below.{plain_events, plain_reply, plain_replies, history_at, history_now, SidesRunAsOne}
 use Rattle.mm_schedule.specs.Events as events
 use Rattle.mm_schedule.specs.Machine.{IsBatchStep, IsStepWithoutBatch, IsRunStep, IsEventRun}
@@ -102,7 +104,8 @@ told_now : (both after : Both History History) → IsTold both after → request
 told_now both after t = λ j.
     requests_of (history_at (is_live (t.role j)) (is_live (t.second j).role) (t.at j) (t.second j).at (t.away j)).batches
 
-affected_count : (both : Both History History) (effect : Option Effect) → (sides_after_effect_if lists_move both effect).committed ≡ both.committed
+affected_count : (both : Both History History) (effect : Option Effect) → (sides_after_effect_if lists_move both effect).committed
+    ≡ both.committed
 affected_count both (Some (Invites nonce)) = refl
 affected_count both _ = refl
 
@@ -130,7 +133,8 @@ moved_run pair i both notes meddles stop command (Some found) h s =
     let here : Both History History = record both { first = record both.first { at = at } } in
     let o : BothOutcome History History = outcome_of_found_move lists_move pair i both meddles stop found in
     let ended : IsEnded lists_move pair i (sides_after_effect_if lists_move here effect) effect o =
-    ended_told lists_move pair i (sides_after_effect_if lists_move here effect) stop (walk fates 1 (move_steps found)).broken found effect in
+    ended_told lists_move pair i (sides_after_effect_if lists_move here effect) stop (walk fates 1 (move_steps found)).broken found
+    effect in
     let alike : IsAlike (history_now both) (history_now here) = alike_at (is_live both.first.role)
     (is_live both.second.role) both.first.at at
     both.second.at both.away (brought_alike i both.first.at meddles stop found) in
@@ -186,7 +190,8 @@ event_run pair both notes Second act h new ours =
     let after : requests_now (sides_swapped o.both) ≡ requests_now o.both = turned_now o.both _ s.order in
     record {
       runs = subst (λ v. IsEventRun pair.meaning v (plain_events_in act) (plain_reply o.reply) (requests_now (sides_swapped o.both))) before
-          (subst (λ v. IsEventRun pair.meaning (requests_now (sides_swapped both)) (plain_events_in act) (plain_reply o.reply) v) (sym after) r.runs);
+          (subst (λ v. IsEventRun pair.meaning (requests_now (sides_swapped both)) (plain_events_in act) (plain_reply o.reply) v)
+          (sym after) r.runs);
       count = λ e. r.count (e ∙ ap length (sym before)) ∙ ap length (sym after);
     }
 

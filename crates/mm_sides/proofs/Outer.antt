@@ -2,12 +2,17 @@
 use Rattle.mm_sides.proofs.Below.{ℕ, ◌≡◌, ◌+◌, Bool, true, false, List, [], ◌∷◌, map, Option, None, Some, Result, Ok, Err, refl, ap, ◌∙◌}
 use Rattle.mm_sides.proofs.Below.{◌++◌, sym, subst, if◌then◌else◌, ◌==◌, filter, AllByRecursion, Contains, append-nil, StepFault, Meddle}
 use Rattle.mm_sides.proofs.Below.{Stop, Cut, Instance, History, Move, Foreign, PowerMove, history_after, Reads}
-use Rattle.mm_sides.proofs.Below.{each_append, each_left, each_right, End, Done, Fails, StepFate, StepsWalk, walk, walk_from_step, has_commit, list_level}
-use Rattle.mm_sides.proofs.Below.{state_after_moves, digest_level, moves_after_stop, course_of, Outcome, outcome_by, outcome_without_call, read_only_outcome, vain_ask_outcome}
-use Rattle.mm_sides.proofs.Below.{vain_event_outcome, DenialCause, FoundMove, move_steps, stopped_moves, state_after_steps, lists_move, Variant, Basic}
+use Rattle.mm_sides.proofs.Below.{each_append, each_left, each_right, End, Done, Fails, StepFate, StepsWalk, walk, walk_from_step}
+use Rattle.mm_sides.proofs.Below.{has_commit, list_level}
+use Rattle.mm_sides.proofs.Below.{state_after_moves, digest_level, moves_after_stop, course_of, Outcome, outcome_by, outcome_without_call}
+use Rattle.mm_sides.proofs.Below.{read_only_outcome, vain_ask_outcome}
+use Rattle.mm_sides.proofs.Below.{vain_event_outcome, DenialCause, FoundMove, move_steps, stopped_moves, state_after_steps, lists_move}
+use Rattle.mm_sides.proofs.Below.{Variant, Basic}
 use Rattle.mm_sides.proofs.Below.{Opt, Batch, One, Meaning, is_long, AreMessagesIn, IsClear, messages_for_move, Digests, digests_after}
-use Rattle.mm_sides.proofs.Below.{Refusal, messages_of_moves, call_outcome_by, instance_by, Event, Ask, Checkpoint, Power, Extend, offered_bytes}
-use Rattle.mm_sides.proofs.Below.{KeepsHistory, EventsAgree, IsSoundIn, EventsKeepNames, event_foreign_values, AreApartIn, basic_events_agree}
+use Rattle.mm_sides.proofs.Below.{Refusal, messages_of_moves, call_outcome_by, instance_by, Event, Ask, Checkpoint, Power, Extend}
+use Rattle.mm_sides.proofs.Below.{offered_bytes}
+use Rattle.mm_sides.proofs.Below.{KeepsHistory, EventsAgree, IsSoundIn, EventsKeepNames, event_foreign_values, AreApartIn}
+use Rattle.mm_sides.proofs.Below.{basic_events_agree}
 use Rattle.mm_sides.proofs.Below.{opt_events_agree, basic_events_keep_names, opt_events_keep_names, read_moves, vain_ask_moves, vain_moves}
 use Rattle.mm_platform.specs.StandingWords.{due_values}
 use Rattle.mm_call.specs.CallOutcomeWords.{position_if_committed}
@@ -36,7 +41,8 @@ module _ (P : List ℕ → Type 0) where
   step_outer values Done rest h r = each_append (IsOuter P) (map Foreign values) rest.moves (foreign_outer values h) r
   step_outer values (Fails fault made) rest h r = foreign_outer values h
 
-  pub read_outer : (fates : ℕ → StepFate) (n : ℕ) → ((m : ℕ) → AllByRecursion P (fates m).brings) → AreOuter P (walk fates n (Reads ∷ [])).moves
+  pub read_outer : (fates : ℕ → StepFate) (n : ℕ) → ((m : ℕ) → AllByRecursion P (fates m).brings)
+      → AreOuter P (walk fates n (Reads ∷ [])).moves
   read_outer fates n h = step_outer (fates n).brings (fates n).ends (walk fates (n + 1) []) (h n) tt
 
   pub reads_outer : (fates : ℕ → StepFate) → ((m : ℕ) → AllByRecursion P (fates m).brings)
@@ -132,7 +138,8 @@ module _ (i : Instance) (y : History) (snapshots : List (List ℕ)) (stop : Stop
   Any v = Unit {0}
 
   kept_none : (how : Way) (commits : Bool) → commits ≡ false → (r : List (List ℕ)) (b : Batch)
-      → IsBatchStep i.meaning r b (broken_reply how (position_if_committed commits 0)) r × IsStepWithoutBatch r (broken_reply how (position_if_committed commits 0)) r
+      → IsBatchStep i.meaning r b (broken_reply how (position_if_committed commits 0)) r × IsStepWithoutBatch r
+      (broken_reply how (position_if_committed commits 0)) r
   kept_none how true e r b = cc
   kept_none how false e r b = (refl, refl)
 
@@ -196,7 +203,8 @@ power_by Opt true i y = refl
 power_by _ flag i y = refl
 
 -- a loss of power has no message
-pub stop_listed : (i : Instance) (y : History) (all : List (List ℕ)) (stop : Stop) → AreMessagesIn (messages_of_moves i y (moves_after_stop stop)) all
+pub stop_listed : (i : Instance) (y : History) (all : List (List ℕ)) (stop : Stop)
+    → AreMessagesIn (messages_of_moves i y (moves_after_stop stop)) all
 stop_listed i y all (Cut n) = subst (λ m. AreMessagesIn (m ++ []) all) (sym (power_by i.variant y.is_open i y)) tt
 stop_listed i y all stop = tt
 
@@ -212,12 +220,14 @@ outer_sound i keep P moves y h sound = absurd h.0
 
 module _ (all others : List (List ℕ)) (asked : List Batch) (i : Instance) (agree : EventsAgree i) (clear : IsClear all)
     (apart : AreApartIn i.variant i others asked) where
-  one_keeps : (y : History) (d : Digests) (m : Move) → AreMessagesIn (move_messages i y m) all → AreMessagesIn (messages_of_moves i y (m ∷ [])) all
+  one_keeps : (y : History) (d : Digests) (m : Move) → AreMessagesIn (move_messages i y m) all
+      → AreMessagesIn (messages_of_moves i y (m ∷ [])) all
   one_keeps y d m h = each_append (Contains all) (move_messages i y m) [] h tt
 
   pub outer_keeps : (moves : List Move) (y : History) (d : Digests) → AreOuter (Contains others) moves
       → AreMessagesIn (messages_of_moves i y moves) all
-      → KeepsHistory all others asked i y d → KeepsHistory all others asked i (state_after_moves (list_level i) y moves) (state_after_moves (digest_level i) d moves)
+      → KeepsHistory all others asked i y d → KeepsHistory all others asked i (state_after_moves (list_level i) y moves)
+      (state_after_moves (digest_level i) d moves)
   outer_keeps [] y d h listed k = k
   outer_keeps (Foreign v ∷ moves) y d h listed k =
       let rest : List (List ℕ) = messages_of_moves i (history_after i y (Foreign v)) moves in
@@ -243,14 +253,17 @@ module _ (all others : List (List ℕ)) (asked : List Batch) (i : Instance) (agr
 
   vain_moved : (moves : List Move) (y : History) (d : Digests) (stop : Stop) → AreOuter (Contains others) moves
       → AreMessagesIn (messages_of_moves i y moves) all → KeepsHistory all others asked i y d
-      → KeepsHistory all others asked i (state_after_moves (list_level i) (state_after_moves (list_level i) y moves) (moves_after_stop stop))
+      → KeepsHistory all others asked i (state_after_moves (list_level i) (state_after_moves (list_level i) y moves)
+      (moves_after_stop stop))
       (state_after_moves (digest_level i) (state_after_moves (digest_level i) d moves) (moves_after_stop stop))
   vain_moved moves y d stop h listed k =
-      outer_keeps (moves_after_stop stop) (state_after_moves (list_level i) y moves) (state_after_moves (digest_level i) d moves) (stop_outer (Contains others) stop)
+      outer_keeps (moves_after_stop stop) (state_after_moves (list_level i) y moves) (state_after_moves (digest_level i) d moves)
+      (stop_outer (Contains others) stop)
       (stop_listed i (state_after_moves (list_level i) y moves) all stop) (outer_keeps moves y d h listed k)
 
   vain_by : (y : History) (d : Digests) (issued : List (List ℕ)) (stop : Stop) (why : Refusal) (moves : List Move) (steps writes : ℕ)
-      (broken : Option StepFault) → AreOuter (Contains others) moves → AreMessagesIn (messages_of_moves i y moves) all → KeepsHistory all others asked i y d
+      (broken : Option StepFault) → AreOuter (Contains others) moves → AreMessagesIn (messages_of_moves i y moves) all
+      → KeepsHistory all others asked i y d
       → (let w : StepsWalk = record { moves = moves; steps = steps; writes = writes; broken = broken } in
       IsSameVain (outcome_by (list_level i) stop issued (call_outcome_by (list_level i) y y (One []) (Err why) w))
       (outcome_by (digest_level i) stop issued (call_outcome_by (digest_level i) d d (One []) (Err why) w)))
@@ -262,7 +275,8 @@ module _ (all others : List (List ℕ)) (asked : List Batch) (i : Instance) (agr
   reads_same : (y : History) (d : Digests) (issued : List (List ℕ)) (meddles : List Meddle) (stop : Stop) (why : Refusal)
       → AllByRecursion (Contains others) (map (λ (m : Meddle). m.value.bytes) meddles)
       → AreMessagesIn (messages_of_moves i y (read_moves meddles stop (Reads ∷ []))) all → KeepsHistory all others asked i y d
-      → IsSameVain (read_only_outcome (list_level i) y issued meddles stop why) (read_only_outcome (digest_level i) d issued meddles stop why)
+      → IsSameVain (read_only_outcome (list_level i) y issued meddles stop why)
+      (read_only_outcome (digest_level i) d issued meddles stop why)
   reads_same y d issued meddles stop why outside listed k =
       let fates : ℕ → StepFate = (course_of stop meddles).fates in
       let w : StepsWalk = walk fates 1 (Reads ∷ []) in

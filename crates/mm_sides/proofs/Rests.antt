@@ -2,12 +2,16 @@
 -- names its positions knows neither items nor key.
 use Rattle.mm_sides.proofs.Below.{ℕ, ◌≡◌, ◌+◌, Bool, true, false, ◌&&◌, List, [], ◌∷◌, refl, sym, ap, ◌∙◌, subst, nat_eq, if◌then◌else◌}
 use Rattle.mm_sides.proofs.Below.{bytes_eq, AllByRecursion, Contains, bytes_eq-Decides, All-from_recursion, All-contains, Variant, Basic}
-use Rattle.mm_sides.proofs.Below.{Opt, zero_bytes, anchored_message, Batch, One, size_of, Meaning, state_after, Content, Instance, basic_instance}
-use Rattle.mm_sides.proofs.Below.{opt_instance, History, RegisterEntry, requests_of, total_of, items_of_all, register_value_of, is_empty, are_own, has_value, Life}
+use Rattle.mm_sides.proofs.Below.{Opt, zero_bytes, anchored_message, Batch, One, size_of, Meaning, state_after, Content, Instance}
+use Rattle.mm_sides.proofs.Below.{basic_instance}
+use Rattle.mm_sides.proofs.Below.{opt_instance, History, RegisterEntry, requests_of, total_of, items_of_all, register_value_of, is_empty}
+use Rattle.mm_sides.proofs.Below.{are_own, has_value, Life}
 use Rattle.mm_sides.proofs.Below.{life_by, life_of, AreMessagesIn, IsClear, AreNoGuards, history_messages, values_in, counted_entries}
-use Rattle.mm_sides.proofs.Below.{Digests, IsPoint, IsPlaceOf, NamesPosition, anchor_after, issued_place, content_of_issue, is_new, place_messages, flag_of}
+use Rattle.mm_sides.proofs.Below.{Digests, IsPoint, IsPlaceOf, NamesPosition, anchor_after, issued_place, content_of_issue, is_new}
+use Rattle.mm_sides.proofs.Below.{place_messages, flag_of}
 use Rattle.mm_sides.proofs.Below.{basic_issued, opt_issued, point_kept, basic_stands_here, opt_stands_here, IsLedTo, IsWithin, list_level}
-use Rattle.mm_sides.proofs.Below.{digest_level, DigestsAgree, instance_by, plain_outside, lives, within_items, summary_in, place_at, IsSoundIn}
+use Rattle.mm_sides.proofs.Below.{digest_level, DigestsAgree, instance_by, plain_outside, lives, within_items, summary_in, place_at}
+use Rattle.mm_sides.proofs.Below.{IsSoundIn}
 use Rattle.mm_sides.proofs.Below.{AreApartIn, digests_move, stands_here}
 use Rattle.mm_seal.specs.declared.snapshot.Place.{Place}
 use Rattle.mm_seal.specs.declared.snapshot.Place.TheVariants.{Basic as InBasic, Opt as InOpt}
@@ -25,7 +29,8 @@ holding y items = record y { items = items }
 -- names know neither key nor items
 
 basic_place : (meaning : Meaning) (key key' : List ℕ) (y : History) (items : List RegisterEntry) (named : List Batch) (place : Place)
-    → IsPlaceOf Basic (basic_instance meaning key) y named place → IsPlaceOf Basic (basic_instance meaning key') (holding y items) named place
+    → IsPlaceOf Basic (basic_instance meaning key) y named place → IsPlaceOf Basic (basic_instance meaning key')
+    (holding y items) named place
 basic_place meaning key key' y items named (InBasic s) p = p
 basic_place meaning key key' y items named (InOpt a e) p = absurd p
 
@@ -34,12 +39,15 @@ opt_point : (meaning : Meaning) (key key' barrier : List ℕ) (y : History) (ite
 opt_point meaning key key' barrier y items named a e p = point_kept (opt_instance meaning key barrier) key' y items named a e p
 
 opt_place : (meaning : Meaning) (key key' barrier : List ℕ) (y : History) (items : List RegisterEntry) (named : List Batch) (place : Place)
-    → IsPlaceOf Opt (opt_instance meaning key barrier) y named place → IsPlaceOf Opt (opt_instance meaning key' barrier) (holding y items) named place
+    → IsPlaceOf Opt (opt_instance meaning key barrier) y named place → IsPlaceOf Opt (opt_instance meaning key' barrier)
+    (holding y items) named place
 opt_place meaning key key' barrier y items named (InBasic s) p = absurd p
 opt_place meaning key key' barrier y items named (InOpt a e) p = opt_point meaning key key' barrier y items named a.bytes e.bytes p
 
-pub names_cross : (variant : Variant) (meaning : Meaning) (key key' barrier : List ℕ) (y : History) (items : List RegisterEntry) (c : Content)
-    → NamesPosition (instance_by variant meaning key barrier) y c → NamesPosition (instance_by variant meaning key' barrier) (holding y items) c
+pub names_cross : (variant : Variant) (meaning : Meaning) (key key' barrier : List ℕ) (y : History)
+    (items : List RegisterEntry) (c : Content)
+    → NamesPosition (instance_by variant meaning key barrier) y c → NamesPosition (instance_by variant meaning key' barrier)
+    (holding y items) c
 names_cross Basic meaning key key' barrier y items c n = record {
   named = n.named;
   rest = n.rest;
@@ -66,12 +74,14 @@ alike_names variant meaning key barrier y z alike c n =
 -- nor does what an answer's snapshot says
 
 opt_issued_place : (meaning : Meaning) (key key' barrier : List ℕ) (y : History) (items : List RegisterEntry) (flag : Bool)
-    → issued_place Opt flag (opt_instance meaning key barrier) y ≡ issued_place Opt flag (opt_instance meaning key' barrier) (holding y items)
+    → issued_place Opt flag (opt_instance meaning key barrier) y ≡ issued_place Opt flag (opt_instance meaning key' barrier)
+    (holding y items)
 opt_issued_place meaning key key' barrier y items true = refl
 opt_issued_place meaning key key' barrier y items false = refl
 
 pub issued_cross : (variant : Variant) (meaning : Meaning) (key key' barrier : List ℕ) (y : History) (items : List RegisterEntry)
-    → content_of_issue (instance_by variant meaning key barrier) y ≡ content_of_issue (instance_by variant meaning key' barrier) (holding y items)
+    → content_of_issue (instance_by variant meaning key barrier) y ≡ content_of_issue (instance_by variant meaning key' barrier)
+    (holding y items)
 issued_cross Basic meaning key key' barrier y items = refl
 issued_cross Opt meaning key key' barrier y items = λ j. record {
   id = meaning.id;
@@ -82,7 +92,8 @@ issued_cross Opt meaning key key' barrier y items = λ j. record {
 
 -- nor does what is asked of it
 
-basic_cross : (meaning : Meaning) (key key' : List ℕ) (all others : List (List ℕ)) (asked : List Batch) (y : History) (items : List RegisterEntry)
+basic_cross : (meaning : Meaning) (key key' : List ℕ) (all others : List (List ℕ)) (asked : List Batch) (y : History)
+    (items : List RegisterEntry)
     → IsWithin all others asked (basic_instance meaning key) y → IsWithin all others asked (basic_instance meaning key') (holding y items)
 basic_cross meaning key key' all others asked y items w = record {
   sound = record { closed = w.sound.closed; shut = w.sound.shut };
@@ -108,7 +119,8 @@ cell_cross Opt meaning key key' barrier y items = refl
 -- a snapshot of rest
 
 opt_rests : (meaning : Meaning) (key barrier : List ℕ) (y : History) → y.is_open ≡ false
-    → issued_place Opt y.is_open (opt_instance meaning key barrier) y ≡ InOpt (digest_of (anchor_after (opt_instance meaning key barrier) y.closed))
+    → issued_place Opt y.is_open (opt_instance meaning key barrier) y
+    ≡ InOpt (digest_of (anchor_after (opt_instance meaning key barrier) y.closed))
     (digest_of zero_bytes)
 opt_rests meaning key barrier y shut = ap (λ f. issued_place Opt f (opt_instance meaning key barrier) y) shut
 
@@ -167,7 +179,8 @@ pub record IsAtEnd (i : Instance) (y : History) (c : Content) : Type 0 where
   pub position : c.position ≡ total_of y.batches
   pub state : c.state ≡ state_after i.meaning (requests_of y.batches)
 
-pub end_of : (i : Instance) (y : History) (c : Content) → NamesPosition i y c → nat_eq c.position (total_of y.batches) ≡ true → IsAtEnd i y c
+pub end_of : (i : Instance) (y : History) (c : Content) → NamesPosition i y c → nat_eq c.position (total_of y.batches) ≡ true
+    → IsAtEnd i y c
 end_of i y c n last =
     let same : n.named ≡ y.batches =
     (at_the_end y.batches n.named n.rest n.first).0 (ap (λ p. nat_eq p (total_of y.batches)) (sym n.position) ∙ last) in
@@ -191,7 +204,8 @@ flag_shut Opt meaning key barrier y shut = sym shut
 
 -- the snapshot of a history that goes on names its end
 pub issued_here : (variant : Variant) (meaning : Meaning) (key barrier : List ℕ) (y : History)
-    → (let i = instance_by variant meaning key barrier in IsSoundIn i.variant y → life_of i.variant y ≡ Live → NamesPosition i y (content_of_issue i y))
+    → (let i = instance_by variant meaning key barrier in IsSoundIn i.variant y → life_of i.variant y ≡ Live
+    → NamesPosition i y (content_of_issue i y))
 issued_here Basic meaning key barrier y sound live = basic_issued meaning key y
 issued_here Opt meaning key barrier y sound live = opt_issued meaning key barrier y sound (lives y live).clean
 
@@ -213,7 +227,8 @@ shut_verdict barrier digest r s (InOpt a e) b = refl
 
 judge_at : Bool → History → List RegisterEntry → ℕ → Batch → Bool
 judge_at flag y items p b =
-    is_new (verdict_by_tests (life_by flag (is_empty items) (are_own items y.current) (has_value (items_of_all y.closed))) (nat_eq p (total_of y.batches))
+    is_new (verdict_by_tests (life_by flag (is_empty items) (are_own items y.current) (has_value (items_of_all y.closed)))
+    (nat_eq p (total_of y.batches))
     (nat_eq (p + size_of b) (total_of y.batches) && is_last y.batches b))
 
 judge_shut : (y : History) (items : List RegisterEntry) (p : ℕ) (b : Batch) → y.is_open ≡ false
@@ -229,7 +244,8 @@ bare_listed meaning key barrier all y false h = h
 
 opt_here : (meaning : Meaning) (key barrier : List ℕ) (all others : List (List ℕ)) (asked : List Batch) (y : History) (d : Digests)
     (c : Content) → IsClear all → AreNoGuards barrier others asked → IsWithin all others asked (opt_instance meaning key barrier) y
-    → DigestsAgree (opt_instance meaning key barrier) y d → y.is_open ≡ false → AreMessagesIn (place_messages c.place) all → NamesPosition (opt_instance meaning key barrier) y c
+    → DigestsAgree (opt_instance meaning key barrier) y d → y.is_open ≡ false → AreMessagesIn (place_messages c.place) all
+    → NamesPosition (opt_instance meaning key barrier) y c
     → stands_here (digest_level (opt_instance meaning key barrier)) d c ≡ stands_here (list_level (opt_instance meaning key barrier)) y c
 opt_here meaning key barrier all others asked y d c clear apart w a shut listed names =
     let i = opt_instance meaning key barrier in
@@ -244,7 +260,8 @@ opt_here meaning key barrier all others asked y d c clear apart w a shut listed 
     (names_cross Opt meaning key key barrier y [] c names) ∙ judge_shut y [] c.position (One []) shut
 
 basic_here : (meaning : Meaning) (key : List ℕ) (all others : List (List ℕ)) (asked : List Batch) (y : History) (d : Digests) (c : Content)
-    → IsClear all → IsWithin all others asked (basic_instance meaning key) y → DigestsAgree (basic_instance meaning key) y d → NamesPosition (basic_instance meaning key) y c
+    → IsClear all → IsWithin all others asked (basic_instance meaning key) y → DigestsAgree (basic_instance meaning key) y d
+    → NamesPosition (basic_instance meaning key) y c
     → stands_here (digest_level (basic_instance meaning key)) d c ≡ stands_here (list_level (basic_instance meaning key)) y c
 basic_here meaning key all others asked y d c clear w a names =
     ap (λ f. is_new (verdict_by_digests zero_bytes f d.digest d.register c.place (One []))) a.flag

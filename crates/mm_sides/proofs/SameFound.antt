@@ -1,12 +1,18 @@
 -- A move finds by digests what it finds by lists.
 use Rattle.mm_sides.proofs.Below.{ℕ, ◌≡◌, Bool, true, false, List, Option, None, Some, Result, Ok, Err, refl, ap, ◌∙◌, subst, if◌then◌else◌}
 use Rattle.mm_sides.proofs.Below.{bytes_eq, AllByRecursion, Contains, All-from_recursion, All-contains, Variant, Batch, Meaning, PartsFault}
-use Rattle.mm_sides.proofs.Below.{Form, Kind, parts_of, Content, Snapshot, tag_of, Instance, History, AreMessagesIn, IsClear, Digests, NamesPosition}
-use Rattle.mm_sides.proofs.Below.{content_of_issue, IsGenuine, place_messages, Refusal, right_content, list_level, digest_level, check_by_tests, instance_by}
-use Rattle.mm_sides.proofs.Below.{weighed_alike, weighed_only, TicketContent, offered_bytes, KeepsHistory, AreApartIn, Role, Live, Retired, Leaves}
-use Rattle.mm_sides.proofs.Below.{Enters, MoveNotes, is_live, Pair, SideState, Both, lists_move, digests_move, MoveCommand, Invite, Retire, Accept}
-use Rattle.mm_sides.proofs.Below.{DenialCause, Refused, Open, Gone, FoundMove, stands_here, verdict_here, found_retirement_by, retirement_with, retirement_on}
-use Rattle.mm_sides.proofs.Below.{ticket_in, repeated_entry, acceptance_on, found_retirement, found_acceptance, found_command, messages_of_closing, offer_closing_messages}
+use Rattle.mm_sides.proofs.Below.{Form, Kind, parts_of, Content, Snapshot, tag_of, Instance, History, AreMessagesIn, IsClear, Digests}
+use Rattle.mm_sides.proofs.Below.{NamesPosition}
+use Rattle.mm_sides.proofs.Below.{content_of_issue, IsGenuine, place_messages, Refusal, right_content, list_level, digest_level}
+use Rattle.mm_sides.proofs.Below.{check_by_tests, instance_by}
+use Rattle.mm_sides.proofs.Below.{weighed_alike, weighed_only, TicketContent, offered_bytes, KeepsHistory, AreApartIn, Role, Live, Retired}
+use Rattle.mm_sides.proofs.Below.{Leaves}
+use Rattle.mm_sides.proofs.Below.{Enters, MoveNotes, is_live, Pair, SideState, Both, lists_move, digests_move, MoveCommand, Invite, Retire}
+use Rattle.mm_sides.proofs.Below.{Accept}
+use Rattle.mm_sides.proofs.Below.{DenialCause, Refused, Open, Gone, FoundMove, stands_here, verdict_here, found_retirement_by}
+use Rattle.mm_sides.proofs.Below.{retirement_with, retirement_on}
+use Rattle.mm_sides.proofs.Below.{ticket_in, repeated_entry, acceptance_on, found_retirement, found_acceptance, found_command}
+use Rattle.mm_sides.proofs.Below.{messages_of_closing, offer_closing_messages}
 use Rattle.mm_sides.proofs.Below.{command_messages, IsGenuineTo, IsGenuineCommand, IsOurs, IsOursOffered, IsOursFor}
 use Rattle.mm_call.specs.OfferLaws.{right_is, is_right}
 use Rattle.mm_sides.proofs.Behind.{end_behind, IsBehind, RestsIn, there_same}
@@ -89,7 +95,8 @@ module _ (variant : Variant) (meaning : Meaning) (key barrier : List ℕ) (all o
       weighed_alike s t (verdict_here there) (verdict_here here) true
       (λ spelled tagged. let n = right_named now bytes snapshot genuine listed e spelled tagged in
       ap verdict_here (finds.same c n.1 n.0)) in
-      ap (found_retirement_by digests_move me d again nonce c) same ∙ left_same y d again nonce c (check_by_tests s t (verdict_here here) true)
+      ap (found_retirement_by digests_move me d again nonce c) same ∙ left_same y d again nonce c
+      (check_by_tests s t (verdict_here here) true)
       (λ fresh f. let a = weighed_only s t (verdict_here here) true fresh f in
       let n = right_named now bytes snapshot genuine listed e a.spelled a.tagged in
       let h = here_tells me y c (stands_by here fresh a.verdict) in
@@ -162,7 +169,8 @@ module _ (variant : Variant) (meaning : Meaning) (key barrier : List ℕ) (all o
 
   accepting_same : (pair : Pair) (j : Instance) (l : Both History History) (x : Twin) (notes : MoveNotes) (bytes : Option (List ℕ))
       → Kept all others asked me j l x notes
-      → IsOursOffered pair notes bytes → found_acceptance digests_move pair me (twin l x).first bytes ≡ found_acceptance lists_move pair me l.first bytes
+      → IsOursOffered pair notes bytes → found_acceptance digests_move pair me (twin l x).first bytes ≡ found_acceptance lists_move
+      pair me l.first bytes
   accepting_same pair j l x notes None k ours = refl
   accepting_same pair j l x notes (Some bytes) k ours =
       ap Some (accepted_same l.first.role l.first.at x.first (ticket_in pair bytes) k.this.keeps

@@ -1,20 +1,27 @@
 -- Moves keep what both sides issued; and so does every schedule.
 use Rattle.mm_sides.proofs.Below.{ℕ, ◌≡◌, Bool, true, false, List, [], ◌∷◌, Option, None, Some, Result, Ok, Err, refl, sym, ◌∙◌, subst}
-use Rattle.mm_sides.proofs.Below.{if◌then◌else◌, AllByRecursion, Variant, Meaning, StepFault, Meddle, Stop, sealed_snapshot_of, Instance, History}
-use Rattle.mm_sides.proofs.Below.{first_history, LiveHistory, life_of, NamesPosition, content_of_issue, each_append, StepFate, StepsWalk, walk, list_level, state_after_moves}
+use Rattle.mm_sides.proofs.Below.{if◌then◌else◌, AllByRecursion, Variant, Meaning, StepFault, Meddle, Stop, sealed_snapshot_of, Instance}
+use Rattle.mm_sides.proofs.Below.{History}
+use Rattle.mm_sides.proofs.Below.{first_history, LiveHistory, life_of, NamesPosition, content_of_issue, each_append, StepFate, StepsWalk}
+use Rattle.mm_sides.proofs.Below.{walk, list_level, state_after_moves}
 use Rattle.mm_sides.proofs.Below.{instance_by, course_of, IsIssued, IsSoundIn, Role, Effect, Invites, Leaves, Enters, MoveNotes}
 use Rattle.mm_sides.proofs.Below.{no_notes, is_live, Which, First, Second, Pair, instance_on, Both, sides_swapped, lists_move, first_lists}
-use Rattle.mm_sides.proofs.Below.{MoveCommand, DenialCause, FoundMove, BothAct, Plain, Moves, BothEvent, BothOutcome, is_moved, effect_if, effect_of}
-use Rattle.mm_sides.proofs.Below.{sides_after_effect_if, state_after_steps, stopped_moves, move_steps, sides_after_issue, move_end_outcome, outcome_of_found_move, outcome_if_found, found_command}
-use Rattle.mm_sides.proofs.Below.{outcome_here, both_outcome, BothRunOutcome, both_outcome_of_events, notes_with_effect_if, IsNew, IsOursIn, AreFreshFrom}
+use Rattle.mm_sides.proofs.Below.{MoveCommand, DenialCause, FoundMove, BothAct, Plain, Moves, BothEvent, BothOutcome, is_moved, effect_if}
+use Rattle.mm_sides.proofs.Below.{effect_of}
+use Rattle.mm_sides.proofs.Below.{sides_after_effect_if, state_after_steps, stopped_moves, move_steps, sides_after_issue, move_end_outcome}
+use Rattle.mm_sides.proofs.Below.{outcome_of_found_move, outcome_if_found, found_command}
+use Rattle.mm_sides.proofs.Below.{outcome_here, both_outcome, BothRunOutcome, both_outcome_of_events, notes_with_effect_if, IsNew, IsOursIn}
+use Rattle.mm_sides.proofs.Below.{AreFreshFrom}
 use Rattle.mm_sides.proofs.Below.{EntersLast, history_now, SnapshotsName, SidesIssueNames}
 use Rattle.mm_sides.proofs.InOrder.{not_dead, invites_none, roles_begin}
-use Rattle.mm_sides.proofs.Found.{Fits, FitsFound, FitsIn, finding_fits, IsFine, unbroken, found_is, IsEnded, ended_told, affected_order, enters_so}
+use Rattle.mm_sides.proofs.Found.{Fits, FitsFound, FitsIn, finding_fits, IsFine, unbroken, found_is, IsEnded, ended_told, affected_order}
+use Rattle.mm_sides.proofs.Found.{enters_so}
 use Rattle.mm_sides.proofs.Outer.{any_value, found_outer, stopped_outer, IsAlike, same_open, brought_alike, events_keep_names, outer_sound}
 use Rattle.mm_sides.proofs.OneHistory.{live_history, away_history, affected_history}
 use Rattle.mm_sides.proofs.OneLive.{IsOrdered, here_ordered}
 use Rattle.mm_sides.proofs.Rests.{here_tells, issued_here}
-use Rattle.mm_sides.proofs.SideNames.{alike_issued, sound_holding, life_holding, first_sound_in, first_lives, Issues, turned_issues, brought_issues, plain_issues}
+use Rattle.mm_sides.proofs.SideNames.{alike_issued, sound_holding, life_holding, first_sound_in, first_lives, Issues, turned_issues}
+use Rattle.mm_sides.proofs.SideNames.{brought_issues, plain_issues}
 
 module _ (variant : Variant) (meaning : Meaning) (key key' barrier : List ℕ) where
   abbrev me : Instance
@@ -52,7 +59,8 @@ module _ (variant : Variant) (meaning : Meaning) (key key' barrier : List ℕ) w
   affected_rests l notes (Some (Enters ticket)) k fine left = λ gone none. not_dead gone
   affected_rests l notes None k fine left = k.rests
 
-  affected : (l : Both History History) (notes : MoveNotes) (effect : Option Effect) → Issues me them l notes → IsFine l.first.role notes effect
+  affected : (l : Both History History) (notes : MoveNotes) (effect : Option Effect) → Issues me them l notes
+      → IsFine l.first.role notes effect
       → Left l.first.at effect → Affected l notes effect
   affected l notes (Some (Enters ticket)) k fine left =
       let effect : Option Effect = Some (Enters ticket) in
@@ -129,7 +137,8 @@ module _ (variant : Variant) (meaning : Meaning) (key key' barrier : List ℕ) w
       let left = (fits refl).1 in go (left.shut, (here_tells me y left.offered left.here).live)
   left_by_effect notes role y z again moved effect go fits = tt
 
-  left_of : (notes : MoveNotes) (role : Role) (y z : History) (fates : ℕ → StepFate) (found : Result FoundMove DenialCause) → (RestsOn y → RestsOn z)
+  left_of : (notes : MoveNotes) (role : Role) (y z : History) (fates : ℕ → StepFate) (found : Result FoundMove DenialCause)
+      → (RestsOn y → RestsOn z)
       → FitsFound lists_move me y notes role found → Left z (effect_of fates found)
   left_of notes role y z fates (Err cause) go fits = tt
   left_of notes role y z fates (Ok found) go fits =
@@ -183,7 +192,8 @@ module _ (variant : Variant) (meaning : Meaning) (key key' barrier : List ℕ) w
       (found : Option (Result FoundMove DenialCause)) → Issues me them l notes
       → IsOrdered l.first.role l.second.role notes (outcome_if_found lists_move pair me l meddles stop command found)
       → FitsIn lists_move me l.first.at notes l.first.role found
-      → (let o = outcome_if_found lists_move pair me l meddles stop command found in Issues me them o.both (notes_with_effect_if o.effect notes))
+      → (let o = outcome_if_found lists_move pair me l meddles stop command found in
+      Issues me them o.both (notes_with_effect_if o.effect notes))
   moved_issues pair l notes meddles stop command None k s h = k
   moved_issues pair l notes meddles stop command (Some found) k s h =
       let fates : ℕ → StepFate = (course_of stop meddles).fates in
@@ -201,7 +211,8 @@ module _ (variant : Variant) (meaning : Meaning) (key key' barrier : List ℕ) w
       let fine : IsFine l.first.role notes effect = subst (IsFine l.first.role notes) ended.effect_is s.fine in
       let a : Affected l1 notes effect = affected l1 notes effect k1 fine (left_of notes l.first.role y z fates found
       (rests_on y z alike) h) in
-      subst (λ (e : Option Effect). Issues me them (outcome_of_found_move lists_move pair me l meddles stop found).both (notes_with_effect_if e notes))
+      subst (λ (e : Option Effect). Issues me them (outcome_of_found_move lists_move pair me l meddles stop found).both
+          (notes_with_effect_if e notes))
       (sym ended.effect_is) (ended_issues pair l2 (notes_with_effect_if effect notes) stop broken found effect a.keeps
       (move_told l1 notes y fates found k1 (rests_on y z alike) h a.entered))
 

@@ -1,6 +1,7 @@
 -- What both sides issue names positions of where they stand, and of the one history.
 use Rattle.mm_sides.proofs.Below.{ℕ, ◌≡◌, Bool, true, false, List, [], ◌∷◌, refl, sym, ap, ◌∙◌, subst, AllByRecursion, Variant, Basic, Opt}
-use Rattle.mm_sides.proofs.Below.{Meaning, Content, sealed_snapshot_of, Instance, History, RegisterEntry, items_of_all, first_history, Life, LiveHistory, life_by}
+use Rattle.mm_sides.proofs.Below.{Meaning, Content, sealed_snapshot_of, Instance, History, RegisterEntry, items_of_all, first_history, Life}
+use Rattle.mm_sides.proofs.Below.{LiveHistory, life_by}
 use Rattle.mm_sides.proofs.Below.{is_empty, are_own, has_value, life_of, NamesPosition, Refusal, list_level}
 use Rattle.mm_sides.proofs.Below.{instance_by, sound_shut, Event, Outcome, event_outcome, vain_event_outcome, IsIssued, IsSoundIn, Role}
 use Rattle.mm_sides.proofs.Below.{Live, MoveNotes, is_live, AreInOrder, Both, sides_swapped, lists_move, plain_outcome}
@@ -13,7 +14,8 @@ use Rattle.mm_sides.proofs.Rests.{holding, names_cross, alike_names}
 
 -- names go along where a history is alike, and from one side to the other
 
-each_issued : (i j : Instance) (y z : History) → i.key ≡ j.key → ((c : Content) → NamesPosition i y c → NamesPosition j z c) → (xs : List (List ℕ))
+each_issued : (i j : Instance) (y z : History) → i.key ≡ j.key → ((c : Content) → NamesPosition i y c → NamesPosition j z c)
+    → (xs : List (List ℕ))
     → AllByRecursion (IsIssued i y) xs → AllByRecursion (IsIssued j z) xs
 each_issued i j y z same go [] h = tt
 each_issued i j y z same go (x ∷ xs) h = (
@@ -32,7 +34,8 @@ alike_issued variant meaning key barrier y z alike xs h =
     let i = instance_by variant meaning key barrier in each_issued i i y z refl (alike_names variant meaning key barrier y z alike) xs h
 
 -- a history at rest is as sound, and goes on as well, with other items
-pub sound_holding : (variant : Variant) (meaning : Meaning) (key barrier : List ℕ) (y : History) (items : List RegisterEntry) → y.is_open ≡ false
+pub sound_holding : (variant : Variant) (meaning : Meaning) (key barrier : List ℕ) (y : History) (items : List RegisterEntry)
+    → y.is_open ≡ false
     → IsSoundIn (instance_by variant meaning key barrier).variant y
     → IsSoundIn (instance_by variant meaning key barrier).variant (holding y items)
 sound_holding Basic meaning key barrier y items shut h = tt
@@ -45,7 +48,8 @@ life_shut : (y : History) (items : List RegisterEntry) → y.is_open ≡ false �
 unfolding life_at
 life_shut y items shut = ap (λ f. life_at f y items) shut ∙ ap (λ f. life_at f y y.items) (sym shut)
 
-pub life_holding : (variant : Variant) (meaning : Meaning) (key barrier : List ℕ) (y : History) (items : List RegisterEntry) → y.is_open ≡ false
+pub life_holding : (variant : Variant) (meaning : Meaning) (key barrier : List ℕ) (y : History) (items : List RegisterEntry)
+    → y.is_open ≡ false
     → life_of (instance_by variant meaning key barrier).variant y ≡ LiveHistory
     → life_of (instance_by variant meaning key barrier).variant (holding y items) ≡ LiveHistory
 life_holding Basic meaning key barrier y items shut h = refl

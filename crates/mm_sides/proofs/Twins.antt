@@ -1,11 +1,14 @@
 -- Both sides by digests beside both sides by lists: what holds of them before and after each event.
 use Rattle.mm_sides.proofs.Below.{Basic, Bool, Opt, true}
 use Rattle.mm_sides.proofs.Below.{ℕ, ◌≡◌, false, List, [], ◌∷◌, sym, ◌∙◌, subst, ◌+◌, ◌-◌, None, AllByRecursion, Contains}
-use Rattle.mm_sides.proofs.Below.{Variant, Batch, Meaning, Instance, History, total_of, AreMessagesIn, IsClear, Digests, NamesPosition, content_of_issue}
+use Rattle.mm_sides.proofs.Below.{Variant, Batch, Meaning, Instance, History, total_of, AreMessagesIn, IsClear, Digests, NamesPosition}
+use Rattle.mm_sides.proofs.Below.{content_of_issue}
 use Rattle.mm_sides.proofs.Below.{place_messages, IsWithin, messages_of_moves, instance_by, TicketContent, KeepsHistory, Role, Live}
 use Rattle.mm_sides.proofs.Below.{Retired, MoveNotes, is_live, AreInOrder, IsLastTicket, Both, sides_swapped, lists_move, digests_move}
-use Rattle.mm_sides.proofs.Below.{BothOutcome, notes_with_effect_if, Plain, Said, plain_outcome, history_at, history_now, Refusal, each_left}
-use Rattle.mm_sides.proofs.Below.{each_right, list_level, digest_level, Event, Outcome, event_outcome, vain_event_outcome, event_foreign_values, batches_of}
+use Rattle.mm_sides.proofs.Below.{BothOutcome, notes_with_effect_if, Plain, Said, plain_outcome, history_at, history_now, Refusal}
+use Rattle.mm_sides.proofs.Below.{each_left}
+use Rattle.mm_sides.proofs.Below.{each_right, list_level, digest_level, Event, Outcome, event_outcome, vain_event_outcome}
+use Rattle.mm_sides.proofs.Below.{event_foreign_values, batches_of}
 use Rattle.mm_sides.proofs.Below.{event_messages, moves_of, AreApartIn, refusal_for_role, vain_moves, plain_messages, IsGenuineHere}
 use Rattle.mm_sides.proofs.InOrder.{roles_swap, not_dead}
 use Rattle.mm_sides.proofs.OneHistory.{turned_history, alike_at}
@@ -205,7 +208,8 @@ module _ (variant : Variant) (meaning : Meaning) (key key' barrier : List ℕ) (
         }
 
     vain_goes : (role : Role) (why : Refusal) (event : Event) → Kept all others asked me them (standing role) x notes
-        → AllByRecursion (Contains others) (event_foreign_values event) → AreMessagesIn (messages_of_moves me l.first.at (vain_moves l.first.issued event)) all
+        → AllByRecursion (Contains others) (event_foreign_values event)
+        → AreMessagesIn (messages_of_moves me l.first.at (vain_moves l.first.issued event)) all
         → (let ol : Outcome History = vain_event_outcome (list_level me) l.first.at l.first.issued why event in
         let od : Outcome Digests = vain_event_outcome (digest_level me) x.first l.first.issued why event in
         Goes all others asked me them notes (record {

@@ -1,9 +1,12 @@
 -- A history that went on from another: what names a position of it stands where the other rests exactly where it counts as many
 -- requests.
 use Rattle.mm_sides.proofs.Below.{[], ◌&&◌, ◌++◌, ◌+◌, ◌-◌, ◌∙◌, ◌∷◌, ◌≡◌, ◌≤◌, AllByRecursion, anchor_after, anchored_message, ap}
-use Rattle.mm_sides.proofs.Below.{append-nil, are_own, arith, Basic, basic_instance, Batch, Bool, bytes_eq, bytes_eq-Decides, Contains, Content}
-use Rattle.mm_sides.proofs.Below.{each_left, each_right, RegisterEntry, false, has_value, History, history_messages, if◌then◌else◌, inl, inr}
-use Rattle.mm_sides.proofs.Below.{Instance, is_empty, is_new, IsClear, IsPlaceOf, IsPoint, items_of_all, length, length-append, Life, life_by}
+use Rattle.mm_sides.proofs.Below.{append-nil, are_own, arith, Basic, basic_instance, Batch, Bool, bytes_eq, bytes_eq-Decides, Contains}
+use Rattle.mm_sides.proofs.Below.{Content}
+use Rattle.mm_sides.proofs.Below.{each_left, each_right, RegisterEntry, false, has_value, History, history_messages, if◌then◌else◌, inl}
+use Rattle.mm_sides.proofs.Below.{inr}
+use Rattle.mm_sides.proofs.Below.{Instance, is_empty, is_new, IsClear, IsPlaceOf, IsPoint, items_of_all, length, length-append, Life}
+use Rattle.mm_sides.proofs.Below.{life_by}
 use Rattle.mm_sides.proofs.Below.{List, map, map-append, Meaning, NamesPosition, nat_eq, opt_instance, Opt, place_messages, refl, size_of}
 use Rattle.mm_sides.proofs.Below.{start_message, subst, sym, total_of, true, AreMessagesIn, zero_bytes, ℕ}
 use Rattle.std.proofs.Common.{◌<◌, ◌||◌, ◌⊎◌, append_assoc, take, drop}
@@ -26,7 +29,8 @@ use Rattle.mm_model.specs.FormLaws.{HasListedMessages, listed_segment}
 use Rattle.mm_model.specs.History.{extension_value}
 use Rattle.mm_model.specs.HistoryLaws.{batches_in-append, has_value-append, length-batches_in, own_values-append, sooner, values_of-clean}
 use Rattle.mm_model.specs.HistoryWords.{cell_digest_of, values_of}
-use Rattle.mm_model.specs.Verdicts.{fits_again, fits_fresh, forms_of, is_last, verdict_on, verdict_by_tests, Point, verdict_by, verdict_by_digests}
+use Rattle.mm_model.specs.Verdicts.{fits_again, fits_fresh, forms_of, is_last, verdict_on, verdict_by_tests, Point, verdict_by}
+use Rattle.mm_model.specs.Verdicts.{verdict_by_digests}
 use Rattle.mm_model.specs.Life.{Live}
 use Rattle.mm_model.specs.ListLaws.{ends}
 use Rattle.mm_model.specs.Messages.{closed_runs, messages_of, register_trail, runs_of}
@@ -101,7 +105,8 @@ forms_told anchor register a e true is =
     (λ t. absurd (true_not_false (sym t)), λ s. absurd (s.0 ((bytes_eq-Decides e zero_bytes).0 is)))
 forms_told anchor register a e false is =
     let second : Bool = bytes_eq (anchored_digest_of a e) anchor && bytes_eq zero_bytes zero_bytes in
-    let both = Decides-and (bytes_eq (anchored_digest_of a e) anchor) (bytes_eq zero_bytes zero_bytes) (bytes_eq-Decides (anchored_digest_of a e) anchor)
+    let both = Decides-and (bytes_eq (anchored_digest_of a e) anchor) (bytes_eq zero_bytes zero_bytes)
+        (bytes_eq-Decides (anchored_digest_of a e) anchor)
     (bytes_eq-Decides zero_bytes zero_bytes) in
     Decides-or (bytes_eq a anchor && bytes_eq e zero_bytes) (second || false)
     (Decides-and (bytes_eq a anchor) (bytes_eq e zero_bytes) (bytes_eq-Decides a anchor) (bytes_eq-Decides e zero_bytes)) (
@@ -163,7 +168,8 @@ module _ (i : Instance) (z : History) (all : List (List ℕ)) (sound : IsSound z
       (subst (λ (vs : List (List ℕ)). AreMessagesIn (register_trail vs) all) cut t)
 
   -- first batches of a closed segment
-  module _ (before : List (List RegisterEntry)) (segment : List RegisterEntry) (later : List (List RegisterEntry)) (done taken rest : List Batch)
+  module _ (before : List (List RegisterEntry)) (segment : List RegisterEntry) (later : List (List RegisterEntry))
+      (done taken rest : List Batch)
       (split : z.closed ≡ before ++ segment ∷ later) (all_are : z.batches ≡ done ++ (taken ++ rest))
       (counted : length done ≡ length (items_of_all before)) where
     in_clean : (between : List (List RegisterEntry)) (tail : List Batch) → has_value (items_of_all (before ++ segment ∷ between)) ≡ false
@@ -283,7 +289,8 @@ module _ (i : Instance) (y z : History) (all : List (List ℕ)) (w : WentOn y z)
       }
 
   -- equal anchors are those of the same segments
-  same_segments : (ls ks : List (List (List ℕ))) → HasListedMessages id all ls [] → HasListedMessages id all ks [] → anchor_of id ls ≡ anchor_of id ks → ls ≡ ks
+  same_segments : (ls ks : List (List (List ℕ))) → HasListedMessages id all ls [] → HasListedMessages id all ks []
+      → anchor_of id ls ≡ anchor_of id ks → ls ≡ ks
   same_segments ls ks l k e = same_anchors id all clear h.starts ls ks l.inner k.inner l.outer k.outer e
 
   filled_here : Filled y.closed
@@ -389,7 +396,8 @@ module _ (i : Instance) (y z : History) (all : List (List ℕ)) (w : WentOn y z)
       -- the history rests behind more segments
       module _ (l : IsLonger p.before y.closed p.later w.newer) where
         entries : length (items_of_all y.closed) ≡ length (items_of_all p.before) + (length l.next + length (items_of_all l.more))
-        entries = ap (λ (x : List (List RegisterEntry)). length (items_of_all x)) l.is ∙ ap length (joined-append p.before (l.next ∷ l.more))
+        entries = ap (λ (x : List (List RegisterEntry)). length (items_of_all x)) l.is
+            ∙ ap length (joined-append p.before (l.next ∷ l.more))
             ∙ length-append (items_of_all p.before) (l.next ++ items_of_all l.more)
             ∙ ap (λ (n : ℕ). length (items_of_all p.before) + n) (length-append l.next (items_of_all l.more))
 
@@ -444,7 +452,8 @@ module _ (i : Instance) (y z : History) (all : List (List ℕ)) (w : WentOn y z)
         | inl same ↦
             let n = not_empty p.taken p.begun in (
               λ s. absurd (omega (arith, closed_count (stands_closed s), ap length same)),
-              λ m. absurd (omega (arith, all_named m, named_count, ap (λ (x : List (List RegisterEntry)). length (items_of_all x)) same, n)),
+              λ m. absurd (omega (arith, all_named m, named_count, ap (λ (x : List (List RegisterEntry)). length (items_of_all x)) same,
+                  n)),
             )
         | inr (inl l) ↦ (λ s. behind_named l (stands_closed s), λ m. closed_stands (behind_closed l m))
         | inr (inr l) ↦
@@ -481,7 +490,8 @@ module _ (i : Instance) (y z : History) (all : List (List ℕ)) (w : WentOn y z)
     inside_current : (a e : List ℕ) → IsCurrentPoint i z named a e → IsInside a e
     inside_current a e p =
         let clean = current_clean z sound (begun_longer p.taken p.more p.begun p.split) in
-        let counts : length (batches_in (items_of_all z.closed)) ≡ length (items_of_all z.closed) = length-batches_in (items_of_all z.closed) clean.clean in
+        let counts : length (batches_in (items_of_all z.closed)) ≡ length (items_of_all z.closed) =
+            length-batches_in (items_of_all z.closed) clean.clean in
         record {
           before = z.closed;
           later = [];
@@ -522,7 +532,8 @@ life_rests : (y : History) (flag : Bool) → flag ≡ false → has_value (items
 life_rests y true off clean = absurd (true_not_false off)
 life_rests y false off clean = ap (life_by false (is_empty y.items) (are_own y.items y.current)) clean
 
-judge_rests : (y : History) (position : ℕ) (b : Batch) → Rests y → is_new (verdict_on Opt y position b) ≡ nat_eq position (total_of y.batches)
+judge_rests : (y : History) (position : ℕ) (b : Batch) → Rests y → is_new (verdict_on Opt y position b)
+    ≡ nat_eq position (total_of y.batches)
 judge_rests y position b r =
     let here : Bool = nat_eq position (total_of y.batches) in
     let repeat : Bool = nat_eq (position + size_of b) (total_of y.batches) && is_last y.batches b in
@@ -564,7 +575,8 @@ opt_went_on meaning key barrier register y z offered b all w r sound clear histo
 
 -- Basic: nothing rests, and the summary tells all batches
 pub basic_went_on : (meaning : Meaning) (key register : List ℕ) (y z : History) (offered : Content) (b : Batch) (all : List (List ℕ))
-    → WentOn y z → IsClear all → AreMessagesIn (history_messages (basic_instance meaning key) z) all → NamesPosition (basic_instance meaning key) z offered
+    → WentOn y z → IsClear all → AreMessagesIn (history_messages (basic_instance meaning key) z) all
+    → NamesPosition (basic_instance meaning key) z offered
     → is_new (verdict_by_digests zero_bytes false (cell_digest_of (basic_instance meaning key) Basic y) register offered.place b)
     ≡ is_new (verdict_on Basic y offered.position b)
 basic_went_on meaning key register y z offered b all w clear history n =

@@ -1,7 +1,8 @@
 -- Two sides that share a link, what stands on each, and two ways to follow them: by lists and by
 -- digests.
 use Rattle.std.specs.Prelude.{ℕ, Bool, true, false, List, []}
-use Rattle.mm_sides.specs.Below.{Variant, Content, Meaning, History, first_history, Instance, Digests, content_of_issue, digest_of, Level, list_level}
+use Rattle.mm_sides.specs.Below.{Variant, Content, Meaning, History, first_history, Instance, Digests, content_of_issue, digest_of, Level}
+use Rattle.mm_sides.specs.Below.{list_level}
 use Rattle.mm_sides.specs.Below.{digest_level, instance_by, summary_in, place_at, first_issued, first_digests}
 use Rattle.mm_sides.specs.Roles.{Role, Blank, Live, is_live}
 
@@ -115,4 +116,5 @@ first_lists pair = sides_at_start pair first_history first_history first_history
 
 abbrev pub first_both : Pair → Both Digests ℕ
 first_both pair =
-    sides_at_start pair (first_digests (instance_on pair First)) (first_digests (instance_on pair Second)) 0
+    sides_at_start pair (first_digests (instance_on pair First))
+    (first_digests (instance_on pair Second)) 0

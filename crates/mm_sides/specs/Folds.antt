@@ -1,13 +1,16 @@
 -- A schedule of both sides: each event's reply, and what stands after it.
 use Rattle.std.specs.Prelude.{ℕ, ◌+◌, ◌-◌, Bool, true, false, List, [], ◌∷◌, ◌++◌, length, Option, None, Some, Result, Ok, Err}
 use Rattle.std.specs.Prelude.{fold, if◌then◌else◌}
-use Rattle.mm_sides.specs.Below.{sealed_snapshot_of, StepFault, Meddle, Stop, History, Move, Instance, Digests, DeviceStep, Reads, Refusal, End, Done}
+use Rattle.mm_sides.specs.Below.{sealed_snapshot_of, StepFault, Meddle, Stop, History, Move, Instance, Digests, DeviceStep, Reads, Refusal}
+use Rattle.mm_sides.specs.Below.{End, Done}
 use Rattle.mm_sides.specs.Below.{Fails, StepFate, walk, sealed_ticket, Event, Reply, Way, Outcome, way_of, moves_after_stop, course_of}
 use Rattle.mm_sides.specs.Below.{event_outcome, vain_event_outcome, offered_bytes}
 use Rattle.mm_model.specs.declared.refusal.Refusal.TheVariants as refusal
 use Rattle.mm_sides.specs.Roles.{Role, Blank, Live, Waiting, Retired, Effect, Invites, Leaves, Enters, MoveNotes, notes_with_effect}
-use Rattle.mm_sides.specs.Both.{Which, First, Second, Pair, instance_on, SideState, Both, sides_swapped, sides_seen_from, Mover, lists_move, digests_move, first_lists, first_both}
-use Rattle.mm_sides.specs.Moves.{MoveCommand, Invite, Retire, Accept, DenialCause, FoundMove, invitation_on, retirement_on, acceptance_on, ticket_in}
+use Rattle.mm_sides.specs.Both.{Which, First, Second, Pair, instance_on, SideState, Both, sides_swapped, sides_seen_from, Mover, lists_move}
+use Rattle.mm_sides.specs.Both.{digests_move, first_lists, first_both}
+use Rattle.mm_sides.specs.Moves.{MoveCommand, Invite, Retire, Accept, DenialCause, FoundMove, invitation_on, retirement_on, acceptance_on}
+use Rattle.mm_sides.specs.Moves.{ticket_in}
 
 -- What happens on a side: an event of a schedule; or a command that moves the module, while others
 -- extend the register just before certain steps, and which may be stopped at a step.
@@ -46,7 +49,8 @@ refusal_for_role role = refusal.Cell
 
 -- An event of a schedule on a side, by its role: where the module is, it comes to what it comes to
 -- on one platform; elsewhere the cell is read in vain.
-abbrev pub outcome_by_role : {S A : Type 0} → Mover S A → Instance → Role → SideState S → Event → Outcome S
+abbrev pub outcome_by_role : {S A : Type 0} → Mover S A → Instance → Role → SideState S → Event
+    → Outcome S
 outcome_by_role mover i Live side event = event_outcome i (mover.level i) side.at side.issued event
 outcome_by_role mover i role side event =
     event_in_vain (mover.level i) side.at side.issued (refusal_for_role role) event
@@ -108,7 +112,8 @@ stopped_moves stop None = []
 stopped_moves stop (Some fault) = moves_after_stop stop
 
 -- where a side stands at the end of a move, its effect apart: others have extended the register
-abbrev pub state_after_steps : {S A : Type 0} → Mover S A → Instance → S → List Meddle → Stop → List DeviceStep
+abbrev pub state_after_steps : {S A : Type 0} → Mover S A → Instance → S → List Meddle → Stop
+    → List DeviceStep
     → S
 state_after_steps mover i at meddles stop steps =
     let walked = walk (course_of stop meddles).fates 1 steps in
@@ -137,7 +142,8 @@ sides_after_effect_if mover both (Some effect) = sides_after_effect mover both e
 
 -- what stands after a move is told, and its reply: a retirement hands out its ticket, and an
 -- acceptance a snapshot
-abbrev pub sides_after_issue : {S A : Type 0} → Mover S A → Pair → Instance → Both S A → Effect → Both S A
+abbrev pub sides_after_issue : {S A : Type 0} → Mover S A → Pair → Instance → Both S A → Effect
+    → Both S A
 sides_after_issue mover pair i both (Invites nonce) = both
 sides_after_issue mover pair i both (Leaves ticket) =
     record both { tickets = both.tickets ++ sealed_ticket pair.link ticket ∷ [] }
@@ -148,7 +154,8 @@ sides_after_issue mover pair i both (Enters ticket) =
 abbrev pub effect_reply : {S A : Type 0} → Mover S A → Instance → Both S A → Effect → BothReply
 effect_reply mover i both (Invites nonce) = Invited
 effect_reply mover i both (Leaves ticket) = Left (length both.tickets)
-effect_reply mover i both (Enters ticket) = Entered (mover.says i both.first.at ticket.content).position
+effect_reply mover i both (Enters ticket) =
+    Entered (mover.says i both.first.at ticket.content).position
 
 abbrev pub is_some : {A : Type 0} → Option A → Bool
 is_some None = false
@@ -169,7 +176,8 @@ move_end_outcome mover pair i both stop None (Ok found) effect = record {
 }
 
 -- a move, by what it finds
-abbrev pub outcome_of_found_move : {S A : Type 0} → Mover S A → Pair → Instance → Both S A → List Meddle → Stop
+abbrev pub outcome_of_found_move : {S A : Type 0} → Mover S A → Pair → Instance → Both S A
+    → List Meddle → Stop
     → Result FoundMove DenialCause
     → BothOutcome S A
 outcome_of_found_move mover pair i both meddles stop found =
@@ -183,12 +191,15 @@ outcome_of_found_move mover pair i both meddles stop found =
     (walk fates 1 (move_steps found)).broken found effect
 
 -- what a command finds, by the bytes that it offers; none where their number isn't issued
-abbrev pub found_retirement : {S A : Type 0} → Mover S A → Instance → SideState S → List ℕ → Option (List ℕ)
+abbrev pub found_retirement : {S A : Type 0} → Mover S A → Instance → SideState S → List ℕ
+    → Option (List ℕ)
     → Option (Result FoundMove DenialCause)
 found_retirement mover i side nonce None = None
-found_retirement mover i side nonce (Some bytes) = Some (retirement_on mover i side.role side.at nonce bytes)
+found_retirement mover i side nonce (Some bytes) =
+    Some (retirement_on mover i side.role side.at nonce bytes)
 
-abbrev pub found_acceptance : {S A : Type 0} → Mover S A → Pair → Instance → SideState S → Option (List ℕ)
+abbrev pub found_acceptance : {S A : Type 0} → Mover S A → Pair → Instance → SideState S
+    → Option (List ℕ)
     → Option (Result FoundMove DenialCause)
 found_acceptance mover pair i side None = None
 found_acceptance mover pair i side (Some bytes) =
@@ -207,7 +218,8 @@ unissued_reply (Accept offer) = NoTicket
 unissued_reply command = NoSnapshot
 
 -- a command: where its number isn't issued nothing is called
-abbrev pub outcome_if_found : {S A : Type 0} → Mover S A → Pair → Instance → Both S A → List Meddle → Stop
+abbrev pub outcome_if_found : {S A : Type 0} → Mover S A → Pair → Instance → Both S A → List Meddle
+    → Stop
     → MoveCommand
     → Option (Result FoundMove DenialCause) → BothOutcome S A
 outcome_if_found mover pair i both meddles stop command None =
@@ -218,7 +230,8 @@ outcome_if_found mover pair i both meddles stop command (Some found) =
 abbrev pub move_outcome : {S A : Type 0} → Mover S A → Pair → Instance → Both S A → List Meddle
     → Stop → MoveCommand → BothOutcome S A
 move_outcome mover pair i both meddles stop command =
-    outcome_if_found mover pair i both meddles stop command (found_command mover pair i both command)
+    outcome_if_found mover pair i both meddles stop command
+    (found_command mover pair i both command)
 
 -- an event on the first side, by its instance
 abbrev pub outcome_here : {S A : Type 0} → Mover S A → Pair → Instance → Both S A → BothAct
@@ -235,7 +248,8 @@ outcome_swapped Second o = record o { both = sides_swapped o.both }
 abbrev pub both_outcome : {S A : Type 0} → Mover S A → Pair → Both S A → BothEvent → BothOutcome S A
 both_outcome mover pair both event =
     outcome_swapped event.which
-    (outcome_here mover pair (instance_on pair event.which) (sides_seen_from event.which both) event.act)
+    (outcome_here mover pair (instance_on pair event.which)
+    (sides_seen_from event.which both) event.act)
 
 -- what stands after some events, and the replies
 pub record BothRunOutcome (S A : Type 0) : Type 0 where
@@ -255,7 +269,8 @@ abbrev pub both_outcome_by_lists : Pair → List BothEvent → BothRunOutcome Hi
 both_outcome_by_lists pair events = both_outcome_of_events lists_move pair (first_lists pair) events
 
 abbrev pub both_outcome_by_digests : Pair → List BothEvent → BothRunOutcome Digests ℕ
-both_outcome_by_digests pair events = both_outcome_of_events digests_move pair (first_both pair) events
+both_outcome_by_digests pair events = both_outcome_of_events digests_move pair
+    (first_both pair) events
 
 -- the notes of what an event has moved
 abbrev pub notes_with_effect_if : Option Effect → MoveNotes → MoveNotes

@@ -1,12 +1,15 @@
 -- The laws of two sides.
 use Rattle.std.specs.Prelude.{◌≡◌, ℕ, List, [], ◌∷◌, ◌++◌, length, Option, Some}
 use Rattle.std.specs.List.{AllByRecursion}
-use Rattle.mm_sides.specs.Below.{Variant, Quiet, counter, History, requests_of, Digests, DigestsAgree, Event, IsEventRun, Last, Reply, IsIssued}
+use Rattle.mm_sides.specs.Below.{Variant, Quiet, counter, History, requests_of, Digests, DigestsAgree, Event, IsEventRun, Last, Reply}
+use Rattle.mm_sides.specs.Below.{IsIssued}
 use Rattle.mm_sides.specs.Roles.{Live, Retired, Effect, Enters, MoveNotes, no_notes}
 use Rattle.mm_sides.specs.Order.{EntersLast, AtMostOne}
-use Rattle.mm_sides.specs.Both.{Which, First, Second, Pair, instance_on, SideState, Both, history_now, lists_move, digests_move, first_lists}
+use Rattle.mm_sides.specs.Both.{Which, First, Second, Pair, instance_on, SideState, Both, history_now, lists_move, digests_move}
+use Rattle.mm_sides.specs.Both.{first_lists}
 use Rattle.mm_sides.specs.Moves.{Invite, Retire, Accept}
-use Rattle.mm_sides.specs.Folds.{BothAct, Plain, Moves, BothEvent, BothReply, Said, both_outcome, BothRunOutcome, both_outcome_of_events, both_outcome_by_lists, both_outcome_by_digests, notes_with_effect_if}
+use Rattle.mm_sides.specs.Folds.{BothAct, Plain, Moves, BothEvent, BothReply, Said, both_outcome, BothRunOutcome, both_outcome_of_events}
+use Rattle.mm_sides.specs.Folds.{both_outcome_by_lists, both_outcome_by_digests, notes_with_effect_if}
 use Rattle.mm_sides.specs.Premises.{IsClearPair, IsGenuinePair, IsFreshPair}
 
 -- Two ways to follow a side agree: its role, its snapshots, and the digests are those of the

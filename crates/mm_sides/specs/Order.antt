@@ -3,7 +3,8 @@
 use Rattle.std.specs.Prelude.{◌≡◌, ◌≢◌, ℕ, true, false, List, [], ◌∷◌, ◌++◌, map}
 use Rattle.std.specs.List.{AllByRecursion, Contains}
 use Rattle.mm_sides.specs.Below.{TicketContent}
-use Rattle.mm_sides.specs.Roles.{Role, Blank, Live, Waiting, Retired, Effect, Invites, Leaves, Enters, role_after, is_live, MoveNotes, no_notes, notes_with_effect}
+use Rattle.mm_sides.specs.Roles.{Role, Blank, Live, Waiting, Retired, Effect, Invites, Leaves, Enters, role_after, is_live, MoveNotes}
+use Rattle.mm_sides.specs.Roles.{no_notes, notes_with_effect}
 
 abbrev pub nonces_of : List TicketContent → List (List ℕ)
 nonces_of tickets = map (λ (ticket : TicketContent). ticket.nonce) tickets
@@ -66,7 +67,8 @@ pub record IsLastTicket (retired : List TicketContent) (ticket : TicketContent) 
   pub is : retired ≡ front ++ ticket ∷ []
 
 -- The module enters a side only where it is on none, and only by the ticket that it left by last.
-pub record EntersLast (this other : Role) (notes : MoveNotes) (ticket : TicketContent) : Type 0 where
+pub record EntersLast (this other : Role) (notes : MoveNotes)
+    (ticket : TicketContent) : Type 0 where
   pub not_here : is_live this ≡ false
   pub not_there : is_live other ≡ false
   pub last : IsLastTicket notes.retired ticket
@@ -78,13 +80,15 @@ RolesBegin = AreInOrder Live Blank no_notes
 
 abbrev pub RolesSwap : Type 0
 RolesSwap =
-    (this other : Role) (notes : MoveNotes) → AreInOrder this other notes → AreInOrder other this notes
+    (this other : Role) (notes : MoveNotes) → AreInOrder this other notes
+    → AreInOrder other this notes
 
 abbrev pub RolesGoOn : Type 0
 RolesGoOn =
     (this other : Role) (notes : MoveNotes) (effect : Effect) → AreInOrder this other notes
     → MayTake this effect
-    → IsFreshEffect notes effect → AreInOrder (role_after effect) other (notes_with_effect effect notes)
+    → IsFreshEffect notes effect → AreInOrder (role_after effect) other
+    (notes_with_effect effect notes)
 
 abbrev pub RolesEnterLast : Type 0
 RolesEnterLast =

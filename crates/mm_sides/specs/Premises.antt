@@ -3,8 +3,10 @@
 use Rattle.std.specs.Prelude.{ℕ, List, [], ◌∷◌, ◌++◌, Option, None, Some, Result, Ok, Err, map, if◌then◌else◌}
 use Rattle.std.specs.List.{Contains}
 use Rattle.mm_sides.specs.Below.{start_message, Content, Meddle, Stop, Batch, History, Move, Foreign, PowerMove, Instance, is_long, IsClear}
-use Rattle.mm_sides.specs.Below.{place_messages, DeviceStep, Reads, Refusal, messages_of_moves, walk, right_content, TicketContent, Event, Ask}
-use Rattle.mm_sides.specs.Below.{Checkpoint, Power, Extend, course_of, offered_bytes, moves_of, event_messages, event_foreign_values, batches_of}
+use Rattle.mm_sides.specs.Below.{place_messages, DeviceStep, Reads, Refusal, messages_of_moves, walk, right_content, TicketContent, Event}
+use Rattle.mm_sides.specs.Below.{Ask}
+use Rattle.mm_sides.specs.Below.{Checkpoint, Power, Extend, course_of, offered_bytes, moves_of, event_messages, event_foreign_values}
+use Rattle.mm_sides.specs.Below.{batches_of}
 use Rattle.mm_sides.specs.Below.{IsGenuineEvent, AreApartIn, IsGenuineOffer}
 use Rattle.mm_sides.specs.Roles.{Role, Live, Retired, Effect, Invites, MoveNotes, no_notes}
 use Rattle.mm_sides.specs.Both.{First, Pair, instance_on, SideState, Both, sides_seen_from, history_now, lists_move, first_lists}
@@ -51,7 +53,8 @@ found_moves meddles stop None = []
 found_moves meddles stop (Some found) = read_moves meddles stop (move_steps found)
 
 abbrev pub command_messages : Instance → SideState History → MoveCommand → List (List ℕ)
-command_messages i side (Retire nonce offer) = offer_closing_messages i (offered_bytes side.issued offer)
+command_messages i side (Retire nonce offer) =
+    offer_closing_messages i (offered_bytes side.issued offer)
 command_messages i side command = []
 
 abbrev pub messages_here : Pair → Instance → Both History History → BothAct → List (List ℕ)

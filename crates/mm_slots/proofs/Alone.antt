@@ -1,9 +1,12 @@
 -- Each slot is where its own fold leaves it; and a run of slots takes events line by line.
 use Rattle.mm_slots.proofs.Below.{◌≡◌, ◌∙◌, ◌+◌, ◌==◌, ℕ, zero, suc, Bool, true, false, cond, List, [], ◌∷◌, ◌++◌, map, Option, Some, refl}
 use Rattle.mm_slots.proofs.Below.{sym, ap, arith, append-nil, slice_get, option_map, option_map_or, eqb-true, append_assoc, Instance}
-use Rattle.mm_slots.proofs.Below.{SlotAction, SlotEvent, Power, At, SlotReply, Tenant, SlotTurn, Meeting, Acts, Loses, turn_by_met, turn_by_action, turn_over_all}
-use Rattle.mm_slots.proofs.Below.{Row, instance_of, row_after, items_by_place, rows_after_event, cuts_all, event_meetings, slot_meetings, SlotAnswer, PowerLost, Says}
-use Rattle.mm_slots.proofs.Below.{slot_replies_at, answers_to, answers, slot_replies_for, SlotsAreAlone, length, None, ◌>>=◌, flat_map-append}
+use Rattle.mm_slots.proofs.Below.{SlotAction, SlotEvent, Power, At, SlotReply, Tenant, SlotTurn, Meeting, Acts, Loses, turn_by_met}
+use Rattle.mm_slots.proofs.Below.{turn_by_action, turn_over_all}
+use Rattle.mm_slots.proofs.Below.{Row, instance_of, row_after, items_by_place, rows_after_event, cuts_all, event_meetings, slot_meetings}
+use Rattle.mm_slots.proofs.Below.{SlotAnswer, PowerLost, Says}
+use Rattle.mm_slots.proofs.Below.{slot_replies_at, answers_to, answers, slot_replies_for, SlotsAreAlone, length, None, ◌>>=◌}
+use Rattle.mm_slots.proofs.Below.{flat_map-append}
 use Rattle.mm_slots.proofs.Below.{answer_text, answers_text, event_at, SlotsState, slots_steps, rows_after_all}
 use Rattle.mm_play.specs.StageShows.{state_behind_events, replies, TakesEvents}
 use Rattle.mm_slots.specs.Stage.{slots_stage}
@@ -44,7 +47,8 @@ pub folded_more : (i : Instance) (slot : Tenant) (xs ys : List Meeting)
 folded_more i slot [] ys = refl
 folded_more i slot (x ∷ xs) ys =
     let t = turn_by_met i slot x in
-    ap (followed_by t) (folded_more i t.slot xs ys) ∙ followed_assoc t (turn_over_all i t.slot xs) (turn_over_all i (turn_over_all i t.slot xs).slot ys)
+    ap (followed_by t) (folded_more i t.slot xs ys) ∙ followed_assoc t (turn_over_all i t.slot xs)
+    (turn_over_all i (turn_over_all i t.slot xs).slot ys)
 
 said_more : (n : ℕ) (xs ys : List SlotAnswer) → slot_replies_for n (xs ++ ys) ≡ slot_replies_for n xs ++ slot_replies_for n ys
 said_more n [] ys = refl
@@ -63,7 +67,8 @@ said_others n other [] own = refl
 said_others n other (first ∷ said) own = rw own (said_others n other said own)
 
 -- what is said for a slot at what happens in it, or in another
-said_here : (rows : List Row) (n other : ℕ) (what : SlotAction) (row : Row) (own cuts : Bool) → slice_get rows n ≡ Some row → (n == other) ≡ own
+said_here : (rows : List Row) (n other : ℕ) (what : SlotAction) (row : Row) (own cuts : Bool) → slice_get rows n ≡ Some row
+    → (n == other) ≡ own
     → slot_replies_for n (map (Says other) (slot_replies_at rows other what)) ≡
     (turn_over_all (instance_of row) row.slot (cond own (Acts what ∷ []) (cond cuts (Loses ∷ []) []))).said
 said_here rows n other what row true cuts is own =
@@ -112,7 +117,8 @@ takes = record {
 }
 
 -- what stands behind events, and what was written
-pub rows_behind : (events : List SlotEvent) (r : SlotsState) → (state_behind_events slots_steps r events).rows ≡ rows_after_all r.rows events
+pub rows_behind : (events : List SlotEvent) (r : SlotsState) → (state_behind_events slots_steps r events).rows
+    ≡ rows_after_all r.rows events
 rows_behind [] r = refl
 rows_behind (event ∷ events) r = rows_behind events (slots_steps.after r event)
 

@@ -1,12 +1,14 @@
 -- What begins a call in a slot, what is refused, a value of others, and a loss of power.
 use Rattle.mm_slots.proofs.Below.{◌≡◌, ◌∙◌, ◌+◌, ◌<◌, ℕ, true, false, List, [], length, Option, None, Some, IsSome, refl, sym, ap, subst}
 use Rattle.mm_slots.proofs.Below.{arith, vec_capacity, option_map, One, meaning_of, Meddle, Quiet, Item, Plan, Standing, next_step}
-use Rattle.mm_slots.proofs.Below.{item_values, register_after, next_plan, quiet_plan, plan_with_meddle, standing_after_cycle, Foreign, PowerMove}
+use Rattle.mm_slots.proofs.Below.{item_values, register_after, next_plan, quiet_plan, plan_with_meddle, standing_after_cycle, Foreign}
+use Rattle.mm_slots.proofs.Below.{PowerMove}
 use Rattle.mm_slots.proofs.Below.{is_long, Digests, digests_after, register_reading, Extend, rising_from, offered_bytes, plan_by, meddled}
 use Rattle.mm_slots.proofs.Below.{digest_in, flag_in, HasDigests, IsQuiet, extended_standing, stands_extended, stands_settled}
 use Rattle.mm_slots.proofs.Below.{asks_begun, closes_begun, may_take_in, SlotAction, AskInFlight}
 use Rattle.mm_slots.proofs.Below.{CodeFlight, SlotReply, Begun, Replied, Parts, SlotTurn, Asks, event_turn, turn_saying}
-use Rattle.mm_slots.proofs.Below.{with_flight, first_flight, begin_turn, turn_by_action, turn_in_flight, with_meddle, digests_in, slot_in, flight_in, call_in, instance_in}
+use Rattle.mm_slots.proofs.Below.{with_flight, first_flight, begin_turn, turn_by_action, turn_in_flight, with_meddle, digests_in, slot_in}
+use Rattle.mm_slots.proofs.Below.{flight_in, call_in, instance_in}
 use Rattle.mm_slots.proofs.Below.{PartsFit, SlotComesTo, SlotLosesPower, parts_with_flight, HasRegister, SeatStaysOn}
 use Rattle.mm_digest.specs.declared.digest.Digest.{Digest}
 use Rattle.mm_schedule.specs.declared.reply.Reply.TheVariants as reply
@@ -86,7 +88,8 @@ ask_begins slot asking fits none some short is room =
     (sym (acts_idle slot (action.Begin asking.offer asking.request) none ∙ opens))
 
 pub close_begins : (slot : Parts) → PartsFit slot → slot.flight ≡ None
-    → SlotComesTo slot (parts_with_flight slot (code.Closes (record { call = stage.Begun }))) (turn_by_action (instance_in slot) (slot_in slot) action.Close) Begun
+    → SlotComesTo slot (parts_with_flight slot (code.Closes (record { call = stage.Begun })))
+    (turn_by_action (instance_in slot) (slot_in slot) action.Close) Begun
 close_begins slot fits none =
     let at = idle slot none fits in
     flight_begins slot (code.Closes (record { call = stage.Begun })) action.Close at.1
@@ -152,9 +155,11 @@ moved_by old new value made planned few is e =
     }
 
 -- what a value that comes leaves of a call in flight
-joins_comes : (slot : Parts) (new : Standing) (tally : Counted slot) (bound : Bounded slot) (flight : CodeFlight) (value : Digest) → slot.flight ≡ Some flight
+joins_comes : (slot : Parts) (new : Standing) (tally : Counted slot) (bound : Bounded slot) (flight : CodeFlight) (value : Digest)
+    → slot.flight ≡ Some flight
     → Moved slot.seat.platform new value → PartsFit (over slot new tally bound)
-    → SlotComesTo slot (over slot new tally bound) (turn_by_action (instance_in slot) (slot_in slot) (action.Extend value)) (Replied reply.Extended)
+    → SlotComesTo slot (over slot new tally bound) (turn_by_action (instance_in slot) (slot_in slot) (action.Extend value))
+    (Replied reply.Extended)
 joins_comes slot new tally bound flight value some m fits =
     let s = slot_in slot in
     let old = slot.seat.platform in
@@ -195,7 +200,8 @@ may_meddle slot flight fits some =
     let a = flight_is slot.seat.header (instance_in slot) (digests_in slot) f.from flight slot.seat.platform p.meddles (p.at + 1) f.flies in
     may_take_in slot.seat.platform (plan_by Quiet p.meddles) a.made a.planned a.few
 
-moves : (slot : Parts) (new : Standing) (tally : Counted slot) (bound : Bounded slot) (value : Digest) → Moved slot.seat.platform new value → (P : Digests → Plan → Type 0)
+moves : (slot : Parts) (new : Standing) (tally : Counted slot) (bound : Bounded slot) (value : Digest) → Moved slot.seat.platform new value
+    → (P : Digests → Plan → Type 0)
     → (let p = next_plan slot.seat.platform in
     P (digests_in slot) (record p { stop = Quiet; meddles = meddled p.meddles (p.at + 1) value })
     → P (digests_in (over slot new tally bound)) (next_plan new))
@@ -210,16 +216,19 @@ moves slot new tally bound value m P h =
     let q : Plan = record p { stop = Quiet; meddles = meddled p.meddles (p.at + 1) value } in
     subst (λ (x : Plan). P (digests_in (over slot new tally bound)) x) (sym m.plan) (subst (λ (x : Digests). P x q) (sym d) h)
 
-extends_flying : (slot : Parts) (new : Standing) (tally : Counted slot) (bound : Bounded slot) (flight : CodeFlight) (value : Digest) → PartsFit slot → slot.flight ≡ Some flight
+extends_flying : (slot : Parts) (new : Standing) (tally : Counted slot) (bound : Bounded slot) (flight : CodeFlight) (value : Digest)
+    → PartsFit slot → slot.flight ≡ Some flight
     → new ≡ record slot.seat.platform { plan = option_map (plan_with_meddle value) slot.seat.platform.plan }
-    → SlotComesTo slot (over slot new tally bound) (turn_by_action (instance_in slot) (slot_in slot) (action.Extend value)) (Replied reply.Extended)
+    → SlotComesTo slot (over slot new tally bound) (turn_by_action (instance_in slot) (slot_in slot) (action.Extend value))
+    (Replied reply.Extended)
 extends_flying slot new tally bound flight value fits some e =
     let old = slot.seat.platform in
     let f = call_of slot flight (some_flight slot flight some fits) in
     let p = next_plan old in
     let a = flight_is slot.seat.header (instance_in slot) (digests_in slot) f.from flight old p.meddles (p.at + 1) f.flies in
     let m = moved_by old new value a.made a.planned a.few a.is_next e in
-    let flies = moves slot new tally bound value m (λ x q. SlotCallFlies slot.seat.header (instance_in slot) x f.from flight new q.meddles (q.at + 1))
+    let flies = moves slot new tally bound value m (λ x q. SlotCallFlies slot.seat.header (instance_in slot) x f.from flight new
+        q.meddles (q.at + 1))
     (takes_value slot.seat.header (instance_in slot) (digests_in slot) f.from flight old new p.meddles (p.at + 1) value f.flies e) in
     joins_comes slot new tally bound flight value some m
     (back_from (over slot new tally bound) flight some (record { from = f.from; flies = flies; may = f.may }))
@@ -250,7 +259,8 @@ items_told : (items : Option (List Item)) (value : List ℕ) → option_map (λ 
 items_told None value e = cc
 items_told (Some xs) value e = refl
 
-pub loses : (slot slot' : Parts) → PartsFit slot → slot'.seat.platform ≡ record (standing_after_cycle slot.seat.platform) { plan = Some quiet_plan }
+pub loses : (slot slot' : Parts) → PartsFit slot → slot'.seat.platform ≡ record (standing_after_cycle slot.seat.platform)
+    { plan = Some quiet_plan }
     → slot'.seat.header ≡ slot.seat.header → slot'.number ≡ slot.number → slot'.seat.committed ≡ slot.seat.committed
     → slot'.flight ≡ None → slot'.seat.issued.items ≡ slot.seat.issued.items → HasRegister slot' → SlotLosesPower slot slot'
 loses slot slot' fits e h n c none issued r =
@@ -278,10 +288,13 @@ some_of : (flight : Option CodeFlight) → IsSome flight → (it : CodeFlight) �
 some_of None some = cc
 some_of (Some it) some = (it, refl)
 
-pub extends_some : (slot : Parts) (new : Standing) (tally : Counted slot) (bound : Bounded slot) (value : Digest) → PartsFit slot → IsSome slot.flight
+pub extends_some : (slot : Parts) (new : Standing) (tally : Counted slot) (bound : Bounded slot) (value : Digest) → PartsFit slot
+    → IsSome slot.flight
     → new ≡ record slot.seat.platform { plan = option_map (plan_with_meddle value) slot.seat.platform.plan }
-    → SlotComesTo slot (over slot new tally bound) (turn_by_action (instance_in slot) (slot_in slot) (action.Extend value)) (Replied reply.Extended)
-extends_some slot new tally bound value fits some e = let f = some_of slot.flight some in extends_flying slot new tally bound f.0 value fits f.1 e
+    → SlotComesTo slot (over slot new tally bound) (turn_by_action (instance_in slot) (slot_in slot) (action.Extend value))
+    (Replied reply.Extended)
+extends_some slot new tally bound value fits some e = let f = some_of slot.flight some in
+    extends_flying slot new tally bound f.0 value fits f.1 e
 
 pub may_meddle_some : (slot : Parts) → PartsFit slot → IsSome slot.flight → (next_plan slot.seat.platform).at < 255
 may_meddle_some slot fits some = let f = some_of slot.flight some in may_meddle slot f.0 fits f.1

@@ -3,11 +3,15 @@ use Rattle.mm_slots.proofs.Below.{◌≡◌, ◌∙◌, ◌+◌, ◌^◌, ◌≤
 use Rattle.std.specs.List.{sum_by}
 use Rattle.mm_slots.proofs.Below.{◌-◌, length, arith, vec_capacity, most_members, Variant, Basic, Opt, Meaning}
 use Rattle.mm_slots.proofs.Below.{IsLawful, meaning_of, Standing, Instance, Digests, instance_by, Event, Header, Reply, rising_from}
-use Rattle.mm_slots.proofs.Below.{Outcome, few_committed, printable, CallReport, CallComesTo, digest_in, flag_in, value_in, HasDigests, IsQuiet}
-use Rattle.mm_slots.proofs.Below.{digests_are, counting, CodeFlight, SlotReply, Replied, Parts, IsSayable, Tenant, tenant_instance, outcome_in}
-use Rattle.mm_slots.proofs.Below.{event_turn, digests_in, slot_in, flight_in, instance_in, FitsFlight, PartsFit, SlotComesTo, parts_with_flight, HasRegister}
+use Rattle.mm_slots.proofs.Below.{Outcome, few_committed, printable, CallReport, CallComesTo, digest_in, flag_in, value_in, HasDigests}
+use Rattle.mm_slots.proofs.Below.{IsQuiet}
+use Rattle.mm_slots.proofs.Below.{digests_are, counting, CodeFlight, SlotReply, Replied, Parts, IsSayable, Tenant, tenant_instance}
+use Rattle.mm_slots.proofs.Below.{outcome_in}
+use Rattle.mm_slots.proofs.Below.{event_turn, digests_in, slot_in, flight_in, instance_in, FitsFlight, PartsFit, SlotComesTo}
+use Rattle.mm_slots.proofs.Below.{parts_with_flight, HasRegister}
 use Rattle.mm_slots.proofs.Below.{within_64, CallEndsIn, next_plan, Bool, true, cond, option_map_or, Meddle, Quiet, Plan}
-use Rattle.mm_slots.proofs.Below.{quiet_plan, digests_after, plan_by, is_nothing, Going, Flight, SlotTurn, turn_saying, with_flight, event_so_far}
+use Rattle.mm_slots.proofs.Below.{quiet_plan, digests_after, plan_by, is_nothing, Going, Flight, SlotTurn, turn_saying, with_flight}
+use Rattle.mm_slots.proofs.Below.{event_so_far}
 use Rattle.mm_slots.proofs.Below.{step_turn, call_in, FitsCall, SlotGoesOn}
 use Rattle.mm_modules.specs.ModulesLaws.{any_is_lawful}
 use Rattle.mm_slots.proofs.Below.{flight_takes_in, meddled, plan_with_meddle, option_map, One}
@@ -91,11 +95,13 @@ left slot new keys tally bound = record slot {
 }
 
 -- A call is over: the slot stands as its event says.
-pub over_comes : (slot slot' : Parts) (flight : CodeFlight) (keys : Unit {0}) (tally : Counted slot) (bound : Bounded slot) (from new : Standing) (event : Event) (it : CallReport)
+pub over_comes : (slot slot' : Parts) (flight : CodeFlight) (keys : Unit {0}) (tally : Counted slot) (bound : Bounded slot)
+    (from new : Standing) (event : Event) (it : CallReport)
     (said : SlotReply) → slot.flight ≡ None → slot.seat.committed < 2 ^ 63
     → (let s = slot_in (parts_with_flight slot flight) in
     Came (instance_in slot) (outcome_in (instance_in slot) s event) s.digests.count s.issued from new it
-    → CallEndsIn it (left slot new keys tally bound) slot' said → SlotComesTo (parts_with_flight slot flight) slot' (event_turn (instance_in slot) s event) said)
+    → CallEndsIn it (left slot new keys tally bound) slot' said → SlotComesTo (parts_with_flight slot flight) slot'
+    (event_turn (instance_in slot) s event) said)
 over_comes slot slot' flight keys tally bound from new event it said none few c e =
     let i = instance_in slot in
     let s = slot_in (parts_with_flight slot flight) in
@@ -150,7 +156,8 @@ goes_planned old new from meddles made next before now planned is =
     }
 
 -- the digests of a slot whose platform has the same cell
-pub digests_kept : (slot : Parts) (before after : Option CodeFlight) (keys : Unit {0}) (tally : Counted slot) (bound : Bounded slot) (new : Standing) → new.cell ≡ slot.seat.platform.cell
+pub digests_kept : (slot : Parts) (before after : Option CodeFlight) (keys : Unit {0}) (tally : Counted slot) (bound : Bounded slot)
+    (new : Standing) → new.cell ≡ slot.seat.platform.cell
     → digests_in (record (left slot new keys tally bound) { flight = after }) ≡ digests_in (record slot { flight = before })
 digests_kept slot before after keys tally bound new e = λ j. record {
   digest = digest_in (e j);
@@ -160,19 +167,23 @@ digests_kept slot before after keys tally bound new e = λ j. record {
 }
 
 -- a call that goes on stands as its fold says
-pub goes_comes : (slot : Parts) (before after : CodeFlight) (keys : Unit {0}) (tally : Counted slot) (bound : Bounded slot) (new : Standing) (step : ℕ)
+pub goes_comes : (slot : Parts) (before after : CodeFlight) (keys : Unit {0}) (tally : Counted slot) (bound : Bounded slot)
+    (new : Standing) (step : ℕ)
     → call_in after ≡ call_in before
     → (let old = slot.seat.platform in let slot' = parts_with_flight (left slot new keys tally bound) after in
     GoesPlanned old new (next_plan old).meddles ((next_plan old).at + 1) → PartsFit slot' → step ≡ (next_plan old).at + 1 + 1
-    → is_nothing (outcome_in (instance_in slot) (slot_in (parts_with_flight slot before)) (event_so_far (flight_of old before))).reply ≡ true
-    → SlotComesTo (parts_with_flight slot before) slot' (step_turn (instance_in slot) (slot_in (parts_with_flight slot before)) (flight_of old before)) (Going step))
+    → is_nothing (outcome_in (instance_in slot) (slot_in (parts_with_flight slot before)) (event_so_far (flight_of old before))).reply
+    ≡ true
+    → SlotComesTo (parts_with_flight slot before) slot' (step_turn (instance_in slot) (slot_in (parts_with_flight slot before))
+    (flight_of old before)) (Going step))
 goes_comes slot before after keys tally bound new step same planned fits number nothing =
     let s = slot_in (parts_with_flight slot before) in
     let f = flight_of slot.seat.platform before in
     let i = instance_in slot in
     let on : SlotTurn = turn_saying (with_flight s (record f { next = f.next + 1 })) (Going (f.next + 1)) in
     let slot' = parts_with_flight (left slot new keys tally bound) after in
-    let P : Bool → Type 0 = λ b. SlotComesTo (parts_with_flight slot before) slot' (cond b on (event_turn i s (event_so_far f))) (Going step) in
+    let P : Bool → Type 0 = λ b. SlotComesTo (parts_with_flight slot before) slot' (cond b on (event_turn i s (event_so_far f)))
+        (Going step) in
     subst P (sym nothing) (record {
       goes = record { fits = fits; header = refl; number = refl };
       stands = λ j. record {
@@ -186,7 +197,8 @@ goes_comes slot before after keys tally bound new step same planned fits number 
 
 -- the slot fits its call in flight
 pub call_of : (slot : Parts) (flight : CodeFlight) → PartsFit (parts_with_flight slot flight)
-    → FitsCall slot.seat.header slot.number (digests_in (parts_with_flight slot flight)) slot.seat.issued.items (vec_capacity slot.seat.issued)
+    → FitsCall slot.seat.header slot.number (digests_in (parts_with_flight slot flight)) slot.seat.issued.items
+    (vec_capacity slot.seat.issued)
     slot.seat.platform flight
 call_of slot flight f = f
 

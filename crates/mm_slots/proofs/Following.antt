@@ -1,7 +1,9 @@
 -- All slots lose their power, and what an event leaves of them.
 use Rattle.mm_slots.proofs.Below.{◌≡◌, ◌∙◌, ◌≤◌, ◌<◌, ◌==◌, ℕ, Bool, true, false, cond, List, [], ◌∷◌, ◌++◌, length, get_or, Option}
-use Rattle.mm_slots.proofs.Below.{refl, sym, ap, arith, option_map_or, slice_get-get_or, ne_eqb, if◌then◌else◌, SlotAction, Power, At, SlotReply}
-use Rattle.mm_slots.proofs.Below.{Meeting, Acts, Loses, Row, rows_after_event, is_cut, cuts_all, event_meetings, SlotActsAt, EventTells, losses_of_others, meetings_at, rows_after_meetings}
+use Rattle.mm_slots.proofs.Below.{refl, sym, ap, arith, option_map_or, slice_get-get_or, ne_eqb, if◌then◌else◌, SlotAction, Power, At}
+use Rattle.mm_slots.proofs.Below.{SlotReply}
+use Rattle.mm_slots.proofs.Below.{Meeting, Acts, Loses, Row, rows_after_event, is_cut, cuts_all, event_meetings, SlotActsAt, EventTells}
+use Rattle.mm_slots.proofs.Below.{losses_of_others, meetings_at, rows_after_meetings}
 use Rattle.mm_slots.proofs.Rowing.{touched_more, touched_none, touched_same}
 
 -- where no slot has the number, all lose their power
@@ -31,7 +33,8 @@ acts_then number k what true false own = rw own refl
 acts_then number k what false true own = rw own refl
 acts_then number k what false false own = rw own refl
 
-pub tells : (number : ℕ) (what : SlotAction) (cuts : Bool) (first second last : List Row) (said : SlotReply) → cuts ≡ cuts_all first number what
+pub tells : (number : ℕ) (what : SlotAction) (cuts : Bool) (first second last : List Row) (said : SlotReply)
+    → cuts ≡ cuts_all first number what
     → SlotActsAt number what first second said → last ≡ rows_after_meetings (λ k. if cuts then losses_of_others number k else []) second
     → EventTells number what first last said
 tells number what cuts first second last said is a l =

@@ -2,11 +2,14 @@
 use Rattle.mm_slots.proofs.Below.{◌≡◌, ◌∙◌, ◌+◌, ◌^◌, ◌≤◌, ◌<◌, ◌==◌, inl, inr, ℕ, zero, suc, Bool, true, false, cond, List}
 use Rattle.mm_slots.proofs.Below.{[], ◌∷◌, length, Option, None, Some, Result, Ok, Err, OnOk, OnErr, refl, sym, ap, subst}
 use Rattle.mm_slots.proofs.Below.{arith, slice_get, slice_set, most_events, most_members}
-use Rattle.mm_slots.proofs.Below.{Batch, One, Quiet, Instance, digest_level, state_after_moves, course_of, few_committed, issues_one, count_none}
+use Rattle.mm_slots.proofs.Below.{Batch, One, Quiet, Instance, digest_level, state_after_moves, course_of, few_committed, issues_one}
+use Rattle.mm_slots.proofs.Below.{count_none}
 use Rattle.mm_slots.proofs.Below.{stop_behind, offered_bytes, is_long, Offer, Event, Ask, Extend, Header}
 use Rattle.mm_slots.proofs.Below.{SlotEvent, Power, At, SlotAction, IsWithin, KeepsAll, Row, row_after, items_by_place}
-use Rattle.mm_slots.proofs.Below.{first_row, first_rows, rows_after_event, event_meetings, cuts_all, RowsLackMemory, OneRowLacksMemory, Tenant, Flight, SlotTurn, Meeting, Acts, Loses}
-use Rattle.mm_slots.proofs.Below.{instance_of, ActionLacksMemory, turn_in_flight, begin_turn, event_by, with_flight, with_meddle, first_flight, turn_saying, event_turn, event_so_far}
+use Rattle.mm_slots.proofs.Below.{first_row, first_rows, rows_after_event, event_meetings, cuts_all, RowsLackMemory, OneRowLacksMemory}
+use Rattle.mm_slots.proofs.Below.{Tenant, Flight, SlotTurn, Meeting, Acts, Loses}
+use Rattle.mm_slots.proofs.Below.{instance_of, ActionLacksMemory, turn_in_flight, begin_turn, event_by, with_flight, with_meddle}
+use Rattle.mm_slots.proofs.Below.{first_flight, turn_saying, event_turn, event_so_far}
 use Rattle.mm_slots.proofs.Below.{Going, is_nothing, outcome_in}
 use Rattle.mm_slots.proofs.Below.{stop_at, turn_by_met, Begun, SlotCall, Asks, Closes}
 use Rattle.std.specs.List.{All}
@@ -46,7 +49,8 @@ begun_grows i slot offer batch (Some bytes) =
     (turn_saying (with_flight slot (first_flight (Asks offer batch))) Begun)
     (plays_grows i slot (Ask [] Quiet offer batch)) (flying_grows slot (Some (first_flight (Asks offer batch))))
 
-acted_grows : (i : Instance) (slot : Tenant) (flight : Option Flight) (what : SlotAction) → Grows slot (turn_in_flight i slot flight what).slot
+acted_grows : (i : Instance) (slot : Tenant) (flight : Option Flight) (what : SlotAction)
+    → Grows slot (turn_in_flight i slot flight what).slot
 acted_grows i slot None (action.Begin offer request) = begun_grows i slot offer (One request) (offered_bytes slot.issued offer)
 acted_grows i slot None action.Close = flying_grows slot (Some (first_flight Closes))
 acted_grows i slot None action.Step = flying_grows slot slot.flight
@@ -56,7 +60,8 @@ acted_grows i slot (Some flight) (action.Begin offer request) = flying_grows slo
 acted_grows i slot (Some flight) action.Close = flying_grows slot slot.flight
 acted_grows i slot (Some flight) action.Step =
     let on = record flight { next = flight.next + 1 } in
-    either_grows slot (is_nothing (outcome_in i slot (event_so_far flight)).reply) (turn_saying (with_flight slot on) (Going (flight.next + 1)))
+    either_grows slot (is_nothing (outcome_in i slot (event_so_far flight)).reply)
+    (turn_saying (with_flight slot on) (Going (flight.next + 1)))
     (event_turn i slot (event_so_far flight)) (flying_grows slot (Some on)) (plays_grows i slot (event_so_far flight))
 acted_grows i slot (Some flight) (action.Break how) =
     plays_grows i slot (event_by flight.call flight.meddles (stop_at how flight.next))
@@ -132,7 +137,8 @@ within_at events (suc n) (first ∷ rows) row is all =
 later : (events : ℕ) (row : Row) → IsWithin events row → IsWithin (events + 1) row
 later events row w = record { few = omega (arith, w.few); short = omega (arith, w.short) }
 
-wants_within : (events number : ℕ) (what : SlotAction) (rows rows' : List Row) → OneRowLacksMemory number what rows rows' → All (IsWithin events) rows
+wants_within : (events number : ℕ) (what : SlotAction) (rows rows' : List Row) → OneRowLacksMemory number what rows rows'
+    → All (IsWithin events) rows
     → All (IsWithin (events + 1)) rows'
 wants_within events number what rows rows' w all =
     let one = grows_within events w.row w.slot (within_at events number rows w.row w.was all)

@@ -1,8 +1,10 @@
 -- One slot of many goes on, or loses its power, and the others stay.
 use Rattle.mm_slots.proofs.Below.{◌≡◌, ◌∙◌, ◌+◌, ◌≤◌, ◌<◌, ◌==◌, ℕ, zero, suc, Bool, true, false, cond, List, [], ◌∷◌, ◌++◌, length, get_or}
 use Rattle.mm_slots.proofs.Below.{slice_set, Option, refl, sym, ap, append-nil, arith, eq-eqb, ne_eqb, eqb-true, nat_tests, if◌then◌else◌}
-use Rattle.mm_slots.proofs.Below.{option_map_or, slice_get-get_or, SlotAction, SlotReply, SlotTurn, Meeting, Acts, Loses, turn_by_action, Row, instance_of, row_after}
-use Rattle.mm_slots.proofs.Below.{items_by_place, OneRowLacksMemory, RowActs, RowLacksMemory, SlotActsAt, rows_after_meetings, meetings_at, losses_of_others, loss_of_one}
+use Rattle.mm_slots.proofs.Below.{option_map_or, slice_get-get_or, SlotAction, SlotReply, SlotTurn, Meeting, Acts, Loses, turn_by_action}
+use Rattle.mm_slots.proofs.Below.{Row, instance_of, row_after}
+use Rattle.mm_slots.proofs.Below.{items_by_place, OneRowLacksMemory, RowActs, RowLacksMemory, SlotActsAt, rows_after_meetings, meetings_at}
+use Rattle.mm_slots.proofs.Below.{losses_of_others, loss_of_one}
 use Rattle.mm_slots.proofs.Below.{Result, Ok, Err, IfOk, OnErr}
 use Rattle.std.specs.Prelude.{nat_lt}
 use Rattle.mm_slots.proofs.Alone.{folded_more}
@@ -17,7 +19,8 @@ touched_from : (f g : ℕ → List Meeting) (place : ℕ) (rows : List Row)
 touched_from f g place [] = refl
 touched_from f g place (row ∷ rows) = λ j. row_more row (f place) (g place) j ∷ touched_from f g (place + 1) rows j
 
-pub touched_more : (f g : ℕ → List Meeting) (rows : List Row) → rows_after_meetings g (rows_after_meetings f rows) ≡ rows_after_meetings (λ k. f k ++ g k) rows
+pub touched_more : (f g : ℕ → List Meeting) (rows : List Row) → rows_after_meetings g (rows_after_meetings f rows) ≡ rows_after_meetings
+    (λ k. f k ++ g k) rows
 touched_more f g rows = touched_from f g 0 rows
 
 same_from : (f g : ℕ → List Meeting) (place : ℕ) (rows : List Row) → ((k : ℕ) → place ≤ k → k < place + length rows → f k ≡ g k)
@@ -28,7 +31,8 @@ same_from f g place (row ∷ rows) same =
     let there = same_from f g (place + 1) rows (λ k low high. same k (omega (arith, low)) (omega (arith, high))) in
     λ j. row_after row (here j) ∷ there j
 
-pub touched_same : (f g : ℕ → List Meeting) (rows : List Row) → ((k : ℕ) → k < length rows → f k ≡ g k) → rows_after_meetings f rows ≡ rows_after_meetings g rows
+pub touched_same : (f g : ℕ → List Meeting) (rows : List Row) → ((k : ℕ) → k < length rows → f k ≡ g k) → rows_after_meetings f rows
+    ≡ rows_after_meetings g rows
 touched_same f g rows same = same_from f g 0 rows (λ k low high. same k (omega (arith, high)))
 
 -- none meets anything
@@ -95,7 +99,8 @@ lacks_at number what rows row d few l = record {
 
 -- all slots but one lose their power, one after another
 
-none_lost : (but number k : ℕ) (here : Bool) → (number == but) ≡ true → (k == number) ≡ here → cond here (losses_of_others but number) [] ≡ []
+none_lost : (but number k : ℕ) (here : Bool) → (number == but) ≡ true → (k == number) ≡ here → cond here (losses_of_others but number) []
+    ≡ []
 none_lost but number k true same own = rw same refl
 none_lost but number k false same own = refl
 
@@ -115,7 +120,8 @@ abbrev pub LostBelow : (but below : ℕ) → List Row → List Row → Type 0
 LostBelow but below old new = new ≡ rows_after_meetings (λ k. if nat_lt k below then losses_of_others but k else []) old
 
 one_more : (but below k : ℕ) (less here : Bool) → nat_lt k below ≡ less → (k == below) ≡ here
-    → cond less (losses_of_others but k) [] ++ cond here (losses_of_others but below) [] ≡ (if nat_lt k (below + 1) then losses_of_others but k else [])
+    → cond less (losses_of_others but k) [] ++ cond here (losses_of_others but below) []
+    ≡ (if nat_lt k (below + 1) then losses_of_others but k else [])
 one_more but below k true true l h = let e : k ≡ below = eqb-true k below h in absurd (grind (arith, nat_tests))
 one_more but below k true false l h =
     let more : nat_lt k (below + 1) ≡ true = grind (arith, nat_tests) in rw more (append-nil (losses_of_others but k))

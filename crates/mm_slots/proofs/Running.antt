@@ -1,11 +1,15 @@
 -- The calls of a slot that are over are a schedule, told by digests; and what is said for it has their replies.
 use Rattle.mm_slots.proofs.Below.{◌≡◌, ◌∙◌, ℕ, Bool, true, false, List, [], ◌∷◌, ◌++◌, Option, None, Some, refl, sym, ap, subst}
 use Rattle.mm_slots.proofs.Below.{Variant, Basic, Opt, Batch, One, Meaning, Instance, first_history, requests_of, is_long, Digests}
-use Rattle.mm_slots.proofs.Below.{digest_level, instance_by, Event, Offer, IsEventRun, RunOutcome, outcome_of_events, outcome_by_lists, outcome_by_digests}
-use Rattle.mm_slots.proofs.Below.{offered_bytes, is_nothing, SlotAction, Tenant, Flight, SlotTurn, Meeting, Acts, Loses, turn_by_met, turn_in_flight, begin_turn}
-use Rattle.mm_slots.proofs.Below.{step_turn, outcome_in, event_so_far, turn_over_all, first_tenant, SlotIsOneRun, SlotsRun, ◌+◌, ap₂, if◌then◌else◌}
+use Rattle.mm_slots.proofs.Below.{digest_level, instance_by, Event, Offer, IsEventRun, RunOutcome, outcome_of_events, outcome_by_lists}
+use Rattle.mm_slots.proofs.Below.{outcome_by_digests}
+use Rattle.mm_slots.proofs.Below.{offered_bytes, is_nothing, SlotAction, Tenant, Flight, SlotTurn, Meeting, Acts, Loses, turn_by_met}
+use Rattle.mm_slots.proofs.Below.{turn_in_flight, begin_turn}
+use Rattle.mm_slots.proofs.Below.{step_turn, outcome_in, event_so_far, turn_over_all, first_tenant, SlotIsOneRun, SlotsRun, ◌+◌, ap₂}
+use Rattle.mm_slots.proofs.Below.{if◌then◌else◌}
 use Rattle.mm_slots.proofs.Alone.{followed_by}
-use Rattle.mm_slots.proofs.Below.{flat_map, flat_map-append, Ask, Reply, Begun, Going, Asks, first_flight, with_flight, turn_saying, event_turn}
+use Rattle.mm_slots.proofs.Below.{flat_map, flat_map-append, Ask, Reply, Begun, Going, Asks, first_flight, with_flight, turn_saying}
+use Rattle.mm_slots.proofs.Below.{event_turn}
 use Rattle.mm_slots.specs.declared.event.SlotAction.TheVariants as action
 use Rattle.mm_platform.specs.declared.plan.Stop.TheVariants as stop
 use Rattle.mm_outcome.specs.Premises.{IsClearRun, IsGenuineRun}
@@ -30,17 +34,21 @@ begun_by : (P : SlotTurn → Type 0) (i : Instance) (slot : Tenant) (offer : Off
     → P (begin_turn i slot offer batch bytes)
 begun_by P i slot offer batch None refuses begins = refuses
 begun_by P i slot offer batch (Some bytes) refuses begins =
-    by_test P (is_long batch) (event_turn i slot (Ask [] stop.Quiet offer batch)) (turn_saying (with_flight slot (first_flight (Asks offer batch))) Begun)
+    by_test P (is_long batch) (event_turn i slot (Ask [] stop.Quiet offer batch))
+    (turn_saying (with_flight slot (first_flight (Asks offer batch))) Begun)
     refuses begins
 
 stepped_by : (P : SlotTurn → Type 0) (i : Instance) (slot : Tenant) (flight : Flight)
-    → P (turn_saying (with_flight slot (record flight { next = flight.next + 1 })) (Going (flight.next + 1))) → P (event_turn i slot (event_so_far flight))
+    → P (turn_saying (with_flight slot (record flight { next = flight.next + 1 })) (Going (flight.next + 1)))
+    → P (event_turn i slot (event_so_far flight))
     → P (step_turn i slot flight)
 stepped_by P i slot flight =
     by_test P (is_nothing (outcome_in i slot (event_so_far flight)).reply)
-    (turn_saying (with_flight slot (record flight { next = flight.next + 1 })) (Going (flight.next + 1))) (event_turn i slot (event_so_far flight))
+    (turn_saying (with_flight slot (record flight { next = flight.next + 1 })) (Going (flight.next + 1)))
+    (event_turn i slot (event_so_far flight))
 
-action_completes : (i : Instance) (slot : Tenant) (flight : Option Flight) (what : SlotAction) → Completes i slot (turn_in_flight i slot flight what)
+action_completes : (i : Instance) (slot : Tenant) (flight : Option Flight) (what : SlotAction)
+    → Completes i slot (turn_in_flight i slot flight what)
 action_completes i slot None (action.Begin offer request) =
     begun_by (Completes i slot) i slot offer (One request) (offered_bytes slot.issued offer)
     (record { state = refl; issued = refl; replies = refl }) (record { state = refl; issued = refl; replies = refl })
@@ -56,7 +64,8 @@ completes_on : SchedulesGoOn → (i : Instance) (slot : Tenant) (first rest : Sl
     → Completes i slot (followed_by first rest)
 completes_on law i slot first rest c r =
     let f = told_from i slot first.events in
-    let joins : told_from i slot (first.events ++ rest.events) ≡ outcome_joined_to f (outcome_of_events i (digest_level i) f.state f.issued rest.events) =
+    let joins : told_from i slot (first.events ++ rest.events) ≡ outcome_joined_to f
+        (outcome_of_events i (digest_level i) f.state f.issued rest.events) =
     (law i first.events rest.events first_history slot.digests slot.issued).1 in
     let same : outcome_of_events i (digest_level i) f.state f.issued rest.events ≡ told_from i first.slot rest.events =
     ap (λ (d : Digests). outcome_of_events i (digest_level i) d f.issued rest.events) c.state

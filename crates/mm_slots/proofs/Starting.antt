@@ -1,7 +1,8 @@
 -- The slots at first: each is as its header and number say.
 use Rattle.mm_slots.proofs.Below.{◌≡◌, ◌∙◌, ◌+◌, ◌<◌, ℕ, List, [], ◌∷◌, ◌++◌, length, take, get_or, None, Some, refl, sym, ap, subst, arith}
 use Rattle.mm_slots.proofs.Below.{length-take-le, take_more, next_plan, Standing, first_history, cell_of}
-use Rattle.mm_slots.proofs.Below.{cell_spelling, meaning_of, first_digests, register_reading, Header, IsQuiet, HasDigests, stands_new, Parts}
+use Rattle.mm_slots.proofs.Below.{cell_spelling, meaning_of, first_digests, register_reading, Header, IsQuiet, HasDigests, stands_new}
+use Rattle.mm_slots.proofs.Below.{Parts}
 use Rattle.mm_slots.proofs.Below.{IsFirst, digests_in, flight_in, instance_in, PartsFit, HasRegister, row_in}
 use Rattle.mm_slots.proofs.Below.{tenant_instance, items_by_place, first_row, first_rows, Row}
 use Rattle.std.proofs.lemmas.List.FromFn.{length-range_with_len}

@@ -1,10 +1,13 @@
 -- The call in flight of a slot: its next step, and a step that breaks it off.
 use Rattle.mm_slots.proofs.Below.{◌≡◌, ◌∙◌, ◌+◌, ◌^◌, ◌<◌, ℕ, Bool, true, false, cond, List, Option, None, Some, Result, Ok, Err, IsSome}
 use Rattle.mm_slots.proofs.Below.{refl, sym, ap, subst, arith, eq-eqb, One, meaning_of, Stop, Quiet, Plan, Standing, next_step}
-use Rattle.mm_slots.proofs.Below.{next_plan, Digests, digest_level, state_after_moves, course_of, rising_from, plan_by, CallReport, is_nothing}
+use Rattle.mm_slots.proofs.Below.{next_plan, Digests, digest_level, state_after_moves, course_of, rising_from, plan_by, CallReport}
+use Rattle.mm_slots.proofs.Below.{is_nothing}
 use Rattle.mm_slots.proofs.Below.{stop_behind, FlightStepsAs, FlightBreaksAs, MayStepOn, asks_stepped, asks_broken_off, closes_stepped}
-use Rattle.mm_slots.proofs.Below.{closes_broken_off, AskInFlight, CheckpointInFlight, CodeFlight, SlotReply, Going, Parts, SlotTurn, outcome_in, event_turn, turn_saying}
-use Rattle.mm_slots.proofs.Below.{with_flight, event_so_far, step_turn, event_by, stop_at, digests_in, slot_in, call_in, instance_in, PartsFit, SlotLacksMemory}
+use Rattle.mm_slots.proofs.Below.{closes_broken_off, AskInFlight, CheckpointInFlight, CodeFlight, SlotReply, Going, Parts, SlotTurn}
+use Rattle.mm_slots.proofs.Below.{outcome_in, event_turn, turn_saying}
+use Rattle.mm_slots.proofs.Below.{with_flight, event_so_far, step_turn, event_by, stop_at, digests_in, slot_in, call_in, instance_in}
+use Rattle.mm_slots.proofs.Below.{PartsFit, SlotLacksMemory}
 use Rattle.mm_slots.proofs.Below.{SlotComesTo, parts_with_flight, flight_in, HasRegister, CallEndsIn, count_none, vec_capacity}
 use Rattle.mm_base.specs.declared.fault.Memory.{Memory}
 use Rattle.mm_platform.specs.Steps.{fault_at}
@@ -31,7 +34,8 @@ use Rattle.mm_slots.specs.declared.event.SlotAction.TheVariants as action
 use Rattle.mm_slots.specs.declared.event.CallBreak.{CallBreak}
 use Rattle.mm_slots.specs.declared.event.CallBreak.TheVariants as breaking
 use Rattle.mm_slots.specs.declared.flight.Flight.TheVariants as code
-use Rattle.mm_slots.proofs.Fitting.{rests, over_comes, flight_of, flight_is, digests_kept, goes_planned, goes_comes, call_of, left, Counted, Bounded}
+use Rattle.mm_slots.proofs.Fitting.{rests, over_comes, flight_of, flight_is, digests_kept, goes_planned, goes_comes, call_of, left, Counted}
+use Rattle.mm_slots.proofs.Fitting.{Bounded}
 
 -- the next step of a call that asks, and of a checkpoint
 pub record AsksStep (slot : Parts) (it : AskInFlight) (new : Standing) (result : Result (FlightOutcome BatchAnswer) Memory) : Type 0 where
@@ -39,7 +43,8 @@ pub record AsksStep (slot : Parts) (it : AskInFlight) (new : Standing) (result :
       (TellsAsk (One it.request)) (write_step_of slot.seat.header.variant) it.call slot.seat.platform new result
   pub room : MayStepOn result new
 
-pub record ClosesStep (slot : Parts) (it : CheckpointInFlight) (new : Standing) (result : Result (FlightOutcome Checkpointed) Memory) : Type 0 where
+pub record ClosesStep (slot : Parts) (it : CheckpointInFlight) (new : Standing)
+    (result : Result (FlightOutcome Checkpointed) Memory) : Type 0 where
   pub steps : FlightStepsAs checkpoint TellsCheckpoint 3 it.call slot.seat.platform new result
   pub room : MayStepOn result new
 
@@ -47,7 +52,8 @@ asks_come : (slot : Parts) (it : AskInFlight) (new : Standing) (result : Result 
     → (fits : PartsFit (parts_with_flight slot (code.Asks it))) → AsksStep slot it new result
     → (let h = slot.seat.header in let d = digests_in (parts_with_flight slot (code.Asks it)) in let p = next_plan slot.seat.platform in
     SteppedTo (asks_so h.variant (meaning_of h.«module») it.bytes (One it.request)) (instance_in slot) d
-    (call_of slot (code.Asks it) fits).from (outcome_of_stopped_ask (instance_in slot) d slot.seat.issued.items p.meddles it.offer (One it.request))
+    (call_of slot (code.Asks it) fits).from (outcome_of_stopped_ask (instance_in slot) d slot.seat.issued.items p.meddles it.offer
+    (One it.request))
     slot.seat.issued.items p.meddles (p.at + 1) new result)
 asks_come slot it new result fits s =
     let h = slot.seat.header in
@@ -61,19 +67,22 @@ closes_come : (slot : Parts) (it : CheckpointInFlight) (new : Standing) (result 
     → (fits : PartsFit (parts_with_flight slot (code.Closes it))) → ClosesStep slot it new result
     → (let d = digests_in (parts_with_flight slot (code.Closes it)) in let p = next_plan slot.seat.platform in
     SteppedTo checkpoint_kind (instance_in slot) d (call_of slot (code.Closes it) fits).from
-    (outcome_of_stopped_closing (instance_in slot) d slot.seat.issued.items p.meddles) slot.seat.issued.items p.meddles (p.at + 1) new result)
+    (outcome_of_stopped_closing (instance_in slot) d slot.seat.issued.items p.meddles) slot.seat.issued.items p.meddles
+    (p.at + 1) new result)
 closes_come slot it new result fits s =
     let h = slot.seat.header in
     let f = call_of slot (code.Closes it) fits in
     let p = next_plan slot.seat.platform in
     closes_stepped it.call slot.seat.platform new result s.steps s.room h.variant (meaning_of h.«module») (rising_from slot.number)
-    (rising_from (128 + slot.number)) (digests_in (parts_with_flight slot (code.Closes it))) f.from slot.seat.issued.items p.meddles (p.at + 1) f.flies
+    (rising_from (128 + slot.number)) (digests_in (parts_with_flight slot (code.Closes it))) f.from slot.seat.issued.items p.meddles
+    (p.at + 1) f.flies
 
 -- a checkpoint wants no memory
 none_told : (stop : Stop) (ended : OpResult Checkpointed CheckpointRefusal) (memory : Memory) → TellsCheckpoint stop ended (Err memory) → ⊥
 none_told stop ended memory told = cc
 
-pub closes_whole : (slot : Parts) (it : CheckpointInFlight) (new : Standing) (memory : Memory) → PartsFit (parts_with_flight slot (code.Closes it))
+pub closes_whole : (slot : Parts) (it : CheckpointInFlight) (new : Standing) (memory : Memory)
+    → PartsFit (parts_with_flight slot (code.Closes it))
     → ClosesStep slot it new (Err memory) → ⊥
 closes_whole slot it new memory fits s =
     let f = call_of slot (code.Closes it) fits in
@@ -89,7 +98,8 @@ quiet_told : (stop : Stop) (ended : OpResult Checkpointed CheckpointRefusal) (it
     → it.snapshot ≡ None
 quiet_told stop ended it told = ap snapshot_in told
 
-pub over_quiet : (slot : Parts) (it : CheckpointInFlight) (new : Standing) (called : CallReport) → PartsFit (parts_with_flight slot (code.Closes it))
+pub over_quiet : (slot : Parts) (it : CheckpointInFlight) (new : Standing) (called : CallReport)
+    → PartsFit (parts_with_flight slot (code.Closes it))
     → ClosesStep slot it new (Ok (steps.Over called)) → called.snapshot ≡ None
 over_quiet slot it new called fits s =
     let f = call_of slot (code.Closes it) fits in
@@ -102,13 +112,16 @@ needs_none None e some = absurd (cc)
 needs_none (Some it) e some = absurd (cc)
 
 -- a call goes on
-flight_goes : (slot : Parts) (before after : CodeFlight) (keys : Unit {0}) (tally : Counted slot) (bound : Bounded slot) (new : Standing) (step : ℕ)
+flight_goes : (slot : Parts) (before after : CodeFlight) (keys : Unit {0}) (tally : Counted slot) (bound : Bounded slot)
+    (new : Standing) (step : ℕ)
     → (fits : PartsFit (parts_with_flight slot before)) → call_in after ≡ call_in before
     → MayGoOn slot.seat.issued.items (vec_capacity slot.seat.issued) after
     → (let p = next_plan slot.seat.platform in
-    SlotCallFlies slot.seat.header (instance_in slot) (digests_in (parts_with_flight slot before)) (call_of slot before fits).from after new p.meddles
+    SlotCallFlies slot.seat.header (instance_in slot) (digests_in (parts_with_flight slot before)) (call_of slot before fits).from
+    after new p.meddles
     (p.at + 1 + 1)
-    → is_nothing (outcome_in (instance_in slot) (slot_in (parts_with_flight slot before)) (event_so_far (flight_of slot.seat.platform before))).reply ≡ true
+    → is_nothing (outcome_in (instance_in slot) (slot_in (parts_with_flight slot before))
+    (event_so_far (flight_of slot.seat.platform before))).reply ≡ true
     → step ≡ p.at + 1 + 1
     → SlotComesTo (parts_with_flight slot before) (parts_with_flight (left slot new keys tally bound) after)
     (step_turn (instance_in slot) (slot_in (parts_with_flight slot before)) (flight_of slot.seat.platform before)) (Going step))
@@ -129,20 +142,27 @@ flight_goes slot before after keys tally bound new step fits same may a nothing 
     (sym (digests_kept slot (Some before) slot'.flight keys tally bound new planned.cell)) a) in
     goes_comes slot before after keys tally bound new step same planned (record { from = f.from; flies = flies; may = may }) number nothing
 
-pub ask_goes : (slot : Parts) (it : AskInFlight) (call : OpStage BatchAnswer) (keys : Unit {0}) (tally : Counted slot) (bound : Bounded slot) (new : Standing) (step : ℕ)
+pub ask_goes : (slot : Parts) (it : AskInFlight) (call : OpStage BatchAnswer) (keys : Unit {0}) (tally : Counted slot)
+    (bound : Bounded slot) (new : Standing) (step : ℕ)
     → PartsFit (parts_with_flight slot (code.Asks it)) → AsksStep slot it new (Ok (steps.Going call))
     → step ≡ number_of (write_step_of slot.seat.header.variant) call
-    → SlotComesTo (parts_with_flight slot (code.Asks it)) (parts_with_flight (left slot new keys tally bound) (code.Asks (record it { call = call })))
-    (step_turn (instance_in slot) (slot_in (parts_with_flight slot (code.Asks it))) (flight_of slot.seat.platform (code.Asks it))) (Going step)
+    → SlotComesTo (parts_with_flight slot (code.Asks it))
+    (parts_with_flight (left slot new keys tally bound) (code.Asks (record it { call = call })))
+    (step_turn (instance_in slot) (slot_in (parts_with_flight slot (code.Asks it))) (flight_of slot.seat.platform (code.Asks it)))
+    (Going step)
 ask_goes slot it call keys tally bound new step fits goes number =
     let t = asks_come slot it new (Ok (steps.Going call)) fits goes in
-    flight_goes slot (code.Asks it) (code.Asks (record it { call = call })) keys tally bound new step fits refl (call_of slot (code.Asks it) fits).may
+    flight_goes slot (code.Asks it) (code.Asks (record it { call = call })) keys tally bound new step fits refl
+        (call_of slot (code.Asks it) fits).may
     t.0 t.1 (number ∙ t.0.number ∙ sym t.0.is_next)
 
-pub close_goes : (slot : Parts) (it : CheckpointInFlight) (call : OpStage Checkpointed) (keys : Unit {0}) (tally : Counted slot) (bound : Bounded slot) (new : Standing) (step : ℕ)
+pub close_goes : (slot : Parts) (it : CheckpointInFlight) (call : OpStage Checkpointed) (keys : Unit {0}) (tally : Counted slot)
+    (bound : Bounded slot) (new : Standing) (step : ℕ)
     → PartsFit (parts_with_flight slot (code.Closes it)) → ClosesStep slot it new (Ok (steps.Going call)) → step ≡ number_of 3 call
-    → SlotComesTo (parts_with_flight slot (code.Closes it)) (parts_with_flight (left slot new keys tally bound) (code.Closes (record { call = call })))
-    (step_turn (instance_in slot) (slot_in (parts_with_flight slot (code.Closes it))) (flight_of slot.seat.platform (code.Closes it))) (Going step)
+    → SlotComesTo (parts_with_flight slot (code.Closes it))
+    (parts_with_flight (left slot new keys tally bound) (code.Closes (record { call = call })))
+    (step_turn (instance_in slot) (slot_in (parts_with_flight slot (code.Closes it))) (flight_of slot.seat.platform (code.Closes it)))
+    (Going step)
 close_goes slot it call keys tally bound new step fits goes number =
     let t = closes_come slot it new (Ok (steps.Going call)) fits goes in
     flight_goes slot (code.Closes it) (code.Closes (record { call = call })) keys tally bound new step fits refl tt t.0 t.1
@@ -152,7 +172,8 @@ close_goes slot it call keys tally bound new step fits goes number =
 stepped_over : (slot slot' : Parts) (flight : CodeFlight) (said : SlotReply) → (let i = instance_in slot in
     let s = slot_in (parts_with_flight slot flight) in
     let f = flight_of slot.seat.platform flight in
-    is_nothing (outcome_in i s (event_so_far f)).reply ≡ false → SlotComesTo (parts_with_flight slot flight) slot' (event_turn i s (event_so_far f)) said
+    is_nothing (outcome_in i s (event_so_far f)).reply ≡ false → SlotComesTo (parts_with_flight slot flight) slot'
+    (event_turn i s (event_so_far f)) said
     → SlotComesTo (parts_with_flight slot flight) slot' (step_turn i s f) said)
 stepped_over slot slot' flight said something c =
     let i = instance_in slot in
@@ -162,18 +183,22 @@ stepped_over slot slot' flight said something c =
     let P : Bool → Type 0 = λ b. SlotComesTo (parts_with_flight slot flight) slot' (cond b on (event_turn i s (event_so_far f))) said in
     subst P (sym something) c
 
-pub ask_over : (slot slot' : Parts) (it : AskInFlight) (keys : Unit {0}) (tally : Counted slot) (bound : Bounded slot) (new : Standing) (called : CallReport) (said : SlotReply)
-    → slot.flight ≡ None → slot.seat.committed < 2 ^ 63 → PartsFit (parts_with_flight slot (code.Asks it)) → AsksStep slot it new (Ok (steps.Over called))
+pub ask_over : (slot slot' : Parts) (it : AskInFlight) (keys : Unit {0}) (tally : Counted slot) (bound : Bounded slot) (new : Standing)
+    (called : CallReport) (said : SlotReply)
+    → slot.flight ≡ None → slot.seat.committed < 2 ^ 63 → PartsFit (parts_with_flight slot (code.Asks it))
+    → AsksStep slot it new (Ok (steps.Over called))
     → CallEndsIn called (left slot new keys tally bound) slot' said → SlotComesTo (parts_with_flight slot (code.Asks it)) slot'
     (step_turn (instance_in slot) (slot_in (parts_with_flight slot (code.Asks it))) (flight_of slot.seat.platform (code.Asks it))) said
 ask_over slot slot' it keys tally bound new called said none few fits goes ends =
     let f = call_of slot (code.Asks it) fits in
     let t = asks_come slot it new (Ok (steps.Over called)) fits goes in
     stepped_over slot slot' (code.Asks it) said t.1
-    (over_comes slot slot' (code.Asks it) keys tally bound f.from new (event_so_far (flight_of slot.seat.platform (code.Asks it))) called said none few t.0
+    (over_comes slot slot' (code.Asks it) keys tally bound f.from new (event_so_far (flight_of slot.seat.platform (code.Asks it))) called
+    said none few t.0
     ends)
 
-pub close_over : (slot slot' : Parts) (it : CheckpointInFlight) (keys : Unit {0}) (tally : Counted slot) (bound : Bounded slot) (new : Standing) (called : CallReport) (said : SlotReply)
+pub close_over : (slot slot' : Parts) (it : CheckpointInFlight) (keys : Unit {0}) (tally : Counted slot) (bound : Bounded slot)
+    (new : Standing) (called : CallReport) (said : SlotReply)
     → slot.flight ≡ None → slot.seat.committed < 2 ^ 63 → PartsFit (parts_with_flight slot (code.Closes it))
     → ClosesStep slot it new (Ok (steps.Over called)) → CallEndsIn called (left slot new keys tally bound) slot' said
     → SlotComesTo (parts_with_flight slot (code.Closes it)) slot'
@@ -182,7 +207,8 @@ close_over slot slot' it keys tally bound new called said none few fits goes end
     let f = call_of slot (code.Closes it) fits in
     let t = closes_come slot it new (Ok (steps.Over called)) fits goes in
     stepped_over slot slot' (code.Closes it) said t.1
-    (over_comes slot slot' (code.Closes it) keys tally bound f.from new (event_so_far (flight_of slot.seat.platform (code.Closes it))) called said none few
+    (over_comes slot slot' (code.Closes it) keys tally bound f.from new (event_so_far (flight_of slot.seat.platform (code.Closes it)))
+    called said none few
     t.0 ends)
 
 -- a call is broken off
@@ -210,7 +236,8 @@ pub breaks_next : (how : CallBreak) (slot : Parts) (flight : CodeFlight) (n : �
 breaks_next how slot flight n fits is =
     let f = call_of slot flight fits in
     let p = next_plan slot.seat.platform in
-    let a = flight_is slot.seat.header (instance_in slot) (digests_in (parts_with_flight slot flight)) f.from flight slot.seat.platform p.meddles
+    let a = flight_is slot.seat.header (instance_in slot) (digests_in (parts_with_flight slot flight)) f.from flight
+        slot.seat.platform p.meddles
     (p.at + 1) f.flies in
     let plan : Plan = record (plan_by Quiet p.meddles) { at = a.made } in
     let next : n ≡ next_step plan = omega (arith, is, a.is_next, a.few) in
@@ -221,16 +248,19 @@ pub ask_next : (slot : Parts) (it : AskInFlight) (n : ℕ) → PartsFit (parts_w
 ask_next slot it n fits is =
     let f = call_of slot (code.Asks it) fits in is ∙ f.flies.number ∙ sym f.flies.is_next
 
-pub close_next : (slot : Parts) (it : CheckpointInFlight) (n : ℕ) → PartsFit (parts_with_flight slot (code.Closes it)) → n ≡ number_of 3 it.call
+pub close_next : (slot : Parts) (it : CheckpointInFlight) (n : ℕ) → PartsFit (parts_with_flight slot (code.Closes it))
+    → n ≡ number_of 3 it.call
     → n ≡ (next_plan slot.seat.platform).at + 1
 close_next slot it n fits is =
     let f = call_of slot (code.Closes it) fits in is ∙ f.flies.number ∙ sym f.flies.is_next
 
-pub ask_broken : (how : CallBreak) (slot slot' : Parts) (it : AskInFlight) (keys : Unit {0}) (tally : Counted slot) (bound : Bounded slot) (new : Standing) (n : ℕ) (called : CallReport)
+pub ask_broken : (how : CallBreak) (slot slot' : Parts) (it : AskInFlight) (keys : Unit {0}) (tally : Counted slot) (bound : Bounded slot)
+    (new : Standing) (n : ℕ) (called : CallReport)
     (said : SlotReply) → slot.flight ≡ None → slot.seat.committed < 2 ^ 63 → PartsFit (parts_with_flight slot (code.Asks it))
     → n ≡ number_of (write_step_of slot.seat.header.variant) it.call
     → FlightBreaksAs (ask_operation slot.seat.header.variant (meaning_of slot.seat.header.«module») it.bytes (One it.request))
-    (TellsAsk (One it.request)) it.call slot.seat.platform new (stop_at how n) called → CallEndsIn called (left slot new keys tally bound) slot' said
+    (TellsAsk (One it.request)) it.call slot.seat.platform new (stop_at how n) called
+    → CallEndsIn called (left slot new keys tally bound) slot' said
     → (let p = next_plan slot.seat.platform in SlotComesTo (parts_with_flight slot (code.Asks it)) slot'
     (event_turn (instance_in slot) (slot_in (parts_with_flight slot (code.Asks it)))
     (event_by (call_in (code.Asks it)) p.meddles (stop_at how (p.at + 1)))) said)
@@ -244,12 +274,16 @@ ask_broken how slot slot' it keys tally bound new n called said none few fits is
     (stop_at how (p.at + 1)) called there (rising_from slot.number) (rising_from (128 + slot.number))
     (digests_in (parts_with_flight slot (code.Asks it))) f.from slot.seat.issued.items p.meddles (p.at + 1) it.offer f.flies f.may.offered
     (stopped_at how (p.at + 1)) in
-    over_comes slot slot' (code.Asks it) keys tally bound f.from new (event_by (call_in (code.Asks it)) p.meddles (stop_at how (p.at + 1))) called
+    over_comes slot slot' (code.Asks it) keys tally bound f.from new (event_by (call_in (code.Asks it)) p.meddles (stop_at how (p.at + 1)))
+    called
     said none few t ends
 
-pub close_broken : (how : CallBreak) (slot slot' : Parts) (it : CheckpointInFlight) (keys : Unit {0}) (tally : Counted slot) (bound : Bounded slot) (new : Standing) (n : ℕ) (called : CallReport)
-    (said : SlotReply) → slot.flight ≡ None → slot.seat.committed < 2 ^ 63 → PartsFit (parts_with_flight slot (code.Closes it)) → n ≡ number_of 3 it.call
-    → FlightBreaksAs checkpoint TellsCheckpoint it.call slot.seat.platform new (stop_at how n) called → CallEndsIn called (left slot new keys tally bound) slot' said
+pub close_broken : (how : CallBreak) (slot slot' : Parts) (it : CheckpointInFlight) (keys : Unit {0}) (tally : Counted slot)
+    (bound : Bounded slot) (new : Standing) (n : ℕ) (called : CallReport)
+    (said : SlotReply) → slot.flight ≡ None → slot.seat.committed < 2 ^ 63 → PartsFit (parts_with_flight slot (code.Closes it))
+    → n ≡ number_of 3 it.call
+    → FlightBreaksAs checkpoint TellsCheckpoint it.call slot.seat.platform new (stop_at how n) called
+    → CallEndsIn called (left slot new keys tally bound) slot' said
     → (let p = next_plan slot.seat.platform in SlotComesTo (parts_with_flight slot (code.Closes it)) slot'
     (event_turn (instance_in slot) (slot_in (parts_with_flight slot (code.Closes it)))
     (event_by (call_in (code.Closes it)) p.meddles (stop_at how (p.at + 1)))) said)
@@ -260,9 +294,11 @@ close_broken how slot slot' it keys tally bound new n called said none few fits 
     let there = subst (λ (k : ℕ). FlightBreaksAs checkpoint TellsCheckpoint it.call slot.seat.platform new (stop_at how k) called)
     (close_next slot it n fits is) breaks in
     let t = closes_broken_off it.call slot.seat.platform new (stop_at how (p.at + 1)) called there h.variant (meaning_of h.«module»)
-    (rising_from slot.number) (rising_from (128 + slot.number)) (digests_in (parts_with_flight slot (code.Closes it))) f.from slot.seat.issued.items
+    (rising_from slot.number) (rising_from (128 + slot.number)) (digests_in (parts_with_flight slot (code.Closes it))) f.from
+    slot.seat.issued.items
     p.meddles (p.at + 1) f.flies (stopped_at how (p.at + 1)) in
-    over_comes slot slot' (code.Closes it) keys tally bound f.from new (event_by (call_in (code.Closes it)) p.meddles (stop_at how (p.at + 1))) called
+    over_comes slot slot' (code.Closes it) keys tally bound f.from new
+    (event_by (call_in (code.Closes it)) p.meddles (stop_at how (p.at + 1))) called
     said none few t ends
 
 -- want of memory: the call is over, and nothing was done but that it has read

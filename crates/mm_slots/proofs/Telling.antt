@@ -1,7 +1,9 @@
 -- Slots show of events what is told of whole slots.
 use Rattle.mm_slots.proofs.Below.{◌≡◌, ◌∙◌, ◌≤◌, ◌<◌, ℕ, Bool, true, false, cond, ◌||◌, ◌==◌, List, [], ◌∷◌, ◌++◌, nat_lt, Option, None}
-use Rattle.mm_slots.proofs.Below.{Some, refl, sym, ap, subst, arith, codes, slice_get, option_map, nat_tests, Header, rest_after_prefix, number_at}
-use Rattle.mm_slots.proofs.Below.{rising_from, SlotEvent, end_lines, event_at, SlotsRun, slots_steps, kept_bytes_in, Row, first_row, first_rows, answers}
+use Rattle.mm_slots.proofs.Below.{Some, refl, sym, ap, subst, arith, codes, slice_get, option_map, nat_tests, Header, rest_after_prefix}
+use Rattle.mm_slots.proofs.Below.{number_at}
+use Rattle.mm_slots.proofs.Below.{rising_from, SlotEvent, end_lines, event_at, SlotsRun, slots_steps, kept_bytes_in, Row, first_row}
+use Rattle.mm_slots.proofs.Below.{first_rows, answers}
 use Rattle.mm_slots.proofs.Below.{slot_meetings, rows_after_all, meaning_of}
 use Rattle.mm_play.specs.StageShows.{StageShows}
 use Rattle.mm_replay.proofs.Above.{promised_run}
@@ -53,7 +55,8 @@ slot_run law headers events number header clear genuine =
 -- each slot's answers are its own, and its calls that are over are one run or give evidence
 slot_told : SlotsRun → RunsAreDecided → (headers : List Header) (events : List SlotEvent) (number : ℕ) (header : Header)
     → slice_get headers number ≡ Some header
-    → IsSlotRun number header (answers (first_rows headers) events) (tenant_turn header number (slot_meetings number (first_rows headers) events))
+    → IsSlotRun number header (answers (first_rows headers) events)
+    (tenant_turn header number (slot_meetings number (first_rows headers) events))
 slot_told law decided headers events number header is = record {
   own = (alone (first_rows headers) events number (first_row number header) (first_at_place headers number header is)).said;
   unless_evidence =

@@ -15,7 +15,8 @@ sum_on f rows n d row before one after few is had counts sums =
     let same : f row ≡ f (get_or rows n d) = ap f is in
     omega (arith, same, had, counts, sums, sum_by_more f rows n d few)
 
-pub requests_few : (rows : List Row) → All (IsWithin most_events) rows → committed_count_in rows ≤ length rows * (most_members * most_events)
+pub requests_few : (rows : List Row) → All (IsWithin most_events) rows → committed_count_in rows
+    ≤ length rows * (most_members * most_events)
 requests_few rows all = sum_by-le (λ (row : Row). row.slot.digests.count) (most_members * most_events) rows
     (All-weaker (IsWithin most_events) (λ row. row.slot.digests.count ≤ most_members * most_events) (λ row w. w.few) rows all)
 

@@ -15,7 +15,8 @@ use Rattle.mm_slots.specs.Table.{SlotAnswer, Row, first_rows, rows_after_all, an
 -- The first line names the number of slots, a header line for each follows, and then events. What
 -- is shown of these is the answers to them, and what stands in the slots behind them: the last
 -- lines count the requests and the snapshots of each slot, and the snapshots are kept.
-abbrev pub slots_player : EventPlayer OpeningStage (List Header) SlotEvent (List SlotAnswer × List Row)
+abbrev pub slots_player : EventPlayer OpeningStage (List Header) SlotEvent
+    (List SlotAnswer × List Row)
 slots_player = record {
   start = AtFirst;
   head = slots_head;
@@ -38,7 +39,8 @@ IsRunOfSlot number header it =
 -- one run of its module, or one holds evidence in hand: two different messages of the slot's run
 -- with one digest, one with digest zero, a value of others that is the guard of a batch, or an
 -- offer that is forged.
-pub record IsSlotRun (number : ℕ) (header : Header) (told : List SlotAnswer) (it : SlotTurn) : Type 0
+pub record IsSlotRun (number : ℕ) (header : Header) (told : List SlotAnswer)
+    (it : SlotTurn) : Type 0
   where
     pub own : slot_replies_for number told ≡ it.said
     pub unless_evidence : IsRunOfSlot number header it
@@ -49,7 +51,8 @@ pub record IsSlotRun (number : ℕ) (header : Header) (told : List SlotAnswer) (
 abbrev pub AreSlotRuns : List Header → List SlotEvent
     → (List SlotEvent → List SlotAnswer × List Row) → Type 0
 AreSlotRuns headers events shown = (front later : List SlotEvent) → events ≡ front ++ later
-    → (shown front ≡ (answers (first_rows headers) front, rows_after_all (first_rows headers) front))
+    → (shown front ≡ (answers (first_rows headers) front, rows_after_all
+    (first_rows headers) front))
     × ((number : ℕ) (header : Header) → slice_get headers number ≡ Some header
     → IsSlotRun number header (shown front).0
     (tenant_turn header number (slot_meetings number (first_rows headers) front)))

@@ -66,7 +66,8 @@ row_in parts =
 
 -- The call is in flight. It was begun over a platform that stood so, at these digests; others have
 -- extended the register by these meddles since; and its next step has this number.
-abbrev pub SlotCallFlies : Header → Instance → Digests → Standing → CodeFlight → Standing → List Meddle → ℕ
+abbrev pub SlotCallFlies : Header → Instance → Digests → Standing → CodeFlight → Standing
+    → List Meddle → ℕ
     → Type 0
 SlotCallFlies header i d from (code.Asks it) now meddles next =
     IsInFlight (asks_so header.variant (meaning_of header.«module») it.bytes (One it.request)) i d

@@ -14,7 +14,8 @@ use Rattle.mm_slots.specs.declared.event.SlotEvent.{SlotEvent}
 use Rattle.mm_slots.specs.declared.said.SlotReply.{SlotReply}
 use Rattle.mm_slots.specs.declared.said.SlotReply.TheVariants.{Replied}
 use Rattle.mm_slots.specs.Tenant.{Tenant, SlotTurn, Meeting, turn_over_all, first_tenant, tenant_turn, tenant_instance}
-use Rattle.mm_slots.specs.Table.{SlotAnswer, Row, instance_of, row_after, rows_after_all, answers, first_rows, slot_meetings, slot_replies_for}
+use Rattle.mm_slots.specs.Table.{SlotAnswer, Row, instance_of, row_after, rows_after_all, answers, first_rows, slot_meetings}
+use Rattle.mm_slots.specs.Table.{slot_replies_for}
 use Rattle.mm_slots.specs.Headline.{AreSlotRuns, IsRunOfSlot}
 
 -- A slot of a table is where its own fold leaves it, and what is said for it is what its fold says:

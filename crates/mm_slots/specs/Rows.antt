@@ -38,14 +38,16 @@ abbrev pub loss_of_one : (number but : ℕ) → ℕ → List Meeting
 loss_of_one number but k = if k == number then losses_of_others but number else []
 
 -- Something happened in the slot with this number, and in no other, and this was said.
-pub record SlotActsAt (number : ℕ) (what : SlotAction) (old new : List Row) (said : SlotReply) : Type 0 where
+pub record SlotActsAt (number : ℕ) (what : SlotAction) (old new : List Row)
+    (said : SlotReply) : Type 0 where
   pub stands : new ≡ rows_after_meetings (meetings_at number (Acts what)) old
   pub says : slot_replies_at old number what ≡ said ∷ []
   pub sayable : IsSayable said
 
 -- Something happened in the slot with this number, by which others may have lost their power, and
 -- this was said.
-pub record EventTells (number : ℕ) (what : SlotAction) (old new : List Row) (said : SlotReply) : Type 0 where
+pub record EventTells (number : ℕ) (what : SlotAction) (old new : List Row)
+    (said : SlotReply) : Type 0 where
   pub stands : new ≡ rows_after_event old (At number what)
   pub says : slot_replies_at old number what ≡ said ∷ []
   pub sayable : IsSayable said

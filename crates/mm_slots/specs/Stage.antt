@@ -30,7 +30,8 @@ slots_state_after r event = record { rows = rows_after_event r.rows event; event
 
 -- Memory was wanting for an event, or for its answer. It counts all the same.
 abbrev pub SlotsLackMemory : SlotsState → SlotEvent → SlotsState → Type 0
-SlotsLackMemory old event new = RowsLackMemory event old.rows new.rows × (new.events ≡ old.events + 1)
+SlotsLackMemory old event new = RowsLackMemory event old.rows new.rows
+    × (new.events ≡ old.events + 1)
 
 -- what is done with events
 abbrev pub slots_steps : EventSteps SlotEvent SlotsState

@@ -1,5 +1,6 @@
 -- The opening of slots ends; and each event that is followed is one more.
-use Rattle.std.specs.Prelude.{◌≡◌, ℕ, ◌+◌, ◌-◌, ◌<◌, ◌^◌, Bool, true, false, min, nat_lt, List, [], ◌∷◌, ◌++◌, length, Option, None, Some, if◌then◌else◌}
+use Rattle.std.specs.Prelude.{◌≡◌, ℕ, ◌+◌, ◌-◌, ◌<◌, ◌^◌, Bool, true, false, min, nat_lt, List, [], ◌∷◌, ◌++◌, length, Option, None, Some}
+use Rattle.std.specs.Prelude.{if◌then◌else◌}
 use Rattle.std.specs.Option.{option_map}
 use Rattle.std.proofs.Common.{refl, sym, ap, subst, arith, length-append}
 use Rattle.std.proofs.lemmas.Bool.Decides.{nat_tests}
@@ -11,7 +12,8 @@ use Rattle.mm_play.specs.Stage.{answer_by}
 use Rattle.mm_play.specs.StageLaws.{same_stage}
 use Rattle.mm_slots.specs.declared.event.SlotEvent.{SlotEvent}
 use Rattle.mm_slots.specs.Grammar.{slot_count_at, event_at}
-use Rattle.mm_slots.specs.Stage.{SlotsState, OpeningStage, AtFirst, AtHeads, slots_state_after, are_to_come, first_slots_state, remaining_heads, slots_steps, slots_heads, slots_stage}
+use Rattle.mm_slots.specs.Stage.{SlotsState, OpeningStage, AtFirst, AtHeads, slots_state_after, are_to_come, first_slots_state}
+use Rattle.mm_slots.specs.Stage.{remaining_heads, slots_steps, slots_heads, slots_stage}
 
 -- a line leads to more lines of the opening
 abbrev LeadsTo : Option (HeadingStep OpeningStage (List Header)) → OpeningStage → Type 0

@@ -10,7 +10,8 @@ use Rattle.mm_slots.specs.declared.event.CallBreak.TheVariants as breaking
 use Rattle.mm_slots.specs.declared.event.SlotEvent.{SlotEvent}
 use Rattle.mm_slots.specs.declared.event.SlotEvent.TheVariants.{Power, At}
 use Rattle.mm_slots.specs.declared.said.SlotReply.{SlotReply}
-use Rattle.mm_slots.specs.Tenant.{Tenant, Flight, ActionLacksMemory, Meeting, Acts, Loses, turn_by_action, turn_over_all, tenant_instance, first_tenant}
+use Rattle.mm_slots.specs.Tenant.{Tenant, Flight, ActionLacksMemory, Meeting, Acts, Loses, turn_by_action, turn_over_all, tenant_instance}
+use Rattle.mm_slots.specs.Tenant.{first_tenant}
 
 -- a slot, its number, and the header of the module in it
 pub record Row : Type 0 where
@@ -48,7 +49,8 @@ items_by_place f place (x ∷ xs) = f place x ∷ items_by_place f (place + 1) x
 
 -- all slots after one event, and after several
 abbrev pub rows_after_event : List Row → SlotEvent → List Row
-rows_after_event rows event = items_by_place (λ number row. row_after row (event_meetings number rows event)) 0 rows
+rows_after_event rows event =
+    items_by_place (λ number row. row_after row (event_meetings number rows event)) 0 rows
 
 abbrev pub rows_after_all : List Row → List SlotEvent → List Row
 rows_after_all rows [] = rows
@@ -85,7 +87,8 @@ answers_to rows (At number what) = map (Says number) (slot_replies_at rows numbe
 
 abbrev pub answers : List Row → List SlotEvent → List SlotAnswer
 answers rows [] = []
-answers rows (event ∷ events) = answers_to rows event ++ answers (rows_after_event rows event) events
+answers rows (event ∷ events) = answers_to rows event
+    ++ answers (rows_after_event rows event) events
 
 -- What the slot with this number meets: what happens in it, in order, and a loss of power at each
 -- that is common and at each cut of another slot's call.

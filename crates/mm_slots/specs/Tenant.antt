@@ -103,7 +103,8 @@ event_so_far flight = event_by flight.call flight.meddles (stop_behind flight.ne
 abbrev pub step_turn : Instance → Tenant → Flight → SlotTurn
 step_turn i slot flight =
     if is_nothing (outcome_in i slot (event_so_far flight)).reply
-    then turn_saying (with_flight slot (record flight { next = flight.next + 1 })) (Going (flight.next + 1))
+    then turn_saying (with_flight slot (record flight { next = flight.next + 1 }))
+        (Going (flight.next + 1))
     else event_turn i slot (event_so_far flight)
 
 abbrev pub stop_at : CallBreak → ℕ → Stop
@@ -140,7 +141,8 @@ turn_by_action i slot what = turn_in_flight i slot slot.flight what
 abbrev pub tenant_after_reading : Instance → Tenant → Flight → Tenant
 tenant_after_reading i slot flight = record slot {
   digests =
-      state_seen i (digest_level i) slot.digests (course_of (stop_behind flight.next) flight.meddles);
+      state_seen i (digest_level i) slot.digests
+      (course_of (stop_behind flight.next) flight.meddles);
   flight = None;
 }
 
@@ -201,4 +203,5 @@ first_tenant i = record { digests = first_digests i; issued = first_issued i; fl
 -- other slot.
 abbrev pub tenant_turn : Header → ℕ → List Meeting → SlotTurn
 tenant_turn header number mets =
-    turn_over_all (tenant_instance header number) (first_tenant (tenant_instance header number)) mets
+    turn_over_all (tenant_instance header number) (first_tenant (tenant_instance header number))
+    mets

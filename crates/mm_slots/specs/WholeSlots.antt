@@ -19,12 +19,14 @@ issued_count_in rows = sum_by (λ (row : Row). length row.slot.issued) rows
 abbrev pub ReportsSlots : SlotsStage → SlotReport → Type 0
 ReportsSlots (AtHeading at) report = (report.committed ≡ 0) × (report.issued ≡ 0)
 ReportsSlots (InEvents r) report =
-    (report.committed ≡ committed_count_in r.stage.rows) × (report.issued ≡ issued_count_in r.stage.rows)
+    (report.committed ≡ committed_count_in r.stage.rows)
+    × (report.issued ≡ issued_count_in r.stage.rows)
 
 -- What was taken of the input and written fits the answer line by line; and as a whole it is the
 -- answers to the events, each slot's its own, with the headline.
 abbrev pub PlaysSlots : (left left' received received' : Option (List ℕ))
     → Result SlotReport ReplayFault → Type 0
 PlaysSlots left left' received received' result =
-    PlaysEvents slots_player AreSlotRuns slots_heads slots_stage ReportsSlots left left' received received'
+    PlaysEvents slots_player AreSlotRuns slots_heads slots_stage ReportsSlots left left'
+    received received'
     result

@@ -43,8 +43,10 @@ impl Parts {
     pub fn begin(&mut self, alloc: Global, offer: Offer, request: Bytes) -> Result<SlotReply, Memory>
         requires fits { PartsFit self.old }
         ensures ok { IfOk result (SlotComesTo self.old self.new
-            (turn_by_action (instance_in self.old) (slot_in self.old) (SlotAction.Begin offer request))) }
-        ensures err { OnErr result (SlotLacksMemory (SlotAction.Begin offer request) self.old self.new) }
+            (turn_by_action (instance_in self.old) (slot_in self.old)
+            (SlotAction.Begin offer request))) }
+        ensures err { OnErr result
+            (SlotLacksMemory (SlotAction.Begin offer request) self.old self.new) }
     {
         if self.flight.is_some() {
             return Ok(SlotReply::Busy);
@@ -64,7 +66,8 @@ impl Parts {
         requires offered { offered_bytes self.old.seat.issued.items offer ≡ Some bytes }
         requires room { vec_len self.old.seat.issued < vec_capacity self.old.seat.issued }
         ensures { SlotComesTo self.old self.new
-            (turn_by_action (instance_in self.old) (slot_in self.old) (SlotAction.Begin offer request)) result }
+            (turn_by_action (instance_in self.old) (slot_in self.old)
+            (SlotAction.Begin offer request)) result }
     {
         if is_long(&Batch::One(request.as_slice())) {
             return SlotReply::Replied(Reply::No(Cause::Long));
@@ -83,11 +86,14 @@ impl Parts {
         requires idle { self.old.flight ≡ None }
         requires fits { PartsFit (parts_with_flight self.old (Flight.Asks asking)) }
         requires few { self.old.seat.committed < 2 ^ 63 }
-        ensures ok { IfOk result (SlotComesTo (parts_with_flight self.old (Flight.Asks asking)) self.new
-            (turn_by_action (instance_in self.old) (slot_in (parts_with_flight self.old (Flight.Asks asking)))
+        ensures ok { IfOk result
+            (SlotComesTo (parts_with_flight self.old (Flight.Asks asking)) self.new
+            (turn_by_action (instance_in self.old)
+            (slot_in (parts_with_flight self.old (Flight.Asks asking)))
             SlotAction.Step)) }
         ensures err { OnErr result
-            (SlotLacksMemory SlotAction.Step (parts_with_flight self.old (Flight.Asks asking)) self.new) }
+            (SlotLacksMemory SlotAction.Step (parts_with_flight self.old (Flight.Asks asking))
+            self.new) }
     {
         let AskInFlight {
             call,
@@ -131,7 +137,8 @@ impl Parts {
         requires fits { PartsFit (parts_with_flight self.old (Flight.Asks asking)) }
         requires few { self.old.seat.committed < 2 ^ 63 }
         ensures { SlotComesTo (parts_with_flight self.old (Flight.Asks asking)) self.new
-            (turn_by_action (instance_in self.old) (slot_in (parts_with_flight self.old (Flight.Asks asking)))
+            (turn_by_action (instance_in self.old)
+            (slot_in (parts_with_flight self.old (Flight.Asks asking)))
             (SlotAction.Break how)) result }
     {
         let AskInFlight {

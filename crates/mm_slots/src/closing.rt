@@ -35,7 +35,8 @@ impl Parts {
         requires fits { PartsFit (parts_with_flight self.old (Flight.Closes closing)) }
         requires few { self.old.seat.committed < 2 ^ 63 }
         ensures { SlotComesTo (parts_with_flight self.old (Flight.Closes closing)) self.new
-            (turn_by_action (instance_in self.old) (slot_in (parts_with_flight self.old (Flight.Closes closing)))
+            (turn_by_action (instance_in self.old)
+            (slot_in (parts_with_flight self.old (Flight.Closes closing)))
             SlotAction.Step) result }
     {
         let seat = &mut self.seat;
@@ -56,7 +57,8 @@ impl Parts {
         requires fits { PartsFit (parts_with_flight self.old (Flight.Closes closing)) }
         requires few { self.old.seat.committed < 2 ^ 63 }
         ensures { SlotComesTo (parts_with_flight self.old (Flight.Closes closing)) self.new
-            (turn_by_action (instance_in self.old) (slot_in (parts_with_flight self.old (Flight.Closes closing)))
+            (turn_by_action (instance_in self.old)
+            (slot_in (parts_with_flight self.old (Flight.Closes closing)))
             (SlotAction.Break how)) result }
     {
         let stop = stop_at(how, closing.call.next_step(OptCheckpoint.write_step()));

@@ -16,8 +16,10 @@ impl Parts {
     pub fn extend(&mut self, value: &Digest) -> Result<SlotReply, Memory>
         requires fits { PartsFit self.old }
         ensures ok { IfOk result (SlotComesTo self.old self.new
-            (turn_by_action (instance_in self.old) (slot_in self.old) (SlotAction.Extend value.now))) }
-        ensures err { OnErr result (SlotLacksMemory (SlotAction.Extend value.now) self.old self.new) }
+            (turn_by_action (instance_in self.old) (slot_in self.old)
+            (SlotAction.Extend value.now))) }
+        ensures err { OnErr result (SlotLacksMemory (SlotAction.Extend value.now) self.old self.new)
+            }
     {
         match &self.flight {
             None => self.extend_now(value),
@@ -30,8 +32,10 @@ impl Parts {
         requires fits { PartsFit self.old }
         requires idle { self.old.flight ≡ None }
         ensures ok { IfOk result (SlotComesTo self.old self.new
-            (turn_by_action (instance_in self.old) (slot_in self.old) (SlotAction.Extend value.now))) }
-        ensures err { OnErr result (SlotLacksMemory (SlotAction.Extend value.now) self.old self.new) }
+            (turn_by_action (instance_in self.old) (slot_in self.old)
+            (SlotAction.Extend value.now))) }
+        ensures err { OnErr result (SlotLacksMemory (SlotAction.Extend value.now) self.old self.new)
+            }
     {
         let reply = self.seat.extend(value)?;
         self.register = *self.seat.platform.register();
@@ -43,8 +47,10 @@ impl Parts {
         requires fits { PartsFit self.old }
         requires flies { IsSome self.old.flight }
         ensures ok { IfOk result (SlotComesTo self.old self.new
-            (turn_by_action (instance_in self.old) (slot_in self.old) (SlotAction.Extend value.now))) }
-        ensures err { OnErr result (SlotLacksMemory (SlotAction.Extend value.now) self.old self.new) }
+            (turn_by_action (instance_in self.old) (slot_in self.old)
+            (SlotAction.Extend value.now))) }
+        ensures err { OnErr result (SlotLacksMemory (SlotAction.Extend value.now) self.old self.new)
+            }
     {
         self.seat.platform.meddle_next(value)?;
         Ok(SlotReply::Replied(Reply::Extended))

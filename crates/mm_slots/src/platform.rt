@@ -132,7 +132,8 @@ impl Nv for SlotPlatform {
     }
 
     fn nv_write(&mut self, bytes: &[u8; CELL_LENGTH]) -> Result<(), StepFault>
-        ensures goes { StepGoes (WriteCell bytes.now) (selected_standing self.old) (selected_standing self.new)
+        ensures goes { StepGoes (WriteCell bytes.now) (selected_standing self.old)
+            (selected_standing self.new)
             (result_err result) }
         ensures others { KeepsOthers self.old self.new }
     {
@@ -148,7 +149,8 @@ impl Register for SlotPlatform {
     ghost use Rattle.mm_slots.specs.Slots.{selected_standing, KeepsOthers};
 
     fn reg_ready(&mut self) -> Result<(), Memory>
-        ensures ok { OnOk result (RoomGrows (selected_standing self.old) (selected_standing self.new)) }
+        ensures ok { OnOk result
+            (RoomGrows (selected_standing self.old) (selected_standing self.new)) }
         ensures err { OnErr result (selected_standing self.new ≡ selected_standing self.old) }
         ensures others { KeepsOthers self.old self.new }
     {
@@ -156,7 +158,8 @@ impl Register for SlotPlatform {
     }
 
     fn reg_read(&mut self) -> Result<Digest, StepFault>
-        ensures goes { StepGoes ReadRegister (selected_standing self.old) (selected_standing self.new)
+        ensures goes { StepGoes ReadRegister (selected_standing self.old)
+            (selected_standing self.new)
             (result_err result) }
         ensures read { IfOk result (λ value. (items : List Item)
             → (selected_standing self.new).items ≡ Some items
@@ -167,7 +170,8 @@ impl Register for SlotPlatform {
     }
 
     fn reg_reset(&mut self) -> Result<(), StepFault>
-        ensures goes { StepGoes ResetRegister (selected_standing self.old) (selected_standing self.new)
+        ensures goes { StepGoes ResetRegister (selected_standing self.old)
+            (selected_standing self.new)
             (result_err result) }
         ensures others { KeepsOthers self.old self.new }
     {
@@ -191,7 +195,8 @@ impl Platform for SlotPlatform {
     ghost use Rattle.mm_slots.specs.Slots.{selected_standing, slots_after_cycle};
 
     fn cycle(&mut self) -> Result<(), StepFault>
-        ensures cycles { PowerCycles (selected_standing self.old) (selected_standing self.new) (result_err result) }
+        ensures cycles { PowerCycles (selected_standing self.old) (selected_standing self.new)
+            (result_err result) }
         ensures all { self.new ≡ slots_after_cycle self.old }
     {
         SlotPlatform::cycle_all(self);

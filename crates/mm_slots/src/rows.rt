@@ -61,7 +61,8 @@ fn lose_all(slots: &mut [Tenant], but: usize)
 
 // Where a call was cut, all slots lose their power but the one with this number.
 fn lose_if(slots: &mut [Tenant], but: usize, is_cut: bool)
-    ensures { slots.new ≡ rows_after_meetings (λ k. if is_cut then losses_of_others but k else []) slots.old }
+    ensures { slots.new ≡ rows_after_meetings (λ k. if is_cut then losses_of_others but k else [])
+        slots.old }
 {
     if is_cut {
         lose_all(slots, but);

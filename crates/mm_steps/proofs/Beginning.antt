@@ -1,5 +1,6 @@
 -- How a call in flight begins, and takes in a value of others.
-use Rattle.mm_steps.proofs.Below.{◌≡◌, ℕ, ◌<◌, List, [], Some, refl, sym, subst, option_map, Variant, Meddle, Plan, Standing, plan_with_meddle}
+use Rattle.mm_steps.proofs.Below.{◌≡◌, ℕ, ◌<◌, List, [], Some, refl, sym, subst, option_map, Variant, Meddle, Plan, Standing}
+use Rattle.mm_steps.proofs.Below.{plan_with_meddle}
 use Rattle.mm_steps.proofs.Below.{next_plan, Meaning, Batch, Digests, instance_by, OpEnds, OpStage, Begun, begins, takes_in, meddled}
 use Rattle.mm_steps.proofs.Below.{MayGoOn, HasDigests, IsQuiet, ask_kind, checkpoint_kind, IsInFlight, Kind}
 use Rattle.mm_digest.specs.declared.digest.Digest.{Digest}

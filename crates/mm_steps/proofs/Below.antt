@@ -32,7 +32,8 @@ pub use Rattle.mm_machine.specs.declared.change.Change.{Change as Move}
 pub use Rattle.mm_machine.specs.declared.change.Change.TheVariants.{Emptying, Extending, Placing, Writing}
 pub use Rattle.mm_flight.specs.Flight.{PlanAgreesWith, plan_by, PlansAgreeAt, standing_under}
 pub use Rattle.mm_flight.specs.Machine.{CallEndsUnder, fault_of_step, CallFlies, is_broken}
-pub use Rattle.mm_flight.proofs.Above.{AlwaysFails, begins, commits_at, counted_few, finish_breaks, goes_on, may_planned, meddled, replans, Replans}
+pub use Rattle.mm_flight.proofs.Above.{AlwaysFails, begins, commits_at, counted_few, finish_breaks, goes_on, may_planned, meddled, replans}
+pub use Rattle.mm_flight.proofs.Above.{Replans}
 pub use Rattle.mm_flight.proofs.Above.{steps_fail, steps_faultless, steps_move, steps_over, steps_then, steps_under, takes_in}
 pub use Rattle.mm_world.specs.declared.call.CallReport.{CallReport}
 pub use Rattle.mm_world.specs.OwnCalls.{CallComesTo, HasRead}
@@ -40,5 +41,6 @@ pub use Rattle.mm_world.specs.Calls.{SettlesPlan, stopped_step}
 pub use Rattle.mm_world.specs.PlannedCall.{TellsAsk, TellsCheckpoint, WasPlanned}
 pub use Rattle.mm_world.specs.WorldStanding.{IsQuiet, HasDigests}
 pub use Rattle.mm_steps.specs.FlightSteps.{plan_behind, FlightBreaksAs, FlightGoesOn, IsOver, MayStepOn, FlightStepsAs}
-pub use Rattle.mm_steps.specs.FlightKind.{outcome_of_stopped_ask, ask_kind, checkpoint_kind, outcome_of_stopped_closing, IsInFlight, Kind, StepComesTo}
+pub use Rattle.mm_steps.specs.FlightKind.{outcome_of_stopped_ask, ask_kind, checkpoint_kind, outcome_of_stopped_closing, IsInFlight, Kind}
+pub use Rattle.mm_steps.specs.FlightKind.{StepComesTo}
 pub use Rattle.mm_steps.specs.FlightStop.{BreaksNext, is_nothing, stop_behind}

@@ -1,9 +1,13 @@
 -- The next step of a call in flight, and a step that breaks it off.
 use Rattle.mm_steps.proofs.Below.{◌≡◌, ℕ, ◌+◌, ◌<◌, ◌≤◌, true, false, List, Option, Some, None, Result, Ok, Err, refl, sym, ◌∙◌}
-use Rattle.mm_steps.proofs.Below.{subst, arith, option_map, next_count, Memory, StepFault, Failed, Meddle, Stop, Quiet, Plan, Standing, plan_with_stop}
-use Rattle.mm_steps.proofs.Below.{standing_after_step, number_in, OpMeaning, OpEnds, act_of, MayGoOn, number_of, OpSteps, OpResult, Broken, OpStage}
-use Rattle.mm_steps.proofs.Below.{Begun, Seen, Changing, StepResult, Going, Over, Move, Extending, Emptying, Placing, Writing, plan_by, standing_under}
-use Rattle.mm_steps.proofs.Below.{CallEndsUnder, fault_of_step, CallFlies, is_broken, AlwaysFails, commits_at, finish_breaks, goes_on, may_planned, steps_fail}
+use Rattle.mm_steps.proofs.Below.{subst, arith, option_map, next_count, Memory, StepFault, Failed, Meddle, Stop, Quiet, Plan, Standing}
+use Rattle.mm_steps.proofs.Below.{plan_with_stop}
+use Rattle.mm_steps.proofs.Below.{standing_after_step, number_in, OpMeaning, OpEnds, act_of, MayGoOn, number_of, OpSteps, OpResult, Broken}
+use Rattle.mm_steps.proofs.Below.{OpStage}
+use Rattle.mm_steps.proofs.Below.{Begun, Seen, Changing, StepResult, Going, Over, Move, Extending, Emptying, Placing, Writing, plan_by}
+use Rattle.mm_steps.proofs.Below.{standing_under}
+use Rattle.mm_steps.proofs.Below.{CallEndsUnder, fault_of_step, CallFlies, is_broken, AlwaysFails, commits_at, finish_breaks, goes_on}
+use Rattle.mm_steps.proofs.Below.{may_planned, steps_fail}
 use Rattle.mm_steps.proofs.Below.{steps_faultless, steps_move, steps_over, steps_then, steps_under, CallReport, SettlesPlan, stopped_step}
 use Rattle.mm_steps.proofs.Below.{plan_behind, FlightBreaksAs, FlightGoesOn, IsOver, BreaksNext, stop_behind}
 use Rattle.std.specs.Result.{IsOk}
@@ -36,7 +40,8 @@ few_made number made few e = omega arith
 
 module _ {A R : Type 0} (o : OpMeaning A R) (from : Standing) (meddles : List Meddle) (made : ℕ) (stage : OpStage A) (now : Standing)
     (f : CallFlies o from meddles made stage now) where
-  flies_on : (on : OpStage A) (new : Standing) → OpSteps o stage now new (Going on) → made + 1 < 255 → CallFlies o from meddles (made + 1) on new
+  flies_on : (on : OpStage A) (new : Standing) → OpSteps o stage now new (Going on) → made + 1 < 255
+      → CallFlies o from meddles (made + 1) on new
   flies_on on new s few =
       goes_on (OpEnds o Begun) (OpEnds o stage) (OpEnds o on) from now new meddles made f (steps_move o stage on now new s) few
       (λ plan r end ended rest. steps_then o stage on (standing_under plan made now) (standing_under plan (next_count made) new) end ended
@@ -52,7 +57,8 @@ module _ {A R : Type 0} (o : OpMeaning A R) (from : Standing) (meddles : List Me
       (steps_under o plan (plan_by Quiet meddles) made now r stage new (Over ended) s))
 
   -- it has done nothing yet: its next step may still fail without effect
-  pub flies_failing : CallEndsUnder o from meddles (stop_behind made) (standing_after_step (act_of stage) (standing_under (plan_behind meddles made) made now))
+  pub flies_failing : CallEndsUnder o from meddles (stop_behind made)
+      (standing_after_step (act_of stage) (standing_under (plan_behind meddles made) made now))
       (Broken Failed (commits_at o stage))
   flies_failing =
       let plan : Plan = plan_behind meddles made in
@@ -96,7 +102,8 @@ module _ {A R : Type 0} (o : OpMeaning A R) (writes : ℕ) (stage : OpStage A) (
           middle = standing_under (plan_behind meddles (made + 1)) (next_count made) mid;
           ended = ended;
           ends = flies_over o from meddles made stage old f mid ended s';
-          settles = settled_under (stop_behind (made + 1)) (is_broken ended) (plan_behind meddles (made + 1)) (next_count made) mid new settled;
+          settles = settled_under (stop_behind (made + 1)) (is_broken ended) (plan_behind meddles (made + 1))
+              (next_count made) mid new settled;
           told = subst (λ (r : Result CallReport Memory). tells (stop_behind (made + 1)) ended r) e
               (subst (λ (k : ℕ). tells (stop_behind k) ended called) (counts ∙ n) told);
         };
@@ -108,7 +115,8 @@ never_ok memory ok = cc
 
 module _ {A R : Type 0} (o : OpMeaning A R) (stage : OpStage A) (old stopped mid : Standing) (stop : Stop) (ended : OpResult A R)
     (is : stopped ≡ record old { plan = option_map (plan_with_stop stop) old.plan }) (finishes : OpEnds o stage stopped mid ended) where
-  pub broken_off : (tells : Stop → OpResult A R → Result CallReport Memory → Type 0) (new : Standing) (called : Result CallReport Memory) (it : CallReport)
+  pub broken_off : (tells : Stop → OpResult A R → Result CallReport Memory → Type 0) (new : Standing) (called : Result CallReport Memory)
+      (it : CallReport)
       → SettlesPlan stop (is_broken ended) mid new → tells stop ended called → called ≡ Ok it → FlightBreaksAs o tells stage old new stop it
   broken_off tells new called it settles told e = λ from meddles made f at. record {
     middle = mid;
@@ -123,14 +131,16 @@ module _ {A R : Type 0} (o : OpMeaning A R) (stage : OpStage A) (old stopped mid
       finish_breaks o stage stopped mid ended (subst (λ (s : Standing). AlwaysFails s) (sym is) (always_fails stop old breaks)) finishes
 
   wants : (tells : Stop → OpResult A R → Result CallReport Memory → Type 0) (it : OpResult A R) (memory : Memory)
-      → ((fault : StepFault) (commits : Option ℕ) (result : Result CallReport Memory) → tells stop (Broken fault commits) result → IsOk result)
+      → ((fault : StepFault) (commits : Option ℕ) (result : Result CallReport Memory) → tells stop (Broken fault commits) result
+      → IsOk result)
       → is_broken it ≡ true → tells stop it (Err memory) → ⊥
   wants tells (Broken fault commits) memory law broken told = never_ok memory (law fault commits (Err memory) told)
   wants tells _ memory law broken told = absurd (cc)
 
   -- a call that was broken off wants no memory
   pub wants_none : (tells : Stop → OpResult A R → Result CallReport Memory → Type 0) (called : Result CallReport Memory) (memory : Memory)
-      → ((fault : StepFault) (commits : Option ℕ) (result : Result CallReport Memory) → tells stop (Broken fault commits) result → IsOk result)
+      → ((fault : StepFault) (commits : Option ℕ) (result : Result CallReport Memory) → tells stop (Broken fault commits) result
+      → IsOk result)
       → BreaksNext stop old → tells stop ended called → called ≡ Err memory → ⊥
   wants_none tells called memory law breaks told e =
       wants tells ended memory law (is_cut_off breaks) (subst (λ (r : Result CallReport Memory). tells stop ended r) e told)

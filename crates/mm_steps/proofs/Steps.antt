@@ -1,9 +1,12 @@
 -- What the next step of a call in flight, and one that breaks it off, come to by the call's event.
 use Rattle.mm_steps.proofs.Below.{◌≡◌, ℕ, ◌+◌, Bool, true, false, ◌&&◌, List, Option, None, Some, Result, Ok, Err, refl, sym, ap, ◌∙◌}
 use Rattle.mm_steps.proofs.Below.{subst, is_some, MatchResult, Memory, Variant, Failed, Meddle, Stop, Fail, Standing}
-use Rattle.mm_steps.proofs.Below.{quiet_plan, standing_after_step, Batch, size_of, Meaning, Digests, instance_by, act_of, number_of, OpSteps, OpResult, Broken}
-use Rattle.mm_steps.proofs.Below.{OpStage, Going, standing_under, plan_by, is_broken, commits_at, CallReport, CallComesTo, HasRead, stopped_step, TellsAsk, TellsCheckpoint}
-use Rattle.mm_steps.proofs.Below.{WasPlanned, IsQuiet, HasDigests, FlightBreaksAs, MayStepOn, FlightStepsAs, outcome_of_stopped_ask, ask_kind, checkpoint_kind, outcome_of_stopped_closing}
+use Rattle.mm_steps.proofs.Below.{quiet_plan, standing_after_step, Batch, size_of, Meaning, Digests, instance_by, act_of, number_of}
+use Rattle.mm_steps.proofs.Below.{OpSteps, OpResult, Broken}
+use Rattle.mm_steps.proofs.Below.{OpStage, Going, standing_under, plan_by, is_broken, commits_at, CallReport, CallComesTo, HasRead}
+use Rattle.mm_steps.proofs.Below.{stopped_step, TellsAsk, TellsCheckpoint}
+use Rattle.mm_steps.proofs.Below.{WasPlanned, IsQuiet, HasDigests, FlightBreaksAs, MayStepOn, FlightStepsAs, outcome_of_stopped_ask}
+use Rattle.mm_steps.proofs.Below.{ask_kind, checkpoint_kind, outcome_of_stopped_closing}
 use Rattle.mm_steps.proofs.Below.{IsInFlight, Kind, StepComesTo, is_nothing, stop_behind}
 use Rattle.mm_model.specs.Instance.{Instance}
 use Rattle.mm_model.specs.Long.{is_long}
@@ -72,7 +75,8 @@ module _ {A R : Type 0} (kind : Kind A R) (tells : Stop → OpResult A R → Res
       subst (λ (k : ℕ). is_nothing (event (Fail k false)).reply ≡ true) (sym f.is_next) said
 
   module _ (stage : OpStage A) (old : Standing) (next : ℕ) (f : IsInFlight kind i d from stage old meddles next) (new : Standing) where
-    step_comes : (result : Result (FlightOutcome A) Memory) → FlightStepsAs kind.asked tells kind.writes stage old new result → MayStepOn result new
+    step_comes : (result : Result (FlightOutcome A) Memory) → FlightStepsAs kind.asked tells kind.writes stage old new result
+        → MayStepOn result new
         → StepComesTo kind i d from event issued meddles next new result
     step_comes (Ok (stepped.Going on)) steps may =
         let g = steps from meddles f.made f.flies f.number in
@@ -114,7 +118,8 @@ refused_so : (why : Refusal) (it : CallReport) → IsRefusalResult why (Ok it) �
 refused_so refusal.Memory it r = absurd (cc)
 refused_so _ it r = ap says_nothing r
 
-something : (stop : Stop) (size : ℕ) (ended : CallEnded) (it : CallReport) → call_broken ended ≡ false → IsCallResult stop size ended (Ok it)
+something : (stop : Stop) (size : ℕ) (ended : CallEnded) (it : CallReport) → call_broken ended ≡ false
+    → IsCallResult stop size ended (Ok it)
     → is_nothing it.reply ≡ false
 something stop size (ended.Answered answer) it whole told = ap says_nothing told
 something stop size (ended.Refused why) it whole told = refused_so why it told
@@ -126,7 +131,8 @@ module _ (variant : Variant) (meaning : Meaning) (key barrier : List ℕ) (d : D
   instance = instance_by variant meaning key barrier
 
   asks_know : is_long b ≡ false → offered_bytes issued offer ≡ Some bytes → HasDigests instance from d → IsQuiet from
-      → Knows (ask_kind variant meaning bytes b) (TellsAsk b) instance d from (outcome_of_stopped_ask instance d issued meddles offer b) issued meddles
+      → Knows (ask_kind variant meaning bytes b) (TellsAsk b) instance d from (outcome_of_stopped_ask instance d issued meddles offer b)
+      issued meddles
   asks_know short offered s q = record {
     comes = λ stop new result w.
         subst (λ (x : Option (List ℕ)). MatchResult result
@@ -144,7 +150,8 @@ module _ (variant : Variant) (meaning : Meaning) (key barrier : List ℕ) (d : D
 module _ (variant : Variant) (meaning : Meaning) (bytes : List ℕ) (b : Batch) (short : is_long b ≡ false) (stage : OpStage BatchAnswer)
     (old new : Standing) where
   pub asks_stepped : (result : Result (FlightOutcome BatchAnswer) Memory)
-      → FlightStepsAs (ask_operation variant meaning bytes b) (TellsAsk b) (write_step_of variant) stage old new result → MayStepOn result new
+      → FlightStepsAs (ask_operation variant meaning bytes b) (TellsAsk b) (write_step_of variant) stage old new result
+      → MayStepOn result new
       → (key barrier : List ℕ) (d : Digests) (from : Standing) (issued : List (List ℕ)) (meddles : List Meddle) (next : ℕ) (offer : Offer)
       → IsInFlight (ask_kind variant meaning bytes b) (instance_by variant meaning key barrier) d from stage old meddles next
       → offered_bytes issued offer ≡ Some bytes
@@ -156,7 +163,8 @@ module _ (variant : Variant) (meaning : Meaning) (bytes : List ℕ) (b : Batch) 
       (asks_know variant meaning key barrier d from issued meddles offer bytes b short offered f.stands f.quiet) stage old next f new result
       steps may
 
-  pub asks_broken_off : (stop : Stop) (it : CallReport) → FlightBreaksAs (ask_operation variant meaning bytes b) (TellsAsk b) stage old new stop it
+  pub asks_broken_off : (stop : Stop) (it : CallReport) → FlightBreaksAs (ask_operation variant meaning bytes b) (TellsAsk b)
+      stage old new stop it
       → (key barrier : List ℕ) (d : Digests) (from : Standing) (issued : List (List ℕ)) (meddles : List Meddle) (next : ℕ) (offer : Offer)
       → IsInFlight (ask_kind variant meaning bytes b) (instance_by variant meaning key barrier) d from stage old meddles next
       → offered_bytes issued offer ≡ Some bytes → stopped_step stop ≡ next
@@ -164,7 +172,8 @@ module _ (variant : Variant) (meaning : Meaning) (bytes : List ℕ) (b : Batch) 
       CallComesTo i (outcome_of_stopped_ask i d issued meddles offer b stop) d.count issued from new it)
   asks_broken_off stop it breaks key barrier d from issued meddles next offer f offered at =
       let i = instance_by variant meaning key barrier in
-      break_comes (ask_kind variant meaning bytes b) (TellsAsk b) i d from (outcome_of_stopped_ask i d issued meddles offer b) issued meddles
+      break_comes (ask_kind variant meaning bytes b) (TellsAsk b) i d from (outcome_of_stopped_ask i d issued meddles offer b) issued
+      meddles
       (asks_know variant meaning key barrier d from issued meddles offer bytes b short offered f.stands f.quiet) stage old next f new stop
       it breaks at
 
@@ -194,7 +203,8 @@ module _ (variant : Variant) (meaning : Meaning) (key barrier : List ℕ) (d : D
   its = instance_by variant meaning key barrier
 
   abbrev ClosingComes : Stop → Standing → Result CallReport Memory → Type 0
-  ClosingComes stop new result = MatchResult result (CallComesTo its (outcome_of_stopped_closing its d issued meddles stop) d.count issued from new)
+  ClosingComes stop new result = MatchResult result (CallComesTo its (outcome_of_stopped_closing its d issued meddles stop)
+      d.count issued from new)
       (λ _. HasRead its d meddles stop from new)
 
   closes_know : HasDigests its from d → IsQuiet from
@@ -214,7 +224,8 @@ module _ (variant : Variant) (meaning : Meaning) (key barrier : List ℕ) (d : D
   }
 
 module _ (stage : OpStage Checkpointed) (old new : Standing) where
-  pub closes_stepped : (result : Result (FlightOutcome Checkpointed) Memory) → FlightStepsAs closing_operation TellsCheckpoint 3 stage old new result
+  pub closes_stepped : (result : Result (FlightOutcome Checkpointed) Memory) → FlightStepsAs closing_operation TellsCheckpoint 3
+      stage old new result
       → MayStepOn result new
       → (variant : Variant) (meaning : Meaning) (key barrier : List ℕ) (d : Digests) (from : Standing) (issued : List (List ℕ))
       (meddles : List Meddle) (next : ℕ)
@@ -230,7 +241,8 @@ module _ (stage : OpStage Checkpointed) (old new : Standing) where
       → (variant : Variant) (meaning : Meaning) (key barrier : List ℕ) (d : Digests) (from : Standing) (issued : List (List ℕ))
       (meddles : List Meddle) (next : ℕ)
       → IsInFlight checkpoint_kind (instance_by variant meaning key barrier) d from stage old meddles next → stopped_step stop ≡ next
-      → (let i = instance_by variant meaning key barrier in CallComesTo i (outcome_of_stopped_closing i d issued meddles stop) d.count issued from new it)
+      → (let i = instance_by variant meaning key barrier in CallComesTo i (outcome_of_stopped_closing i d issued meddles stop) d.count
+      issued from new it)
   closes_broken_off stop it breaks variant meaning key barrier d from issued meddles next f at =
       let i = instance_by variant meaning key barrier in
       break_comes checkpoint_kind TellsCheckpoint i d from (outcome_of_stopped_closing i d issued meddles) issued meddles

@@ -1,8 +1,10 @@
 -- A stop says nothing of the steps before it; and what its step comes to.
 use Rattle.mm_steps.proofs.Below.{◌≡◌, ℕ, ◌+◌, ◌<◌, ◌≤◌, Bool, true, false, List, Option, None, Some, refl, sym, ap, ◌∙◌, arith, ◌==◌}
 use Rattle.mm_steps.proofs.Below.{is_some, option_map, next_count, StepFault, Failed, Meddle, Stop, Quiet, Cut, Drop, Fail}
-use Rattle.mm_steps.proofs.Below.{Plan, Standing, next_step, plan_with_stop, standing_after_step, plan_by, standing_under, PlansAgreeAt, PlanAgreesWith, AlwaysFails}
-use Rattle.mm_steps.proofs.Below.{counted_few, Replans, stopped_step, SettlesPlan, BreaksNext, stop_behind, replans, quiet_plan, plan_behind}
+use Rattle.mm_steps.proofs.Below.{Plan, Standing, next_step, plan_with_stop, standing_after_step, plan_by, standing_under, PlansAgreeAt}
+use Rattle.mm_steps.proofs.Below.{PlanAgreesWith, AlwaysFails}
+use Rattle.mm_steps.proofs.Below.{counted_few, Replans, stopped_step, SettlesPlan, BreaksNext, stop_behind, replans, quiet_plan}
+use Rattle.mm_steps.proofs.Below.{plan_behind}
 use Rattle.std.proofs.lemmas.Bool.{ne_eqb}
 use Rattle.std.proofs.lemmas.Bool.Decides.{nat_tests}
 use Rattle.mm_platform.specs.Steps.{Act, StepGoes, fault_at}
@@ -22,11 +24,13 @@ earlier : (stop n made : ℕ) → made < stop → n ≤ made → stop ≡ n → 
 earlier stop n made later few e = omega arith
 
 -- such a stop leaves the steps that were made as they were
-pub goes_as : (stop : Stop) (meddles : List Meddle) (made : ℕ) → made < stopped_step stop → PlanAgreesWith (plan_by stop meddles) meddles made
+pub goes_as : (stop : Stop) (meddles : List Meddle) (made : ℕ) → made < stopped_step stop
+    → PlanAgreesWith (plan_by stop meddles) meddles made
 goes_as stop meddles made later = λ n few. same_at stop meddles n (earlier (stopped_step stop) n made later few)
 
 -- and the next one too, where it comes behind that
-pub same_next : (meddles : List Meddle) (made : ℕ) → PlansAgreeAt (plan_by (stop_behind (made + 1)) meddles) (plan_by Quiet meddles) (made + 1)
+pub same_next : (meddles : List Meddle) (made : ℕ) → PlansAgreeAt (plan_by (stop_behind (made + 1)) meddles)
+    (plan_by Quiet meddles) (made + 1)
 same_next meddles made = same_at (stop_behind (made + 1)) meddles (made + 1)
     (earlier (made + 1 + 1) (made + 1) (made + 1) (omega arith) (omega arith))
 
@@ -51,7 +55,8 @@ pub always_fails : (stop : Stop) (old : Standing) → BreaksNext stop old
     → AlwaysFails (record old { plan = option_map (plan_with_stop stop) old.plan })
 always_fails stop old b = λ act new fault g none.
     let plan : Plan = plan_with_stop stop b.plan in
-    let planned : option_map (plan_with_stop stop) old.plan ≡ Some plan = ap (λ (p : Option Plan). option_map (plan_with_stop stop) p) b.planned in
+    let planned : option_map (plan_with_stop stop) old.plan ≡ Some plan =
+        ap (λ (p : Option Plan). option_map (plan_with_stop stop) p) b.planned in
     let known : fault ≡ fault_at plan.stop (next_step plan) = rw b.is_on at (g.told plan planned).answers in
     none_fails stop (next_step b.plan) (sym known ∙ none) b.fails
 
@@ -110,7 +115,8 @@ later_than made stop next at is = omega arith
 
 -- a platform that is stopped at its next step
 pub stopped_under : (stop : Stop) (now stopped : Standing) (meddles : List Meddle) (made : ℕ)
-    → now.plan ≡ Some (record (plan_by Quiet meddles) { at = made }) → stopped ≡ record now { plan = option_map (plan_with_stop stop) now.plan }
+    → now.plan ≡ Some (record (plan_by Quiet meddles) { at = made })
+    → stopped ≡ record now { plan = option_map (plan_with_stop stop) now.plan }
     → stopped ≡ standing_under (plan_by stop meddles) made now
 stopped_under stop now stopped meddles made planned is =
     is ∙ ap (λ (p : Option Plan). record now { plan = option_map (plan_with_stop stop) p }) planned

@@ -49,12 +49,14 @@ abbrev pub checkpoint_kind : Kind Checkpointed CheckpointRefusal
 checkpoint_kind = record { asked = closing_operation; writes = 3; CanStand = IsClosing }
 
 -- the event of such a call that is stopped so
-abbrev pub outcome_of_stopped_ask : Instance → Digests → List (List ℕ) → List Meddle → Offer → Batch → Stop
+abbrev pub outcome_of_stopped_ask : Instance → Digests → List (List ℕ) → List Meddle → Offer → Batch
+    → Stop
     → Outcome Digests
 outcome_of_stopped_ask i d issued meddles offer b stop =
     event_outcome i (digest_level i) d issued (Ask meddles stop offer b)
 
-abbrev pub outcome_of_stopped_closing : Instance → Digests → List (List ℕ) → List Meddle → Stop → Outcome Digests
+abbrev pub outcome_of_stopped_closing : Instance → Digests → List (List ℕ) → List Meddle → Stop
+    → Outcome Digests
 outcome_of_stopped_closing i d issued meddles stop =
     event_outcome i (digest_level i) d issued (Checkpoint meddles stop)
 

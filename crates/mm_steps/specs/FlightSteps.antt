@@ -50,11 +50,14 @@ module _ {A R : Type 0} (o : OpMeaning A R)
       → Result (FlightOutcome A) Memory → Type 0
   FlightComesTo stage old from meddles made new (Ok (Going on)) =
       FlightGoesOn o stage old from meddles made on new
-  FlightComesTo stage old from meddles made new (Ok (Over it)) = IsOver from meddles made new (Ok it)
-  FlightComesTo stage old from meddles made new (Err memory) = IsOver from meddles made new (Err memory)
+  FlightComesTo stage old from meddles made new (Ok (Over it)) =
+      IsOver from meddles made new (Ok it)
+  FlightComesTo stage old from meddles made new (Err memory) =
+      IsOver from meddles made new (Err memory)
 
   -- the next step, from wherever the call was begun, where a write of the cell has this number
-  abbrev pub FlightStepsAs : ℕ → OpStage A → Standing → Standing → Result (FlightOutcome A) Memory → Type 0
+  abbrev pub FlightStepsAs : ℕ → OpStage A → Standing → Standing → Result (FlightOutcome A) Memory
+      → Type 0
   FlightStepsAs writes stage old new result =
       (from : Standing) (meddles : List Meddle) (made : ℕ) → CallFlies o from meddles made stage old
       → number_of writes stage ≡ made + 1 → FlightComesTo stage old from meddles made new result

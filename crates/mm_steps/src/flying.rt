@@ -28,7 +28,8 @@ pub fn step<O: CallTeller>(
     keys: &mut KeptKey,
 ) -> Result<FlightOutcome<O::Answer>, Memory>
     requires room { MayGoOn call platform.old }
-    ensures steps { FlightStepsAs (O.asked op.now) (O.tells op.now) (O.writes op.now) call platform.old
+    ensures steps { FlightStepsAs (O.asked op.now) (O.tells op.now) (O.writes op.now)
+        call platform.old
         platform.new result }
     ensures room { MayStepOn result platform.new }
 {

@@ -36,11 +36,13 @@ slots_with_bytes slot bytes slots = option_map (λ told. slots_with told slot by
 abbrev pub LeavesInSlot : ℕ → List ℕ → Option Slots → Option Slots → Result Unit StoreFault → Type 0
 LeavesInSlot slot bytes old new (Ok _) = new ≡ slots_with_bytes slot bytes old
 LeavesInSlot slot bytes old new (Err Memory) = new ≡ old
-LeavesInSlot slot bytes old new (Err Failed) = (left : List ℕ) × (new ≡ slots_with_bytes slot left old)
+LeavesInSlot slot bytes old new (Err Failed) =
+    (left : List ℕ) × (new ≡ slots_with_bytes slot left old)
 
 -- what waits to be synced after a write to a slot: nothing of the slot after Ok, all as before
 -- where memory is wanting, and of the other slots what waited before
-abbrev pub SyncsSlot : ℕ → Option UnsyncedSlots → Option UnsyncedSlots → Result Unit StoreFault → Type 0
+abbrev pub SyncsSlot : ℕ → Option UnsyncedSlots → Option UnsyncedSlots → Result Unit StoreFault
+    → Type 0
 SyncsSlot slot old new (Ok _) = new ≡ unsynced_with_mark slot false old
 SyncsSlot slot old new (Err Memory) = new ≡ old
 SyncsSlot slot old new (Err Failed) = MarksAlone slot old new

@@ -39,7 +39,8 @@ ReadsPending slot bytes (Some p) = IsPending slot p × (bytes ≡ pending_spelli
 
 -- the law of the format: a slot's bytes have one reading
 abbrev pub HasOneReading : Type 0
-HasOneReading = (slot : ℕ) (bytes : List ℕ) (p q : Option PendingRecord) → ReadsPending slot bytes p →
+HasOneReading = (slot : ℕ) (bytes : List ℕ) (p q : Option PendingRecord) → ReadsPending slot bytes p
+    →
     ReadsPending slot bytes q → p ≡ q
 
 -- the bytes are what is hashed of this record, whose numbers fit their fields

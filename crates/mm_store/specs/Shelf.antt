@@ -42,7 +42,8 @@ shelf_after_call shelf = record shelf { ahead = shelf.ahead - 1 }
 abbrev pub shelf_after_read : Shelf → Result (List ℕ) StoreFault → Shelf
 shelf_after_read shelf (Ok _) = shelf_after_call shelf
 shelf_after_read shelf (Err Memory) = shelf_after_call shelf
-shelf_after_read shelf (Err Failed) = record (shelf_after_call shelf) { faults = next_count shelf.faults }
+shelf_after_read shelf (Err Failed) =
+    record (shelf_after_call shelf) { faults = next_count shelf.faults }
 
 -- after a write of these bytes to a slot with this result
 abbrev pub shelf_after_write : Shelf → ℕ → List ℕ → Result Unit StoreFault → Shelf

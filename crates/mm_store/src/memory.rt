@@ -149,7 +149,8 @@ impl MemStore {
     fn is_to_fail(&mut self) -> bool
         ensures fails { IsTrue result ↔ (self.old.ahead ≡ 1) }
         ensures after { self.new
-            ≡ (if result then record (shelf_after_call self.old) { faults = next_count self.old.faults }
+            ≡ (if result then record (shelf_after_call self.old)
+            { faults = next_count self.old.faults }
             else shelf_after_call self.old) }
     {
         let fails = self.ahead == 1;

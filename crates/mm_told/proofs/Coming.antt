@@ -101,7 +101,8 @@ module _ (variant : Variant) (meaning : Meaning) (offer request : List ℕ) wher
       → StepsDiffer (ask_protocol variant meaning offer request) steps → ⊥
   as_told steps =
       fits (ask_protocol variant meaning offer request) steps
-      (λ front a b m n. one_next is_memory (ask_operation variant meaning offer (One request)) (determined variant meaning offer (One request))
+      (λ front a b m n. one_next is_memory (ask_operation variant meaning offer (One request))
+      (determined variant meaning offer (One request))
       Begun front a b m.makes n.makes)
       over
     where
@@ -115,7 +116,8 @@ module _ (variant : Variant) (meaning : Meaning) (offer request : List ℕ) wher
 
   module _ (host : Host) (steps : List MadeStep) where
     -- what is told, with the rest of what is promised
-    told_so : (told : StepsOutcome (Result Answer Refusal)) → TellsOutcome (ask_protocol variant meaning offer request) batch_result_of steps told
+    told_so : (told : StepsOutcome (Result Answer Refusal)) → TellsOutcome (ask_protocol variant meaning offer request)
+        batch_result_of steps told
         → IsAskOnHost variant meaning offer request host steps told → ToldAskPromise variant meaning host steps offer request told
     told_so (outcome.Ended given) t a = record { tells = t; asked = a; fits = λ same differs. absurd (cc) }
     told_so (outcome.Next step) t a = record { tells = t; asked = a; fits = λ same differs. absurd (cc) }
@@ -126,14 +128,17 @@ module _ (variant : Variant) (meaning : Meaning) (offer request : List ℕ) wher
       -- by what it comes to
       module _ (short : is_long (One request) ≡ false) where
         over_so : (end : OpResult BatchAnswer Refusal) (given : Result Answer Refusal)
-            → StepsReachEnd (ask_operation variant meaning offer (One request)) Begun steps end → batch_result_of given ≡ result_of (end_of_machine end)
+            → StepsReachEnd (ask_operation variant meaning offer (One request)) Begun steps end → batch_result_of given
+            ≡ result_of (end_of_machine end)
             → ToldAskPromise variant meaning host steps offer request (outcome.Ended given)
         over_so end given c e =
             told_so (outcome.Ended given) (inl (record { short = short; end = end; ends = c; gives = e }))
-            (rw e (asked_whole meaning offer (One request) (first_standing host steps) (bare_standing (host.stood 0)) variant end lawful short
+            (rw e (asked_whole meaning offer (One request) (first_standing host steps) (bare_standing (host.stood 0))
+            variant end lawful short
             (finishes (ask_operation variant meaning offer (One request)) host.stood Begun steps end c h.are_made)))
 
-        pub one_answer : (told : CallProgress BatchAnswer Refusal) → StepsComeTo (ask_operation variant meaning offer (One request)) Begun steps told
+        pub one_answer : (told : CallProgress BatchAnswer Refusal)
+            → StepsComeTo (ask_operation variant meaning offer (One request)) Begun steps told
             → IsOneIn told
         one_answer (came.Over end) c =
             one_in request (result_of (end_of_machine end))
@@ -176,7 +181,8 @@ module _ (variant : Variant) (meaning : Meaning) (offer request : List ℕ) wher
             rw t (told_so (outcome.Next step) (record { short = short; makes = c })
             (asked_whole meaning offer (One request) (first_standing host steps) (bare_standing (host.missed 0 (act_of step))) variant
             (ended.Broken Off (commits_at (ask_operation variant meaning offer (One request)) c.stage)) lawful short
-            (breaks (ask_operation variant meaning offer (One request)) host.stood Begun steps c.stage (host.missed 0 (act_of step)) c.stands
+            (breaks (ask_operation variant meaning offer (One request)) host.stood Begun steps c.stage
+            (host.missed 0 (act_of step)) c.stands
             h.are_made (missed_at host step c.stage c.next))))
         asks (came.Over end) out c t = rw t.is (over_so end t.answer c t.gives)
         asks (came.Before end) out c t =
@@ -214,7 +220,8 @@ module _ (variant : Variant) (meaning : Meaning) (offer request : List ℕ) wher
 closing_as_told : (steps : List MadeStep) → AreAsTold checkpoint_protocol steps → StepsDiffer checkpoint_protocol steps → ⊥
 closing_as_told steps =
     fits checkpoint_protocol steps (λ front a b m n. one_next never closing_operation closing_determined Begun front a b m n)
-    (λ front a given m e. absurd (closing_lacks e.end (next_or_over never closing_operation closing_determined Begun front a e.end m e.ends)))
+    (λ front a given m e. absurd
+    (closing_lacks e.end (next_or_over never closing_operation closing_determined Begun front a e.end m e.ends)))
   where
     closing_lacks : (end : OpResult Checkpointed CheckpointRefusal) → EndLacks never end → ⊥
     closing_lacks (ended.Refused why) l = l
@@ -224,17 +231,20 @@ module _ (host : Host) (steps : List MadeStep) (h : IsHostOf steps host) where
   closing_differs : StepsDiffer checkpoint_protocol steps → ToldCheckpointPromise host steps outcome.Differs
   closing_differs d = record { tells = d; closed = tt; fits = λ same differs. closing_as_told steps same d }
 
-  pub closes : (told : CallProgress Checkpointed CheckpointRefusal) → StepsComeTo closing_operation Begun steps told → ToldCheckpointPromise host steps (closing_outcome told)
+  pub closes : (told : CallProgress Checkpointed CheckpointRefusal) → StepsComeTo closing_operation Begun steps told
+      → ToldCheckpointPromise host steps (closing_outcome told)
   closes (came.Next step) c = record {
     tells = c;
-    closed = closed_in (first_standing host steps) (bare_standing (host.missed 0 (act_of step))) (ended.Broken Off (commits_at closing_operation c.stage))
+    closed = closed_in (first_standing host steps) (bare_standing (host.missed 0 (act_of step)))
+        (ended.Broken Off (commits_at closing_operation c.stage))
         (breaks closing_operation host.stood Begun steps c.stage (host.missed 0 (act_of step)) c.stands h.are_made
         (missed_at host step c.stage c.next));
     fits = λ same differs. absurd (cc);
   }
   closes (came.Over end) c = record {
     tells = record { end = end; ends = c; gives = refl };
-    closed = closed_in (first_standing host steps) (bare_standing (host.stood 0)) end (finishes closing_operation host.stood Begun steps end c h.are_made);
+    closed = closed_in (first_standing host steps) (bare_standing (host.stood 0)) end
+        (finishes closing_operation host.stood Begun steps end c h.are_made);
     fits = λ same differs. absurd (cc);
   }
   closes (came.Before end) c =

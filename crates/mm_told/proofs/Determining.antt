@@ -88,13 +88,15 @@ module _ {A R : Type 0} (lacks : R → Type 0) where
     go_or_end a end (inr (inl l)) = absurd l
     go_or_end a end (inr (inr l)) = l
 
-    same_stage : (from : OpStage A) (steps : List MadeStep) (a b : OpStage A) → StepsReachStage o from steps a → StepsReachStage o from steps b → a ≡ b
+    same_stage : (from : OpStage A) (steps : List MadeStep) (a b : OpStage A) → StepsReachStage o from steps a
+        → StepsReachStage o from steps b → a ≡ b
     same_stage from [] a b s t = s ∙ sym t
     same_stage from (it ∷ more) a b s t =
         same_stage s.0 more a b s.2
         (subst (λ (x : OpStage A). StepsReachStage o x more b) (both_go t.0 s.0 (agree from it (Going t.0) (Going s.0) t.1 s.1)) t.2)
 
-    stands_or_ends : (from : OpStage A) (steps : List MadeStep) (a : OpStage A) (end : OpResult A R) → StepsReachStage o from steps a → StepsReachEnd o from steps end
+    stands_or_ends : (from : OpStage A) (steps : List MadeStep) (a : OpStage A) (end : OpResult A R) → StepsReachStage o from steps a
+        → StepsReachEnd o from steps end
         → EndLacks end
     stands_or_ends from [] a end s e = absurd e
     stands_or_ends from (it ∷ more) a end s (inl e) = go_or_end s.0 end (agree from it (Going s.0) (Over end) s.1 e.1)
@@ -107,7 +109,8 @@ module _ {A R : Type 0} (lacks : R → Type 0) where
     one_next from steps a b m n =
         m.next ∙ ap machine.act_of (same_stage from steps m.stage n.stage m.stands n.stands) ∙ sym n.next
 
-    pub next_or_over : (from : OpStage A) (steps : List MadeStep) (a : Act) (end : OpResult A R) → IsNextStep o from steps a → StepsReachEnd o from steps end
+    pub next_or_over : (from : OpStage A) (steps : List MadeStep) (a : Act) (end : OpResult A R) → IsNextStep o from steps a
+        → StepsReachEnd o from steps end
         → EndLacks end
     next_or_over from steps a end m e = stands_or_ends from steps m.stage end m.stands e
 

@@ -16,12 +16,14 @@ use Rattle.mm_told.specs.Steps.{made_act}
 
 module _ {A R : Type 0} (o : OpMeaning A R) where
   -- where a step leads
-  pub turned : (stage : OpStage A) (it : MadeStep) (step : StepResult A R) → MadeStepLeads o stage it step → StepHasTarget o stage it (target_of_step step)
+  pub turned : (stage : OpStage A) (it : MadeStep) (step : StepResult A R) → MadeStepLeads o stage it step
+      → StepHasTarget o stage it (target_of_step step)
   turned stage it (Going next) l = l
   turned stage it (Over end) l = l
 
   -- one step, and then the others
-  goes_on : (from next : OpStage A) (it : MadeStep) (more : List MadeStep) (told : CallProgress A R) → MadeStepLeads o from it (Going next) → StepsComeTo o next more told
+  goes_on : (from next : OpStage A) (it : MadeStep) (more : List MadeStep) (told : CallProgress A R) → MadeStepLeads o from it (Going next)
+      → StepsComeTo o next more told
       → StepsComeTo o from (it ∷ more) told
   goes_on from next it more (came.Next step) l c = record { stage = c.stage; stands = (next, l, c.stands); next = c.next }
   goes_on from next it more (came.Over end) l c = inr (next, l, c)
@@ -48,7 +50,8 @@ module _ {A R : Type 0} (o : OpMeaning A R) where
 
   -- the same, as a slice has the steps
   module _ (from : OpStage A) (default : MadeStep) where
-    pub slice_on : (steps more : List MadeStep) (n : ℕ) (next : OpStage A) (told : CallProgress A R) → 1 ≤ length steps → n ≡ length steps - 1
+    pub slice_on : (steps more : List MadeStep) (n : ℕ) (next : OpStage A) (told : CallProgress A R) → 1 ≤ length steps
+        → n ≡ length steps - 1
         → more ≡ take n (drop 1 steps) → MadeStepLeads o from (get_or steps 0 default) (Going next) → StepsComeTo o next more told
         → StepsComeTo o from steps told
     slice_on [] more n next told some counts e l c = absurd (omega (arith, some))
@@ -57,7 +60,8 @@ module _ {A R : Type 0} (o : OpMeaning A R) where
         (subst (λ (xs : List MadeStep). StepsComeTo o next xs told) (e ∙ take_all n rest (omega (arith, counts))) c)
 
     pub slice_ends : (steps more : List MadeStep) (n : ℕ) (end : OpResult A R) → 1 ≤ length steps → n ≡ length steps - 1
-        → more ≡ take n (drop 1 steps) → MadeStepLeads o from (get_or steps 0 default) (Over end) → StepsComeTo o from steps (progress_at_end more end)
+        → more ≡ take n (drop 1 steps) → MadeStepLeads o from (get_or steps 0 default) (Over end)
+        → StepsComeTo o from steps (progress_at_end more end)
     slice_ends [] more n end some counts e l = absurd (omega (arith, some))
     slice_ends (it ∷ rest) more n end some counts e l =
         rw (e ∙ take_all n rest (omega (arith, counts))) (ends_here from it rest end l)

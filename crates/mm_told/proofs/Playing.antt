@@ -30,7 +30,8 @@ use Rattle.mm_told.proofs.Missing.{made_bare}
 
 module _ {A R : Type 0} (o : OpMeaning A R) where
   -- hardware always has room
-  roomed : (needs : Bool) (found : OpFinding A) (at : Standing) → RoomIsMadeIf needs {A = A} {R = R} found (bare_standing at) (bare_standing at) (Ok found)
+  roomed : (needs : Bool) (found : OpFinding A) (at : Standing) → RoomIsMadeIf needs {A = A} {R = R} found (bare_standing at)
+      (bare_standing at) (Ok found)
   roomed false found at = (refl, refl)
   roomed true found at = (record { room = omega arith; same = refl }, refl)
 
@@ -57,7 +58,8 @@ module _ {A R : Type 0} (o : OpMeaning A R) where
   }
 
   weighed_steps : (found : Result (OpFinding A) R) (cell : Cell) (old new : Standing) (step : StepResult A R)
-      → StepGoes ReadRegister (bare_standing old) (bare_standing new) None → RegisterSays (bare_standing new) (λ register. o.finds cell register found)
+      → StepGoes ReadRegister (bare_standing old) (bare_standing new) None
+      → RegisterSays (bare_standing new) (λ register. o.finds cell register found)
       → step ≡ step_by_finding found → OpSteps o (Seen cell) (bare_standing old) (bare_standing new) step
   weighed_steps (Err why) cell old new step g s e = record {
     found = Err (halt.Refused why);
@@ -71,7 +73,8 @@ module _ {A R : Type 0} (o : OpMeaning A R) where
   }
 
   -- one step
-  steps : (from : OpStage A) (it : MadeStep) (step : StepResult A R) (old new : Standing) → MadeStepLeads o from it step → IsMade it (bare_standing old) (bare_standing new)
+  steps : (from : OpStage A) (it : MadeStep) (step : StepResult A R) (old new : Standing) → MadeStepLeads o from it step
+      → IsMade it (bare_standing old) (bare_standing new)
       → OpSteps o from (bare_standing old) (bare_standing new) step
   steps Begun (made.ReadCell (Ok bytes)) step old new l m =
       seen_steps l.drawn bytes old new step l.is_said m.goes m.reads l.gives
@@ -88,10 +91,12 @@ module _ {A R : Type 0} (o : OpMeaning A R) where
   }
   steps (Seen cell) _ step old new l m = absurd l
   steps (Changing ready) it step old new l m =
-      record { fault = fault_of_answer it; goes = subst (λ (act : Act). StepGoes act (bare_standing old) (bare_standing new) (fault_of_answer it)) l.0 m.goes; gives = l.1 }
+      record { fault = fault_of_answer it; goes =
+          subst (λ (act : Act). StepGoes act (bare_standing old) (bare_standing new) (fault_of_answer it)) l.0 m.goes; gives = l.1 }
 
   module _ (stood : ℕ → Standing) where
-    one_step : (from : OpStage A) (it : MadeStep) (more : List MadeStep) (step : StepResult A R) → MadeStepLeads o from it step → AreMade stood (it ∷ more)
+    one_step : (from : OpStage A) (it : MadeStep) (more : List MadeStep) (step : StepResult A R) → MadeStepLeads o from it step
+        → AreMade stood (it ∷ more)
         → OpSteps o from (bare_standing (stood (suc (length more)))) (bare_standing (stood (length more))) step
     one_step from it more step l m =
         steps from it step (stood (suc (length more))) (stood (length more)) l
@@ -103,10 +108,12 @@ module _ {A R : Type 0} (o : OpMeaning A R) where
     finishes from [] end e m = absurd e
     finishes from (it ∷ more) end (inl e) m =
         let none : more ≡ [] = e.0 in
-        joins o from (bare_standing (stood (suc (length more)))) (bare_standing (stood (length more))) (bare_standing (stood 0)) (Over end) end
+        joins o from (bare_standing (stood (suc (length more)))) (bare_standing (stood (length more)))
+        (bare_standing (stood 0)) (Over end) end
         (one_step from it more (Over end) e.1 m) (rw none (refl, refl))
     finishes from (it ∷ more) end (inr e) m =
-        joins o from (bare_standing (stood (suc (length more)))) (bare_standing (stood (length more))) (bare_standing (stood 0)) (Going e.0) end
+        joins o from (bare_standing (stood (suc (length more)))) (bare_standing (stood (length more)))
+        (bare_standing (stood 0)) (Going e.0) end
         (one_step from it more (Going e.0) e.1 m) (finishes e.0 more end e.2 m.1)
 
     -- the steps to a stage, where the next isn't answered

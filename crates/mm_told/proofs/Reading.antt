@@ -96,7 +96,8 @@ lacks_at_once : (f : Result (OpFinding BatchAnswer) Refusal) → Lacking is_memo
 lacks_at_once (Ok found) l = absurd l
 lacks_at_once (Err why) l = l
 
-at_once_same : (f g : Result (OpFinding BatchAnswer) Refusal) → SameOrLacking is_memory f g → SameOrLacking is_memory (at_once f) (at_once g)
+at_once_same : (f g : Result (OpFinding BatchAnswer) Refusal) → SameOrLacking is_memory f g
+    → SameOrLacking is_memory (at_once f) (at_once g)
 at_once_same f g (inl e) = inl (ap at_once e)
 at_once_same f g (inr (inl l)) = inr (inl (lacks_at_once f l))
 at_once_same f g (inr (inr l)) = inr (inr (lacks_at_once g l))
@@ -110,7 +111,8 @@ module _ (meaning : Meaning) (offer : List ℕ) (b : Batch) where
       (subst (λ (x : BasicSight). IsOrMemory (basic.finding_in meaning x b) g)
       (same_seen meaning.id bytes offer t.seen s.seen t.is_seen s.is_seen) t.found_is))
 
-  basic_sees : (bytes : List ℕ) (x y : Result (Sight BatchAnswer) Refusal) → SeesAtCell meaning offer b bytes x → SeesAtCell meaning offer b bytes y
+  basic_sees : (bytes : List ℕ) (x y : Result (Sight BatchAnswer) Refusal) → SeesAtCell meaning offer b bytes x
+      → SeesAtCell meaning offer b bytes y
       → SameOrLacking is_memory x y
   basic_sees bytes (Ok (sight.Cell cell)) y s t = absurd s
   basic_sees bytes (Ok (sight.Found f)) (Ok (sight.Cell cell)) s t = absurd t
@@ -130,7 +132,8 @@ same_cell : (id : ℕ) (bytes : List ℕ) (f g : Result Cell Refusal) → SeesCe
 same_cell id bytes f g s t =
     ap as_cell (s.found_is ∙ ap (cell_in id) (reads_cell-same bytes s.read t.read s.reads t.reads) ∙ sym t.found_is)
 
-opt_sees : (id : ℕ) (bytes : List ℕ) (x y : Result (Sight BatchAnswer) Refusal) → in_opt.SeesAtCell id bytes x → in_opt.SeesAtCell id bytes y
+opt_sees : (id : ℕ) (bytes : List ℕ) (x y : Result (Sight BatchAnswer) Refusal) → in_opt.SeesAtCell id bytes x
+    → in_opt.SeesAtCell id bytes y
     → SameOrLacking is_memory x y
 opt_sees id bytes (Ok (sight.Found found)) y s t = absurd s
 opt_sees id bytes (Ok (sight.Cell cell)) (Ok (sight.Found found)) s t = absurd t

@@ -35,7 +35,8 @@ step_by_finding (Ok found) = step_of_finding (Ok found)
 step_by_finding (Err why) = Over (Refused why)
 
 -- This is drawn from what was read, and leads there.
-pub record StepIsDrawn {T A R : Type 0} (says : T → Type 0) (leads : T → StepResult A R) (step : StepResult A R)
+pub record StepIsDrawn {T A R : Type 0} (says : T → Type 0) (leads : T → StepResult A R)
+    (step : StepResult A R)
     : Type 0 where
   pub drawn : T
   pub is_said : says drawn

@@ -33,11 +33,13 @@ checkpoint_protocol = record {
 }
 
 -- over the host's platform, as of a call
-abbrev pub IsCheckpointOnHost : Host → List MadeStep → StepsOutcome (Result Checkpointed CheckpointRefusal) → Type 0
+abbrev pub IsCheckpointOnHost : Host → List MadeStep
+    → StepsOutcome (Result Checkpointed CheckpointRefusal) → Type 0
 IsCheckpointOnHost host steps (outcome.Ended given) =
     ClosedInOpt (first_standing host steps) (bare_standing (host.stood 0)) given
 IsCheckpointOnHost host steps (outcome.Next step) =
-    ClosedInOpt (first_standing host steps) (bare_standing (host.missed 0 (act_of step))) (Err (Device Off))
+    ClosedInOpt (first_standing host steps) (bare_standing (host.missed 0 (act_of step)))
+    (Err (Device Off))
 IsCheckpointOnHost host steps outcome.Differs = Unit {0}
 IsCheckpointOnHost host steps outcome.Memory = ⊥
 

@@ -32,7 +32,8 @@ IsOneIn (came.Over end) = IsOne (result_of (end_of_machine end))
 IsOneIn _ = Unit {0}
 
 -- it is over, and gives this
-pub record IsEnded (given : Result BatchAnswer Refusal) (told : StepsOutcome (Result Answer Refusal))
+pub record IsEnded (given : Result BatchAnswer Refusal)
+    (told : StepsOutcome (Result Answer Refusal))
     : Type 0 where
   pub answer : Result Answer Refusal
   pub is : told ≡ outcome.Ended answer
@@ -47,7 +48,8 @@ outcome_if_over false = outcome.Differs
 abbrev pub IsTold : CallProgress BatchAnswer Refusal → StepsOutcome (Result Answer Refusal) → Type 0
 IsTold (came.Next step) told = told ≡ outcome.Next step
 IsTold (came.Over end) told = IsEnded (result_of (end_of_machine end)) told
-IsTold (came.Before end) told = told ≡ outcome_if_over (wants_memory (result_of (end_of_machine end)))
+IsTold (came.Before end) told =
+    told ≡ outcome_if_over (wants_memory (result_of (end_of_machine end)))
 IsTold came.Elsewhere told = told ≡ outcome.Differs
 
 abbrev pub closing_outcome : CallProgress Checkpointed CheckpointRefusal

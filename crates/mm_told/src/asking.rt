@@ -32,7 +32,8 @@ pub fn ask<M: Module>(
 ) -> StepsOutcome<Result<Answer, Refusal>>
     ghost host: { Host }
     requires { IsHostOf made.now host }
-    ensures { ToldAskPromise variant (M.meaning «module».now) host made.now offer.now request.now result }
+    ensures { ToldAskPromise variant (M.meaning «module».now) host made.now offer.now
+        request.now result }
 {
     let batch = Batch::One(request);
     if mm_model::is_long(&batch) {

@@ -29,7 +29,8 @@ pub fn ask_by_steps<M: Module, P: Platform>(
     request: &[u8],
 ) -> Option<Result<Answer, Refusal>>
     ensures { IfSome result (λ gives. BasicAskPromise (M.meaning «module».now)
-        (bare_standing (P.standing platform.old)) (bare_standing (P.standing platform.new)) offer.now
+        (bare_standing (P.standing platform.old))
+        (bare_standing (P.standing platform.new)) offer.now
         (One request.now) (batch_result_of gives)) }
 {
     begin(alloc, module, platform, offer, request, &mut KeptKey::new())
@@ -47,7 +48,8 @@ fn begin<M: Module, P: Platform>(
     ghost start: { Standing }
     requires { start ≡ bare_standing (P.standing platform.old) }
     ensures { IfSome result (λ gives. BasicAskPromise (M.meaning «module».now) start
-        (bare_standing (P.standing platform.new)) offer.now (One request.now) (batch_result_of gives)) }
+        (bare_standing (P.standing platform.new)) offer.now (One request.now)
+        (batch_result_of gives)) }
 {
     match ask(alloc, Variant::Basic, module, &[], offer, request, keys) {
         StepsOutcome::Ended(gives) => Some(gives),
@@ -73,8 +75,10 @@ fn go_on<M: Module, P: Platform>(
     ghost start: { Standing × Standing }
     requires here { start.1 ≡ bare_standing (P.standing platform.old) }
     requires one { IsMade one.now start.0 start.1 }
-    ensures { IfSome result (λ gives. BasicAskPromise (M.meaning «module».now) (bare_standing start.0)
-        (bare_standing (P.standing platform.new)) offer.now (One request.now) (batch_result_of gives)) }
+    ensures { IfSome result
+        (λ gives. BasicAskPromise (M.meaning «module».now) (bare_standing start.0)
+        (bare_standing (P.standing platform.new)) offer.now (One request.now)
+        (batch_result_of gives)) }
 {
     match ask(alloc, Variant::Basic, module, &[*one], offer, request, keys) {
         StepsOutcome::Ended(gives) => Some(gives),
@@ -100,7 +104,8 @@ fn end<M: Module, P: Platform>(
     ghost stood: { ℕ → Standing }
     requires { AreMade (λ left. bare_standing (stood left)) made.now }
     ensures { IfSome result (λ gives. BasicAskPromise (M.meaning «module».now)
-        (bare_standing (stood (length made.now))) (bare_standing (stood 0)) offer.now (One request.now)
+        (bare_standing (stood (length made.now))) (bare_standing (stood 0)) offer.now
+        (One request.now)
         (batch_result_of gives)) }
 {
     match ask(alloc, Variant::Basic, module, made, offer, request, keys) {

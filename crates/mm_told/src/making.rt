@@ -16,7 +16,8 @@ use mm_platform::{Platform, StepFault};
 pub fn make<P: Platform>(platform: &mut P, step: &HostStep) -> Result<MadeStep, Memory>
     ensures act { IfOk result (λ it. made_act it ≡ act_of step.now) }
     ensures made { IfOk result (λ it.
-        IsMade it (bare_standing (P.standing platform.old)) (bare_standing (P.standing platform.new))) }
+        IsMade it (bare_standing (P.standing platform.old))
+        (bare_standing (P.standing platform.new))) }
     ensures err { OnErr result (P.standing platform.new ≡ P.standing platform.old) }
 {
     match step {
@@ -47,7 +48,8 @@ fn read_cell<P: Platform>(platform: &mut P) -> Result<[u8; CELL_LENGTH], StepFau
 fn extend<P: Platform>(platform: &mut P, value: &Digest) -> Result<MadeStep, Memory>
     ensures act { IfOk result (λ it. made_act it ≡ act_of (Step.ExtendRegister value.now)) }
     ensures made { IfOk result (λ it.
-        IsMade it (bare_standing (P.standing platform.old)) (bare_standing (P.standing platform.new))) }
+        IsMade it (bare_standing (P.standing platform.old))
+        (bare_standing (P.standing platform.new))) }
     ensures err { OnErr result (P.standing platform.new ≡ P.standing platform.old) }
 {
     match platform.reg_ready() {

@@ -89,7 +89,8 @@ place_size (InBasic s) is = is
 place_size (InOpt a e) is = is.0
 
 entered_match : (i : Instance) (d : Digests) (awaited : List ℕ) (read : Result TicketContent Refusal) → AreFor i read
-    → MatchesRole (GivesEntry i d) i (Waits awaited) d (acceptance_by (waiting_cell_at i awaited) (refused_core read)) (entry_by_ticket awaited read)
+    → MatchesRole (GivesEntry i d) i (Waits awaited) d (acceptance_by (waiting_cell_at i awaited) (refused_core read))
+    (entry_by_ticket awaited read)
 entered_match i d awaited (Err why) is = (refl, is)
 entered_match i d awaited (Ok ticket) is =
     by_not (GivesEntry i d) i (Waits awaited) d (bytes_eq ticket.nonce awaited) (bytes_eq awaited ticket.nonce) _ _ _ _
@@ -109,7 +110,8 @@ and_or false = refl
 
 one_form : (anchor extension digest : List ℕ) (closed : Bool) → closed ≡ true → bytes_eq extension zero_bytes ≡ true
     → list_any (fits_fresh false digest zero_bytes) (record { anchor = anchor; extension = extension }
-    ∷ (if closed then [] else record { anchor = anchored_digest_of anchor extension; extension = zero_bytes } ∷ [])) ≡ bytes_eq anchor digest
+    ∷ (if closed then [] else record { anchor = anchored_digest_of anchor extension; extension = zero_bytes } ∷ []))
+        ≡ bytes_eq anchor digest
 one_form anchor extension digest false e z = cc
 one_form anchor extension digest true e z = ap (λ x. (bytes_eq anchor digest && x) || false) z ∙ and_or (bytes_eq anchor digest)
 
@@ -127,7 +129,8 @@ ticket_stands i d ticket is clear =
     ∙ anchor_stands (variant_of ticket.content.place) (summary_in ticket.content.place) d.digest)
 
 again_by : (i : Instance) (d : Digests) (ticket : TicketContent) → IsFor i ticket → (flag here stands : Bool) → d.flag ≡ flag
-    → bytes_eq (summary_in ticket.content.place).bytes d.digest ≡ here → (flag ≡ false → here ≡ stands) → MatchesRole (GivesEntry i d) i Live d
+    → bytes_eq (summary_in ticket.content.place).bytes d.digest ≡ here → (flag ≡ false → here ≡ stands)
+    → MatchesRole (GivesEntry i d) i Live d
     (refusal_if (flag || not here) (refusal.Core core.Stale) (Ok (record { next = None; answer = acceptance_of i.key ticket.content })))
     (if flag then Err (Refused core.Stale)
     else (if stands then Ok (record { again = true; effect = Enters ticket }) else Err (Refused core.Stale)))
@@ -147,7 +150,8 @@ again_match : (i : Instance) (d : Digests) (read : Result TicketContent Refusal)
     → MatchesRole (GivesEntry i d) i Live d (acceptance_again_by (cell_at i d) (refused_core read)) (repeated_entry (digest_level i) d read)
 again_match i d (Err why) is = (refl, is)
 again_match i d (Ok ticket) is =
-    again_by i d ticket is d.flag (bytes_eq (summary_in ticket.content.place).bytes d.digest) (stands_here (digest_level i) d ticket.content)
+    again_by i d ticket is d.flag (bytes_eq (summary_in ticket.content.place).bytes d.digest)
+    (stands_here (digest_level i) d ticket.content)
     refl refl (ticket_stands i d ticket is)
 
 accepts : (i : Instance) (link : Link) (role : Role) (d : Digests) (bytes : List ℕ) → FitsCell i link role d

@@ -1,11 +1,15 @@
 -- An acceptance on a side comes to what it comes to by digests.
 use Rattle.mm_transfer.proofs.Below.{◌≡◌, ◌&&◌, ℕ, Bool, true, false, not, List, [], ◌∷◌, ◌++◌, length, None, Some, Result, Ok}
 use Rattle.mm_transfer.proofs.Below.{Err, inl, inr, refl, sym, ap, ◌∙◌, subst, arith, length-append, MatchResult, if◌then◌else◌}
-use Rattle.mm_transfer.proofs.Below.{Memory, Meaning, Meddle, Stop, Standing, Instance, Digests, walk, digest_level, course_of, offered_bytes}
-use Rattle.mm_transfer.proofs.Below.{Offer, MoveRefusal, moved_cell_of, acceptance_in, TicketContent, ticket_of, place_at, Content, sealed_snapshot_of}
+use Rattle.mm_transfer.proofs.Below.{Memory, Meaning, Meddle, Stop, Standing, Instance, Digests, walk, digest_level, course_of}
+use Rattle.mm_transfer.proofs.Below.{offered_bytes}
+use Rattle.mm_transfer.proofs.Below.{Offer, MoveRefusal, moved_cell_of, acceptance_in, TicketContent, ticket_of, place_at, Content}
+use Rattle.mm_transfer.proofs.Below.{sealed_snapshot_of}
 use Rattle.mm_transfer.proofs.Below.{digest_of, Role, Effect, Enters, is_live, role_after, Which, Pair, key_of, instance_on, Both}
-use Rattle.mm_transfer.proofs.Below.{digests_move, DenialCause, FoundMove, Accept, acceptance_on, ticket_by, ticket_in, move_steps, effect_of}
-use Rattle.mm_transfer.proofs.Below.{sides_after_issue, effect_reply, found_acceptance, IssuedTickets, MoveReply, CodeSide, TellsEntry, both_with, outcome_of_command, FitsIssuedTickets}
+use Rattle.mm_transfer.proofs.Below.{digests_move, DenialCause, FoundMove, Accept, acceptance_on, ticket_by, ticket_in, move_steps}
+use Rattle.mm_transfer.proofs.Below.{effect_of}
+use Rattle.mm_transfer.proofs.Below.{sides_after_issue, effect_reply, found_acceptance, IssuedTickets, MoveReply, CodeSide, TellsEntry}
+use Rattle.mm_transfer.proofs.Below.{both_with, outcome_of_command, FitsIssuedTickets}
 use Rattle.mm_transfer.proofs.Below.{CommandDone, CommandLacks, has_moved, link_of, role_in, at_in, FitsSide, move_reply_of}
 use Rattle.mm_transfer.proofs.Below.{cell_of_role, digests_after_move, GivesEntry, GivesEntryBy, FitsLive, MatchesRole, FitsCell}
 use Rattle.mm_move.specs.declared.accepting.Accepted.{Accepted}
@@ -88,9 +92,11 @@ pub accepted_done : (pair : Pair) (which : Which) (offer : Offer) (stop : Stop) 
     (between : IssuedTickets) (live : Bool) (cell : List ℕ) (came : Result Accepted MoveRefusal) (result : Result MoveReply Memory)
     → Named (λ bytes (cell : List ℕ). acceptance_in pair.meaning pair.variant (link_of pair) bytes (moved_cell_of cell)) stop meddles
     (offered_bytes between.tickets.items offer) old.seat.platform mid.seat.platform came → live ≡ is_live (role_in (Some cell))
-    → old.seat.platform.cell ≡ Some cell → SameSide old mid → TellsEntry live between.away stop came mid new result → FitsSide pair which old
+    → old.seat.platform.cell ≡ Some cell → SameSide old mid → TellsEntry live between.away stop came mid new result
+    → FitsSide pair which old
     → FitsIssuedTickets between
-    → MatchResult result (CommandDone pair which old new between between (outcome_of_command pair which old between meddles stop (Accept offer)))
+    → MatchResult result (CommandDone pair which old new between between
+    (outcome_of_command pair which old between meddles stop (Accept offer)))
     (λ _. CommandLacks pair which meddles stop old new between between)
 accepted_done pair which offer stop meddles old mid new between live cell came result named lives holds s entered fits counted =
     let i = instance_on pair which in
@@ -145,7 +151,8 @@ accepted_done pair which offer stop meddles old mid new between live cell came r
             tickets = omega arith;
           }) in
           move_done gives pair which stop meddles (Accept offer) found old new between between came result fits c t keeps
-          (λ it k. (enters it k).keeps) (λ other committed. ap (found_acceptance digests_move pair i (both_with old between other committed).first)
+          (λ it k. (enters it k).keeps)
+          (λ other committed. ap (found_acceptance digests_move pair i (both_with old between other committed).first)
           named.names)
       | inr w ↦
           let t = subst (λ (c : Result Accepted MoveRefusal). TellsEntry live away stop c mid new result) w.says entered in
@@ -164,10 +171,12 @@ accepted_done pair which offer stop meddles old mid new between live cell came r
 
 -- a ticket that isn't issued
 pub accepted_unissued : (pair : Pair) (which : Which) (offer : Offer) (stop : Stop) (meddles : List Meddle) (old new : CodeSide)
-    (between : IssuedTickets) → (offered_bytes between.tickets.items offer ≡ None) × (new.seat.platform ≡ old.seat.platform) → SameSide old new
+    (between : IssuedTickets) → (offered_bytes between.tickets.items offer ≡ None) × (new.seat.platform ≡ old.seat.platform)
+    → SameSide old new
     → FitsSide pair which old → FitsIssuedTickets between
     → CommandDone pair which old new between between (outcome_of_command pair which old between meddles stop (Accept offer)) reply.NoTicket
 accepted_unissued pair which offer stop meddles old new between none s fits counted =
     unissued_done pair which stop meddles (Accept offer) reply.NoTicket old new between between fits counted none.1 s
     (record { tickets = refl; kept = refl; away = refl }) refl
-    (λ other committed. ap (found_acceptance digests_move pair (instance_on pair which) (both_with old between other committed).first) none.0)
+    (λ other committed. ap (found_acceptance digests_move pair (instance_on pair which) (both_with old between other committed).first)
+    none.0)

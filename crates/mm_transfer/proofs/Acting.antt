@@ -1,10 +1,13 @@
 -- What happens on a side is what happens on both.
 use Rattle.mm_transfer.proofs.Below.{◌≡◌, ◌∙◌, ◌^◌, ◌<◌, ℕ, List, length, Option, None, Some, Result, Ok, Err, refl, sym, ap, subst, arith}
-use Rattle.mm_transfer.proofs.Below.{MatchResult, IfOk, OnOk, OnErr, sum_by, Memory, StepFault, Meddle, Stop, Instance, Digests, walk, course_of}
+use Rattle.mm_transfer.proofs.Below.{MatchResult, IfOk, OnOk, OnErr, sum_by, Memory, StepFault, Meddle, Stop, Instance, Digests, walk}
+use Rattle.mm_transfer.proofs.Below.{course_of}
 use Rattle.mm_transfer.proofs.Below.{meddles_of, Header, Which, First, Second, Pair, instance_on, Both, sides_swapped, digests_move, Moves}
-use Rattle.mm_transfer.proofs.Below.{BothEvent, sides_after_effect_if, state_after_steps, effect_of, found_command, move_end_outcome, move_outcome, move_steps, outcome_if_found}
+use Rattle.mm_transfer.proofs.Below.{BothEvent, sides_after_effect_if, state_after_steps, effect_of, found_command, move_end_outcome}
+use Rattle.mm_transfer.proofs.Below.{move_outcome, move_steps, outcome_if_found}
 use Rattle.mm_transfer.proofs.Below.{MoveCommand, Accept, FoundMove, DenialCause, Effect, Invites, IssuedTickets, MoveReply, CodeSide}
-use Rattle.mm_transfer.proofs.Below.{Inside, both_with, outcome_of_command, FitsIssuedTickets, CommandDone, CommandLacks, CommandGoes, act_of, command_of}
+use Rattle.mm_transfer.proofs.Below.{Inside, both_with, outcome_of_command, FitsIssuedTickets, CommandDone, CommandLacks, CommandGoes}
+use Rattle.mm_transfer.proofs.Below.{act_of, command_of}
 use Rattle.mm_transfer.proofs.Below.{side_event_of, which_of, side_in, within_64, pair_of, move_reply_of, IsSayable}
 use Rattle.mm_schedule.specs.declared.event.Meddles.{Meddles}
 use Rattle.mm_sides.specs.Folds.{BothAct}
@@ -40,14 +43,17 @@ found_sayable pair i both meddles stop command None = tt
 found_sayable pair i both meddles stop command (Some found) =
     let fates = (course_of stop meddles).fates in
     let effect = effect_of fates found in
-    let here = record both { first = record both.first { at = state_after_steps digests_move i both.first.at meddles stop (move_steps found) } } in
+    let here = record both
+        { first = record both.first { at = state_after_steps digests_move i both.first.at meddles stop (move_steps found) } } in
     ended_sayable pair i (sides_after_effect_if digests_move here effect) stop (walk fates 1 (move_steps found)).broken found effect
 
 move_sayable : (pair : Pair) (i : Instance) (both : Both Digests ℕ) (meddles : List Meddle) (stop : Stop) (command : MoveCommand)
     → IsSayable (move_reply_of (move_outcome digests_move pair i both meddles stop command).reply)
-move_sayable pair i both meddles stop command = found_sayable pair i both meddles stop command (found_command digests_move pair i both command)
+move_sayable pair i both meddles stop command = found_sayable pair i both meddles stop command
+    (found_command digests_move pair i both command)
 
-done_acts : (pair : Pair) (which : Which) (meddles : List Meddle) (stop : Stop) (command : MoveCommand) (old new : CodeSide) (was now : IssuedTickets)
+done_acts : (pair : Pair) (which : Which) (meddles : List Meddle) (stop : Stop) (command : MoveCommand) (old new : CodeSide)
+    (was now : IssuedTickets)
     (committed : ℕ) (said : MoveReply) → AreWithin old was committed
     → CommandDone pair which old new was now (outcome_of_command pair which old was meddles stop command) said
     → ActDone pair which old new was now committed committed (outcome_of_act pair which old was committed (Moves meddles stop command)) said
@@ -88,7 +94,8 @@ lacks_acts pair which meddles stop command old new was now committed f w l =
     }
 
 command_acts : (pair : Pair) (which : Which) (meddles : List Meddle) (stop : Stop) (command : MoveCommand) (old new : CodeSide)
-    (was now : IssuedTickets) (committed : ℕ) (result : Result MoveReply Memory) → CommandGoes pair which meddles stop command old new was now result
+    (was now : IssuedTickets) (committed : ℕ) (result : Result MoveReply Memory) → CommandGoes pair which meddles stop command old
+    new was now result
     → ActGoes pair which (Moves meddles stop command) old new was now committed committed result
 command_acts pair which meddles stop command old new was now committed (Ok said) c =
     λ f b w few. done_acts pair which meddles stop command old new was now committed said w (c f b)
@@ -112,7 +119,8 @@ pub record Comes (held : TransferSides) (event : BothEvent) (new : Both Digests 
   pub after : OnOk result (new ≡ (outcome_in held event).both)
   pub wants : OnErr result (BothEventWants (pair_of held.header) event held.both new)
 
-first_comes : (header : Header) (first first' second : CodeSide) (between between' : IssuedTickets) (committed committed' : ℕ) (act : BothAct)
+first_comes : (header : Header) (first first' second : CodeSide) (between between' : IssuedTickets)
+    (committed committed' : ℕ) (act : BothAct)
     (result : Result MoveReply Memory) → MatchResult result
     (ActDone (pair_of header) First first first' between between' committed committed'
     (outcome_of_act (pair_of header) First first between committed act))
@@ -136,7 +144,8 @@ first_comes header first first' second between between' committed committed' act
   };
 }
 
-second_comes : (header : Header) (first second second' : CodeSide) (between between' : IssuedTickets) (committed committed' : ℕ) (act : BothAct)
+second_comes : (header : Header) (first second second' : CodeSide) (between between' : IssuedTickets)
+    (committed committed' : ℕ) (act : BothAct)
     (result : Result MoveReply Memory) → MatchResult result
     (ActDone (pair_of header) Second second second' between between' committed committed'
     (outcome_of_act (pair_of header) Second second between committed act))
@@ -164,8 +173,10 @@ second_comes header first second second' between between' committed committed' a
 }
 
 -- an event on either side, as the code has followed it
-pub event_first : (old : Inside) (held : TransferSides) (event : SideEvent) (new : Both Digests ℕ) (here : CodeSide) (between : IssuedTickets)
-    (committed : ℕ) (result came : Result MoveReply Memory) → transfer_sides_in old.header old.first old.second old.between old.committed ≡ held
+pub event_first : (old : Inside) (held : TransferSides) (event : SideEvent) (new : Both Digests ℕ) (here : CodeSide)
+    (between : IssuedTickets)
+    (committed : ℕ) (result came : Result MoveReply Memory) → transfer_sides_in old.header old.first old.second old.between old.committed
+    ≡ held
     → held.both.committed < 2 ^ 63 → event.which ≡ which.First → result ≡ came → new ≡ both_with here between (side_in old.second) committed
     → ActGoes (pair_of old.first.seat.header) First (act_of event.act) old.first here old.between between old.committed committed came
     → Comes held (side_event_of event) new result
@@ -183,8 +194,10 @@ event_first old held event new here between committed result came view few is ca
     let result_comes = subst (λ (r : Result MoveReply Memory). Comes held event new r) (sym came_is) new_comes in
     subst (λ (w : CodeWhich). Comes held (record { which = which_of w; act = act }) new result) (sym is) result_comes
 
-pub event_second : (old : Inside) (held : TransferSides) (event : SideEvent) (new : Both Digests ℕ) (here : CodeSide) (between : IssuedTickets)
-    (committed : ℕ) (result came : Result MoveReply Memory) → transfer_sides_in old.header old.first old.second old.between old.committed ≡ held
+pub event_second : (old : Inside) (held : TransferSides) (event : SideEvent) (new : Both Digests ℕ) (here : CodeSide)
+    (between : IssuedTickets)
+    (committed : ℕ) (result came : Result MoveReply Memory) → transfer_sides_in old.header old.first old.second old.between old.committed
+    ≡ held
     → held.both.committed < 2 ^ 63 → event.which ≡ which.Second → result ≡ came → new ≡ both_with old.first between (side_in here) committed
     → ActGoes (pair_of old.second.seat.header) Second (act_of event.act) old.second here old.between between old.committed committed came
     → Comes held (side_event_of event) new result

@@ -3,14 +3,17 @@ use Rattle.mm_transfer.proofs.Below.{◌≡◌, ◌≤◌, ◌+◌, ◌&&◌, �
 use Rattle.mm_transfer.proofs.Below.{refl, sym, ap, ◌∙◌, subst, arith, MatchResult, if◌then◌else◌, is_some, sum_by, Memory, StepFault}
 use Rattle.mm_transfer.proofs.Below.{Meddle, Stop, Standing, Instance, Digests, walk, course_of, way_of, offered_bytes, Offer}
 use Rattle.mm_transfer.proofs.Below.{Link, ReadyMove, MoveRefusal, Role, Effect, Which, Pair, instance_on, SideState, Both, digests_move}
-use Rattle.mm_transfer.proofs.Below.{DenialCause, FoundMove, MoveCommand, Denied, move_steps, effect_if, effect_of, state_after_steps, sides_after_effect_if}
-use Rattle.mm_transfer.proofs.Below.{found_command, outcome_if_found, move_end_outcome, role_after, IssuedTickets, MoveReply, CodeSide, TellsRefusalAs, TriesMove}
+use Rattle.mm_transfer.proofs.Below.{DenialCause, FoundMove, MoveCommand, Denied, move_steps, effect_if, effect_of, state_after_steps}
+use Rattle.mm_transfer.proofs.Below.{sides_after_effect_if}
+use Rattle.mm_transfer.proofs.Below.{found_command, outcome_if_found, move_end_outcome, role_after, IssuedTickets, MoveReply, CodeSide}
+use Rattle.mm_transfer.proofs.Below.{TellsRefusalAs, TriesMove}
 use Rattle.mm_transfer.proofs.Below.{both_with, outcome_of_command, FitsIssuedTickets, CommandDone, CommandLacks, has_moved, role_in, at_in}
 use Rattle.mm_transfer.proofs.Below.{within_64, FitsSide, MovesByPlan, has_effect_at, move_reply_of, refusal_of}
 use Rattle.mm_model.specs.declared.refusal.Refusal.TheVariants as core
 use Rattle.mm_move.specs.declared.refusal.MoveRefusal.TheVariants as refusal
 use Rattle.mm_transfer.specs.declared.reply.MoveReply.TheVariants as reply
-use Rattle.mm_transfer.proofs.Commanding.{said_cause, never_moved, CameAs, Knows, KnowsOf, Came, role_then, at_then, away_then, both_of, affected_is, within_then, FitsThen, brought_then, side_then}
+use Rattle.mm_transfer.proofs.Commanding.{said_cause, never_moved, CameAs, Knows, KnowsOf, Came, role_then, at_then, away_then, both_of}
+use Rattle.mm_transfer.proofs.Commanding.{affected_is, within_then, FitsThen, brought_then, side_then}
 use Rattle.mm_transfer.proofs.Moved.{made_if, MovedBy, moved_by}
 use Rattle.mm_transfer.proofs.SideStands.{KeepsFor}
 
@@ -129,9 +132,11 @@ pub record Told (pair : Pair) (i : Instance) (stop : Stop) (broken : Option Step
 
 -- nothing was handed out
 pub told_still : (pair : Pair) (i : Instance) (stop : Stop) (broken : Option StepFault) (found : Result FoundMove DenialCause)
-    (effect : Option Effect) (why : MoveRefusal) (result : Result MoveReply Memory) (old new : CodeSide) (was now : IssuedTickets) (d : Digests)
+    (effect : Option Effect) (why : MoveRefusal) (result : Result MoveReply Memory) (old new : CodeSide)
+    (was now : IssuedTickets) (d : Digests)
     → Refuses pair i stop broken found effect why → TellsRefusalAs stop why result → new.seat.issued.items ≡ old.seat.issued.items
-    → now.tickets.items ≡ was.tickets.items → now.kept ≡ was.kept → FitsIssuedTickets was → (let made = made_if (has_moved stop why) found in
+    → now.tickets.items ≡ was.tickets.items → now.kept ≡ was.kept → FitsIssuedTickets was
+    → (let made = made_if (has_moved stop why) found in
     new.seat.committed ≡ (at_then was.away d made).count
     → now.away ≡ away_then was.away d made → Told pair i stop broken found effect result old new was now d)
 told_still pair i stop broken found effect why result old new was now d r told issued tickets counted fits position away = record {
@@ -153,7 +158,8 @@ told_still pair i stop broken found effect why result old new was now d r told i
 
 -- a command with its move made
 pub move_done : {A : Type 0} (gives : FoundMove → A → Type 0) (pair : Pair) (which : Which) (stop : Stop) (meddles : List Meddle)
-    (command : MoveCommand) (found : Result FoundMove DenialCause) (old new : CodeSide) (was now : IssuedTickets) (came : Result A MoveRefusal)
+    (command : MoveCommand) (found : Result FoundMove DenialCause) (old new : CodeSide) (was now : IssuedTickets)
+    (came : Result A MoveRefusal)
     (result : Result MoveReply Memory) → FitsSide pair which old → (let i = instance_on pair which in
     let role = role_in old.seat.platform.cell in
     let d = at_in old in
@@ -162,7 +168,8 @@ pub move_done : {A : Type 0} (gives : FoundMove → A → Type 0) (pair : Pair) 
     → Told pair i stop (walk fates 1 (move_steps found)).broken found (effect_of fates found) result old new was now d
     → KeepsFor role new.digest.bytes d
     → ((it : FoundMove) → Knows gives role d it → KeepsFor (role_after it.effect) new.digest.bytes (at_then was.away d (Some it.effect)))
-    → ((other : SideState Digests) (committed : ℕ) → found_command digests_move pair i (both_with old was other committed) command ≡ Some found)
+    → ((other : SideState Digests) (committed : ℕ) → found_command digests_move pair i (both_with old was other committed) command
+    ≡ Some found)
     → MatchResult result (CommandDone pair which old new was now (outcome_of_command pair which old was meddles stop command))
     (λ _. CommandLacks pair which meddles stop old new was now))
 move_done gives pair which stop meddles command found old new was now came result fits c t keeps next finds =
@@ -181,7 +188,8 @@ move_done gives pair which stop meddles command found old new was now came resul
     let is = λ (other : SideState Digests) (committed : ℕ).
     affected_is role brought old.seat.issued.items was.tickets.items other was.away committed effect in
     let ends = λ (other : SideState Digests) (committed : ℕ).
-    t.ends (sides_after_effect_if digests_move (both_of role brought old.seat.issued.items was.tickets.items other was.away committed) effect)
+    t.ends (sides_after_effect_if digests_move (both_of role brought old.seat.issued.items was.tickets.items other was.away committed)
+    effect)
     (ap (λ (x : Both Digests ℕ). x.first.at.digest) (is other committed) ∙ b.digest)
     (ap (λ (x : Both Digests ℕ). x.first.issued) (is other committed)) (ap (λ (x : Both Digests ℕ). x.tickets) (is other committed)) in
     ok_match _ _ result t.said t.is (record {
@@ -194,7 +202,8 @@ move_done gives pair which stop meddles command found old new was now came resul
           ∙ sym (ap (λ x. (outcome_if_found digests_move pair i (both_with old was other committed) meddles stop command x).both)
           (finds other committed));
       says = λ other committed. (ends other committed).0
-          ∙ sym (ap (λ x. move_reply_of (outcome_if_found digests_move pair i (both_with old was other committed) meddles stop command x).reply)
+          ∙ sym (ap (λ x. move_reply_of (outcome_if_found digests_move pair i (both_with old was other committed) meddles stop
+          command x).reply)
           (finds other committed));
       issued = t.issued;
       tickets = t.tickets;

@@ -3,10 +3,13 @@ use Rattle.mm_transfer.proofs.Below.{◌≡◌, ℕ, Bool, true, false, List, Op
 use Rattle.mm_transfer.proofs.Below.{StepFault, Meddle, Stop, Standing, Instance}
 use Rattle.mm_transfer.proofs.Below.{Digests, register_reading, walk, course_of}
 use Rattle.mm_transfer.proofs.Below.{IsQuiet, ReadyMove, MoveRefusal, Role, Effect, digests_move, DenialCause, FoundMove, move_steps}
-use Rattle.mm_transfer.proofs.Below.{is_moved, effect_if, effect_of, state_after_steps, bytes_if_written, move_answer_of, MakesMove, cell_of_role}
-use Rattle.mm_transfer.proofs.Below.{refusal_of, next_cell_if, MatchesRole, Memory, MoveReply, Denied, Refused, move_reply_of, TellsRefusalAs, has_moved}
+use Rattle.mm_transfer.proofs.Below.{is_moved, effect_if, effect_of, state_after_steps, bytes_if_written, move_answer_of, MakesMove}
+use Rattle.mm_transfer.proofs.Below.{cell_of_role}
+use Rattle.mm_transfer.proofs.Below.{refusal_of, next_cell_if, MatchesRole, Memory, MoveReply, Denied, Refused, move_reply_of}
+use Rattle.mm_transfer.proofs.Below.{TellsRefusalAs, has_moved}
 use Rattle.mm_transfer.proofs.Below.{FitsEffect, FitsLive, IsSaid, digest_level, state_after_moves, Invites, Leaves, Enters}
-use Rattle.mm_transfer.proofs.Below.{role_after, Which, Pair, instance_on, SideState, stopped_moves, sides_after_effect_if, any_value, found_outer}
+use Rattle.mm_transfer.proofs.Below.{role_after, Which, Pair, instance_on, SideState, stopped_moves, sides_after_effect_if, any_value}
+use Rattle.mm_transfer.proofs.Below.{found_outer}
 use Rattle.mm_transfer.proofs.Below.{stopped_outer, CodeSide, link_of, FitsRole, FitsCell, ◌≤◌, Both}
 use Rattle.mm_model.specs.declared.refusal.Refusal.TheVariants as core
 use Rattle.mm_move.specs.declared.refusal.MoveRefusal.TheVariants as refusal
@@ -22,7 +25,8 @@ abbrev pub cell_if : Instance → Role → Digests → Option Effect → List �
 cell_if i role d None = cell_of_role i role d
 cell_if i role d (Some effect) = cell_after i d effect
 
-abbrev pub CameAs : {A : Type 0} → (FoundMove → A → Type 0) → Option StepFault → Result FoundMove DenialCause → Result A MoveRefusal → Type 0
+abbrev pub CameAs : {A : Type 0} → (FoundMove → A → Type 0) → Option StepFault → Result FoundMove DenialCause → Result A MoveRefusal
+    → Type 0
 CameAs gives (Some fault) found came = came ≡ Err (refusal.Core (core.Device fault))
 CameAs gives None (Err cause) came = came ≡ Err (refusal_of cause)
 CameAs {A} gives None (Ok found) came = (answer : A) × (came ≡ Ok answer) × gives found answer
@@ -55,12 +59,14 @@ module _ {A : Type 0} (gives : FoundMove → A → Type 0) (i : Instance) (role 
   refused_came cause (Some fault) e = e
 
   found_came : (found : FoundMove) (next : Option (List ℕ)) (answer : A) (broken : Option StepFault)
-      → came ≡ move_answer_of broken (Ok (record { next = next; answer = answer })) → gives found answer → CameAs gives broken (Ok found) came
+      → came ≡ move_answer_of broken (Ok (record { next = next; answer = answer })) → gives found answer
+      → CameAs gives broken (Ok found) came
   found_came found next answer None e g = (answer, e, g)
   found_came found next answer (Some fault) e g = e
 
   written_cell : (moved : Bool) (effect : Effect)
-      → Some (bytes_if_written (Some (cell_after i d effect)) moved (cell_of_role i role d)) ≡ Some (cell_if i role d (effect_if moved effect))
+      → Some (bytes_if_written (Some (cell_after i d effect)) moved (cell_of_role i role d))
+      ≡ Some (cell_if i role d (effect_if moved effect))
   written_cell true effect = refl
   written_cell false effect = refl
 
@@ -93,7 +99,8 @@ module _ {A : Type 0} (gives : FoundMove → A → Type 0) (i : Instance) (role 
         knows = record { answer = answer; gave = g; fits = fits; live = live };
       }
 
-  pub came_by : (expected : Result (ReadyMove A) MoveRefusal) (found : Result FoundMove DenialCause) → MatchesRole gives i role d expected found
+  pub came_by : (expected : Result (ReadyMove A) MoveRefusal) (found : Result FoundMove DenialCause)
+      → MatchesRole gives i role d expected found
       → MakesMove i d stop meddles (cell_of_role i role d) expected new came → Came gives i role d stop meddles found new came
   came_by (Err why) (Err cause) match made =
       let m : MakesMove i d stop meddles (cell_of_role i role d) (Err (refusal_of cause)) new came =

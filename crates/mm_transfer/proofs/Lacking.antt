@@ -5,7 +5,8 @@ use Rattle.mm_transfer.proofs.Below.{Meddle, Stop, Standing, Instance, Digests, 
 use Rattle.mm_transfer.proofs.Below.{IsQuiet, MoveRefusal, Which, Pair, instance_on, SideState, digests_move}
 use Rattle.mm_transfer.proofs.Below.{MoveCommand}
 use Rattle.mm_transfer.proofs.Below.{found_command, outcome_if_found, unissued_reply, IssuedTickets, MoveReply, CodeSide}
-use Rattle.mm_transfer.proofs.Below.{both_with, outcome_of_command, FitsIssuedTickets, CommandDone, CommandLacks, role_in, at_by, at_in, side_in}
+use Rattle.mm_transfer.proofs.Below.{both_with, outcome_of_command, FitsIssuedTickets, CommandDone, CommandLacks, role_in, at_by, at_in}
+use Rattle.mm_transfer.proofs.Below.{side_in}
 use Rattle.mm_transfer.proofs.Below.{Reads, [], ◌∷◌, ◌⊎◌, moves_seen, state_after_moves, digest_level}
 use Rattle.mm_transfer.proofs.Below.{within_64, FitsSide, WantsMemory, move_reply_of}
 use Rattle.mm_transfer.proofs.SideStands.{KeepsFor, same_keeps, side_stays}
@@ -24,7 +25,8 @@ IsReached i d meddles stop value =
     ⊎ (value ≡ (state_after_moves (digest_level i) d (moves_seen (course_of stop meddles).fates (Reads ∷ []) 1)).register)
 
 -- a side whose cell is as it was
-lacks_side : (pair : Pair) (which : Which) (stop : Stop) (meddles : List Meddle) (old new : CodeSide) (was now : IssuedTickets) (value : List ℕ)
+lacks_side : (pair : Pair) (which : Which) (stop : Stop) (meddles : List Meddle) (old new : CodeSide)
+    (was now : IssuedTickets) (value : List ℕ)
     → IsReached (instance_on pair which) (at_in old) meddles stop value → FitsSide pair which old
     → new.seat.platform.cell ≡ old.seat.platform.cell → register_reading new.seat.platform ≡ Some value → IsQuiet new.seat.platform
     → new.seat.committed ≡ old.seat.committed → KeepsFor (role_in old.seat.platform.cell) new.digest.bytes (at_in old)
@@ -53,7 +55,8 @@ lacks_side pair which stop meddles old new was now value reached fits cell regis
       away = away;
     }
 
-pub lacks_done : {A : Type 0} (pair : Pair) (which : Which) (stop : Stop) (meddles : List Meddle) (old new : CodeSide) (was now : IssuedTickets)
+pub lacks_done : {A : Type 0} (pair : Pair) (which : Which) (stop : Stop) (meddles : List Meddle) (old new : CodeSide)
+    (was now : IssuedTickets)
     (from to : Standing) (came : Result A MoveRefusal) → FitsSide pair which old
     → WantsMemory (instance_on pair which) (at_in old) stop meddles from to came → from.cell ≡ old.seat.platform.cell
     → new.seat.platform ≡ to
@@ -86,7 +89,8 @@ pub still_lacks : (pair : Pair) (which : Which) (stop : Stop) (meddles : List Me
     → CommandLacks pair which meddles stop old new was now
 still_lacks pair which stop meddles old new was now fits platform s b =
     lacks_side pair which stop meddles old new was now (at_in old).register (inl refl) fits (ap (λ (x : Standing). x.cell) platform)
-    (ap register_reading platform ∙ fits.stands.register) (subst IsQuiet (sym platform) fits.quiet) s.committed (same_keeps old new s.digest)
+    (ap register_reading platform ∙ fits.stands.register) (subst IsQuiet (sym platform) fits.quiet) s.committed
+    (same_keeps old new s.digest)
     s.issued b.tickets b.kept b.away
 
 -- a number that isn't issued: nothing is called
@@ -111,7 +115,8 @@ unissued_done pair which stop meddles command said old new was now fits counted 
           ∙ sym (ap (λ x. (outcome_if_found digests_move pair i (both_with old was other committed) meddles stop command x).both)
           (none other committed));
       says = λ other committed.
-          says ∙ sym (ap (λ x. move_reply_of (outcome_if_found digests_move pair i (both_with old was other committed) meddles stop command x).reply)
+          says ∙ sym (ap (λ x. move_reply_of (outcome_if_found digests_move pair i (both_with old was other committed) meddles stop
+          command x).reply)
           (none other committed));
       issued = omega (arith, ap length s.issued);
       tickets = omega (arith, ap length b.tickets);

@@ -17,7 +17,8 @@ use Rattle.mm_model.specs.PlaceMessages.{is_new}
 use Rattle.mm_model.specs.declared.refusal.Refusal.TheVariants as core
 use Rattle.mm_move.specs.declared.cell.MovedCell.TheVariants as moved
 use Rattle.mm_move.specs.declared.refusal.MoveRefusal.TheVariants as refusal
-use Rattle.mm_transfer.proofs.SideCells.{read_as, is_waiting, role_read, no_other, not_barred, same_tests, by_not, by_both, past, is_refused}
+use Rattle.mm_transfer.proofs.SideCells.{read_as, is_waiting, role_read, no_other, not_barred, same_tests, by_not, by_both, past}
+use Rattle.mm_transfer.proofs.SideCells.{is_refused}
 
 -- invitations
 
@@ -52,13 +53,15 @@ invites i link Blank d nonce fit size = record { next = refl; answer = tt; fits 
 invites i link Live d nonce fit size = (refl, tt)
 invites i link (Left left) d nonce fit size = record { next = refl; answer = tt; fits = (fit.fits.0, size); live = tt }
 invites i link (Waits awaited) d nonce fit size =
-    by_not GivesInvited i (Waits awaited) d (is_same_waiting (waiting_cell_at i awaited) (waiting_cell_at i nonce)) (bytes_eq awaited nonce) _ _ _ _
+    by_not GivesInvited i (Waits awaited) d (is_same_waiting (waiting_cell_at i awaited) (waiting_cell_at i nonce))
+    (bytes_eq awaited nonce) _ _ _ _
     (same_nonces i awaited nonce (is_waiting i link awaited fit.key fit.barrier fit.linked fit.fits.1)
     (is_waiting i link nonce fit.key fit.barrier fit.linked size))
     (record { next = refl; answer = tt; fits = (fit.fits.0, size); live = tt }) (refl, tt)
 
 pub invites_match : (i : Instance) (link : Link) (role : Role) (d : Digests) (nonce : List ℕ) → FitsCell i link role d → length nonce ≡ 32
-    → MatchesRole GivesInvited i role d (invitation_in (waiting_for link i.variant i.meaning.id nonce i.key) (moved_cell_of (cell_of_role i role d)))
+    → MatchesRole GivesInvited i role d (invitation_in (waiting_for link i.variant i.meaning.id nonce i.key)
+    (moved_cell_of (cell_of_role i role d)))
     (invitation_on role nonce)
 invites_match i link role d nonce fit size =
     subst (λ c. MatchesRole GivesInvited i role d (invitation_in c (moved_cell_of (cell_of_role i role d))) (invitation_on role nonce))
@@ -118,7 +121,8 @@ module _ (i : Instance) (link : Link) (role : Role) (d : Digests) (again : Bool)
 
   offer_match : (parts : Result Snapshot PartsFault) → ((snapshot : Snapshot) → parts ≡ Ok snapshot → snapshot.content.id ≡ i.meaning.id)
       → next ≡ next_cell_if again (retired_spelling (retired_cell_at i d nonce))
-      → MatchesRole (GivesTicket link.key) i role d (retirement_by i.variant link nonce (digest_of d.digest) next (offer_by i.meaning i.key parts))
+      → MatchesRole (GivesTicket link.key) i role d (retirement_by i.variant link nonce (digest_of d.digest) next
+      (offer_by i.meaning i.key parts))
       (retirement_with digests_move i d again nonce parts)
   offer_match (Err Form) id n = (refl, tt)
   offer_match (Err Kind) id n = (refl, tt)
@@ -147,7 +151,8 @@ retires i link (Left left) d nonce bytes fit size =
 
 pub retires_match : (i : Instance) (link : Link) (role : Role) (d : Digests) (nonce bytes : List ℕ) → FitsCell i link role d
     → length nonce ≡ 32
-    → MatchesRole (GivesTicket link.key) i role d (retirement_in i.meaning i.variant link nonce bytes (moved_cell_of (cell_of_role i role d)))
+    → MatchesRole (GivesTicket link.key) i role d
+    (retirement_in i.meaning i.variant link nonce bytes (moved_cell_of (cell_of_role i role d)))
     (retirement_on digests_move i role d nonce bytes)
 retires_match i link role d nonce bytes fit size =
     subst (λ r. MatchesRole (GivesTicket link.key) i role d (retirement_in i.meaning i.variant link nonce bytes r)

@@ -34,7 +34,8 @@ one_moved stop values (Fails fault made) other found e none = (sym (none (has_ef
 
 two_moved : (stop : Stop) (v w : List (List ℕ)) (e f : End) (effect : Effect) → end_of (fault_at stop 1) (is_made_at stop 1) ≡ e
     → end_of (fault_at stop 2) (is_made_at stop 2) ≡ f
-    → MovedBy stop (walk_from_step Reads v e (walk_from_step Reads w f (record { moves = []; steps = 0; writes = 0; broken = None }))).broken
+    → MovedBy stop (walk_from_step Reads v e
+    (walk_from_step Reads w f (record { moves = []; steps = 0; writes = 0; broken = None }))).broken
     (Ok (record { again = false; effect = effect })) (effect_if (is_moved e f) effect)
 two_moved stop v w Done Done effect e f = refl
 two_moved stop v w Done (Fails fault made) effect e f =

@@ -3,9 +3,11 @@ use Rattle.mm_transfer.proofs.Below.{append_assoc, ◌≡◌, ℕ, Bool, true, f
 use Rattle.mm_transfer.proofs.Below.{refl, sym, ap, ◌∙◌, subst, append-nil, ◌==◌, is_some, if◌then◌else◌, StepFault}
 use Rattle.mm_transfer.proofs.Below.{Meddle, Stop, Item, foreign_item, Plan, Standing, plan_after, item_values, register_after, Act}
 use Rattle.mm_transfer.proofs.Below.{StepGoes, DeviceStepEnds, fault_at, is_made_at, is_on_at, cell_after, items_after}
-use Rattle.mm_transfer.proofs.Below.{items_after_cycle, fault_by_plan, is_made_by_plan, is_on_by_plan, values_by_plan, Foreign, Instance, Digests}
+use Rattle.mm_transfer.proofs.Below.{items_after_cycle, fault_by_plan, is_made_by_plan, is_on_by_plan, values_by_plan, Foreign, Instance}
+use Rattle.mm_transfer.proofs.Below.{Digests}
 use Rattle.mm_transfer.proofs.Below.{digests_after, register_reading, Reads, End, StepsWalk, walk_from_step, end_of, digest_level}
-use Rattle.mm_transfer.proofs.Below.{state_after_moves, items_after_moves, plan_of, is_cut, SettlesPlan, IsQuiet, reads_none, power_if, stop_power, on_settled}
+use Rattle.mm_transfer.proofs.Below.{state_after_moves, items_after_moves, plan_of, is_cut, SettlesPlan, IsQuiet, reads_none, power_if}
+use Rattle.mm_transfer.proofs.Below.{stop_power, on_settled}
 use Rattle.mm_transfer.proofs.Below.{reads_shown, ReadyMove, MoveRefusal}
 use Rattle.mm_transfer.proofs.Below.{stopped_moves, bytes_if_written}
 use Rattle.mm_transfer.proofs.Below.{bytes_after_move}
@@ -83,7 +85,8 @@ module _ (i : Instance) (d : Digests) (stop : Stop) (meddles : List Meddle) wher
 -- a plan that is over, and perhaps power lost and back
 pub settled_by : (i : Instance) (s : Digests) (stop : Stop) (fault : Option StepFault) (mid new : Standing)
     → register_reading mid ≡ Some s.register
-    → SettlesPlan stop (is_some fault) mid new → register_reading new ≡ Some (state_after_moves (digest_level i) s (stopped_moves stop fault)).register
+    → SettlesPlan stop (is_some fault) mid new → register_reading new
+    ≡ Some (state_after_moves (digest_level i) s (stopped_moves stop fault)).register
 settled_by i s stop None mid new e settles = ap (λ x. option_map (λ xs. register_after (item_values xs)) x) settles.items ∙ e
 settled_by i s stop (Some fault) mid new e settles =
     subst (λ ms. register_reading new ≡ Some (state_after_moves (digest_level i) s ms).register) (sym (stop_power stop))

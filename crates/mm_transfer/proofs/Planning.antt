@@ -4,10 +4,12 @@ use Rattle.mm_transfer.proofs.Below.{inl, inr, refl, sym, ap, ◌∙◌, subst, 
 use Rattle.mm_transfer.proofs.Below.{Meddle, Stop, Standing}
 use Rattle.mm_transfer.proofs.Below.{ReadCell, WriteCell, StepGoes, fault_at, is_made_at, cell_after}
 use Rattle.mm_transfer.proofs.Below.{Move, Foreign, Instance, Digests}
-use Rattle.mm_transfer.proofs.Below.{register_reading, Reads, End, Done, Fails, StepsWalk, walk, walk_from_step, fate_by_plan, end_of, digest_level}
+use Rattle.mm_transfer.proofs.Below.{register_reading, Reads, End, Done, Fails, StepsWalk, walk, walk_from_step, fate_by_plan, end_of}
+use Rattle.mm_transfer.proofs.Below.{digest_level}
 use Rattle.mm_transfer.proofs.Below.{state_after_moves, plan_of, SettlesPlan}
 use Rattle.mm_transfer.proofs.Below.{CellFault, MovedCell, Invited, ReadyMove, MoveRefusal, is_same_waiting, invitation_in}
-use Rattle.mm_transfer.proofs.Below.{move_fault_of, move_fault_in, IsOrNoMemory, is_moved, is_written, stopped_moves, later_steps, bytes_if_written}
+use Rattle.mm_transfer.proofs.Below.{move_fault_of, move_fault_in, IsOrNoMemory, is_moved, is_written, stopped_moves, later_steps}
+use Rattle.mm_transfer.proofs.Below.{bytes_if_written}
 use Rattle.mm_transfer.proofs.Below.{bytes_after_move, move_answer_of, MoveEnds, MakesMove, WantsMemory, MovesByPlan}
 use Rattle.std.specs.Option.{option_map}
 use Rattle.mm_platform.specs.StandingWords.{due_values}
@@ -18,13 +20,15 @@ use Rattle.mm_move.specs.declared.cell.MovedCell.TheVariants.{Waiting as Waits}
 use Rattle.mm_move.specs.declared.cell.WaitingCell.{WaitingCell}
 use Rattle.mm_move.specs.declared.refusal.MoveRefusal.TheVariants.{Core}
 use Rattle.mm_move.specs.Moves.{move_answer, MakesMoveStep, MoveGoesOn, EndsAfterRead, MovePromise}
-use Rattle.mm_transfer.proofs.PlannedSteps.{StepsBy, step_by, settled_by, quiet_by, one_step, unwritten, done_made, seen_first, second_end, over}
+use Rattle.mm_transfer.proofs.PlannedSteps.{StepsBy, step_by, settled_by, quiet_by, one_step, unwritten, done_made, seen_first, second_end}
+use Rattle.mm_transfer.proofs.PlannedSteps.{over}
 
 module _ {A : Type 0} (i : Instance) (d : Digests) (stop : Stop) (meddles : List Meddle) (bytes : List ℕ) where
   -- broken off at the first step
   first_failed : (found : Result (ReadyMove A) MoveRefusal) (rest : StepsWalk) (fault : StepFault) (is_made : Bool) (other : End)
       (old mid new : Standing) → old.cell ≡ Some bytes → StepsBy i d stop meddles 1 ReadCell old mid (Some fault)
-      → SettlesPlan stop true mid new → MoveEnds i d stop bytes found (walk_from_step Reads (due_values 1 meddles) (Fails fault is_made) rest)
+      → SettlesPlan stop true mid new
+      → MoveEnds i d stop bytes found (walk_from_step Reads (due_values 1 meddles) (Fails fault is_made) rest)
       (is_moved (Fails fault is_made) other) new (Err (Core (Device fault)))
   first_failed found rest fault is_made other old mid new cell s settles = record {
     cell = settles.cell ∙ s.cell ∙ cell ∙ ap Some (sym (unwritten found bytes));
@@ -40,7 +44,8 @@ module _ {A : Type 0} (i : Instance) (d : Digests) (stop : Stop) (meddles : List
   first_done found moved old mid new cell s settles same = record {
     cell = settles.cell ∙ s.cell ∙ cell ∙ ap Some (sym same);
     register = settled_by i (seen_first i d meddles) stop None mid new s.register settles
-        ∙ ap (λ (ms : List Move). Some (state_after_moves (digest_level i) d ms).register) (sym (append-nil (map Foreign (due_values 1 meddles))));
+        ∙ ap (λ (ms : List Move). Some (state_after_moves (digest_level i) d ms).register)
+        (sym (append-nil (map Foreign (due_values 1 meddles))));
     quiet = quiet_by stop None mid new s.stays settles;
     says = refl;
   }
@@ -56,9 +61,11 @@ module _ {A : Type 0} (i : Instance) (d : Digests) (stop : Stop) (meddles : List
     cell = settles.cell ∙ t.cell ∙ ap (λ b. cell_after (WriteCell next) b middle.cell) (done_made stop 2 t.fault_is)
         ∙ ap (option_map (λ _. next)) (s.cell ∙ cell);
     register =
-        settled_by i (state_after_moves (digest_level i) (seen_first i d meddles) (map Foreign (due_values 2 meddles))) stop None mid new t.register settles
+        settled_by i (state_after_moves (digest_level i) (seen_first i d meddles) (map Foreign (due_values 2 meddles))) stop None mid new
+        t.register settles
         ∙ ap (λ (e : Digests). Some e.register)
-        (ap (λ (ms : List Move). state_after_moves (digest_level i) (seen_first i d meddles) ms) (sym (append-nil (map Foreign (due_values 2 meddles))))
+        (ap (λ (ms : List Move). state_after_moves (digest_level i) (seen_first i d meddles) ms)
+        (sym (append-nil (map Foreign (due_values 2 meddles))))
         ∙ sym (state_after_moves-append i d (map Foreign (due_values 1 meddles)) (map Foreign (due_values 2 meddles) ++ [])));
     quiet = quiet_by stop None mid new t.stays settles;
     says = refl;
@@ -67,7 +74,8 @@ module _ {A : Type 0} (i : Instance) (d : Digests) (stop : Stop) (meddles : List
     cell =
         settles.cell ∙ t.cell ∙ ap (cell_after (WriteCell next) (is_made_at stop 2)) (s.cell ∙ cell) ∙ written_at next (is_made_at stop 2);
     register =
-        settled_by i (state_after_moves (digest_level i) (seen_first i d meddles) (map Foreign (due_values 2 meddles))) stop (Some fault) mid new t.register
+        settled_by i (state_after_moves (digest_level i) (seen_first i d meddles) (map Foreign (due_values 2 meddles))) stop (Some fault)
+        mid new t.register
         settles ∙ ap (λ (e : Digests). Some (state_after_moves (digest_level i) e (stopped_moves stop (Some fault))).register)
         (sym (state_after_moves-append i d (map Foreign (due_values 1 meddles)) (map Foreign (due_values 2 meddles))));
     quiet = quiet_by stop (Some fault) mid new t.stays settles;
@@ -109,29 +117,34 @@ module _ {A : Type 0} (i : Instance) (d : Digests) (stop : Stop) (meddles : List
       (is_moved (end_of (fault_at stop 1) (is_made_at stop 1)) (second_end stop)) new (move_answer_of None expected)
   one_made expected mid cell s settles same =
       let m : Bool = is_made_at stop 1 in
-      subst (λ f. MoveEnds i d stop bytes expected (one_step (due_values 1 meddles) (end_of f m)) (is_moved (end_of f m) (second_end stop)) new
+      subst (λ f. MoveEnds i d stop bytes expected (one_step (due_values 1 meddles) (end_of f m))
+      (is_moved (end_of f m) (second_end stop)) new
       (move_answer_of None expected))
       s.fault_is (first_done i d stop meddles bytes expected (is_written (second_end stop)) (over old stop meddles) mid new cell s settles
       (same (is_written (second_end stop))))
 
   two_made : (next : List ℕ) (answer : A) (fault : Option StepFault) (middle mid : Standing) → old.cell ≡ Some bytes
       → StepsBy i d stop meddles 1 ReadCell (over old stop meddles) middle None
-      → StepsBy i (state_after_moves (digest_level i) d (map Foreign (due_values 1 meddles))) stop meddles 2 (WriteCell next) middle mid fault
+      → StepsBy i (state_after_moves (digest_level i) d (map Foreign (due_values 1 meddles))) stop meddles 2
+      (WriteCell next) middle mid fault
       → SettlesPlan stop (is_some fault) mid new
       → MakesMove i d stop meddles bytes (Ok (record { next = Some next; answer = answer })) new (move_answer answer fault)
   two_made next answer fault middle mid cell s t settles =
       let found : Result (ReadyMove A) MoveRefusal = Ok (record { next = Some next; answer = answer }) in
       let m : Bool = is_made_at stop 1 in
       let n : Bool = is_made_at stop 2 in
-      subst (λ f. MoveEnds i d stop bytes found (walk_from_step Reads (due_values 1 meddles) (end_of f m) (one_step (due_values 2 meddles) (second_end stop)))
+      subst (λ f. MoveEnds i d stop bytes found (walk_from_step Reads (due_values 1 meddles) (end_of f m)
+      (one_step (due_values 2 meddles) (second_end stop)))
       (is_moved (end_of f m) (second_end stop)) new (move_answer answer fault)) s.fault_is
-      (subst (λ f. MoveEnds i d stop bytes found (walk_from_step Reads (due_values 1 meddles) Done (one_step (due_values 2 meddles) (end_of f n)))
+      (subst (λ f. MoveEnds i d stop bytes found
+      (walk_from_step Reads (due_values 1 meddles) Done (one_step (due_values 2 meddles) (end_of f n)))
       (is_moved Done (end_of f n)) new (move_answer answer fault)) t.fault_is
       (second_done i d stop meddles bytes next answer (over old stop meddles) middle mid new fault cell s t settles))
 
   made_by : (next : Option (List ℕ)) (answer : A) (result : Result A MoveRefusal) (middle mid : Standing) (broken : Bool)
       → old.cell ≡ Some bytes
-      → StepsBy i d stop meddles 1 ReadCell (over old stop meddles) middle None → middle.is_on ≡ true → MakesMoveStep next answer middle mid result
+      → StepsBy i d stop meddles 1 ReadCell (over old stop meddles) middle None → middle.is_on ≡ true
+      → MakesMoveStep next answer middle mid result
       → broken ≡ is_some (move_fault_in result) → SettlesPlan stop broken mid new
       → MakesMove i d stop meddles bytes (Ok (record { next = next; answer = answer })) new result
   made_by None answer result middle mid broken cell s on makes is settles =
@@ -140,7 +153,8 @@ module _ {A : Type 0} (i : Instance) (d : Digests) (stop : Stop) (meddles : List
       subst (λ (r : Result A MoveRefusal). MakesMove i d stop meddles bytes (Ok (record { next = None; answer = answer })) new r)
       (sym makes.1) (one_made (Ok (record { next = None; answer = answer })) middle cell s here (λ moved. refl))
   made_by (Some next) answer result middle mid broken cell s on makes is settles =
-      let t = step_by i (state_after_moves (digest_level i) d (map Foreign (due_values 1 meddles))) stop meddles 1 (WriteCell next) middle mid makes.fault
+      let t = step_by i (state_after_moves (digest_level i) d (map Foreign (due_values 1 meddles))) stop meddles 1 (WriteCell next)
+          middle mid makes.fault
       (λ made items. refl) on s.plan s.register makes.goes in
       let breaks : broken ≡ is_some makes.fault =
       is ∙ ap (λ (r : Result A MoveRefusal). is_some (move_fault_in r)) makes.gives ∙ ap is_some (answered_fault answer makes.fault) in
@@ -155,7 +169,8 @@ module _ {A : Type 0} (i : Instance) (d : Digests) (stop : Stop) (meddles : List
     cell = settles.cell ∙ s.cell;
     register =
         inr (settled_by i (state_after_moves (digest_level i) d (map Foreign (due_values 1 meddles))) stop None mid new s.register settles
-        ∙ ap (λ (ms : List Move). Some (state_after_moves (digest_level i) d ms).register) (sym (append-nil (map Foreign (due_values 1 meddles)))));
+        ∙ ap (λ (ms : List Move). Some (state_after_moves (digest_level i) d ms).register)
+        (sym (append-nil (map Foreign (due_values 1 meddles)))));
     quiet = quiet_by stop None mid new s.stays settles;
   }
 
@@ -168,7 +183,8 @@ module _ {A : Type 0} (i : Instance) (d : Digests) (stop : Stop) (meddles : List
 
   found_by : (expected found : Result (ReadyMove A) MoveRefusal) (result : Result A MoveRefusal) (middle mid : Standing) (broken : Bool)
       → old.cell ≡ Some bytes → StepsBy i d stop meddles 1 ReadCell (over old stop meddles) middle None → middle.is_on ≡ true
-      → move_fault_in expected ≡ None → IsOrNoMemory expected found → MoveGoesOn found middle mid result → broken ≡ is_some (move_fault_in result)
+      → move_fault_in expected ≡ None → IsOrNoMemory expected found → MoveGoesOn found middle mid result
+      → broken ≡ is_some (move_fault_in result)
       → SettlesPlan stop broken mid new → Goal expected result
   found_by (Err why) found result middle mid broken cell s on none is goes breaks settles =
       let ends = subst (λ (f : Result (ReadyMove A) MoveRefusal). MoveGoesOn f middle mid result) is goes in
@@ -204,12 +220,14 @@ pub moves_planned : {A : Type 0} (finds : List ℕ → Result (ReadyMove A) Move
     → SettlesPlan stop broken mid new → MovesByPlan finds stop meddles old new result
 moves_planned finds stop meddles old at mid new broken result none planned_at moved breaks settles = λ i d bytes cell register quiet.
     let goes = subst (λ (s : Standing). StepGoes ReadCell s moved.moves.middle moved.moves.fault) planned_at moved.moves.reads in
-    let after = subst (λ (s : Standing). EndsAfterRead finds moved.moves.fault s moved.moves.middle mid result) planned_at moved.moves.after in
+    let after = subst (λ (s : Standing). EndsAfterRead finds moved.moves.fault s moved.moves.middle mid result) planned_at
+        moved.moves.after in
     after_read i d stop meddles bytes old new finds result moved.moves.fault moved.moves.middle mid broken none cell register quiet.is_on
     goes after breaks settles
 
 -- an invitation hands on no fault by itself
-no_fault_if : (test : Bool) (refused rest : Result (ReadyMove Invited) MoveRefusal) → move_fault_in refused ≡ None → move_fault_in rest ≡ None
+no_fault_if : (test : Bool) (refused rest : Result (ReadyMove Invited) MoveRefusal) → move_fault_in refused ≡ None → move_fault_in rest
+    ≡ None
     → move_fault_in (if test then refused else rest) ≡ None
 no_fault_if true refused rest p q = p
 no_fault_if false refused rest p q = q

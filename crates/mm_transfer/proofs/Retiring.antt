@@ -4,10 +4,13 @@ use Rattle.mm_transfer.proofs.Below.{inl, inr, refl, sym, ap, ◌∙◌, subst, 
 use Rattle.mm_transfer.proofs.Below.{Meddle, Stop, Standing, Digests, register_reading, walk, course_of, offered_bytes, Offer, IsQuiet}
 use Rattle.mm_transfer.proofs.Below.{Link, MoveRefusal, moved_cell_of, waiting_for, invitation_in, retirement_in, Invited, Role, Effect}
 use Rattle.mm_transfer.proofs.Below.{Invites, Leaves, is_live, Which, Pair, key_of, instance_on, Both, digests_move, FoundMove, DenialCause}
-use Rattle.mm_transfer.proofs.Below.{Invite, Retire, invitation_on, retirement_on, move_steps, effect_of, sides_after_issue, effect_reply, found_retirement, role_after, IssuedTickets}
-use Rattle.mm_transfer.proofs.Below.{MoveReply, CodeSide, TellsInvitation, KeepsDigest, TellsRetirement, both_with, outcome_of_command, FitsIssuedTickets, CommandDone}
+use Rattle.mm_transfer.proofs.Below.{Invite, Retire, invitation_on, retirement_on, move_steps, effect_of, sides_after_issue, effect_reply}
+use Rattle.mm_transfer.proofs.Below.{found_retirement, role_after, IssuedTickets}
+use Rattle.mm_transfer.proofs.Below.{MoveReply, CodeSide, TellsInvitation, KeepsDigest, TellsRetirement, both_with, outcome_of_command}
+use Rattle.mm_transfer.proofs.Below.{FitsIssuedTickets, CommandDone}
 use Rattle.mm_transfer.proofs.Below.{CommandLacks, has_moved, link_of, role_in, at_in, FitsSide, MovesByPlan, move_reply_of, cell_of_role}
-use Rattle.mm_transfer.proofs.Below.{GivesInvited, GivesInvitedBy, GivesTicket, GivesTicketBy, FitsLive, Instance, within_64, false, kept_more}
+use Rattle.mm_transfer.proofs.Below.{GivesInvited, GivesInvitedBy, GivesTicket, GivesTicketBy, FitsLive, Instance, within_64, false}
+use Rattle.mm_transfer.proofs.Below.{kept_more}
 use Rattle.mm_world.specs.declared.seat.Seat.{Seat}
 use Rattle.mm_transfer.specs.declared.reply.MoveReply.TheVariants as reply
 use Rattle.mm_transfer.proofs.Commanded.{by_known, IsIdle, chosen, whole, tell, Told, told_still, move_done, Named}
@@ -48,7 +51,8 @@ handed_none pair i both effect g = absurd g
 pub invites_planned : (pair : Pair) (which : Which) (nonce : List ℕ) (stop : Stop) (meddles : List Meddle) (link : Link) (id : ℕ)
     (key : List ℕ) (old new : Standing)
     (came : Result Invited MoveRefusal) → link ≡ link_of pair → id ≡ pair.meaning.id → key ≡ key_of pair which
-    → MovesByPlan (λ (bytes : List ℕ). invitation_in (waiting_for link pair.variant id nonce key) (moved_cell_of bytes)) stop meddles old new came
+    → MovesByPlan (λ (bytes : List ℕ). invitation_in (waiting_for link pair.variant id nonce key) (moved_cell_of bytes)) stop
+    meddles old new came
     → MovesByPlan (λ (bytes : List ℕ). invitation_in
     (waiting_for (link_of pair) (instance_on pair which).variant (instance_on pair which).meaning.id nonce (instance_on pair which).key)
     (moved_cell_of bytes)) stop meddles old new came
@@ -67,7 +71,8 @@ pub invited_done : (pair : Pair) (which : Which) (nonce : List ℕ) (stop : Stop
     (waiting_for (link_of pair) (instance_on pair which).variant (instance_on pair which).meaning.id nonce (instance_on pair which).key)
     (moved_cell_of bytes)) stop meddles mid.seat.platform new.seat.platform came → SameSide mid new → TellsInvitation stop came result
     → FitsSide pair which old → FitsIssuedTickets between
-    → MatchResult result (CommandDone pair which old new between between (outcome_of_command pair which old between meddles stop (Invite nonce)))
+    → MatchResult result (CommandDone pair which old new between between
+    (outcome_of_command pair which old between meddles stop (Invite nonce)))
     (λ _. CommandLacks pair which meddles stop old new between between)
 invited_done pair which nonce stop meddles old mid new between came result size k planned s says fits counted =
     let i = instance_on pair which in
@@ -138,7 +143,8 @@ handed_ticket pair i both effect bytes g = absurd g
 
 retires_planned : (pair : Pair) (which : Which) (nonce bytes : List ℕ) (stop : Stop) (meddles : List Meddle) (old new : Standing)
     (came : Result (List ℕ) MoveRefusal)
-    → MovesByPlan (λ (cell : List ℕ). retirement_in pair.meaning pair.variant (link_of pair) nonce bytes (moved_cell_of cell)) stop meddles old new
+    → MovesByPlan (λ (cell : List ℕ). retirement_in pair.meaning pair.variant (link_of pair) nonce bytes (moved_cell_of cell))
+    stop meddles old new
     came
     → MovesByPlan (λ (cell : List ℕ). retirement_in (instance_on pair which).meaning (instance_on pair which).variant (link_of pair) nonce
     bytes (moved_cell_of cell)) stop meddles old new came
@@ -146,9 +152,11 @@ retires_planned pair which nonce bytes stop meddles old new came planned =
     let v = sym (variant_by pair.variant pair.meaning (key_of pair which) pair.barrier) in
     let m = sym (meaning_by pair.variant pair.meaning (key_of pair which) pair.barrier) in
     subst (λ variant. MovesByPlan
-    (λ (cell : List ℕ). retirement_in (instance_on pair which).meaning variant (link_of pair) nonce bytes (moved_cell_of cell)) stop meddles old
+    (λ (cell : List ℕ). retirement_in (instance_on pair which).meaning variant (link_of pair) nonce bytes (moved_cell_of cell)) stop meddles
+    old
     new came) v (subst (λ (meaning : Meaning). MovesByPlan
-    (λ (cell : List ℕ). retirement_in meaning pair.variant (link_of pair) nonce bytes (moved_cell_of cell)) stop meddles old new came) m planned)
+    (λ (cell : List ℕ). retirement_in meaning pair.variant (link_of pair) nonce bytes (moved_cell_of cell)) stop meddles old new came) m
+    planned)
 
 -- with what the offer named, over a list with room for the ticket
 pub retired_done : (pair : Pair) (which : Which) (nonce : List ℕ) (offer : Offer) (stop : Stop) (meddles : List Meddle) (old new : CodeSide)
@@ -156,7 +164,8 @@ pub retired_done : (pair : Pair) (which : Which) (nonce : List ℕ) (offer : Off
     → length nonce ≡ 32
     → Named (λ bytes (cell : List ℕ). retirement_in pair.meaning pair.variant (link_of pair) nonce bytes (moved_cell_of cell)) stop meddles
     (offered_bytes old.seat.issued.items offer) old.seat.platform new.seat.platform came → live ≡ is_live (role_in (Some cell))
-    → old.seat.platform.cell ≡ Some cell → SameSide old new → SameBetween was mid → TellsRetirement live old.seat.committed stop came mid now result
+    → old.seat.platform.cell ≡ Some cell → SameSide old new → SameBetween was mid → TellsRetirement live old.seat.committed stop
+    came mid now result
     → FitsSide pair which old → FitsIssuedTickets was
     → MatchResult result (CommandDone pair which old new was now (outcome_of_command pair which old was meddles stop (Retire nonce offer)))
     (λ _. CommandLacks pair which meddles stop old new was now)
@@ -184,7 +193,8 @@ retired_done pair which nonce offer stop meddles old new was mid now live cell c
           (λ it k. (lives' ∙ (leaves it k).live, (leaves it k).away_is)) in
           let t = tell gives pair i role d stop (walk fates 1 (move_steps found)).broken found effect came
           (λ b f e. Told pair i stop b f e result old new was now d) c.says (moved_by stop meddles found) c.knows
-          (λ why e r. let t = subst (λ (c : Result (List ℕ) MoveRefusal). TellsRetirement live old.seat.committed stop c mid now result) e left in
+          (λ why e r. let t = subst (λ (c : Result (List ℕ) MoveRefusal). TellsRetirement live old.seat.committed stop c mid now result) e
+          left in
           told_still pair i stop _ found effect why result old new was now d r t.says s.issued (t.tickets ∙ b.tickets)
           (t.kept ∙ b.kept) counted (s.committed ∙ count (has_moved stop why) found c.knows)
           (t.away ∙ ap (λ n. if live && has_moved stop why then d.count else n) b.away ∙ gone (has_moved stop why) found c.knows r.idle))
@@ -209,7 +219,8 @@ retired_done pair which nonce offer stop meddles old new was mid now live cell c
             tickets = let n = ap length tickets in let m = length-append was.tickets.items (ticket ∷ []) in omega (arith, n, m);
           }) in
           move_done gives pair which stop meddles (Retire nonce offer) found old new was now came result fits c t keeps
-          (λ it k. (leaves it k).keeps) (λ other committed. ap (found_retirement digests_move i (both_with old was other committed).first nonce)
+          (λ it k. (leaves it k).keeps)
+          (λ other committed. ap (found_retirement digests_move i (both_with old was other committed).first nonce)
           named.names)
       | inr w ↦
           let t = subst (λ (c : Result (List ℕ) MoveRefusal). TellsRetirement live old.seat.committed stop c mid now result) w.says left in
@@ -225,7 +236,8 @@ retired_done pair which nonce offer stop meddles old new was mid now live cell c
 
 -- a snapshot that isn't issued
 pub retired_unissued : (pair : Pair) (which : Which) (nonce : List ℕ) (offer : Offer) (stop : Stop) (meddles : List Meddle)
-    (old new : CodeSide) (was now : IssuedTickets) → (offered_bytes old.seat.issued.items offer ≡ None) × (new.seat.platform ≡ old.seat.platform)
+    (old new : CodeSide) (was now : IssuedTickets) → (offered_bytes old.seat.issued.items offer ≡ None)
+    × (new.seat.platform ≡ old.seat.platform)
     → SameSide old new → SameBetween was now → FitsSide pair which old → FitsIssuedTickets was
     → CommandDone pair which old new was now (outcome_of_command pair which old was meddles stop (Retire nonce offer)) reply.NoSnapshot
 retired_unissued pair which nonce offer stop meddles old new was now none s b fits counted =

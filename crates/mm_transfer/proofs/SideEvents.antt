@@ -1,17 +1,21 @@
 -- A side in code goes on as its events say.
 use Rattle.mm_transfer.proofs.Below.{◌≡◌, ◌∙◌, ◌+◌, ◌^◌, ◌≤◌, ◌<◌, ℕ, List, length, Some, Result, Ok, Err, inl, inr, refl, sym, ap, subst}
 use Rattle.mm_transfer.proofs.Below.{arith, Memory, IsLawful, meaning_of, Meddle, Stop, Standing, cell_spelling, Instance}
-use Rattle.mm_transfer.proofs.Below.{Digests, moves_seen, reading_steps, digest_level, state_after_moves, cell_at, Event, Ask, Checkpoint, Power}
+use Rattle.mm_transfer.proofs.Below.{Digests, moves_seen, reading_steps, digest_level, state_after_moves, cell_at, Event, Ask, Checkpoint}
+use Rattle.mm_transfer.proofs.Below.{Power}
 use Rattle.mm_transfer.proofs.Below.{Extend, IsPrintable, Offer, Reply, Outcome, Batch, course_of, event_outcome, few_committed}
-use Rattle.mm_transfer.proofs.Below.{printable, issues_one, Role, Live, Which, Pair, key_of, instance_on, digests_move, outcome_by_role, commits_between}
-use Rattle.mm_transfer.proofs.Below.{CodeSide, pair_of, role_in, at_in, side_in, refusal_for_role, IsQuiet, StandsAs, FitsSide, SideComes, SideLacks}
+use Rattle.mm_transfer.proofs.Below.{printable, issues_one, Role, Live, Which, Pair, key_of, instance_on, digests_move, outcome_by_role}
+use Rattle.mm_transfer.proofs.Below.{commits_between}
+use Rattle.mm_transfer.proofs.Below.{CodeSide, pair_of, role_in, at_in, side_in, refusal_for_role, IsQuiet, StandsAs, FitsSide, SideComes}
+use Rattle.mm_transfer.proofs.Below.{SideLacks}
 use Rattle.mm_base.specs.Limits.{most_members}
 use Rattle.mm_modules.specs.ModulesLaws.{any_is_lawful}
 use Rattle.mm_world.specs.Seat.{SeatStaysOn, SeatLacksMemoryInVain}
 use Rattle.mm_world.specs.Seat as seat
 use Rattle.mm_transfer.specs.OneSide.{SideFollows, SideGoesOn}
 use Rattle.mm_transfer.specs.MemoryWant.{AskWants, PlainWants}
-use Rattle.mm_transfer.proofs.SideStands.{meaning_by, live_stands, stands_live, same_keeps, side_is, side_stays, Stays, stays_same, fault_where, vain_reads}
+use Rattle.mm_transfer.proofs.SideStands.{meaning_by, live_stands, stands_live, same_keeps, side_is, side_stays, Stays, stays_same}
+use Rattle.mm_transfer.proofs.SideStands.{fault_where, vain_reads}
 use Rattle.mm_transfer.proofs.Vain.{IsRegister, seen_digests, IsVain, event_vain}
 
 -- What is asked of an outcome that a side comes to.
@@ -55,7 +59,8 @@ live_comes pair which old new o said live bound few c =
       stands = λ j. record { role = role j; at = at j; issued = issued j };
       says = c.reply;
       printable = subst IsPrintable (sym c.reply) few.printable;
-      commits = subst (λ (r : Role). new.seat.committed ≡ old.seat.committed + commits_between r old.seat.committed o.state.count) (sym live)
+      commits = subst (λ (r : Role). new.seat.committed ≡ old.seat.committed + commits_between r old.seat.committed o.state.count)
+          (sym live)
           (omega (arith, count, rises));
     }
 
@@ -194,7 +199,8 @@ module _ (pair : Pair) (which : Which) (old new : CodeSide) (fits : FitsSide pai
   plain_wants (Extend value) w = same_platform (extend_wants (role_in old.seat.platform.cell) value w)
 
 lacks_by : (which : Which) (event : Event) (old new : CodeSide) (memory : Memory) → FitsSide (pair_of old.seat.header) which old
-    → new.digest ≡ old.digest → seat.SeatTakesEvent event old.seat new.seat (Err memory) → SideLacks (pair_of old.seat.header) which event old new
+    → new.digest ≡ old.digest → seat.SeatTakesEvent event old.seat new.seat (Err memory) → SideLacks (pair_of old.seat.header)
+    which event old new
 lacks_by which event old new memory fits digest f =
     let pair = pair_of old.seat.header in
     let w = wanting_by which (role_in old.seat.platform.cell) event old new memory fits.stands fits.quiet f in

@@ -1,5 +1,6 @@
 -- Both sides at first.
-use Rattle.mm_transfer.proofs.Below.{◌≡◌, ◌∙◌, ℕ, List, [], ◌∷◌, length, refl, sym, ap, subst, Variant, Basic, Opt, start_digest_of, Meaning}
+use Rattle.mm_transfer.proofs.Below.{◌≡◌, ◌∙◌, ℕ, List, [], ◌∷◌, length, refl, sym, ap, subst, Variant, Basic, Opt, start_digest_of}
+use Rattle.mm_transfer.proofs.Below.{Meaning}
 use Rattle.mm_transfer.proofs.Below.{meaning_of, Standing, first_history, register_reading, cell_of, issued_bytes, instance_by, Header}
 use Rattle.mm_transfer.proofs.Below.{first_digests, world_key, world_barrier, HasDigests, stands_new, blank_cell, length-zero_bytes}
 use Rattle.mm_transfer.proofs.Below.{Blank, Live, First, Second, first_both, key_of, instance_on, CodeSide, pair_of, StandsAs, IsNew}
@@ -16,7 +17,8 @@ barrier_by Basic meaning key barrier e = length-zero_bytes
 barrier_by Opt meaning key barrier e = e
 
 start_on : (variant : Variant) (meaning : Meaning) (key barrier : List ℕ)
-    → start_digest_of (instance_by variant meaning key barrier).variant (instance_by variant meaning key barrier).meaning.id ≡ start_digest_of variant
+    → start_digest_of (instance_by variant meaning key barrier).variant (instance_by variant meaning key barrier).meaning.id
+    ≡ start_digest_of variant
     meaning.id
 start_on Basic meaning key barrier = refl
 start_on Opt meaning key barrier = refl

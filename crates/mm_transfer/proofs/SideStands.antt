@@ -3,7 +3,8 @@ use Rattle.mm_transfer.proofs.Below.{◌≡◌, ◌∙◌, ◌<◌, ℕ, false, 
 use Rattle.mm_transfer.proofs.Below.{Variant, Basic, Opt, Meaning, Standing, IsNoCell, Instance, Digests, register_reading, instance_by}
 use Rattle.mm_transfer.proofs.Below.{IsRead, CellFault, value_in, digest_in, HasDigests, IsQuiet, register_at, digests_are, WaitingCell}
 use Rattle.mm_transfer.proofs.Below.{barrier_of, three, Role, Blank, Live, Waiting, Retired, is_live, Which, Pair, key_of, instance_on}
-use Rattle.mm_transfer.proofs.Below.{CodeSide, link_of, role_in, role_of, at_by, at_in, StandsAs, FitsSide, waiting_cell_at, retired_cell_at}
+use Rattle.mm_transfer.proofs.Below.{CodeSide, link_of, role_in, role_of, at_by, at_in, StandsAs, FitsSide, waiting_cell_at}
+use Rattle.mm_transfer.proofs.Below.{retired_cell_at}
 use Rattle.mm_transfer.proofs.Below.{cell_of_role}
 use Rattle.mm_seal.specs.declared.cell.Cell.{Cell}
 use Rattle.mm_seal.specs.declared.cell.CellFault.TheVariants as fault

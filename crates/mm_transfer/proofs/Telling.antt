@@ -1,9 +1,13 @@
 -- Both sides show of events what is told of a whole transfer.
 use Rattle.mm_transfer.proofs.Below.{◌≡◌, ◌∙◌, ℕ, List, [], ◌∷◌, ◌++◌, refl, sym, ap, subst, History}
-use Rattle.mm_transfer.proofs.Below.{requests_of, Digests, Header, promises-kept, Role, MoveNotes, no_notes, Pair, Both, digests_move, lists_move}
-use Rattle.mm_transfer.proofs.Below.{first_lists, BothEvent, BothReply, BothRunOutcome, both_outcome, both_outcome_of_events, both_outcome_by_lists}
-use Rattle.mm_transfer.proofs.Below.{both_outcome_by_digests, notes_with_effect_if, IsOneFrom, PairsAgreeThroughout, OneIsLive, SidesRunAsOne, plain_events}
-use Rattle.mm_transfer.proofs.Below.{plain_replies, history_now, pair_of, TransferState, first_transfer, transfer_steps, kept_size_of, transfer_text, both_end_line}
+use Rattle.mm_transfer.proofs.Below.{requests_of, Digests, Header, promises-kept, Role, MoveNotes, no_notes, Pair, Both, digests_move}
+use Rattle.mm_transfer.proofs.Below.{lists_move}
+use Rattle.mm_transfer.proofs.Below.{first_lists, BothEvent, BothReply, BothRunOutcome, both_outcome, both_outcome_of_events}
+use Rattle.mm_transfer.proofs.Below.{both_outcome_by_lists}
+use Rattle.mm_transfer.proofs.Below.{both_outcome_by_digests, notes_with_effect_if, IsOneFrom, PairsAgreeThroughout, OneIsLive}
+use Rattle.mm_transfer.proofs.Below.{SidesRunAsOne, plain_events}
+use Rattle.mm_transfer.proofs.Below.{plain_replies, history_now, pair_of, TransferState, first_transfer, transfer_steps, kept_size_of}
+use Rattle.mm_transfer.proofs.Below.{transfer_text, both_end_line}
 use Rattle.mm_transfer.proofs.Below.{IsOneTransfer}
 use Rattle.std.proofs.Common.{inl, inr}
 use Rattle.std.proofs.lemmas.List.{append-nil}
@@ -27,7 +31,8 @@ pub record SideLaws : Type 0 where
 
 -- at the end of the events too at most one side is live
 at_the_end : (pair : Pair) (both : Both History History) (notes : MoveNotes) (events : List BothEvent) → IsOneFrom pair both notes events
-    → AtMostOne (both_outcome_of_events lists_move pair both events).both.first.role (both_outcome_of_events lists_move pair both events).both.second.role
+    → AtMostOne (both_outcome_of_events lists_move pair both events).both.first.role
+    (both_outcome_of_events lists_move pair both events).both.second.role
 at_the_end pair both notes [] h = h
 at_the_end pair both notes (event ∷ events) h =
     let o = both_outcome lists_move pair both event in at_the_end pair o.both (notes_with_effect_if o.effect notes) events h.2
@@ -81,17 +86,20 @@ pub transfers_go_on : PairsGoOn → TransfersGoOn
 transfers_go_on law header events shown one front rest is =
     let pair = pair_of header in
     (one events [] (sym (append-nil events))).0 ∙ ap (λ (es : List BothEvent). both_outcome_by_digests pair es) is ∙ (law pair front rest).1
-    ∙ ap (λ (it : BothRunOutcome Digests ℕ). both_outcome_joined it (both_outcome_of_events digests_move pair it.both rest)) (sym (one front rest is).0)
+    ∙ ap (λ (it : BothRunOutcome Digests ℕ). both_outcome_joined it (both_outcome_of_events digests_move pair it.both rest))
+    (sym (one front rest is).0)
 
 -- what stands behind events, and what was written
 abbrev followed_in : TransferState → List BothEvent → BothRunOutcome Digests ℕ
 followed_in r events = both_outcome_of_events digests_move (pair_of r.header) r.both events
 
-both_behind : (events : List BothEvent) (r : TransferState) → (state_behind_events transfer_steps r events).both ≡ (followed_in r events).both
+both_behind : (events : List BothEvent) (r : TransferState) → (state_behind_events transfer_steps r events).both
+    ≡ (followed_in r events).both
 both_behind [] r = refl
 both_behind (event ∷ events) r = both_behind events (transfer_steps.after r event)
 
-texts_behind : (events : List BothEvent) (r : TransferState) → answers_text events (followed_in r events).replies ≡ replies transfer_steps r events
+texts_behind : (events : List BothEvent) (r : TransferState) → answers_text events (followed_in r events).replies
+    ≡ replies transfer_steps r events
 texts_behind [] r = refl
 texts_behind (event ∷ events) r =
     ap (λ (text : List ℕ). transfer_text r event ++ text) (texts_behind events (transfer_steps.after r event))

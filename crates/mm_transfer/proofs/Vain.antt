@@ -1,9 +1,13 @@
 -- What an event comes to where the module isn't: the register alone changes.
 use Rattle.mm_transfer.proofs.Below.{◌≡◌, ◌∙◌, ◌+◌, ℕ, List, [], ◌∷◌, ◌++◌, map, Option, None, Some, Err, refl, ap, append-nil, Bool}
-use Rattle.mm_transfer.proofs.Below.{true, false, if◌then◌else◌, Batch, One, Meddle, Stop, Instance, Digests, digests_after, Move, Commit, Foreign}
-use Rattle.mm_transfer.proofs.Below.{PowerMove, DeviceStep, Reads, Refusal, StepsWalk, End, Done, Fails, StepFate, walk_from_step, has_commit, call_outcome_by}
-use Rattle.mm_transfer.proofs.Below.{moves_seen, digest_level, state_after_moves, Event, Ask, Checkpoint, Power, Extend, IsPrintable, Reply, Outcome}
-use Rattle.mm_transfer.proofs.Below.{course_of, vain_event_outcome, offered_bytes, way_of, moves_after_stop, outcome_without_call, read_only_outcome, vain_ask_outcome}
+use Rattle.mm_transfer.proofs.Below.{true, false, if◌then◌else◌, Batch, One, Meddle, Stop, Instance, Digests, digests_after, Move, Commit}
+use Rattle.mm_transfer.proofs.Below.{Foreign}
+use Rattle.mm_transfer.proofs.Below.{PowerMove, DeviceStep, Reads, Refusal, StepsWalk, End, Done, Fails, StepFate, walk_from_step}
+use Rattle.mm_transfer.proofs.Below.{has_commit, call_outcome_by}
+use Rattle.mm_transfer.proofs.Below.{moves_seen, digest_level, state_after_moves, Event, Ask, Checkpoint, Power, Extend, IsPrintable, Reply}
+use Rattle.mm_transfer.proofs.Below.{Outcome}
+use Rattle.mm_transfer.proofs.Below.{course_of, vain_event_outcome, offered_bytes, way_of, moves_after_stop, outcome_without_call}
+use Rattle.mm_transfer.proofs.Below.{read_only_outcome, vain_ask_outcome}
 use Rattle.mm_transfer.proofs.Below.{outcome_by, broken_reply, any_value, AreOuter, IsOuter, foreign_outer, stop_outer}
 use Rattle.mm_schedule.specs.declared.reply.Reply.TheVariants as reply
 use Rattle.mm_schedule.specs.declared.reply.Cause.TheVariants as cause
@@ -70,7 +74,8 @@ read_vain i d issued stop why fate Done is = record {
   printable = tt;
 }
 read_vain i d issued stop why fate (Fails why_broken is_made) is = record {
-  state = then_made i d _ (moves_after_stop stop) (outer_digests Any i (map Foreign fate.brings) d (brought_outer fate)) (stop_outer Any stop);
+  state = then_made i d _ (moves_after_stop stop) (outer_digests Any i (map Foreign fate.brings) d (brought_outer fate))
+      (stop_outer Any stop);
   issued = append-nil issued;
   printable = kept_printed (way_of stop) (position_if_committed (has_commit (map Foreign fate.brings)) 0);
 }
@@ -80,11 +85,13 @@ reads_vain : (i : Instance) (d : Digests) (issued : List (List ℕ)) (meddles : 
 reads_vain i d issued meddles stop why =
     read_vain i d issued stop why ((course_of stop meddles).fates 1) ((course_of stop meddles).fates 1).ends refl
 
-uncalled_vain : (d : Digests) (issued : List (List ℕ)) (said : Reply) → IsPrintable said → IsVain d issued (outcome_without_call d issued said)
+uncalled_vain : (d : Digests) (issued : List (List ℕ)) (said : Reply) → IsPrintable said
+    → IsVain d issued (outcome_without_call d issued said)
 uncalled_vain d issued said p = record { state = refl; issued = refl; printable = p }
 
 ask_vain : (i : Instance) (d : Digests) (issued : List (List ℕ)) (meddles : List Meddle) (stop : Stop) (why : Refusal) (long : Bool)
-    → IsVain d issued (if long then outcome_without_call d issued (reply.No cause.Long) else read_only_outcome (digest_level i) d issued meddles stop why)
+    → IsVain d issued (if long then outcome_without_call d issued (reply.No cause.Long) else read_only_outcome (digest_level i) d issued
+    meddles stop why)
 ask_vain i d issued meddles stop why true = uncalled_vain d issued _ tt
 ask_vain i d issued meddles stop why false = reads_vain i d issued meddles stop why
 

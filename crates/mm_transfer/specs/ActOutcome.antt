@@ -11,7 +11,8 @@ use Rattle.mm_transfer.specs.Replies.{move_reply_of, IsSayable}
 use Rattle.mm_transfer.specs.MemoryWant.{ActWants}
 
 -- what happens on a side comes to this, whatever the other is
-abbrev pub outcome_of_act : Pair → Which → CodeSide → IssuedTickets → ℕ → BothAct → SideState Digests
+abbrev pub outcome_of_act : Pair → Which → CodeSide → IssuedTickets → ℕ → BothAct
+    → SideState Digests
     → BothOutcome Digests ℕ
 outcome_of_act pair which here between committed act other =
     outcome_here digests_move pair (instance_on pair which) (both_with here between other committed)
@@ -50,7 +51,8 @@ pub record ActLacks (pair : Pair) (which : Which) (act : BothAct) (old new : Cod
   pub same : after ≡ before
 
 -- something happened on a side
-abbrev pub ActGoes : Pair → Which → BothAct → CodeSide → CodeSide → IssuedTickets → IssuedTickets → ℕ → ℕ
+abbrev pub ActGoes : Pair → Which → BothAct → CodeSide → CodeSide → IssuedTickets → IssuedTickets
+    → ℕ → ℕ
     → Result MoveReply Memory → Type 0
 ActGoes pair which act old new was now before after result =
     FitsSide pair which old → FitsIssuedTickets was → AreWithin old was before → before < 2 ^ 63

@@ -49,9 +49,12 @@ pub use Rattle.mm_schedule.specs.declared.header.Header.{Header}
 pub use Rattle.mm_schedule.specs.declared.reply.Reply.{Reply}
 pub use Rattle.mm_outcome.specs.Folds.{Outcome, cause_of, course_of, way_of}
 pub use Rattle.mm_outcome.specs.WorldState.{rising_from, world_barrier, world_key}
-pub use Rattle.mm_sides.specs.Both.{Both, First, Pair, Second, SideState, Which, digests_move, sides_seen_from, first_both, first_lists, instance_on}
-pub use Rattle.mm_sides.specs.Folds.{BothAct, BothEvent, BothRunOutcome, BothOutcome, BothReply, Moves, Plain, both_outcome_by_digests, both_outcome_by_lists}
-pub use Rattle.mm_sides.specs.Folds.{both_outcome_of_events, both_outcome, commits_between, is_moved, move_outcome, outcome_here, outcome_by_role, stopped_moves}
+pub use Rattle.mm_sides.specs.Both.{Both, First, Pair, Second, SideState, Which, digests_move, sides_seen_from, first_both, first_lists}
+pub use Rattle.mm_sides.specs.Both.{instance_on}
+pub use Rattle.mm_sides.specs.Folds.{BothAct, BothEvent, BothRunOutcome, BothOutcome, BothReply, Moves, Plain, both_outcome_by_digests}
+pub use Rattle.mm_sides.specs.Folds.{both_outcome_by_lists}
+pub use Rattle.mm_sides.specs.Folds.{both_outcome_of_events, both_outcome, commits_between, is_moved, move_outcome, outcome_here}
+pub use Rattle.mm_sides.specs.Folds.{outcome_by_role, stopped_moves}
 pub use Rattle.mm_sides.specs.Laws.{IsOneFrom, both_outcome_joined, plain_events, plain_replies}
 pub use Rattle.mm_sides.specs.Moves.{Accept, Already, MoveCommand, FoundMove, Gone, Invite, DenialCause, Nonce, Open, Retire}
 pub use Rattle.mm_sides.specs.Order.{AtMostOne}

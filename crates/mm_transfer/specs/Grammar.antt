@@ -3,7 +3,8 @@ use Rattle.std.specs.Prelude.{ℕ, List, Option, Some, None, if◌then◌else◌
 use Rattle.std.specs.Option.{option_map_or}
 use Rattle.std.specs.Str.{bytes_eq}
 use Rattle.mm_transfer.specs.Below.{Meddle, Stop, One, value_at, Ask, Checkpoint, Power, Extend, meddles_at, stop_at, offer_at, head_at}
-use Rattle.mm_transfer.specs.Below.{◌>>=◌, rest_after_prefix, bytes_at, number_at, word_at, Offer, Number, Last, Flip, Raw, Header, Which, First}
+use Rattle.mm_transfer.specs.Below.{◌>>=◌, rest_after_prefix, bytes_at, number_at, word_at, Offer, Number, Last, Flip, Raw, Header, Which}
+use Rattle.mm_transfer.specs.Below.{First}
 use Rattle.mm_transfer.specs.Below.{Second, BothAct, Plain, Moves, BothEvent, MoveCommand, Invite, Retire, Accept}
 
 -- the header that the first line names, as `memoir transfer 1 basic counter`
@@ -38,7 +39,8 @@ flipped_offer_at line =
 
 -- an offer up to the end of the line
 unfoldable pub whole_offer_at : List ℕ → Option Offer
-whole_offer_at line = option_map_or flipped_offer_at (rest_after_prefix (codes "flip ") line) (named_offer_at line)
+whole_offer_at line = option_map_or flipped_offer_at (rest_after_prefix (codes "flip ") line)
+    (named_offer_at line)
 
 -- a nonce and an offer behind `retire`
 unfoldable pub retirement_at : List ℕ → Option MoveCommand

@@ -4,7 +4,8 @@ use Rattle.std.specs.List.{sum_by}
 use Rattle.std.specs.Option.{option_map}
 use Rattle.mm_play.specs.HeadingStep.{Begins}
 use Rattle.mm_play.specs.Headline.{EventPlayer}
-use Rattle.mm_transfer.specs.Below.{meaning_of, Digests, IsEventRun, ModulePromises, Header, first_lists, BothEvent, BothRunOutcome, both_outcome_by_lists}
+use Rattle.mm_transfer.specs.Below.{meaning_of, Digests, IsEventRun, ModulePromises, Header, first_lists, BothEvent, BothRunOutcome}
+use Rattle.mm_transfer.specs.Below.{both_outcome_by_lists}
 use Rattle.mm_transfer.specs.Below.{both_outcome_by_digests, IsOneFrom, plain_events, plain_replies, AtMostOne, no_notes}
 use Rattle.mm_sides.specs.Evidence.{HasPairEvidence}
 use Rattle.mm_transfer.specs.Answers.{answers_text, end_line}
@@ -34,7 +35,8 @@ transfer_player = record {
 pub record IsOneTransfer (header : Header) (events : List BothEvent)
     (it : BothRunOutcome Digests ℕ) : Type 0 where
   pub requests : List (List ℕ)
-  pub runs : IsEventRun (meaning_of header.«module») [] (plain_events events) (plain_replies it.replies)
+  pub runs : IsEventRun (meaning_of header.«module») [] (plain_events events)
+      (plain_replies it.replies)
       requests
   pub judged : it.replies ≡ (both_outcome_by_lists (pair_of header) events).replies
   pub count : it.both.committed ≡ length requests

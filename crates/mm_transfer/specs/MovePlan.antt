@@ -1,7 +1,9 @@
 -- A move over a platform in memory, under the plan of an event.
 use Rattle.std.specs.Prelude.{◌≡◌, ◌==◌, ◌&&◌, ℕ, Bool, true, false, List, [], ◌∷◌, Option, None, Some, Result, Ok, Err, ◌⊎◌}
-use Rattle.mm_transfer.specs.Below.{Standing, StepFault, Meddle, Stop, Instance, Digests, register_reading, DeviceStep, Reads, Device, StepsWalk, moves_seen, walk}
-use Rattle.mm_transfer.specs.Below.{digest_level, state_after_moves, ReadyMove, MoveRefusal, Core, course_of, is_moved, stopped_moves, takes_effect}
+use Rattle.mm_transfer.specs.Below.{Standing, StepFault, Meddle, Stop, Instance, Digests, register_reading, DeviceStep, Reads, Device}
+use Rattle.mm_transfer.specs.Below.{StepsWalk, moves_seen, walk}
+use Rattle.mm_transfer.specs.Below.{digest_level, state_after_moves, ReadyMove, MoveRefusal, Core, course_of, is_moved, stopped_moves}
+use Rattle.mm_transfer.specs.Below.{takes_effect}
 use Rattle.mm_transfer.specs.Below.{stopped_step, IsQuiet}
 use Rattle.mm_model.specs.declared.refusal.Refusal.TheVariants.{Memory}
 
@@ -20,7 +22,8 @@ bytes_if_written None moved bytes = bytes
 bytes_if_written (Some next) true bytes = next
 bytes_if_written (Some next) false bytes = bytes
 
-abbrev pub bytes_after_move : {A : Type 0} → Result (ReadyMove A) MoveRefusal → Bool → List ℕ → List ℕ
+abbrev pub bytes_after_move : {A : Type 0} → Result (ReadyMove A) MoveRefusal → Bool → List ℕ
+    → List ℕ
 bytes_after_move (Ok ready) moved bytes = bytes_if_written ready.next moved bytes
 bytes_after_move (Err why) moved bytes = bytes
 
@@ -35,7 +38,8 @@ move_answer_of None (Err why) = Err why
 -- brought, and is empty where power was lost behind.
 pub record MoveEnds {A : Type 0} (i : Instance) (d : Digests) (stop : Stop) (bytes : List ℕ)
     (found : Result (ReadyMove A) MoveRefusal)
-    (walked : StepsWalk) (moved : Bool) (new : Standing) (result : Result A MoveRefusal) : Type 0 where
+    (walked : StepsWalk) (moved : Bool) (new : Standing)
+    (result : Result A MoveRefusal) : Type 0 where
   pub cell : new.cell ≡ Some (bytes_after_move found moved bytes)
   pub register : register_reading new
       ≡ Some (state_after_moves (digest_level i) (state_after_moves (digest_level i) d walked.moves)
@@ -60,7 +64,8 @@ pub record WantsMemory {A : Type 0} (i : Instance) (d : Digests) (stop : Stop)
   pub cell : new.cell ≡ old.cell
   pub register : (register_reading new ≡ Some d.register)
       ⊎ (register_reading new ≡ Some
-      (state_after_moves (digest_level i) d (moves_seen (course_of stop meddles).fates (Reads ∷ []) 1)).register)
+      (state_after_moves (digest_level i) d
+      (moves_seen (course_of stop meddles).fates (Reads ∷ []) 1)).register)
   pub quiet : IsQuiet new
 
 -- A move by what it finds, over a quiet platform that tells its cell and its register.

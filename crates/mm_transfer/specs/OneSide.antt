@@ -1,8 +1,10 @@
 -- One side in code, and what it is by digests.
 use Rattle.std.specs.Prelude.{◌≡◌, ◌≤◌, ◌+◌, ℕ, Bool, false, List, length, Option, None, Some, Result, Ok, Err, MatchResult}
 use Rattle.mm_transfer.specs.Below.{most_members, Memory, CellFault, Standing, Digests, register_reading}
-use Rattle.mm_transfer.specs.Below.{moved_cell_of, MovedCell, Link, Event, IsPrintable, Header, Reply, Outcome, Which, Pair, instance_on, SideState}
-use Rattle.mm_transfer.specs.Below.{digests_move, outcome_by_role, commits_between, Role, Blank, Live, Waiting, Retired, digest_in, flag_in, value_in}
+use Rattle.mm_transfer.specs.Below.{moved_cell_of, MovedCell, Link, Event, IsPrintable, Header, Reply, Outcome, Which, Pair, instance_on}
+use Rattle.mm_transfer.specs.Below.{SideState}
+use Rattle.mm_transfer.specs.Below.{digests_move, outcome_by_role, commits_between, Role, Blank, Live, Waiting, Retired, digest_in, flag_in}
+use Rattle.mm_transfer.specs.Below.{value_in}
 use Rattle.mm_transfer.specs.Below.{IsQuiet}
 use Rattle.mm_move.specs.declared.cell.MovedCell.TheVariants as moved
 use Rattle.mm_transfer.specs.declared.side.Side.{Side as CodeSide}
@@ -88,7 +90,8 @@ pub record SideComes (pair : Pair) (which : Which) (old new : CodeSide) (o : Out
       + commits_between (side_in old).role (at_in old).count o.state.count
 
 -- Memory was wanting for an event of a schedule, and the side can go on.
-pub record SideLacks (pair : Pair) (which : Which) (event : Event) (old new : CodeSide) : Type 0 where
+pub record SideLacks (pair : Pair) (which : Which) (event : Event)
+    (old new : CodeSide) : Type 0 where
   pub goes : SideGoesOn pair which old new
   pub stands : PlainWants (instance_on pair which) event (side_in old) (side_in new)
   pub digest : new.digest ≡ old.digest

@@ -2,7 +2,8 @@
 use Rattle.std.specs.Prelude.{◌≡◌, ◌≤◌, ◌+◌, ◌&&◌, ℕ, Bool, not, List, [], ◌∷◌, ◌++◌, length, Option, None, Some, Result, Ok, Err, IsErr}
 use Rattle.std.specs.Prelude.{MatchResult, is_some, if◌then◌else◌}
 use Rattle.std.specs.List.{sum_by}
-use Rattle.mm_transfer.specs.Below.{Memory, Standing, Meddle, Stop, Digests, Reads, Refusal, move_fault_of, Accepted, ReadyMove, MoveRefusal, cause_of}
+use Rattle.mm_transfer.specs.Below.{Memory, Standing, Meddle, Stop, Digests, Reads, Refusal, move_fault_of, Accepted, ReadyMove}
+use Rattle.mm_transfer.specs.Below.{MoveRefusal, cause_of}
 use Rattle.mm_transfer.specs.Below.{way_of, Which, Pair, instance_on, SideState, Both, digests_move, BothOutcome, move_outcome, MoveCommand}
 use Rattle.mm_model.specs.declared.refusal.Refusal.TheVariants as core
 use Rattle.mm_move.specs.declared.refusal.MoveRefusal.TheVariants as refusal
@@ -37,7 +38,8 @@ abbrev pub has_moved : Stop → MoveRefusal → Bool
 has_moved stop why = is_some (move_fault_of why) && has_effect_at stop
 
 -- what an invitation is told as
-abbrev pub TellsInvitation : {A : Type 0} → Stop → Result A MoveRefusal → Result MoveReply Memory → Type 0
+abbrev pub TellsInvitation : {A : Type 0} → Stop → Result A MoveRefusal → Result MoveReply Memory
+    → Type 0
 TellsInvitation stop (Ok done) result = result ≡ Ok reply.Invited
 TellsInvitation stop (Err why) result = TellsRefusalAs stop why result
 
@@ -57,7 +59,8 @@ pub record TicketRefused (was_live : Bool) (position : ℕ) (stop : Stop) (why :
   pub away : new.away ≡ (if was_live && has_moved stop why then position else old.away)
   pub says : TellsRefusalAs stop why result
 
-abbrev pub TellsRetirement : Bool → ℕ → Stop → Result (List ℕ) MoveRefusal → IssuedTickets → IssuedTickets
+abbrev pub TellsRetirement : Bool → ℕ → Stop → Result (List ℕ) MoveRefusal → IssuedTickets
+    → IssuedTickets
     → Result MoveReply Memory → Type 0
 TellsRetirement was_live position stop (Ok ticket) old new result =
     TicketKept was_live position ticket old new result
@@ -118,7 +121,8 @@ both_with here between other committed = record {
 }
 
 -- what a command on this side comes to, whatever the other is
-abbrev pub outcome_of_command : Pair → Which → CodeSide → IssuedTickets → List Meddle → Stop → MoveCommand
+abbrev pub outcome_of_command : Pair → Which → CodeSide → IssuedTickets → List Meddle → Stop
+    → MoveCommand
     → SideState Digests → ℕ → BothOutcome Digests ℕ
 outcome_of_command pair which here between meddles stop command other committed =
     move_outcome digests_move pair (instance_on pair which) (both_with here between other committed)
@@ -137,7 +141,8 @@ pub record CommandDone (pair : Pair) (which : Which) (old new : CodeSide) (was n
   pub between : FitsIssuedTickets now
   pub both : (other : SideState Digests) (committed : ℕ)
       → both_with new now other committed ≡ (o other committed).both
-  pub says : (other : SideState Digests) (committed : ℕ) → said ≡ move_reply_of (o other committed).reply
+  pub says : (other : SideState Digests) (committed : ℕ)
+      → said ≡ move_reply_of (o other committed).reply
   pub issued : length new.seat.issued.items ≤ length old.seat.issued.items + 1
   pub tickets : length now.tickets.items ≤ length was.tickets.items + 1
   pub counts : (most : ℕ) → old.seat.committed ≤ most → was.away ≤ most
@@ -155,10 +160,12 @@ pub record CommandLacks (pair : Pair) (which : Which) (meddles : List Meddle) (s
   pub away : now.away ≡ was.away
 
 -- a command on a side
-abbrev pub CommandGoes : Pair → Which → List Meddle → Stop → MoveCommand → CodeSide → CodeSide → IssuedTickets
+abbrev pub CommandGoes : Pair → Which → List Meddle → Stop → MoveCommand → CodeSide → CodeSide
+    → IssuedTickets
     → IssuedTickets → Result MoveReply Memory → Type 0
 CommandGoes pair which meddles stop command old new was now result =
     FitsSide pair which old → FitsIssuedTickets was
     → MatchResult result
-    (CommandDone pair which old new was now (outcome_of_command pair which old was meddles stop command))
+    (CommandDone pair which old new was now
+    (outcome_of_command pair which old was meddles stop command))
     (λ _. CommandLacks pair which meddles stop old new was now)

@@ -81,7 +81,8 @@ TransferLineStage = LineStage FirstLine TransferState
 abbrev pub first_transfer_stage : TransferLineStage
 first_transfer_stage = AtHeading (record {})
 
-abbrev pub transfer_answer : TransferLineStage → List ℕ → Result (List ℕ × TransferLineStage) LineRefusal
+abbrev pub transfer_answer : TransferLineStage → List ℕ
+    → Result (List ℕ × TransferLineStage) LineRefusal
 transfer_answer at line = line_answer transfer_heads transfer_stage at line
 
 abbrev pub transfer_closing : TransferLineStage → Option (List ℕ)

@@ -21,5 +21,6 @@ ReportsTransfer (InEvents r) report =
 abbrev pub PlaysTransfer : (left left' received received' : Option (List ℕ))
     → Result TransferReport ReplayFault → Type 0
 PlaysTransfer left left' received received' result =
-    PlaysEvents transfer_player AreOneTransfer transfer_heads transfer_stage ReportsTransfer left left' received
+    PlaysEvents transfer_player AreOneTransfer transfer_heads transfer_stage ReportsTransfer
+    left left' received
     received' result

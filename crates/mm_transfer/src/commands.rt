@@ -102,7 +102,8 @@ fn invite(
     nonce: &[u8; 32],
     course: &CallPlan<'_>,
 ) -> Result<MoveReply, Memory>
-    ensures made { (between : IssuedTickets) → CommandGoes (pair_of here.old.seat.header) (which_of which)
+    ensures made { (between : IssuedTickets)
+        → CommandGoes (pair_of here.old.seat.header) (which_of which)
         course.now.meddles.now course.now.stop (Invite nonce.now) here.old here.new between between
         result }
     ensures headed { here.new.seat.header ≡ here.old.seat.header }
@@ -280,7 +281,8 @@ pub fn command(
     command: &Command,
 ) -> Result<MoveReply, Memory>
     requires { vec_len between.old.tickets < 2 ^ 32 }
-    ensures made { CommandGoes (pair_of here.old.seat.header) (which_of which) course.now.meddles.now
+    ensures made { CommandGoes (pair_of here.old.seat.header) (which_of which)
+        course.now.meddles.now
         course.now.stop (command_of command.now) here.old here.new between.old between.new result }
     ensures headed { here.new.seat.header ≡ here.old.seat.header }
 {

@@ -85,7 +85,8 @@ pub fn planned_invite(
     course: &CallPlan<'_>,
 ) -> Result<Invited, MoveRefusal>
     ensures { (id : ℕ) → id ≡ (meaning_of header.now.«module»).id → MovesByPlan (λ bytes.
-        invitation_in (waiting_for link.now header.now.variant id nonce.now key.now) (moved_cell_of bytes))
+        invitation_in (waiting_for link.now header.now.variant id nonce.now key.now)
+        (moved_cell_of bytes))
         course.now.stop course.now.meddles.now platform.old platform.new result }
 {
     match platform.plan(course.stop, course.meddles) {

@@ -32,7 +32,8 @@ fn blank_bytes() -> [u8; CELL_LENGTH]
 
 // Where a side stands at first.
 fn first_digest(header: &Header) -> Digest
-    ensures { result.bytes ≡ start_digest_of header.now.variant (meaning_of header.now.«module»).id }
+    ensures { result.bytes ≡ start_digest_of header.now.variant
+        (meaning_of header.now.«module»).id }
 {
     start(header.variant, header.module.id())
 }

@@ -133,9 +133,11 @@ impl Sides {
         ensures reply { IfOk result
             (λ reply. reply ≡ move_reply_of (outcome_in self.old (side_event_of event.now)).reply) }
         ensures sayable { IfOk result IsSayable }
-        ensures after { OnOk result (self.new.both ≡ (outcome_in self.old (side_event_of event.now)).both) }
+        ensures after { OnOk result
+            (self.new.both ≡ (outcome_in self.old (side_event_of event.now)).both) }
         ensures grows { OnOk result (GrowsByOne self.old self.new) }
-        ensures wants { OnErr result (TransferSidesWant (side_event_of event.now) self.old self.new) }
+        ensures wants { OnErr result (TransferSidesWant (side_event_of event.now) self.old self.new)
+            }
     {
         let Sides {
             header: _,

@@ -48,7 +48,8 @@ pub fn transfer<S: Source, K: Sink>(
 
     // A schedule of both sides within the grammar and the limits is not refused.
     ensures complete { (bytes : List ℕ) → (next : Stands) → S.left input.old ≡ Some bytes
-        → (outcome_of_input transfer_answer transfer_closing first_transfer_stage bytes).outcome ≡ Ok next
+        → (outcome_of_input transfer_answer transfer_closing first_transfer_stage bytes).outcome
+        ≡ Ok next
         → IsUnrefused result }
 {
     both_sides_agree();

@@ -1,7 +1,8 @@
 -- Two cells and a selector as one list of bytes, and what is put in place of a part.
 use Rattle.mm_twocell.proofs.Below.{ℕ, ◌≡◌, ◌+◌, ◌*◌, ◌≤◌, ◌⊎◌, inl, inr, zero, suc, List, [], ◌∷◌, ◌++◌, length, take, drop, get_or, refl}
 use Rattle.mm_twocell.proofs.Below.{sym, ap, ◌∙◌, arith, lit<, length-append, append_assoc, length-drop, ◌%◌, slice_index, take-append-drop}
-use Rattle.mm_twocell.proofs.Below.{length-take-le, get_or-append-add, drop-drop, cell_length, range_of, bytes_with_part, picked_cell, Bool, true, false}
+use Rattle.mm_twocell.proofs.Below.{length-take-le, get_or-append-add, drop-drop, cell_length, range_of, bytes_with_part, picked_cell, Bool}
+use Rattle.mm_twocell.proofs.Below.{true, false}
 use Rattle.std.specs.Prelude.{not}
 use Rattle.std.proofs.Math.Seq.{take-append_seam, drop-append_seam, drop-append-add}
 use Rattle.std.proofs.lemmas.Bool.{cases_lt}
@@ -149,7 +150,8 @@ put_behind at n part bytes h within =
     ∙ sym (append_assoc front (part ++ old) rest)
 
 -- what is put in place of a part leaves the number of bytes
-pub length-spliced : (at : ℕ) (part bytes : List ℕ) → at + length part ≤ length bytes → length (bytes_with_part at part bytes) ≡ length bytes
+pub length-spliced : (at : ℕ) (part bytes : List ℕ) → at + length part ≤ length bytes → length (bytes_with_part at part bytes)
+    ≡ length bytes
 length-spliced at part bytes h =
     length-append (take at bytes ++ part) (drop (at + length part) bytes)
     ∙ omega (arith, length-append (take at bytes) part, length-take-le at bytes (omega (arith, h)), length-drop (at + length part) bytes, h)

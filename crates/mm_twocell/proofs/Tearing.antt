@@ -1,7 +1,9 @@
 -- A write that fails, of which a part is left.
 use Rattle.mm_twocell.proofs.Below.{ℕ, ◌≡◌, ◌+◌, ◌≤◌, Bool, true, false, List, [], length, take, drop, None, Some, refl, sym, ap, ◌∙◌}
-use Rattle.mm_twocell.proofs.Below.{subst, arith, ◌==◌, if◌then◌else◌, option_map, nat_tests, length-take, length-take-le, next_count, CountRose}
-use Rattle.mm_twocell.proofs.Below.{Failed, range_of, bytes_with_part, WritesRaw, beside-none, TornMemory, whole_bytes, told_standing, IsUsable, will_fail}
+use Rattle.mm_twocell.proofs.Below.{subst, arith, ◌==◌, if◌then◌else◌, option_map, nat_tests, length-take, length-take-le, next_count}
+use Rattle.mm_twocell.proofs.Below.{CountRose}
+use Rattle.mm_twocell.proofs.Below.{Failed, range_of, bytes_with_part, WritesRaw, beside-none, TornMemory, whole_bytes, told_standing}
+use Rattle.mm_twocell.proofs.Below.{IsUsable, will_fail}
 use Rattle.mm_twocell.proofs.Below.{memory_after_call, memory_with_part}
 use Rattle.std.proofs.lemmas.List.{length-drop}
 use Rattle.mm_twocell.proofs.Cells.{behind, length-behind, put_behind, length-spliced}
@@ -22,7 +24,8 @@ faults_rose it w =
 
 -- the told bytes once a part was put in place
 told_put : (at : ℕ) (part : List ℕ) (it : TornMemory) (r : IsUsable it) → at + length part ≤ 209
-    → whole_bytes (option_map (bytes_with_part at part) it.standing.cell) ≡ option_map (bytes_with_part at part) (whole_bytes it.standing.cell)
+    → whole_bytes (option_map (bytes_with_part at part) it.standing.cell) ≡ option_map (bytes_with_part at part)
+    (whole_bytes it.standing.cell)
 told_put at part it r h =
     ap (λ c. whole_bytes (option_map (bytes_with_part at part) c)) r.cell
     ∙ whole_is (bytes_with_part at part r.bytes) (length-spliced at part r.bytes (omega (arith, h, r.size)) ∙ r.size)
@@ -42,7 +45,8 @@ write_fails at bytes old mid new h r w e f =
     let size : length range ≡ n = length-take-le n (drop at r.bytes) (omega (arith, length-drop at r.bytes, within)) in
     let fits : length part ≤ n = part_within n old.leaves in
     let all : length (behind part range) ≡ n = length-behind part range (omega (arith, size, fits)) ∙ size in
-    let after : new ≡ memory_with_part at part (memory_after_call old) = f ∙ ap (λ (t : TornMemory). memory_with_part at (take n t.leaves) t) e in
+    let after : new ≡ memory_with_part at part (memory_after_call old) =
+        f ∙ ap (λ (t : TornMemory). memory_with_part at (take n t.leaves) t) e in
     subst (λ (t : TornMemory). WritesRaw at bytes (told_standing old) (told_standing t) (Some Failed)) (sym after) (record {
       written = behind part range;
       size = all;

@@ -1,7 +1,8 @@
 -- What a read and a write over two cells do to the one cell.
 use Rattle.mm_twocell.proofs.Below.{nat_tests, ℕ, ◌≡◌, ◌-◌, ◌*◌, ◌⊎◌, inl, inr, Bool, true, false, List, [], ◌∷◌, ◌++◌, length, get_or}
 use Rattle.mm_twocell.proofs.Below.{Some, refl, sym, ap, ◌∙◌, arith, ◌%◌, ◌==◌, slice_index, option_map, cell_length, Option, None}
-use Rattle.mm_twocell.proofs.Below.{StepFault, Standing, WriteCell, items_beside, cell_after, DeviceStepEnds, bytes_with_part, LeavesRest, ReadsRaw}
+use Rattle.mm_twocell.proofs.Below.{StepFault, Standing, WriteCell, items_beside, cell_after, DeviceStepEnds, bytes_with_part, LeavesRest}
+use Rattle.mm_twocell.proofs.Below.{ReadsRaw}
 use Rattle.mm_twocell.proofs.Below.{WritesRaw, beside-beside, picked_cell, WritesOtherCell}
 use Rattle.mm_twocell.proofs.Cells.{in_three, pair, number, one_item, parity, picks_own, picks_other, put_other, put_selector, selector_of}
 use Rattle.std.specs.Prelude.{not}
@@ -75,7 +76,8 @@ picks_by second m = grind (arith, nat_tests)
 
 -- a selector that is written then picks the written cell or the old one
 selector_picks : (bytes w : List ℕ) (other m : ℕ) → Picks bytes other → length w ≡ cell_length
-    → Some (picked_cell (bytes_with_part 208 (m ∷ []) (bytes_with_part (cell_length * other) w bytes))) ≡ cell_by w (picked_cell bytes) (m % 2 == other)
+    → Some (picked_cell (bytes_with_part 208 (m ∷ []) (bytes_with_part (cell_length * other) w bytes)))
+    ≡ cell_by w (picked_cell bytes) (m % 2 == other)
 unfolding cell_by
 selector_picks bytes w other m (picks second x y n whole lx ly e o) lw =
     rw (whole, o)

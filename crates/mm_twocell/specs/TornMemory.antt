@@ -72,7 +72,8 @@ memory_with_part at part it =
 -- range, as far as that goes
 abbrev pub memory_after_write : ℕ → List ℕ → TornMemory → TornMemory
 memory_after_write at bytes it =
-    memory_with_part at (if will_fail it then take (length bytes) it.leaves else bytes) (memory_after_call it)
+    memory_with_part at (if will_fail it then take (length bytes) it.leaves else bytes)
+    (memory_after_call it)
 
 -- A step of the register is made: nobody else extends it, and what is to fail stays.
 pub record StepsRegister (act : Act) (old new : TornMemory) : Type 0 where

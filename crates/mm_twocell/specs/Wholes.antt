@@ -9,5 +9,6 @@ whole_size : (cell : Option (List ℕ)) (bytes : List ℕ) → whole_bytes cell 
 whole_size None bytes e = absurd (cc)
 whole_size (Some all) bytes e = grind (arith, nat_tests, e)
 
-pub told_size : (it : TornMemory) (bytes : List ℕ) → (told_standing it).cell ≡ Some bytes → length bytes ≡ 209
+pub told_size : (it : TornMemory) (bytes : List ℕ) → (told_standing it).cell ≡ Some bytes
+    → length bytes ≡ 209
 told_size it bytes e = whole_size it.standing.cell bytes e

@@ -111,7 +111,8 @@ fn read_picked<R: RawNv>(raw: &mut R, into: &mut [u8; CELL_LENGTH]) -> Result<()
 
 // Writes the cell that the selector doesn't pick, and then lets it pick that one.
 fn write_other<R: RawNv>(raw: &mut R, bytes: &[u8; CELL_LENGTH]) -> Result<(), StepFault>
-    ensures { WritesOtherCell bytes.now (R.standing raw.old) (R.standing raw.new) (result_err result) }
+    ensures { WritesOtherCell bytes.now (R.standing raw.old) (R.standing raw.new)
+        (result_err result) }
 {
     let selector = read_selector(raw)?;
     let other = 1 - selector % 2;

@@ -127,7 +127,8 @@ impl Device for MemRaw {
 impl RawNv for MemRaw {
     fn raw_read(&mut self, at: u16, into: &mut [u8]) -> Result<(), StepFault>
         requires { at + length into.old ≤ 209 }
-        ensures goes { ReadsRaw (told_standing self.old) (told_standing self.new) (result_err result) }
+        ensures goes { ReadsRaw (told_standing self.old) (told_standing self.new)
+            (result_err result) }
         ensures read { OnOk result ((bytes : List ℕ) → (told_standing self.old).cell ≡ Some bytes
             → into.new ≡ range_of at (length into.old) bytes) }
         ensures unread { OnErr result (into.new ≡ into.old) }
@@ -158,7 +159,8 @@ impl RawNv for MemRaw {
     }
 
     fn raw_cycle(&mut self) -> Result<(), StepFault>
-        ensures goes { PowerCycles (told_standing self.old) (told_standing self.new) (result_err result) }
+        ensures goes { PowerCycles (told_standing self.old) (told_standing self.new)
+            (result_err result) }
         ensures failing { IsErr result ↔ (self.old.ahead ≡ 1) }
         ensures failed { OnErr result (self.new ≡ memory_after_cycle self.old) }
         ensures ahead { self.new.ahead ≡ self.old.ahead - 1 }
@@ -186,7 +188,8 @@ impl Register for MemRaw {
 
     #[tactic(auto, using(crate::proofs::Steadying::read_steps))]
     fn reg_read(&mut self) -> Result<Digest, StepFault>
-        ensures goes { StepGoes ReadRegister (told_standing self.old) (told_standing self.new) (result_err result) }
+        ensures goes { StepGoes ReadRegister (told_standing self.old) (told_standing self.new)
+            (result_err result) }
         ensures read { IfOk result (λ value. (items : List Item)
             → (told_standing self.new).items ≡ Some items
             → value.bytes ≡ register_after (item_values items)) }
@@ -209,7 +212,8 @@ impl Register for MemRaw {
     #[tactic(auto, using(crate::proofs::Steadying::extend_steps))]
     fn reg_extend(&mut self, value: &Digest) -> Result<(), StepFault>
         requires { 1 ≤ (told_standing self.old).spare }
-        ensures goes { StepGoes (ExtendRegister value.now.bytes) (told_standing self.old) (told_standing self.new)
+        ensures goes { StepGoes (ExtendRegister value.now.bytes) (told_standing self.old)
+            (told_standing self.new)
             (result_err result) }
         ensures done { IsOk result }
         ensures steps { StepsRegister (ExtendRegister value.now.bytes) self.old self.new }

@@ -29,6 +29,7 @@ pub use Rattle.mm_words.specs.App.{generating_app, header_app, key_app, the_app,
 pub use Rattle.mm_words.specs.Commands.{AreReceiptsWords, AreWordsOf, generated_words, header_words, IsGenerated, SpellsCommand}
 pub use Rattle.mm_words.specs.Forms.{is_refused, IsMatched}
 pub use Rattle.mm_words.specs.declared.command.CommandLine.{CommandLine}
-pub use Rattle.mm_words.specs.declared.command.CommandLine.TheVariants.{Bulk, Check, Checkpoint, Gen, Help, Init, Power, Receipts, Replay, Run}
+pub use Rattle.mm_words.specs.declared.command.CommandLine.TheVariants.{Bulk, Check, Checkpoint, Gen, Help, Init, Power, Receipts, Replay}
+pub use Rattle.mm_words.specs.declared.command.CommandLine.TheVariants.{Run}
 pub use Rattle.mm_words.specs.declared.command.CommandLine.TheVariants.{Slots, Transfer}
 pub use Rattle.mm_words.specs.declared.command.GeneratedSchedule.{GeneratedSchedule}

@@ -9,7 +9,8 @@ use Rattle.clap.specs.declared.parser.matches.Found.{Found}
 use Rattle.clap.proofs.OnLiterals.{clap_on_literals}
 use Rattle.mm_words.specs.Forms.{command_in, schedule_in, header_in, key_of_words}
 use Rattle.mm_words.proofs.Kept.{key_kept, name_kept, number_kept, plain_word, variant_kept}
-use Rattle.mm_words.proofs.Taken.{AreGeneratedTaken, Given, IsTaken, alone, generated_taken, generating, given_in, init_taken, receipts_taken, with_header, with_key}
+use Rattle.mm_words.proofs.Taken.{AreGeneratedTaken, Given, IsTaken, alone, generated_taken, generating, given_in, init_taken}
+use Rattle.mm_words.proofs.Taken.{receipts_taken, with_header, with_key}
 
 pub variant-read : (variant : Variant) → variant_at (variant_text variant) ≡ Some variant
 variant-read Basic = refl
@@ -134,14 +135,16 @@ brings (Receipts key) words spells matched =
 brings Help words spells matched = absurd matched
 brings command words spells matched = rw spells.spelled (alone_brings command _ (refl, refl) (λ found. refl))
 
-pub is_taken : (command : CommandLine) (words : List (List ℕ)) → SpellsCommand command words → IsMatched command → takes the_app words ≡ true
+pub is_taken : (command : CommandLine) (words : List (List ℕ)) → SpellsCommand command words → IsMatched command → takes the_app words
+    ≡ true
 is_taken command words spells matched = (brings command words spells matched).is.0
 
 same_given : (one other : Given) → Some one ≡ Some other → one ≡ other
 same_given one other is = ap (λ (o : Option Given). option_map_or (λ (g : Given). g) o one) is
 
 -- what is matched of a command's words is the command
-pub is_matched : (command : CommandLine) (words : List (List ℕ)) (name : Text) (found : Found) → SpellsCommand command words → IsMatched command
+pub is_matched : (command : CommandLine) (words : List (List ℕ)) (name : Text) (found : Found) → SpellsCommand command words
+    → IsMatched command
     → subcommand_of the_app words ≡ Some (name, rows_of found) → command_in name found ≡ Some command
 is_matched command words name found spells matched is =
     let it = brings command words spells matched in

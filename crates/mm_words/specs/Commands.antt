@@ -8,7 +8,8 @@ use Rattle.mm_modules.specs.Modules.{name_of, names_text}
 use Rattle.mm_schedule.specs.Headers.{variant_text}
 use Rattle.mm_schedule.specs.declared.header.Header.{Header}
 use Rattle.mm_words.specs.declared.command.CommandLine.{CommandLine}
-use Rattle.mm_words.specs.declared.command.CommandLine.TheVariants.{Init, Run, Checkpoint, Power, Replay, Check, Gen, Bulk, Slots, Receipts, Transfer, Help}
+use Rattle.mm_words.specs.declared.command.CommandLine.TheVariants.{Init, Run, Checkpoint, Power, Replay, Check, Gen, Bulk, Slots, Receipts}
+use Rattle.mm_words.specs.declared.command.CommandLine.TheVariants.{Transfer, Help}
 use Rattle.mm_words.specs.declared.command.GeneratedSchedule.{GeneratedSchedule}
 
 -- a variant and a module

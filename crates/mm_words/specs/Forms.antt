@@ -1,5 +1,6 @@
 -- What `clap` matched, and the commands that it stands for.
-use Rattle.std.specs.Prelude.{◌≡◌, ℕ, Bool, ◌||◌, ◌==◌, nat_lt, true, List, [], ◌∷◌, Option, Some, None, Result, Ok, Err, if◌then◌else◌, codes}
+use Rattle.std.specs.Prelude.{◌≡◌, ℕ, Bool, ◌||◌, ◌==◌, nat_lt, true, List, [], ◌∷◌, Option, Some, None, Result, Ok, Err, if◌then◌else◌}
+use Rattle.std.specs.Prelude.{codes}
 use Rattle.std.specs.Str.{bytes_eq}
 use Rattle.clap.specs.Words.{first_value}
 use Rattle.clap.specs.declared.parser.matches.Found.{Found}
@@ -11,7 +12,8 @@ use Rattle.mm_schedule.specs.HeadersWords.{variant_at}
 use Rattle.mm_schedule.specs.Words.{◌>>=◌}
 use Rattle.mm_schedule.specs.declared.header.Header.{Header}
 use Rattle.mm_words.specs.declared.command.CommandLine.{CommandLine}
-use Rattle.mm_words.specs.declared.command.CommandLine.TheVariants.{Init, Run, Checkpoint, Power, Replay, Check, Gen, Bulk, Slots, Receipts, Transfer, Help}
+use Rattle.mm_words.specs.declared.command.CommandLine.TheVariants.{Init, Run, Checkpoint, Power, Replay, Check, Gen, Bulk, Slots, Receipts}
+use Rattle.mm_words.specs.declared.command.CommandLine.TheVariants.{Transfer, Help}
 use Rattle.mm_words.specs.declared.command.GeneratedSchedule.{GeneratedSchedule}
 use Rattle.mm_words.specs.declared.fault.WordsFault.{WordsFault}
 use Rattle.mm_words.specs.declared.fault.WordsFault.TheVariants as fault
@@ -63,7 +65,8 @@ command_in name found =
     else if bytes_eq name (codes "bulk")
     then (schedule_in found >>= λ generated. Some (Bulk generated))
     else if bytes_eq name (codes "slots") then Some Slots
-    else if bytes_eq name (codes "receipts") then (key_of_words found >>= λ key. Some (Receipts key))
+    else if bytes_eq name (codes "receipts")
+    then (key_of_words found >>= λ key. Some (Receipts key))
     else if bytes_eq name (codes "transfer") then Some Transfer
     else None
 

@@ -1,14 +1,20 @@
 -- A planned call comes to what it does by digests: what it commits, what the register reads after its moves, and how it ends.
 use Rattle.mm_world.proofs.Below.{◌≡◌, ℕ, ◌+◌, Bool, true, false, List, [], ◌∷◌, ◌++◌, length, Option, None, Some, Result, Ok, Err, refl}
-use Rattle.mm_world.proofs.Below.{ap, ◌∙◌, arith, if◌then◌else◌, option_map, map-append, Variant, Basic, Opt, zero_bytes, extended_digest_of}
+use Rattle.mm_world.proofs.Below.{ap, ◌∙◌, arith, if◌then◌else◌, option_map, map-append, Variant, Basic, Opt, zero_bytes}
+use Rattle.mm_world.proofs.Below.{extended_digest_of}
 use Rattle.mm_world.proofs.Below.{Batch, members_of, size_of, outputs_from, StepFault, Item, own_item, foreign_item, item_values}
-use Rattle.mm_world.proofs.Below.{register_after, Instance, Move, Commit, Foreign, Placed, Close, Digests, digests_after, Refusal, digest_level}
-use Rattle.mm_world.proofs.Below.{state_after_moves, CallFinding, is_fresh, StepsWalk, has_commit, CallEnding, Answers, Refuses, Breaks, position_of, call_ending_by}
-use Rattle.mm_world.proofs.Below.{position_if_committed, items_after_move, items_after_moves, again_of, fresh_of, committed_batches, Commits, nothing, batch, commits-none}
+use Rattle.mm_world.proofs.Below.{register_after, Instance, Move, Commit, Foreign, Placed, Close, Digests, digests_after, Refusal}
+use Rattle.mm_world.proofs.Below.{digest_level}
+use Rattle.mm_world.proofs.Below.{state_after_moves, CallFinding, is_fresh, StepsWalk, has_commit, CallEnding, Answers, Refuses, Breaks}
+use Rattle.mm_world.proofs.Below.{position_of, call_ending_by}
+use Rattle.mm_world.proofs.Below.{position_if_committed, items_after_move, items_after_moves, again_of, fresh_of, committed_batches}
+use Rattle.mm_world.proofs.Below.{Commits, nothing, batch, commits-none}
 use Rattle.mm_world.proofs.Below.{commits_batch, size_if, count-made, sizes_of, sym, eqb-true, ◌==◌, Stop, Quiet, Cut, Drop, Fail, fault_at}
 use Rattle.mm_world.proofs.Below.{is_made_at, Fails, end_of, stopped_step, takes_effect, ◌&&◌, subst, option_to_list, append-nil, Standing}
-use Rattle.mm_world.proofs.Below.{items_after_cycle, Power, register_reading, DeviceStep, Reads, Writes, ask_steps, finding_at, finding_unless_wanting, End}
-use Rattle.mm_world.proofs.Below.{Done, StepFate, walk, walk_from_step, moves_seen, CallOutcome, call_outcome, call_outcome_by, result_of_ending, reading_steps, RegisterStandsAt}
+use Rattle.mm_world.proofs.Below.{items_after_cycle, Power, register_reading, DeviceStep, Reads, Writes, ask_steps, finding_at}
+use Rattle.mm_world.proofs.Below.{finding_unless_wanting, End}
+use Rattle.mm_world.proofs.Below.{Done, StepFate, walk, walk_from_step, moves_seen, CallOutcome, call_outcome, call_outcome_by}
+use Rattle.mm_world.proofs.Below.{result_of_ending, reading_steps, RegisterStandsAt}
 use Rattle.mm_world.proofs.Below.{StaysOn, fault_of, steps_of_change, reading_none, way_of, moves_after_stop, reply_of, snapshots_of}
 use Rattle.mm_world.proofs.Below.{moves_after_call, HasDigests, is_cut, register_of_items}
 use Rattle.std.proofs.lemmas.List.Sums.{fold-append}
@@ -63,7 +69,8 @@ read_push items item =
     ∙ fold-append extended_digest_of zero_bytes (item_values items) (item.value ∷ [])
 
 shown_reads : (variant : Variant) (flag : Bool) (i : Instance) (d : Digests) (m : Move) (items : List Item) → i.variant ≡ variant
-    → d.flag ≡ flag → register_after (item_values items) ≡ d.register → register_after (item_values (items_after_move variant flag i m items))
+    → d.flag ≡ flag → register_after (item_values items) ≡ d.register
+    → register_after (item_values (items_after_move variant flag i m items))
     ≡ (made i d m).register
 shown_reads Basic flag i d (Commit b) items v f e = e ∙ rw v refl
 shown_reads Opt true i d (Commit b) items v f e = read_push items (own_item (guard i.barrier b)) ∙ rw (e, v, f) refl
@@ -74,14 +81,16 @@ shown_reads variant flag i d (Placed b) items v f e =
 shown_reads variant flag i d Close items v f e = e
 shown_reads variant flag i d _ items v f e = refl
 
-kept_size : (committed is : Bool) (position size : ℕ) → committed ≡ is → size_if (position_if_committed committed position) size ≡ (if is then size else
+kept_size : (committed is : Bool) (position size : ℕ) → committed ≡ is → size_if (position_if_committed committed position) size
+    ≡ (if is then size else
     0)
 kept_size true is position size e = ap (λ (c : Bool). if c then size else 0) e
 kept_size false is position size e = ap (λ (c : Bool). if c then size else 0) e
 
 module _ (i : Instance) where
   pub counted_end : (d seen : Digests) (b : Batch) (found : Result CallFinding Refusal) (walked : StepsWalk) (broken : Option StepFault)
-      → walked.broken ≡ broken → Commits b (is_fresh found) walked → (state_after_moves (digest_level i) d walked.moves).count ≡ d.count + committed_by
+      → walked.broken ≡ broken → Commits b (is_fresh found) walked → (state_after_moves (digest_level i) d walked.moves).count ≡ d.count
+      + committed_by
       (call_ending_by (digest_level i) seen (state_after_moves (digest_level i) d walked.moves) b found walked.moves broken) (size_of b)
   counted_end d seen b found walked (Some fault) e (nothing none unless) =
       let position = position_of (digest_level i) seen (state_after_moves (digest_level i) d walked.moves) b found in
@@ -155,10 +164,12 @@ data Reading (fates : ℕ → StepFate) (n : ℕ) (reads rest : List DeviceStep)
   cut_off : (fault : StepFault) → (walk fates n reads).broken ≡ Some fault → walk fates n (reads ++ rest) ≡ walk fates n reads
       → Reading fates n reads rest
 
-reading_more : (fates : ℕ → StepFate) (n : ℕ) (reads rest : List DeviceStep) (e : End) → (fates n).ends ≡ e → Reading fates (n + 1) reads rest
+reading_more : (fates : ℕ → StepFate) (n : ℕ) (reads rest : List DeviceStep) (e : End) → (fates n).ends ≡ e
+    → Reading fates (n + 1) reads rest
     → Reading fates n (Reads ∷ reads) rest
 reading_more fates n reads rest Done e (whole all) =
-    whole (ap (λ x. walk_from_step Reads (fates n).brings x (walk fates (n + 1) reads)) e ∙ ap (walk_from_step Reads (fates n).brings Done) all)
+    whole (ap (λ x. walk_from_step Reads (fates n).brings x (walk fates (n + 1) reads)) e
+    ∙ ap (walk_from_step Reads (fates n).brings Done) all)
 reading_more fates n reads rest Done e (cut_off fault broken same) =
     cut_off fault (ap (λ x. (walk_from_step Reads (fates n).brings x (walk fates (n + 1) reads)).broken) e ∙ broken)
     (ap (λ w. walk_from_step Reads (fates n).brings (fates n).ends w) same)
@@ -208,19 +219,23 @@ module _ (i : Instance) (d seen : Digests) where
 
   -- with nothing left to make but reading steps
   same_broken : (s : Digests) (b : Batch) (f : CallFinding) (walked : StepsWalk) (fault : StepFault) (broken : Option StepFault)
-      → walked.broken ≡ broken → broken ≡ Some fault → has_commit walked.moves ≡ false → call_ending_by (digest_level i) seen s b (Err refusal.Memory)
+      → walked.broken ≡ broken → broken ≡ Some fault → has_commit walked.moves ≡ false → call_ending_by (digest_level i) seen s b
+      (Err refusal.Memory)
       walked.moves broken ≡ call_ending_by (digest_level i) seen s b (Ok f) walked.moves broken
   same_broken s b f walked fault None e known none = cc
   same_broken s b f walked fault (Some g) e known none =
-      ap (λ c. Breaks g (position_if_committed c 0)) none ∙ sym (ap (λ c. Breaks g (position_if_committed c (position_of (digest_level i) seen s b (Ok f)))) none)
+      ap (λ c. Breaks g (position_if_committed c 0)) none
+      ∙ sym (ap (λ c. Breaks g (position_if_committed c (position_of (digest_level i) seen s b (Ok f)))) none)
 
   refuses_by : (b : Batch) (walked : StepsWalk) (broken : Option StepFault) → walked.broken ≡ broken → broken ≡ None
-      → call_ending_by (digest_level i) seen (state_after_moves (digest_level i) d walked.moves) b (Err refusal.Memory) walked.moves broken ≡ Refuses
+      → call_ending_by (digest_level i) seen (state_after_moves (digest_level i) d walked.moves) b (Err refusal.Memory) walked.moves broken
+      ≡ Refuses
       refusal.Memory
   refuses_by b walked None e none = refl
   refuses_by b walked (Some f) e none = cc
 
-  lacking_found : (b : Batch) (fates : ℕ → StepFate) (rest : List DeviceStep) (f : CallFinding) → Reading fates 1 (reading_steps i.variant) rest
+  lacking_found : (b : Batch) (fates : ℕ → StepFate) (rest : List DeviceStep) (f : CallFinding)
+      → Reading fates 1 (reading_steps i.variant) rest
       → Lacking (call_of i d seen b (Err refusal.Memory) (walk fates 1 (reading_steps i.variant))) (call_of i d seen b (Ok f)
       (walk fates 1 (reading_steps i.variant ++ rest)))
   lacking_found b fates rest f (whole all) =
@@ -334,7 +349,8 @@ reads_none (Some xs) r e = refl
 
 -- what the register reads once the plan is over
 pub settled_reads : (i : Instance) (d : Digests) (mid new : Standing) (lost : Bool) → register_reading mid ≡ Some d.register
-    → new.items ≡ items_after_cycle lost mid.items → register_reading new ≡ Some (state_after_moves (digest_level i) d (power_if lost)).register
+    → new.items ≡ items_after_cycle lost mid.items → register_reading new
+    ≡ Some (state_after_moves (digest_level i) d (power_if lost)).register
 settled_reads i d mid new false e items = ap register_of_items items ∙ e
 settled_reads i d mid new true e items = ap register_of_items items ∙ reads_none mid.items d.register e
 
@@ -368,7 +384,8 @@ power_count i d false = refl
 -- what the register reads after the moves that it showed
 pub came_register : (i : Instance) (d : Digests) (o : CallOutcome Digests) (planned_at mid : Standing)
     → mid.items ≡ option_map (items_after_moves i d o.moves) planned_at.items
-    → o.state ≡ state_after_moves (digest_level i) d o.moves → register_reading planned_at ≡ Some d.register → register_reading mid ≡ Some o.state.register
+    → o.state ≡ state_after_moves (digest_level i) d o.moves → register_reading planned_at ≡ Some d.register → register_reading mid
+    ≡ Some o.state.register
 came_register i d o planned_at mid items state register =
     ap register_of_items items ∙ reads_shown i o.moves d planned_at.items register
     ∙ ap (λ (e : Digests). Some e.register) (sym state)

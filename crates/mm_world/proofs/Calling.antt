@@ -2,15 +2,23 @@
 use Rattle.mm_world.proofs.Below.{◌≡◌, ℕ, ◌+◌, Bool, true, false, List, length, Option, None, Some, Result, Ok, Err, inr, refl, sym, ap}
 use Rattle.mm_world.proofs.Below.{◌∙◌, subst, arith, if◌then◌else◌, MatchResult, Memory, Variant, Meaning, Batch, size_of, normal_batch}
 use Rattle.mm_world.proofs.Below.{StepFault, Meddle, Stop, Standing, Instance, Move, is_long, Digests, register_reading, ask_steps, Refusal}
-use Rattle.mm_world.proofs.Below.{AskResult, Answered, Refused, Broken, digest_level, state_after_moves, CallFinding, finding_at, finding_unless_wanting, is_fresh}
-use Rattle.mm_world.proofs.Below.{End, Done, Fails, StepFate, Course, walk, fate_by_plan, moves_seen, CallEnding, Answers, Refuses, Breaks, CallOutcome, call_outcome}
-use Rattle.mm_world.proofs.Below.{call_ending_by, state_seen, reading_steps, instance_by, StandsAt, count_after_more, result_of, kept_position, KeepsPosition}
-use Rattle.mm_world.proofs.Below.{is_broken, StaysOn, EndsAsCall, way_of, course_of, cause_of, outcome_by, outcome_without_call, plan_of, broken_reply}
-use Rattle.mm_world.proofs.Below.{HasDigests, IsQuiet, refused_call, answered_call, broken_call, takes_effect, size_if, IsRefusalResult, IsCallResult, SettlesPlan}
-use Rattle.mm_world.proofs.Below.{CallComesTo, HasRead, AsksOwnCell, call_commits, ◌&&◌, ◌++◌, reply_of, snapshots_of, moves_after_call, is_cut, [], ◌∷◌, map}
+use Rattle.mm_world.proofs.Below.{AskResult, Answered, Refused, Broken, digest_level, state_after_moves, CallFinding, finding_at}
+use Rattle.mm_world.proofs.Below.{finding_unless_wanting, is_fresh}
+use Rattle.mm_world.proofs.Below.{End, Done, Fails, StepFate, Course, walk, fate_by_plan, moves_seen, CallEnding, Answers, Refuses, Breaks}
+use Rattle.mm_world.proofs.Below.{CallOutcome, call_outcome}
+use Rattle.mm_world.proofs.Below.{call_ending_by, state_seen, reading_steps, instance_by, StandsAt, count_after_more, result_of}
+use Rattle.mm_world.proofs.Below.{kept_position, KeepsPosition}
+use Rattle.mm_world.proofs.Below.{is_broken, StaysOn, EndsAsCall, way_of, course_of, cause_of, outcome_by, outcome_without_call, plan_of}
+use Rattle.mm_world.proofs.Below.{broken_reply}
+use Rattle.mm_world.proofs.Below.{HasDigests, IsQuiet, refused_call, answered_call, broken_call, takes_effect, size_if, IsRefusalResult}
+use Rattle.mm_world.proofs.Below.{IsCallResult, SettlesPlan}
+use Rattle.mm_world.proofs.Below.{CallComesTo, HasRead, AsksOwnCell, call_commits, ◌&&◌, ◌++◌, reply_of, snapshots_of, moves_after_call}
+use Rattle.mm_world.proofs.Below.{is_cut, [], ◌∷◌, map}
 use Rattle.mm_world.proofs.Below.{append-nil, ◌==◌, Basic, Opt, fault_at, is_made_at, Foreign, Close, Reads, Writes, checkpoint_steps, Said}
-use Rattle.mm_world.proofs.Below.{CheckpointRefusal, checkpoint_result, CheckpointGoesBy, IsCheckpointOnCourse, StepsWalk, walk_from_step, has_close, end_of, made_move}
-use Rattle.mm_world.proofs.Below.{closes-foreign, closes_first, checkpoint_none, closing_reply, moves_after_checkpoint, checkpoint_event_outcome, stopped_reply}
+use Rattle.mm_world.proofs.Below.{CheckpointRefusal, checkpoint_result, CheckpointGoesBy, IsCheckpointOnCourse, StepsWalk, walk_from_step}
+use Rattle.mm_world.proofs.Below.{has_close, end_of, made_move}
+use Rattle.mm_world.proofs.Below.{closes-foreign, closes_first, checkpoint_none, closing_reply, moves_after_checkpoint}
+use Rattle.mm_world.proofs.Below.{checkpoint_event_outcome, stopped_reply}
 use Rattle.mm_world.proofs.ClosedAt.{closes_at}
 use Rattle.mm_world.proofs.Below.{checkpoint_reply, has_closing_fault, ChecksOwnCell, quiet_call, register_of_items}
 use Rattle.std.specs.Prelude.{◌⊎◌}
@@ -32,7 +40,8 @@ pub record Over (i : Instance) (d : Digests) (stop : Stop) (meddles : List Meddl
     (ended : AskResult) : Type 0 where
   pub course : Course
   pub fates : (n : ℕ) → course.fates n ≡ fate_by_plan (plan_of stop meddles) n
-  pub goes : CallGoesBy i d (call_outcome i (digest_level i) d course bytes b) (record old { plan = Some (plan_of stop meddles) }) mid (result_of ended)
+  pub goes : CallGoesBy i d (call_outcome i (digest_level i) d course bytes b) (record old { plan = Some (plan_of stop meddles) }) mid
+      (result_of ended)
   pub keeps : KeepsPosition course.fates (call_outcome i (digest_level i) d course bytes b) ended
   pub register : register_reading old ≡ Some d.register
   pub settles : SettlesPlan stop (is_broken ended) mid new
@@ -46,7 +55,8 @@ course_told fates stop meddles told = λ j. record { fates = λ n. told n j; lac
 -- the position that was kept
 
 ended_broken : (i : Instance) (seen s : Digests) (b : Batch) (found : Result CallFinding Refusal) (moves : List Move)
-    (broken : Option StepFault) (fault : StepFault) (kept : Option ℕ) → call_ending_by (digest_level i) seen s b found moves broken ≡ Breaks fault
+    (broken : Option StepFault) (fault : StepFault) (kept : Option ℕ) → call_ending_by (digest_level i) seen s b found moves broken
+    ≡ Breaks fault
     kept
     → broken ≡ Some fault
 ended_broken i seen s b found moves (Some f) fault kept e = let x : f ≡ fault = cc in ap Some x
@@ -136,7 +146,8 @@ module _ (i : Instance) (d : Digests) (stop : Stop) (meddles : List Meddle) (byt
       let stands : HasDigests i new o.state = stands_settled i o.state mid new false (record { at = r.goes.stands; register = read })
       settles.cell settles.items in
       let to : o.state ≡ state_seen i (digest_level i) d (course_of stop meddles) =
-      h.state ∙ ap (λ x. state_after_moves (digest_level i) d (moves_seen x (reading_steps i.variant) 1)) (λ j. λ n. r.fates n j) in record {
+      h.state ∙ ap (λ x. state_after_moves (digest_level i) d (moves_seen x (reading_steps i.variant) 1)) (λ j. λ n. r.fates n j) in
+      record {
         stands = subst (HasDigests i new) to stands;
         quiet = record { is_on = on_settled stop false mid new stays settles.is_on; plan = settles.plan };
         steps = settles.steps ∙ r.goes.steps ∙ ap (λ n. count_after_more n old.steps) h.steps;
@@ -195,8 +206,10 @@ module _ (variant : Variant) (meaning : Meaning) (old mid new : Standing) (meddl
         settles = settles;
         stays = stays.0;
       } in
-      subst (λ x. MatchResult result (CallComesTo i (if x then outcome_without_call d issued (reply.No cause.Long) else outcome_by (digest_level i) stop issued
-      (call_outcome i (digest_level i) d (course_of stop meddles) bytes (normal_batch b))) d.count issued old new) (λ _. HasRead i d meddles stop old
+      subst (λ x. MatchResult result
+      (CallComesTo i (if x then outcome_without_call d issued (reply.No cause.Long) else outcome_by (digest_level i) stop issued
+      (call_outcome i (digest_level i) d (course_of stop meddles) bytes (normal_batch b))) d.count issued old new)
+      (λ _. HasRead i d meddles stop old
       new)) (sym short)
       (ends_all i d stop meddles bytes (normal_batch b) old mid new issued size ended result r (n ∙ ap (λ xs. length xs)
       (sym (members_of-normal b))) told)
@@ -204,7 +217,8 @@ module _ (variant : Variant) (meaning : Meaning) (old mid new : Standing) (meddl
   pub asks_as : AsksOwnCell variant meaning old new issued meddles stop (Some bytes) b result
   asks_as = λ key barrier d s q.
       let i = instance_by variant meaning key barrier in
-      or_read (λ it. CallComesTo i (ask_event_outcome i (digest_level i) d issued meddles stop (Some bytes) b) d.count issued old new it) (new ≡ old)
+      or_read (λ it. CallComesTo i (ask_event_outcome i (digest_level i) d issued meddles stop (Some bytes) b) d.count issued old new it)
+      (new ≡ old)
       (HasRead i d meddles stop old new) result (asks_planned key barrier d s q)
 
 -- whether the segment was closed
@@ -219,7 +233,8 @@ Planned fates stop = (n : ℕ) → (fates n).ends ≡ end_of (fault_at stop n) (
 -- a reading step, before a walk of which this holds
 read_closes : (fates : ℕ → StepFate) (stop : Stop) (n : ℕ) (values : List (List ℕ)) (e : End) (rest : StepsWalk) (fault : StepFault)
     → e ≡ end_of (fault_at stop n) (is_made_at stop n) → (n == 3) ≡ false → (walk_from_step Reads values e rest).broken ≡ Some fault
-    → (rest.broken ≡ Some fault → has_close rest.moves ≡ closes_at stop) → has_close (walk_from_step Reads values e rest).moves ≡ closes_at stop
+    → (rest.broken ≡ Some fault → has_close rest.moves ≡ closes_at stop) → has_close (walk_from_step Reads values e rest).moves
+    ≡ closes_at stop
 read_closes fates stop n values Done rest fault ends other broken later = closes_first values rest.moves ∙ later broken
 read_closes fates stop n values (Fails f made) rest fault ends other broken later =
     let at = stopped_at stop n f made (sym ends) in
@@ -227,7 +242,8 @@ read_closes fates stop n values (Fails f made) rest fault ends other broken late
 
 -- the step that closes
 write_closes : (stop : Stop) (values : List (List ℕ)) (e : End) (rest : StepsWalk) (fault : StepFault)
-    → e ≡ end_of (fault_at stop 3) (is_made_at stop 3) → rest.broken ≡ None → (walk_from_step (Writes Close) values e rest).broken ≡ Some fault
+    → e ≡ end_of (fault_at stop 3) (is_made_at stop 3) → rest.broken ≡ None → (walk_from_step (Writes Close) values e rest).broken
+    ≡ Some fault
     → has_close (walk_from_step (Writes Close) values e rest).moves ≡ closes_at stop
 write_closes stop values Done rest fault ends none broken = cc
 write_closes stop values (Fails f made) rest fault ends none broken =
@@ -270,9 +286,12 @@ closing_said stop _ _ _ closed None known = (refl, refl)
 -- a checkpoint on the planned course
 closed_came : (i : Instance) (d : Digests) (stop : Stop) (meddles : List Meddle) (old mid new : Standing)
     (result : Result Said CheckpointRefusal) (issued : List (List ℕ))
-    → CheckpointGoesBy i d (checkpoint_outcome i (digest_level i) d (course_of stop meddles)) (record old { plan = Some (plan_of stop meddles) }) mid result
-    → register_reading old ≡ Some d.register → SettlesPlan stop (has_closing_fault result) mid new → StaysOn stop (has_closing_fault result) mid
-    → CallComesTo i (checkpoint_event_outcome (digest_level i) stop issued (checkpoint_outcome i (digest_level i) d (course_of stop meddles))) d.count issued old new
+    → CheckpointGoesBy i d (checkpoint_outcome i (digest_level i) d (course_of stop meddles))
+    (record old { plan = Some (plan_of stop meddles) }) mid result
+    → register_reading old ≡ Some d.register → SettlesPlan stop (has_closing_fault result) mid new
+    → StaysOn stop (has_closing_fault result) mid
+    → CallComesTo i (checkpoint_event_outcome (digest_level i) stop issued
+    (checkpoint_outcome i (digest_level i) d (course_of stop meddles))) d.count issued old new
     (quiet_call (checkpoint_reply stop (closes_at stop) result))
 closed_came i d stop meddles old mid new result issued goes register settles stays =
     let c = course_of stop meddles in let is_lost = (digest_level i).is_lost (state_seen i (digest_level i) d c) in
@@ -301,7 +320,8 @@ closed_came i d stop meddles old mid new result issued goes register settles sta
 
 -- a checkpoint over a planned platform
 pub checks_planned : (old mid new : Standing) (meddles : List Meddle) (stop : Stop) (result : Result Said CheckpointRefusal)
-    → IsCheckpointOnCourse (record old { plan = Some (plan_of stop meddles) }) mid result → SettlesPlan stop (has_closing_fault result) mid new
+    → IsCheckpointOnCourse (record old { plan = Some (plan_of stop meddles) }) mid result
+    → SettlesPlan stop (has_closing_fault result) mid new
     → (variant : Variant) (meaning : Meaning) (issued : List (List ℕ))
     → ChecksOwnCell variant meaning old new issued meddles stop (Ok (checkpoint_reply stop (closes_at stop) result))
 checks_planned old mid new meddles stop result checks settles variant meaning issued = λ key barrier d s q.
@@ -310,7 +330,9 @@ checks_planned old mid new meddles stop result checks settles variant meaning is
     let stands : StandsAt i at d = record { spells = s.at.spells; cell = s.at.cell; reads = s.at.reads } in
     let stays = checks.plans (plan_of stop meddles) q.is_on refl refl in
     let told = checks.tells (plan_of stop meddles) q.is_on refl refl in
-    let goes : CheckpointGoesBy i d (checkpoint_outcome i (digest_level i) d (course_of stop meddles)) at mid result = subst (λ (f : ℕ → StepFate). CheckpointGoesBy i d
-    (checkpoint_outcome i (digest_level i) d (record { fates = f; lacks = false })) at mid result) (λ j. λ n. told n j) (checks.goes variant meaning
+    let goes : CheckpointGoesBy i d (checkpoint_outcome i (digest_level i) d (course_of stop meddles)) at mid result =
+        subst (λ (f : ℕ → StepFate). CheckpointGoesBy i d
+    (checkpoint_outcome i (digest_level i) d (record { fates = f; lacks = false })) at mid result) (λ j. λ n. told n j)
+    (checks.goes variant meaning
     key barrier d stands) in
     closed_came i d stop meddles old mid new result issued goes s.register settles stays.0

@@ -1,6 +1,8 @@
 -- A checkpoint that a device's fault broke off has closed its segment exactly where its third step was stopped, and had its effect.
-use Rattle.mm_world.proofs.Below.{◌≡◌, ℕ, Bool, true, false, ◌&&◌, ◌==◌, List, Option, None, Some, Result, Ok, Err, refl, sym, ap, ◌∙◌, subst}
-use Rattle.mm_world.proofs.Below.{StepFault, Meddle, Stop, Standing, StepGoes, ReadCell, fault_at, is_made_at, fault_by_plan, is_some, end_of, Cell}
+use Rattle.mm_world.proofs.Below.{◌≡◌, ℕ, Bool, true, false, ◌&&◌, ◌==◌, List, Option, None, Some, Result, Ok, Err, refl, sym, ap, ◌∙◌}
+use Rattle.mm_world.proofs.Below.{subst}
+use Rattle.mm_world.proofs.Below.{StepFault, Meddle, Stop, Standing, StepGoes, ReadCell, fault_at, is_made_at, fault_by_plan, is_some}
+use Rattle.mm_world.proofs.Below.{end_of, Cell}
 use Rattle.mm_world.proofs.Below.{Said, CheckpointRefusal, stopped_step, takes_effect, checkpoint_reply}
 use Rattle.std.specs.Result.{result_map_both}
 use Rattle.mm_base.specs.Faults.{next_count}
@@ -50,7 +52,8 @@ module _ (stop : Stop) (meddles : List Meddle) where
   plan = plan_by stop meddles
 
   -- a step that fails is the one that is stopped
-  stopped_number : (now next : Standing) (act : Act) (fault : StepFault) (made : ℕ) → IsAt now plan made → StepGoes act now next (Some fault)
+  stopped_number : (now next : Standing) (act : Act) (fault : StepFault) (made : ℕ) → IsAt now plan made
+      → StepGoes act now next (Some fault)
       → stopped_step stop ≡ next_count made
   stopped_number now next act fault made is g =
       let n = next_count made in
@@ -81,7 +84,8 @@ module _ (stop : Stop) (meddles : List Meddle) where
         let some : commits ≡ Some 0 = cc in
         ap is_some some ∙ sym (ap (λ (k : ℕ). k == 3) (stopped_number old new _ it 2 is g))
 
-    by_weighed : (cell : Cell) (found given : Result (OpFinding Said) (Halt CheckpointRefusal)) (one two middle : Standing) → IsAt one plan 1
+    by_weighed : (cell : Cell) (found given : Result (OpFinding Said) (Halt CheckpointRefusal)) (one two middle : Standing)
+        → IsAt one plan 1
         → OpWeighs closing_operation cell one two found → RoomIsMadeFor found two middle given → Ends given middle → Broke
     by_weighed cell (Err (halt.Fault it)) given one two middle is w r e =
         before it middle 2 refl (stopped_number one two ReadRegister it 1 is w) (by_halt given (halt.Fault it) middle r.1 e)
@@ -96,7 +100,8 @@ module _ (stop : Stop) (meddles : List Meddle) where
         (subst (λ (x : Result (OpFinding Said) (Halt CheckpointRefusal)). Ends x middle) room.1 e)
 
     by_seen : (seen : Result (Sight Said) (Halt CheckpointRefusal)) (found : Result (OpFinding Said) (Halt CheckpointRefusal))
-        (old one middle : Standing) → IsAt old plan 0 → OpLooks closing_operation old one seen → SightFinds closing_operation seen one middle found
+        (old one middle : Standing) → IsAt old plan 0 → OpLooks closing_operation old one seen
+        → SightFinds closing_operation seen one middle found
         → Ends found middle → Broke
     by_seen (Err (halt.Fault it)) found old one middle is l on e =
         before it middle 1 refl (stopped_number old one ReadCell it 0 is l) (by_halt found (halt.Fault it) middle on.1 e)
@@ -125,8 +130,10 @@ told_answer stop NoSegment = refl
 told_answer stop _ = refl
 
 pub told_at : (stop : Stop) (meddles : List Meddle) (old new : Standing) (ended : OpResult Said CheckpointRefusal) → old.is_on ≡ true
-    → ((why : CheckpointRefusal) → ended ≡ Refused why → closing_fault_of why ≡ None) → CallEndsUnder closing_operation old meddles stop new ended
-    → checkpoint_reply stop (has_closed_segment stop ended) (result_of_end ended) ≡ checkpoint_reply stop (closes_at stop) (result_of_end ended)
+    → ((why : CheckpointRefusal) → ended ≡ Refused why → closing_fault_of why ≡ None) → CallEndsUnder closing_operation old
+    meddles stop new ended
+    → checkpoint_reply stop (has_closed_segment stop ended) (result_of_end ended) ≡ checkpoint_reply stop (closes_at stop)
+    (result_of_end ended)
 told_at stop meddles old new (Answered it) on quiet f = told_answer stop it
 told_at stop meddles old new (Refused why) on quiet f = told_quiet stop why (quiet why refl) false (closes_at stop)
 told_at stop meddles old new Lacks on quiet f = refl

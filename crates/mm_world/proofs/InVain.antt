@@ -1,15 +1,22 @@
 -- A planned call over a cell that it doesn't go on with makes one reading step, and comes to what that gives.
 use Rattle.mm_world.proofs.Below.{◌≡◌, ℕ, Bool, true, false, ◌&&◌, List, Option, None, Some, Result, Ok, Err, refl, sym, ap, ◌∙◌, subst}
 use Rattle.mm_world.proofs.Below.{eq-eqb, if◌then◌else◌, ◌==◌, Variant, Basic, Opt, Meaning, Batch, StepFault, Standing, ReadCell, StepGoes}
-use Rattle.mm_world.proofs.Below.{Cell, CellFault, Blank, Unspelled, ReadsCell, is_same_variant, Refusal, AskResult, Refused, end_by_fault, fault_of}
-use Rattle.mm_world.proofs.Below.{IsOrMemory, Said, CheckpointRefusal, closing_fault_of, segment_in, SeesSegment, LooksAtSegment, EndsLooking}
+use Rattle.mm_world.proofs.Below.{Cell, CellFault, Blank, Unspelled, ReadsCell, is_same_variant, Refusal, AskResult, Refused, end_by_fault}
+use Rattle.mm_world.proofs.Below.{fault_of}
+use Rattle.mm_world.proofs.Below.{IsOrMemory, Said, CheckpointRefusal, closing_fault_of, segment_in, SeesSegment, LooksAtSegment}
+use Rattle.mm_world.proofs.Below.{EndsLooking}
 use Rattle.mm_world.proofs.Below.{vain_refusal, [], ◌∷◌, ◌++◌, map, append-nil, is_some, MatchResult, option_to_list}
 use Rattle.mm_world.proofs.Below.{Memory, One, size_of, Meddle, Stop, fault_at, is_made_at, fault_by_plan, values_by_plan, Instance}
-use Rattle.mm_world.proofs.Below.{Foreign, is_long, Digests, digests_after, register_reading, digest_level, state_after_moves, StepsWalk, walk_from_step, has_commit}
-use Rattle.mm_world.proofs.Below.{end_of, Reads, call_outcome_by, position_if_committed, is_broken, StaysOn, EndsAsCall, inl, inr, Reply, Outcome, way_of, cause_of}
-use Rattle.mm_world.proofs.Below.{outcome_by, outcome_without_call, read_only_outcome, plan_of, broken_reply, stopped_reply, IsQuiet, quiet_call, refused_call}
-use Rattle.mm_world.proofs.Below.{broken_call, takes_effect, size_if, is_cut, IsCallResult, SettlesPlan, checkpoint_reply, has_closing_fault, refusal_of_fault}
-use Rattle.mm_world.proofs.Below.{CallComesInVain, AsksInVain, ChecksInVain, AsksPlanned, ChecksPlanned, items_beside, register_of_items, reads_beside}
+use Rattle.mm_world.proofs.Below.{Foreign, is_long, Digests, digests_after, register_reading, digest_level, state_after_moves, StepsWalk}
+use Rattle.mm_world.proofs.Below.{walk_from_step, has_commit}
+use Rattle.mm_world.proofs.Below.{end_of, Reads, call_outcome_by, position_if_committed, is_broken, StaysOn, EndsAsCall, inl, inr, Reply}
+use Rattle.mm_world.proofs.Below.{Outcome, way_of, cause_of}
+use Rattle.mm_world.proofs.Below.{outcome_by, outcome_without_call, read_only_outcome, plan_of, broken_reply, stopped_reply, IsQuiet}
+use Rattle.mm_world.proofs.Below.{quiet_call, refused_call}
+use Rattle.mm_world.proofs.Below.{broken_call, takes_effect, size_if, is_cut, IsCallResult, SettlesPlan, checkpoint_reply}
+use Rattle.mm_world.proofs.Below.{has_closing_fault, refusal_of_fault}
+use Rattle.mm_world.proofs.Below.{CallComesInVain, AsksInVain, ChecksInVain, AsksPlanned, ChecksPlanned, items_beside, register_of_items}
+use Rattle.mm_world.proofs.Below.{reads_beside}
 use Rattle.mm_world.proofs.Below.{foreign_made}
 use Rattle.mm_seal.specs.CellLaws.{reads_cell-same}
 use Rattle.mm_call.specs.CallKind.{IsCallToEnd, EndsByFinding}
@@ -126,7 +133,8 @@ module _ (meaning : Meaning) (bytes offer : List ℕ) (b : Batch) (read : Result
         → StopsReading old new why ended
     basic_stops vain asks =
         let first = in_basic.reads_told meaning offer b old asks.middle asks.found asks.reads in
-        stops_at fault_in (λ fault. end_by_fault fault why) (λ found. EndsByFinding basic_asks.basic_call found asks.middle new ended) why old
+        stops_at fault_in (λ fault. end_by_fault fault why) (λ found. EndsByFinding basic_asks.basic_call found asks.middle new ended) why
+        old
         asks.middle new ended asks.found (λ it. refl) first.goes
         (λ none. let f = first.finds none in found_basic vain asks.found f.said.seen
         (subst (λ (x : List ℕ). seen.IsSeen meaning.id x offer f.said.seen) (f.told bytes cell) f.said.is_seen) f.said.found_is)
@@ -221,7 +229,8 @@ module _ (i : Instance) where
   -- what the one step comes to, by whether it failed
   abbrev read_to : Digests → List (List ℕ) → Stop → Refusal → List (List ℕ) → Option StepFault → Outcome Digests
   read_to d issued stop why values fault = record {
-    state = state_after_moves (digest_level i) (state_after_moves (digest_level i) d (map Foreign values)) (power_if (is_some fault && is_cut stop));
+    state = state_after_moves (digest_level i) (state_after_moves (digest_level i) d (map Foreign values))
+        (power_if (is_some fault && is_cut stop));
     issued = issued ++ [];
     reply = told_vain stop why fault;
     steps = 1;
@@ -242,14 +251,16 @@ module _ (i : Instance) where
   stopped_came : (d : Digests) (stop : Stop) (meddles : List Meddle) (issued : List (List ℕ)) (why : Refusal) (old mid new : Standing)
       (it : code.Called) (fault : Option StepFault) → IsQuiet old → register_reading old ≡ Some d.register
       → StepGoes ReadCell (record old { plan = Some (plan_of stop meddles) }) mid fault → SettlesPlan stop (is_some fault) mid new
-      → StaysOn stop (is_some fault) mid → TellsVain stop why fault it → CallComesInVain (read_only_outcome (digest_level i) d issued meddles stop why)
+      → StaysOn stop (is_some fault) mid → TellsVain stop why fault it
+      → CallComesInVain (read_only_outcome (digest_level i) d issued meddles stop why)
       issued old new it
   stopped_came d stop meddles issued why old mid new it fault q register goes settles stays tells =
       let told = goes.told (plan_of stop meddles) refl in
       let is : fault ≡ fault_at stop 1 = told.answers ∙ ap (λ on. fault_by_plan on (plan_of stop meddles)) q.is_on in
       let brings : goes.others ≡ due_values 1 meddles = told.brings ∙ ap (λ on. values_by_plan on (plan_of stop meddles)) q.is_on in
       let read : register_reading mid ≡ Some (state_after_moves (digest_level i) d (map Foreign (due_values 1 meddles))).register =
-      ap register_of_items (goes.items ∙ ap (λ vs. items_beside vs old.items) brings) ∙ reads_beside old.items (due_values 1 meddles) d.register register
+      ap register_of_items (goes.items ∙ ap (λ vs. items_beside vs old.items) brings) ∙ reads_beside old.items (due_values 1 meddles)
+      d.register register
       ∙ ap (λ (e : Digests). Some e.register) (sym (foreign_made i d (due_values 1 meddles))) in
       let comes = sym (read_is d issued stop why (due_values 1 meddles) fault (is_made_at stop 1)) in
       subst (λ f. CallComesInVain (read_by i d issued stop why (due_values 1 meddles) f (is_made_at stop 1)) issued old new it) is
@@ -345,7 +356,8 @@ module _ (old new : Standing) (meddles : List Meddle) (stop : Stop) (issued : Li
       subst (λ x. SettlesPlan stop x w.middle new) (sym (closes_broken at w.middle w.ended w.ends)) w.settles in record {
         own = λ variant meaning. closes_came old new meddles stop variant meaning called w issued;
         vain = λ i d fault read.
-            subst (λ (r : Reply). CallComesInVain (read_only_outcome (digest_level i) d issued meddles stop (refusal_of_fault fault)) issued old new (quiet_call r))
+            subst (λ (r : Reply). CallComesInVain (read_only_outcome (digest_level i) d issued meddles stop (refusal_of_fault fault)) issued
+                old new (quiet_call r))
             (sym (closes_told old new meddles stop called w read.quiet.is_on))
             (checks_in_vain old w.middle new meddles stop said goes closes settled issued i d fault read);
       }
@@ -367,11 +379,13 @@ module _ (old new : Standing) (meddles : List Meddle) (stop : Stop) (issued : Li
   module _ (called : Result code.Called Memory) (planned : IsPlanned closing_asked TellsCheckpoint meddles stop old new called) where
     pub checks_to : (it : code.Called) → called ≡ Ok it → ChecksPlanned old new issued meddles stop (Ok it.reply)
     checks_to it is =
-        checks_told it (subst (λ (r : Result code.Called Memory). IsPlanned closing_asked TellsCheckpoint meddles stop old new r) is planned)
+        checks_told it (subst (λ (r : Result code.Called Memory). IsPlanned closing_asked TellsCheckpoint meddles stop old new r) is
+            planned)
 
     pub checks_lack : (memory : Memory) → called ≡ Err memory → ChecksPlanned old new issued meddles stop (Err memory)
     checks_lack memory is =
-        checks_want memory (subst (λ (r : Result code.Called Memory). IsPlanned closing_asked TellsCheckpoint meddles stop old new r) is planned)
+        checks_want memory (subst (λ (r : Result code.Called Memory). IsPlanned closing_asked TellsCheckpoint meddles stop old new r) is
+            planned)
 
 -- a call that isn't too long, over a planned platform
 
@@ -391,17 +405,20 @@ module _ (variant : Variant) (meaning : Meaning) (old new : Standing) (meddles :
         let p = calls.plans (plan_of stop meddles) cell.quiet.is_on refl refl in
         let breaks : is_broken ended ≡ is_some r.fault = ap is_broken r.ends ∙ broken_with r.fault why in
         let it : code.Called = vain_call stop (size_of b) r.fault why in
-        let vain_outcome : Bool → Outcome Digests = λ long. if long then outcome_without_call d issued (reply.No cause.Long) else read_only_outcome (digest_level
+        let vain_outcome : Bool → Outcome Digests = λ long. if long then outcome_without_call d issued (reply.No cause.Long)
+            else read_only_outcome (digest_level
         i) d
         issued meddles stop why in
-        let came : CallComesInVain (vain_outcome false) issued old new it = stopped_came i d stop meddles issued why old w.middle new it r.fault
+        let came : CallComesInVain (vain_outcome false) issued old new it = stopped_came i d stop meddles issued why old
+            w.middle new it r.fault
         cell.quiet
         cell.register r.goes (subst (λ x. SettlesPlan stop x w.middle new) breaks settles) (subst (λ x. StaysOn stop x w.middle) breaks p.0)
         (vain_told stop (size_of b) r.fault why) in
         let gives : result ≡ Ok it = vain_result stop (size_of b) r.fault why result
         (λ e. never_memory variant meaning.id read (vain ∙ ap Some e))
         (subst (λ (x : AskResult). IsCallResult stop (size_of b) x result) r.ends w.told) in
-        subst (λ (x : Result code.Called Memory). MatchResult x (CallComesInVain (vain_outcome (is_long b)) issued old new) (λ _. new ≡ old))
+        subst (λ (x : Result code.Called Memory). MatchResult x (CallComesInVain (vain_outcome (is_long b)) issued old new)
+            (λ _. new ≡ old))
         (sym gives) (subst (λ (long : Bool). CallComesInVain (vain_outcome long) issued old new it) (sym short) came)
 
     asks_either : AsksPlanned variant meaning old new issued meddles stop (Some offer) b result

@@ -2,7 +2,8 @@
 use Rattle.mm_world.proofs.Below.{◌≡◌, ℕ, true, false, List, Option, None, Some, Result, Ok, Err, refl, sym, ap, subst}
 use Rattle.mm_world.proofs.Below.{Memory, Variant, Meaning, Batch, StepFault, Meddle, Stop, Standing, is_some, is_long, size_of, Digests}
 use Rattle.mm_world.proofs.Below.{Refusal, digest_level, instance_by, is_broken, end_by_fault, fault_of, Said, SettlesPlan}
-use Rattle.mm_world.proofs.Below.{CheckpointRefusal, has_closing_fault, checkpoint_reply, HasDigests, IsQuiet, CallComesTo, HasRead, ChecksOwnCell, plan_of}
+use Rattle.mm_world.proofs.Below.{CheckpointRefusal, has_closing_fault, checkpoint_reply, HasDigests, IsQuiet, CallComesTo, HasRead}
+use Rattle.mm_world.proofs.Below.{ChecksOwnCell, plan_of}
 use Rattle.std.specs.Prelude.{MatchResult}
 use Rattle.std.specs.Result.{result_map_both}
 use Rattle.mm_machine.specs.OpEnds.{OpEnds}
@@ -35,7 +36,8 @@ refused_unbroken : (why : Refusal) → fault_of why ≡ None → is_broken (end_
 refused_unbroken why e = ap (λ (f : Option StepFault). is_broken (end_by_fault f why)) e
 
 pub asks_broken : (variant : Variant) (meaning : Meaning) (offer : List ℕ) (b : Batch) (old new : Standing)
-    (end : OpResult BatchAnswer Refusal) → OpEnds (ask_operation variant meaning offer b) Begun old new end → is_broken (end_of_machine end) ≡ flight.is_broken end
+    (end : OpResult BatchAnswer Refusal) → OpEnds (ask_operation variant meaning offer b) Begun old new end → is_broken (end_of_machine end)
+    ≡ flight.is_broken end
 asks_broken variant meaning offer b old new (Answered answer) f = refl
 asks_broken variant meaning offer b old new (Refused why) f =
     let q = quiet_by meaning offer b variant in
@@ -53,7 +55,8 @@ gives_quiet : {A B : Type 0} (form : A → B) (finds : Result A CheckpointRefusa
     → GivesAs form finds (Err why) → closing_fault_of why ≡ None
 gives_quiet form finds why g = given_quiet form g.found why g.gives g.quiet
 
-refusal_quiet : (old new : Standing) (why : CheckpointRefusal) → OpEnds closing_operation Begun old new (Refused why) → closing_fault_of why ≡ None
+refusal_quiet : (old new : Standing) (why : CheckpointRefusal) → OpEnds closing_operation Begun old new (Refused why) → closing_fault_of why
+    ≡ None
 refusal_quiet old new why f =
     finish_refuses closing_operation (λ (why : CheckpointRefusal). closing_fault_of why ≡ None) (λ bytes why g. gives_quiet _ _ why g)
     (λ cell register why g. gives_quiet _ _ why g) Begun old new why f
@@ -68,7 +71,8 @@ closes_broken old new (Broken fault commits) f = refl
 -- what such a call came to
 
 module _ (old new : Standing) (meddles : List Meddle) (stop : Stop) where
-  pub asks_came : (variant : Variant) (meaning : Meaning) (bytes : List ℕ) (b : Batch) (result : Result CallReport Memory) → is_long b ≡ false
+  pub asks_came : (variant : Variant) (meaning : Meaning) (bytes : List ℕ) (b : Batch) (result : Result CallReport Memory)
+      → is_long b ≡ false
       → WasPlanned (ask_operation variant meaning bytes b) (TellsAsk b) meddles stop old new result
       → (issued : List (List ℕ)) (key barrier : List ℕ) (d : Digests)
       → (let i = instance_by variant meaning key barrier in HasDigests i old d → IsQuiet old → MatchResult result
@@ -82,8 +86,10 @@ module _ (old new : Standing) (meddles : List Meddle) (stop : Stop) where
       w.told issued key barrier d s q
 
   -- a checkpoint is told so, by how the machine ended
-  pub closes_told : (result : Result CallReport Memory) (w : WasPlanned closing_operation TellsCheckpoint meddles stop old new result) → old.is_on ≡ true
-      → checkpoint_reply stop (has_closed_segment stop w.ended) (result_of_end w.ended) ≡ checkpoint_reply stop (closes_at stop) (result_of_end w.ended)
+  pub closes_told : (result : Result CallReport Memory) (w : WasPlanned closing_operation TellsCheckpoint meddles stop old new result)
+      → old.is_on ≡ true
+      → checkpoint_reply stop (has_closed_segment stop w.ended) (result_of_end w.ended) ≡ checkpoint_reply stop (closes_at stop)
+      (result_of_end w.ended)
   closes_told result w on =
       let at : Standing = record old { plan = Some (plan_of stop meddles) } in
       told_at stop meddles old w.middle w.ended on
@@ -92,12 +98,14 @@ module _ (old new : Standing) (meddles : List Meddle) (stop : Stop) where
 
   pub closes_came : (variant : Variant) (meaning : Meaning) (result : Result CallReport Memory)
       (w : WasPlanned closing_operation TellsCheckpoint meddles stop old new result) (issued : List (List ℕ))
-      → ChecksOwnCell variant meaning old new issued meddles stop (Ok (checkpoint_reply stop (has_closed_segment stop w.ended) (result_of_end w.ended)))
+      → ChecksOwnCell variant meaning old new issued meddles stop
+      (Ok (checkpoint_reply stop (has_closed_segment stop w.ended) (result_of_end w.ended)))
   closes_came variant meaning result w issued = λ key barrier d s q.
       let at : Standing = record old { plan = Some (plan_of stop meddles) } in
       let said = result_of_end w.ended in
       let i = instance_by variant meaning key barrier in
-      subst (λ (r : Reply). CallComesTo i (checkpoint_event_outcome (digest_level i) stop issued (checkpoint_outcome i (digest_level i) d (course_of stop meddles)))
+      subst (λ (r : Reply). CallComesTo i (checkpoint_event_outcome (digest_level i) stop issued
+          (checkpoint_outcome i (digest_level i) d (course_of stop meddles)))
       d.count issued old new (quiet_call r)) (sym (closes_told result w q.is_on))
       (checks_planned old w.middle new meddles stop said (checks_on at w.middle said (closes_whole w.middle w.ended at w.ends))
       (subst (λ x. SettlesPlan stop x w.middle new) (sym (closes_broken at w.middle w.ended w.ends)) w.settles) variant meaning issued

@@ -1,5 +1,6 @@
 -- What happens at a seat, by what its platform came to.
-use Rattle.mm_world.proofs.Below.{◌≡◌, ℕ, ◌+◌, ◌-◌, ◌≤◌, ◌^◌, List, [], ◌∷◌, ◌++◌, length, Option, None, Some, Result, Ok, Err, refl, sym, ap, ◌∙◌, IfOk}
+use Rattle.mm_world.proofs.Below.{◌≡◌, ℕ, ◌+◌, ◌-◌, ◌≤◌, ◌^◌, List, [], ◌∷◌, ◌++◌, length, Option, None, Some, Result, Ok, Err, refl, sym}
+use Rattle.mm_world.proofs.Below.{ap, ◌∙◌, IfOk}
 use Rattle.mm_world.proofs.Below.{subst, arith, append-nil, option_to_list, Memory, Batch, meaning_of, Meddle, Stop, Standing}
 use Rattle.mm_world.proofs.Below.{Instance, Digests, digests_after, Foreign, Reply, Ask, Checkpoint}
 use Rattle.mm_world.proofs.Below.{HasDigests, AsksPlanned, ChecksPlanned, refusal_of_fault}

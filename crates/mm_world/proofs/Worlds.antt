@@ -2,9 +2,11 @@
 use Rattle.mm_world.proofs.Below.{◌≡◌, ℕ, ◌+◌, ◌-◌, ◌<◌, ◌≤◌, ◌^◌, Bool, true, false, List, [], ◌∷◌, ◌++◌, length, take, drop}
 use Rattle.mm_world.proofs.Below.{Result, Ok, Err, IfOk, OnErr, inl, inr, refl, sym, ap, ◌∙◌, subst, arith, ◌==◌}
 use Rattle.mm_world.proofs.Below.{slice_index, Memory, Variant, Basic, Opt, Meaning, Cell, flag_byte, Standing, Instance, first_history}
-use Rattle.mm_world.proofs.Below.{Digests, cell_of, issued_bytes, register_reading, digest_level, moves_seen, state_seen, reading_steps, instance_by}
+use Rattle.mm_world.proofs.Below.{Digests, cell_of, issued_bytes, register_reading, digest_level, moves_seen, state_seen, reading_steps}
+use Rattle.mm_world.proofs.Below.{instance_by}
 use Rattle.mm_world.proofs.Below.{cell_at, anchor-nil, summary-nil, seen_none, meaning_of, Reply, Ask, Checkpoint, course_of}
-use Rattle.mm_world.proofs.Below.{first_digests, WorldState, world_of, first_world_state, outcome_in, WorldFollows, EventWantsMemory, HasDigests, IsQuiet, Event, printed}
+use Rattle.mm_world.proofs.Below.{first_digests, WorldState, world_of, first_world_state, outcome_in, WorldFollows, EventWantsMemory}
+use Rattle.mm_world.proofs.Below.{HasDigests, IsQuiet, Event, printed}
 use Rattle.mm_world.proofs.Below.{grown}
 use Rattle.mm_digest.specs.LengthLaws.{length-zero_bytes, length-start_digest_of}
 use Rattle.mm_seal.specs.Cell.{cell_spelling}
@@ -58,7 +60,8 @@ module _ (old new : Seat) (world : WorldState) (is : world_in old ≡ world) (k 
       → length new.issued.items ≤ 2 ^ 32 - 1 → KeepsWorld new
   keeps_so at header a q few =
       let there : HasDigests i new.platform (digests_in new.platform new.committed) =
-      subst (HasDigests i new.platform) (sym (digests_are i at new.platform new.committed a)) (counting i at new.platform new.committed a) in
+      subst (HasDigests i new.platform) (sym (digests_are i at new.platform new.committed a))
+      (counting i at new.platform new.committed a) in
       record {
         stands = subst (λ (h : Header). HasDigests (world_of h) new.platform (digests_in new.platform new.committed)) (sym header) there;
         quiet = q;
@@ -85,7 +88,8 @@ module _ (old new : Seat) (world : WorldState) (is : world_in old ≡ world) (k 
   keeps_world event (Ok said) f room =
       let c = f.own world_key world_barrier d k.stands k.quiet refl in
       let more = ap (λ (x : List (List ℕ)). length x) c.issued in
-      keeps_so _ f.header c.stands c.quiet (omega (arith, room, ap (λ (w : WorldState). length w.issued) is, more, grown (world_in old) event))
+      keeps_so _ f.header c.stands c.quiet
+          (omega (arith, room, ap (λ (w : WorldState). length w.issued) is, more, grown (world_in old) event))
   keeps_world event (Err memory) f room =
       let w = f.own world_key world_barrier d k.stands k.quiet refl in keeps_wanting event w.0 w.1
 
@@ -192,7 +196,8 @@ stands_new Basic meaning key barrier cell length-key length-barrier e =
     record {
       at = record {
         spells =
-            record { summary = length-start_digest_of Basic meaning.id; key = length-key; barrier = length-zero_bytes; variant = (refl, refl) };
+            record { summary = length-start_digest_of Basic meaning.id; key = length-key; barrier = length-zero_bytes; variant =
+                (refl, refl) };
         cell = rw (e, summary-nil meaning.id) refl;
         reads = tt;
       };

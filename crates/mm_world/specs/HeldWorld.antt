@@ -47,6 +47,7 @@ pub record HoldsWorld (world : WorldState) (standing : Standing) : Type 0 where
 
 -- what the seat of a world keeps
 pub record KeepsWorld (seat : Seat) : Type 0 where
-  pub stands : HasDigests (world_of seat.header) seat.platform (digests_in seat.platform seat.committed)
+  pub stands : HasDigests (world_of seat.header) seat.platform
+      (digests_in seat.platform seat.committed)
   pub quiet : IsQuiet seat.platform
   pub few : length seat.issued.items ≤ 2 ^ 32 - 1

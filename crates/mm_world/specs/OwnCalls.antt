@@ -42,14 +42,16 @@ abbrev pub CallLacksMemory : Instance → Digests → List Meddle → Stop → S
 CallLacksMemory i d meddles stop old new = (new ≡ old) ⊎ HasRead i d meddles stop old new
 
 -- the batch is asked of these bytes, if any are offered, over a quiet platform
-abbrev pub AsksOwnCell : Variant → Meaning → Standing → Standing → List (List ℕ) → List Meddle → Stop
+abbrev pub AsksOwnCell : Variant → Meaning → Standing → Standing → List (List ℕ) → List Meddle
+    → Stop
     → Option (List ℕ) → Batch
     → Result CallReport Memory → Type 0
 AsksOwnCell variant meaning old new issued meddles stop bytes b result =
     (key barrier : List ℕ) (d : Digests) → let i = instance_by variant meaning key barrier in
     HasDigests i old d → IsQuiet old
     → MatchResult result
-    (CallComesTo i (ask_event_outcome i (digest_level i) d issued meddles stop bytes b) d.count issued old new)
+    (CallComesTo i (ask_event_outcome i (digest_level i) d issued meddles stop bytes b)
+    d.count issued old new)
     (λ _. CallLacksMemory i d meddles stop old new)
 
 -- a call that hands out no snapshot and commits nothing
@@ -57,12 +59,14 @@ abbrev pub quiet_call : Reply → CallReport
 quiet_call said = record { reply = said; snapshot = None; committed = 0 }
 
 -- a checkpoint over a quiet platform
-abbrev pub ChecksOwnCell : Variant → Meaning → Standing → Standing → List (List ℕ) → List Meddle → Stop
+abbrev pub ChecksOwnCell : Variant → Meaning → Standing → Standing → List (List ℕ) → List Meddle
+    → Stop
     → Result Reply Memory → Type 0
 ChecksOwnCell variant meaning old new issued meddles stop result =
     (key barrier : List ℕ) (d : Digests) → let i = instance_by variant meaning key barrier in
     HasDigests i old d → IsQuiet old
     → let o = checkpoint_outcome i (digest_level i) d (course_of stop meddles) in MatchResult result
-    (λ said. CallComesTo i (checkpoint_event_outcome (digest_level i) stop issued o) d.count issued old new
+    (λ said. CallComesTo i (checkpoint_event_outcome (digest_level i) stop issued o)
+    d.count issued old new
     (quiet_call said))
     (λ _. new ≡ old)

@@ -32,18 +32,22 @@ module _ {A R : Type 0} (o : OpMeaning A R)
     pub told : tells stop ended result
 
   -- Such a call was made; or memory was wanting for its plan, and nothing has changed.
-  abbrev pub IsPlanned : List Meddle → Stop → Standing → Standing → Result CallReport Memory → Type 0
+  abbrev pub IsPlanned : List Meddle → Stop → Standing → Standing → Result CallReport Memory
+      → Type 0
   IsPlanned meddles stop old new result =
       (IsErr result × (new ≡ old)) ⊎ WasPlanned meddles stop old new result
 
 -- what a call that asks for a batch is told as
-abbrev pub TellsAsk : Batch → Stop → OpResult BatchAnswer Refusal → Result CallReport Memory → Type 0
+abbrev pub TellsAsk : Batch → Stop → OpResult BatchAnswer Refusal → Result CallReport Memory
+    → Type 0
 TellsAsk b stop ended result = IsCallResult stop (size_of b) (end_of_machine ended) result
 
 -- what a checkpoint is told as: it hands out no snapshot, and commits nothing
-abbrev pub TellsCheckpoint : Stop → OpResult Checkpointed CheckpointRefusal → Result CallReport Memory → Type 0
+abbrev pub TellsCheckpoint : Stop → OpResult Checkpointed CheckpointRefusal
+    → Result CallReport Memory → Type 0
 TellsCheckpoint stop ended result =
-    result ≡ Ok (quiet_call (checkpoint_reply stop (has_closed_segment stop ended) (result_of_end ended)))
+    result ≡ Ok (quiet_call (checkpoint_reply stop (has_closed_segment stop ended)
+    (result_of_end ended)))
 
 -- a call that is told as something wanted no memory
 pub told_ok : (it : CallReport) (result : Result CallReport Memory) → result ≡ Ok it → IsOk result

@@ -81,7 +81,8 @@ pub record SeatStaysOn (standing : Standing) (old new : Seat) : Type 0 where
 
 -- An event came to this outcome, and was answered so: the platform is quiet, and stands as the
 -- outcome says.
-pub record EventComesTo (i : Instance) (o : Outcome Digests) (old new : Seat) (said : Reply) : Type 0 where
+pub record EventComesTo (i : Instance) (o : Outcome Digests) (old new : Seat)
+    (said : Reply) : Type 0 where
   pub reply : said ≡ o.reply
   pub issued : new.issued.items ≡ o.issued
   pub committed : new.committed ≡ within_64 o.state.count
@@ -117,7 +118,8 @@ SeatLacksMemoryInVain event old new = new ≡ old
 
 -- An event happened at a seat, over the cell of its variant and module, under any key and barrier,
 -- and over one that is blank or spells none.
-pub record SeatTakesEvent (event : Event) (old new : Seat) (result : Result Reply Memory) : Type 0 where
+pub record SeatTakesEvent (event : Event) (old new : Seat)
+    (result : Result Reply Memory) : Type 0 where
   pub header : new.header ≡ old.header
   pub own : (key barrier : List ℕ) (d : Digests)
       → let i = instance_at old.header key barrier in
@@ -128,5 +130,7 @@ pub record SeatTakesEvent (event : Event) (old new : Seat) (result : Result Repl
   pub vain : (i : Instance) (d : Digests) (fault : CellFault)
       → IsRead (Err fault) d old.platform
       → MatchResult result
-      (EventComesInVain (vain_event_outcome (digest_level i) d old.issued.items (refusal_of_fault fault) event) old new)
-      (λ _. SeatStaysOn new.platform old new × SeatLacksMemoryInVain event old.platform new.platform)
+      (EventComesInVain (vain_event_outcome (digest_level i) d old.issued.items
+      (refusal_of_fault fault) event) old new)
+      (λ _. SeatStaysOn new.platform old new × SeatLacksMemoryInVain event
+      old.platform new.platform)

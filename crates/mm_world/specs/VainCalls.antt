@@ -68,7 +68,8 @@ AsksInVain variant meaning old new issued meddles stop bytes b result =
     (i : Instance) (d : Digests) (read : Result Cell CellFault) (why : Refusal) → IsRead read d old
     → vain_refusal variant meaning.id read ≡ Some why
     → MatchResult result
-    (CallComesInVain (vain_ask_outcome (digest_level i) d issued meddles stop why bytes b) issued old new)
+    (CallComesInVain (vain_ask_outcome (digest_level i) d issued meddles stop why bytes b) issued
+    old new)
     (λ _. new ≡ old)
 
 -- a checkpoint over a quiet platform that holds no cell at all
@@ -77,7 +78,8 @@ abbrev pub ChecksInVain : Standing → Standing → List (List ℕ) → List Med
 ChecksInVain old new issued meddles stop result =
     (i : Instance) (d : Digests) (fault : CellFault) → IsRead (Err fault) d old
     → MatchResult result
-    (λ said. CallComesInVain (read_only_outcome (digest_level i) d issued meddles stop (refusal_of_fault fault)) issued old
+    (λ said. CallComesInVain (read_only_outcome (digest_level i) d issued meddles stop
+    (refusal_of_fault fault)) issued old
     new (quiet_call said))
     (λ _. new ≡ old)
 

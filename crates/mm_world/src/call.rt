@@ -230,7 +230,8 @@ pub(crate) fn told_closing(
 
 // A checkpoint under a plan.
 fn close(platform: &mut MemPlatform, course: &CallPlan<'_>) -> Result<CallReport, Memory>
-    ensures { IsPlanned closing_operation TellsCheckpoint course.now.meddles.now course.now.stop platform.old
+    ensures { IsPlanned closing_operation TellsCheckpoint course.now.meddles.now
+        course.now.stop platform.old
         platform.new result }
 {
     planned(&OptCheckpoint, platform, course, &mut KeptKey::new())

@@ -140,7 +140,8 @@ impl Seat {
         batch: Batch<'_>,
         course: &CallPlan<'_>,
     ) -> Result<Reply, Memory>
-        ensures { SeatTakesEvent (Ask course.now.meddles.now course.now.stop (offer_of_view from.entry)
+        ensures { SeatTakesEvent
+            (Ask course.now.meddles.now course.now.stop (offer_of_view from.entry)
             (batch_of batch.entry)) self.old self.new result }
     {
         match from {
@@ -185,7 +186,8 @@ impl Seat {
 
     /// Closes the open segment.
     pub fn checkpoint(&mut self, course: &CallPlan<'_>) -> Result<Reply, Memory>
-        ensures { SeatTakesEvent (Checkpoint course.now.meddles.now course.now.stop) self.old self.new
+        ensures { SeatTakesEvent (Checkpoint course.now.meddles.now course.now.stop)
+            self.old self.new
             result }
     {
         planned_checkpoint(&mut self.platform, course.meddles, course.stop)

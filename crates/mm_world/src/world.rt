@@ -73,7 +73,8 @@ impl World {
             (outcome_in self.old (texts.event_in (meddles_of meddles.now) text.entry))
             self.old self.new) }
         ensures wants { OnErr result
-            (EventWantsMemory (texts.event_in (meddles_of meddles.now) text.entry) self.old self.new) }
+            (EventWantsMemory (texts.event_in (meddles_of meddles.now) text.entry)
+            self.old self.new) }
         ensures printable { IfOk result IsPrintable }
         ensures grows { length self.new.issued ≤ length self.old.issued + 1 }
         ensures few { (outcome_in self.old
@@ -89,7 +90,8 @@ impl World {
         requires { length self.old.issued < 2 ^ 32 - 1 }
         ensures ok { IfOk result
             (WorldFollows (outcome_in self.old (event_of_view event.entry)) self.old self.new) }
-        ensures wants { OnErr result (EventWantsMemory (event_of_view event.entry) self.old self.new) }
+        ensures wants { OnErr result
+            (EventWantsMemory (event_of_view event.entry) self.old self.new) }
         ensures printable { IfOk result IsPrintable }
         ensures grows { length self.new.issued ≤ length self.old.issued + 1 }
         ensures few { (outcome_in self.old (event_of_view event.entry)).state.count

@@ -8,7 +8,8 @@ returns-in-Err-clause-err c =
 
 pub steps-preserved : goal.steps-preserved
 steps-preserved c = (
-  step_more c.args.steps.now c.steps.into c.steps.i _ _ c.in-Ok.it c.steps-test.true (omega (arith, c.steps-test.true, c.requires, c.steps.invariant.1))
+  step_more c.args.steps.now c.steps.into c.steps.i _ _ c.in-Ok.it c.steps-test.true
+      (omega (arith, c.steps-test.true, c.requires, c.steps.invariant.1))
       c.steps.invariant.0 c.in-Ok.ensures.ok (omega arith),
   length-set _ _ _ ∙ c.steps.invariant.1,
 )

@@ -19,13 +19,15 @@ returns-clause-goes g c =
 pub returns-in-Err-clause-faults : goal.returns-in-Err-clause-faults
 returns-in-Err-clause-faults g c =
     let meaning = g.M.Module.meaning c.args.module.now in
-    reads_blamed (basic_operation meaning c.args.offer.now (One c.args.request.now)) (quiet meaning c.args.offer.now (One c.args.request.now))
+    reads_blamed (basic_operation meaning c.args.offer.now (One c.args.request.now))
+    (quiet meaning c.args.offer.now (One c.args.request.now))
     (g.P.Device.standing c.args.platform.now) (g.P.Device.standing c.read_call.new.platform) (Err c.in-Err.refusal) c.in-Err.ensures.reads
 
 pub returns-clause-faults : goal.returns-clause-faults
 returns-clause-faults g c =
     let meaning = g.M.Module.meaning c.args.module.now in
-    reads_blamed (basic_operation meaning c.args.offer.now (One c.args.request.now)) (quiet meaning c.args.offer.now (One c.args.request.now))
+    reads_blamed (basic_operation meaning c.args.offer.now (One c.args.request.now))
+    (quiet meaning c.args.offer.now (One c.args.request.now))
     (g.P.Device.standing c.args.platform.now) (g.P.Device.standing c.read_call.new.platform) (Ok c.in-Ok.found) c.in-Ok.ensures.reads
 
 pub invariant_of-result : goal.invariant_of-result

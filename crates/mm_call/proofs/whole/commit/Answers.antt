@@ -8,6 +8,7 @@ returns-in-Repeat-clause-commits g c = rw c.in-Repeat.is (record { ended = Answe
 
 pub returns-in-Change-clause-commits : goal.returns-in-Change-clause-commits
 returns-in-Change-clause-commits g c =
-    rw c.in-Change.is (commits_told (remaining_acts c.in-Change.ready.change) c.in-Change.ready.answer (g.P.Device.standing c.args.platform.now)
+    rw c.in-Change.is (commits_told (remaining_acts c.in-Change.ready.change) c.in-Change.ready.answer
+    (g.P.Device.standing c.args.platform.now)
     (g.P.Device.standing c.finish_change.new.platform) c.finish_change.result c.handed_out.result c.finish_change.ensures
     c.handed_out.ensures)

@@ -23,7 +23,8 @@ returns-in-Ok-clause-complete g c = asked_quietly c.in-Ok.ensures
 
 pub returns-in-Err-Device-clause-complete : goal.returns-in-Err-Device-clause-complete
 returns-in-Err-Device-clause-complete g c =
-    asked_faultless (g.P.Device.standing c.ask-in-Err-Device.new.platform) (batch_result_of c.ask-in-Err-Device.result) c.in-Err-Device.field-0-is
+    asked_faultless (g.P.Device.standing c.ask-in-Err-Device.new.platform) (batch_result_of c.ask-in-Err-Device.result)
+    c.in-Err-Device.field-0-is
     c.in-Err-Device.ensures
 
 pub returns-in-Err-clause-complete : goal.returns-in-Err-clause-complete

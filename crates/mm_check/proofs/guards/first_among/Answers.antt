@@ -14,4 +14,5 @@ events-preserved c = λ known h.
     ap (number_of_first (is_secured known))
     (sym (events_more c.args.events.now c.events.index event c.events-test.true c.index-events-index.is))
     ∙ none_more (is_secured known) (events_of (take c.events.index c.args.events.now)) (event_of event) (c.events.invariant known h)
-    (sym (secured_same known c.args.guards.now (event_foreign_values (event_of event)) h) ∙ sym c.brings_some.ensures ∙ c.if-brings_some.false)
+    (sym (secured_same known c.args.guards.now (event_foreign_values (event_of event)) h) ∙ sym c.brings_some.ensures
+    ∙ c.if-brings_some.false)

@@ -33,18 +33,22 @@ pub lines-preserved-in_ok-put_reply : goal.lines-preserved-in_ok-put_reply
 lines-preserved-in_ok-put_reply c =
     let step = next _ _ _ _ _ _ _ c.lines.invariant.going (sym c.in-Some.ensures) in
     record {
-      going = goes_on _ _ _ (running_replay c.answered.new.progress) _ _ _ _ c.in-Some.line.now c.in-Some.behind.now c.in_ok-reply.reply step
+      going = goes_on _ _ _ (running_replay c.answered.new.progress) _ _ _ _ c.in-Some.line.now c.in-Some.behind.now
+          c.in_ok-reply.reply step
           c.in_ok-reply.ensures.reply c.count.ensures.counted c.in_ok-put_reply.ensures;
-      header = step.header c.in_ok-reply.reply (running_replay c.answered.new.progress) c.in_ok-reply.ensures.reply ∙ c.lines.invariant.header;
+      header = step.header c.in_ok-reply.reply (running_replay c.answered.new.progress) c.in_ok-reply.ensures.reply
+          ∙ c.lines.invariant.header;
     }
 
 pub lines-preserved : goal.lines-preserved
 lines-preserved c =
     let step = next _ _ _ _ _ _ _ c.lines.invariant.going (sym c.in-Some.ensures) in
     record {
-      going = goes_on _ _ _ (running_replay c.answered.new.progress) _ _ _ _ c.in-Some.line.now c.in-Some.behind.now c.in_ok-reply.reply step
+      going = goes_on _ _ _ (running_replay c.answered.new.progress) _ _ _ _ c.in-Some.line.now c.in-Some.behind.now
+          c.in_ok-reply.reply step
           c.in_ok-reply.ensures.reply c.count.ensures.counted c.in_ok-put_reply.ensures;
-      header = step.header c.in_ok-reply.reply (running_replay c.answered.new.progress) c.in_ok-reply.ensures.reply ∙ c.lines.invariant.header;
+      header = step.header c.in_ok-reply.reply (running_replay c.answered.new.progress) c.in_ok-reply.ensures.reply
+          ∙ c.lines.invariant.header;
     }
 
 pub returns-clause-sums : goal.returns-clause-sums

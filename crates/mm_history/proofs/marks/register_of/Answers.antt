@@ -10,6 +10,7 @@ entries-init c = c.zero-register.ensures ∙ sym reads_zero
 pub entries-preserved : goal.entries-preserved
 entries-preserved c =
     let barrier = c.args.barrier.now in
-    more_taken kept_entry (λ es. register_of (values_of barrier es)) (λ r e. extended_digest_of r (extension_value barrier e)) (register_more barrier)
+    more_taken kept_entry (λ es. register_of (values_of barrier es)) (λ r e. extended_digest_of r (extension_value barrier e))
+    (register_more barrier)
     c.args.entries.now c.entries.entry-index c.entry-item.result c.entries-test.true c.entry-item.is c.entries.invariant
     (c.extended-register.ensures ∙ ap (extended_digest_of _) c.value.ensures)

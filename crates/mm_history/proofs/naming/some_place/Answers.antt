@@ -4,7 +4,8 @@ use Rattle.mm_history.proofs.naming.some_place.Goals as goal
 
 pub closed-init : goal.closed-init
 closed-init c = walk_begins c.args.id c.args.barrier.now c.args.lists.now c.args.sought.now.named.now c.args.sought.now.anchor.now.bytes
-    c.args.sought.now.extension.now.bytes c.closed-closed.result.now c.first_stage-here.result (c.first_stage-here.ensures c.args.barrier.now)
+    c.args.sought.now.extension.now.bytes c.closed-closed.result.now c.first_stage-here.result
+    (c.first_stage-here.ensures c.args.barrier.now)
 
 pub returns-then-size-sought : goal.returns-then-size-sought
 returns-then-size-sought c =
@@ -16,5 +17,6 @@ pub closed-preserved : goal.closed-preserved
 closed-preserved c =
     walk_on c.args.sought.now.named.now c.closed-closed.result.now c.closed.segment-index c.segment-item.result c.closed-test.true
     c.segment-item.is c.closed.invariant (ap length c.as_slice-items.ensures.value) c.is_clear-is_shut.ensures c.both-ends.ensures
-    c.is_here.ensures c.if-is_here.false c.args.stages.now c.if-size-sought.false c.as_slice-items.ensures.value c.closed-closed.ensures c.requires.stages
+    c.is_here.ensures c.if-is_here.false c.args.stages.now c.if-size-sought.false c.as_slice-items.ensures.value c.closed-closed.ensures
+    c.requires.stages
     refl c.stage_behind-here.ensures

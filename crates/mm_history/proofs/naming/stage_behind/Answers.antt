@@ -11,5 +11,6 @@ returns c = λ id before later here counts are.
 
 pub returns-2 : goal.returns-2
 returns-2 c = λ id before later here counts are.
-    stage_made id c.args.barrier.now before (kept_entries c.args.items.now) here counts c.register_of.ensures c.anchored.ensures c.some_value.ensures
+    stage_made id c.args.barrier.now before (kept_entries c.args.items.now) here counts c.register_of.ensures c.anchored.ensures
+    c.some_value.ensures
     c.both.ensures

@@ -1,4 +1,5 @@
-use Rattle.mm_host.proofs.Below.{◌≡◌, ◌+◌, ◌-◌, ◌≤◌, ℕ, [], List, Option, Result, IsSized, Standing, StoreStanding, SessionFault, most_lines, ServesInput}
+use Rattle.mm_host.proofs.Below.{◌≡◌, ◌+◌, ◌-◌, ◌≤◌, ℕ, [], List, Option, Result, IsSized, Standing, StoreStanding, SessionFault}
+use Rattle.mm_host.proofs.Below.{most_lines, ServesInput}
 use Rattle.mm_host.proofs.serving.serve_lines.Given as goal
 
 -- the rest of the session makes up the whole; the sizes of what was answered last; and the counts are as before

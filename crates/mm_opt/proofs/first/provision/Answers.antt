@@ -5,7 +5,8 @@ use Rattle.mm_opt.proofs.first.provision.Goals as goal
 pub returns-clause-cell : goal.returns-clause-cell
 returns-clause-cell g c =
     subst (λ (bytes : List ℕ). IfOk c.provision_with.result (λ made. made.cell ≡ bytes))
-    (first_cell (g.M.Module.meaning c.args.module.now) c.id-id.result c.start-anchor.result c.args.key.now c.args.barrier.now c.id-id.ensures
+    (first_cell (g.M.Module.meaning c.args.module.now) c.id-id.result c.start-anchor.result c.args.key.now
+    c.args.barrier.now c.id-id.ensures
     c.start-anchor.ensures)
     c.provision_with.ensures.cell
 

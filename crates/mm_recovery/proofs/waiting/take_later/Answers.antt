@@ -1,4 +1,5 @@
-use Rattle.mm_recovery.proofs.Below.{◌≡◌, List, ℕ, Ok, Option, Some, ap, inl, inr, rules, option_map, IsWaiting, PendingRecord, ReadsPending, later_record}
+use Rattle.mm_recovery.proofs.Below.{◌≡◌, List, ℕ, Ok, Option, Some, ap, inl, inr, rules, option_map, IsWaiting, PendingRecord}
+use Rattle.mm_recovery.proofs.Below.{ReadsPending, later_record}
 use Rattle.mm_store.specs.Records.{pending_of}
 use Rattle.mm_recovery.proofs.waiting.take_later.Goals as goal
 

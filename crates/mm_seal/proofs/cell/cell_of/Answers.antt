@@ -3,7 +3,8 @@ use Rattle.mm_seal.specs.declared.cell.Cell.{Cell}
 use Rattle.mm_seal.specs.Cell.{FitsVariant, cell_spelling, IsNoCell}
 use Rattle.mm_seal.specs.CellLaws.{fields-cell_spelling, cell_of_fields-only}
 use Rattle.mm_seal.proofs.cell.cell_of.Goals as goal
-use Rattle.mm_seal.proofs.cell.cell_of.Goals.{else-fits_variant-via-then-fits_variant+else-is_spelled, else-fits_variant-via-else-fits_variant}
+use Rattle.mm_seal.proofs.cell.cell_of.Goals.{else-fits_variant-via-then-fits_variant+else-is_spelled}
+use Rattle.mm_seal.proofs.cell.cell_of.Goals.{else-fits_variant-via-else-fits_variant}
 
 pub returns-in_err-variant : goal.returns-in_err-variant
 returns-in_err-variant c =

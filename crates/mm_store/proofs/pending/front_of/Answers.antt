@@ -4,7 +4,8 @@ use Rattle.std.proofs.Common.{◌<◌, length-append, length-drop}
 use Rattle.mm_base.specs.FieldLaws.{length-eight_bytes}
 use Rattle.mm_store.proofs.PendingLaws.{no_front-short, no_front-fields, front_of_fields}
 use Rattle.mm_store.proofs.pending.front_of.Goals as goal
-use Rattle.mm_store.proofs.pending.front_of.Goals.{else-begins_record-via-then-begins_record+else-request-length, else-begins_record-via-else-begins_record}
+use Rattle.mm_store.proofs.pending.front_of.Goals.{else-begins_record-via-then-begins_record+else-request-length}
+use Rattle.mm_store.proofs.pending.front_of.Goals.{else-begins_record-via-else-begins_record}
 
 pub returns-in_err-word : goal.returns-in_err-word
 returns-in_err-word c =

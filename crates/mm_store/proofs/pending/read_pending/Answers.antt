@@ -2,7 +2,8 @@ use Rattle.mm_store.proofs.Below.{◌≡◌, refl, true, false}
 use Rattle.mm_store.specs.Records.{pending_of}
 use Rattle.mm_store.proofs.PendingLaws.{reads_none-short, reads_none-front, reads_none-invalid, reads_some}
 use Rattle.mm_store.proofs.pending.read_pending.Goals as goal
-use Rattle.mm_store.proofs.pending.read_pending.Goals.{else-stands_in-via-then-stands_in+else-is_digest_of, else-stands_in-via-else-stands_in}
+use Rattle.mm_store.proofs.pending.read_pending.Goals.{else-stands_in-via-then-stands_in+else-is_digest_of}
+use Rattle.mm_store.proofs.pending.read_pending.Goals.{else-stands_in-via-else-stands_in}
 
 pub returns-in_err-front-clause-reads : goal.returns-in_err-front-clause-reads
 returns-in_err-front-clause-reads c =

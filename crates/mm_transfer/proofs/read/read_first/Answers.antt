@@ -4,7 +4,8 @@ use Rattle.mm_schedule.specs.Words.{◌>>=◌, rest_after_prefix}
 use Rattle.mm_transfer.specs.Grammar.{first_header_at}
 use Rattle.mm_transfer.proofs.read.read_first.Goals as goal
 
-reads : (line words : List ℕ) (found : Option Header) → Some words ≡ rest_after_prefix (codes "memoir transfer 1 ") line → found ≡ head_at words
+reads : (line words : List ℕ) (found : Option Header) → Some words ≡ rest_after_prefix (codes "memoir transfer 1 ") line
+    → found ≡ head_at words
     → found ≡ first_header_at line
 unfolding first_header_at
 reads line words found behind is = is ∙ ap (λ (rest : Option (List ℕ)). rest >>= head_at) behind

@@ -1,4 +1,5 @@
-use Rattle.mm_transfer.proofs.Below.{first_transfer, events_err, events_ok, transfer_steps, plays_err, unrefused, PairsAgreeThroughout, OneIsLive, SidesRunAsOne}
+use Rattle.mm_transfer.proofs.Below.{first_transfer, events_err, events_ok, transfer_steps, plays_err, unrefused, PairsAgreeThroughout}
+use Rattle.mm_transfer.proofs.Below.{OneIsLive, SidesRunAsOne}
 use Rattle.mm_sides.specs.Evidence.{PairsAreDecided}
 use Rattle.mm_transfer.specs.Headline.{AreOneTransfer, transfer_player}
 use Rattle.mm_transfer.specs.TransferPlay.{ReportsTransfer}

@@ -1,7 +1,8 @@
 use Rattle.std.proofs.Common.{◌≡◌, ◌∙◌, sym, true, rules}
 use Rattle.mm_words.proofs.OneCommand.{one_command}
 use Rattle.mm_words.proofs.Reading.{any_text, no_help, one_refused, same_words, too_many}
-use Rattle.mm_words.proofs.read.read_words.Goals.{then-words-gt-LONGEST-via-then-words-gt-LONGEST, then-words-gt-LONGEST-via-else-words-gt-LONGEST+then-has_refused}
+use Rattle.mm_words.proofs.read.read_words.Goals.{then-words-gt-LONGEST-via-then-words-gt-LONGEST}
+use Rattle.mm_words.proofs.read.read_words.Goals.{then-words-gt-LONGEST-via-else-words-gt-LONGEST+then-has_refused}
 use Rattle.mm_words.proofs.read.read_words.Goals as goal
 
 pub returns-then-is_alone-clause-ok : goal.returns-then-is_alone-clause-ok

@@ -38,7 +38,8 @@ returns c =
     subst (λ (l : List Event). StandsBehind header l new) (events_more all index event c.requires.within c.index-events-index.is)
     (stands_next header before (event_of event) c.args.self.now new c.in_ok-heard.heard c.requires.stands
     (heard_after header before _ _ _ after told.hears) (told.after header before after) told.grows
-    (subst (λ (l : List (List ℕ)). ListsMessages (fold messages_with (numbered_messages (world_of header) before) l) c.list_all.new.self) c.as_slice.ensures.value
+    (subst (λ (l : List (List ℕ)). ListsMessages (fold messages_with (numbered_messages (world_of header) before) l) c.list_all.new.self)
+    c.as_slice.ensures.value
     (c.in_ok-list_all.ensures (numbered_messages (world_of header) before) c.requires.stands.lists)) c.in_ok-put_reply.ensures
     (subst (λ (n : ℕ). LooksAtEvent c.args.self.now.expecting c.args.self.now.forged (event_of event) n c.in_ok-forged.forged)
     (ap (λ (n : ℕ). n + 1) count) c.in_ok-forged.ensures))

@@ -4,5 +4,6 @@ use Rattle.mm_check.proofs.messages.Numbers.list_all.Given as goal
 abbrev pub invariant-messages : goal.invariant-messages
 invariant-messages l = record {
   few : l.self.digests.count ≤ l.fn.self.digests.count + l.message-index;
-  lists : (seen : List (List ℕ)) → ListsMessages seen l.fn.self → ListsMessages (fold messages_with seen (take l.message-index l.messages)) l.self;
+  lists : (seen : List (List ℕ)) → ListsMessages seen l.fn.self
+      → ListsMessages (fold messages_with seen (take l.message-index l.messages)) l.self;
 }

@@ -8,7 +8,8 @@ invariant_of-self-2 c = record {
     c.requires.state ∙ ap (λ (r : ChronicleView). state_after_batch r (batch_of c.args.batch)) (sym c.self.view_is),
     c.requires.said ∙ ap (λ (r : ChronicleView). outputs_of_batch r (batch_of c.args.batch)) (sym c.self.view_is),
     short_one (batch_of c.args.batch) c.requires.short,
-  ) (ap (λ (r : ChronicleView). r.variant) c.self.view_is ∙ c.requires.variant) c.in_ok-open.ensures.ok c.requires.size c.guard-value.ensures
+  ) (ap (λ (r : ChronicleView). r.variant) c.self.view_is ∙ c.requires.variant) c.in_ok-open.ensures.ok c.requires.size
+      c.guard-value.ensures
       c.register-register.ensures (c.opened-self-inside.ensures
       ∙ ap (opened_marks c.self.inside.marks c.args.size c.guard-value.result.bytes c.register-register.result.bytes)
       c.is_alone-is_alone.ensures);

@@ -9,5 +9,6 @@ invariant_of-self-2 c = record {
     c.requires.said ∙ ap (λ (r : ChronicleView). outputs_of_batch r (batch_of c.args.batch)) (sym c.self.view_is),
     short_one (batch_of c.args.batch) c.requires.short,
   ) (ap (λ (r : ChronicleView). r.variant) c.self.view_is ∙ c.requires.variant) c.in_ok-add.ensures.ok c.linked-self-inside.ensures;
-  ways_are = ways_linked c.self.invariant.ways_are (batch_of c.args.batch) (ap (λ (r : ChronicleView). r.variant) c.self.view_is ∙ c.requires.variant) c.in_ok-add.ensures.ok;
+  ways_are = ways_linked c.self.invariant.ways_are (batch_of c.args.batch) (ap (λ (r : ChronicleView). r.variant) c.self.view_is
+      ∙ c.requires.variant) c.in_ok-add.ensures.ok;
 }

@@ -1,4 +1,5 @@
-use Rattle.mm_expect.proofs.Below.{sym, ap, ◌∙◌, subst, any_is_lawful, event_of, IsPrintable, chronicle_instance, ExpectedState, expected_state_after}
+use Rattle.mm_expect.proofs.Below.{sym, ap, ◌∙◌, subst, any_is_lawful, event_of, IsPrintable, chronicle_instance, ExpectedState}
+use Rattle.mm_expect.proofs.Below.{expected_state_after}
 use Rattle.mm_schedule.specs.declared.reply.Reply.{Reply}
 use Rattle.mm_expect.proofs.AfterLaws.{event_state, goes_after}
 use Rattle.mm_expect.proofs.EventLaws.{printable}

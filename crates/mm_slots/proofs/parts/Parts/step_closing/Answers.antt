@@ -23,5 +23,6 @@ unreachable-requires c =
 
 pub end-requires : goal.end-requires
 end-requires c =
-    needs_none c.in-Ok-Over.called.snapshot (over_quiet c.args.self.now c.args.closing c.step.new.platform c.in-Ok-Over.called c.requires.fits
+    needs_none c.in-Ok-Over.called.snapshot (over_quiet c.args.self.now c.args.closing c.step.new.platform
+    c.in-Ok-Over.called c.requires.fits
     (record { steps = rw c.in-Ok-Over.field-0-is at c.in-Ok-Over.ensures.steps; room = tt }))

@@ -14,7 +14,8 @@ pub returns-clause-wants : goal.returns-clause-wants
 returns-clause-wants c = wants_world _ _ _ c.self.view_is c.self.invariant (event_of_view c.args.event) c.follow.result c.follow.ensures
 
 pub returns-clause-printable : goal.returns-clause-printable
-returns-clause-printable c = printed_world _ _ _ c.self.view_is c.self.invariant (event_of_view c.args.event) c.follow.result c.follow.ensures
+returns-clause-printable c = printed_world _ _ _ c.self.view_is c.self.invariant (event_of_view c.args.event)
+    c.follow.result c.follow.ensures
 
 pub returns-clause-grows : goal.returns-clause-grows
 returns-clause-grows c = grown_world _ _ _ c.self.view_is c.self.invariant (event_of_view c.args.event) c.follow.result c.follow.ensures
