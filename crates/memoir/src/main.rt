@@ -1,4 +1,5 @@
-//! The program: its words, its input and output, the files of the current directory, its exit status, and why it stopped.
+//! The program: its words, its input and output, the files of the current directory, its exit
+//! status, and why it stopped.
 #![tactic(auto)]
 
 mod reasons;
@@ -24,7 +25,8 @@ fn words_after_name(rt: &HostRuntime) -> io::Result<Vec<String>> {
     }
 }
 
-// Does what the words say over files. Each function below makes some of the devices, and hands them on.
+// Does what the words say over files. Each function below makes some of the devices, and hands them
+// on.
 fn carry_out(rt: &HostRuntime) -> io::Result<Status> {
     let texts = words_after_name(rt)?;
     with_words(rt, texts.as_slice())

@@ -66,7 +66,8 @@ pub extern "C" fn memoir_ask(
     .code()
 }
 
-/// The same, with what was sealed last kept in a memory of the host: the one that the last call of this kind left.
+/// The same, with what was sealed last kept in a memory of the host: the one that the last call of
+/// this kind left.
 #[unsafe(no_mangle)]
 pub extern "C" fn memoir_ask_keeping(
     alloc: Global,

@@ -17,8 +17,8 @@ pub struct Text {
     pub tag: [u8; 32],
 }
 
-/// What was sealed last under a key, and what before that: two texts, each at the front of a half of a memory. They are
-/// what the library wrote there.
+/// What was sealed last under a key, and what before that: two texts, each at the front of a half
+/// of a memory. They are what the library wrote there.
 #[repr(C)]
 #[derive(Clone, Copy, Drop)]
 pub struct Kept {

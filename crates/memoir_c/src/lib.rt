@@ -1,5 +1,5 @@
-//! The cores for C: a thin face over proved calls, which keeps nothing and never calls back. `bindings/c/memoir.h`
-//! declares it.
+//! The cores for C: a thin face over proved calls, which keeps nothing and never calls back.
+//! `bindings/c/memoir.h` declares it.
 #![tactic(auto)]
 
 mod asking;

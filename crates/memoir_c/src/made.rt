@@ -13,8 +13,8 @@ use mm_told::MadeStep;
 /// The most steps that a call makes.
 pub const MOST_STEPS: usize = 5;
 
-/// A device step: its kind, what the device answered, and the bytes that were read or are written: of a cell 104, of a
-/// register the first 32.
+/// A device step: its kind, what the device answered, and the bytes that were read or are written:
+/// of a cell 104, of a register the first 32.
 #[repr(C)]
 #[derive(Clone, Copy, Drop)]
 pub struct Step {

@@ -18,7 +18,8 @@ pub extern "C" fn memoir_module_id(name: &[u8]) -> u8
     }
 }
 
-/// The room that is enough for an output and a snapshot of the module with this id, 0 where no module has it.
+/// The room that is enough for an output and a snapshot of the module with this id, 0 where no
+/// module has it.
 #[unsafe(no_mangle)]
 pub extern "C" fn memoir_room(id: u8) -> usize
     ensures { result ≡ room_with id }
@@ -29,7 +30,8 @@ pub extern "C" fn memoir_room(id: u8) -> usize
     }
 }
 
-// An output of 4,096 bytes, and a snapshot of the longest state in Opt, which has 114 bytes besides.
+// An output of 4,096 bytes, and a snapshot of the longest state in Opt, which has 114 bytes
+// besides.
 fn room(id: u8) -> usize
     ensures { result ≡ 4096 + 114 + limit_of id }
 {

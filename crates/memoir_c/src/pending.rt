@@ -14,7 +14,8 @@ use mm_module::is_line;
 use mm_store::{PendingRequest, pending_bytes, read_pending};
 use std::alloc::Global;
 
-/// Writes the record of the request that is to take this position, and its length: 48 bytes more than the request's.
+/// Writes the record of the request that is to take this position, and its length: 48 bytes more
+/// than the request's.
 #[unsafe(no_mangle)]
 pub extern "C" fn memoir_pending(
     alloc: Global,
@@ -94,8 +95,8 @@ fn put(bytes: &[u8], length: &mut usize, room: &mut [u8]) -> ReturnStatus
     ReturnStatus::Done
 }
 
-/// Reads the record that a slot's bytes are: its position, its request and that's length. Form where they are no valid
-/// record in slot 2 or 3.
+/// Reads the record that a slot's bytes are: its position, its request and that's length. Form
+/// where they are no valid record in slot 2 or 3.
 #[unsafe(no_mangle)]
 pub extern "C" fn memoir_read_pending(
     slot: u8,

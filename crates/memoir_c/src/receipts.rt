@@ -9,8 +9,8 @@ use mm_base::LONGEST_REQUEST;
 use mm_model::Refusal;
 use mm_receipted::{NotReceipt, verify};
 
-/// Whether an output is the receipt, under a key of 32 bytes, of what was said to a request at this position: Done, or
-/// Form or Tag.
+/// Whether an output is the receipt, under a key of 32 bytes, of what was said to a request at this
+/// position: Done, or Form or Tag.
 #[unsafe(no_mangle)]
 pub extern "C" fn memoir_receipt_verify(
     key: &[u8],

@@ -78,15 +78,16 @@ fn done<P: Platform, T: Store, S: Source, E: Source, K: Sink>(
     }
 }
 
-/// Does what the words after the program's name say, writes the stop line of any other status than `Done` and
-/// `WriteFault`, and answers the status. `replay` replays the schedule that the input gives, `gen NUMBER COUNT VARIANT
-/// MODULE` writes a schedule made from a number, `bulk` with the same words runs it and tells what came of it in five
-/// lines, `slots` plays the lines that the input gives for several modules on one platform, `transfer` plays those of two
-/// platforms between which a module moves, `check` decides the premises
-/// of the schedule that the input gives and compares recorded replies, `receipts KEY` checks the receipts that the input
-/// gives, `checkpoint` closes the platform's open segment, `init VARIANT MODULE` starts an instance on a blank platform,
-/// `run` serves the lines of the input by the instance, `power` lets the platform lose its power and get it back, and
-/// `--help` alone lists the forms of words.
+/// Does what the words after the program's name say, writes the stop line of any other status than
+/// `Done` and `WriteFault`, and answers the status. `replay` replays the schedule that the input
+/// gives, `gen NUMBER COUNT VARIANT MODULE` writes a schedule made from a number, `bulk` with the
+/// same words runs it and tells what came of it in five lines, `slots` plays the lines that the
+/// input gives for several modules on one platform, `transfer` plays those of two platforms between
+/// which a module moves, `check` decides the premises of the schedule that the input gives and
+/// compares recorded replies, `receipts KEY` checks the receipts that the input gives, `checkpoint`
+/// closes the platform's open segment, `init VARIANT MODULE` starts an instance on a blank
+/// platform, `run` serves the lines of the input by the instance, `power` lets the platform lose
+/// its power and get it back, and `--help` alone lists the forms of words.
 ///
 /// Where the stop line can't be written the status stays that of the first cause.
 pub fn memoir<P: Platform, T: Store, S: Source, E: Source, K: Sink>(
@@ -121,8 +122,9 @@ pub fn memoir<P: Platform, T: Store, S: Source, E: Source, K: Sink>(
         (command : Told) → SpellsCommand command (map (λ s. s.now) words.now)
         → CanBeDone command old new → IsDoneOrFailed result }
 
-    // The headline: which lines of a schedule are answered, by the status, and what is written; it is one run of the
-    // module on one list of requests, in each first part of the events that gives no evidence.
+    // The headline: which lines of a schedule are answered, by the status, and what is written; it
+    // is one run of the module on one list of requests, in each first part of the events that gives
+    // no evidence.
     ensures headline { SpellsCommand Replay (map (λ s. s.now) words.now)
         → ReplaysOneRun (S.left input.old) (S.left input.new) (K.received out.old)
         (K.received out.new) result }
@@ -143,8 +145,8 @@ pub fn memoir<P: Platform, T: Store, S: Source, E: Source, K: Sink>(
         → IsRefused (K.received out.old) (K.received out.new) (K.faults out.old) (K.faults out.new)
         result }
 
-    // What a device held is told exactly where it held that, but for want of memory and faults: of the platform's cell,
-    // of the entropy, of the register, of what the store offers.
+    // What a device held is told exactly where it held that, but for want of memory and faults: of
+    // the platform's cell, of the entropy, of the register, of what the store offers.
     ensures blank { TellsBlank (map (λ s. s.now) words.now) (P.standing platform.old) result }
     ensures already { TellsAlready (map (λ s. s.now) words.now) (P.standing platform.old) result }
     ensures cell { TellsCell (map (λ s. s.now) words.now) (P.standing platform.old) result }
@@ -166,7 +168,8 @@ pub fn memoir<P: Platform, T: Store, S: Source, E: Source, K: Sink>(
     ensures entropy { SpellNo TakesEntropy (map (λ s. s.now) words.now)
         → entropy.new ≡ entropy.old }
 
-    // A count of faults rose exactly where the status blames it; the output's too where its stop line was cut short.
+    // A count of faults rose exactly where the status blames it; the output's too where its stop
+    // line was cut short.
     ensures device { IsBlamed (tells_platform_fault result) (P.standing platform.old).faults
         (P.standing platform.new).faults }
     ensures disk { IsBlamed (tells_store_fault result) (T.kept store.old).faults

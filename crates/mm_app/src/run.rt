@@ -1,4 +1,5 @@
-//! The command `run`: the lines of the input are served by the instance that the platform's cell holds.
+//! The command `run`: the lines of the input are served by the instance that the platform's cell
+//! holds.
 
 ghost use Rattle.mm_app.specs.Run.{LooksAtInstance, RunsInstance, SeesInstance, ServesInstance, ServesAndStops};
 

@@ -1,4 +1,5 @@
-//! The command `transfer`: an input's schedule of two platforms, between which a module moves, is played.
+//! The command `transfer`: an input's schedule of two platforms, between which a module moves, is
+//! played.
 
 ghost use Rattle.mm_transfer.specs.TransferPlay.{PlaysTransfer};
 ghost use Rattle.mm_words.specs.declared.command.CommandLine.TheVariants.{Transfer};

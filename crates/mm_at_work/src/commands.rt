@@ -18,9 +18,9 @@ use mm_platform::Platform;
 use mm_store::Store;
 use std::alloc::Global;
 
-/// `init` begins a life where it ended well. What `run`, `checkpoint` and `power` do then, by the clause of each, is a part
-/// of it, and a run finds the instance for which the platform stands: so the laws of a life speak of commands of the program,
-/// one after another.
+/// `init` begins a life where it ended well. What `run`, `checkpoint` and `power` do then, by the
+/// clause of each, is a part of it, and a run finds the instance for which the platform stands: so
+/// the laws of a life speak of commands of the program, one after another.
 pub fn commands_are_parts_of_life()
     ensures init { InitBeginsLife }
     ensures run { RunsArePartsOfLife }
@@ -31,9 +31,9 @@ pub fn commands_are_parts_of_life()
     device_calls_are_deeds();
 }
 
-/// Commands of the program, run one after another over one platform, are one life, whatever the host leaves in the slots
-/// and hands each of them: from any history for which the platform stands; and from a blank cell, where one of them begins
-/// an instance.
+/// Commands of the program, run one after another over one platform, are one life, whatever the
+/// host leaves in the slots and hands each of them: from any history for which the platform stands;
+/// and from a blank cell, where one of them begins an instance.
 pub fn commands_are_one_life()
     ensures life { CommandsAreLife }
     ensures blank { CommandsFromBlank }
@@ -41,9 +41,10 @@ pub fn commands_are_one_life()
     device_calls_are_deeds();
 }
 
-/// Behind an `init` that began an instance they keep what its module promises: a limiter gives no more wrong guesses than
-/// it has tries between two `set` or `open`. With the first slots put back before each command that rests on clear messages
-/// alone, in Opt besides on others' values, which are no guards.
+/// Behind an `init` that began an instance they keep what its module promises: a limiter gives no
+/// more wrong guesses than it has tries between two `set` or `open`. With the first slots put back
+/// before each command that rests on clear messages alone, in Opt besides on others' values, which
+/// are no guards.
 pub fn commands_keep_promises()
     ensures basic { BasicCommandsKeepPromises }
     ensures opt { OptCommandsKeepPromises }

@@ -37,7 +37,8 @@ pub struct HandedObjects<T, S, E, K> {
     pub out: K,
 }
 
-/// A host: it does what it likes to what it hands the next command, and says which that is. Nothing is asked of it.
+/// A host: it does what it likes to what it hands the next command, and says which that is. Nothing
+/// is asked of it.
 pub trait Host<T, S, E, K> {
     fn hand(&mut self, handed: &mut HandedObjects<T, S, E, K>) -> Verb;
 }

@@ -1,6 +1,6 @@
-//! All crates put together once, at types of devices that exist, in memory: there the theorem holds, so its clauses
-//! ask nothing that no device meets. And tests: whole schedules through the top call, and commands over devices that
-//! fail.
+//! All crates put together once, at types of devices that exist, in memory: there the theorem
+//! holds, so its clauses ask nothing that no device meets. And tests: whole schedules through the
+//! top call, and commands over devices that fail.
 #![tactic(auto)]
 
 mod calls;

@@ -39,7 +39,8 @@ fn has_lines(content: &[u8], lines: usize, last: &[u8]) -> bool {
     content.ends_with(last) && content.iter().filter(|byte| **byte == b'\n').count() == lines
 }
 
-// Replays an input, and tells whether the exit status, the number of lines written and the last of them are these.
+// Replays an input, and tells whether the exit status, the number of lines written and the last of
+// them are these.
 fn replays(
     alloc: Global,
     input: &mut RepeatedSource<'_>,
@@ -100,7 +101,8 @@ fn lines_and_snapshots_have_268435456_bytes(rt: HostRuntime) -> Result<(), Fail>
     Ok(())
 }
 
-/// Lines that are played, and whose bytes with those of the snapshots come to 268,435,456 behind the last.
+/// Lines that are played, and whose bytes with those of the snapshots come to 268,435,456 behind
+/// the last.
 #[derive(Clone, Copy)]
 struct KeptLines<'a> {
     /// The command.

@@ -1,4 +1,5 @@
-//! Lives over two cells and pages in memory: a first start, and two sessions, the second over a copy in the pages' place.
+//! Lives over two cells and pages in memory: a first start, and two sessions, the second over a
+//! copy in the pages' place.
 
 ghost use Rattle.std.specs.Prelude.{IfOk};
 ghost use Rattle.mm_at_work.specs.Lives.{LivesOnCopy, LivesWithoutPower, LivesCheckpointed};
@@ -40,8 +41,8 @@ pub enum TwoSessionsFault {
     LosingPower(StepFault),
 }
 
-/// A first start of an instance of Basic, and a session; then, with a copy in the pages' place, however old or
-/// altered it is, a session over it.
+/// A first start of an instance of Basic, and a session; then, with a copy in the pages' place,
+/// however old or altered it is, a session over it.
 pub fn live_on_copy<M: Module>(
     alloc: Global,
     module: &M,
@@ -87,8 +88,8 @@ pub fn live_on_copy<M: Module>(
     }
 }
 
-/// A first start of an instance of Basic, and a session; then power is lost and comes back; and, with a copy in the
-/// pages' place, a session over it.
+/// A first start of an instance of Basic, and a session; then power is lost and comes back; and,
+/// with a copy in the pages' place, a session over it.
 pub fn live_without_power<M: Module>(
     alloc: Global,
     module: &M,
@@ -139,8 +140,8 @@ pub fn live_without_power<M: Module>(
     }
 }
 
-/// A first start of an instance of Opt, and a session; then the segment is closed, if one is open; and, with a copy in
-/// the pages' place, a session over it.
+/// A first start of an instance of Opt, and a session; then the segment is closed, if one is open;
+/// and, with a copy in the pages' place, a session over it.
 pub fn live_checkpointed<M: Module>(
     alloc: Global,
     module: &M,

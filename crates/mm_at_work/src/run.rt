@@ -7,7 +7,8 @@ use mm_platform::{MemPlatform, Platform};
 use mm_store::{MemStore, Store};
 use std::alloc::Global;
 
-/// Does what the words say over these objects, and answers the exit status. The entropy gives 64 bytes.
+/// Does what the words say over these objects, and answers the exit status. The entropy gives 64
+/// bytes.
 pub fn command<P: Platform, T: Store, S: Source, K: Sink>(
     alloc: Global,
     words: &[&str],

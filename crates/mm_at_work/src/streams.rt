@@ -1,5 +1,5 @@
-//! The program's input and output over a reader and a writer of which one call fails; and an input that waits for
-//! replies.
+//! The program's input and output over a reader and a writer of which one call fails; and an input
+//! that waits for replies.
 
 ghost use Rattle.std.specs.Prelude.{None};
 
@@ -128,8 +128,8 @@ fn an_error_of_the_writer_is_no_write(rt: HostRuntime) -> Result<(), Fail> {
     Ok(())
 }
 
-/// A source that gives one line a call, one and three others, and fails where a line that it gave was not answered yet,
-/// but for so many of the first.
+/// A source that gives one line a call, one and three others, and fails where a line that it gave
+/// was not answered yet, but for so many of the first.
 #[derive(Drop)]
 struct WaitingSource<'a> {
     first: &'a [u8],

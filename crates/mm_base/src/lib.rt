@@ -1,5 +1,5 @@
-//! What every crate of Memoir stands on: bytes, their sources and sinks, lines, decimals, numbers of
-//! fixed length and faults.
+//! What every crate of Memoir stands on: bytes, their sources and sinks, lines, decimals, numbers
+//! of fixed length and faults.
 #![tactic(auto)]
 
 mod bytes;

@@ -17,8 +17,8 @@ use std::alloc::Global;
 use std::marker::Model;
 use thiserror::Error;
 
-/// The bytes that a reader holds at most, which are far more than a line has, so that held bytes are
-/// seldom moved.
+/// The bytes that a reader holds at most, which are far more than a line has, so that held bytes
+/// are seldom moved.
 const ROOM: usize = 32768;
 
 /// What `next` read.
@@ -50,8 +50,8 @@ enum SeenLine {
     End,
 }
 
-/// A reader of lines. Contracts see it as the bytes that it holds: those taken from the source and not
-/// yet given out. It may take more of the source than the line that it gives.
+/// A reader of lines. Contracts see it as the bytes that it holds: those taken from the source and
+/// not yet given out. It may take more of the source than the line that it gives.
 #[derive(Drop)]
 pub struct LineReader {
     held: HeldBytes,
@@ -107,8 +107,8 @@ impl LineReader {
     }
 }
 
-/// The bytes taken from a source and not yet given out: those of `buffer` from `start` to `end`. No line
-/// feed stands before `scanned`, so that no byte is scanned twice.
+/// The bytes taken from a source and not yet given out: those of `buffer` from `start` to `end`. No
+/// line feed stands before `scanned`, so that no byte is scanned twice.
 #[derive(Drop)]
 struct HeldBytes {
     buffer: Vec<u8>,

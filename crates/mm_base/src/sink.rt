@@ -11,14 +11,15 @@ use std::marker::Model;
 
 /// A stream of bytes to give to.
 ///
-/// `received` is what it received so far, where the sink tells that, and `faults` its count of faults.
+/// `received` is what it received so far, where the sink tells that, and `faults` its count of
+/// faults.
 pub trait Sink {
     ghost received: { Self → Option (List ℕ) };
 
     ghost faults: { Self → ℕ };
 
-    /// Receives the first bytes of `piece` and answers how many, at least one where there is one. After
-    /// `Failed` nothing was received.
+    /// Receives the first bytes of `piece` and answers how many, at least one where there is one.
+    /// After `Failed` nothing was received.
     fn give(&mut self, piece: &[u8]) -> Result<usize, Failed>
         ensures within { IfOk result (λ count. count ≤ length piece.now) }
         ensures some { IfOk result (λ count. 0 < length piece.now → 0 < count) }
@@ -26,7 +27,8 @@ pub trait Sink {
         ensures counted { CountsFaults (faults self.old) (faults self.new) result };
 }
 
-/// A sink over memory of a fixed room, whose calls fail where they are told to or find no room left.
+/// A sink over memory of a fixed room, whose calls fail where they are told to or find no room
+/// left.
 #[derive(Drop)]
 pub struct MemSink {
     received: Vec<u8>,
@@ -52,8 +54,8 @@ impl Model for MemSink {
 }
 
 impl MemSink {
-    /// A sink with room for so many bytes, which are reserved at once. `failing` lists the numbers of the
-    /// calls that are to fail, from 1.
+    /// A sink with room for so many bytes, which are reserved at once. `failing` lists the numbers
+    /// of the calls that are to fail, from 1.
     pub fn new(alloc: Global, room: usize, failing: &[u64]) -> Result<MemSink, Memory>
         ensures { IfOk result (λ sink. sink ≡ intake_of room failing.now) }
     {

@@ -17,8 +17,9 @@ pub trait Source {
 
     ghost faults: { Self → ℕ };
 
-    /// Puts the next bytes in front of `buf` and answers how many, at most as many as `buf` has. For a
-    /// `buf` with room, none means that the input has ended. After `Failed` nothing was taken.
+    /// Puts the next bytes in front of `buf` and answers how many, at most as many as `buf` has.
+    /// For a `buf` with room, none means that the input has ended. After `Failed` nothing was
+    /// taken.
     fn take(&mut self, buf: &mut [u8]) -> Result<usize, Failed>
         ensures within { IfOk result (λ count. count ≤ length buf.new) }
         ensures taken { ReadConsumes (left self.old) (left self.new) result buf.new }

@@ -66,9 +66,9 @@ impl Call {
         self.call.next_step(2)
     }
 
-    /// Makes the next device step. The first reads the cell, and runs the batch in memory; the last writes the
-    /// cell, which commits the batch, by a function that has no allocator. The offer, the batch and the module are
-    /// read by the first alone.
+    /// Makes the next device step. The first reads the cell, and runs the batch in memory; the last
+    /// writes the cell, which commits the batch, by a function that has no allocator. The offer,
+    /// the batch and the module are read by the first alone.
     pub fn advance<M: Module, P: Platform>(
         self,
         alloc: Global,

@@ -1,5 +1,5 @@
-//! The core of Basic: one call takes a batch of requests from the offer of a snapshot to its answer, over any
-//! module and any platform, one device step at a time.
+//! The core of Basic: one call takes a batch of requests from the offer of a snapshot to its
+//! answer, over any module and any platform, one device step at a time.
 #![tactic(auto)]
 
 mod call;

@@ -115,9 +115,10 @@ fn ask_batch_keeping<M: Module, P: Platform>(
     finish_call(&ask, platform, keys).result()
 }
 
-/// One call: asks for a batch of requests, offering a snapshot. A new batch is committed whole or not at all, and
-/// answered by what the module says to each request; the batch committed last is answered again. After every
-/// refusal but Device nothing has changed, but for the count of steps and what others put into the register.
+/// One call: asks for a batch of requests, offering a snapshot. A new batch is committed whole or
+/// not at all, and answered by what the module says to each request; the batch committed last is
+/// answered again. After every refusal but Device nothing has changed, but for the count of steps
+/// and what others put into the register.
 pub fn ask_batch<M: Module, P: Platform>(
     alloc: Global,
     module: &M,

@@ -17,8 +17,8 @@ pub enum AskResult {
     /// Broken off by a device's fault.
     Broken {
         fault: StepFault,
-        /// The position after the batch, where the step that failed is the one that commits it: it is committed
-        /// exactly where that step had its effect.
+        /// The position after the batch, where the step that failed is the one that commits it: it
+        /// is committed exactly where that step had its effect.
         commits: Option<u64>,
     },
 }

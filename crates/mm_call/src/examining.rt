@@ -12,8 +12,8 @@ use mm_model::{Refusal, Verdict};
 use mm_module::{Batch, Module};
 use mm_seal::{Offered, SealingKey};
 
-/// Whether an offer is accepted, and as a repeat, by the verdict on it. State, Tag, Stale and Full come in this order.
-/// Takes no memory.
+/// Whether an offer is accepted, and as a repeat, by the verdict on it. State, Tag, Stale and Full
+/// come in this order. Takes no memory.
 #[inline(always)]
 pub fn examine<M: Module>(
     module: &M,

@@ -1,9 +1,10 @@
 //! One call, as both variants have it: what stands below the two cores, in definitions and in code.
 //!
-//! A call over any platform is the walk of its steps on some course: what others put into the register just before
-//! each step, and how the step ends. The definitions say what a call comes to on a course, by lists, which know no
-//! digest, and by digests, which know no list. The code is what both cores do alike: a batch that runs in memory, the
-//! answer that it is sealed into, and the order in which an offer is refused.
+//! A call over any platform is the walk of its steps on some course: what others put into the
+//! register just before each step, and how the step ends. The definitions say what a call comes to
+//! on a course, by lists, which know no digest, and by digests, which know no list. The code is
+//! what both cores do alike: a batch that runs in memory, the answer that it is sealed into, and
+//! the order in which an offer is refused.
 #![tactic(auto)]
 
 mod ended;

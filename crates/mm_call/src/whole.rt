@@ -1,4 +1,5 @@
-//! A whole call of either core, and its two parts: the steps that read, and those that commit what they found.
+//! A whole call of either core, and its two parts: the steps that read, and those that commit what
+//! they found.
 
 ghost use Rattle.std.specs.Prelude.{◌≡◌};
 ghost use Rattle.std.specs.Result.{result_err};
@@ -57,8 +58,8 @@ pub fn read_call<O: Operation<Answer = BatchAnswer, Refusal = Refusal>, P: Platf
     }
 }
 
-/// Makes the changing steps, which commit what was found; a repeat has none. Takes no memory, but the room that the
-/// reading steps left.
+/// Makes the changing steps, which commit what was found; a repeat has none. Takes no memory, but
+/// the room that the reading steps left.
 pub fn commit<P: Platform>(
     found: OpFinding<BatchAnswer>,
     platform: &mut P,

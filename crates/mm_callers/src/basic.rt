@@ -13,8 +13,9 @@ use mm_module::Module;
 use mm_platform::Platform;
 use std::alloc::Global;
 
-/// Asks for a request, offering a snapshot; and once more, offering the same one, where a device's step failed, at
-/// whatever step that was and whether or not it had its effect. The request is committed once.
+/// Asks for a request, offering a snapshot; and once more, offering the same one, where a device's
+/// step failed, at whatever step that was and whether or not it had its effect. The request is
+/// committed once.
 pub fn ask_again<M: Module, P: Platform>(
     alloc: Global,
     module: &M,
@@ -34,7 +35,8 @@ pub fn ask_again<M: Module, P: Platform>(
     }
 }
 
-/// Asks for two requests, the second on the snapshot of the first answer. The second is always a new one.
+/// Asks for two requests, the second on the snapshot of the first answer. The second is always a
+/// new one.
 pub fn ask_twice<M: Module, P: Platform>(
     alloc: Global,
     module: &M,

@@ -26,8 +26,9 @@ pub enum RepeatRefusal {
     Closing(CheckpointRefusal),
 }
 
-/// Asks for a request, offering a snapshot; closes the segment; and asks for the same request once more, offering the same
-/// snapshot. The second reply is the first one again, and the request stands once in the run.
+/// Asks for a request, offering a snapshot; closes the segment; and asks for the same request once
+/// more, offering the same snapshot. The second reply is the first one again, and the request
+/// stands once in the run.
 pub fn ask_close_repeat<M: Module, P: Platform>(
     alloc: Global,
     module: &M,

@@ -32,8 +32,8 @@ pub fn ask_once<M: Module, P: Platform>(
     ask(alloc, module, platform, offer, request)
 }
 
-/// Asks for a request, offering a snapshot, over a platform in memory whose plan is ended: nothing fails, and nobody
-/// else extends the register.
+/// Asks for a request, offering a snapshot, over a platform in memory whose plan is ended: nothing
+/// fails, and nobody else extends the register.
 pub fn ask_in_memory<M: Module>(
     alloc: Global,
     module: &M,
@@ -50,9 +50,9 @@ pub fn ask_in_memory<M: Module>(
     ask_once(alloc, module, platform, offer, request)
 }
 
-/// Asks for a request, offering a snapshot; and once more, offering the same one, where a device's step failed, at
-/// whatever step that was and whether or not it had its effect. The request is committed once, and answered as if it
-/// had been asked once.
+/// Asks for a request, offering a snapshot; and once more, offering the same one, where a device's
+/// step failed, at whatever step that was and whether or not it had its effect. The request is
+/// committed once, and answered as if it had been asked once.
 pub fn ask_after_fault<M: Module, P: Platform>(
     alloc: Global,
     module: &M,
@@ -74,7 +74,8 @@ pub fn ask_after_fault<M: Module, P: Platform>(
     }
 }
 
-/// Asks for two requests, the second on the snapshot of the first answer. The second is always a new one.
+/// Asks for two requests, the second on the snapshot of the first answer. The second is always a
+/// new one.
 pub fn ask_twice<M: Module, P: Platform>(
     alloc: Global,
     module: &M,

@@ -36,16 +36,19 @@ fn judge<S: Source>(alloc: Global, input: &mut S) -> Result<Verdicts, ReplayFaul
     }
 }
 
-/// Checks a recorded run: a schedule and, at will, the line `replies` and the reply lines that were recorded.
+/// Checks a recorded run: a schedule and, at will, the line `replies` and the reply lines that were
+/// recorded.
 ///
-/// The first line written tells the premises of the headline: `held`, or the first of `shared I J`, `zero I`, `secured I`
-/// and `forged I` that applies, by the numbers of messages and of events, from 1. The second line is `agree` where the
-/// recorded lines are those that are expected, or `differ I` by the first that isn't, is missing or is too many. Without
-/// the section the lines that the run itself gives are tested. Both lines are written once the input was read to its end.
+/// The first line written tells the premises of the headline: `held`, or the first of `shared I J`,
+/// `zero I`, `secured I` and `forged I` that applies, by the numbers of messages and of events,
+/// from 1. The second line is `agree` where the recorded lines are those that are expected, or
+/// `differ I` by the first that isn't, is missing or is too many. Without the section the lines
+/// that the run itself gives are tested. Both lines are written once the input was read to its end.
 ///
-/// `LineLong` comes exactly where a line has more than 8,400 bytes, `BadLine` where a line before the section is outside
-/// the grammar, has no LF, or is missing, and `TooMuch` where it is event 20,001, where the event lines and the snapshots
-/// issued have more than 268,435,456 bytes, or at recorded line 1,280,002: tried in this order. Nothing is written then.
+/// `LineLong` comes exactly where a line has more than 8,400 bytes, `BadLine` where a line before
+/// the section is outside the grammar, has no LF, or is missing, and `TooMuch` where it is event
+/// 20,001, where the event lines and the snapshots issued have more than 268,435,456 bytes, or at
+/// recorded line 1,280,002: tried in this order. Nothing is written then.
 pub fn check<S: Source, K: Sink>(
     alloc: Global,
     input: &mut S,

@@ -76,7 +76,8 @@ impl Decider {
         Ok(())
     }
 
-    // The first forged event, once that of this number is looked at. Behind the first one none needs to be.
+    // The first forged event, once that of this number is looked at. Behind the first one none
+    // needs to be.
     fn first_forged(&self, event: &Event, number: u32) -> Result<Option<u32>, Memory>
         ensures { IfOk result (λ forged.
             LooksAtEvent self.now.expecting self.now.forged (event_of event.now) number forged) }

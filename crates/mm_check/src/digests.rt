@@ -20,8 +20,8 @@ pub(crate) struct NumberPair {
     pub second: u32,
 }
 
-/// The digests listed so far, by the number of the first message of each; how many messages there are; the first two that
-/// share a digest; and the first whose digest is zero.
+/// The digests listed so far, by the number of the first message of each; how many messages there
+/// are; the first two that share a digest; and the first whose digest is zero.
 #[derive(Drop)]
 pub(crate) struct DigestIndex {
     firsts: BTreeMap<[u8; 32], u32>,

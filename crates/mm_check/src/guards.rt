@@ -168,8 +168,8 @@ fn first_among(guards: &BTreeSet<[u8; 32]>, events: &[Event]) -> Option<u32>
     None
 }
 
-/// The first event at which others extend the register by the guard of a batch that the run asks. In Basic nothing is
-/// asked of them.
+/// The first event at which others extend the register by the guard of a batch that the run asks.
+/// In Basic nothing is asked of them.
 pub(crate) fn first_secured(
     alloc: Global,
     variant: Variant,

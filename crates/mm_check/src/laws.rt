@@ -15,9 +15,10 @@ pub fn premise_is_fixed()
     ensures { PremiseIsFixed }
 {}
 
-/// Of each run one premise alone is told, and what is told is evidence that one holds in hand, by the numbers of messages and
-/// events: two different messages with one digest, a message with digest zero, a value of others that is a guard, or an offer
-/// that is forged. Or the premises hold.
+/// Of each run one premise alone is told, and what is told is evidence that one holds in hand, by
+/// the numbers of messages and events: two different messages with one digest, a message with
+/// digest zero, a value of others that is a guard, or an offer that is forged. Or the premises
+/// hold.
 pub fn premise_is_evidence()
     ensures told { (variant : Variant) (meaning : Meaning) (key barrier : List ℕ)
         (events : List Event)

@@ -1,5 +1,5 @@
-//! The check of a recorded run: whether the premises of the headline hold of it, and whether its replies are those that are
-//! expected.
+//! The check of a recorded run: whether the premises of the headline hold of it, and whether its
+//! replies are those that are expected.
 #![tactic(auto)]
 
 mod checking;

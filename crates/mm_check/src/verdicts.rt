@@ -1,7 +1,7 @@
 //! What a check comes to.
 
-/// Whether the premises of the headline hold of a run; else the first that doesn't, in this order. Messages and events are
-/// numbered from 1.
+/// Whether the premises of the headline hold of a run; else the first that doesn't, in this order.
+/// Messages and events are numbered from 1.
 #[derive(Clone, Copy, Debug, PartialEq, Eq)]
 pub enum Premise {
     /// They hold.

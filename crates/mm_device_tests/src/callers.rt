@@ -53,7 +53,8 @@ fn commits_two(alloc: Global, platform: &mut MemPlatform, first: &[u8]) -> bool 
     is_answer(&came, false, 2, b"7")
 }
 
-// Whether a request is committed once where the write that opens a segment fails, and another one goes on inside it.
+// Whether a request is committed once where the write that opens a segment fails, and another one
+// goes on inside it.
 fn opens(
     alloc: Global,
     platform: &mut MemPlatform,

@@ -1,6 +1,6 @@
-//! Tests of devices in memory, of what no contract says: calls that fail where they are told to, writes that tear, how often a
-//! device is called; and callers of a platform, of a store and of the cores, each run once. They stand apart, since a crate with
-//! tests is proved twice by the gate.
+//! Tests of devices in memory, of what no contract says: calls that fail where they are told to,
+//! writes that tear, how often a device is called; and callers of a platform, of a store and of the
+//! cores, each run once. They stand apart, since a crate with tests is proved twice by the gate.
 #![tactic(auto)]
 
 #[cfg(test)]

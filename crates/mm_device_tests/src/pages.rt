@@ -171,9 +171,9 @@ fn is_dropped(store: &mut PageStore<MemPages>, call: u64) -> Result<bool, Fail> 
     Ok(is_failed == (call > 0) && known == 0 && unknown == expected)
 }
 
-// Each of the six calls of a write fails in turn, or none: of the slot nothing is known then, and of the
-// others all. Bytes of which no page was known are all read back, and bytes whose pages all have another
-// digest are not.
+// Each of the six calls of a write fails in turn, or none: of the slot nothing is known then, and
+// of the others all. Bytes of which no page was known are all read back, and bytes whose pages all
+// have another digest are not.
 fn failed_writes_are_dropped(
     rt: &impl Abort,
     store: &mut PageStore<MemPages>,

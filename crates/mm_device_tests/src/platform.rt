@@ -34,8 +34,8 @@ fn read_extend_write<P: Platform>(
     platform.nv_write(bytes)
 }
 
-/// A stop and its step; what the caller answers, whether the cell is written, how many own items the register has, and whether
-/// the platform is on.
+/// A stop and its step; what the caller answers, whether the cell is written, how many own items
+/// the register has, and whether the platform is on.
 const STOPS: &str = "\
 quiet 0 => ok yes 1 on
 cut 1 => off no 0 off
@@ -122,7 +122,8 @@ fn is_left(platform: &MemPlatform, row: &StopCase<'_>) -> bool {
         && platform.faults() == faults
 }
 
-// Whether a platform is on or off as is told, and is on after a loss of power, which empties the register alone.
+// Whether a platform is on or off as is told, and is on after a loss of power, which empties the
+// register alone.
 fn goes_on(platform: &mut MemPlatform, row: &StopCase<'_>) -> bool {
     let is_on = platform.reg_reset().is_ok();
     let is_cycled = platform.cycle().is_ok();

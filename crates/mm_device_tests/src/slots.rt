@@ -1,5 +1,5 @@
-//! A platform with two slots: steps on one leave the other, the power is common, and memory is found for others' values and
-//! for one's own.
+//! A platform with two slots: steps on one leave the other, the power is common, and memory is
+//! found for others' values and for one's own.
 
 ghost use Rattle.std.specs.Prelude.{◌≡◌, ◌<◌, IfOk, length};
 

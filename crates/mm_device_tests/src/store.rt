@@ -59,8 +59,8 @@ fn is_stopped(store: &mut MemStore, alloc: Global, slot: u8) -> bool {
     }
 }
 
-// Of a read of slot 0, a write to slot 1, one to slot 2 and a read of slot 1, the told one fails, and no
-// other.
+// Of a read of slot 0, a write to slot 1, one to slot 2 and a read of slot 1, the told one fails,
+// and no other.
 fn one_call_fails(
     rt: &impl Abort,
     store: &mut MemStore,
@@ -108,7 +108,8 @@ fn fill(store: &mut MemStore, bytes: &[u8]) -> Result<(), StoreFault> {
     Ok(())
 }
 
-// Four slots of the most bytes at once; of a longer one, as a host may put there, the first bytes are read.
+// Four slots of the most bytes at once; of a longer one, as a host may put there, the first bytes
+// are read.
 fn most_are_held(rt: &impl Abort, store: &mut MemStore, alloc: Global) -> Result<(), Fail> {
     let mut bytes = most_bytes(alloc)?;
     fill(store, &bytes)?;

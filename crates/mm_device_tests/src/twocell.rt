@@ -11,11 +11,11 @@ const OLD: [u8; CELL_LENGTH] = [1; CELL_LENGTH];
 
 const NEW: [u8; CELL_LENGTH] = [2; CELL_LENGTH];
 
-/// The call of the memory that fails, 0 for none, and what it leaves: so many bytes of this value; and whether the new cell is
-/// read then, or the old one.
+/// The call of the memory that fails, 0 for none, and what it leaves: so many bytes of this value;
+/// and whether the new cell is read then, or the old one.
 ///
-/// The first write takes the memory's calls 1 to 3, and the second one 4 to 6: it reads the selector, writes the first cell,
-/// and writes the selector.
+/// The first write takes the memory's calls 1 to 3, and the second one 4 to 6: it reads the
+/// selector, writes the first cell, and writes the selector.
 const WRITES: &str = "\
 0 nothing => new
 4 nothing => old
@@ -68,7 +68,8 @@ fn read(cell: &mut TwoCell<MemRaw>) -> &'static str {
     if read == OLD { "old" } else { "none" }
 }
 
-// Writes the old cell and the new one, of which the second write fails or not, as is told, and says what is read then.
+// Writes the old cell and the new one, of which the second write fails or not, as is told, and says
+// what is read then.
 fn read_behind(cell: &mut TwoCell<MemRaw>, is_failing: bool) -> &'static str {
     let first = cell.nv_write(&OLD);
     if first.is_err() || !is_second(cell.raw().bytes()) {
@@ -111,7 +112,8 @@ fn is_cycled(cell: &mut TwoCell<MemRaw>, is_well: bool, value: &Digest) -> bool 
     cell.cycle().is_ok() == is_well && cell.reg_read() == Ok(*value)
 }
 
-// Whether the register is extended, and emptied by a loss of power; and by the second one, which fails, is not.
+// Whether the register is extended, and emptied by a loss of power; and by the second one, which
+// fails, is not.
 fn is_handed_on(cell: &mut TwoCell<MemRaw>) -> Result<bool, Memory> {
     let value = Digest { bytes: [7; 32] };
     let first = is_extended(cell, &value)? && is_cycled(cell, true, &zero());

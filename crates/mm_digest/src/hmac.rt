@@ -10,8 +10,8 @@ use crate::digest::Digest;
 use sha2::{Digest as _, Sha256};
 use std::marker::Model;
 
-/// A key of 32 bytes for many tags, absorbed once: what is hashed in front of each text is kept. Contracts see
-/// the key.
+/// A key of 32 bytes for many tags, absorbed once: what is hashed in front of each text is kept.
+/// Contracts see the key.
 #[derive(Drop)]
 pub struct HmacKey {
     key: [u8; 32],
@@ -50,8 +50,8 @@ impl HmacKey {
         self.closed(&digest_after(&self.inner, text))
     }
 
-    /// The tag of a text in three parts, which follow one another, as [`hmac_sha256`] gives it of them
-    /// joined. Takes no memory.
+    /// The tag of a text in three parts, which follow one another, as [`hmac_sha256`] gives it of
+    /// them joined. Takes no memory.
     #[tactic(auto, unfolding(crate::specs::Hmac::hmac_of))]
     pub fn tag_of_three(&self, first: &[u8], second: &[u8], third: &[u8]) -> Digest
         ensures { result.bytes ≡ hmac_of self.now (first.now ++ (second.now ++ third.now)) }

@@ -1,5 +1,5 @@
-//! The digests of Memoir: SHA-256 (FIPS 180-4) of messages whose first byte tells what they are for,
-//! and HMAC-SHA-256 (RFC 2104), which seals snapshots.
+//! The digests of Memoir: SHA-256 (FIPS 180-4) of messages whose first byte tells what they are
+//! for, and HMAC-SHA-256 (RFC 2104), which seals snapshots.
 #![tactic(auto)]
 
 mod digest;

@@ -12,11 +12,11 @@ use std::alloc::Global;
 
 /// Random words: those of ChaCha20 under a seed of 32 bytes, from place 0 on.
 ///
-/// A state is the byte 00 before a seed is set, and from then on 01, the seed (32 bytes) and the place of the next word
-/// (8 bytes, the greatest first), at most 2^48.
+/// A state is the byte 00 before a seed is set, and from then on 01, the seed (32 bytes) and the
+/// place of the next word (8 bytes, the greatest first), at most 2^48.
 ///
-/// `seed HEX`, of 64 hexadecimal digits, sets the seed once. `draw N`, N from 1 to 16, says the place and N words, each
-/// in eight lower-case digits, and moves on by N.
+/// `seed HEX`, of 64 hexadecimal digits, sets the seed once. `draw N`, N from 1 to 16, says the
+/// place and N words, each in eight lower-case digits, and moves on by N.
 #[derive(Clone, Copy, Debug, PartialEq, Eq)]
 pub struct Dispenser;
 

@@ -2,9 +2,9 @@
 
 use mm_base::Failed;
 
-/// The hardware: 209 bytes of memory that outlive a loss of power, and a register of 32 bytes. No contract says what a
-/// call does: that it does what stands here is trusted. A call that fails may leave a part of its work done, but none
-/// of it happens later.
+/// The hardware: 209 bytes of memory that outlive a loss of power, and a register of 32 bytes. No
+/// contract says what a call does: that it does what stands here is trusted. A call that fails may
+/// leave a part of its work done, but none of it happens later.
 pub trait Driver {
     /// Fills `into` with the bytes of the memory from `at` on.
     fn read_memory(&mut self, at: u16, into: &mut [u8]) -> Result<(), Failed>;

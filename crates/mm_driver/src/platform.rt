@@ -9,8 +9,8 @@ use mm_base::{Failed, Memory};
 use mm_digest::Digest;
 use mm_platform::{Device, RawNv, Register, StepFault};
 
-/// Memory whose writes may tear, and a register, behind a driver. Contracts see its counts alone: the steps of the
-/// register, the losses of power and the faults.
+/// Memory whose writes may tear, and a register, behind a driver. Contracts see its counts alone:
+/// the steps of the register, the losses of power and the faults.
 #[derive(Drop)]
 pub struct DrivenPlatform<D> {
     driver: D,

@@ -1,4 +1,5 @@
-//! The laws of evidence, each the contract of a function that does nothing but call the laws that it follows from.
+//! The laws of evidence, each the contract of a function that does nothing but call the laws that
+//! it follows from.
 
 ghost use Rattle.std.specs.Prelude.{◌≤◌, ℕ, List};
 ghost use Rattle.mm_base.specs.Limits.{last_position};
@@ -22,9 +23,9 @@ pub fn premises_or_evidence()
     names_are_decided();
 }
 
-/// Of every schedule the replies are those of one run of the module on one list of requests, up to the first event at which
-/// one holds evidence in hand. The events before it are the longest first part that meets the premises; of each first part
-/// of these it is one run.
+/// Of every schedule the replies are those of one run of the module on one list of requests, up to
+/// the first event at which one holds evidence in hand. The events before it are the longest first
+/// part that meets the premises; of each first part of these it is one run.
 pub fn one_run_or_evidence()
     ensures one { (variant : Variant) (meaning : Meaning) (key barrier : List ℕ)
         (events : List Event)
@@ -37,8 +38,8 @@ pub fn one_run_or_evidence()
     fronts_are_one_run();
 }
 
-/// A forged offer is none of the snapshots that the run issued: its bytes are the event's own, or a changed copy. So much
-/// may be believed of it without a look at what names a position.
+/// A forged offer is none of the snapshots that the run issued: its bytes are the event's own, or a
+/// changed copy. So much may be believed of it without a look at what names a position.
 pub fn forged_offers_are_new()
     ensures { (variant : Variant) (meaning : Meaning) (key barrier : List ℕ)
         (events : List Event) → IsLawful meaning

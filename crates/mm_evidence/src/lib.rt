@@ -1,5 +1,6 @@
-//! A theorem without premises: of every schedule the replies are those of one run, up to the first event at which one holds
-//! evidence in hand that a premise of the run is broken. What is evidence, and the laws of it. Nothing here runs a schedule.
+//! A theorem without premises: of every schedule the replies are those of one run, up to the first
+//! event at which one holds evidence in hand that a premise of the run is broken. What is evidence,
+//! and the laws of it. Nothing here runs a schedule.
 #![tactic(auto)]
 
 mod laws;

@@ -58,7 +58,8 @@ impl Chronicle {
         }
     }
 
-    /// The snapshot of an answer. The key remembers what it sealed last, so an offer of that is not hashed again.
+    /// The snapshot of an answer. The key remembers what it sealed last, so an offer of that is not
+    /// hashed again.
     pub(crate) fn snapshot(&self, key: &mut SealingKey) -> Result<Bytes, Memory>
         requires key { key.old ≡ world_key }
         requires few { total_of self.now.history.batches ≤ last_position }

@@ -12,8 +12,8 @@ use mm_outcome::world_barrier;
 use std::alloc::Global;
 use std::marker::Model;
 
-/// A history as lists, and beside it what would take long to find again. Contracts see the variant, the module and the
-/// history, and the messages of the moves since they were last taken out.
+/// A history as lists, and beside it what would take long to find again. Contracts see the variant,
+/// the module and the history, and the messages of the moves since they were last taken out.
 #[derive(Drop)]
 pub(crate) struct Chronicle {
     pub(crate) alloc: Global,
@@ -99,7 +99,8 @@ impl Chronicle {
         self.closing.clear();
     }
 
-    /// Moves the messages behind these: those that extend the register, and then those that close a segment.
+    /// Moves the messages behind these: those that extend the register, and then those that close a
+    /// segment.
     pub(crate) fn hand_messages(&mut self, messages: &mut Vec<Bytes>) -> Result<(), Memory>
         ensures history { self.new.history ≡ self.old.history }
         ensures variant { self.new.variant ≡ self.old.variant }
@@ -112,7 +113,8 @@ impl Chronicle {
         Ok(())
     }
 
-    // HistoryLists the message by which the register takes in a value: none in Basic, which has no register.
+    // HistoryLists the message by which the register takes in a value: none in Basic, which has no
+    // register.
     fn tell_extension(&mut self, value: &Digest) -> Result<(), Memory>
         ensures { OnOk result (self.new ≡ record self.old {
           extending = self.old.extending

@@ -123,7 +123,8 @@ impl Chronicle {
         }
     }
 
-    /// The steps of a call, one after another, from the step of this number on: the fault by which the call is broken off.
+    /// The steps of a call, one after another, from the step of this number on: the fault by which
+    /// the call is broken off.
     pub(crate) fn walk(
         &mut self,
         course: &CallPlan<'_>,

@@ -38,7 +38,8 @@ pub struct ExpectedOutcome {
     pub messages: Vec<Bytes>,
 }
 
-/// A schedule followed by lists, which contracts see as the header, the history and the issued snapshots.
+/// A schedule followed by lists, which contracts see as the header, the history and the issued
+/// snapshots.
 #[derive(Drop)]
 pub struct Expectation {
     alloc: Global,
@@ -335,7 +336,8 @@ impl Expectation {
         Ok(ExpectedOutcome { reply, messages })
     }
 
-    /// Whether the offer of an event that is to come names a position of the history, where it is right.
+    /// Whether the offer of an event that is to come names a position of the history, where it is
+    /// right.
     pub fn is_genuine(&self, event: &Event) -> Result<bool, Memory>
         ensures { IfOk result (λ yes. DecidesLater self.now (event_of event.now) yes) }
     {

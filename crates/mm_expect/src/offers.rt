@@ -20,8 +20,8 @@ use mm_outcome::offered;
 use mm_schedule::{Event, Offer};
 use mm_seal::{Body, SealingKey, parts};
 
-/// An offer that isn't right is genuine, and a right one exactly where what it says names a position. An issued snapshot
-/// is genuine where each issued one names a position.
+/// An offer that isn't right is genuine, and a right one exactly where what it says names a
+/// position. An issued snapshot is genuine where each issued one names a position.
 pub fn offers_are_decided()
     ensures offers { EachOfferIsDecided }
     ensures basic { BasicIssuedAreGenuine }
@@ -91,15 +91,16 @@ fn has_bytes(issued: &[Bytes], number: usize, bytes: &[u8]) -> bool
     }
 }
 
-// The number of the first issued snapshot whose position isn't lower, as positions rise with the numbers.
+// The number of the first issued snapshot whose position isn't lower, as positions rise with the
+// numbers.
 fn first_from(chronicle: &Chronicle, issued: &[Bytes], position: u64) -> usize
     ensures { result ≤ length issued.now }
 {
     issued.partition_point(|found| position_of(chronicle, found.as_slice()) < position)
 }
 
-// Whether an issued snapshot was found to have these bytes. Of one position the first and the last alone differ: before and
-// behind the closing of its segment.
+// Whether an issued snapshot was found to have these bytes. Of one position the first and the last
+// alone differ: before and behind the closing of its segment.
 fn is_issued(chronicle: &Chronicle, issued: &[Bytes], bytes: &[u8]) -> bool
     ensures { result ≡ true → IsAmong bytes.now issued.now }
 {

@@ -1,5 +1,6 @@
-//! Calls on one file. What answered `Ok` after a sync is on the disk. A file is opened to read and to write at once, since
-//! a FIFO in its place is opened without waiting then; it is an error, as a folder is.
+//! Calls on one file. What answered `Ok` after a sync is on the disk. A file is opened to read and
+//! to write at once, since a FIFO in its place is opened without waiting then; it is an error, as a
+//! folder is.
 
 ghost use Rattle.std.specs.Prelude.{◌≤◌, IfOk};
 
@@ -139,7 +140,8 @@ where
     OpenedFile::of(named(name, file)?, name)
 }
 
-/// Makes an empty file at this path, as that of a name. An error where something is there: no link is followed.
+/// Makes an empty file at this path, as that of a name. An error where something is there: no link
+/// is followed.
 pub fn make<R: Files>(files: &R, name: &'static str, path: &str) -> Result<OpenedFile<R::File>, Reason>
 where
     R::File: FileExt,
@@ -153,8 +155,9 @@ where
     OpenedFile::of(named(name, file)?, name)
 }
 
-/// Puts these bytes in place of a file's, which is never seen in part: they are written to a new file and synced, and
-/// the new file takes the name, which is not synced yet. The new file stays open.
+/// Puts these bytes in place of a file's, which is never seen in part: they are written to a new
+/// file and synced, and the new file takes the name, which is not synced yet. The new file stays
+/// open.
 pub fn replace<R: Files>(
     files: &R,
     new: &'static str,

@@ -17,8 +17,9 @@ const WHOLE: usize = 209;
 /// Where the selector is.
 const SELECTOR: u16 = 208;
 
-/// The current directory, which is locked from the first call on. What is read of it was synced by this program, whoever
-/// wrote it: a program that was stopped may have left bytes that the system shows and the disk hasn't.
+/// The current directory, which is locked from the first call on. What is read of it was synced by
+/// this program, whoever wrote it: a program that was stopped may have left bytes that the system
+/// shows and the disk hasn't.
 #[derive(Drop)]
 pub struct Folder<'a, R: Files> {
     files: &'a R,
@@ -43,8 +44,8 @@ where
         }
     }
 
-    // Locks the folder, where that isn't done, and lets what an earlier program left of both files, and their names, be
-    // on the disk.
+    // Locks the folder, where that isn't done, and lets what an earlier program left of both files,
+    // and their names, be on the disk.
     fn enter(&mut self) -> Result<(), Reason> {
         if self.lock.is_some() {
             return Ok(());
@@ -60,8 +61,8 @@ where
         Ok(())
     }
 
-    /// The bytes of `nv`. Those past its end are zero, and all where it is absent. They are read with the selector, and
-    /// the next read has these.
+    /// The bytes of `nv`. Those past its end are zero, and all where it is absent. They are read
+    /// with the selector, and the next read has these.
     pub fn nv(&mut self, at: u16) -> Result<[u8; WHOLE], Reason> {
         let seen = self.seen.take();
         if at == SELECTOR {

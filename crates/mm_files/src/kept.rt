@@ -6,9 +6,9 @@ use std::fs;
 use std::os::unix::fs::FileExt;
 use std::rt::Files;
 
-/// The file of a name, which stays open from the first call on. It is taken out for what is done to it, and kept again
-/// behind that: so it is closed where something failed, and what follows opens it anew. Where it is looked at, and
-/// others gave the name to another file, that one is opened.
+/// The file of a name, which stays open from the first call on. It is taken out for what is done to
+/// it, and kept again behind that: so it is closed where something failed, and what follows opens
+/// it anew. Where it is looked at, and others gave the name to another file, that one is opened.
 #[derive(Drop)]
 pub struct KeptFile<'a, R: Files> {
     files: &'a R,
@@ -71,7 +71,8 @@ where
         self.opened = None;
     }
 
-    // Takes the file that is open, with the size that it has now, if it is still the one of the name.
+    // Takes the file that is open, with the size that it has now, if it is still the one of the
+    // name.
     fn take_named(&mut self) -> Option<OpenedFile<R::File>> {
         let mut opened = self.opened.take()?;
         match fs::metadata(self.files, self.name) {

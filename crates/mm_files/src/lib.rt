@@ -1,6 +1,6 @@
-//! The platform, the store's pages and the entropy over files of the current directory, and the program's input and
-//! output. Those over files tell no content: what they do to the files is trusted. Each counts its errors, and keeps the
-//! reason of the last.
+//! The platform, the store's pages and the entropy over files of the current directory, and the
+//! program's input and output. Those over files tell no content: what they do to the files is
+//! trusted. Each counts its errors, and keeps the reason of the last.
 #![tactic(auto)]
 
 mod counting;

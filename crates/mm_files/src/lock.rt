@@ -5,7 +5,8 @@ use std::io;
 
 /// An open file that can be locked.
 pub trait Lock {
-    /// Locks it until it is closed. An error where another program holds the lock: none waits for it.
+    /// Locks it until it is closed. An error where another program holds the lock: none waits for
+    /// it.
     fn lock_alone(&self) -> io::Result<()>;
 }
 

@@ -12,9 +12,10 @@ use std::alloc::Global;
 use std::os::unix::fs::FileExt;
 use std::rt::Files;
 
-/// Four slots in the files `slot0` to `slot3` of the current directory, or behind links there, which have the plain bytes.
-/// No content is told. Each file stays open from the first call on it. A file that is `nv`, `register`, `register.new`
-/// or another slot's is neither read nor written: the call fails.
+/// Four slots in the files `slot0` to `slot3` of the current directory, or behind links there,
+/// which have the plain bytes. No content is told. Each file stays open from the first call on it.
+/// A file that is `nv`, `register`, `register.new` or another slot's is neither read nor written:
+/// the call fails.
 #[derive(Drop)]
 pub struct FilePages<'a, R: Files> {
     slots: SlotFiles<'a, R>,

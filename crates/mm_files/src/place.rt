@@ -24,8 +24,8 @@ const NAMES: [&str; 7] = [
     "slot3",
 ];
 
-/// Where the file of a slot stands: the path to which the links of its name led when the program began, whether a file was
-/// there or not.
+/// Where the file of a slot stands: the path to which the links of its name led when the program
+/// began, whether a file was there or not.
 #[derive(Drop)]
 pub struct FilePlace {
     name: &'static str,
@@ -68,8 +68,8 @@ impl FilePlace {
         }
     }
 
-    /// Lets the name of the file be on the disk, in the folder where the file itself stands. Where a link leads there the
-    /// link's name is, too.
+    /// Lets the name of the file be on the disk, in the folder where the file itself stands. Where
+    /// a link leads there the link's name is, too.
     pub fn sync_name<R: Files>(&self, files: &R) -> Result<(), Reason> {
         self.known()?;
         let name = self.name;
@@ -82,7 +82,8 @@ impl FilePlace {
         Ok(())
     }
 
-    /// Makes the file, which is absent. An error where the place is that of another of the program's files.
+    /// Makes the file, which is absent. An error where the place is that of another of the
+    /// program's files.
     pub fn make<R: Files>(&self, files: &R) -> Result<OpenedFile<R::File>, Reason>
     where
         R::File: FileExt,

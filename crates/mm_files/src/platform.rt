@@ -14,10 +14,11 @@ use mm_platform::{Device, RawNv, Register, StepFault};
 use std::os::unix::fs::FileExt;
 use std::rt::Files;
 
-/// Non-volatile memory of 209 bytes in the file `nv`, and a register of 32 bytes in the file `register`, both of the
-/// current directory. They emulate devices that the host can't put back: whoever may write these files can. No content
-/// is told. The first call locks the directory and syncs both files; where another program holds the lock each call
-/// fails. Both files stay open. Memory is read with the byte at 208, and the next reading call tells what was read then.
+/// Non-volatile memory of 209 bytes in the file `nv`, and a register of 32 bytes in the file
+/// `register`, both of the current directory. They emulate devices that the host can't put back:
+/// whoever may write these files can. No content is told. The first call locks the directory and
+/// syncs both files; where another program holds the lock each call fails. Both files stay open.
+/// Memory is read with the byte at 208, and the next reading call tells what was read then.
 #[derive(Drop)]
 pub struct FilePlatform<'a, R: Files> {
     folder: Folder<'a, R>,

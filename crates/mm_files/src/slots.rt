@@ -100,13 +100,15 @@ impl Claims {
     }
 }
 
-/// The file of a slot. A page is written up to its last byte that isn't zero, and over all that the file has of it. So
-/// a slot has the bytes of its file, and behind them zero bytes up to the length that writes of pages gave it. `sync`
-/// lets the file have that length. What was opened is taken for unsynced until this program synced it.
+/// The file of a slot. A page is written up to its last byte that isn't zero, and over all that the
+/// file has of it. So a slot has the bytes of its file, and behind them zero bytes up to the length
+/// that writes of pages gave it. `sync` lets the file have that length. What was opened is taken
+/// for unsynced until this program synced it.
 ///
-/// The file stays open. It is looked at where page 0 is read or written, and where its length is asked: so one that
-/// others put in its place is found by whoever reads or writes the slot from the front on. What was opened is neither
-/// read nor written where it is another of the program's files.
+/// The file stays open. It is looked at where page 0 is read or written, and where its length is
+/// asked: so one that others put in its place is found by whoever reads or writes the slot from the
+/// front on. What was opened is neither read nor written where it is another of the program's
+/// files.
 #[derive(Drop)]
 pub struct Slot<'a, R: Files> {
     files: &'a R,
@@ -176,8 +178,8 @@ where
         }
     }
 
-    /// How many bytes the slot has, none where its file is absent. What an earlier program wrote to it is on the disk
-    /// afterwards.
+    /// How many bytes the slot has, none where its file is absent. What an earlier program wrote to
+    /// it is on the disk afterwards.
     pub fn length(&mut self) -> Result<u32, Reason> {
         if let Some(length) = self.length {
             return Ok(u32::try_from(length).unwrap_or(u32::MAX));
@@ -214,8 +216,8 @@ where
         Ok(())
     }
 
-    /// Cuts the slot to this length, or fills it up to there with zero bytes. Its file is changed where it has another.
-    /// After an error the slot has the bytes of its file alone.
+    /// Cuts the slot to this length, or fills it up to there with zero bytes. Its file is changed
+    /// where it has another. After an error the slot has the bytes of its file alone.
     pub fn set_length(&mut self, length: u64) -> Result<(), Reason> {
         self.length = None;
         let mut opened = self.find_or_make(LATER)?;
@@ -224,7 +226,8 @@ where
         Ok(())
     }
 
-    /// Lets the slot's bytes, in a file of their length, and its name be on the disk. An absent file stays so.
+    /// Lets the slot's bytes, in a file of their length, and its name be on the disk. An absent
+    /// file stays so.
     pub fn sync(&mut self) -> Result<(), Reason> {
         if let Some(length) = self.length {
             self.set_length(length)?;

@@ -21,8 +21,8 @@ pub struct FileSource<'a, R: Files> {
 }
 
 impl<'a, R: Files> FileSource<'a, R> {
-    /// A source over the file of this name, which is opened at the first call. Where there is none, or a FIFO or a
-    /// folder is in its place, that call fails.
+    /// A source over the file of this name, which is opened at the first call. Where there is none,
+    /// or a FIFO or a folder is in its place, that call fails.
     pub fn new(files: &'a R, name: &'static str) -> FileSource<'a, R>
         ensures faults { result.faults ≡ 0 }
         ensures reason { result.last ≡ None }
@@ -43,7 +43,8 @@ impl<'a, R: Files> FileSource<'a, R> {
         self.last
     }
 
-    // Opens the file, which may be one that can't be written. A FIFO isn't opened, since that would wait.
+    // Opens the file, which may be one that can't be written. A FIFO isn't opened, since that would
+    // wait.
     fn open(&self) -> Result<R::File, Reason> {
         let name = self.name;
         let there = named(name, fs::metadata(self.files, name))?;

@@ -26,11 +26,12 @@ use mm_schedule::{EventFault, Header, Reply, read_event};
 use sha2::{Digest as _, Sha256};
 use std::alloc::Global;
 
-/// Makes the schedule of a number, with `count` events, and runs it as a replay does: its replies are counted by their
-/// kinds, and digested with the last line.
+/// Makes the schedule of a number, with `count` events, and runs it as a replay does: its replies
+/// are counted by their kinds, and digested with the last line.
 ///
-/// `TooMuch` comes exactly where a replay of the schedule's text answers so: where an event line, with those before it
-/// and the snapshots issued till then, has more than 268,435,456 bytes. That event isn't run.
+/// `TooMuch` comes exactly where a replay of the schedule's text answers so: where an event line,
+/// with those before it and the snapshots issued till then, has more than 268,435,456 bytes. That
+/// event isn't run.
 pub fn bulk(alloc: Global, number: u64, count: u32, header: &Header) -> Result<Summary, BulkFault>
     requires count { count ≤ most_events }
     ensures sums { IfOk result (SumsUp header.now (schedule_lines number count header.now)) }

@@ -12,8 +12,9 @@ use rand_chacha::ChaCha20Rng;
 use rand_core::SeedableRng;
 use std::alloc::Global;
 
-/// The schedule of a number: the header's line and `count` event lines, each with its LF. The event lines follow
-/// from the number by the words of ChaCha20 (RFC 8439's block function, with a 64-bit block counter).
+/// The schedule of a number: the header's line and `count` event lines, each with its LF. The event
+/// lines follow from the number by the words of ChaCha20 (RFC 8439's block function, with a 64-bit
+/// block counter).
 pub fn gen_(alloc: Global, number: u64, count: u32, header: &Header) -> Result<Bytes, Memory>
     requires { count ≤ most_events }
     ensures { IfOk result (λ text. text ≡ schedule_text number count header.now) }

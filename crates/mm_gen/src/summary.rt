@@ -21,8 +21,8 @@ pub struct Summary {
     pub replies: Digest,
 }
 
-/// The five lines of a schedule of so many events: the number of events, the counts, the last line of the replies, and
-/// their digest in 64 lower-case hexadecimal digits.
+/// The five lines of a schedule of so many events: the number of events, the counts, the last line
+/// of the replies, and their digest in 64 lower-case hexadecimal digits.
 pub fn summary_text(alloc: Global, events: u32, it: &Summary) -> Result<Bytes, Memory>
     ensures { IfOk result (λ text. text ≡ bulk_text events it.now) }
 {

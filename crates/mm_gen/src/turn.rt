@@ -102,7 +102,8 @@ fn row_15_of(variant: Variant) -> TurnLines
     }
 }
 
-/// Puts the lines of a turn with their LFs at the end, at most so many of them, and answers how many these are.
+/// Puts the lines of a turn with their LFs at the end, at most so many of them, and answers how
+/// many these are.
 pub fn put_turn(
     into: &mut Bytes,
     header: &Header,

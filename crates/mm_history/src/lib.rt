@@ -1,5 +1,6 @@
-//! A history kept in memory: as lists, with what it comes to by digests; whether what a snapshot says names a position of
-//! it; and the messages of a call that asks for a batch at a place. Nothing here knows a schedule or a world.
+//! A history kept in memory: as lists, with what it comes to by digests; whether what a snapshot
+//! says names a position of it; and the messages of a call that asks for a batch at a place.
+//! Nothing here knows a schedule or a world.
 #![tactic(auto)]
 
 mod lists;

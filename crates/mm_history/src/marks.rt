@@ -93,7 +93,8 @@ impl HistoryMarks {
         }
     }
 
-    /// After the open segment was closed, by whether it holds a value that stands for no batch, and whether it is empty.
+    /// After the open segment was closed, by whether it holds a value that stands for no batch, and
+    /// whether it is empty.
     pub fn closed(self, variant: Variant, has_value: bool, is_bare: bool) -> HistoryMarks
         ensures { result ≡ closed_marks variant self has_value is_bare }
     {
@@ -132,8 +133,8 @@ impl HistoryMarks {
         }
     }
 
-    /// After a batch of this size and guard opened a segment, by what the register reads then and whether it had at most one
-    /// item before.
+    /// After a batch of this size and guard opened a segment, by what the register reads then and
+    /// whether it had at most one item before.
     pub fn opened(self, size: u64, guard: &Digest, register: Digest, is_alone: bool) -> HistoryMarks
         requires { self.total + size < 2 ^ 64 }
         ensures { result ≡ opened_marks self size guard.now.bytes register.bytes is_alone }

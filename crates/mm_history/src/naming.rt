@@ -31,7 +31,8 @@ use mm_modules::AnyModule;
 use mm_seal::{Body, Place};
 use std::alloc::Global;
 
-/// A test from end to end decides whether what a snapshot says names a position of a history, in either variant.
+/// A test from end to end decides whether what a snapshot says names a position of a history, in
+/// either variant.
 pub fn names_are_decided()
     ensures basic { BasicNamesAreDecided }
     ensures opt { OptNamesAreDecided }
@@ -105,8 +106,8 @@ fn is_zero(digest: &Digest) -> bool
     *digest == zero()
 }
 
-// A place that is looked for: behind these first batches, at an anchor and what extends it. The register's value after all but
-// the first `start` batches is known.
+// A place that is looked for: behind these first batches, at an anchor and what extends it. The
+// register's value after all but the first `start` batches is known.
 #[derive(Clone, Copy)]
 struct SoughtPlace<'a> {
     named: &'a [KeptBatch],
@@ -217,8 +218,8 @@ fn last_anchor(id: u8, barrier: &[u8; 32], stages: &[SegmentStart], closed: &[Ve
     }
 }
 
-// Where the next segment begins, as it was kept or is computed: by how many segments are before it, and where the one with
-// these items begins.
+// Where the next segment begins, as it was kept or is computed: by how many segments are before it,
+// and where the one with these items begins.
 fn stage_behind(
     barrier: &[u8; 32],
     stages: &[SegmentStart],
@@ -255,7 +256,8 @@ fn is_within(start: usize, sought: &SoughtPlace<'_>, size: usize, ends: bool) ->
     ends
 }
 
-// Whether the place is at the segment that comes next, which has so many entries: by whether it is the end.
+// Whether the place is at the segment that comes next, which has so many entries: by whether it is
+// the end.
 fn is_here(
     is_clean: bool,
     barrier: &[u8; 32],
@@ -336,8 +338,8 @@ fn some_place(
     is_inside(lists, barrier, &last, sought)
 }
 
-// What is known of a position: the batches before it; and in Basic their summary, in Opt the register's value after all but
-// the first `start` of them.
+// What is known of a position: the batches before it; and in Basic their summary, in Opt the
+// register's value after all but the first `start` of them.
 #[derive(Clone, Copy)]
 struct KnownPlace<'a> {
     named: &'a [KeptBatch],
@@ -388,7 +390,8 @@ fn is_place(
     }
 }
 
-// What a position of which nothing is kept has for `KnownPlace`, where all its batches are left out.
+// What a position of which nothing is kept has for `KnownPlace`, where all its batches are left
+// out.
 fn digest_anew(variant: Variant, id: u8, named: &[KeptBatch]) -> Digest
     ensures { (barrier : List ℕ) → result.bytes ≡ digest_behind variant id barrier
         (length named.now)
@@ -400,7 +403,8 @@ fn digest_anew(variant: Variant, id: u8, named: &[KeptBatch]) -> Digest
     }
 }
 
-// Whether what a right offer says names a position, of which nothing was kept. Runs the module only where the place is one.
+// Whether what a right offer says names a position, of which nothing was kept. Runs the module only
+// where the place is one.
 fn is_named_anew(
     alloc: Global,
     lists: &HistoryLists,
@@ -505,8 +509,8 @@ fn is_named_at(
     is_state(alloc, module, named, mark, body.state)
 }
 
-/// Whether what a right offer says names a position of the history, whatever the key: by what was kept of the position, and
-/// else by a walk over the history.
+/// Whether what a right offer says names a position of the history, whatever the key: by what was
+/// kept of the position, and else by a walk over the history.
 pub fn is_named(
     alloc: Global,
     lists: &HistoryLists,

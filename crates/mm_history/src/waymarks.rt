@@ -1,4 +1,5 @@
-//! What is kept of a history's positions, so that a test of what a snapshot says doesn't walk over the history again.
+//! What is kept of a history's positions, so that a test of what a snapshot says doesn't walk over
+//! the history again.
 
 ghost use Rattle.std.specs.Prelude.{◌≡◌, true, take};
 ghost use Rattle.mm_module.specs.Meaning.{state_after};
@@ -13,7 +14,8 @@ use mm_base::{Bytes, LONGEST_LINE, Memory};
 use mm_digest::{Digest, Variant};
 use std::alloc::Global;
 
-/// The most bytes that are kept of a state: more than an offer has, which stands in hexadecimal in a line.
+/// The most bytes that are kept of a state: more than an offer has, which stands in hexadecimal in
+/// a line.
 const MOST_KEPT: usize = LONGEST_LINE / 2;
 
 /// What is kept of a position.
@@ -23,7 +25,8 @@ pub struct Waymark {
     pub(crate) count: usize,
     /// How many requests.
     pub(crate) position: u64,
-    /// In Basic the summary of those batches; in Opt the register's value after all but the first `start` of them.
+    /// In Basic the summary of those batches; in Opt the register's value after all but the first
+    /// `start` of them.
     pub(crate) digest: Digest,
     pub(crate) start: usize,
     /// The first `limit` bytes of the module's state.
@@ -152,7 +155,8 @@ fn is_behind_all(last: &Waymark, all: usize, position: u64) -> bool
     last.count == all && last.position < position
 }
 
-/// Whether the waymarks at this index and before it show that none of so many batches ends at the position.
+/// Whether the waymarks at this index and before it show that none of so many batches ends at the
+/// position.
 pub(crate) fn is_between(marks: &[Waymark], at: usize, all: usize, position: u64) -> bool
     ensures { result ≡ true → IsBetween marks.now all position }
 {

@@ -14,7 +14,8 @@ pub enum SessionFault {
     /// The host can't go on. Want of memory is told so, before the first line too.
     #[error(transparent)]
     Host(HostFault),
-    /// The input or the output failed; or a line has more than 4,096 bytes, or no LF, or is behind 1,000,000 others.
+    /// The input or the output failed; or a line has more than 4,096 bytes, or no LF, or is behind
+    /// 1,000,000 others.
     #[error(transparent)]
     Lines(ReplayFault),
 }

@@ -1,5 +1,5 @@
-//! The calls of the host program: `init`, `resume` and `ask_next` of mm_recovery, and a session, which goes on after a
-//! stop and then answers each line of an input before it reads the next.
+//! The calls of the host program: `init`, `resume` and `ask_next` of mm_recovery, and a session,
+//! which goes on after a stop and then answers each line of an input before it reads the next.
 #![tactic(auto)]
 
 mod fault;

@@ -34,10 +34,11 @@ struct SessionState {
 
 /// Goes on after a stop, and answers each line of the input before it reads the next.
 ///
-/// Each line is a request of at most 4,096 bytes. Where the last answer has position p (0 at the start), the record of
-/// position p + 1 is written to slot 2 + (p + 1) mod 2; the line is asked with the last snapshot; the answer's snapshot
-/// is written to the slot of its position's parity; and the answer's line is written. A refusal ends the session; the
-/// line `no CAUSE` is written first where it is Form, Kind, State, Tag, Stale or Full.
+/// Each line is a request of at most 4,096 bytes. Where the last answer has position p (0 at the
+/// start), the record of position p + 1 is written to slot 2 + (p + 1) mod 2; the line is asked
+/// with the last snapshot; the answer's snapshot is written to the slot of its position's parity;
+/// and the answer's line is written. A refusal ends the session; the line `no CAUSE` is written
+/// first where it is Form, Kind, State, Tag, Stale or Full.
 pub fn session<M: Module, P: Platform, T: Store, S: Source, K: Sink>(
     alloc: Global,
     variant: Variant,

@@ -21,8 +21,8 @@ use mm_schedule::{Cause, Reply, print_line, print_told};
 /// The most bytes of a line that is written, its LF too.
 const LINE_ROOM: usize = 4200;
 
-/// Tells what a recovery or a line came to: an answer by its line, and a refusal by the line `no CAUSE`, where it is
-/// one of the six of an offer.
+/// Tells what a recovery or a line came to: an answer by its line, and a refusal by the line `no
+/// CAUSE`, where it is one of the six of an offer.
 pub fn tell<K: Sink>(came: Result<Resumed, HostFault>, out: &mut K) -> Result<Resumed, SessionFault>
     requires { IfOk came IsSized }
     ensures tells { TellsReply came (K.received out.old) (K.received out.new) result }

@@ -7,14 +7,14 @@ ghost use Rattle.mm_life.specs.Laws.{BasicLifeIsOne, LivesKeepPromises, LivesTel
 
 use mm_schedule::laws::{runs_keep_promises, tells_what_was_said};
 
-/// Basic: whatever is done to a platform behind its first start, there is one list of requests, and all that programs
-/// tell are steps on it.
+/// Basic: whatever is done to a platform behind its first start, there is one list of requests, and
+/// all that programs tell are steps on it.
 pub fn basic_life_is_one()
     ensures { BasicLifeIsOne }
 {}
 
-/// Opt: the same, where the messages by which items went into the register share no digest with these, and no value of
-/// others is a guard.
+/// Opt: the same, where the messages by which items went into the register share no digest with
+/// these, and no value of others is a guard.
 pub fn opt_life_is_one()
     ensures { OptLifeIsOne }
 {}
@@ -29,8 +29,8 @@ pub fn next_may_start()
     ensures { NextMayStart }
 {}
 
-/// What a deed that is no call leaves: an extension of the register by others, a loss of power, a checkpoint. The platform
-/// stands for a history with the same requests.
+/// What a deed that is no call leaves: an extension of the register by others, a loss of power, a
+/// checkpoint. The platform stands for a history with the same requests.
 pub fn deeds_stay()
     ensures basic { BasicDeedsStay }
     ensures opt { OptDeedsStay }
@@ -49,16 +49,17 @@ pub fn lives_tell_what_was_said()
     tells_what_was_said();
 }
 
-/// What a module promises of one run holds over a life: a limiter gives no more wrong guesses than it has tries between
-/// two `set` or `open`, and a dispenser tells no place twice.
+/// What a module promises of one run holds over a life: a limiter gives no more wrong guesses than
+/// it has tries between two `set` or `open`, and a dispenser tells no place twice.
 pub fn lives_keep_promises()
     ensures { LivesKeepPromises }
 {
     runs_keep_promises();
 }
 
-/// How often the cell is written over a life: in Basic once for each request that was told for the first time, and in Opt
-/// once for each segment that was opened or closed; and at most once for what was in hand at each stop.
+/// How often the cell is written over a life: in Basic once for each request that was told for the
+/// first time, and in Opt once for each segment that was opened or closed; and at most once for
+/// what was in hand at each stop.
 pub fn lives_write_once()
     ensures basic { BasicLivesWriteOnce }
     ensures opt { OptLivesWriteOnce }

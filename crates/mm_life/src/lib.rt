@@ -1,5 +1,5 @@
-//! The life of a platform: whatever is done behind a first start, program after program, with whatever in the slots, is
-//! one list of requests.
+//! The life of a platform: whatever is done behind a first start, program after program, with
+//! whatever in the slots, is one list of requests.
 #![tactic(auto)]
 
 mod honest;

@@ -1,5 +1,5 @@
-//! A life over any devices and one store: a first start, a session, a loss of power, and a session over what the first
-//! one left; in Opt with a checkpoint before power is lost.
+//! A life over any devices and one store: a first start, a session, a loss of power, and a session
+//! over what the first one left; in Opt with a checkpoint before power is lost.
 
 ghost use Rattle.std.specs.Prelude.{IfOk};
 ghost use Rattle.mm_recovery.specs.Init.{devices};
@@ -40,8 +40,8 @@ pub enum BothSessionsFault {
     LosingPower(StepFault),
 }
 
-/// A first start of an instance of Basic, and a session; then power is lost and comes back; and a session over the
-/// store that the first one left.
+/// A first start of an instance of Basic, and a session; then power is lost and comes back; and a
+/// session over the store that the first one left.
 pub fn live_on_one_store<M: Module, P: Platform, T: Store, E: Source, S: Source, K: Sink>(
     alloc: Global,
     module: &M,
@@ -93,8 +93,8 @@ pub fn live_on_one_store<M: Module, P: Platform, T: Store, E: Source, S: Source,
     }
 }
 
-/// A first start of an instance of Opt, and a session; then a checkpoint, whatever it says, and power is lost and comes
-/// back; and a session over the store that the first one left.
+/// A first start of an instance of Opt, and a session; then a checkpoint, whatever it says, and
+/// power is lost and comes back; and a session over the store that the first one left.
 pub fn live_over_checkpoint<M: Module, P: Platform, T: Store, E: Source, S: Source, K: Sink>(
     alloc: Global,
     module: &M,

@@ -2,8 +2,8 @@
 
 ghost use Rattle.mm_limiter.specs.Guesses.{GuessesAreLimited};
 
-/// Between two outputs `set` or `open` that follow each other, and after the last, at most as many guesses are wrong
-/// as the request allowed that was told `set`.
+/// Between two outputs `set` or `open` that follow each other, and after the last, at most as many
+/// guesses are wrong as the request allowed that was told `set`.
 pub fn guesses_are_limited()
     ensures { GuessesAreLimited }
 {}

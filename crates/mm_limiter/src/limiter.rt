@@ -10,11 +10,11 @@ use mm_base::{Bytes, Memory, read_decimal};
 use mm_module::{Module, Short, Stepped, Words, are_visible, text_and_number};
 use std::alloc::Global;
 
-/// A secret of 1 to 64 bytes from 0x21 to 0x7e, and the number of wrong guesses in a row, 1 to 100, after which it is
-/// locked for good.
+/// A secret of 1 to 64 bytes from 0x21 to 0x7e, and the number of wrong guesses in a row, 1 to 100,
+/// after which it is locked for good.
 ///
-/// A state is the byte 00 before a secret is set, and from then on 01, the number of guesses, those left, the length of
-/// the secret (1 byte each) and the secret.
+/// A state is the byte 00 before a secret is set, and from then on 01, the number of guesses, those
+/// left, the length of the secret (1 byte each) and the secret.
 #[derive(Clone, Copy, Debug, PartialEq, Eq)]
 pub struct Limiter;
 

@@ -45,7 +45,8 @@ pub enum OpResult<A, R> {
     Refused(R),
     /// Memory was wanting for its own extension, before it changed anything.
     Lacks,
-    /// A device failed at one of its steps: the one that commits up to this position, or one before it.
+    /// A device failed at one of its steps: the one that commits up to this position, or one before
+    /// it.
     Broken {
         fault: StepFault,
         commits: Option<u64>,

@@ -72,8 +72,8 @@ fn open<A: Drop, R, P: Platform>(
     }
 }
 
-/// The changing steps that are left, of which the last commits up to this position. They are handed no allocator, and
-/// take no memory.
+/// The changing steps that are left, of which the last commits up to this position. They are handed
+/// no allocator, and take no memory.
 #[inline(always)]
 pub fn finish_change<A: Drop, R, P: Platform>(
     position: u64,
@@ -111,8 +111,8 @@ fn finish_found<O: Operation, P: Platform>(
     }
 }
 
-/// Moves a call to its end: what `advance` does, over and over. An own extension needs the room that the reading steps
-/// leave.
+/// Moves a call to its end: what `advance` does, over and over. An own extension needs the room
+/// that the reading steps leave.
 #[inline(always)]
 pub fn finish<O: Operation, P: Platform>(
     op: &O,

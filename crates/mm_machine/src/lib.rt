@@ -1,6 +1,7 @@
-//! The machine of whatever a platform is asked: it reads the cell, and the register where that is wanted, finds what is to
-//! be done, and makes the steps that do it, one at a time or to their end. An operation says what it sees and finds; the
-//! order of the device steps, their faults and the room for an own extension stand here once.
+//! The machine of whatever a platform is asked: it reads the cell, and the register where that is
+//! wanted, finds what is to be done, and makes the steps that do it, one at a time or to their end.
+//! An operation says what it sees and finds; the order of the device steps, their faults and the
+//! room for an own extension stand here once.
 #![tactic(auto)]
 
 mod call;

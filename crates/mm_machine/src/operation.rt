@@ -33,8 +33,8 @@ pub enum Sight<A> {
     Cell(Cell),
 }
 
-/// What a platform is asked. It sees the cell, finds what is to be done where it wants the register too, and knows the
-/// position up to which its last step commits.
+/// What a platform is asked. It sees the cell, finds what is to be done where it wants the register
+/// too, and knows the position up to which its last step commits.
 pub trait Operation {
     /// What is answered.
     type Answer: Drop;
@@ -42,8 +42,8 @@ pub trait Operation {
     /// Why it is refused.
     type Refusal: Drop;
 
-    /// What it sees in a cell's bytes; what it finds in a cell, with a value of the register; and the position that an
-    /// answer tells.
+    /// What it sees in a cell's bytes; what it finds in a cell, with a value of the register; and
+    /// the position that an answer tells.
     ghost asked: { Self → OpMeaning Self.Answer Self.Refusal };
 
     /// The number of a step that writes the cell.

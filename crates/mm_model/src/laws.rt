@@ -1,6 +1,7 @@
 //! Laws of the definitions in specs/, each the contract of a function that does nothing.
 //!
-//! `all` is a list of messages in which no two share a digest and none has the digest zero (`IsClear`).
+//! `all` is a list of messages in which no two share a digest and none has the digest zero
+//! (`IsClear`).
 
 ghost use Rattle.std.specs.Prelude.{◌≡◌, ◌&&◌, ℕ, false, List, [], ◌∷◌, ◌++◌, length, map};
 ghost use Rattle.std.specs.Str.{bytes_eq};
@@ -26,8 +27,8 @@ ghost use Rattle.mm_seal.specs.declared.snapshot.Place.{Place};
 ghost use Rattle.mm_model.specs.Sound.{IsSound};
 ghost use Rattle.mm_model.specs.PlaceMessages.{is_new, place_messages};
 
-/// A batch of one request has the messages and digests of that request, and a batch of several those of
-/// its text.
+/// A batch of one request has the messages and digests of that request, and a batch of several
+/// those of its text.
 pub fn batches_are_hashed()
     ensures link { (s request : List ℕ) → link s (One request) ≡ successor_digest_of s request }
     ensures guard { (barrier request : List ℕ)
@@ -37,7 +38,8 @@ pub fn batches_are_hashed()
         → guard barrier (Many text) ≡ secured_batch_digest_of barrier text }
 {}
 
-/// The summary, the register's value and the anchor go on by one digest, and a register reads its value.
+/// The summary, the register's value and the anchor go on by one digest, and a register reads its
+/// value.
 pub fn chains_go_on()
     ensures summary { (id : ℕ) (batches : List Batch) (b : Batch) →
         summary_of id (batches ++ b ∷ []) ≡ link (summary_of id batches) b }
@@ -101,9 +103,9 @@ pub fn basic_verdict_is_judged()
         ≡ verdict_on Basic y offered.position b }
 {}
 
-/// Opt: from a sound history, on an offer that names a position, the verdict by digests is the verdict
-/// on the history. The flag is whether a segment is open, and the digests are the anchor and the
-/// register's value that the platform has.
+/// Opt: from a sound history, on an offer that names a position, the verdict by digests is the
+/// verdict on the history. The flag is whether a segment is open, and the digests are the anchor
+/// and the register's value that the platform has.
 pub fn opt_verdict_is_judged()
     ensures { (meaning : Meaning) (key barrier : List ℕ) (y : History) (offered : Content)
         (b : Batch) (all : List (List ℕ)) → IsSound y →
@@ -115,7 +117,8 @@ pub fn opt_verdict_is_judged()
         ≡ verdict_on Opt y offered.position b }
 {}
 
-/// Opt: under a set flag the register reads zero exactly where power was lost inside an open segment.
+/// Opt: under a set flag the register reads zero exactly where power was lost inside an open
+/// segment.
 pub fn zero_is_lost()
     ensures { (meaning : Meaning) (key barrier : List ℕ) (y : History) (all : List (List ℕ)) →
         IsClear all → AreMessagesIn (history_messages (opt_instance meaning key barrier) y) all →
@@ -141,8 +144,9 @@ pub fn ended_histories_accept_nothing()
         (register_value_of (opt_instance meaning key barrier) y) offered.place b ≡ Lost }
 {}
 
-/// Whether an offer that names a position stands where the module does: whatever the batch, the verdict by digests tells
-/// what the verdict on the history tells, and no message of a batch is asked about.
+/// Whether an offer that names a position stands where the module does: whatever the batch, the
+/// verdict by digests tells what the verdict on the history tells, and no message of a batch is
+/// asked about.
 pub fn offers_stand_here()
     ensures basic { (meaning : Meaning) (key register : List ℕ) (y : History) (offered : Content)
         (b : Batch) (all : List (List ℕ)) → IsClear all →

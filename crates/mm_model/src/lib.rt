@@ -1,4 +1,5 @@
-//! The history that a protected module's digests stand for, and what is said of an offered snapshot.
+//! The history that a protected module's digests stand for, and what is said of an offered
+//! snapshot.
 #![tactic(auto)]
 
 mod answer;

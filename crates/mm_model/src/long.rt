@@ -9,8 +9,8 @@ ghost use Rattle.mm_model.specs.LongWords.{is_lf};
 use mm_base::{LONGEST_REQUEST, MOST_MEMBERS};
 use mm_module::Batch;
 
-/// Whether the batch is refused as Long: its text, the requests joined by TAB, has more than 4,096 bytes
-/// or an LF, or there are more than 64 requests.
+/// Whether the batch is refused as Long: its text, the requests joined by TAB, has more than 4,096
+/// bytes or an LF, or there are more than 64 requests.
 pub fn is_long(batch: &Batch<'_>) -> bool
     ensures { result ≡ is_long (batch_of batch.now) }
 {

@@ -43,8 +43,8 @@ impl<M: Module + Drop> Machine<M> {
         })
     }
 
-    /// Runs a request of at most 4,096 bytes with no LF, and gives what the module says. After want of
-    /// memory the machine is as before.
+    /// Runs a request of at most 4,096 bytes with no LF, and gives what the module says. After want
+    /// of memory the machine is as before.
     pub fn accept(&mut self, request: &[u8]) -> Result<Bytes, Memory>
         requires { IsLine request.now }
         ensures same { self.new.runner ≡ self.old.runner }

@@ -1,5 +1,5 @@
-//! Laws of the moves, each the contract of a function that does nothing: what calls, others and losses of
-//! power keep.
+//! Laws of the moves, each the contract of a function that does nothing: what calls, others and
+//! losses of power keep.
 
 ghost use Rattle.std.specs.Prelude.{◌≡◌, ℕ, false, List, [], ◌∷◌};
 ghost use Rattle.std.specs.List.{Contains};
@@ -52,7 +52,8 @@ pub fn answers_name_the_last_position()
         (content_of_issue (opt_instance meaning key barrier) y) }
 {}
 
-/// Opt: where others put in each value that stands for no batch and counts, they did after each move too.
+/// Opt: where others put in each value that stands for no batch and counts, they did after each
+/// move too.
 pub fn moves_keep_values_outside()
     ensures first { (others : List (List ℕ)) → IsOutside others first_history }
     ensures next { (meaning : Meaning) (key barrier : List ℕ) (others : List (List ℕ)) (y : History)
@@ -75,8 +76,8 @@ pub fn moves_are_device_steps()
         (digests_of (opt_instance meaning key barrier) y) m }
 {}
 
-/// Basic: where the messages of a history are listed, and a batch's link message is, those of the history with
-/// the batch are.
+/// Basic: where the messages of a history are listed, and a batch's link message is, those of the
+/// history with the batch are.
 pub fn basic_messages_go_on()
     ensures { (meaning : Meaning) (key : List ℕ) (y : History) (b : Batch) (all : List (List ℕ)) →
         AreMessagesIn (history_messages (basic_instance meaning key) y) all →
@@ -85,8 +86,8 @@ pub fn basic_messages_go_on()
         (history_after (basic_instance meaning key) y (Commit b))) all }
 {}
 
-/// The commit of a batch as a whole is its moves: where it opens a segment, the extension of the register and
-/// then the commit.
+/// The commit of a batch as a whole is its moves: where it opens a segment, the extension of the
+/// register and then the commit.
 pub fn whole_commits_are_moves()
     ensures basic { (meaning : Meaning) (key : List ℕ) (y : History) (b : Batch) →
         with_batch Basic y b ≡ history_after_moves (basic_instance meaning key) y
@@ -96,8 +97,8 @@ pub fn whole_commits_are_moves()
         (commit_moves Opt y.is_open b) }
 {}
 
-/// Opt: where the messages of a sound history are listed, and those of a move and of its batch are, those of the
-/// history after it are.
+/// Opt: where the messages of a sound history are listed, and those of a move and of its batch are,
+/// those of the history after it are.
 pub fn opt_messages_go_on()
     ensures { (meaning : Meaning) (key barrier : List ℕ) (y : History) (m : Move)
         (all : List (List ℕ)) → IsSound y → MayMove (opt_instance meaning key barrier) y m →
@@ -109,8 +110,8 @@ pub fn opt_messages_go_on()
         all }
 {}
 
-/// Opt: an offer on which the verdict is Fresh lists, by its call's messages, what its batch adds to the messages of
-/// the history.
+/// Opt: an offer on which the verdict is Fresh lists, by its call's messages, what its batch adds
+/// to the messages of the history.
 pub fn fresh_offers_list_their_batch()
     ensures { (meaning : Meaning) (key barrier : List ℕ) (y : History) (offered : Content)
         (b : Batch) (all : List (List ℕ)) → IsSound y →

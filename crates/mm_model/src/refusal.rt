@@ -12,7 +12,8 @@ pub enum Refusal {
     /// Want of memory, before anything was changed.
     #[error("out of memory")]
     Memory,
-    /// The text of the batch has more than 4,096 bytes or an LF, or there are more than 64 requests.
+    /// The text of the batch has more than 4,096 bytes or an LF, or there are more than 64
+    /// requests.
     #[error("the request is too long")]
     Long,
     /// A step of the platform failed.

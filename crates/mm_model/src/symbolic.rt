@@ -69,8 +69,8 @@ impl Symbolic {
         }
     }
 
-    /// Commits a batch. Where it opens a segment, this stands for the extension of the register and the
-    /// commit together. After want of memory nothing has changed.
+    /// Commits a batch. Where it opens a segment, this stands for the extension of the register and
+    /// the commit together. After want of memory nothing has changed.
     pub fn commit(&mut self, batch: Batch<'_>) -> Result<(), Memory>
         ensures variant { self.new.variant ≡ self.old.variant }
         ensures ok { OnOk result (self.new.history
@@ -126,8 +126,8 @@ impl Symbolic {
         Ok(())
     }
 
-    /// Extends the register by a value that stands for no batch: a foreign one, or an own one whose commit
-    /// doesn't follow. After want of memory nothing has changed.
+    /// Extends the register by a value that stands for no batch: a foreign one, or an own one whose
+    /// commit doesn't follow. After want of memory nothing has changed.
     pub fn extend(&mut self, value: &Digest) -> Result<(), Memory>
         ensures variant { self.new.variant ≡ self.old.variant }
         ensures ok { (i : Instance)
@@ -156,8 +156,8 @@ impl Symbolic {
         self.empty_register();
     }
 
-    /// Closes the open segment: the register's items become a closed one. After want of memory nothing has
-    /// changed.
+    /// Closes the open segment: the register's items become a closed one. After want of memory
+    /// nothing has changed.
     pub fn close(&mut self) -> Result<(), Memory>
         requires { self.old.history.is_open ≡ true }
         ensures variant { self.new.variant ≡ self.old.variant }

@@ -1,4 +1,5 @@
-//! Modules: the small programs whose one state Memoir keeps, and the batches of requests that they take.
+//! Modules: the small programs whose one state Memoir keeps, and the batches of requests that they
+//! take.
 #![tactic(auto)]
 
 mod batch;

@@ -5,7 +5,8 @@ ghost use Rattle.std.specs.List.{position};
 ghost use Rattle.mm_module.specs.Words.{words_of, words_after};
 ghost use Rattle.mm_module.specs.WordsWords.{is_space};
 
-/// The words of a request, which single spaces part. Two spaces in a row have an empty word between them.
+/// The words of a request, which single spaces part. Two spaces in a row have an empty word between
+/// them.
 #[derive(Clone, Copy, Debug)]
 pub enum Words<'a> {
     /// No space.

@@ -34,14 +34,16 @@ pub struct Accepted {
     pub snapshot: Bytes,
 }
 
-/// Accepts a ticket: the platform that waits for it has the module from then on, at the ticket's summary or anchor, with
-/// a clear flag and the cell's key and barrier. The snapshot is sealed under the cell's key, and handed out once the cell
-/// is written. From the live cell that was written it gives the same answer again, without the writing step.
+/// Accepts a ticket: the platform that waits for it has the module from then on, at the ticket's
+/// summary or anchor, with a clear flag and the cell's key and barrier. The snapshot is sealed
+/// under the cell's key, and handed out once the cell is written. From the live cell that was
+/// written it gives the same answer again, without the writing step.
 ///
-/// Refused in this order: Device, by the first step; Blank; Gone, where the cell is retired; Cell, where it is neither a
-/// waiting nor a live one of this variant and module; Barrier, where a cell of Opt has another barrier than the link;
-/// Form and Kind, by the ticket; State; Tag, under the link's key; Nonce, where the cell waits for another; Stale, where
-/// the cell is live with a set flag or at another summary or anchor; Memory; Device, by the second step.
+/// Refused in this order: Device, by the first step; Blank; Gone, where the cell is retired; Cell,
+/// where it is neither a waiting nor a live one of this variant and module; Barrier, where a cell
+/// of Opt has another barrier than the link; Form and Kind, by the ticket; State; Tag, under the
+/// link's key; Nonce, where the cell waits for another; Stale, where the cell is live with a set
+/// flag or at another summary or anchor; Memory; Device, by the second step.
 pub fn accept<M: Module, P: Platform>(
     alloc: Global,
     module: &M,

@@ -44,7 +44,8 @@ pub enum MovedCell {
     Retired(RetiredCell),
 }
 
-/// The cell's 104 bytes. In Basic a live cell has a clear flag, and a live or waiting one a zero barrier.
+/// The cell's 104 bytes. In Basic a live cell has a clear flag, and a live or waiting one a zero
+/// barrier.
 pub fn moved_bytes(cell: &MovedCell) -> [u8; CELL_LENGTH]
     requires { FitsMoved cell.now }
     ensures { result ≡ moved_spelling cell.now }
@@ -108,8 +109,8 @@ pub fn retired_bytes(cell: &RetiredCell) -> [u8; CELL_LENGTH]
     bytes
 }
 
-/// The cell that these bytes are. Blank exactly on 104 zero bytes, Cell exactly on bytes that are neither blank nor a
-/// live, a waiting or a retired cell's.
+/// The cell that these bytes are. Blank exactly on 104 zero bytes, Cell exactly on bytes that are
+/// neither blank nor a live, a waiting or a retired cell's.
 pub fn read_moved(bytes: &[u8; CELL_LENGTH]) -> Result<MovedCell, CellFault>
     ensures cell { result ≡ moved_cell_of bytes.now }
     ensures fits { IfOk result FitsMoved }

@@ -25,10 +25,10 @@ pub enum Invited {
     Again,
 }
 
-/// Invites a platform: its cell will wait for a ticket of this variant and module with this nonce, and will seal under
-/// this key. It reads the cell, and writes it in a second step. Refused in this order: Device, by the first step;
-/// Already, where the cell is neither blank nor retired nor the cell that would be written; Device, by the second.
-/// Takes no memory.
+/// Invites a platform: its cell will wait for a ticket of this variant and module with this nonce,
+/// and will seal under this key. It reads the cell, and writes it in a second step. Refused in this
+/// order: Device, by the first step; Already, where the cell is neither blank nor retired nor the
+/// cell that would be written; Device, by the second. Takes no memory.
 pub fn invite<P: Platform>(
     platform: &mut P,
     link: &Link,

@@ -1,8 +1,9 @@
 //! A module that moves from one platform to another, with its one history.
 //!
-//! The platform that the module goes to is invited: its cell waits for a ticket with a nonce. The platform that it
-//! leaves is retired to that nonce, and gives the ticket. The first accepts the ticket, and the module lives there. Each
-//! of the three reads the cell, and writes it in its second step, which is the one that moves the module.
+//! The platform that the module goes to is invited: its cell waits for a ticket with a nonce. The
+//! platform that it leaves is retired to that nonce, and gives the ticket. The first accepts the
+//! ticket, and the module lives there. Each of the three reads the cell, and writes it in its
+//! second step, which is the one that moves the module.
 #![tactic(auto)]
 
 mod accepting;

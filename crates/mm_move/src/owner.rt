@@ -16,7 +16,8 @@ pub fn barrier_of(variant: Variant, link: &Link) -> [u8; 32]
     }
 }
 
-/// Whether a cell of this variant has another barrier than the link. In Basic it counts for nothing.
+/// Whether a cell of this variant has another barrier than the link. In Basic it counts for
+/// nothing.
 pub fn is_barred(variant: Variant, barrier: &[u8; 32], link: &Link) -> bool
     ensures { result ≡ is_barred variant barrier.now link.now }
 {

@@ -28,13 +28,15 @@ use mm_platform::Platform;
 use mm_seal::{Body, Cell, CellFault, PartsFault, Place, parts};
 use std::alloc::Global;
 
-/// Retires a platform: its module leaves for the platform that waits for this nonce, and the ticket is handed out once
-/// the cell is written. From the retired cell it makes the same ticket again, without the writing step.
+/// Retires a platform: its module leaves for the platform that waits for this nonce, and the ticket
+/// is handed out once the cell is written. From the retired cell it makes the same ticket again,
+/// without the writing step.
 ///
-/// Refused in this order: Device, by the first step; Blank; Cell, where the cell is neither a live nor a retired one of
-/// this variant and module; Barrier, where a live cell of Opt has another barrier than the link; Open, where it has a set
-/// flag; Gone, where the cell is retired under another nonce; Form, Kind, State and Tag, by the offer under the cell's
-/// key; Stale, where no form of the offered place is the cell's summary, or its anchor with a zero extension; Memory;
+/// Refused in this order: Device, by the first step; Blank; Cell, where the cell is neither a live
+/// nor a retired one of this variant and module; Barrier, where a live cell of Opt has another
+/// barrier than the link; Open, where it has a set flag; Gone, where the cell is retired under
+/// another nonce; Form, Kind, State and Tag, by the offer under the cell's key; Stale, where no
+/// form of the offered place is the cell's summary, or its anchor with a zero extension; Memory;
 /// Device, by the second step.
 pub fn retire<M: Module, P: Platform>(
     alloc: Global,

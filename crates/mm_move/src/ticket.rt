@@ -80,8 +80,8 @@ pub fn place_at(variant: Variant, summary: Digest) -> Place
     }
 }
 
-/// The bytes of this ticket, sealed under the key. Its position is at most 2^48, and its state has at most as many
-/// bytes as the module's id allows.
+/// The bytes of this ticket, sealed under the key. Its position is at most 2^48, and its state has
+/// at most as many bytes as the module's id allows.
 #[tactic(auto, unfolding(crate::specs::Tickets::sealed_ticket))]
 pub fn ticket_bytes(alloc: Global, key: &[u8; 32], ticket: &Ticket<'_>) -> Result<Bytes, Memory>
     requires place { IsAtAnchor ticket.now.body.place }
@@ -130,8 +130,8 @@ pub fn summary_of(place: &Place) -> Digest
     }
 }
 
-/// Takes a ticket apart, and borrows its state. Form exactly where the bytes are no ticket's, Kind exactly where they are
-/// one of another variant or module. Takes no memory.
+/// Takes a ticket apart, and borrows its state. Form exactly where the bytes are no ticket's, Kind
+/// exactly where they are one of another variant or module. Takes no memory.
 #[tactic(auto, unfolding(crate::specs::Tickets::ticket_of))]
 pub fn read_ticket(bytes: &[u8], variant: Variant, id: u8) -> Result<OfferedTicket<'_>, PartsFault>
     ensures { result ≡ ticket_of variant id bytes.now }

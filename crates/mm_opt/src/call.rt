@@ -61,10 +61,10 @@ impl Call {
         self.at.next_step(5)
     }
 
-    /// Makes the next device step. The first reads the cell. The second reads the register, runs the batch in memory
-    /// and makes room for an extension; the steps after it change something, and take no memory. The offer and the
-    /// batch are read by the second alone, the module by the first two. An own extension needs room for it, which the
-    /// second step leaves.
+    /// Makes the next device step. The first reads the cell. The second reads the register, runs
+    /// the batch in memory and makes room for an extension; the steps after it change something,
+    /// and take no memory. The offer and the batch are read by the second alone, the module by the
+    /// first two. An own extension needs room for it, which the second step leaves.
     pub fn advance<M: Module, P: Platform>(
         self,
         alloc: Global,

@@ -56,8 +56,8 @@ impl CheckpointCall {
         self.call.next_step(OptCheckpoint.write_step())
     }
 
-    /// Makes the next device step: the first reads the cell, the second the register, and the last writes the cell,
-    /// which closes the segment. Takes no memory.
+    /// Makes the next device step: the first reads the cell, the second the register, and the last
+    /// writes the cell, which closes the segment. Takes no memory.
     pub fn advance<P: Platform>(self, platform: &mut P) -> CheckpointTurn
         ensures turns { IsClosingTurn self (P.standing platform.old) (P.standing platform.new)
             result }
@@ -79,8 +79,9 @@ fn turn_of(step: StepResult<Checkpointed, CheckpointRefusal>) -> CheckpointTurn
     }
 }
 
-/// One checkpoint: closes the open segment, so that power may be lost. Takes no memory. After every refusal but
-/// Device nothing has changed, but for the count of steps and what others put into the register.
+/// One checkpoint: closes the open segment, so that power may be lost. Takes no memory. After every
+/// refusal but Device nothing has changed, but for the count of steps and what others put into the
+/// register.
 pub fn checkpoint<P: Platform>(platform: &mut P) -> Result<Checkpointed, CheckpointRefusal>
     ensures { CheckpointPromise (P.standing platform.old) (P.standing platform.new) result }
 {

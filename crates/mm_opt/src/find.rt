@@ -39,7 +39,8 @@ pub fn find_cell(bytes: &[u8; CELL_LENGTH], id: u8) -> Result<Cell, Refusal>
     }
 }
 
-/// What is found in the cell, the register's value and the offered bytes, in the order of the refusals.
+/// What is found in the cell, the register's value and the offered bytes, in the order of the
+/// refusals.
 #[inline(always)]
 pub fn find_in<M: Module>(
     ask: &OptAsk<'_, M>,

@@ -1,5 +1,6 @@
-//! The core of Opt: one call takes a batch of requests from the offer of a snapshot to its answer, and a checkpoint
-//! closes the open segment, over any module and any platform, one device step at a time.
+//! The core of Opt: one call takes a batch of requests from the offer of a snapshot to its answer,
+//! and a checkpoint closes the open segment, over any module and any platform, one device step at a
+//! time.
 #![tactic(auto)]
 
 mod call;

@@ -15,7 +15,8 @@ use mm_module::{Batch, Module};
 use mm_seal::Cell;
 use std::alloc::Global;
 
-/// What a call asks: a batch of requests of this module, with these offered bytes. The batch isn't too long.
+/// What a call asks: a batch of requests of this module, with these offered bytes. The batch isn't
+/// too long.
 #[derive(Drop)]
 pub struct OptAsk<'a, M> {
     pub alloc: Global,

@@ -11,8 +11,8 @@ use mm_digest::{Digest, anchored, extended, zero};
 use mm_model::Verdict;
 use mm_seal::Cell;
 
-/// The verdict on the place with this anchor and extension, by the cell, the register's value and that of the
-/// batch.
+/// The verdict on the place with this anchor and extension, by the cell, the register's value and
+/// that of the batch.
 pub fn verdict(
     cell: &Cell,
     register: &Digest,

@@ -23,8 +23,8 @@ use mm_platform::{Platform, StepFault};
 use std::alloc::Global;
 use std::marker::Model;
 
-/// A call whose reading steps were made: its batch has run in memory, and there is room for its extension. Contracts
-/// see what was found.
+/// A call whose reading steps were made: its batch has run in memory, and there is room for its
+/// extension. Contracts see what was found.
 #[derive(Drop)]
 pub struct Prepared {
     found: OpFinding<BatchAnswer>,
@@ -77,8 +77,8 @@ pub fn prepare<M: Module, P: Platform>(
 }
 
 impl Prepared {
-    /// Makes the changing steps, which commit the request; a repeat has none. Takes no memory, but the room that
-    /// `prepare` left.
+    /// Makes the changing steps, which commit the request; a repeat has none. Takes no memory, but
+    /// the room that `prepare` left.
     pub fn commit<P: Platform>(self, platform: &mut P) -> Result<Committed, StepFault>
         requires { MayCommit self (P.standing platform.old) }
         ensures commits { CommitsFinding (acts_for self) (answer_in self)
@@ -115,9 +115,10 @@ fn ask_batch_keeping<M: Module, P: Platform>(
     finish_call(&ask, platform, keys).result()
 }
 
-/// One call: asks for a batch of requests, offering a snapshot. A new batch is committed whole or not at all, and
-/// answered by what the module says to each request; the batch committed last is answered again. After every
-/// refusal but Device nothing has changed, but for the count of steps and what others put into the register.
+/// One call: asks for a batch of requests, offering a snapshot. A new batch is committed whole or
+/// not at all, and answered by what the module says to each request; the batch committed last is
+/// answered again. After every refusal but Device nothing has changed, but for the count of steps
+/// and what others put into the register.
 pub fn ask_batch<M: Module, P: Platform>(
     alloc: Global,
     module: &M,

@@ -18,8 +18,8 @@ pub fn way(stop: Stop) -> Way
     }
 }
 
-/// The cause that a reply names. A planned call is never refused for want of memory, nor as Device; such a refusal
-/// would be named as a long request is.
+/// The cause that a reply names. A planned call is never refused for want of memory, nor as Device;
+/// such a refusal would be named as a long request is.
 pub fn cause(refusal: Refusal) -> Cause
     ensures { result ≡ cause_of refusal }
 {

@@ -15,13 +15,14 @@ ghost use Rattle.mm_outcome.specs.OneRun.{FrontsAreOneRun};
 ghost use Rattle.mm_schedule.specs.Events.{Event};
 ghost use Rattle.mm_outcome.specs.OneEvent.{EventsAgree, EventsStep, EventsKeepNames};
 
-/// A schedule of Basic is told as expected, where no two messages of the run share a digest and each right offer
-/// names a position.
+/// A schedule of Basic is told as expected, where no two messages of the run share a digest and
+/// each right offer names a position.
 pub fn basic_is_expected()
     ensures { BasicIsExpected }
 {}
 
-/// A schedule of Opt is told as expected, where besides no value of others is the guard of a batch that is asked.
+/// A schedule of Opt is told as expected, where besides no value of others is the guard of a batch
+/// that is asked.
 pub fn opt_is_expected()
     ensures { OptIsExpected }
 {}
@@ -31,9 +32,9 @@ pub fn expected_runs()
     ensures { ExpectedRuns }
 {}
 
-/// Each first part of a schedule comes to what it does in the whole; and where no two messages of that part share a digest
-/// and each right offer in it names a position, it is one run of the module on one list of requests. So it is of each first
-/// part of a schedule of which that holds.
+/// Each first part of a schedule comes to what it does in the whole; and where no two messages of
+/// that part share a digest and each right offer in it names a position, it is one run of the
+/// module on one list of requests. So it is of each first part of a schedule of which that holds.
 pub fn fronts_are_one_run()
     ensures one { (variant : Variant) (meaning : Meaning) (key barrier : List ℕ)
         (events : List Event)
@@ -49,8 +50,8 @@ pub fn schedules_go_on()
     ensures { SchedulesGoOn }
 {}
 
-/// One event comes by digests to what it comes to by lists, where its messages and those of the history are among some of
-/// which no two share a digest, and each right offer names a position.
+/// One event comes by digests to what it comes to by lists, where its messages and those of the
+/// history are among some of which no two share a digest, and each right offer names a position.
 pub fn events_agree()
     ensures { (variant : Variant) (meaning : Meaning) (key barrier : List ℕ)
         → EventsAgree (instance_by variant meaning key barrier) }
@@ -61,7 +62,8 @@ pub fn events_step()
     ensures { EventsStep }
 {}
 
-/// What named a position of the history before an event names one after it, and so do the snapshots issued by then.
+/// What named a position of the history before an event names one after it, and so do the snapshots
+/// issued by then.
 pub fn events_keep_names()
     ensures { (variant : Variant) (meaning : Meaning) (key barrier : List ℕ)
         → EventsKeepNames (instance_by variant meaning key barrier) }
@@ -73,9 +75,9 @@ pub fn issued_snapshots_name_positions()
         → IssuedNamePositions (instance_by variant meaning key barrier) }
 {}
 
-/// The premises on digests and offers can be met: a counter's run of `ask last add 5` meets them, under every key; in Opt
-/// with the barrier of each world. There a run meets them too that commits a request inside a segment, closes it, has a value
-/// of others, and commits a request behind them.
+/// The premises on digests and offers can be met: a counter's run of `ask last add 5` meets them,
+/// under every key; in Opt with the barrier of each world. There a run meets them too that commits
+/// a request inside a segment, closes it, has a value of others, and commits a request behind them.
 pub fn premises_are_met()
     ensures basic { (key : List ℕ)
         → IsClearRun (basic_instance counter key) one_ask

@@ -6,12 +6,13 @@ ghost use Rattle.mm_pages.specs.Calls.{ReadsLength, ReadsPage, WritesPage, SetsL
 
 use mm_base::Failed;
 
-/// Four slots, numbered from 0 to 3, each a list of at most 1,100,032 bytes that is read and written by
-/// pages of 256. Bytes past a slot's end read as zero. What is written may wait to be on the disk until the slot is
-/// synced.
+/// Four slots, numbered from 0 to 3, each a list of at most 1,100,032 bytes that is read and
+/// written by pages of 256. Bytes past a slot's end read as zero. What is written may wait to be on
+/// the disk until the slot is synced.
 ///
-/// `pages` is what the device holds: the slots where it tells them, whether it is honest, its counts of faults
-/// and of calls, and, where it is told, which slots have changes that were not synced.
+/// `pages` is what the device holds: the slots where it tells them, whether it is honest, its
+/// counts of faults and of calls, and, where it is told, which slots have changes that were not
+/// synced.
 pub trait PageDevice {
     ghost pages: { Self → PageStanding };
 
@@ -26,21 +27,22 @@ pub trait PageDevice {
         requires page { page < 4297 }
         ensures reads { ReadsPage slot page (pages self.old) (pages self.new) into.new result };
 
-    /// Writes the 256 bytes of a page below 4,297. A hole before it is filled with zero bytes. After
-    /// `Failed` the slot may have any bytes.
+    /// Writes the 256 bytes of a page below 4,297. A hole before it is filled with zero bytes.
+    /// After `Failed` the slot may have any bytes.
     fn write_page(&mut self, slot: u8, page: u16, bytes: &[u8; 256]) -> Result<(), Failed>
         requires slot { slot < 4 }
         requires page { page < 4297 }
         ensures writes { WritesPage slot page bytes.now (pages self.old) (pages self.new) result };
 
-    /// Cuts the slot to this length of at most 1,100,032, or fills it up to there with zero bytes. After
-    /// `Failed` the slot may have any bytes.
+    /// Cuts the slot to this length of at most 1,100,032, or fills it up to there with zero bytes.
+    /// After `Failed` the slot may have any bytes.
     fn set_length(&mut self, slot: u8, length: u32) -> Result<(), Failed>
         requires slot { slot < 4 }
         requires most { length ≤ 1100032 }
         ensures sets { SetsLength slot length (pages self.old) (pages self.new) result };
 
-    /// Lets what was written to the slot be on the disk. After `Failed` the slot may have any bytes.
+    /// Lets what was written to the slot be on the disk. After `Failed` the slot may have any
+    /// bytes.
     fn sync(&mut self, slot: u8) -> Result<(), Failed>
         requires { slot < 4 }
         ensures syncs { SyncsPages slot (pages self.old) (pages self.new) result };

@@ -11,7 +11,8 @@ use std::marker::Model;
 // The most pages of a slot.
 const MOST_PAGES: usize = 4297;
 
-// The digests of the first pages of one slot, each kept or not. There is room for those of all pages.
+// The digests of the first pages of one slot, each kept or not. There is room for those of all
+// pages.
 #[derive(Drop)]
 pub struct DigestRow {
     digests: Vec<Option<Digest>>,

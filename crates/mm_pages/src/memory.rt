@@ -221,7 +221,8 @@ impl Model for MemPages {
 }
 
 impl MemPages {
-    /// A device with four empty slots, each with room for 1,100,032 bytes, so that no call takes memory.
+    /// A device with four empty slots, each with room for 1,100,032 bytes, so that no call takes
+    /// memory.
     pub fn new(alloc: Global) -> Result<MemPages, Memory>
         ensures { IfOk result (λ pages. pages ≡ blank_sheets) }
     {
@@ -239,9 +240,9 @@ impl MemPages {
         })
     }
 
-    /// Makes the call of this number fail, counted from 1 from now on, and no other. A write that fails so
-    /// leaves these bytes in its slot, of which there are at most 1,100,032. After want of memory nothing
-    /// has changed.
+    /// Makes the call of this number fail, counted from 1 from now on, and no other. A write that
+    /// fails so leaves these bytes in its slot, of which there are at most 1,100,032. After want of
+    /// memory nothing has changed.
     pub fn stop_at(&mut self, call: u64, leaves: &[u8]) -> Result<(), Memory>
         requires { length leaves.now ≤ 1100032 }
         ensures ok { OnOk result

@@ -21,8 +21,8 @@ use mm_store::{Store, StoreFault};
 use std::alloc::Global;
 use std::marker::Model;
 
-/// A store that keeps the SHA-256 of each page that it wrote, and writes only pages that changed. A page is
-/// compared with what the device has before it is left as it is.
+/// A store that keeps the SHA-256 of each page that it wrote, and writes only pages that changed. A
+/// page is compared with what the device has before it is left as it is.
 #[derive(Drop)]
 pub struct PageStore<D: PageDevice + Drop> {
     device: D,
@@ -49,8 +49,8 @@ impl<D: PageDevice + Drop> PageStore<D> {
         Ok(PageStore { device, digests })
     }
 
-    /// The device. The digests stay as they are, whatever is done to it: from then on they may not be those of
-    /// what it has.
+    /// The device. The digests stay as they are, whatever is done to it: from then on they may not
+    /// be those of what it has.
     pub fn device(&mut self) -> &mut D
         ensures* writes_back { sem 𝓛 (Lends (the_row D.row D.PageDevice) D.row self.entry result
             (λ device. record self.old { device = device })) }
@@ -86,14 +86,15 @@ impl<D: PageDevice + Drop> Store for PageStore<D> {
         ensures no_want { result ≢ Err StoreFault.Memory }
         ensures rows { self.new.rows ≡ rows_after_write slot bytes.now self.old.rows result }
 
-        // Of the pages of the new bytes those are read back of which no digest is kept, or that of the new page.
+        // Of the pages of the new bytes those are read back of which no digest is kept, or that of
+        // the new page.
         ensures looks { OnOk result ((D.pages self.new.device).page_reads
             ≡ count_after_so_many
             (total_of_looks (row_in self.old.rows slot) bytes.now (page_count (length bytes.now)))
             (D.pages self.old.device).page_reads) }
 
-        // Where the digests kept are those of what an honest device has there, as they are while this store
-        // alone writes to it, the pages that differ are written.
+        // Where the digests kept are those of what an honest device has there, as they are while
+        // this store alone writes to it, the pages that differ are written.
         ensures changes { OnOk result ((D.pages self.old.device).is_honest ≡ true
             → (told : Slots) → (D.pages self.old.device).slots ≡ Some told
             → AreDigestsOf (row_in self.old.rows slot) (slot_in told slot)

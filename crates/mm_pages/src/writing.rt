@@ -13,7 +13,8 @@ use mm_base::Failed;
 use mm_digest::Digest;
 use sha2::{Digest as _, Sha256};
 
-// Puts these bytes in place of a slot's, page by page. After `Failed` its digests are not to be used.
+// Puts these bytes in place of a slot's, page by page. After `Failed` its digests are not to be
+// used.
 pub fn put_bytes<D: PageDevice>(
     device: &mut D,
     digests: &mut SlotDigests,

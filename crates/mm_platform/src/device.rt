@@ -12,7 +12,8 @@ use mm_digest::Digest;
 /// The devices of one platform. It has no call: it carries what stands on the platform, so that a
 /// step of one device says what stays of the others.
 pub trait Device {
-    /// The cell, the register's items, power, counts of steps, writes, power losses and faults, room for items.
+    /// The cell, the register's items, power, counts of steps, writes, power losses and faults,
+    /// room for items.
     ghost standing: { Self → Standing };
 }
 
@@ -33,8 +34,8 @@ pub trait Nv: Device {
             (result_err result) };
 }
 
-/// A register of 32 bytes, which can be read, set to zero, and extended by a value of 32 bytes. Each
-/// call but `reg_ready` is a device step.
+/// A register of 32 bytes, which can be read, set to zero, and extended by a value of 32 bytes.
+/// Each call but `reg_ready` is a device step.
 pub trait Register: Device {
     /// Makes room to record one own extension, so that the extension itself takes no memory.
     fn reg_ready(&mut self) -> Result<(), Memory>

@@ -20,7 +20,8 @@ use mm_digest::Digest;
 use std::alloc::Global;
 use std::marker::Model;
 
-/// A platform in memory, which contracts see as what stands on it. It tells all of it, and its plan.
+/// A platform in memory, which contracts see as what stands on it. It tells all of it, and its
+/// plan.
 #[derive(Drop)]
 pub struct MemPlatform {
     cell: [u8; CELL_LENGTH],
@@ -56,7 +57,8 @@ impl Model for MemPlatform {
 }
 
 impl MemPlatform {
-    /// A platform with this cell of 104 bytes: on, with an empty register, no faults and a quiet plan.
+    /// A platform with this cell of 104 bytes: on, with an empty register, no faults and a quiet
+    /// plan.
     pub fn new(alloc: Global, cell: &[u8; CELL_LENGTH]) -> MemPlatform
         ensures { result ≡ new_platform cell.now }
     {
@@ -75,8 +77,8 @@ impl MemPlatform {
         }
     }
 
-    /// Plans what the coming steps will meet, counted from 1 from now on. After want of memory nothing
-    /// has changed.
+    /// Plans what the coming steps will meet, counted from 1 from now on. After want of memory
+    /// nothing has changed.
     #[inline(always)]
     pub fn plan(&mut self, stop: Stop, meddles: &[Meddle]) -> Result<(), Memory>
         ensures ok { OnOk result (self.new ≡ record self.old {
@@ -102,8 +104,8 @@ impl MemPlatform {
         self.at = 0;
     }
 
-    /// Puts this stop in place of the one that is planned. Its steps are counted from where the plan was made,
-    /// and what others bring stays planned.
+    /// Puts this stop in place of the one that is planned. Its steps are counted from where the
+    /// plan was made, and what others bring stays planned.
     pub fn stop_with(&mut self, stop: Stop)
         ensures { self.new ≡ record self.old
             { plan = option_map (plan_with_stop stop) self.old.plan } }
@@ -111,8 +113,8 @@ impl MemPlatform {
         self.stop = stop;
     }
 
-    /// Plans besides that others extend the register by this value just before the plan's next step. After want
-    /// of memory nothing has changed.
+    /// Plans besides that others extend the register by this value just before the plan's next
+    /// step. After want of memory nothing has changed.
     pub fn meddle_next(&mut self, value: &Digest) -> Result<(), Memory>
         requires { (next_plan self.old).at < 255 }
         ensures ok { OnOk result (self.new ≡ record self.old {
@@ -138,7 +140,8 @@ impl MemPlatform {
         self.at = 0;
     }
 
-    /// Loses power and gets it back, which is counted: the register is zero, the platform on, and all else as it was.
+    /// Loses power and gets it back, which is counted: the register is zero, the platform on, and
+    /// all else as it was.
     pub fn lose_power(&mut self)
         ensures { self.new ≡ standing_after_cycle self.old }
     {

@@ -8,8 +8,8 @@ ghost use Rattle.mm_platform.specs.Raw.{range_of, ReadsRaw, WritesRaw};
 use crate::device::Device;
 use crate::fault::StepFault;
 
-/// Non-volatile memory of 209 bytes, which stand for the platform's cell, and of which any range can
-/// be read or written. A write that fails may leave any bytes in its range.
+/// Non-volatile memory of 209 bytes, which stand for the platform's cell, and of which any range
+/// can be read or written. A write that fails may leave any bytes in its range.
 pub trait RawNv: Device {
     /// Reads the bytes from `at` on. After a fault `into` is as before.
     fn raw_read(&mut self, at: u16, into: &mut [u8]) -> Result<(), StepFault>

@@ -42,7 +42,8 @@ fn queue_reply<P: Player>(
     }
 }
 
-/// Puts the last lines behind what is pending, at the end of an input whose next line would have this number.
+/// Puts the last lines behind what is pending, at the end of an input whose next line would have
+/// this number.
 fn end_input<P: Player>(
     alloc: Global,
     number: u32,
@@ -169,8 +170,8 @@ fn play_next<P: Player, S: Source, K: Sink>(
     }
 }
 
-/// Answers each line of the input, and writes the last lines at the end. The replies to the lines at hand go out
-/// together; each is out before the input is asked for more.
+/// Answers each line of the input, and writes the last lines at the end. The replies to the lines
+/// at hand go out together; each is out before the input is asked for more.
 ///
 /// After `ReadFault` each whole line that was taken is answered.
 pub fn play<P: Player, S: Source, K: Sink>(

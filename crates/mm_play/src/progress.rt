@@ -63,9 +63,10 @@ impl<S: PlayStage + Drop> Progress<S> {
         }
     }
 
-    /// The reply to an event line, as text. `LineRefusal::Much` comes exactly where it is event 20,001, or where the event
-    /// lines and what is kept have more than 268,435,456 bytes; it isn't played then. After a refusal nothing has
-    /// changed. After want of memory the line isn't counted, and the stage is as `PlayStage::play` leaves it then.
+    /// The reply to an event line, as text. `LineRefusal::Much` comes exactly where it is event
+    /// 20,001, or where the event lines and what is kept have more than 268,435,456 bytes; it isn't
+    /// played then. After a refusal nothing has changed. After want of memory the line isn't
+    /// counted, and the stage is as `PlayStage::play` leaves it then.
     pub fn reply_to_line(&mut self, alloc: Global, line: &[u8]) -> Result<Bytes, ReplyFault>
         requires { length line.now ≤ longest_line }
         ensures { RepliesToLine S.plays S.wants line.now (play_state_of self.old)

@@ -10,7 +10,8 @@ use mm_module::{are_visible, u64_of_bytes};
 /// The greatest limit of an account, 2^48.
 pub const GREATEST_LIMIT: u64 = 281474976710656;
 
-/// An account: a name of 1 to 32 bytes from 0x21 to 0x7e, a limit of at most 2^48, and what is used of it.
+/// An account: a name of 1 to 32 bytes from 0x21 to 0x7e, a limit of at most 2^48, and what is used
+/// of it.
 #[derive(Clone, Copy)]
 pub struct Account<'a> {
     pub name: &'a [u8],

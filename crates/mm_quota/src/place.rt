@@ -8,8 +8,8 @@ ghost use Rattle.mm_quota.specs.IsLedger.{IsSpelled, has_rising_from};
 use crate::account::{Account, account_is_formed, split_account};
 use std::cmp::Ordering;
 
-/// Where a name stands among the accounts of a state: the bytes before, the account of the name, where there is one, and
-/// the bytes behind.
+/// Where a name stands among the accounts of a state: the bytes before, the account of the name,
+/// where there is one, and the bytes behind.
 #[derive(Clone, Copy)]
 pub struct AccountPlace<'a> {
     pub front: &'a [u8],

@@ -17,8 +17,9 @@ use std::alloc::Global;
 
 /// A ledger of at most N accounts, which requests open, use and free.
 ///
-/// A state is the number of accounts (2 bytes) and then, in the order of their names, each account: the length of its
-/// name (1 byte, 1 to 32), the name, its limit and what is used of it (8 bytes each). Numbers are big-endian.
+/// A state is the number of accounts (2 bytes) and then, in the order of their names, each account:
+/// the length of its name (1 byte, 1 to 32), the name, its limit and what is used of it (8 bytes
+/// each). Numbers are big-endian.
 #[derive(Clone, Copy, Debug, PartialEq, Eq)]
 pub struct Accounts<const N: u16>;
 

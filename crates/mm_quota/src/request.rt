@@ -80,8 +80,8 @@ pub fn read_request(bytes: &[u8]) -> Option<QuotaRequest<'_>>
     }
 }
 
-/// The account that an action puts, where it puts one, and what is said: from whether the ledger is full, and the
-/// account of the name, where there is one.
+/// The account that an action puts, where it puts one, and what is said: from whether the ledger is
+/// full, and the account of the name, where there is one.
 pub fn decision<'a>(
     full: bool,
     name: &'a [u8],

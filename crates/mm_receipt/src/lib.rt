@@ -1,5 +1,5 @@
-//! Receipts and their check: `verify` of mm_receipted for one, and `receipts` pair by pair, as the command `receipts KEY`
-//! does.
+//! Receipts and their check: `verify` of mm_receipted for one, and `receipts` pair by pair, as the
+//! command `receipts KEY` does.
 #![tactic(auto)]
 
 pub mod laws;

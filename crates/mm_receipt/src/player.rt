@@ -98,14 +98,16 @@ fn checked<S: Source, K: Sink>(
     }
 }
 
-/// Checks receipts under a key of 32 bytes: pairs of lines, `P REQUEST` with P a decimal from 1 to 281474976710656 and
-/// a request of at most 4,096 bytes, and then the output. Each pair is answered `no form`, `no tag`, `clash P` or
-/// `good P` before the input is asked for more, and at its end stands the line `end G N`: G of N pairs were good.
+/// Checks receipts under a key of 32 bytes: pairs of lines, `P REQUEST` with P a decimal from 1 to
+/// 281474976710656 and a request of at most 4,096 bytes, and then the output. Each pair is answered
+/// `no form`, `no tag`, `clash P` or `good P` before the input is asked for more, and at its end
+/// stands the line `end G N`: G of N pairs were good.
 ///
-/// `clash P` comes exactly where the output is a receipt, and an earlier good pair of P had another request or output.
-/// `LineLong` comes exactly where a line has more than 8,400 bytes, `BadLine` where a first line has another form, a
-/// line has no LF, or a second line is missing, and `TooMuch` at pair 20,001, or where the lines have more than
-/// 268,435,456 bytes: tried in this order.
+/// `clash P` comes exactly where the output is a receipt, and an earlier good pair of P had another
+/// request or output. `LineLong` comes exactly where a line has more than 8,400 bytes, `BadLine`
+/// where a first line has another form, a line has no LF, or a second line is missing, and
+/// `TooMuch` at pair 20,001, or where the lines have more than 268,435,456 bytes: tried in this
+/// order.
 pub fn receipts<S: Source, K: Sink>(
     alloc: Global,
     key: &[u8; 32],
@@ -123,8 +125,8 @@ pub fn receipts<S: Source, K: Sink>(
         ≡ Ok next
         → IsUnrefused result }
 
-    // Where a run of short requests tagged the message of each output that is accepted: no line is `clash P`, and each
-    // good pair is the request at its position with what was said to it.
+    // Where a run of short requests tagged the message of each output that is accepted: no line is
+    // `clash P`, and each good pair is the request at its position with what was said to it.
     ensures honest { ChecksHonestly key.now (S.left input.old) (S.left input.new)
         (K.received out.old) (K.received out.new) result }
 {

@@ -2,8 +2,8 @@
 
 ghost use Rattle.mm_receipted.specs.TaggedMessages.{ReceiptsAreTrue, ReceiptsDoNotClash};
 
-/// A receipt that `verify` accepts, and whose message was tagged in a run, tells the request at its position and what
-/// was said to it.
+/// A receipt that `verify` accepts, and whose message was tagged in a run, tells the request at its
+/// position and what was said to it.
 pub fn receipts_are_true()
     ensures { ReceiptsAreTrue }
 {}

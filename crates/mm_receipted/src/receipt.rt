@@ -22,7 +22,8 @@ pub enum NotReceipt {
     Tag,
 }
 
-/// What stands in front of the request in the text under the tag: `MMR1`, the position and the request's length.
+/// What stands in front of the request in the text under the tag: `MMR1`, the position and the
+/// request's length.
 #[tactic(auto, unfolding(crate::specs::Receipts::receipt_front))]
 fn front(position: u64, size: u32) -> [u8; 16]
     ensures { result ≡ receipt_front position size }
@@ -94,12 +95,12 @@ fn read_parts(output: &[u8]) -> Option<(&[u8], &[u8])>
     }
 }
 
-/// Whether an output is the receipt, under a key of 32 bytes, of what was said to a request of at most 4,096 bytes at
-/// this position. Takes no memory.
+/// Whether an output is the receipt, under a key of 32 bytes, of what was said to a request of at
+/// most 4,096 bytes at this position. Takes no memory.
 ///
-/// Form comes exactly where the output doesn't begin with 64 lower-case hexadecimal digits and a space; Tag exactly
-/// where it does, and they aren't HMAC-SHA-256 of `MMR1`, the position (8 bytes), the request's length (4 bytes), the
-/// request and what stands behind the space.
+/// Form comes exactly where the output doesn't begin with 64 lower-case hexadecimal digits and a
+/// space; Tag exactly where it does, and they aren't HMAC-SHA-256 of `MMR1`, the position (8
+/// bytes), the request's length (4 bytes), the request and what stands behind the space.
 pub fn verify(
     key: &[u8; 32],
     position: u64,

@@ -13,14 +13,15 @@ use mm_base::{Bytes, LAST_POSITION, Memory, bytes_of_u64};
 use mm_module::{Module, Short, Stepped, Words, u64_of_bytes, value_in};
 use std::alloc::Global;
 
-/// A module round another, which counts the requests and says each output of the other with a receipt under a key.
+/// A module round another, which counts the requests and says each output of the other with a
+/// receipt under a key.
 ///
-/// A state is the count (8 bytes, the greatest first, at most 2^48), a byte 00 and 32 zero bytes, or 01 and a key
-/// (32 bytes), and then the other's state. The id is the other's and 64.
+/// A state is the count (8 bytes, the greatest first, at most 2^48), a byte 00 and 32 zero bytes,
+/// or 01 and a key (32 bytes), and then the other's state. The id is the other's and 64.
 ///
-/// Before a key is set, `key HEX`, of 64 hexadecimal digits, sets it and says `keyed`, and any other request says
-/// `unkeyed`. From then on each request goes to the other module, and the output is the receipt. Once the count is 2^48
-/// every request says `full`.
+/// Before a key is set, `key HEX`, of 64 hexadecimal digits, sets it and says `keyed`, and any
+/// other request says `unkeyed`. From then on each request goes to the other module, and the output
+/// is the receipt. Once the count is 2^48 every request says `full`.
 #[derive(Clone, Copy, Debug, PartialEq, Eq)]
 pub struct Receipted<M: Short> {
     pub inner: M,

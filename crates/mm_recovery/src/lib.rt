@@ -1,8 +1,9 @@
-//! The calls of the host program over a platform and a store of four slots: `init` sets both up; after any stop `resume`
-//! goes on with the request that waits, and `ask_next` then asks for one request after another.
+//! The calls of the host program over a platform and a store of four slots: `init` sets both up;
+//! after any stop `resume` goes on with the request that waits, and `ask_next` then asks for one
+//! request after another.
 //!
-//! Slots 0 and 1 take turns with the snapshots, by their positions' parity, and slots 2 and 3 with the records of
-//! pending requests. A record is written before its request is asked.
+//! Slots 0 and 1 take turns with the snapshots, by their positions' parity, and slots 2 and 3 with
+//! the records of pending requests. A record is written before its request is asked.
 #![tactic(auto)]
 
 mod asking;

@@ -20,9 +20,10 @@ use std::alloc::Global;
 
 /// Asks for one more request, from where the last answer (or the start) stands.
 ///
-/// The request has at most 4,096 bytes, and no LF. Where the last answer has position p (0 at the start), the record of
-/// position p + 1 is written to slot 2 + (p + 1) mod 2; the request is asked with the last snapshot; and the answer's
-/// snapshot is written to the slot of its position's parity. After a stop in between `resume` asks for it again.
+/// The request has at most 4,096 bytes, and no LF. Where the last answer has position p (0 at the
+/// start), the record of position p + 1 is written to slot 2 + (p + 1) mod 2; the request is asked
+/// with the last snapshot; and the answer's snapshot is written to the slot of its position's
+/// parity. After a stop in between `resume` asks for it again.
 pub fn ask_next<M: Module, P: Platform, T: Store>(
     hosted: &HostedModule<M>,
     platform: &mut P,

@@ -56,9 +56,10 @@ impl Resumed {
     }
 }
 
-/// Goes on after a stop. Slots 2 and 3 are read. Where no record in them is valid, it gives the bytes of slot 0, and
-/// asks nothing. Otherwise the request of the later record, which is to take position P, is asked with the snapshot in
-/// slot (P - 1) mod 2, and the answer's snapshot is written to the slot of its position's parity.
+/// Goes on after a stop. Slots 2 and 3 are read. Where no record in them is valid, it gives the
+/// bytes of slot 0, and asks nothing. Otherwise the request of the later record, which is to take
+/// position P, is asked with the snapshot in slot (P - 1) mod 2, and the answer's snapshot is
+/// written to the slot of its position's parity.
 pub fn resume<M: Module, P: Platform, T: Store>(
     alloc: Global,
     variant: Variant,

@@ -22,9 +22,10 @@ use std::alloc::Global;
 
 /// Sets a platform whose cell is blank, and a store, up for a module.
 ///
-/// It reads the cell. It takes 64 bytes from `entropy`: the key of 32 bytes, and then the barrier of 32 bytes, which
-/// Basic ignores. It writes slots 1, 2 and 3 of the store empty, and slot 0 with the first snapshot. Last, it writes the
-/// cell: after a stop before that step the cell is blank, and it may be called again.
+/// It reads the cell. It takes 64 bytes from `entropy`: the key of 32 bytes, and then the barrier
+/// of 32 bytes, which Basic ignores. It writes slots 1, 2 and 3 of the store empty, and slot 0 with
+/// the first snapshot. Last, it writes the cell: after a stop before that step the cell is blank,
+/// and it may be called again.
 pub fn init<M: Module, P: Platform, T: Store, E: Source>(
     alloc: Global,
     variant: Variant,

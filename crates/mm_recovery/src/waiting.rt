@@ -12,8 +12,8 @@ use mm_store::{PendingRequest, Store, StoreFault, read_pending};
 use std::alloc::Global;
 use std::marker::Model;
 
-/// A request of at most 4,096 bytes without LF that waits to be asked, and the position from 1 to 2^48 that it is to
-/// take. Contracts see its record.
+/// A request of at most 4,096 bytes without LF that waits to be asked, and the position from 1 to
+/// 2^48 that it is to take. Contracts see its record.
 #[derive(Drop)]
 pub struct WaitingRequest {
     pub position: u64,

@@ -33,10 +33,10 @@ impl ReplayProgress {
         })
     }
 
-    /// The reply to an event, which this line of at most 8,400 bytes spells. `LineRefusal::Much` comes
-    /// exactly where it is event 20,001, or where the event lines and the snapshots issued have more
-    /// than 268,435,456 bytes; it isn't run then. After want of memory the event isn't counted, nor its line, and all is
-    /// as the world leaves it then.
+    /// The reply to an event, which this line of at most 8,400 bytes spells. `LineRefusal::Much`
+    /// comes exactly where it is event 20,001, or where the event lines and the snapshots issued
+    /// have more than 268,435,456 bytes; it isn't run then. After want of memory the event isn't
+    /// counted, nor its line, and all is as the world leaves it then.
     #[inline(always)]
     pub fn reply_to_event(&mut self, line: &[u8], event: &Event) -> Result<Reply, ReplyFault>
         requires { length line.now ≤ longest_line }

@@ -49,7 +49,8 @@ impl ScheduleReplay {
         Ok(ScheduleReplay { world, events: 0 })
     }
 
-    /// Plays an event in the world. After want of memory it isn't counted, and all is as the world leaves it then.
+    /// Plays an event in the world. After want of memory it isn't counted, and all is as the world
+    /// leaves it then.
     #[inline(always)]
     pub fn event(&mut self, event: &Event) -> Result<Reply, Memory>
         requires { self.old.events < most_events }

@@ -28,12 +28,14 @@ fn report_of(player: &LinePlayer<HeaderLine, ScheduleReplay>) -> Report
     }
 }
 
-/// Replays a schedule: its header line, and then its event lines. Each reply is written before the input is asked for
-/// more, and at the end of the input the line `end N K`: N requests committed, K snapshots issued.
+/// Replays a schedule: its header line, and then its event lines. Each reply is written before the
+/// input is asked for more, and at the end of the input the line `end N K`: N requests committed, K
+/// snapshots issued.
 ///
-/// `LineLong` comes exactly where a line has more than 8,400 bytes, `BadLine` where it is outside the grammar, has no
-/// LF, or is missing, and `TooMuch` where it is event 20,001, or where the event lines and the snapshots issued have
-/// more than 268,435,456 bytes: tried in this order. The line's event isn't run then, and all replies before it are out.
+/// `LineLong` comes exactly where a line has more than 8,400 bytes, `BadLine` where it is outside
+/// the grammar, has no LF, or is missing, and `TooMuch` where it is event 20,001, or where the
+/// event lines and the snapshots issued have more than 268,435,456 bytes: tried in this order. The
+/// line's event isn't run then, and all replies before it are out.
 pub fn replay<S: Source, K: Sink>(
     alloc: Global,
     input: &mut S,

@@ -13,8 +13,8 @@ pub enum Offer {
     Number(u32),
     /// The issued snapshot with the highest number.
     Last,
-    /// The issued snapshot with this number, with the lowest bit of one byte turned: the byte at this offset
-    /// modulo the snapshot's length.
+    /// The issued snapshot with this number, with the lowest bit of one byte turned: the byte at
+    /// this offset modulo the snapshot's length.
     Flip { number: u32, byte: u32 },
     /// These bytes.
     Raw(Bytes),

@@ -17,8 +17,8 @@ pub struct Header {
     pub module: AnyModule,
 }
 
-/// The header of a line, which stands without its LF, as `memoir 1 basic counter`. None where the line is
-/// outside the grammar.
+/// The header of a line, which stands without its LF, as `memoir 1 basic counter`. None where the
+/// line is outside the grammar.
 pub fn read_header(line: &[u8]) -> Option<Header>
     ensures read { result ≡ header_at line.now }
     ensures spelled { IfSome result (λ header. line.now ≡ header_text header) }
@@ -35,7 +35,8 @@ fn header_in(line: &[u8]) -> Option<Header>
     head_in(words)
 }
 
-/// The variant and the module of two words, as `basic counter`, behind which nothing follows. None where they name none.
+/// The variant and the module of two words, as `basic counter`, behind which nothing follows. None
+/// where they name none.
 pub fn read_head(words: &[u8]) -> Option<Header>
     ensures read { result ≡ head_at words.now }
     ensures spelled { IfSome result (λ head. words.now ≡ head_text head) }

@@ -24,9 +24,9 @@ pub fn tells_what_was_said()
     ensures { TellsWhatWasSaid }
 {}
 
-/// Every run of a module keeps what the module promises. A limiter's wrong guesses run out: between two outputs `set`
-/// or `open`, and after the last, no more are wrong than were allowed, whether they were told or not. No place of a
-/// dispenser is told by two draws.
+/// Every run of a module keeps what the module promises. A limiter's wrong guesses run out: between
+/// two outputs `set` or `open`, and after the last, no more are wrong than were allowed, whether
+/// they were told or not. No place of a dispenser is told by two draws.
 pub fn runs_keep_promises()
     ensures { RunsKeepPromises }
 {}

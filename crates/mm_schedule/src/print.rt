@@ -19,7 +19,8 @@ pub fn reply_lines(reply: &Reply) -> usize
     }
 }
 
-/// Writes one line of a reply with its LF to the front of `into`, and answers its length. Takes no memory.
+/// Writes one line of a reply with its LF to the front of `into`, and answers its length. Takes no
+/// memory.
 pub fn print_line(reply: &Reply, index: usize, into: &mut [u8; 4200]) -> usize
     requires index { index < length (lines_of_reply reply.now) }
     requires printable { IsPrintable reply.now }
@@ -68,8 +69,8 @@ fn print_kept(way: Way, position: u64, into: &mut [u8; 4200]) -> usize
     put(into, at, b"\n")
 }
 
-/// Writes the line of a position and its output with its LF to the front of `into`, and answers its length. Takes no
-/// memory.
+/// Writes the line of a position and its output with its LF to the front of `into`, and answers its
+/// length. Takes no memory.
 pub fn print_told(again: bool, position: u64, output: &[u8], into: &mut [u8; 4200]) -> usize
     requires { length output.now ≤ longest_request }
     ensures within { result ≤ 4200 }

@@ -61,9 +61,9 @@ pub enum Reply {
         way: Way,
         position: u64,
     },
-    /// A call was disturbed, and nothing was committed or closed. This is the line `cut lost`, `drop lost` or
-    /// `fault lost`: what the call would have done is lost. The cause `lost` is another thing, an open segment that lost
-    /// its power.
+    /// A call was disturbed, and nothing was committed or closed. This is the line `cut lost`,
+    /// `drop lost` or `fault lost`: what the call would have done is lost. The cause `lost` is
+    /// another thing, an open segment that lost its power.
     Nothing {
         way: Way,
     },

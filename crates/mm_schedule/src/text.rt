@@ -101,7 +101,8 @@ fn call_in(stop: Stop, line: &[u8]) -> Option<EventText<'_>>
     })
 }
 
-/// The offer that a line begins with, and what follows the space behind it. None where it begins with none.
+/// The offer that a line begins with, and what follows the space behind it. None where it begins
+/// with none.
 #[tactic(auto, unfolding(crate::specs::Grammar::offer_at, crate::specs::GrammarWords::flip_at))]
 #[inline(always)]
 pub fn offer_in(line: &[u8]) -> Option<(OfferText<'_>, &[u8])>
@@ -145,8 +146,8 @@ fn raw_in(line: &[u8]) -> Option<(OfferText<'_>, &[u8])>
     Some((OfferText::Raw(word), line))
 }
 
-/// At most one stop, and what follows it; quiet where the line begins with none of their words. None where such a
-/// word has no right step behind it.
+/// At most one stop, and what follows it; quiet where the line begins with none of their words.
+/// None where such a word has no right step behind it.
 #[tactic(auto, unfolding(crate::specs::Grammar::stop_at))]
 #[inline(always)]
 pub fn stop_in(line: &[u8]) -> Option<(Stop, &[u8])>
@@ -192,7 +193,8 @@ fn failing_in(line: &[u8]) -> Option<(Stop, &[u8])>
     None
 }
 
-/// The meddles that a line begins with, at most eight, and what follows them. None where one of them is wrong.
+/// The meddles that a line begins with, at most eight, and what follows them. None where one of
+/// them is wrong.
 pub fn meddles_in(line: &[u8]) -> Option<(Meddles, &[u8])>
     ensures { option_map texts.meddles_and_rest result ≡ meddles_at 8 0 line.now }
 {

@@ -5,9 +5,9 @@ ghost use Rattle.std.specs.Prelude.{◌≡◌, IsTrue, IsSome, IfSome};
 use crate::sealing::SealingKey;
 use std::marker::Model;
 
-/// What absorbing a key gave, kept from one call to the next, with what was sealed last under it: as long as the key stays
-/// the same it is absorbed once, and an offer of the bytes that were sealed last takes no second HMAC. It changes no
-/// answer, so contracts see nothing of it.
+/// What absorbing a key gave, kept from one call to the next, with what was sealed last under it:
+/// as long as the key stays the same it is absorbed once, and an offer of the bytes that were
+/// sealed last takes no second HMAC. It changes no answer, so contracts see nothing of it.
 #[derive(Drop)]
 pub struct KeptKey {
     kept: Option<SealingKey>,
@@ -38,8 +38,8 @@ impl KeptKey {
         }
     }
 
-    /// The key, absorbed: what is kept, where it is of the very same bytes, and otherwise absorbed anew and kept from
-    /// then on. Takes no memory.
+    /// The key, absorbed: what is kept, where it is of the very same bytes, and otherwise absorbed
+    /// anew and kept from then on. Takes no memory.
     pub fn under(&mut self, key: &[u8; 32]) -> &mut SealingKey
         ensures { result.now ≡ key.now }
     {

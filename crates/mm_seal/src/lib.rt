@@ -1,4 +1,5 @@
-//! The codecs of Memoir: the non-volatile cell, and snapshots, which are sealed under the cell's key.
+//! The codecs of Memoir: the non-volatile cell, and snapshots, which are sealed under the cell's
+//! key.
 #![tactic(auto)]
 
 mod cell;

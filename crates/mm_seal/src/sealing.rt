@@ -8,9 +8,10 @@ use mm_digest::{Digest, HmacKey};
 use std::alloc::Global;
 use std::marker::Model;
 
-/// A key of 32 bytes, absorbed once, that remembers the two texts that it sealed last, with their tags. The snapshot that
-/// was sealed last is mostly what is offered next, and a repeat seals it again, offering the one before: neither takes a
-/// second HMAC. What is remembered is each text's own tag, so it changes no answer, and contracts see the key alone.
+/// A key of 32 bytes, absorbed once, that remembers the two texts that it sealed last, with their
+/// tags. The snapshot that was sealed last is mostly what is offered next, and a repeat seals it
+/// again, offering the one before: neither takes a second HMAC. What is remembered is each text's
+/// own tag, so it changes no answer, and contracts see the key alone.
 #[derive(Drop)]
 pub struct SealingKey {
     bytes: [u8; 32],
@@ -112,8 +113,9 @@ impl SealingKey {
         offered.has_tag(&tag)
     }
 
-    /// The snapshot of this content, sealed under the key, as [`crate::seal`] gives it. What is signed is remembered from
-    /// then on, with its tag; where memory is too short for that alone, nothing is.
+    /// The snapshot of this content, sealed under the key, as [`crate::seal`] gives it. What is
+    /// signed is remembered from then on, with its tag; where memory is too short for that alone,
+    /// nothing is.
     #[tactic(auto, unfolding(crate::specs::Snapshot::sealed_snapshot_of))]
     #[inline(always)]
     pub fn seal(&mut self, alloc: Global, body: &Body<'_>) -> Result<Bytes, Memory>
@@ -220,8 +222,8 @@ fn absorb(key: &mut Option<HmacKey>, bytes: &[u8; 32])
     }
 }
 
-// Remembers a text with its tag, and the one before, in the memory of the one before that. Where that is too little, and
-// there is no more, the text isn't remembered.
+// Remembers a text with its tag, and the one before, in the memory of the one before that. Where
+// that is too little, and there is no more, the text isn't remembered.
 fn remember(
     alloc: Global,
     last: &mut Option<TaggedText>,

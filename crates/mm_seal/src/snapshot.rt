@@ -216,8 +216,8 @@ fn head_of(body: &Body<'_>) -> [u8; 6]
     ]
 }
 
-/// Takes an offer apart, and borrows its state. Form exactly where the bytes are no snapshot's, Kind
-/// exactly where they are one of another variant or module. Takes no memory.
+/// Takes an offer apart, and borrows its state. Form exactly where the bytes are no snapshot's,
+/// Kind exactly where they are one of another variant or module. Takes no memory.
 #[tactic(auto, using(crate::specs::SnapshotLaws::one_spelling))]
 #[inline(always)]
 pub fn parts(bytes: &[u8], variant: Variant, id: u8) -> Result<Offered<'_>, PartsFault>

@@ -1,6 +1,7 @@
-//! Two sides that a module moves between: what a schedule of both comes to, by lists, which know no digest, and by digests,
-//! which know no list; what is asked of it; and the laws that join the two. Nothing here moves a module: the definitions
-//! stand apart from the code that is proved against them.
+//! Two sides that a module moves between: what a schedule of both comes to, by lists, which know no
+//! digest, and by digests, which know no list; what is asked of it; and the laws that join the two.
+//! Nothing here moves a module: the definitions stand apart from the code that is proved against
+//! them.
 #![tactic(auto)]
 
 mod laws;

@@ -81,7 +81,8 @@ impl Parts {
         SlotReply::Begun
     }
 
-    /// A call that asks makes its next step. After want of memory the call is over, and has committed nothing.
+    /// A call that asks makes its next step. After want of memory the call is over, and has
+    /// committed nothing.
     pub fn step_asking(&mut self, alloc: Global, asking: AskInFlight) -> Result<SlotReply, Memory>
         requires idle { self.old.flight ≡ None }
         requires fits { PartsFit (parts_with_flight self.old (Flight.Asks asking)) }

@@ -1,5 +1,5 @@
-//! Several modules on one platform, each in a slot of it with its own cell, register, key and snapshots; the power is
-//! common. Calls of different slots interleave at single device steps.
+//! Several modules on one platform, each in a slot of it with its own cell, register, key and
+//! snapshots; the power is common. Calls of different slots interleave at single device steps.
 #![tactic(auto)]
 
 mod asking;

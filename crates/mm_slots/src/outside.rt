@@ -1,4 +1,5 @@
-//! What comes to a slot from outside: values that others extend its register by, and a loss of power.
+//! What comes to a slot from outside: values that others extend its register by, and a loss of
+//! power.
 
 use crate::parts::Parts;
 use crate::said::SlotReply;

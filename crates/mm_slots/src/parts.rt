@@ -38,8 +38,8 @@ impl Parts {
     ghost use Rattle.mm_slots.specs.HeldParts.{instance_in, slot_in, PartsFit, SlotComesTo, SlotLacksMemory, CallEndsIn};
     ghost use Rattle.mm_slots.specs.Tenant.{turn_by_action};
 
-    /// Lets something happen in the slot. After want of memory nothing has changed, but that a call in flight is over whose
-    /// step it was, with nothing done but its reading steps.
+    /// Lets something happen in the slot. After want of memory nothing has changed, but that a call
+    /// in flight is over whose step it was, with nothing done but its reading steps.
     pub fn act(&mut self, alloc: Global, action: SlotAction) -> Result<SlotReply, Memory>
         requires fits { PartsFit self.old }
         requires few { self.old.seat.committed < 2 ^ 63 }
@@ -56,7 +56,8 @@ impl Parts {
         }
     }
 
-    // The call in flight makes its next step. After want of memory the call is over, with nothing done but its reading steps.
+    // The call in flight makes its next step. After want of memory the call is over, with nothing
+    // done but its reading steps.
     fn step(&mut self, alloc: Global) -> Result<SlotReply, Memory>
         requires fits { PartsFit self.old }
         requires few { self.old.seat.committed < 2 ^ 63 }

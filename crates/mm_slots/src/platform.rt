@@ -6,8 +6,9 @@ use mm_platform::{Device, MemPlatform, Nv, Platform, Register, StepFault};
 use std::alloc::Global;
 use std::marker::Model;
 
-/// A platform in memory with up to 16 slots, each with its own cell and register; the power is common. Its device steps
-/// are those of the selected slot. Contracts see what stands in each slot, and the number of the selected one.
+/// A platform in memory with up to 16 slots, each with its own cell and register; the power is
+/// common. Its device steps are those of the selected slot. Contracts see what stands in each slot,
+/// and the number of the selected one.
 #[derive(Drop)]
 pub struct SlotPlatform {
     slots: Vec<MemPlatform>,
@@ -32,8 +33,8 @@ impl SlotPlatform {
     ghost use Rattle.mm_slots.specs.Slots.{selected_standing, standing_in, slots_after_value, slots_with_failure, slots_after_cycle};
     ghost use Rattle.mm_slots.specs.SlotLoan.{LendsSlot};
 
-    /// A platform with these cells of 104 bytes each, one a slot: on, with empty registers and no faults. Tenant 0 is
-    /// selected.
+    /// A platform with these cells of 104 bytes each, one a slot: on, with empty registers and no
+    /// faults. Tenant 0 is selected.
     pub fn new(alloc: Global, cells: &[[u8; CELL_LENGTH]]) -> Result<SlotPlatform, Memory>
         requires some { 1 ≤ length cells.now }
         requires few { length cells.now ≤ 16 }
@@ -55,7 +56,8 @@ impl SlotPlatform {
         self.selected = slot;
     }
 
-    /// Others extend the register of the slot with this number by this value. After want of memory nothing has changed.
+    /// Others extend the register of the slot with this number by this value. After want of memory
+    /// nothing has changed.
     pub fn foreign(&mut self, slot: usize, value: &Digest) -> Result<(), Memory>
         requires { slot < length self.old.slots }
         ensures ok { OnOk result (self.new ≡ slots_after_value self.old slot value.now) }
@@ -64,7 +66,8 @@ impl SlotPlatform {
         self.slots[slot].foreign(value)
     }
 
-    /// The next step of the slot with this number fails, with its effect where `done`; no other step does.
+    /// The next step of the slot with this number fails, with its effect where `done`; no other
+    /// step does.
     pub fn fail_next(&mut self, slot: usize, done: bool)
         requires { slot < length self.old.slots }
         ensures { self.new ≡ slots_with_failure self.old slot done }

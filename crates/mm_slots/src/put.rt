@@ -47,7 +47,8 @@ pub fn put_power(into: &mut Bytes) -> Result<(), Memory>
     into.append(b"power\n")
 }
 
-/// Puts the line `end I N K` at the end: in slot I so many requests were committed, and so many snapshots issued.
+/// Puts the line `end I N K` at the end: in slot I so many requests were committed, and so many
+/// snapshots issued.
 pub fn put_slot_end(slot: u8, committed: u64, issued: u32, into: &mut Bytes) -> Result<(), Memory>
     ensures { OnOk result (into.new ≡ into.old ++ slot_end_line slot committed issued) }
 {

@@ -36,8 +36,8 @@ pub enum SlotEventText<'a> {
     At { slot: u8, action: ActionText<'a> },
 }
 
-/// The number of slots that the first line names, as `memoir slots 1 2`: 1 to 16. None where the line is outside the
-/// grammar.
+/// The number of slots that the first line names, as `memoir slots 1 2`: 1 to 16. None where the
+/// line is outside the grammar.
 #[tactic(auto, unfolding(crate::specs::Grammar::slot_count_at))]
 pub fn read_first(line: &[u8]) -> Option<u8>
     ensures { result ≡ slot_count_at line.now }

@@ -77,8 +77,8 @@ pub fn lose_power(slots: &mut [Tenant])
     lose_all(slots, none);
 }
 
-/// Lets something happen in the slot with this number; where that cuts a call, all other slots lose their power. After
-/// want of memory the others are as they were.
+/// Lets something happen in the slot with this number; where that cuts a call, all other slots lose
+/// their power. After want of memory the others are as they were.
 pub fn act(
     alloc: Global,
     slots: &mut [Tenant],
@@ -100,8 +100,8 @@ pub fn act(
     }
 }
 
-/// Follows an event, and answers it as text. Memory may be wanting for the event or, once that has happened, for the
-/// answer.
+/// Follows an event, and answers it as text. Memory may be wanting for the event or, once that has
+/// happened, for the answer.
 pub fn follow(alloc: Global, slots: &mut [Tenant], event: SlotEvent) -> Result<Bytes, Memory>
     requires inside { IsInside (length slots.old) event }
     requires few { All CanCount slots.old }

@@ -53,7 +53,8 @@ impl SlotsStage {
         Ok(SlotsStage { slots, events: 0 })
     }
 
-    // Follows an event, and answers it as text. It counts also where memory is wanting, for it or for the answer.
+    // Follows an event, and answers it as text. It counts also where memory is wanting, for it or
+    // for the answer.
     fn follow(&mut self, alloc: Global, event: SlotEvent) -> Result<Bytes, Memory>
         requires inside { IsInside (length self.old.rows) event }
         requires few { self.old.events < most_events }

@@ -11,7 +11,8 @@ use mm_world::Seat;
 use std::alloc::Global;
 use std::marker::Model;
 
-/// A module in one slot of a platform: its number, the seat in it, and the call in flight. Contracts see it by digests.
+/// A module in one slot of a platform: its number, the seat in it, and the call in flight.
+/// Contracts see it by digests.
 #[derive(Drop)]
 pub struct Tenant {
     parts: Parts,
@@ -37,7 +38,8 @@ impl Tenant {
     ghost use Rattle.mm_slots.specs.Tenant.{Loses};
     ghost use Rattle.mm_slots.specs.Table.{first_row, is_cut, row_after};
 
-    /// The slot with this number at first, for the header's module. Its key is that of no other slot.
+    /// The slot with this number at first, for the header's module. Its key is that of no other
+    /// slot.
     pub fn first(alloc: Global, number: u8, header: &Header) -> Result<Tenant, Memory>
         requires { number < 16 }
         ensures { IfOk result (λ slot. slot ≡ first_row number header.now) }
@@ -57,8 +59,8 @@ impl Tenant {
         }
     }
 
-    /// Lets something happen in the slot. After want of memory nothing has changed, but that a call in flight is over whose
-    /// step it was, with nothing done but its reading steps.
+    /// Lets something happen in the slot. After want of memory nothing has changed, but that a call
+    /// in flight is over whose step it was, with nothing done but its reading steps.
     pub fn act(&mut self, alloc: Global, action: SlotAction) -> Result<SlotReply, Memory>
         requires { self.old.slot.digests.count < 2 ^ 63 }
         ensures ok { IfOk result (RowActs action self.old self.new) }
@@ -98,7 +100,8 @@ impl Tenant {
         self.parts.seat.issued.len() as u64
     }
 
-    /// The bytes of the snapshots that were handed out, all together, or the most that 64 bits tell.
+    /// The bytes of the snapshots that were handed out, all together, or the most that 64 bits
+    /// tell.
     pub fn kept(&self) -> u64
         ensures { result ≡ within_64 (sum_by length self.now.slot.issued) }
     {

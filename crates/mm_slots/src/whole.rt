@@ -28,14 +28,15 @@ fn report_of(player: &LinePlayer<SlotsHeading, SlotsStage>) -> SlotReport
     }
 }
 
-/// Answers the events of slots line by line: the first line names the number of slots, a header line for each follows,
-/// and then the events. Each answer is written before the input is asked for more, and at the end of the input a line
-/// `end I N K` for each slot: in slot I N requests committed, K snapshots issued. The report has their sums.
+/// Answers the events of slots line by line: the first line names the number of slots, a header
+/// line for each follows, and then the events. Each answer is written before the input is asked for
+/// more, and at the end of the input a line `end I N K` for each slot: in slot I N requests
+/// committed, K snapshots issued. The report has their sums.
 ///
-/// `LineLong` comes exactly where a line has more than 8,400 bytes, `BadLine` where it is outside the grammar, has no
-/// LF, or is missing, and `TooMuch` where it is event 20,001, or where the event lines and the snapshots issued in all
-/// slots have more than 268,435,456 bytes: tried in this order. The line's event doesn't happen then, and all answers
-/// before it are out.
+/// `LineLong` comes exactly where a line has more than 8,400 bytes, `BadLine` where it is outside
+/// the grammar, has no LF, or is missing, and `TooMuch` where it is event 20,001, or where the
+/// event lines and the snapshots issued in all slots have more than 268,435,456 bytes: tried in
+/// this order. The line's event doesn't happen then, and all answers before it are out.
 pub fn slots<S: Source, K: Sink>(
     alloc: Global,
     input: &mut S,

@@ -19,8 +19,8 @@ pub enum FlightOutcome<A> {
     Over(CallReport),
 }
 
-/// Makes the next step of a call in flight. Only a reading step may want memory: then it was made, and the call is over
-/// with nothing done.
+/// Makes the next step of a call in flight. Only a reading step may want memory: then it was made,
+/// and the call is over with nothing done.
 pub fn step<O: CallTeller>(
     op: &O,
     platform: &mut MemPlatform,
@@ -46,7 +46,8 @@ pub fn step<O: CallTeller>(
     }
 }
 
-/// Makes the next step of a call in flight with this stop at it, which breaks the call off. Takes no memory.
+/// Makes the next step of a call in flight with this stop at it, which breaks the call off. Takes
+/// no memory.
 pub fn break_off<O: CallTeller>(
     op: &O,
     platform: &mut MemPlatform,

@@ -1,4 +1,5 @@
-//! The steps of a call in flight over a platform in memory: its next one, and one at which it is broken off.
+//! The steps of a call in flight over a platform in memory: its next one, and one at which it is
+//! broken off.
 #![tactic(auto)]
 
 mod flying;

@@ -1,5 +1,5 @@
-//! Where the host keeps its bytes: a store of four slots, which may be dishonest, and the record of a
-//! request that is pending.
+//! Where the host keeps its bytes: a store of four slots, which may be dishonest, and the record of
+//! a request that is pending.
 #![tactic(auto)]
 
 mod fault;

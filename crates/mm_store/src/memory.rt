@@ -108,8 +108,8 @@ impl MemStore {
         }
     }
 
-    /// Makes the call of this number fail, counted from 1 from now on, and no other. A write that fails
-    /// so leaves these bytes in its slot. After want of memory nothing has changed.
+    /// Makes the call of this number fail, counted from 1 from now on, and no other. A write that
+    /// fails so leaves these bytes in its slot. After want of memory nothing has changed.
     pub fn stop_at(&mut self, call: u64, leaves: &[u8]) -> Result<(), Memory>
         ensures ok { OnOk result
             (self.new ≡ record self.old { ahead = call; leaves = leaves.now }) }
@@ -120,8 +120,8 @@ impl MemStore {
         Ok(())
     }
 
-    /// Puts these bytes in place of a slot's, as a dishonest host does. After want of memory nothing has
-    /// changed.
+    /// Puts these bytes in place of a slot's, as a dishonest host does. After want of memory
+    /// nothing has changed.
     pub fn set_slot(&mut self, slot: u8, bytes: &[u8]) -> Result<(), Memory>
         requires { slot < 4 }
         ensures ok { OnOk result

@@ -21,8 +21,8 @@ pub struct PendingRequest<'a> {
     pub request: &'a [u8],
 }
 
-/// The bytes of a pending record (48 and the request's). The position is from 1 to 2^48 + 1, of which the
-/// last is no valid record's; the request has at most 4,096 bytes and no LF.
+/// The bytes of a pending record (48 and the request's). The position is from 1 to 2^48 + 1, of
+/// which the last is no valid record's; the request has at most 4,096 bytes and no LF.
 #[tactic(auto, unfolding(crate::specs::PendingRecord::pending_spelling))]
 pub fn pending_bytes(alloc: Global, position: u64, request: &[u8]) -> Result<Bytes, Memory>
     requires least { 1 ≤ position }
@@ -51,8 +51,8 @@ fn put_front(bytes: &mut Bytes, position: u64, request: &[u8]) -> Result<(), Mem
     Ok(())
 }
 
-/// The pending record that these bytes of a slot are. None exactly where they are no valid record in that
-/// slot. Takes no memory.
+/// The pending record that these bytes of a slot are. None exactly where they are no valid record
+/// in that slot. Takes no memory.
 #[tactic(auto, using(crate::proofs::PendingLaws::one_reading))]
 pub fn read_pending(slot: u8, bytes: &[u8]) -> Option<PendingRequest<'_>>
     ensures reads { ReadsPending slot bytes.now (option_map pending_of result) }

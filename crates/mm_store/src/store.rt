@@ -13,8 +13,8 @@ pub const LONGEST_SLOT: usize = 1_100_000;
 
 /// Four slots of bytes, numbered from 0 to 3, each of at most 1,100,000 bytes.
 ///
-/// `kept` is what the store holds: the slots where it tells them, whether it is honest, its count of faults,
-/// and, where it is told, which slots have changes that were not synced.
+/// `kept` is what the store holds: the slots where it tells them, whether it is honest, its count
+/// of faults, and, where it is told, which slots have changes that were not synced.
 pub trait Store {
     ghost kept: { Self → StoreStanding };
 

@@ -1,5 +1,5 @@
-//! Lines with one reply for each event: given in pieces, cut off at each byte, and over an input and an output of which
-//! one call fails.
+//! Lines with one reply for each event: given in pieces, cut off at each byte, and over an input
+//! and an output of which one call fails.
 
 use crate::devices::alone;
 use crate::lines::{given, told};
@@ -8,8 +8,8 @@ use crate::setup::Setup;
 use mm_base::{Bytes, Memory, put_decimal};
 use std::alloc::Global;
 
-// Lines that a command plays: its word, the lines, what is written for them, and how many of them stand before the
-// first event.
+// Lines that a command plays: its word, the lines, what is written for them, and how many of them
+// stand before the first event.
 #[derive(Clone, Copy)]
 struct PlayedLines<'a> {
     word: &'a str,
@@ -54,7 +54,8 @@ fn stop_at(alloc: Global, line: u64) -> Result<Bytes, Memory> {
     Ok(stop)
 }
 
-// Whether what is written behind the replies is an end, or the line of a stop where the last line is cut off.
+// Whether what is written behind the replies is an end, or the line of a stop where the last line
+// is cut off.
 fn is_ended(
     alloc: Global,
     last: &[u8],
@@ -115,8 +116,8 @@ fn play_failing(
     notes.count(is_so, "failing")
 }
 
-// The same with the input in pieces of 7 bytes; and byte by byte where a call of the output fails, so that each reply
-// is a call of its own.
+// The same with the input in pieces of 7 bytes; and byte by byte where a call of the output fails,
+// so that each reply is a call of its own.
 fn play_stops(notes: &mut TableNotes, played: &PlayedLines<'_>) -> Result<(), Memory> {
     let mut reading = Setup::new();
     reading.piece = 7;

@@ -23,8 +23,8 @@ struct Host {
     said: Bytes,
 }
 
-/// A line of a table: the stop or the extension by others that is planned; what is done, with which snapshot, and the
-/// request; and what comes of it.
+/// A line of a table: the stop or the extension by others that is planned; what is done, with which
+/// snapshot, and the request; and what comes of it.
 #[derive(Clone, Copy)]
 struct CoreCase<'a> {
     plan: &'a str,
@@ -187,7 +187,8 @@ fn extend(host: &mut Host) -> Result<(), Memory> {
     host.said.append(b"extended")
 }
 
-// Asks with the offer and the request of these names on the cell of this name, and says how many steps failed.
+// Asks with the offer and the request of these names on the cell of this name, and says how many
+// steps failed.
 fn ask_refused(host: &mut Host, text: &str) -> Result<(), Memory> {
     let (cell, asked) = text.split_once(" ").unwrap_or((text, ""));
     let (offer, request) = asked.split_once(" ").unwrap_or((asked, ""));
@@ -293,8 +294,8 @@ fn call(host: &mut Host, row: &CoreCase<'_>) -> Result<(), Memory> {
     }
 }
 
-// The same under what is planned; and then the power is back, which Basic loses after each call. Where memory was
-// wanting nothing has changed, so the call is made once more.
+// The same under what is planned; and then the power is back, which Basic loses after each call.
+// Where memory was wanting nothing has changed, so the call is made once more.
 fn call_planned(host: &mut Host, row: &CoreCase<'_>) -> Result<(), Memory> {
     host.platform
         .plan(stop_of(row.plan), &[meddle_of(row.plan)])?;
@@ -345,8 +346,8 @@ fn play_lines(notes: &mut TableNotes, host: &mut Host, lines: &str) -> Result<()
     Ok(())
 }
 
-/// Plays the lines of a table by the core of a variant. At `new` there is another platform, and power is lost at
-/// `power`.
+/// Plays the lines of a table by the core of a variant. At `new` there is another platform, and
+/// power is lost at `power`.
 pub fn play_core(notes: &mut TableNotes, variant: Variant, lines: &str) -> Result<(), Memory> {
     let alloc = notes.alloc;
     let mut host = Host {

@@ -31,7 +31,8 @@ pub fn alone(notes: &mut TableNotes, word: &str, setup: &Setup, content: &[u8]) 
     run(notes, &[word], setup, content, &mut platform, &mut store)
 }
 
-// A store in memory of which this call fails, counted from 1, and leaves other bytes; none where it is 0.
+// A store in memory of which this call fails, counted from 1, and leaves other bytes; none where it
+// is 0.
 fn stopping_store(alloc: Global, call: u64) -> Result<MemStore, Memory> {
     let mut store = MemStore::new(alloc);
     store.stop_at(call, b"torn")?;
@@ -71,7 +72,8 @@ fn plays_around(
     plays(notes, behind, "", platform, store, old)
 }
 
-/// Plays a scene over a platform and a store in memory. At `set` the host sets the slots to those that were put by.
+/// Plays a scene over a platform and a store in memory. At `set` the host sets the slots to those
+/// that were put by.
 pub fn over_set(notes: &mut TableNotes, scene: &str) -> Result<bool, Memory> {
     let mut platform = MemPlatform::new(notes.alloc, &[0; 104]);
     let mut store = MemStore::new(notes.alloc);
@@ -159,8 +161,8 @@ fn put_count(counts: &mut Bytes, count: u64) -> Result<(), Memory> {
     put_decimal(counts, count)
 }
 
-// Runs the commands of a scene, and writes how often a cell was to be written after each; and then how often the
-// register was to be extended.
+// Runs the commands of a scene, and writes how often a cell was to be written after each; and then
+// how often the register was to be extended.
 fn put_counts(
     notes: &mut TableNotes,
     counts: &mut Bytes,
@@ -194,8 +196,8 @@ fn comes_to_counts(
     Ok(is_played && counts.as_slice().strip_prefix(b" ") == Some(row.as_bytes()))
 }
 
-/// Whether a scene over two cells on a memory comes to the counts of a row: of writes of the cell after each command,
-/// and of extensions.
+/// Whether a scene over two cells on a memory comes to the counts of a row: of writes of the cell
+/// after each command, and of extensions.
 pub fn over_counted(notes: &mut TableNotes, scene: &str, row: &str) -> Result<bool, Memory> {
     let mut store = pages(notes.alloc)?;
     let mut old = pages(notes.alloc)?;

@@ -1,4 +1,5 @@
-//! A memory of 209 bytes and a register, as the files of an instance hold them, of which one call fails.
+//! A memory of 209 bytes and a register, as the files of an instance hold them, of which one call
+//! fails.
 
 ghost use Rattle.std.specs.Prelude.{◌≡◌, IfErr};
 ghost use Rattle.mm_base.specs.Faults.{CountsFaults};

@@ -93,7 +93,8 @@ fn told_between_commas(alloc: Global, text: &str) -> Result<Bytes, Memory> {
     Ok(lines)
 }
 
-/// The lines that a command has to write: those of a row behind its status, or of its own where there is no row.
+/// The lines that a command has to write: those of a row behind its status, or of its own where
+/// there is no row.
 pub fn told(alloc: Global, command: &str, row: &str) -> Result<Bytes, Memory> {
     if row.is_empty() {
         return told_behind_arrows(alloc, command);
@@ -109,7 +110,8 @@ pub fn without_mark(bytes: &[u8]) -> &[u8] {
     bytes.strip_suffix("…".as_bytes()).unwrap_or(bytes)
 }
 
-/// Whether these bytes are those that are told. Where these have the mark in a line of its own, others may follow.
+/// Whether these bytes are those that are told. Where these have the mark in a line of its own,
+/// others may follow.
 pub fn is_told(written: &[u8], told: &[u8]) -> bool {
     match told.strip_suffix("…".as_bytes()) {
         Some(front) if front.is_empty() || front.ends_with(b"\n") => written.starts_with(front),

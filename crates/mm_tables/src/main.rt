@@ -1,5 +1,6 @@
-//! Plays the tables of the files that its arguments name, of commands over devices in memory. It writes each title with
-//! the number of cases that came out as they stand in the table, and each case that didn't; and then what faults say.
+//! Plays the tables of the files that its arguments name, of commands over devices in memory. It
+//! writes each title with the number of cases that came out as they stand in the table, and each
+//! case that didn't; and then what faults say.
 #![tactic(auto)]
 
 mod broken;
@@ -24,7 +25,8 @@ use std::alloc::AllocError;
 use std::io::Write;
 use std::{env, fs, io};
 
-// The text of a file. `⇥` stands for a tabulator in it, `␣` for a space at a line's end, and `␡` for the byte 127.
+// The text of a file. `⇥` stands for a tabulator in it, `␣` for a space at a line's end, and `␡`
+// for the byte 127.
 fn text_of(rt: &HostRuntime, name: &str) -> io::Result<String> {
     let text = fs::read_to_string(rt, name)?;
     let text = text.as_str().replace(rt.alloc(), "⇥", "\t")?;

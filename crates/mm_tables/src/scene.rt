@@ -44,7 +44,8 @@ fn entropy_over(alloc: Global, setup: &Setup) -> Result<MemSource, Memory> {
     MemSource::in_pieces(alloc, secrets, &[setup.secret], piece)
 }
 
-/// Does what the words say over these devices on such an input, notes what was written, and answers the exit status.
+/// Does what the words say over these devices on such an input, notes what was written, and answers
+/// the exit status.
 pub fn run<P: Platform, T: Store>(
     notes: &mut TableNotes,
     words: &[&str],
@@ -125,7 +126,8 @@ fn input_of(notes: &TableNotes, command: &str, setup: &Setup) -> Result<Bytes, M
     Bytes::copy_of(notes.alloc, notes.last.as_slice())
 }
 
-// Runs a command with these options, and says whether it comes to what a row or else its own lines tell.
+// Runs a command with these options, and says whether it comes to what a row or else its own lines
+// tell.
 fn does_with<P: Platform, T: Store>(
     notes: &mut TableNotes,
     command: &str,
@@ -145,7 +147,8 @@ fn does_with<P: Platform, T: Store>(
     notes.tell(is_so, command, code)
 }
 
-/// The same of a command whose options stand in its first line; `keep` puts the store's slots by, and `back` puts them
+/// The same of a command whose options stand in its first line; `keep` puts the store's slots by,
+/// and `back` puts them
 // back.
 pub fn does<P: Platform, T: Store>(
     notes: &mut TableNotes,
@@ -167,7 +170,8 @@ pub fn does<P: Platform, T: Store>(
     }
 }
 
-/// Whether the commands of a scene come to what a row tells, a part for each; or else to what their own lines tell.
+/// Whether the commands of a scene come to what a row tells, a part for each; or else to what their
+/// own lines tell.
 pub fn plays<P: Platform, T: Store>(
     notes: &mut TableNotes,
     scene: &str,

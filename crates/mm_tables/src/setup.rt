@@ -2,8 +2,8 @@
 
 use mm_base::read_decimal;
 
-/// The status that a command has to end with; how its input and its entropy are given, and its output received; and
-/// which calls fail, none where the number is 0.
+/// The status that a command has to end with; how its input and its entropy are given, and its
+/// output received; and which calls fail, none where the number is 0.
 #[derive(Clone, Copy, Drop)]
 pub struct Setup {
     /// The exit status.

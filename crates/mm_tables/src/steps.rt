@@ -1,5 +1,5 @@
-//! Schedules with a step of a call, or its stop, a line: played by a slot of a platform, where each call goes step by
-//! step.
+//! Schedules with a step of a call, or its stop, a line: played by a slot of a platform, where each
+//! call goes step by step.
 
 use crate::devices::alone;
 use crate::lines::told;
@@ -123,7 +123,8 @@ fn replies_in(alloc: Global, written: &[u8]) -> Result<Bytes, Memory> {
     Ok(replies)
 }
 
-/// Whether a schedule gets the replies of a row from a slot; what a call in flight is told is left out.
+/// Whether a schedule gets the replies of a row from a slot; what a call in flight is told is left
+/// out.
 pub fn over_slot(notes: &mut TableNotes, scene: &str, row: &str) -> Result<bool, Memory> {
     let lines = in_steps(notes.alloc, scene)?;
     let code = alone(notes, "slots", &Setup::new(), lines.as_slice())?;

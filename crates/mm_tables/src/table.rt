@@ -1,4 +1,5 @@
-//! Tables: a title; a line that says what each part is played over, and the first line of each; and the parts.
+//! Tables: a title; a line that says what each part is played over, and the first line of each; and
+//! the parts.
 
 use crate::broken::play_broken;
 use crate::cores::play_core;
@@ -143,7 +144,8 @@ fn play_part(notes: &mut TableNotes, devices: &str, head: &str, text: &str) -> R
     }
 }
 
-// Plays a table, which has a line with its devices; else it is a heading. TableNotes how many of its cases came out as they stand.
+// Plays a table, which has a line with its devices; else it is a heading. TableNotes how many of
+// its cases came out as they stand.
 fn play_table(notes: &mut TableNotes, table: &str) -> Result<(), Memory> {
     let Some((title, rest)) = table.split_once("\n@ ") else {
         return notes.head(table);

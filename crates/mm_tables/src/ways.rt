@@ -76,7 +76,8 @@ pub fn ask_in_parts(
     }
 }
 
-/// The digits of the steps so far and of the next: its number, and how often the cell was to be written before it.
+/// The digits of the steps so far and of the next: its number, and how often the cell was to be
+/// written before it.
 fn noted(steps: u64, step: u8, writes: u64) -> u64 {
     let next = (10 * u64::from(step)).saturating_add(writes);
     steps.saturating_mul(100).saturating_add(next)

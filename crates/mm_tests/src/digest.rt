@@ -7,8 +7,8 @@ use mm_digest::{
 use sha2::{Digest as _, Sha256};
 use std::test::Fail;
 
-/// SHA-256 of the empty message and of `abc`, by FIPS 180-4; the digests of messages of the bytes 0 to 31 and 32 to 63 were
-/// made by another implementation.
+/// SHA-256 of the empty message and of `abc`, by FIPS 180-4; the digests of messages of the bytes 0
+/// to 31 and 32 to 63 were made by another implementation.
 const DIGESTS: &str = "\
 empty e3b0c44298fc1c149afbf4c8996fb92427ae41e4649b934ca495991b7852b855
 abc ba7816bf8f01cfea414140de5dae2223b00361a396177a9cb410ff61f20015ad
@@ -23,8 +23,8 @@ secured-batch b189203e7ad195a588ee3abb4af1893dee21675f43d49f1a30e1c49bea5062f7
 extended fdeab9acf3710362bd2658cdc9a29e8f9c757fcf9811603a8c447cd1d9151108
 ";
 
-/// The tags of RFC 4231, cases 1, 2 and 6, and of a key of exactly one block; those under the bytes 0 to 31 were made by
-/// another implementation.
+/// The tags of RFC 4231, cases 1, 2 and 6, and of a key of exactly one block; those under the bytes
+/// 0 to 31 were made by another implementation.
 const TAGS: &str = "\
 key 278639ec02309d3afded1b273f1349ba63b9089c12476d716bee3ecc94673e9e
 key-of-three 278639ec02309d3afded1b273f1349ba63b9089c12476d716bee3ecc94673e9e

@@ -1,5 +1,6 @@
-//! Tests of bytes and digests, of what no contract says: known messages, bytes read as they were spelled, the longest states,
-//! and moves on cells that no run makes. They stand apart, since a crate with tests is proved twice by the gate.
+//! Tests of bytes and digests, of what no contract says: known messages, bytes read as they were
+//! spelled, the longest states, and moves on cells that no run makes. They stand apart, since a
+//! crate with tests is proved twice by the gate.
 #![tactic(auto)]
 
 #[cfg(test)]

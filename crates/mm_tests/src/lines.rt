@@ -6,7 +6,8 @@ use std::test::Fail;
 
 const CONTENT: &[u8] = b"one\n\ntwo three\nend";
 
-/// The bytes that a call gives, and those that a line may have; and what six lines are, where the second call fails.
+/// The bytes that a call gives, and those that a line may have; and what six lines are, where the
+/// second call fails.
 const LINES: &str = "\
 1 9 => FAULT|one||two three|TAIL|TAIL|
 2 9 => FAULT|one||two three|TAIL|TAIL|

@@ -9,8 +9,8 @@ use std::test::Fail;
 
 const FOREIGN: Digest = Digest { bytes: [255; 32] };
 
-/// Eleven stories, and a batch that is repeated whole: each a variant, and then moves, and the verdicts that are given there on
-/// a position and a request.
+/// Eleven stories, and a batch that is repeated whole: each a variant, and then moves, and the
+/// verdicts that are given there on a position and a request.
 const STORIES: &str = "\
 basic
 0 fresh add 5

@@ -7,7 +7,8 @@ use mm_move::{MovedCell, moved_bytes, read_moved};
 use mm_seal::CellFault;
 use std::test::Fail;
 
-/// A byte of the cells that wait and that were left, and what stands there in place of its own, so that they are none.
+/// A byte of the cells that wait and that were left, and what stands there in place of its own, so
+/// that they are none.
 const CHANGES: &str = "\
 0 0
 1 0

@@ -10,9 +10,9 @@ use mm_seal::open;
 use std::alloc::Global;
 use std::test::Fail;
 
-/// The variant, what is in the cell, which move is made, what it is given, and what comes: with how often the cell was to
-/// be written by then. At `same` the platform is that of the row before. Each offer and each ticket has what the rows
-/// below it are refused for too.
+/// The variant, what is in the cell, which move is made, what it is given, and what comes: with how
+/// often the cell was to be written by then. At `same` the platform is that of the row before. Each
+/// offer and each ticket has what the rows below it are refused for too.
 const MOVES: &str = "\
 basic blank invite - => done, 1
 basic same invite - => again, 1
@@ -76,7 +76,8 @@ opt live accept stale => no 11, 0
 opt live accept good => at 5, 0
 ";
 
-/// Moves that are stopped, and what comes of the same move made again: a stop, a cell, a move and what it is given.
+/// Moves that are stopped, and what comes of the same move made again: a stop, a cell, a move and
+/// what it is given.
 const STOPS: &str = "\
 cut-1 blank invite - => no 3, 0
 cut-2 blank invite - => no 3, 1
@@ -164,7 +165,8 @@ fn put_invited(said: &mut Bytes, came: &Result<Invited, MoveRefusal>) -> Result<
     }
 }
 
-// Puts the position of a ticket, where it is for the nonce and the summary, and sealed under the link's key.
+// Puts the position of a ticket, where it is for the nonce and the summary, and sealed under the
+// link's key.
 fn put_ticket(
     said: &mut Bytes,
     variant: Variant,
@@ -259,7 +261,8 @@ fn put_move(
     }
 }
 
-// The same under the row's stop; then the power is back. Says besides how often the cell was to be written by then.
+// The same under the row's stop; then the power is back. Says besides how often the cell was to be
+// written by then.
 fn put_stopped(
     said: &mut Bytes,
     alloc: Global,
@@ -288,8 +291,8 @@ fn put_made(
     Ok(())
 }
 
-// Whether what comes of a row is what it says. It is played on another platform with its cell; at `same` on the one that
-// there is.
+// Whether what comes of a row is what it says. It is played on another platform with its cell; at
+// `same` on the one that there is.
 fn is_so(alloc: Global, row: &MoveCase<'_>, platform: &mut MemPlatform) -> Result<bool, Memory> {
     if row.cell != "same" {
         *platform = MemPlatform::new(alloc, &cell_of(row.variant, row.cell));

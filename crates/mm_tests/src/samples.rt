@@ -45,7 +45,8 @@ fn other(variant: Variant) -> Variant {
     }
 }
 
-/// The bytes of a cell: its word, variant, module and flag, and what stands before and behind the key.
+/// The bytes of a cell: its word, variant, module and flag, and what stands before and behind the
+/// key.
 pub fn spelled(
     word: &[u8; 4],
     variant: Variant,

@@ -46,8 +46,8 @@ basic 72 1
 basic 103 1
 ";
 
-/// A variant, a module's id and the bytes of its state; and the bytes of the snapshot. The sizes are those of a counter's, an
-/// unset limiter's and the longest snapshots.
+/// A variant, a module's id and the bytes of its state; and the bytes of the snapshot. The sizes
+/// are those of a counter's, an unset limiter's and the longest snapshots.
 const SIZES: &str = "\
 basic 1 8 => 90
 opt 1 8 => 122
@@ -189,7 +189,8 @@ fn is_refused(bytes: &[u8], key: &[u8; 32], body: &Body<'_>, cause: OpenFault) -
     }
 }
 
-// Whether bytes with another in front, of which the last is one too many, are opened without that alone.
+// Whether bytes with another in front, of which the last is one too many, are opened without that
+// alone.
 fn opens_whole(bytes: &[u8], body: &Body<'_>, size: usize) -> bool {
     let (whole, _) = bytes.split_at(size.min(bytes.len()));
     let (short, _) = whole.split_at(whole.len().saturating_sub(1));
@@ -200,7 +201,8 @@ fn opens_whole(bytes: &[u8], body: &Body<'_>, size: usize) -> bool {
         && is_refused(bytes, &KEY, body, OpenFault::Form)
 }
 
-// Whether a snapshot has so many bytes, is opened as it was sealed, and is refused with one more or less.
+// Whether a snapshot has so many bytes, is opened as it was sealed, and is refused with one more or
+// less.
 fn is_opened_as_sealed(alloc: Global, body: &Body<'_>, size: usize) -> Result<bool, Memory> {
     let mut snapshot = sealed(alloc, body)?;
     let is_so = snapshot.as_slice().len() == size;
@@ -228,7 +230,8 @@ fn snapshots_are_opened_as_they_were_sealed(rt: HostRuntime) -> Result<(), Fail>
     Ok(())
 }
 
-// Puts the bytes of a snapshot of Basic, at the first place and position, with a state of so many bytes.
+// Puts the bytes of a snapshot of Basic, at the first place and position, with a state of so many
+// bytes.
 fn put_snapshot(bytes: &mut Bytes, word: &[u8], module: u8, size: u32) -> Result<(), Memory> {
     bytes.append(word)?;
     bytes.append(&[1, module])?;

@@ -17,10 +17,11 @@ use mm_model::{Answer, BatchAnswer, Refusal};
 use mm_module::{Batch, Module};
 use std::alloc::Global;
 
-/// What a call that asks for a request comes to with these steps made, of which the first was its first: its answer or
-/// refusal, once they are all of its steps; or the step that it makes next. It is over after at most five steps. It
-/// keeps nothing but the key, absorbed, with what was sealed last, which changes no answer: after Next make the step, and
-/// call again with that one too. Memory may come at any time: call again with the same steps.
+/// What a call that asks for a request comes to with these steps made, of which the first was its
+/// first: its answer or refusal, once they are all of its steps; or the step that it makes next. It
+/// is over after at most five steps. It keeps nothing but the key, absorbed, with what was sealed
+/// last, which changes no answer: after Next make the step, and call again with that one too.
+/// Memory may come at any time: call again with the same steps.
 pub fn ask<M: Module>(
     alloc: Global,
     variant: Variant,

@@ -15,8 +15,8 @@ use mm_machine::OpStage;
 use mm_opt::{CheckpointRefusal, Checkpointed, OptCheckpoint, closing_result};
 use mm_seal::KeptKey;
 
-/// What a checkpoint comes to with these steps made, as `ask` says of a call. It is over after at most three steps.
-/// Takes no memory.
+/// What a checkpoint comes to with these steps made, as `ask` says of a call. It is over after at
+/// most three steps. Takes no memory.
 pub fn checkpoint(made: &[MadeStep]) -> StepsOutcome<Result<Checkpointed, CheckpointRefusal>>
     ghost host: { Host }
     requires { IsHostOf made.now host }

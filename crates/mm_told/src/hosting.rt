@@ -19,8 +19,9 @@ use mm_module::Module;
 use mm_platform::Platform;
 use std::alloc::Global;
 
-/// Asks for a request over a platform of Basic, whose steps it makes as it is told: the call over that platform. None
-/// where it came to no end: memory was wanting, or another step was told than the one that was made.
+/// Asks for a request over a platform of Basic, whose steps it makes as it is told: the call over
+/// that platform. None where it came to no end: memory was wanting, or another step was told than
+/// the one that was made.
 pub fn ask_by_steps<M: Module, P: Platform>(
     alloc: Global,
     module: &M,

@@ -1,5 +1,5 @@
-//! Calls whose device steps a host makes: they are led on by what the host's devices answered, and say the next step
-//! behind that.
+//! Calls whose device steps a host makes: they are led on by what the host's devices answered, and
+//! say the next step behind that.
 #![tactic(auto)]
 
 mod asking;

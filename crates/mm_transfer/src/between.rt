@@ -52,8 +52,8 @@ impl IssuedTickets {
         number
     }
 
-    /// The module left a side where so many requests were committed, if it was there; or it was refused. Hands out the
-    /// ticket.
+    /// The module left a side where so many requests were committed, if it was there; or it was
+    /// refused. Hands out the ticket.
     pub fn leave(
         &mut self,
         was_live: bool,

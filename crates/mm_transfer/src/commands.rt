@@ -211,7 +211,8 @@ fn try_accept(
     }
 }
 
-// The module entered the side, after so many requests, if it wasn't there; or it was refused. Hands out the snapshot.
+// The module entered the side, after so many requests, if it wasn't there; or it was refused. Hands
+// out the snapshot.
 fn enter(
     here: &mut Side,
     was_live: bool,
@@ -270,8 +271,8 @@ fn accept(
     }
 }
 
-/// Makes a command on a side, and answers it. After want of memory nothing has changed, but that the command may have made
-/// its first step.
+/// Makes a command on a side, and answers it. After want of memory nothing has changed, but that
+/// the command may have made its first step.
 pub fn command(
     alloc: Global,
     which: Which,

@@ -15,7 +15,8 @@ pub enum Which {
 pub enum Command {
     /// The module is invited to the side, under a nonce.
     Invite { nonce: [u8; 32] },
-    /// The module leaves the side for whoever was invited under the nonce, with one of the side's snapshots.
+    /// The module leaves the side for whoever was invited under the nonce, with one of the side's
+    /// snapshots.
     Retire { nonce: [u8; 32], offer: Offer },
     /// The module enters the side, with one of the tickets.
     Accept { offer: Offer },
@@ -26,7 +27,8 @@ pub enum Command {
 pub enum SideAct {
     /// An event of a schedule.
     Plain(Event),
-    /// A command. Others extend the register just before certain steps of it, and it may be stopped at a step.
+    /// A command. Others extend the register just before certain steps of it, and it may be stopped
+    /// at a step.
     Moves {
         meddles: Meddles,
         stop: Stop,

@@ -1,5 +1,5 @@
-//! A module that moves between two platforms, and keeps its one list of requests: schedules of both sides, from bytes to
-//! bytes.
+//! A module that moves between two platforms, and keeps its one list of requests: schedules of both
+//! sides, from bytes to bytes.
 #![tactic(auto)]
 
 mod between;

@@ -28,7 +28,8 @@ pub fn is_broken<A>(came: &Result<A, MoveRefusal>) -> bool
     matches!(came, Err(MoveRefusal::Core(Refusal::Device(_))))
 }
 
-/// Whether a move that was broken off, and stopped so, has its effect: its second step has that, by writing the cell.
+/// Whether a move that was broken off, and stopped so, has its effect: its second step has that, by
+/// writing the cell.
 pub fn moves_at(stop: Stop) -> bool
     ensures { result ≡ has_effect_at stop }
 {
@@ -49,7 +50,8 @@ pub fn has_moved(stop: Stop, why: MoveRefusal) -> bool
     }
 }
 
-/// What is told of a move that was refused, or broken off. Memory exactly where it was refused for that.
+/// What is told of a move that was refused, or broken off. Memory exactly where it was refused for
+/// that.
 pub fn refused(stop: Stop, why: MoveRefusal) -> Result<MoveReply, Memory>
     ensures { TellsRefusalAs stop why result }
 {

@@ -91,8 +91,8 @@ pub fn put_answer(which: Which, reply: &MoveReply, into: &mut Bytes) -> Result<(
     put_move(reply, into)
 }
 
-/// Puts the line `end N K0 K1 T` at the end: so many requests were committed, so many snapshots issued on each side, and
-/// so many tickets.
+/// Puts the line `end N K0 K1 T` at the end: so many requests were committed, so many snapshots
+/// issued on each side, and so many tickets.
 pub fn put_end(
     committed: u64,
     first: u32,

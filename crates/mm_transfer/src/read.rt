@@ -19,7 +19,8 @@ use mm_schedule::{
 };
 use std::alloc::Global;
 
-/// What the first line names, as `memoir transfer 1 basic counter`. None where the line is outside the grammar.
+/// What the first line names, as `memoir transfer 1 basic counter`. None where the line is outside
+/// the grammar.
 #[tactic(auto, unfolding(crate::specs::Grammar::first_header_at))]
 pub fn read_first(line: &[u8]) -> Option<Header>
     ensures { result ≡ first_header_at line.now }

@@ -1,6 +1,7 @@
 //! What a transfer comes to.
 
-/// How many requests were committed, how many snapshots issued on each side, and how many tickets handed out.
+/// How many requests were committed, how many snapshots issued on each side, and how many tickets
+/// handed out.
 #[derive(Clone, Copy, Debug, PartialEq, Eq)]
 pub struct TransferReport {
     pub committed: u64,

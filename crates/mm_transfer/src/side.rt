@@ -13,8 +13,9 @@ use mm_schedule::{Event, Header, Reply};
 use mm_world::{Seat, owned_view};
 use std::alloc::Global;
 
-/// One side of a transfer. The cell of its seat tells whether the module is there, is awaited there, has left, or never
-/// was; and the seat counts the requests committed, on either side, where the side stands or last stood.
+/// One side of a transfer. The cell of its seat tells whether the module is there, is awaited
+/// there, has left, or never was; and the seat counts the requests committed, on either side, where
+/// the side stands or last stood.
 #[derive(Drop)]
 pub struct Side {
     pub seat: Seat,
@@ -45,7 +46,8 @@ impl Side {
     ghost use Rattle.mm_transfer.specs.Pairs.{pair_of};
     ghost use Rattle.mm_transfer.specs.OneSide.{IsNew, SideFollows};
 
-    /// The side that the module is on at first: provisioned for the header's module, with its first snapshot.
+    /// The side that the module is on at first: provisioned for the header's module, with its first
+    /// snapshot.
     pub fn live(alloc: Global, header: &Header) -> Result<Side, Memory>
         ensures { IfOk result (IsNew header.now First (first_both (pair_of header.now)).first) }
     {
@@ -68,8 +70,8 @@ impl Side {
         }
     }
 
-    /// Follows an event of a schedule on this side, and answers it. After want of memory nothing has changed, but that a
-    /// call may have made its reading steps.
+    /// Follows an event of a schedule on this side, and answers it. After want of memory nothing
+    /// has changed, but that a call may have made its reading steps.
     pub fn event(&mut self, event: &Event) -> Result<Reply, Memory>
         requires { self.old.seat.committed < 2 ^ 63 }
         ensures { SideFollows (event_of event.now) self.old self.new result }

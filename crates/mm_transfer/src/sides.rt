@@ -113,7 +113,8 @@ impl Sides {
     ghost use Rattle.mm_transfer.specs.Stage.{kept_size_of};
     ghost use Rattle.mm_sides.specs.Both.{sides_seen_from};
 
-    /// New sides: the first is provisioned for the header's module, and its first snapshot has number 0; the second is blank.
+    /// New sides: the first is provisioned for the header's module, and its first snapshot has
+    /// number 0; the second is blank.
     pub fn new(alloc: Global, header: &Header) -> Result<Sides, Memory>
         ensures { IfOk result (λ sides. sides ≡ first_transfer_sides header.now) }
     {
@@ -126,8 +127,8 @@ impl Sides {
         })
     }
 
-    /// Follows one event, and answers it. After want of memory nothing has changed, but that a call or a move on the event's
-    /// side may have made its reading steps.
+    /// Follows one event, and answers it. After want of memory nothing has changed, but that a call
+    /// or a move on the event's side may have made its reading steps.
     pub fn event(&mut self, alloc: Global, event: &SideEvent) -> Result<MoveReply, Memory>
         requires { HasRoom self.old }
         ensures reply { IfOk result

@@ -28,14 +28,14 @@ fn report_of(player: &LinePlayer<FirstLine, TransferStage>) -> TransferReport
     }
 }
 
-/// Replays the events of two sides: the first line, and then the event lines. Each reply is written before the input is
-/// asked for more, and at the end of the input the line `end N K0 K1 T`: N requests committed, K0 and K1 snapshots issued
-/// on the two sides, T tickets handed out.
+/// Replays the events of two sides: the first line, and then the event lines. Each reply is written
+/// before the input is asked for more, and at the end of the input the line `end N K0 K1 T`: N
+/// requests committed, K0 and K1 snapshots issued on the two sides, T tickets handed out.
 ///
-/// `LineLong` comes exactly where a line has more than 8,400 bytes, `BadLine` where it is outside the grammar, has no
-/// LF, or is missing, and `TooMuch` where it is event 20,001, or where the event lines, the snapshots issued on both sides
-/// and the tickets have more than 268,435,456 bytes: tried in this order. The line's event isn't run then, and all replies
-/// before it are out.
+/// `LineLong` comes exactly where a line has more than 8,400 bytes, `BadLine` where it is outside
+/// the grammar, has no LF, or is missing, and `TooMuch` where it is event 20,001, or where the
+/// event lines, the snapshots issued on both sides and the tickets have more than 268,435,456
+/// bytes: tried in this order. The line's event isn't run then, and all replies before it are out.
 pub fn transfer<S: Source, K: Sink>(
     alloc: Global,
     input: &mut S,

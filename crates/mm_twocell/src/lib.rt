@@ -1,4 +1,5 @@
-//! An atomic cell over non-volatile memory whose writes may tear: two cells, and a selector that picks one.
+//! An atomic cell over non-volatile memory whose writes may tear: two cells, and a selector that
+//! picks one.
 #![tactic(auto)]
 
 mod pair;

@@ -9,10 +9,11 @@ use mm_base::{CELL_LENGTH, Memory};
 use mm_digest::Digest;
 use mm_platform::{Device, Nv, Platform, RawNv, Register, StepFault};
 
-/// A platform whose cell of 104 bytes stands on 209 bytes of memory whose writes may tear: two cells and
-/// a selector byte, which picks the first where it is even and the second where it is odd. A write goes to
-/// the cell that isn't picked, and then picks it, so that whatever a torn write leaves the cell is the old
-/// one or the new one. The register is that of the memory's platform. It tells no plan.
+/// A platform whose cell of 104 bytes stands on 209 bytes of memory whose writes may tear: two
+/// cells and a selector byte, which picks the first where it is even and the second where it is
+/// odd. A write goes to the cell that isn't picked, and then picks it, so that whatever a torn
+/// write leaves the cell is the old one or the new one. The register is that of the memory's
+/// platform. It tells no plan.
 #[derive(Drop)]
 pub struct TwoCell<R> {
     raw: R,

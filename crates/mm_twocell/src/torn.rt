@@ -14,7 +14,8 @@ use mm_platform::{Device, MemPlatform, Platform, RawNv, Register, StepFault};
 use std::alloc::Global;
 use std::marker::Model;
 
-/// Non-volatile memory of 209 bytes, with a register. One call fails, where it is told to, and no other.
+/// Non-volatile memory of 209 bytes, with a register. One call fails, where it is told to, and no
+/// other.
 #[derive(Drop)]
 pub struct MemRaw {
     bytes: [u8; 209],
@@ -58,9 +59,9 @@ impl MemRaw {
         }
     }
 
-    /// Lets the call of `raw_read`, `raw_write` or `raw_cycle` with this number fail, counted from 1 from
-    /// now on; none where it is 0. A write that fails leaves these bytes in front of its range, as far as
-    /// it goes. After want of memory nothing has changed.
+    /// Lets the call of `raw_read`, `raw_write` or `raw_cycle` with this number fail, counted from
+    /// 1 from now on; none where it is 0. A write that fails leaves these bytes in front of its
+    /// range, as far as it goes. After want of memory nothing has changed.
     pub fn stop_at(&mut self, call: u64, leaves: &[u8]) -> Result<(), Memory>
         ensures ok { OnOk result
             (self.new ≡ record self.old { ahead = call; leaves = leaves.now }) }

@@ -1,6 +1,7 @@
-//! What the adapters over files do to the files of a folder. The input has parts, each for adapters of their own over
-//! the same files: behind a line `== KIND` a line for each call. Each is written with the calls on files that the
-//! adapter makes, as they come, and what it answers. slots.rt and memory.rt say what the words ask.
+//! What the adapters over files do to the files of a folder. The input has parts, each for adapters
+//! of their own over the same files: behind a line `== KIND` a line for each call. Each is written
+//! with the calls on files that the adapter makes, as they come, and what it answers. slots.rt and
+//! memory.rt say what the words ask.
 #![tactic(auto)]
 
 mod line;

@@ -1,8 +1,9 @@
-//! Calls on the memory and the register, each with a number. `cell I` writes 104 bytes 7 from place I on, `pick` writes
-//! the selector, `byte I` reads the byte there, `extend V` extends the register by 32 bytes V, `reset` and `power` empty
-//! it, `shown I` reads its byte I, `fail K` lets the K-th call on files fail. Others let a file have N bytes 5 by `nv N`,
-//! `register N` and `register.new N`, put another `nv` of N in its place by `swap N`, another `register` by `turn N`, and
-//! in the place of `nv` a device by `device`, and nothing by `remove`.
+//! Calls on the memory and the register, each with a number. `cell I` writes 104 bytes 7 from place
+//! I on, `pick` writes the selector, `byte I` reads the byte there, `extend V` extends the register
+//! by 32 bytes V, `reset` and `power` empty it, `shown I` reads its byte I, `fail K` lets the K-th
+//! call on files fail. Others let a file have N bytes 5 by `nv N`, `register N` and `register.new
+//! N`, put another `nv` of N in its place by `swap N`, another `register` by `turn N`, and in the
+//! place of `nv` a device by `device`, and nothing by `remove`.
 
 use crate::line::{WatchCommand, byte_in, done, read_line};
 use crate::mount::Mount;

@@ -1,9 +1,10 @@
-//! Calls on the four slots, each with a slot and up to two numbers. `page S P N` writes page P with N bytes 7 in front,
-//! `byte S P I` reads byte I of page P, `length S`, `set S N` and `sync S` are the calls of these names, `fail K` lets
-//! the K-th call on files fail. Others let the file have N bytes 5 by `fill S N`, put another one of N in its place by
-//! `swap S N`, a device by `device S`, and nothing by `remove S`; a link to `other/slotS` by `link S`, where `behind S N` puts
-//! a file of N bytes; and by `same S T` and `second S T` a link to a file, and that file by another name: slot T below 4,
-//! `nv` for 4, `register` for 5, `register.new` for 6.
+//! Calls on the four slots, each with a slot and up to two numbers. `page S P N` writes page P with
+//! N bytes 7 in front, `byte S P I` reads byte I of page P, `length S`, `set S N` and `sync S` are
+//! the calls of these names, `fail K` lets the K-th call on files fail. Others let the file have N
+//! bytes 5 by `fill S N`, put another one of N in its place by `swap S N`, a device by `device S`,
+//! and nothing by `remove S`; a link to `other/slotS` by `link S`, where `behind S N` puts a file
+//! of N bytes; and by `same S T` and `second S T` a link to a file, and that file by another name:
+//! slot T below 4, `nv` for 4, `register` for 5, `register.new` for 6.
 
 use crate::line::{WatchCommand, byte_in, done, read_line};
 use crate::mount::Mount;

@@ -9,8 +9,8 @@ use std::path::PathBuf;
 use std::process;
 use std::rt::Files;
 
-/// A folder below `/tmp`, with a folder `other` in it. Each call on its files is written as it comes, and the one with a given
-/// number fails.
+/// A folder below `/tmp`, with a folder `other` in it. Each call on its files is written as it
+/// comes, and the one with a given number fails.
 #[derive(Drop)]
 pub struct WatchedFolder<'r> {
     rt: &'r HostRuntime,

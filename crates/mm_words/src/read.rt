@@ -19,8 +19,8 @@ use std::alloc::Global;
 /// The most words of a command.
 const LONGEST: usize = 5;
 
-/// The command that these words spell, those after the program's name; words spell at most one. `Usage` comes exactly
-/// where they spell none, but for want of memory.
+/// The command that these words spell, those after the program's name; words spell at most one.
+/// `Usage` comes exactly where they spell none, but for want of memory.
 pub fn read_words(alloc: Global, words: &[&str]) -> Result<CommandLine, WordsFault>
     ensures ok { IfOk result (λ command. SpellsCommand command (map (λ s. s.now) words.now)) }
     ensures one { IfOk result (λ command. (other : Told)

@@ -77,7 +77,8 @@ impl CallReport {
         }
     }
 
-    // A call that was broken off: it has committed its batch of this size up to this position, if there is one.
+    // A call that was broken off: it has committed its batch of this size up to this position, if
+    // there is one.
     fn broken(stop: Stop, kept: Option<u64>, size: u64) -> CallReport
         ensures { result ≡ broken_call stop kept size }
     {
@@ -117,7 +118,8 @@ pub fn settle(platform: &mut MemPlatform, stop: Stop, is_broken: bool)
     platform.end_plan();
 }
 
-// What a call of a batch of this size came to, that was stopped so. Memory exactly where it was refused for that.
+// What a call of a batch of this size came to, that was stopped so. Memory exactly where it was
+// refused for that.
 pub(crate) fn came_to(stop: Stop, ended: AskResult, size: u64) -> Result<CallReport, Memory>
     ensures { IsCallResult stop size ended result }
 {
@@ -149,7 +151,8 @@ pub struct Caller<'a, M> {
     pub module: &'a M,
 }
 
-// Makes the call that offers these bytes and asks for a batch, on this course, over a platform that is on and has no plan.
+// Makes the call that offers these bytes and asks for a batch, on this course, over a platform that
+// is on and has no plan.
 fn planned_call<M: Module>(
     caller: &Caller<M>,
     platform: &mut MemPlatform,
@@ -176,8 +179,9 @@ fn planned_call<M: Module>(
     planned(&ask, platform, course, keys)
 }
 
-/// Makes the call that asks for a batch, with the bytes that the offer names, over a platform that is on and has no plan.
-/// A cell that is blank, or none of this variant and module, is read in vain: the call makes no further step.
+/// Makes the call that asks for a batch, with the bytes that the offer names, over a platform that
+/// is on and has no plan. A cell that is blank, or none of this variant and module, is read in
+/// vain: the call makes no further step.
 pub fn call_by_offer<M: Module>(
     caller: &Caller<M>,
     platform: &mut MemPlatform,
@@ -198,7 +202,8 @@ pub fn call_by_offer<M: Module>(
     }
 }
 
-// Whether a checkpoint that ended so and was stopped so has closed its segment: its last step does that.
+// Whether a checkpoint that ended so and was stopped so has closed its segment: its last step does
+// that.
 pub(crate) fn closes(stop: Stop, ended: &End<Checkpointed, CheckpointRefusal>) -> bool
     ensures { result ≡ has_closed_segment stop ended.now }
 {
@@ -208,7 +213,8 @@ pub(crate) fn closes(stop: Stop, ended: &End<Checkpointed, CheckpointRefusal>) -
     }
 }
 
-// What a checkpoint that gave this and was stopped so is told as, by whether it has closed its segment.
+// What a checkpoint that gave this and was stopped so is told as, by whether it has closed its
+// segment.
 pub(crate) fn told_closing(
     stop: Stop,
     closed: bool,
@@ -237,7 +243,8 @@ fn close(platform: &mut MemPlatform, course: &CallPlan<'_>) -> Result<CallReport
     planned(&OptCheckpoint, platform, course, &mut KeptKey::new())
 }
 
-/// Makes a checkpoint under such a plan, which closes the open segment. In Basic there is none, and its first step finds that.
+/// Makes a checkpoint under such a plan, which closes the open segment. In Basic there is none, and
+/// its first step finds that.
 pub fn planned_checkpoint(
     platform: &mut MemPlatform,
     meddles: &[Meddle],

@@ -16,7 +16,8 @@ use mm_outcome::CallPlan;
 use mm_schedule::{Header, Offer, Reply, owned_offer};
 use std::alloc::Global;
 
-/// A module on a platform in memory, the snapshots that were issued there, and how many requests are committed.
+/// A module on a platform in memory, the snapshots that were issued there, and how many requests
+/// are committed.
 #[derive(Drop)]
 pub struct Seat {
     pub header: Header,
@@ -52,8 +53,8 @@ impl Seat {
         }
     }
 
-    /// A seat that is provisioned for the header's module with this key and barrier, and has issued its first snapshot.
-    /// Basic ignores the barrier.
+    /// A seat that is provisioned for the header's module with this key and barrier, and has issued
+    /// its first snapshot. Basic ignores the barrier.
     pub fn first(
         alloc: Global,
         header: Header,
@@ -114,8 +115,8 @@ impl Seat {
         reply
     }
 
-    /// Follows an event, and answers it. After want of memory nothing has changed, but that a call that asks may have made
-    /// its reading steps.
+    /// Follows an event, and answers it. After want of memory nothing has changed, but that a call
+    /// that asks may have made its reading steps.
     #[inline(always)]
     pub fn follow(&mut self, event: EventView<'_>) -> Result<Reply, Memory>
         ensures { SeatTakesEvent (event_of_view event.entry) self.old self.new result }

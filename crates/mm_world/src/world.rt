@@ -9,8 +9,8 @@ use mm_schedule::{Event, EventText, Header, Meddles, Reply};
 use std::alloc::Global;
 use std::marker::Model;
 
-/// A world, which contracts see by digests: the header, where it stands, the issued snapshots by their numbers, and
-/// the counts of steps.
+/// A world, which contracts see by digests: the header, where it stands, the issued snapshots by
+/// their numbers, and the counts of steps.
 #[derive(Drop)]
 pub struct World {
     seat: Seat,
@@ -39,7 +39,8 @@ impl World {
     ghost use Rattle.mm_world.specs.Lengths.{within_64};
     ghost use Rattle.mm_world.specs.Views.{event_of_view};
 
-    /// A new world: the platform is provisioned for the header's module, and its first snapshot has number 0.
+    /// A new world: the platform is provisioned for the header's module, and its first snapshot has
+    /// number 0.
     pub fn new(alloc: Global, header: &Header) -> Result<World, Memory>
         ensures { IfOk result (λ world. world ≡ first_world_state header.now) }
     {
@@ -49,15 +50,16 @@ impl World {
         }
     }
 
-    /// Follows one event, and answers it. After want of memory nothing has changed, but that a call may have made its
-    /// reading steps.
+    /// Follows one event, and answers it. After want of memory nothing has changed, but that a call
+    /// may have made its reading steps.
     pub fn event(&mut self, event: &Event) -> Result<Reply, Memory>
         requires { length self.old.issued < 2 ^ 32 - 1 }
         ensures ok { IfOk result
             (WorldFollows (outcome_in self.old (event_of event.now)) self.old self.new) }
         ensures wants { OnErr result (EventWantsMemory (event_of event.now) self.old self.new) }
 
-        // The reply can be printed; at most one snapshot is issued, and at most 64 requests are committed.
+        // The reply can be printed; at most one snapshot is issued, and at most 64 requests are
+        // committed.
         ensures printable { IfOk result IsPrintable }
         ensures grows { length self.new.issued ≤ length self.old.issued + 1 }
         ensures few { (outcome_in self.old (event_of event.now)).state.count
