@@ -28,8 +28,7 @@ pub use Rattle.mm_play.specs.Fronts.{IsFrontOf}
 pub use Rattle.mm_store.specs.StoreStanding.{StoreStanding}
 pub use Rattle.mm_words.specs.declared.command.CommandLine.{CommandLine}
 pub use Rattle.mm_words.specs.declared.command.CommandLine.TheVariants.{Bulk, Check, Checkpoint, Gen, Help, Init, Power, Receipts, Replay}
-pub use Rattle.mm_words.specs.declared.command.CommandLine.TheVariants.{Run}
-pub use Rattle.mm_words.specs.declared.command.CommandLine.TheVariants.{Slots, Transfer}
+pub use Rattle.mm_words.specs.declared.command.CommandLine.TheVariants.{Run, Slots, Transfer}
 pub use Rattle.mm_words.proofs.Above.{one_command}
 pub use Rattle.mm_gen.specs.declared.fault.BulkFault.{BulkFault}
 pub use Rattle.mm_gen.specs.declared.summary.Summary.{Summary}
@@ -47,8 +46,7 @@ pub use Rattle.mm_app.specs.Completeness.{CanBeDone, CanClose, CanRun, IsDoneOrF
 pub use Rattle.mm_app.specs.Outside.{IsStill, Outside, outside}
 pub use Rattle.mm_app.specs.Power.{power_line}
 pub use Rattle.mm_app.specs.Run.{ContinuesIfFound, FindsInstance, found_header, found_instance, LooksAtInstance, RunsOnceIfFound}
-pub use Rattle.mm_app.specs.Run.{SeesInstance}
-pub use Rattle.mm_app.specs.Run.{ServesAndStops, ServesIfFound, session_status}
+pub use Rattle.mm_app.specs.Run.{SeesInstance, ServesAndStops, ServesIfFound, session_status}
 pub use Rattle.mm_app.specs.Init.{init_line}
 pub use Rattle.mm_app.specs.Status.{EndsUnrefused, status_of, stop_line}
 pub use Rattle.mm_app.specs.CommandOutput.{EndsAtOnce, GivesText, status_by, StopsAs, TellsLines, TellsStop}

@@ -1,15 +1,12 @@
 -- Whom the status of each command blames.
 use Rattle.mm_app.proofs.Below.{◌≡◌, ◌∙◌, ℕ, Bool, true, false, List, Option, None, Some, Result, Ok, Err, refl, sym, ap, subst, inl, inr}
 use Rattle.mm_app.proofs.Below.{arith, is_some, CountRose, ReplayFault, BulkFault, Summary, BlamesDevice, Devices, InitFault, SessionFault}
-use Rattle.mm_app.proofs.Below.{Checkpointed, CheckpointRefusal, closing_fault_in, StepFault}
-use Rattle.mm_app.proofs.Below.{Standing, Header, Held, CellFault, CommandLine, Init, Run, Checkpoint, Power, Replay, Check, Gen, Bulk}
-use Rattle.mm_app.proofs.Below.{Slots}
-use Rattle.mm_app.proofs.Below.{Receipts, Transfer, Help, BlamesSource, source_faults, tells_platform_fault, tells_read_fault}
-use Rattle.mm_app.proofs.Below.{tells_store_fault, bulk_lines, checkpoint_line, CommandDoes, DoesOrLacks, ReadsInput, UsesPlatform}
-use Rattle.mm_app.proofs.Below.{UsesStore}
-use Rattle.mm_app.proofs.Below.{StoreStanding, Outside, IsStill, power_line, ServesIfFound, FindsInstance, found_instance}
-use Rattle.mm_app.proofs.Below.{session_status, init_line, status_of, GivesText, StopsAs, TellsLines, status_by, Status}
-use Rattle.mm_app.proofs.Below.{Done, Memory, WriteFault, PlatformFault}
+use Rattle.mm_app.proofs.Below.{Checkpointed, CheckpointRefusal, closing_fault_in, StepFault, Standing, Header, Held, CellFault}
+use Rattle.mm_app.proofs.Below.{CommandLine, Init, Run, Checkpoint, Power, Replay, Check, Gen, Bulk, Slots, Receipts, Transfer, Help}
+use Rattle.mm_app.proofs.Below.{BlamesSource, source_faults, tells_platform_fault, tells_read_fault, tells_store_fault, bulk_lines}
+use Rattle.mm_app.proofs.Below.{checkpoint_line, CommandDoes, DoesOrLacks, ReadsInput, UsesPlatform, UsesStore, StoreStanding, Outside}
+use Rattle.mm_app.proofs.Below.{IsStill, power_line, ServesIfFound, FindsInstance, found_instance, session_status, init_line, status_of}
+use Rattle.mm_app.proofs.Below.{GivesText, StopsAs, TellsLines, status_by, Status, Done, Memory, WriteFault, PlatformFault}
 use Rattle.mm_base.specs.declared.fault.WriteFault as write
 use Rattle.mm_call.specs.Untouched.{CountsHandedFault}
 use Rattle.mm_host.specs.SessionBlame as session_blame

@@ -1,18 +1,14 @@
 -- A command of the host isn't refused where it may be done.
-use Rattle.mm_app.proofs.Below.{◌≡◌, ◌∙◌, ◌+◌, ◌≤◌, ◌<◌, ℕ, Bool, true, false, List, length, Option, None, Some, Result}
-use Rattle.mm_app.proofs.Below.{Ok, Err, refl, sym, ap, subst, inl, inr, arith, length-append, Consumes, IsAtEnd, Variant, TellsUse}
-use Rattle.mm_app.proofs.Below.{GoesAfterLooking, GoesAfterAllPuts, GoesAfterTaking, Devices, SetsUp, TakesBytes, devices, instance_from}
-use Rattle.mm_app.proofs.Below.{result_of_write, SessionFault, InitFault, Instance, Refusal, meaning_of, module_of_id, any_is_found}
-use Rattle.mm_app.proofs.Below.{AnyModule}
+use Rattle.mm_app.proofs.Below.{◌≡◌, ◌∙◌, ◌+◌, ◌≤◌, ◌<◌, ℕ, Bool, true, false, List, length, Option, None, Some, Result, Ok, Err, refl, sym}
+use Rattle.mm_app.proofs.Below.{ap, subst, inl, inr, arith, length-append, Consumes, IsAtEnd, Variant, TellsUse, GoesAfterLooking}
+use Rattle.mm_app.proofs.Below.{GoesAfterAllPuts, GoesAfterTaking, Devices, SetsUp, TakesBytes, devices, instance_from, result_of_write}
+use Rattle.mm_app.proofs.Below.{SessionFault, InitFault, Instance, Refusal, meaning_of, module_of_id, any_is_found, AnyModule}
 use Rattle.mm_app.proofs.Below.{ClosesSegment, EndsClosing, EndsLooking, FindsClosing, FindsSegment, LooksAtSegment, WeighsRegister}
-use Rattle.mm_app.proofs.Below.{closing_by}
-use Rattle.mm_app.proofs.Below.{result_of_closing_write, segment_by, segment_in, Checkpointed, CheckpointRefusal, StepFault, Standing}
-use Rattle.mm_app.proofs.Below.{Header, StoreStanding, CommandLine, Init, Run, Checkpoint, Power, Gen}
-use Rattle.mm_app.proofs.Below.{Help, checkpoint_line, CommandDoes, DoesOrLacks, IsDoneOrFailed}
-use Rattle.mm_app.proofs.Below.{CanClose, CanBeDone, ContinuesIfFound, Held, ShowsPower, Outside, power_line, FindsInstance}
-use Rattle.mm_app.proofs.Below.{SeesInstance, ServesAndStops, ServesIfFound, found_header, found_instance, session_status, init_line}
-use Rattle.mm_app.proofs.Below.{TellsLines}
-use Rattle.mm_app.proofs.Below.{status_by, Status}
+use Rattle.mm_app.proofs.Below.{closing_by, result_of_closing_write, segment_by, segment_in, Checkpointed, CheckpointRefusal, StepFault}
+use Rattle.mm_app.proofs.Below.{Standing, Header, StoreStanding, CommandLine, Init, Run, Checkpoint, Power, Gen, Help, checkpoint_line}
+use Rattle.mm_app.proofs.Below.{CommandDoes, DoesOrLacks, IsDoneOrFailed, CanClose, CanBeDone, ContinuesIfFound, Held, ShowsPower, Outside}
+use Rattle.mm_app.proofs.Below.{power_line, FindsInstance, SeesInstance, ServesAndStops, ServesIfFound, found_header, found_instance}
+use Rattle.mm_app.proofs.Below.{session_status, init_line, TellsLines, status_by, Status}
 use Rattle.std.specs.Str.{bytes_eq}
 use Rattle.std.proofs.lemmas.Slice.Eq.{bytes_eq-Decides}
 use Rattle.mm_base.specs.declared.fault.Failed.{Failed}

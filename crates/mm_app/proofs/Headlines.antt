@@ -1,7 +1,6 @@
 -- What is out of a command that plays events, drawn from its play and its stop line.
 use Rattle.mm_app.proofs.Below.{◌≡◌, ◌∙◌, ℕ, List, [], Option, Result, Ok, Err, refl, sym, ap, subst, SinkSends, ReplayFault, status_of}
-use Rattle.mm_app.proofs.Below.{stop_line}
-use Rattle.mm_app.proofs.Below.{Memory, Outside, EndsAtOnce, Status}
+use Rattle.mm_app.proofs.Below.{stop_line, Memory, Outside, EndsAtOnce, Status}
 use Rattle.mm_base.specs.declared.fault.WriteFault as write
 use Rattle.mm_base.specs.declared.replay_fault.ReplayFault.TheVariants as fault
 use Rattle.mm_play.proofs.Above.{bare, IsSilent, lacked_events, stopped_events}

@@ -1,10 +1,8 @@
 -- What `run` tells of what the cell, the register and the slots held.
 use Rattle.mm_app.proofs.Below.{◌≡◌, ◌∙◌, ℕ, Bool, true, false, List, Option, None, Some, Result, Ok, Err, refl, sym, ap, subst, inl, inr}
-use Rattle.mm_app.proofs.Below.{◌⊎◌}
-use Rattle.mm_app.proofs.Below.{arith, Held, CellFault, Run, CommandDoes, Outside, Standing, Status, StepFault, Variant, FindsInstance}
-use Rattle.mm_app.proofs.Below.{found_header}
-use Rattle.mm_app.proofs.Below.{found_instance, Header, Instance, Refusal, ServesAndStops, ServesIfFound, session_status, SessionFault}
-use Rattle.mm_app.proofs.Below.{AnyModule, meaning_of, module_of_id, ReplayFault}
+use Rattle.mm_app.proofs.Below.{◌⊎◌, arith, Held, CellFault, Run, CommandDoes, Outside, Standing, Status, StepFault, Variant, FindsInstance}
+use Rattle.mm_app.proofs.Below.{found_header, found_instance, Header, Instance, Refusal, ServesAndStops, ServesIfFound, session_status}
+use Rattle.mm_app.proofs.Below.{SessionFault, AnyModule, meaning_of, module_of_id, ReplayFault}
 use Rattle.std.specs.Prelude.{◌≢◌, ◌&&◌, IsSome}
 use Rattle.std.specs.Option.{option_map}
 use Rattle.std.specs.Str.{bytes_eq}

@@ -1,11 +1,8 @@
 -- What `init` tells of what the cell and the source of entropy held.
 use Rattle.mm_app.proofs.Below.{◌≡◌, ◌∙◌, ◌+◌, ◌≤◌, ◌<◌, ℕ, Bool, true, false, List, length, Option, None, Some, Result, Ok, Err, refl, sym}
-use Rattle.mm_app.proofs.Below.{ap}
-use Rattle.mm_app.proofs.Below.{subst, inl, inr, ◌⊎◌, arith, length-append, append-nil, Consumes, IsAtEnd, Variant, TellsUse}
-use Rattle.mm_app.proofs.Below.{GoesAfterLooking}
-use Rattle.mm_app.proofs.Below.{GoesAfterTaking, Devices, devices, TakesBytes, instance_from, InitFault, Header, Init, CommandDoes, Outside}
-use Rattle.mm_app.proofs.Below.{init_line}
-use Rattle.mm_app.proofs.Below.{[], Status, StepFault, TellsLines, meaning_of}
+use Rattle.mm_app.proofs.Below.{ap, subst, inl, inr, ◌⊎◌, arith, length-append, append-nil, Consumes, IsAtEnd, Variant, TellsUse}
+use Rattle.mm_app.proofs.Below.{GoesAfterLooking, GoesAfterTaking, Devices, devices, TakesBytes, instance_from, InitFault, Header, Init}
+use Rattle.mm_app.proofs.Below.{CommandDoes, Outside, init_line, [], Status, StepFault, TellsLines, meaning_of}
 use Rattle.std.specs.Prelude.{◌≢◌}
 use Rattle.mm_base.specs.declared.fault.Failed.{Failed}
 use Rattle.mm_module.specs.Meaning.{Meaning}

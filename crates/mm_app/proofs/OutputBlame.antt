@@ -1,11 +1,10 @@
 -- What the status of each command tells of the output.
 use Rattle.mm_app.proofs.Below.{◌≡◌, ◌∙◌, ℕ, List, Option, None, Some, Result, Ok, Err, refl, sym, ap, subst, inl, inr, ◌⊎◌, next_count}
-use Rattle.mm_app.proofs.Below.{arith}
-use Rattle.mm_app.proofs.Below.{CountsFaults, CountRose, ReplayFault, BulkFault, Summary, SessionFault, Checkpointed, CheckpointRefusal}
-use Rattle.mm_app.proofs.Below.{StepFault, Standing, Header, CommandLine, Init, Run, Checkpoint, Power, Gen, Bulk}
-use Rattle.mm_app.proofs.Below.{Help, BlamesOutput, bulk_lines, checkpoint_line, CommandDoes, DoesOrLacks, StoreStanding}
-use Rattle.mm_app.proofs.Below.{Outside, power_line, ServesIfFound, FindsInstance, session_status, init_line, status_of, EndsAtOnce}
-use Rattle.mm_app.proofs.Below.{GivesText, TellsStop, StopsAs, TellsLines, status_by, Status, Memory, WriteFault}
+use Rattle.mm_app.proofs.Below.{arith, CountsFaults, CountRose, ReplayFault, BulkFault, Summary, SessionFault, Checkpointed}
+use Rattle.mm_app.proofs.Below.{CheckpointRefusal, StepFault, Standing, Header, CommandLine, Init, Run, Checkpoint, Power, Gen, Bulk, Help}
+use Rattle.mm_app.proofs.Below.{BlamesOutput, bulk_lines, checkpoint_line, CommandDoes, DoesOrLacks, StoreStanding, Outside, power_line}
+use Rattle.mm_app.proofs.Below.{ServesIfFound, FindsInstance, session_status, init_line, status_of, EndsAtOnce, GivesText, TellsStop}
+use Rattle.mm_app.proofs.Below.{StopsAs, TellsLines, status_by, Status, Memory, WriteFault}
 use Rattle.mm_base.specs.declared.fault.WriteFault as write
 use Rattle.mm_base.specs.declared.replay_fault.ReplayFault.TheVariants as fault
 use Rattle.mm_recovery.specs.declared.fault.HostFault.{HostFault}

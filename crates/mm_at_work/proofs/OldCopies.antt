@@ -1,7 +1,7 @@
 -- A session over an old copy of the pages is one run, as one over any slots is.
 use Rattle.mm_at_work.proofs.Below.{ℕ, List, Some, Result, refl, lines_of, Variant, Basic, Opt, Batch, Meaning, Instance, basic_instance}
-use Rattle.mm_at_work.proofs.Below.{opt_instance, History}
-use Rattle.mm_at_work.proofs.Below.{IsSession, SessionFault, CachedDevice, Sheets, TornMemory, TwoCell, store_in_pages, two_cells}
+use Rattle.mm_at_work.proofs.Below.{opt_instance, History, IsSession, SessionFault, CachedDevice, Sheets, TornMemory, TwoCell}
+use Rattle.mm_at_work.proofs.Below.{store_in_pages, two_cells}
 use Rattle.mm_host.specs.AnySlots.{MayStart, SessionRunsOnce, requests_with}
 use Rattle.mm_at_work.specs.OldCopy.{CanServeCopy, CopyRunsOnce, ServesCopy}
 

@@ -34,8 +34,7 @@ use Rattle.mm_life.specs.SessionCalls.{IsFirstOffered, session_calls}
 use Rattle.mm_life.specs.Stages.{Does, IsLife, LifeStage}
 use Rattle.mm_at_work.specs.Devices.{store_in_pages, two_cells}
 use Rattle.mm_at_work.specs.Lives.{BeginsLife, FirstSlotsAreOld, IsOldCopy, IsWholeInBasic, IsWholeInOpt, LivesCheckpointed, LivesOnCopy}
-use Rattle.mm_at_work.specs.Lives.{LivesWithoutPower}
-use Rattle.mm_at_work.specs.Lives.{session_stage}
+use Rattle.mm_at_work.specs.Lives.{LivesWithoutPower, session_stage}
 use Rattle.mm_at_work.specs.MemoryStart.{StartsInMemory}
 
 -- The first slots offer the first snapshot, as nothing waits in them.

@@ -1,8 +1,7 @@
 -- Known bytes that grow or are consumed by two pieces, one after the other.
 use Rattle.mm_base.proofs.Below.{ℕ, ◌≡◌, ◌+◌, ◌<◌, List, [], ◌++◌, take, drop, length, refl, sym, ap, ◌∙◌, arith, length-append}
 use Rattle.mm_base.proofs.Below.{append_assoc, append-nil, take-append-drop, Option, None, Some, Err, Appends, Consumes, Keeps}
-use Rattle.mm_base.proofs.Below.{FrontGoesOut}
-use Rattle.mm_base.proofs.Below.{SinkSends, IsCutShort}
+use Rattle.mm_base.proofs.Below.{FrontGoesOut, SinkSends, IsCutShort}
 use Rattle.mm_base.specs.declared.fault.WriteFault.{WriteFault}
 
 pub Appends-both : (old mid new : Option (List ℕ)) (xs ys : List ℕ)

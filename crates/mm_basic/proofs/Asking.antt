@@ -1,11 +1,9 @@
 -- What a whole call counts, and the sizes of its answer.
-use Rattle.mm_basic.proofs.Below.{◌≡◌, ℕ, Bool, true, false, List, [], length, None, Result, Ok, Err, IfOk, refl, sym, ap, ◌∙◌}
-use Rattle.mm_basic.proofs.Below.{subst, inl, inr, Standing, ReadCell, StepGoes, Meaning, IsLawful, Batch, One, IsFit}
-use Rattle.mm_basic.proofs.Below.{is_long, BatchAnswer, Refusal, remaining_acts, is_extension_left, Deed, Writing, OpFinding, Repeat}
-use Rattle.mm_basic.proofs.Below.{Change, AskResult, goes_on, breaks_off, EndsByFinding}
-use Rattle.mm_basic.proofs.Below.{IsCallToEnd, IsWholeCall, result_of, fault_in, steps_give, each_call, ends_result}
-use Rattle.mm_basic.proofs.Below.{given_all, basic_call}
-use Rattle.mm_basic.proofs.Below.{Basic}
+use Rattle.mm_basic.proofs.Below.{◌≡◌, ℕ, Bool, true, false, List, [], length, None, Result, Ok, Err, IfOk, refl, sym, ap, ◌∙◌, subst, inl}
+use Rattle.mm_basic.proofs.Below.{inr, Standing, ReadCell, StepGoes, Meaning, IsLawful, Batch, One, IsFit, is_long, BatchAnswer, Refusal}
+use Rattle.mm_basic.proofs.Below.{remaining_acts, is_extension_left, Deed, Writing, OpFinding, Repeat, Change, AskResult, goes_on}
+use Rattle.mm_basic.proofs.Below.{breaks_off, EndsByFinding, IsCallToEnd, IsWholeCall, result_of, fault_in, steps_give, each_call}
+use Rattle.mm_basic.proofs.Below.{ends_result, given_all, basic_call, Basic}
 use Rattle.mm_call.specs.Counts.{StepsAnswered, StepsAre, StepsBy, StepsRefused, WritesAtMostOnce}
 use Rattle.mm_call.specs.CallKind.{AreStepsToEnd}
 use Rattle.mm_base.specs.Faults.{next_count}

@@ -57,9 +57,8 @@ pub use Rattle.mm_call.specs.Refusals.{fault_in, fault_of, IsOrMemory}
 pub use Rattle.mm_call.specs.Standing.{cell_at, StandsAt}
 pub use Rattle.mm_call.specs.WeighingLaws.{offered_snapshot, weighed_only, weighs}
 pub use Rattle.mm_call.specs.declared.ended.AskResult.{AskResult}
-pub use Rattle.mm_call.proofs.Above.{AsFound, basic_calls_agree, brought_digests, calls_from, course_by, each_call}
-pub use Rattle.mm_call.proofs.Above.{ends_fates, ends_result, fate_of, given_all, GoesTo, lacks_in}
-pub use Rattle.mm_call.proofs.Above.{reading_tale, so_far, steps_give, Told, told_reading}
+pub use Rattle.mm_call.proofs.Above.{AsFound, basic_calls_agree, brought_digests, calls_from, course_by, each_call, ends_fates, ends_result}
+pub use Rattle.mm_call.proofs.Above.{fate_of, given_all, GoesTo, lacks_in, reading_tale, so_far, steps_give, Told, told_reading}
 pub use Rattle.mm_basic.specs.Answers.{answer_of, committed_cell, finding_from, finding_in, linked_summary}
 pub use Rattle.mm_basic.specs.AskPromise.{BasicAskPromise}
 pub use Rattle.mm_basic.specs.BasicCall.{basic_call}

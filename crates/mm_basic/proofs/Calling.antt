@@ -1,16 +1,12 @@
 -- What a call finds over the platform is what is found by digests, but for want of memory.
 use Rattle.mm_basic.proofs.Below.{◌≡◌, ℕ, ◌+◌, Bool, true, false, List, [], ◌∷◌, map, length, Some, Result, Ok, Err, inl, inr, refl, sym}
 use Rattle.mm_basic.proofs.Below.{ap, ◌∙◌, subst, nat_le, bytes_eq, bytes_eq-Decides, last_position, Basic, Meaning, Batch, size_of}
-use Rattle.mm_basic.proofs.Below.{normal_batch}
-use Rattle.mm_basic.proofs.Below.{Cell, IsCell, cell_spelling, PartsFault, Form, Kind, Place, InBasic, InOpt, Content, Snapshot, ReadsParts}
-use Rattle.mm_basic.proofs.Below.{variant_of, tag_of, extended_digest_of, Item, Standing, length-link, DeviceStep, Writes, link, Instance}
-use Rattle.mm_basic.proofs.Below.{basic_instance, Commit}
-use Rattle.mm_basic.proofs.Below.{Foreign, Digests, digests_after, verdict_by, basic_verdict, digest_of, BatchAnswer, Refusal, Verdict}
-use Rattle.mm_basic.proofs.Below.{IsOrMemory}
-use Rattle.mm_basic.proofs.Below.{state_after_moves, digest_level, AsFound, lacks_in, brought_digests, cell_at, StandsAt, weighed_only}
-use Rattle.mm_basic.proofs.Below.{OpFinding, Repeat}
-use Rattle.mm_basic.proofs.Below.{Change, Writing, BasicSight, finding_in, finding_from, answer_of, committed_cell, basic_call, SpellsCell}
-use Rattle.mm_basic.proofs.Below.{ReadsCell}
+use Rattle.mm_basic.proofs.Below.{normal_batch, Cell, IsCell, cell_spelling, PartsFault, Form, Kind, Place, InBasic, InOpt, Content}
+use Rattle.mm_basic.proofs.Below.{Snapshot, ReadsParts, variant_of, tag_of, extended_digest_of, Item, Standing, length-link, DeviceStep}
+use Rattle.mm_basic.proofs.Below.{Writes, link, Instance, basic_instance, Commit, Foreign, Digests, digests_after, verdict_by}
+use Rattle.mm_basic.proofs.Below.{basic_verdict, digest_of, BatchAnswer, Refusal, Verdict, IsOrMemory, state_after_moves, digest_level}
+use Rattle.mm_basic.proofs.Below.{AsFound, lacks_in, brought_digests, cell_at, StandsAt, weighed_only, OpFinding, Repeat, Change, Writing}
+use Rattle.mm_basic.proofs.Below.{BasicSight, finding_in, finding_from, answer_of, committed_cell, basic_call, SpellsCell, ReadsCell}
 use Rattle.mm_basic.proofs.Below.{IsCellOf, NoCell, OtherCell, NoOffer, Both, IsSeen as IsSight, if◌then◌else◌, linked_summary, summary_in}
 use Rattle.mm_basic.proofs.Below.{verdict_by_digests, zero_bytes}
 use Rattle.std.specs.List.{fold}

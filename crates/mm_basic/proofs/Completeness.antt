@@ -1,14 +1,10 @@
 -- A right offer that the verdict accepts is answered; and all that a whole call promises.
 use Rattle.mm_basic.proofs.Below.{◌≡◌, ℕ, ◌+◌, ◌≤◌, Bool, true, false, List, length, map, Option, None, Some, Result, Ok, Err, IsOk, refl}
 use Rattle.mm_basic.proofs.Below.{sym, ap, ◌∙◌, subst, inl, inr, extended_digest_of, nat_le, bytes_eq, bytes_eq-Decides, last_position}
-use Rattle.mm_basic.proofs.Below.{Basic}
-use Rattle.mm_basic.proofs.Below.{StepFault, Standing, Meaning, Batch, size_of, normal_batch, Content, Snapshot, PartsFault, tag_of}
-use Rattle.mm_basic.proofs.Below.{Instance}
-use Rattle.mm_basic.proofs.Below.{basic_instance, History, Move, Foreign, verdict_on, Digests, IsRight, ask_steps, is_long, BatchAnswer}
-use Rattle.mm_basic.proofs.Below.{Refusal, CountsHandedFault}
-use Rattle.mm_basic.proofs.Below.{IsAccepted, IsAnswered, fault_in, offered_snapshot, weighs, state_after_moves, digest_level}
-use Rattle.mm_basic.proofs.Below.{brought_digests, IsLawful}
-use Rattle.mm_basic.proofs.Below.{IsWholeCall, basic_call, BasicAskPromise}
+use Rattle.mm_basic.proofs.Below.{Basic, StepFault, Standing, Meaning, Batch, size_of, normal_batch, Content, Snapshot, PartsFault, tag_of}
+use Rattle.mm_basic.proofs.Below.{Instance, basic_instance, History, Move, Foreign, verdict_on, Digests, IsRight, ask_steps, is_long}
+use Rattle.mm_basic.proofs.Below.{BatchAnswer, Refusal, CountsHandedFault, IsAccepted, IsAnswered, fault_in, offered_snapshot, weighs}
+use Rattle.mm_basic.proofs.Below.{state_after_moves, digest_level, brought_digests, IsLawful, IsWholeCall, basic_call, BasicAskPromise}
 use Rattle.std.specs.List.{fold}
 use Rattle.std.proofs.lemmas.Bool.{le-leb}
 use Rattle.std.proofs.lemmas.List.{append-nil}

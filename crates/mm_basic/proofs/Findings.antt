@@ -1,13 +1,10 @@
 -- What is found, by what the offer is examined to.
 use Rattle.mm_basic.proofs.Below.{◌≡◌, ℕ, Bool, true, false, List, Result, Ok, Err, IsTrue, refl, sym, ap, subst, inl, inr, arith, Meaning}
 use Rattle.mm_basic.proofs.Below.{IsLawful, Batch, normal_batch, Blank, Form, InBasic, Content, Snapshot, IsFit, length-link, Refusal}
-use Rattle.mm_basic.proofs.Below.{Verdict}
-use Rattle.mm_basic.proofs.Below.{digest_of, BatchAnswer, is_extension_left, OpFinding, Repeat, Change, BasicSight, NoCell, NoOffer, Both}
-use Rattle.mm_basic.proofs.Below.{check_of_offer, summary_in, verdict_of, linked_summary}
-use Rattle.mm_basic.proofs.Below.{answer_of, committed_cell, finding_from, finding_in, IsOrMemory, FindsIn, weighed_only, Basic, Cell}
-use Rattle.mm_basic.proofs.Below.{IsCellOf}
-use Rattle.mm_basic.proofs.Below.{PartsFault, ReadsParts, SpellsCell}
-use Rattle.mm_basic.proofs.Below.{None, Standing, StepGoes, ReadCell, fault_in}
+use Rattle.mm_basic.proofs.Below.{Verdict, digest_of, BatchAnswer, is_extension_left, OpFinding, Repeat, Change, BasicSight, NoCell}
+use Rattle.mm_basic.proofs.Below.{NoOffer, Both, check_of_offer, summary_in, verdict_of, linked_summary, answer_of, committed_cell}
+use Rattle.mm_basic.proofs.Below.{finding_from, finding_in, IsOrMemory, FindsIn, weighed_only, Basic, Cell, IsCellOf, PartsFault}
+use Rattle.mm_basic.proofs.Below.{ReadsParts, SpellsCell, None, Standing, StepGoes, ReadCell, fault_in}
 use Rattle.std.proofs.lemmas.Bool.Decides.{nat_tests}
 use Rattle.mm_machine.specs.OpReads.{CellSays, has_extension}
 use Rattle.mm_model.specs.FitLaws.{is_fit}

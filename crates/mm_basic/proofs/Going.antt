@@ -1,13 +1,11 @@
 -- A call of Basic is the walk of its steps on a course, by digests and by lists.
-use Rattle.mm_basic.proofs.Below.{◌≡◌, ℕ, Bool, true, false, List, ◌∷◌, length, map, None, Result, refl, sym, ap, subst}
-use Rattle.mm_basic.proofs.Below.{arith, Basic, Standing, ReadCell, Meaning, Batch, normal_batch, Instance, basic_instance, Move, Foreign}
-use Rattle.mm_basic.proofs.Below.{Digests, DeviceStep}
-use Rattle.mm_basic.proofs.Below.{Reading, ask_steps, Refusal, AskResult, EndsByFinding, IsCallToEnd, IsCallSoFar, EndsAsCall}
-use Rattle.mm_basic.proofs.Below.{state_after_moves, digest_level, fault_in}
-use Rattle.mm_basic.proofs.Below.{StandsAt, basic_calls_agree, fate_of, ends_fates, reading_tale, Told, GoesTo, course_by, lacks_in}
-use Rattle.mm_basic.proofs.Below.{told_reading, so_far, BatchAnswer, Deed, Extending, Emptying, Placing, Writing, OpFinding, Repeat, Change}
-use Rattle.mm_basic.proofs.Below.{acts_for, remaining_acts}
-use Rattle.mm_basic.proofs.Below.{basic_call, BasicAskPromise, IsLawful, is_long, calls_from, result_of}
+use Rattle.mm_basic.proofs.Below.{◌≡◌, ℕ, Bool, true, false, List, ◌∷◌, length, map, None, Result, refl, sym, ap, subst, arith, Basic}
+use Rattle.mm_basic.proofs.Below.{Standing, ReadCell, Meaning, Batch, normal_batch, Instance, basic_instance, Move, Foreign, Digests}
+use Rattle.mm_basic.proofs.Below.{DeviceStep, Reading, ask_steps, Refusal, AskResult, EndsByFinding, IsCallToEnd, IsCallSoFar, EndsAsCall}
+use Rattle.mm_basic.proofs.Below.{state_after_moves, digest_level, fault_in, StandsAt, basic_calls_agree, fate_of, ends_fates, reading_tale}
+use Rattle.mm_basic.proofs.Below.{Told, GoesTo, course_by, lacks_in, told_reading, so_far, BatchAnswer, Deed, Extending, Emptying, Placing}
+use Rattle.mm_basic.proofs.Below.{Writing, OpFinding, Repeat, Change, acts_for, remaining_acts, basic_call, BasicAskPromise, IsLawful}
+use Rattle.mm_basic.proofs.Below.{is_long, calls_from, result_of}
 use Rattle.std.specs.Prelude.{◌≤◌}
 use Rattle.std.proofs.lemmas.List.{append-nil}
 use Rattle.mm_platform.specs.PlannedSteps.{next_plan}

@@ -1,7 +1,6 @@
 -- What the machine tells of a call of Basic: its reading step, and where each step leads.
-use Rattle.mm_basic.proofs.Below.{◌≡◌, ◌+◌, ℕ, Bool, true, false, List, Option, None, Some, Result, Ok, Err, refl, sym, ap, subst}
-use Rattle.mm_basic.proofs.Below.{Standing, ReadCell, StepGoes, StepFault, Meaning, Batch, BatchAnswer, Refusal, Deed, Writing}
-use Rattle.mm_basic.proofs.Below.{is_extension_left}
+use Rattle.mm_basic.proofs.Below.{◌≡◌, ◌+◌, ℕ, Bool, true, false, List, Option, None, Some, Result, Ok, Err, refl, sym, ap, subst, Standing}
+use Rattle.mm_basic.proofs.Below.{ReadCell, StepGoes, StepFault, Meaning, Batch, BatchAnswer, Refusal, Deed, Writing, is_extension_left}
 use Rattle.mm_basic.proofs.Below.{OpFinding, Repeat, Change, ReadyChange, Halt, Cell, fault_in, finding_of_machine, basic_operation}
 use Rattle.mm_basic.proofs.Below.{ExtendsNothing}
 use Rattle.mm_model.specs.declared.refusal.Refusal.TheVariants as refusal

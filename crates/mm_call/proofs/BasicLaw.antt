@@ -1,16 +1,12 @@
 -- Basic: a call is by digests what it is by lists, on every course.
 use Rattle.mm_call.proofs.Below.{ℕ, ◌≡◌, Bool, true, false, List, [], ◌∷◌, ◌++◌, map, Result, Ok, refl, sym, ap, ◌∙◌, subst, if◌then◌else◌}
 use Rattle.mm_call.proofs.Below.{AllByRecursion, Contains, Basic, Meaning, Batch, Content, InBasic, summary_of, Instance, basic_instance}
-use Rattle.mm_call.proofs.Below.{RegisterEntry}
-use Rattle.mm_call.proofs.Below.{History, Move, Foreign, items_of_all, ask_steps, IsClear, AreMessagesIn, values_in, Digests, NamesPosition}
-use Rattle.mm_call.proofs.Below.{digest_of, Refusal}
-use Rattle.mm_call.proofs.Below.{each_append, IsGenuine, list_level, digest_level, state_after_moves, DigestsAgree, CallFinding, finding_at}
-use Rattle.mm_call.proofs.Below.{right_content}
-use Rattle.mm_call.proofs.Below.{finding_unless_wanting, is_fresh, StepFate, Course, StepsWalk, walk, call_outcome, call_outcome_with}
-use Rattle.mm_call.proofs.Below.{IsPlain, IsWithin}
-use Rattle.mm_call.proofs.Below.{right_messages, IsSameCall, BasicCallsAgree, IsBasicMove, agrees-made, plain-made, same_batches}
-use Rattle.mm_call.proofs.Below.{more_batches, Commits, nothing, batch, call_commits, foreign_first, GoesAlong, walk_along, batches-made}
-use Rattle.mm_call.proofs.Below.{basic_names, history_after, link_message}
+use Rattle.mm_call.proofs.Below.{RegisterEntry, History, Move, Foreign, items_of_all, ask_steps, IsClear, AreMessagesIn, values_in, Digests}
+use Rattle.mm_call.proofs.Below.{NamesPosition, digest_of, Refusal, each_append, IsGenuine, list_level, digest_level, state_after_moves}
+use Rattle.mm_call.proofs.Below.{DigestsAgree, CallFinding, finding_at, right_content, finding_unless_wanting, is_fresh, StepFate, Course}
+use Rattle.mm_call.proofs.Below.{StepsWalk, walk, call_outcome, call_outcome_with, IsPlain, IsWithin, right_messages, IsSameCall}
+use Rattle.mm_call.proofs.Below.{BasicCallsAgree, IsBasicMove, agrees-made, plain-made, same_batches, more_batches, Commits, nothing, batch}
+use Rattle.mm_call.proofs.Below.{call_commits, foreign_first, GoesAlong, walk_along, batches-made, basic_names, history_after, link_message}
 use Rattle.mm_call.proofs.Finding.{Asking, basic_found_same, placed, Placed}
 use Rattle.mm_call.proofs.Calling.{summary_then, listed_push, listed_same, called_message, ending_same, fresh_found, ended_batches}
 use Rattle.mm_call.proofs.OptHolding.{foreign_digests}

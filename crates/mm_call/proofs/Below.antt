@@ -32,8 +32,8 @@ pub use Rattle.mm_model.specs.ChainsWords.{own_values}
 pub use Rattle.mm_model.specs.DigestLaws.{register-push, register_folds, summary-push}
 pub use Rattle.mm_model.specs.FormLaws.{reads_zero}
 pub use Rattle.mm_model.specs.History.{Close, Commit, history_after_commit, RegisterEntry, first_history, Foreign, History, items_of_all}
-pub use Rattle.mm_model.specs.History.{Move, history_after, Own, Placed}
-pub use Rattle.mm_model.specs.History.{Placed as PlacedMove, Power, register_value_of, with_last_batch, requests_of, Reset, total_of, Value}
+pub use Rattle.mm_model.specs.History.{Move, history_after, Own, Placed, Placed as PlacedMove, Power, register_value_of, with_last_batch}
+pub use Rattle.mm_model.specs.History.{requests_of, Reset, total_of, Value}
 pub use Rattle.mm_model.specs.HistoryLaws.{own_values-append, renamed-push, values_of-own, values_renamed}
 pub use Rattle.mm_model.specs.HistoryWords.{values_of as entry_values}
 pub use Rattle.mm_model.specs.Instance.{Instance}
@@ -42,12 +42,10 @@ pub use Rattle.mm_model.specs.Verdicts.{is_last, verdict_on, verdict_by_tests}
 pub use Rattle.mm_model.specs.Life.{are_own, has_value, is_empty, is_lost, Life, life_by, life_of, Live}
 pub use Rattle.mm_model.specs.ListLaws.{each_append, each_left, each_right, each_self}
 pub use Rattle.mm_model.specs.Messages.{AreNoGuards, counted_entries, history_messages, IsClear, IsClearFor, messages_for_move}
-pub use Rattle.mm_model.specs.Messages.{offer_messages}
-pub use Rattle.mm_model.specs.Messages.{values_in, AreMessagesIn}
+pub use Rattle.mm_model.specs.Messages.{offer_messages, values_in, AreMessagesIn}
 pub use Rattle.mm_model.specs.MessagesWords.{move_messages}
 pub use Rattle.mm_model.specs.Moves.{batch_messages, MoveBrings, digests_after_commit, Digests, digests_of, IsAllowed, IsOpening, IsOutside}
-pub use Rattle.mm_model.specs.Moves.{digests_after}
-pub use Rattle.mm_model.specs.Moves.{MayMove}
+pub use Rattle.mm_model.specs.Moves.{digests_after, MayMove}
 pub use Rattle.mm_model.specs.Places.{IsPlaceOf, content_of_issue, issued_place, NamesPosition}
 pub use Rattle.mm_model.specs.PlacesWords.{digest_of}
 pub use Rattle.mm_model.specs.Sound.{batches_in, IsSound}
@@ -61,8 +59,7 @@ pub use Rattle.mm_model.proofs.Above.{opt_is_judged, opt_messages, opt_names, ou
 pub use Rattle.mm_call.specs.AlongLaws.{closes-foreign, closes_first, commit_keeps, EachMove, GoesAlong, opt_closes, walk_along}
 pub use Rattle.mm_call.specs.Answers.{answer_at, answer_on}
 pub use Rattle.mm_call.specs.CallPremises.{counted_moves, counted_part, foreign_move_values, moves_from_reset, IsAsked, IsPlain, IsWithin}
-pub use Rattle.mm_call.specs.CallPremises.{messages_of_moves}
-pub use Rattle.mm_call.specs.CallPremises.{right_messages}
+pub use Rattle.mm_call.specs.CallPremises.{messages_of_moves, right_messages}
 pub use Rattle.mm_call.specs.CallOutcome.{Answers, Breaks, call_outcome, CallOutcome, call_outcome_by, outcome_of_walk, call_ending_by}
 pub use Rattle.mm_call.specs.CallOutcome.{CallEnding, result_of_ending, position_of, state_seen}
 pub use Rattle.mm_call.specs.CallOutcomeWords.{call_outcome_with, position_if_committed}
@@ -93,8 +90,7 @@ pub use Rattle.mm_call.specs.TrailLaws.{leads, shown-append}
 pub use Rattle.mm_call.specs.Trails.{MakesStep, RestFollows, StepIsMade, IsTrail}
 pub use Rattle.mm_call.specs.WalkLaws.{asks, batch, call_commits, steps_of_change, Commits, commits-none, committed-foreign, finished_walk}
 pub use Rattle.mm_call.specs.WalkLaws.{foreign_first, foreign_move_values-append, foreign_move_values-first, foreign_move_values-foreign}
-pub use Rattle.mm_call.specs.WalkLaws.{foreign_made}
-pub use Rattle.mm_call.specs.WalkLaws.{moves_from_reset-foreign, made-append, messages-made, nothing, opt_commits, history_with_values}
-pub use Rattle.mm_call.specs.WalkLaws.{taking_is}
+pub use Rattle.mm_call.specs.WalkLaws.{foreign_made, moves_from_reset-foreign, made-append, messages-made, nothing, opt_commits}
+pub use Rattle.mm_call.specs.WalkLaws.{history_with_values, taking_is}
 pub use Rattle.mm_call.specs.declared.ended.AskResult.{AskResult}
 pub use Rattle.mm_call.specs.declared.ended.AskResult.TheVariants.{Answered, Broken, Refused}

@@ -1,17 +1,14 @@
 -- What a call answers and how it ends, by lists and by digests; and, in Basic, the messages of a history that goes on by the batch.
 use Rattle.mm_call.proofs.Below.{ℕ, ◌≡◌, ◌+◌, ◌-◌, Bool, true, false, List, [], ◌∷◌, ◌++◌, drop, refl, sym, ap, ◌∙◌, subst, arith}
 use Rattle.mm_call.proofs.Below.{if◌then◌else◌, Contains, flat_map-append, append-nil, Basic, start_digest_of, Meaning, state_after}
-use Rattle.mm_call.proofs.Below.{outputs_from}
-use Rattle.mm_call.proofs.Below.{state_from, Batch, members_of, size_of, state_after-append, outputs_from-append, length-outputs_from}
-use Rattle.mm_call.proofs.Below.{Content, sealed_snapshot_of, Place, InBasic, InOpt, link, link_message, trail, Instance, basic_instance}
-use Rattle.mm_call.proofs.Below.{History}
-use Rattle.mm_call.proofs.Below.{requests_of, total_of, AreMessagesIn, history_messages, offer_messages, IsPlaceOf, issued_place}
-use Rattle.mm_call.proofs.Below.{trail_push}
-use Rattle.mm_call.proofs.Below.{summary-push, total-push, answer_at, answer_on, Option, None, Some, Result, Ok, Err, StepFault, Digests}
-use Rattle.mm_call.proofs.Below.{Refusal, list_level, digest_level, state_after_moves, place_after_batch, CallFinding, is_fresh, StepsWalk}
-use Rattle.mm_call.proofs.Below.{has_commit, Answers, Breaks}
-use Rattle.mm_call.proofs.Below.{call_ending_by, position_if_committed, committed_batches, batches-made, more_batches, Commits, nothing}
-use Rattle.mm_call.proofs.Below.{batch, commits-none}
+use Rattle.mm_call.proofs.Below.{outputs_from, state_from, Batch, members_of, size_of, state_after-append, outputs_from-append}
+use Rattle.mm_call.proofs.Below.{length-outputs_from, Content, sealed_snapshot_of, Place, InBasic, InOpt, link, link_message, trail}
+use Rattle.mm_call.proofs.Below.{Instance, basic_instance, History, requests_of, total_of, AreMessagesIn, history_messages, offer_messages}
+use Rattle.mm_call.proofs.Below.{IsPlaceOf, issued_place, trail_push, summary-push, total-push, answer_at, answer_on, Option, None, Some}
+use Rattle.mm_call.proofs.Below.{Result, Ok, Err, StepFault, Digests, Refusal, list_level, digest_level, state_after_moves}
+use Rattle.mm_call.proofs.Below.{place_after_batch, CallFinding, is_fresh, StepsWalk, has_commit, Answers, Breaks, call_ending_by}
+use Rattle.mm_call.proofs.Below.{position_if_committed, committed_batches, batches-made, more_batches, Commits, nothing, batch}
+use Rattle.mm_call.proofs.Below.{commits-none}
 use Rattle.mm_model.specs.Chains.{summary_of}
 use Rattle.std.proofs.lemmas.List.{drop_at}
 use Rattle.mm_call.proofs.Finding.{Placed}

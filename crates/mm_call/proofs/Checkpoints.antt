@@ -1,15 +1,11 @@
 -- A checkpoint is by digests what it is by lists, on every course.
 use Rattle.mm_call.proofs.Below.{ℕ, ◌≡◌, Bool, true, false, List, [], ◌∷◌, map, refl, sym, ap, ◌∙◌, subst, append-nil, Opt, Meaning, Batch}
 use Rattle.mm_call.proofs.Below.{Instance, basic_instance, opt_instance, History, Foreign, Close, life_of, is_lost, is_empty, Digests}
-use Rattle.mm_call.proofs.Below.{DeviceStep, Reads, Writes}
-use Rattle.mm_call.proofs.Below.{checkpoint_steps, list_level, digest_level, state_after_moves, DigestsAgree, End, Done, Fails, StepFate}
-use Rattle.mm_call.proofs.Below.{Course, StepsWalk}
-use Rattle.mm_call.proofs.Below.{walk_from_step, walk, has_close, IsPlain, IsWithin, agrees-made, plain-made, committed_batches}
-use Rattle.mm_call.proofs.Below.{same_batches}
-use Rattle.mm_call.proofs.Below.{committed-foreign, finished_walk}
+use Rattle.mm_call.proofs.Below.{DeviceStep, Reads, Writes, checkpoint_steps, list_level, digest_level, state_after_moves, DigestsAgree}
+use Rattle.mm_call.proofs.Below.{End, Done, Fails, StepFate, Course, StepsWalk, walk_from_step, walk, has_close, IsPlain, IsWithin}
+use Rattle.mm_call.proofs.Below.{agrees-made, plain-made, committed_batches, same_batches, committed-foreign, finished_walk}
 use Rattle.mm_call.specs.Checkpoints.{CheckpointEnding, NoSegment, checkpoint_ending, checkpoint_outcome_by, checkpoint_outcome}
-use Rattle.mm_call.specs.Checkpoints.{IsClosedWithin, IsSameCheckpoint}
-use Rattle.mm_call.specs.Checkpoints.{BasicCheckpointsAgree, OptCheckpointsAgree}
+use Rattle.mm_call.specs.Checkpoints.{IsClosedWithin, IsSameCheckpoint, BasicCheckpointsAgree, OptCheckpointsAgree}
 use Rattle.mm_call.proofs.OptHolding.{Holds, holds_open}
 use Rattle.mm_call.specs.CheckpointsWords.{checkpoint_ending_by}
 use Rattle.mm_call.proofs.Finding.{lost_same, not_lost}

@@ -2,16 +2,13 @@
 -- isn't taken for new with no segment open: it neither reads what the register holds nor empties it.
 use Rattle.mm_call.proofs.Below.{◌≡◌, ℕ, Bool, true, false, List, [], ◌∷◌, ◌++◌, map, Option, None, Some, Result, Ok, Err, refl, sym, ap}
 use Rattle.mm_call.proofs.Below.{◌∙◌, subst, if◌then◌else◌, StepFault, Meaning, Batch, Instance, basic_instance, opt_instance, History}
-use Rattle.mm_call.proofs.Below.{Move, Foreign, Reset}
-use Rattle.mm_call.proofs.Below.{history_after, total_of, digests_of, issued_bytes, ask_steps, BatchAnswer, Refusal, answer_on, list_level}
-use Rattle.mm_call.proofs.Below.{digest_level, state_after_moves, CallFinding, finding_at, finding_unless_wanting, is_fresh, Course}
-use Rattle.mm_call.proofs.Below.{StepsWalk, walk, call_outcome}
-use Rattle.mm_call.proofs.Below.{state_seen, call_ending_by, result_of_ending, moves_from_reset, counted_part, counted_moves}
-use Rattle.mm_call.proofs.Below.{messages_of_moves, IsAsked, AreAsked}
-use Rattle.mm_call.proofs.Below.{HistoryGrows, kept, grown, asked_by, same_batches, more_batches, Commits, nothing, batch, call_commits}
-use Rattle.mm_call.proofs.Below.{foreign_first, ◌⊎◌, inl, inr, option_map, Item, Standing, Value, Digests, AreShown, IsIdle}
-use Rattle.mm_call.proofs.Below.{items_after_moves}
-use Rattle.mm_call.proofs.Below.{standing_items, Level, same_rest, MovesAreTied, shows, Opt}
+use Rattle.mm_call.proofs.Below.{Move, Foreign, Reset, history_after, total_of, digests_of, issued_bytes, ask_steps, BatchAnswer, Refusal}
+use Rattle.mm_call.proofs.Below.{answer_on, list_level, digest_level, state_after_moves, CallFinding, finding_at, finding_unless_wanting}
+use Rattle.mm_call.proofs.Below.{is_fresh, Course, StepsWalk, walk, call_outcome, state_seen, call_ending_by, result_of_ending}
+use Rattle.mm_call.proofs.Below.{moves_from_reset, counted_part, counted_moves, messages_of_moves, IsAsked, AreAsked, HistoryGrows, kept}
+use Rattle.mm_call.proofs.Below.{grown, asked_by, same_batches, more_batches, Commits, nothing, batch, call_commits, foreign_first, ◌⊎◌}
+use Rattle.mm_call.proofs.Below.{inl, inr, option_map, Item, Standing, Value, Digests, AreShown, IsIdle, items_after_moves, standing_items}
+use Rattle.mm_call.proofs.Below.{Level, same_rest, MovesAreTied, shows, Opt}
 use Rattle.mm_call.proofs.BasicLaw.{AreBasic, unlacked, walk_basic, names_made}
 use Rattle.mm_call.proofs.Calling.{again_of, fresh_of, fresh_found}
 use Rattle.mm_call.proofs.Finding.{Asking, placed, right_at}

@@ -1,18 +1,14 @@
 -- The device steps that commit what a call found, one after another: their fates, and what is known of all of them.
 use Rattle.mm_call.proofs.Below.{◌≡◌, ℕ, Bool, true, false, List, [], ◌∷◌, ◌++◌, map, Option, None, Some, Err, refl, sym, ap, ◌∙◌, IsSome}
 use Rattle.mm_call.proofs.Below.{option_map, next_count, StepFault, Plan, Standing, plan_after, Act, StepGoes, is_on_at, is_on_by_plan}
-use Rattle.mm_call.proofs.Below.{Move, Foreign}
-use Rattle.mm_call.proofs.Below.{Refusal, Device, fault_of, has_commit, result_of, end_by_fault, end_of_refusal, StaysOn, IsAt, ◌+◌, suc}
-use Rattle.mm_call.proofs.Below.{length}
-use Rattle.mm_call.proofs.Below.{Result, Ok, subst, arith, ◌==◌, if◌then◌else◌, Instance, Commit, Digests, DeviceStep, Reads, Changes}
-use Rattle.mm_call.proofs.Below.{Writes}
-use Rattle.mm_call.proofs.Below.{BatchAnswer, AskResult, Answered, Refused, Broken, CallKind, committed_position, goes_on, breaks_off}
-use Rattle.mm_call.proofs.Below.{AreStepsToEnd}
-use Rattle.mm_call.proofs.Below.{EndsByFinding, position_if_committed, End, Done, Fails, StepFate, StepsWalk, walk, walk_from_step}
-use Rattle.mm_call.proofs.Below.{step_moves, fate_by_plan, kept_position, is_broken}
+use Rattle.mm_call.proofs.Below.{Move, Foreign, Refusal, Device, fault_of, has_commit, result_of, end_by_fault, end_of_refusal, StaysOn}
+use Rattle.mm_call.proofs.Below.{IsAt, ◌+◌, suc, length, Result, Ok, subst, arith, ◌==◌, if◌then◌else◌, Instance, Commit, Digests}
+use Rattle.mm_call.proofs.Below.{DeviceStep, Reads, Changes, Writes, BatchAnswer, AskResult, Answered, Refused, Broken, CallKind}
+use Rattle.mm_call.proofs.Below.{committed_position, goes_on, breaks_off, AreStepsToEnd, EndsByFinding, position_if_committed, End, Done}
+use Rattle.mm_call.proofs.Below.{Fails, StepFate, StepsWalk, walk, walk_from_step, step_moves, fate_by_plan, kept_position, is_broken}
 use Rattle.mm_call.proofs.Below.{CountsHandedFault, blamed, blamed_later, state_after_moves, digest_level, fault_in, fates_before_plan}
-use Rattle.mm_call.proofs.Below.{AreMet, met_at, then_at, room_at}
-use Rattle.mm_call.proofs.Below.{stepped, trail_on, trail_fails, MakesStep, StepIsMade, RestFollows, IsTrail}
+use Rattle.mm_call.proofs.Below.{AreMet, met_at, then_at, room_at, stepped, trail_on, trail_fails, MakesStep, StepIsMade, RestFollows}
+use Rattle.mm_call.proofs.Below.{IsTrail}
 use Rattle.mm_platform.specs.declared.plan.Stop.{Stop}
 use Rattle.mm_platform.specs.declared.plan.Stop.TheVariants.{Cut}
 use Rattle.std.specs.Prelude.{◌≤◌}

@@ -1,18 +1,13 @@
 -- A call that ended so over a platform is the call on a course, by digests and by lists.
 use Rattle.mm_call.proofs.Below.{◌≡◌, ℕ, ◌+◌, suc, Bool, true, false, List, [], ◌∷◌, map, Option, None, Some, Result, Ok, Err, IfOk, refl}
 use Rattle.mm_call.proofs.Below.{sym, ap, ◌∙◌, subst, arith, Variant, StepFault, Plan, Standing, Act, StepGoes, Meaning, Batch}
-use Rattle.mm_call.proofs.Below.{normal_batch, Content}
-use Rattle.mm_call.proofs.Below.{Instance, Move, Foreign, Digests, DeviceStep, Reads, ask_steps, BatchAnswer, Refusal, Long, Memory}
-use Rattle.mm_call.proofs.Below.{AskResult}
-use Rattle.mm_call.proofs.Below.{Answered, Refused, Broken, Breaks, call_outcome, call_ending_by, result_of_ending, position_of}
-use Rattle.mm_call.proofs.Below.{position_if_committed, CallKind, AreStepsToEnd}
-use Rattle.mm_call.proofs.Below.{EndsByFinding, IsCallToEnd, IsWholeCall, IsCallSoFar, CallGoesBy, IsCallOnCourse, Course, StepFate}
-use Rattle.mm_call.proofs.Below.{StepsWalk, walk, has_commit, result_of}
-use Rattle.mm_call.proofs.Below.{end_by_fault, end_of_refusal, kept_position, KeepsPosition, EndsAsCall, CallFinding, is_fresh, CallsAgree}
-use Rattle.mm_call.proofs.Below.{IsUntouched}
-use Rattle.mm_call.proofs.Below.{LeavesUntouched, CountsHandedFault, fault_handed, state_after_moves, digest_level, fault_of, fault_in}
-use Rattle.mm_call.proofs.Below.{instance_by, StandsAt}
-use Rattle.mm_call.proofs.Below.{fates_before_plan, told_by, begins_at, MakesStep}
+use Rattle.mm_call.proofs.Below.{normal_batch, Content, Instance, Move, Foreign, Digests, DeviceStep, Reads, ask_steps, BatchAnswer}
+use Rattle.mm_call.proofs.Below.{Refusal, Long, Memory, AskResult, Answered, Refused, Broken, Breaks, call_outcome, call_ending_by}
+use Rattle.mm_call.proofs.Below.{result_of_ending, position_of, position_if_committed, CallKind, AreStepsToEnd, EndsByFinding, IsCallToEnd}
+use Rattle.mm_call.proofs.Below.{IsWholeCall, IsCallSoFar, CallGoesBy, IsCallOnCourse, Course, StepFate, StepsWalk, walk, has_commit}
+use Rattle.mm_call.proofs.Below.{result_of, end_by_fault, end_of_refusal, kept_position, KeepsPosition, EndsAsCall, CallFinding, is_fresh}
+use Rattle.mm_call.proofs.Below.{CallsAgree, IsUntouched, LeavesUntouched, CountsHandedFault, fault_handed, state_after_moves, digest_level}
+use Rattle.mm_call.proofs.Below.{fault_of, fault_in, instance_by, StandsAt, fates_before_plan, told_by, begins_at, MakesStep}
 use Rattle.std.specs.Result.{result_err}
 use Rattle.mm_platform.specs.PlannedSteps.{next_plan}
 use Rattle.mm_model.specs.Long.{is_long}

@@ -3,14 +3,11 @@
 use Rattle.mm_call.proofs.Below.{ℕ, ◌≡◌, ◌+◌, Bool, true, false, ◌&&◌, List, [], ◌∷◌, ◌++◌, Option, Result, Ok, Err, refl, sym, ap, ◌∙◌}
 use Rattle.mm_call.proofs.Below.{subst, arith, if◌then◌else◌, nat_eq, nat_le, bytes_eq, last_position, zero_bytes, Meaning, state_after}
 use Rattle.mm_call.proofs.Below.{Batch, size_of, parts_of, Content, Snapshot, tag_of, Instance, basic_instance, History, RegisterEntry}
-use Rattle.mm_call.proofs.Below.{requests_of}
-use Rattle.mm_call.proofs.Below.{total_of, items_of_all, Life, Live, life_of, is_lost, is_last, verdict_by_tests, verdict_on, IsPlaceOf}
-use Rattle.mm_call.proofs.Below.{NamesPosition, AreMessagesIn, IsClear}
-use Rattle.mm_call.proofs.Below.{AreNoGuards, history_messages, offer_messages, values_in, Digests, IsGenuine, IsRight, Refusal, at_the_end}
-use Rattle.mm_call.proofs.Below.{before_the_last, right_content, CallFinding, finding_by_verdict, finding_at, finding_with, list_level}
-use Rattle.mm_call.proofs.Below.{digest_level}
-use Rattle.mm_call.proofs.Below.{DigestsAgree, IsPlain, right_messages, Contains, AllByRecursion, Opt, opt_instance, life_by, is_empty}
-use Rattle.mm_call.proofs.Below.{are_own, has_value}
+use Rattle.mm_call.proofs.Below.{requests_of, total_of, items_of_all, Life, Live, life_of, is_lost, is_last, verdict_by_tests, verdict_on}
+use Rattle.mm_call.proofs.Below.{IsPlaceOf, NamesPosition, AreMessagesIn, IsClear, AreNoGuards, history_messages, offer_messages, values_in}
+use Rattle.mm_call.proofs.Below.{Digests, IsGenuine, IsRight, Refusal, at_the_end, before_the_last, right_content, CallFinding}
+use Rattle.mm_call.proofs.Below.{finding_by_verdict, finding_at, finding_with, list_level, digest_level, DigestsAgree, IsPlain}
+use Rattle.mm_call.proofs.Below.{right_messages, Contains, AllByRecursion, Opt, opt_instance, life_by, is_empty, are_own, has_value}
 use Rattle.mm_call.proofs.Below.{counted_entries, opt_is_judged, lost_is_zero, Place, IsClearFor, live_parts, LiveParts}
 use Rattle.mm_seal.specs.declared.snapshot.PartsFault.{PartsFault}
 use Rattle.mm_seal.specs.declared.snapshot.PartsFault.TheVariants.{Form, Kind}

@@ -1,12 +1,10 @@
 -- What a call comes to by digests, from the trail of its steps; and so by lists, under the law.
 use Rattle.mm_call.proofs.Below.{◌≡◌, ℕ, List, Result, Option, sym, ap, ◌∙◌, StepFault, Standing, Batch, Instance, Move, Digests, ask_steps}
 use Rattle.mm_call.proofs.Below.{BatchAnswer, Refusal, state_after_moves, digest_level, CallFinding, finding_at, finding_unless_wanting}
-use Rattle.mm_call.proofs.Below.{is_fresh, Course}
-use Rattle.mm_call.proofs.Below.{StepsWalk, walk, call_ending_by, call_outcome, state_seen, result_of_ending, StandsAt, CallGoesBy, IsTrail}
-use Rattle.mm_call.proofs.Below.{leads, refl, subst, Variant}
-use Rattle.mm_call.proofs.Below.{Basic, Opt, History, register_value_of, digests_of, RegisterStands, StandsFor, register_reading}
-use Rattle.mm_call.proofs.Below.{list_level}
-use Rattle.mm_call.proofs.Below.{CallOutcome, RegisterStandsAt, IsAsked, CallContinues, CallsAgree}
+use Rattle.mm_call.proofs.Below.{is_fresh, Course, StepsWalk, walk, call_ending_by, call_outcome, state_seen, result_of_ending, StandsAt}
+use Rattle.mm_call.proofs.Below.{CallGoesBy, IsTrail, leads, refl, subst, Variant, Basic, Opt, History, register_value_of, digests_of}
+use Rattle.mm_call.proofs.Below.{RegisterStands, StandsFor, register_reading, list_level, CallOutcome, RegisterStandsAt, IsAsked}
+use Rattle.mm_call.proofs.Below.{CallContinues, CallsAgree}
 use Rattle.mm_call.proofs.OptHolding.{agrees_is, is_agrees}
 
 -- what the call sees at its last reading step

@@ -1,12 +1,10 @@
 -- Opt: histories that differ in the register's items alone, and what a call does to all but these.
 use Rattle.mm_call.proofs.Below.{◌≡◌, ℕ, Bool, true, false, List, [], ◌∷◌, ◌++◌, map, refl, sym, ap, ◌∙◌, subst, inl, inr, Opt, Meaning}
 use Rattle.mm_call.proofs.Below.{Batch, Place, InBasic, InOpt, Content, guard, Instance, opt_instance, RegisterEntry, Value, History, Move}
-use Rattle.mm_call.proofs.Below.{Commit, Foreign}
-use Rattle.mm_call.proofs.Below.{Placed, Reset, Close, history_after, history_after_commit, items_of_all, is_empty, has_value, IsSound}
-use Rattle.mm_call.proofs.Below.{Digests, MayMove, IsAllowed}
-use Rattle.mm_call.proofs.Below.{IsOpening, digests_after, IsPlaceOf, NamesPosition, content_of_issue, issued_place, point_items}
-use Rattle.mm_call.proofs.Below.{list_level, digest_level, state_after_moves}
-use Rattle.mm_call.proofs.Below.{has_close, committed_batches, closes-foreign, commit_keeps, committed-foreign}
+use Rattle.mm_call.proofs.Below.{Commit, Foreign, Placed, Reset, Close, history_after, history_after_commit, items_of_all, is_empty}
+use Rattle.mm_call.proofs.Below.{has_value, IsSound, Digests, MayMove, IsAllowed, IsOpening, digests_after, IsPlaceOf, NamesPosition}
+use Rattle.mm_call.proofs.Below.{content_of_issue, issued_place, point_items, list_level, digest_level, state_after_moves, has_close}
+use Rattle.mm_call.proofs.Below.{committed_batches, closes-foreign, commit_keeps, committed-foreign}
 use Rattle.mm_call.proofs.OptHolding.{bare, bare_digests, reset_may}
 use Rattle.mm_call.proofs.OptWalks.{names_all}
 

@@ -1,17 +1,12 @@
 -- Opt: what holds before each call, and that moves keep it; while no segment is open neither the register nor its items count.
 use Rattle.mm_call.proofs.Below.{ℕ, ◌≡◌, Bool, List, [], ◌∷◌, refl, sym, ap, ◌∙◌, AllByRecursion, Contains, Opt, Meaning, Batch, Instance}
 use Rattle.mm_call.proofs.Below.{opt_instance, History, Move, Foreign, Power, history_after, IsSound, AreMessagesIn, history_messages}
-use Rattle.mm_call.proofs.Below.{move_messages}
-use Rattle.mm_call.proofs.Below.{batch_messages, IsAllowed, MayMove, Digests, digests_of, digests_after, IsOutside, MoveBrings}
-use Rattle.mm_call.proofs.Below.{opt_messages}
-use Rattle.mm_call.proofs.Below.{sound_moved, opt_digests, outside_moved, each_append, DigestsAgree, batches-made, committed_batches, ◌+◌}
-use Rattle.mm_call.proofs.Below.{true, false}
-use Rattle.mm_call.proofs.Below.{◌&&◌, ◌++◌, map, Result, Err, subst, if◌then◌else◌, nat_eq, fold, zero_bytes, extended_digest_of, size_of}
-use Rattle.mm_call.proofs.Below.{RegisterEntry}
-use Rattle.mm_call.proofs.Below.{Reset, items_of_all, total_of, Life, life_by, life_of, is_empty, are_own, has_value, is_lost}
-use Rattle.mm_call.proofs.Below.{verdict_by_tests, is_last}
-use Rattle.mm_call.proofs.Below.{values_in, Refusal, parts_of, sound_items, Level, list_level, digest_level, state_after_moves, CallFinding}
-use Rattle.mm_call.proofs.Below.{finding_by_verdict}
+use Rattle.mm_call.proofs.Below.{move_messages, batch_messages, IsAllowed, MayMove, Digests, digests_of, digests_after, IsOutside}
+use Rattle.mm_call.proofs.Below.{MoveBrings, opt_messages, sound_moved, opt_digests, outside_moved, each_append, DigestsAgree, batches-made}
+use Rattle.mm_call.proofs.Below.{committed_batches, ◌+◌, true, false, ◌&&◌, ◌++◌, map, Result, Err, subst, if◌then◌else◌, nat_eq, fold}
+use Rattle.mm_call.proofs.Below.{zero_bytes, extended_digest_of, size_of, RegisterEntry, Reset, items_of_all, total_of, Life, life_by}
+use Rattle.mm_call.proofs.Below.{life_of, is_empty, are_own, has_value, is_lost, verdict_by_tests, is_last, values_in, Refusal, parts_of}
+use Rattle.mm_call.proofs.Below.{sound_items, Level, list_level, digest_level, state_after_moves, CallFinding, finding_by_verdict}
 use Rattle.mm_call.proofs.Below.{finding_at, counted_part, IsWithin, items_messages}
 use Rattle.mm_model.specs.declared.refusal.Refusal.TheVariants as refusal
 

@@ -1,19 +1,15 @@
 -- Opt: what a call sees, and what counts of it; and so a call is by digests what it is by lists, on every course.
 use Rattle.mm_call.proofs.Below.{ℕ, ◌≡◌, Bool, true, false, List, [], ◌∷◌, ◌++◌, map, Some, Result, Ok, Err, refl, sym, ap, ◌∙◌, subst, inl}
 use Rattle.mm_call.proofs.Below.{inr, not, if◌then◌else◌, AllByRecursion, Contains, fold, Opt, extended_digest_of, StepFault, Meaning}
-use Rattle.mm_call.proofs.Below.{Batch}
-use Rattle.mm_call.proofs.Below.{Instance, opt_instance, History, Move, Foreign, Reset, Value, history_after, DeviceStep, Reads, ask_steps}
-use Rattle.mm_call.proofs.Below.{AreMessagesIn, move_messages}
-use Rattle.mm_call.proofs.Below.{messages_for_move, Digests, issued_place, IsSound, IsGenuine, Refusal, each_left, each_right, opt_names}
-use Rattle.mm_call.proofs.Below.{sound_moved, fresh_lists, list_level, digest_level, state_after_moves, DigestsAgree, CallFinding}
-use Rattle.mm_call.proofs.Below.{finding_at, finding_unless_wanting}
-use Rattle.mm_call.proofs.Below.{is_fresh, Done, StepFate, Course, StepsWalk, walk, CallEnding, call_ending_by, call_outcome_by}
-use Rattle.mm_call.proofs.Below.{call_outcome, outcome_of_walk, counted_part}
-use Rattle.mm_call.proofs.Below.{counted_moves, moves_from_reset, messages_of_moves, foreign_move_values, IsWithin, AreAsked, IsAsked}
-use Rattle.mm_call.proofs.Below.{IsSame, IsSameCall}
-use Rattle.mm_call.proofs.Below.{OptCallsAgree, committed_batches, opt_commits, committed-foreign, commits-none, steps_of_change, asks}
-use Rattle.mm_call.proofs.Below.{history_with_values}
-use Rattle.mm_call.proofs.Below.{taking_is, foreign_made, made-append, foreign_move_values-foreign, moves_from_reset-foreign, messages-made}
+use Rattle.mm_call.proofs.Below.{Batch, Instance, opt_instance, History, Move, Foreign, Reset, Value, history_after, DeviceStep, Reads}
+use Rattle.mm_call.proofs.Below.{ask_steps, AreMessagesIn, move_messages, messages_for_move, Digests, issued_place, IsSound, IsGenuine}
+use Rattle.mm_call.proofs.Below.{Refusal, each_left, each_right, opt_names, sound_moved, fresh_lists, list_level, digest_level}
+use Rattle.mm_call.proofs.Below.{state_after_moves, DigestsAgree, CallFinding, finding_at, finding_unless_wanting, is_fresh, Done, StepFate}
+use Rattle.mm_call.proofs.Below.{Course, StepsWalk, walk, CallEnding, call_ending_by, call_outcome_by, call_outcome, outcome_of_walk}
+use Rattle.mm_call.proofs.Below.{counted_part, counted_moves, moves_from_reset, messages_of_moves, foreign_move_values, IsWithin, AreAsked}
+use Rattle.mm_call.proofs.Below.{IsAsked, IsSame, IsSameCall, OptCallsAgree, committed_batches, opt_commits, committed-foreign}
+use Rattle.mm_call.proofs.Below.{commits-none, steps_of_change, asks, history_with_values, taking_is, foreign_made, made-append}
+use Rattle.mm_call.proofs.Below.{foreign_move_values-foreign, moves_from_reset-foreign, messages-made}
 use Rattle.mm_call.proofs.Finding.{Asking, Placed, placed, clear_for, IsApart, IsLive, lives, found_same}
 use Rattle.mm_call.proofs.OptHolding.{Holds, foreign_may, bare, bare_digests, found_lists, found_digests, foreign_digests, foreign_agrees}
 use Rattle.mm_call.proofs.OptHolding.{holds_open, holds_shut, within_items, within_of, reset_may}

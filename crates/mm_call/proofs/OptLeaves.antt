@@ -2,15 +2,11 @@
 use Rattle.mm_call.proofs.Below.{◌≡◌, ℕ, Bool, true, false, List, [], ◌∷◌, ◌++◌, map, None, Some, Result, Ok, refl, sym, ap, ◌∙◌, subst}
 use Rattle.mm_call.proofs.Below.{append_assoc, option_map, Opt, extended_message, Item, Standing, item_values, Meaning, Batch, One}
 use Rattle.mm_call.proofs.Below.{Instance, opt_instance, RegisterEntry, History, Move, Foreign, items_of_all, register_value_of, has_value}
-use Rattle.mm_call.proofs.Below.{Digests, digests_of}
-use Rattle.mm_call.proofs.Below.{StandsFor, Reads, ask_steps, BatchAnswer, Refusal, list_level, digest_level, state_after_moves}
-use Rattle.mm_call.proofs.Below.{CallFinding, finding_at}
-use Rattle.mm_call.proofs.Below.{finding_unless_wanting, is_fresh, Course, StepsWalk, walk, has_close, call_outcome, state_seen}
-use Rattle.mm_call.proofs.Below.{result_of_ending, IsCallOnCourse}
-use Rattle.mm_call.proofs.Below.{StandsAt, items_after_moves, counted_part, counted_moves, IsWithin, IsAsked, AreAsked, AreShown}
-use Rattle.mm_call.proofs.Below.{standing_items}
-use Rattle.mm_call.proofs.Below.{committed_batches, asked_by, same_rest, MovesCount, counts_open, nothing, batch, steps_of_change, asks}
-use Rattle.mm_call.proofs.Below.{opt_commits}
+use Rattle.mm_call.proofs.Below.{Digests, digests_of, StandsFor, Reads, ask_steps, BatchAnswer, Refusal, list_level, digest_level}
+use Rattle.mm_call.proofs.Below.{state_after_moves, CallFinding, finding_at, finding_unless_wanting, is_fresh, Course, StepsWalk, walk}
+use Rattle.mm_call.proofs.Below.{has_close, call_outcome, state_seen, result_of_ending, IsCallOnCourse, StandsAt, items_after_moves}
+use Rattle.mm_call.proofs.Below.{counted_part, counted_moves, IsWithin, IsAsked, AreAsked, AreShown, standing_items, committed_batches}
+use Rattle.mm_call.proofs.Below.{asked_by, same_rest, MovesCount, counts_open, nothing, batch, steps_of_change, asks, opt_commits}
 use Rattle.mm_call.proofs.Below.{history_with_values, committed-foreign, opt_closes, closes_first, closes-foreign, HistoryGrows, kept}
 use Rattle.mm_call.proofs.Below.{CallGoesBy}
 use Rattle.mm_call.proofs.Going.{stands_at}

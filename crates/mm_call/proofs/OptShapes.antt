@@ -3,17 +3,14 @@
 use Rattle.mm_call.proofs.Below.{ℕ, ◌≡◌, Bool, true, false, List, [], ◌∷◌, ◌++◌, map, Some, refl, sym, ap, ◌∙◌, append_assoc, ◌⊎◌, inl, inr}
 use Rattle.mm_call.proofs.Below.{append-nil, map-append, StepFault, Batch, Move, Commit, Foreign, Placed, Reset, DeviceStep, Reads, Changes}
 use Rattle.mm_call.proofs.Below.{History, counted_moves, moves_from_reset, moves_from_reset-foreign, Writes, End, Done, Fails, StepFate}
-use Rattle.mm_call.proofs.Below.{StepsWalk, walk_from_step}
-use Rattle.mm_call.proofs.Below.{walk, finished_walk, steps_of_change, if◌then◌else◌, Opt, extended_message, Item, own_item, foreign_item}
-use Rattle.mm_call.proofs.Below.{item_values}
-use Rattle.mm_call.proofs.Below.{Meaning, digest_after, trail, guard, Instance, opt_instance, RegisterEntry, Own, Value, history_after}
-use Rattle.mm_call.proofs.Below.{history_after_commit, register_value_of}
-use Rattle.mm_call.proofs.Below.{entry_values, messages_for_move, move_messages, Digests, digests_after, digests_after_commit, trail-append}
-use Rattle.mm_call.proofs.Below.{values_renamed}
-use Rattle.mm_call.proofs.Below.{digest_level, finding_at, finding_unless_wanting, is_fresh, state_seen, items_after_moves}
-use Rattle.mm_call.proofs.Below.{items_after_move, messages_of_moves, foreign_move_values}
-use Rattle.mm_call.proofs.Below.{foreign_items, MovesAreTied, shows, OptMovesAreTied, shown-append, foreign_move_values-append, asks}
-use Rattle.mm_call.proofs.Below.{each_self, with_last_batch, history_with_values}
+use Rattle.mm_call.proofs.Below.{StepsWalk, walk_from_step, walk, finished_walk, steps_of_change, if◌then◌else◌, Opt, extended_message}
+use Rattle.mm_call.proofs.Below.{Item, own_item, foreign_item, item_values, Meaning, digest_after, trail, guard, Instance, opt_instance}
+use Rattle.mm_call.proofs.Below.{RegisterEntry, Own, Value, history_after, history_after_commit, register_value_of, entry_values}
+use Rattle.mm_call.proofs.Below.{messages_for_move, move_messages, Digests, digests_after, digests_after_commit, trail-append}
+use Rattle.mm_call.proofs.Below.{values_renamed, digest_level, finding_at, finding_unless_wanting, is_fresh, state_seen, items_after_moves}
+use Rattle.mm_call.proofs.Below.{items_after_move, messages_of_moves, foreign_move_values, foreign_items, MovesAreTied, shows}
+use Rattle.mm_call.proofs.Below.{OptMovesAreTied, shown-append, foreign_move_values-append, asks, each_self, with_last_batch}
+use Rattle.mm_call.proofs.Below.{history_with_values}
 use Rattle.mm_model.specs.Chains.{register_of}
 use Rattle.mm_call.specs.ShownItems.{nothing}
 use Rattle.mm_call.proofs.OptHolding.{bare, bare_digests}

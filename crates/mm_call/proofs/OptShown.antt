@@ -2,15 +2,11 @@
 use Rattle.mm_call.proofs.Below.{◌≡◌, ℕ, Bool, true, false, List, [], ◌∷◌, ◌++◌, map, Option, Some, refl, sym, ap, ◌∙◌, subst}
 use Rattle.mm_call.proofs.Below.{if◌then◌else◌, AllByRecursion, Contains, option_map, map-append, Opt, extended_message, Item, Standing}
 use Rattle.mm_call.proofs.Below.{item_values, Meaning, Batch, digest_after, trail, Instance, opt_instance, Value, History, Move, Commit}
-use Rattle.mm_call.proofs.Below.{Foreign, Reset}
-use Rattle.mm_call.proofs.Below.{Close, first_history, register_value_of, entry_values, AreMessagesIn, Digests, digests_after}
-use Rattle.mm_call.proofs.Below.{digests_after_commit, digests_of}
-use Rattle.mm_call.proofs.Below.{StandsFor, trail-append, register_folds, reads_zero, each_left, each_right, digest_level}
-use Rattle.mm_call.proofs.Below.{state_after_moves, StepFate}
-use Rattle.mm_call.proofs.Below.{Course, has_close, call_outcome, cell_at, StandsAt, items_after_moves, moves_from_reset, counted_part}
-use Rattle.mm_call.proofs.Below.{counted_moves, AreShown}
-use Rattle.mm_call.proofs.Below.{foreign_items, standing_items, MovesAreTied, shows, committed_batches, MovesCount, history_with_values}
-use Rattle.mm_call.proofs.Below.{committed-foreign}
+use Rattle.mm_call.proofs.Below.{Foreign, Reset, Close, first_history, register_value_of, entry_values, AreMessagesIn, Digests}
+use Rattle.mm_call.proofs.Below.{digests_after, digests_after_commit, digests_of, StandsFor, trail-append, register_folds, reads_zero}
+use Rattle.mm_call.proofs.Below.{each_left, each_right, digest_level, state_after_moves, StepFate, Course, has_close, call_outcome, cell_at}
+use Rattle.mm_call.proofs.Below.{StandsAt, items_after_moves, moves_from_reset, counted_part, counted_moves, AreShown, foreign_items}
+use Rattle.mm_call.proofs.Below.{standing_items, MovesAreTied, shows, committed_batches, MovesCount, history_with_values, committed-foreign}
 use Rattle.mm_call.proofs.Below.{moves_from_reset-foreign, zero_bytes, after-append, counts_open}
 use Rattle.mm_model.specs.Chains.{register_of}
 use Rattle.mm_seal.specs.Cell.{IsCell, cell_spelling}

@@ -1,23 +1,17 @@
 -- Opt: the moves of a walk may be made, where its steps are ready, as those of a call are; and the history at its end.
 use Rattle.mm_call.proofs.Below.{ℕ, ◌≡◌, ◌+◌, Bool, true, false, List, [], ◌∷◌, ◌++◌, map, None, refl, ap, ◌∙◌, subst, AllByRecursion}
 use Rattle.mm_call.proofs.Below.{Contains, Opt, Meaning, Batch, Instance, opt_instance, History, Move, Foreign, history_after}
-use Rattle.mm_call.proofs.Below.{AreMessagesIn, move_messages}
-use Rattle.mm_call.proofs.Below.{Digests, digests_after, DeviceStep, Reads, Changes, Writes, ask_steps, checkpoint_steps, each_left}
-use Rattle.mm_call.proofs.Below.{each_right, list_level}
-use Rattle.mm_call.proofs.Below.{digest_level, state_after_moves, End, Done, Fails, StepFate, StepsWalk, walk_from_step, walk}
-use Rattle.mm_call.proofs.Below.{messages_of_moves, foreign_move_values, history_with_values}
+use Rattle.mm_call.proofs.Below.{AreMessagesIn, move_messages, Digests, digests_after, DeviceStep, Reads, Changes, Writes, ask_steps}
+use Rattle.mm_call.proofs.Below.{checkpoint_steps, each_left, each_right, list_level, digest_level, state_after_moves, End, Done, Fails}
+use Rattle.mm_call.proofs.Below.{StepFate, StepsWalk, walk_from_step, walk, messages_of_moves, foreign_move_values, history_with_values}
 use Rattle.mm_call.proofs.Below.{taking_is, foreign_made, foreign_move_values-first, foreign_move_values-append}
-use Rattle.mm_call.proofs.Below.{foreign_move_values-foreign, append-nil, made-append}
-use Rattle.mm_call.proofs.Below.{step_moves, EachMove, steps_of_change, asks, sym, guard, RegisterEntry, Own, Value, Commit, PlacedMove}
-use Rattle.mm_call.proofs.Below.{Reset, Close}
-use Rattle.mm_call.proofs.Below.{with_last_batch, items_of_all, is_empty, has_value, batches_in, IsOpening, IsAllowed, values_in}
-use Rattle.mm_call.proofs.Below.{renamed-push}
-use Rattle.mm_call.proofs.Below.{batch_messages, not, zero_bytes, extended_digest_of, register_of, own_values, are_own, issued_place}
-use Rattle.mm_call.proofs.Below.{register-push, own_values-append, values_of-own, reads_zero, DigestsAgree, place_after_batch, arith}
-use Rattle.mm_call.proofs.Below.{extended_message}
+use Rattle.mm_call.proofs.Below.{foreign_move_values-foreign, append-nil, made-append, step_moves, EachMove, steps_of_change, asks, sym}
+use Rattle.mm_call.proofs.Below.{guard, RegisterEntry, Own, Value, Commit, PlacedMove, Reset, Close, with_last_batch, items_of_all}
+use Rattle.mm_call.proofs.Below.{is_empty, has_value, batches_in, IsOpening, IsAllowed, values_in, renamed-push, batch_messages, not}
+use Rattle.mm_call.proofs.Below.{zero_bytes, extended_digest_of, register_of, own_values, are_own, issued_place, register-push}
+use Rattle.mm_call.proofs.Below.{own_values-append, values_of-own, reads_zero, DigestsAgree, place_after_batch, arith, extended_message}
 use Rattle.mm_call.proofs.Below.{guard_message, MayMove, each_self, Course, finding_at, finding_unless_wanting, is_fresh, Result}
-use Rattle.mm_call.proofs.Below.{CallFinding}
-use Rattle.mm_call.proofs.Below.{Refusal, IsSound, NamesPosition, Content, sound_moved, opt_names}
+use Rattle.mm_call.proofs.Below.{CallFinding, Refusal, IsSound, NamesPosition, Content, sound_moved, opt_names}
 use Rattle.mm_call.proofs.OptHolding.{Holds, IsFine, holds_moved, foreign_fine, reset_may}
 use Rattle.mm_call.proofs.Finding.{IsLive, live_found}
 use Rattle.mm_call.proofs.BasicLaw.{unlacked}

@@ -1,8 +1,7 @@
 -- What a whole call leaves that the machine makes: where it is refused nothing has changed, and its faults are counted.
-use Rattle.mm_call.proofs.Below.{◌≡◌, ℕ, ◌++◌, Bool, true, false, List, None, Result, Ok, Err, refl, sym, ap, ◌∙◌, subst, arith}
-use Rattle.mm_call.proofs.Below.{Standing, StepGoes, Meaning, Batch, Variant, BatchAnswer, Refusal, Long, AskResult, IsCallToEnd, CallKind}
-use Rattle.mm_call.proofs.Below.{IsWholeCall}
-use Rattle.mm_call.proofs.Below.{fault_of, fault_in, IsUntouched, LeavesUntouched, CountsHandedFault}
+use Rattle.mm_call.proofs.Below.{◌≡◌, ℕ, ◌++◌, Bool, true, false, List, None, Result, Ok, Err, refl, sym, ap, ◌∙◌, subst, arith, Standing}
+use Rattle.mm_call.proofs.Below.{StepGoes, Meaning, Batch, Variant, BatchAnswer, Refusal, Long, AskResult, IsCallToEnd, CallKind}
+use Rattle.mm_call.proofs.Below.{IsWholeCall, fault_of, fault_in, IsUntouched, LeavesUntouched, CountsHandedFault}
 use Rattle.mm_platform.specs.CallLaws.{beside-beside}
 use Rattle.mm_platform.specs.Steps.{ReadCell, ReadRegister, items_beside}
 use Rattle.mm_seal.specs.declared.cell.Cell.{Cell}

@@ -1,8 +1,7 @@
 -- What holds of each move of a walk holds of all of them: so a call closes no segment, and a checkpoint commits nothing.
 use Rattle.std.proofs.Common.{◌+◌, map, refl, ap, ◌∙◌, ℕ, ◌≡◌, Bool, true, false, List, [], ◌∷◌, ◌++◌}
 use Rattle.mm_call.specs.Below.{Variant, Basic, Opt, Batch, History, Move, Commit, Foreign, Close, history_after, history_after_commit}
-use Rattle.mm_call.specs.Below.{Instance, DeviceStep, Reads}
-use Rattle.mm_call.specs.Below.{Changes, Writes, checkpoint_steps}
+use Rattle.mm_call.specs.Below.{Instance, DeviceStep, Reads, Changes, Writes, checkpoint_steps}
 use Rattle.mm_call.specs.Levels.{list_level, state_after_moves}
 use Rattle.mm_call.specs.CallOutcome.{reading_steps}
 use Rattle.mm_call.specs.Courses.{End, Done, Fails, StepFate, StepsWalk, step_moves, walk_from_step, walk, has_close}

@@ -20,9 +20,8 @@ pub use Rattle.mm_platform.specs.Standing.{Item, Plan, Standing, foreign_item, i
 pub use Rattle.mm_platform.specs.StandingWords.{due_values}
 pub use Rattle.mm_platform.specs.StepLaws.{known_plan}
 pub use Rattle.mm_platform.specs.Steps.{Act, DeviceStepEnds, ExtendRegister, StepGoes, ReadCell, ReadRegister, ResetRegister, WriteCell}
-pub use Rattle.mm_platform.specs.Steps.{items_beside}
-pub use Rattle.mm_platform.specs.Steps.{cell_after, fault_at, is_made_at, items_after, fault_by_plan, is_made_by_plan, values_by_plan}
-pub use Rattle.mm_platform.specs.Steps.{writes_after}
+pub use Rattle.mm_platform.specs.Steps.{items_beside, cell_after, fault_at, is_made_at, items_after, fault_by_plan, is_made_by_plan}
+pub use Rattle.mm_platform.specs.Steps.{values_by_plan, writes_after}
 pub use Rattle.mm_platform.specs.PlannedSteps.{next_plan}
 pub use Rattle.mm_platform.specs.declared.fault.StepFault.{StepFault}
 pub use Rattle.mm_platform.specs.declared.fault.StepFault.TheVariants.{Failed}
@@ -36,8 +35,7 @@ pub use Rattle.mm_model.proofs.Above.{basic_digests}
 pub use Rattle.mm_model.specs.ChainLaws.{length-anchor_of, length-register_of, length-summary_of}
 pub use Rattle.mm_model.specs.Chains.{guard, link, trail}
 pub use Rattle.mm_model.specs.History.{Close, Commit, Foreign, History, Move, Placed, Power, Reset, Value, history_after_commit}
-pub use Rattle.mm_model.specs.History.{history_after}
-pub use Rattle.mm_model.specs.History.{register_value_of, requests_of, total_of}
+pub use Rattle.mm_model.specs.History.{history_after, register_value_of, requests_of, total_of}
 pub use Rattle.mm_model.specs.HistoryWords.{cell_digest_of}
 pub use Rattle.mm_model.specs.Instance.{Instance}
 pub use Rattle.mm_model.specs.InstanceWords.{basic_instance, opt_instance}

@@ -2,8 +2,7 @@
 use Rattle.std.specs.Prelude.{◌≡◌, ℕ, List, Result}
 use Rattle.std.specs.Option.{option_map}
 use Rattle.mm_call.specs.Below.{Variant, Standing, Batch, normal_batch, Meaning, History, Instance, Digests, digests_of, StandsFor}
-use Rattle.mm_call.specs.Below.{BatchAnswer}
-use Rattle.mm_call.specs.Below.{Refusal}
+use Rattle.mm_call.specs.Below.{BatchAnswer, Refusal}
 use Rattle.mm_call.specs.Levels.{list_level, digest_level}
 use Rattle.mm_call.specs.Courses.{Course, AreTold}
 use Rattle.mm_call.specs.CallOutcome.{CallOutcome, call_outcome, result_of_ending}

@@ -3,8 +3,7 @@ use Rattle.std.specs.Prelude.{ℕ, true, false, List, [], ◌∷◌, Option, Non
 use Rattle.std.specs.Option.{option_map_or}
 use Rattle.std.specs.Result.{result_ok, result_and}
 use Rattle.mm_call.specs.Below.{Variant, Basic, Opt, StepFault, Batch, Move, Instance, DeviceStep, Reads, ask_steps, BatchAnswer, Refusal}
-use Rattle.mm_call.specs.Below.{Device}
-use Rattle.mm_call.specs.Below.{Memory}
+use Rattle.mm_call.specs.Below.{Device, Memory}
 use Rattle.mm_call.specs.Levels.{Level}
 use Rattle.mm_call.specs.CallFinding.{CallFinding, finding_at}
 use Rattle.mm_call.specs.Courses.{Course, StepsWalk, walk, moves_seen, has_commit}

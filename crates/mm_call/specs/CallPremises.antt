@@ -4,8 +4,7 @@ use Rattle.std.specs.Prelude.{◌≡◌, ℕ, Bool, true, false, List, [], ◌�
 use Rattle.std.specs.List.{AllByRecursion, Contains}
 use Rattle.std.specs.Option.{option_map_or}
 use Rattle.mm_call.specs.Below.{Variant, Basic, Opt, Content, Batch, History, Move, Foreign, Reset, history_after, Instance, AreMessagesIn}
-use Rattle.mm_call.specs.Below.{IsClear}
-use Rattle.mm_call.specs.Below.{AreNoGuards, history_messages, messages_for_move, offer_messages, IsOutside, IsSound, IsGenuine}
+use Rattle.mm_call.specs.Below.{IsClear, AreNoGuards, history_messages, messages_for_move, offer_messages, IsOutside, IsSound, IsGenuine}
 use Rattle.mm_call.specs.CallFinding.{right_content}
 
 -- a history of Basic, which has no segments

@@ -3,8 +3,7 @@ use Rattle.std.specs.Prelude.{ℕ, Bool, true, false, List}
 use Rattle.std.specs.List.{AllByRecursion, Contains}
 use Rattle.std.specs.Option.{option_map_or}
 use Rattle.mm_call.specs.Below.{Variant, Basic, Opt, StepFault, Batch, Meaning, History, Move, Instance, basic_instance, opt_instance}
-use Rattle.mm_call.specs.Below.{AreMessagesIn, IsClear}
-use Rattle.mm_call.specs.Below.{Digests, checkpoint_steps}
+use Rattle.mm_call.specs.Below.{AreMessagesIn, IsClear, Digests, checkpoint_steps}
 use Rattle.mm_call.specs.Levels.{Level, list_level, digest_level, DigestsAgree}
 use Rattle.mm_call.specs.Courses.{Course, StepsWalk, walk, has_close}
 use Rattle.mm_call.specs.CallOutcome.{WalkOutcome, outcome_of_walk, state_seen}

@@ -4,8 +4,7 @@ use Rattle.mm_base.specs.Limits.{last_position}
 use Rattle.mm_model.specs.Messages.{IsClearFor}
 use Rattle.mm_model.specs.Places.{NamesPosition}
 use Rattle.mm_call.specs.Below.{Variant, Basic, Opt, Content, Item, Standing, Batch, size_of, normal_batch, Meaning, History}
-use Rattle.mm_call.specs.Below.{basic_instance, opt_instance, verdict_on}
-use Rattle.mm_call.specs.Below.{is_long, StandsFor, IsRight, BatchAnswer, Refusal, Again}
+use Rattle.mm_call.specs.Below.{basic_instance, opt_instance, verdict_on, is_long, StandsFor, IsRight, BatchAnswer, Refusal, Again}
 use Rattle.mm_call.specs.Untouched.{IsAccepted, IsAnswered}
 use Rattle.mm_call.specs.Premises.{AreAsked, AreShown}
 use Rattle.mm_call.specs.ShownItems.{foreign_items, standing_items}

@@ -2,10 +2,8 @@
 use Rattle.std.specs.Prelude.{◌≡◌, ℕ, Bool, true, false, ◌&&◌, List, if◌then◌else◌}
 use Rattle.std.specs.Str.{bytes_eq}
 use Rattle.mm_call.specs.Below.{zero_bytes, extended_digest_of, Variant, Basic, Opt, Content, Place, InBasic, InOpt, Batch, link, guard}
-use Rattle.mm_call.specs.Below.{History}
-use Rattle.mm_call.specs.Below.{Move, history_after, total_of, register_value_of, cell_digest_of, Instance, verdict_on, verdict_by_digests}
-use Rattle.mm_call.specs.Below.{life_of}
-use Rattle.mm_call.specs.Below.{is_lost, Digests, digests_after, digest_of, flag_of, BatchAnswer, Verdict}
+use Rattle.mm_call.specs.Below.{History, Move, history_after, total_of, register_value_of, cell_digest_of, Instance, verdict_on}
+use Rattle.mm_call.specs.Below.{verdict_by_digests, life_of, is_lost, Digests, digests_after, digest_of, flag_of, BatchAnswer, Verdict}
 use Rattle.std.specs.List.{fold}
 use Rattle.mm_call.specs.Answers.{answer_at, answer_on}
 

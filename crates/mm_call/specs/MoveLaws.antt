@@ -3,8 +3,8 @@ use Rattle.std.proofs.Common.{refl, subst, sym, ap, ◌∙◌, append_assoc, ℕ
 use Rattle.std.proofs.lemmas.List.{append-nil}
 use Rattle.std.specs.List.{AllByRecursion}
 use Rattle.mm_call.specs.Below.{start_digest_of, Variant, Basic, Opt, Batch, Meaning, basic_digests, History, Move, Commit, Foreign, Close}
-use Rattle.mm_call.specs.Below.{Power}
-use Rattle.mm_call.specs.Below.{history_after_commit, history_after, Instance, basic_instance, Digests, digests_of, digests_after, MayMove}
+use Rattle.mm_call.specs.Below.{Power, history_after_commit, history_after, Instance, basic_instance, Digests, digests_of, digests_after}
+use Rattle.mm_call.specs.Below.{MayMove}
 use Rattle.mm_model.specs.Chains.{anchor_of, summary_of}
 use Rattle.mm_call.specs.CallPremises.{IsPlain}
 use Rattle.mm_call.specs.Levels.{list_level, digest_level, state_after_moves, DigestsAgree}

@@ -7,8 +7,7 @@ use Rattle.std.specs.Str.{bytes_eq}
 use Rattle.mm_call.specs.Below.{last_position, length-zero_bytes, Opt, parts_of, spells_read, sealed_once, Content, Snapshot, IsContent}
 use Rattle.mm_call.specs.Below.{IsPlace, snapshot_front, tag_of, PartsFault, Batch, Meaning, IsLawful, state_after, state_after-is_spelled}
 use Rattle.mm_call.specs.Below.{length-anchor_of, length-register_of, length-summary_of, History, requests_of, total_of, Instance}
-use Rattle.mm_call.specs.Below.{basic_instance}
-use Rattle.mm_call.specs.Below.{opt_instance, AreMessagesIn, content_of_issue, issued_place, IsRight, issued_bytes}
+use Rattle.mm_call.specs.Below.{basic_instance, opt_instance, AreMessagesIn, content_of_issue, issued_place, IsRight, issued_bytes}
 use Rattle.mm_seal.specs.Snapshot.{sealed_snapshot_of}
 use Rattle.mm_call.specs.CallPremises.{right_messages}
 use Rattle.mm_call.specs.CallFindingWords.{content_if_right}

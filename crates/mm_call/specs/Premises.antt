@@ -3,8 +3,7 @@
 use Rattle.std.specs.Prelude.{◌≡◌, ℕ, false, List}
 use Rattle.std.specs.List.{AllByRecursion, Contains}
 use Rattle.mm_call.specs.Below.{extended_message, Item, item_values, Batch, trail, History, register_value_of, Instance, AreMessagesIn}
-use Rattle.mm_call.specs.Below.{IsClear}
-use Rattle.mm_call.specs.Below.{AreNoGuards, IsGenuine}
+use Rattle.mm_call.specs.Below.{IsClear, AreNoGuards, IsGenuine}
 use Rattle.mm_call.specs.CallPremises.{counted_part, right_messages, IsWithin}
 use Rattle.mm_call.specs.CallFinding.{right_content, finding_at}
 use Rattle.mm_call.specs.CallFindingWords.{is_fresh}

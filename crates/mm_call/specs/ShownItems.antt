@@ -1,8 +1,7 @@
 -- What counts of the moves of a call of Opt is what the register shows of them.
 use Rattle.std.specs.Prelude.{◌≡◌, ℕ, Bool, true, false, List, [], ◌∷◌, ◌++◌, if◌then◌else◌}
 use Rattle.mm_call.specs.Below.{extended_message, Item, item_values, Batch, Meaning, trail, History, Move, register_value_of, Instance}
-use Rattle.mm_call.specs.Below.{opt_instance}
-use Rattle.mm_call.specs.Below.{Digests}
+use Rattle.mm_call.specs.Below.{opt_instance, Digests}
 use Rattle.mm_call.specs.Levels.{digest_level}
 use Rattle.mm_call.specs.Courses.{Course}
 use Rattle.mm_call.specs.CallOutcome.{call_outcome}

@@ -2,8 +2,7 @@
 use Rattle.std.specs.Prelude.{◌≡◌, ℕ, zero, suc, Bool, true, List, [], ◌∷◌, ◌++◌, Option, Some}
 use Rattle.mm_call.specs.Below.{next_count, zero_bytes, Variant, Basic, Opt, IsCell, cell_spelling, Cell, Item, own_item, foreign_item}
 use Rattle.mm_call.specs.Below.{Standing, Meaning, guard, Move, Commit, Foreign, Placed, Reset, Power, Instance, Digests, digests_after}
-use Rattle.mm_call.specs.Below.{digest_of}
-use Rattle.mm_call.specs.Below.{register_reading}
+use Rattle.mm_call.specs.Below.{digest_of, register_reading}
 
 -- the instance of a variant; Basic has no barrier, and ignores it
 abbrev pub instance_by : Variant → Meaning → (key barrier : List ℕ) → Instance

@@ -5,8 +5,7 @@ use Rattle.std.proofs.Common.{◌+◌, refl, sym, ap, ◌∙◌, arith, ◌≡�
 use Rattle.std.proofs.lemmas.Bool.Decides.{nat_tests}
 use Rattle.std.specs.Option.{option_map}
 use Rattle.mm_call.specs.Below.{next_count, Plan, Standing, plan_after, due_values, known_plan, Act, StepGoes, fault_by_plan}
-use Rattle.mm_call.specs.Below.{is_made_by_plan, values_by_plan}
-use Rattle.mm_call.specs.Below.{fault_at, is_made_at, next_plan, StepFault, Instance, Digests, DeviceStep}
+use Rattle.mm_call.specs.Below.{is_made_by_plan, values_by_plan, fault_at, is_made_at, next_plan, StepFault, Instance, Digests, DeviceStep}
 use Rattle.mm_call.specs.Levels.{state_after_moves, digest_level}
 use Rattle.mm_call.specs.Courses.{StepFate, step_moves, fate_by_plan, AreTold}
 use Rattle.mm_call.specs.CoursesWords.{end_of}

@@ -6,11 +6,9 @@ use Rattle.std.proofs.lemmas.List.{append-nil, map-append}
 use Rattle.std.proofs.lemmas.List.Sums.{fold-append}
 use Rattle.std.specs.Option.{option_map}
 use Rattle.mm_call.specs.Below.{next_count, zero_bytes, extended_digest_of, Variant, Basic, Opt, IsCell, cell_spelling, Cell, Item}
-use Rattle.mm_call.specs.Below.{Standing}
-use Rattle.mm_call.specs.Below.{own_item, foreign_item, item_values, register_after, Act, ReadCell, WriteCell, ReadRegister, ResetRegister}
-use Rattle.mm_call.specs.Below.{ExtendRegister, items_beside, cell_after, items_after, writes_after, StepFault, Move, Foreign, Instance}
-use Rattle.mm_call.specs.Below.{Digests}
-use Rattle.mm_call.specs.Below.{digests_after, DeviceStep, Reads, Changes, Writes}
+use Rattle.mm_call.specs.Below.{Standing, own_item, foreign_item, item_values, register_after, Act, ReadCell, WriteCell, ReadRegister}
+use Rattle.mm_call.specs.Below.{ResetRegister, ExtendRegister, items_beside, cell_after, items_after, writes_after, StepFault, Move}
+use Rattle.mm_call.specs.Below.{Foreign, Instance, Digests, digests_after, DeviceStep, Reads, Changes, Writes}
 use Rattle.std.specs.List.{fold}
 use Rattle.mm_call.specs.Levels.{state_after_moves, digest_level}
 use Rattle.mm_call.specs.Courses.{StepFate, StepsWalk, walk, walk_from_step, step_moves, writes_with_step}

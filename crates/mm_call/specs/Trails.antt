@@ -3,8 +3,7 @@ use Rattle.std.specs.Prelude.{◌≡◌, ℕ, true, List, [], ◌∷◌, ◌++�
 use Rattle.std.specs.Option.{option_map}
 use Rattle.mm_call.specs.Below.{zero_bytes, extended_digest_of, IsCell, cell_spelling, Item, own_item, Standing, Act, ReadCell, WriteCell}
 use Rattle.mm_call.specs.Below.{ReadRegister, ResetRegister, ExtendRegister, StepGoes, StepFault, Move, Instance, Digests, digests_after}
-use Rattle.mm_call.specs.Below.{DeviceStep, Reads}
-use Rattle.mm_call.specs.Below.{Changes, Writes}
+use Rattle.mm_call.specs.Below.{DeviceStep, Reads, Changes, Writes}
 use Rattle.mm_call.specs.Levels.{state_after_moves, digest_level}
 use Rattle.mm_call.specs.Courses.{StepFate, StepsWalk, walk, step_moves}
 use Rattle.mm_call.specs.CoursesWords.{end_of}

@@ -1,11 +1,9 @@
 -- Basic: what a call leaves, and the callers' clauses, from those of their calls.
-use Rattle.mm_callers.proofs.Below.{◌≡◌, ℕ, List, [], Result, Ok, Err, refl, sym, subst, inl, inr, StepFault, Standing, Meaning}
-use Rattle.mm_callers.proofs.Below.{IsLawful, Batch, One, AreMessagesIn, offer_messages, content_of_issue, basic_instance, History}
-use Rattle.mm_callers.proofs.Below.{StandsFor, BatchAnswer}
-use Rattle.mm_callers.proofs.Below.{Refusal, Device, basic_issued, call_outcome, CountsHandedFault, list_level, basic_content, AreAsked}
-use Rattle.mm_callers.proofs.Below.{fault_of}
-use Rattle.mm_callers.proofs.Below.{foreign_made, basic_asked, basic_comes, names_made, IsOnce, AsksAgain, AreAskedNext, AsksTwice}
-use Rattle.mm_callers.proofs.Below.{in_first}
+use Rattle.mm_callers.proofs.Below.{◌≡◌, ℕ, List, [], Result, Ok, Err, refl, sym, subst, inl, inr, StepFault, Standing, Meaning, IsLawful}
+use Rattle.mm_callers.proofs.Below.{Batch, One, AreMessagesIn, offer_messages, content_of_issue, basic_instance, History, StandsFor}
+use Rattle.mm_callers.proofs.Below.{BatchAnswer, Refusal, Device, basic_issued, call_outcome, CountsHandedFault, list_level, basic_content}
+use Rattle.mm_callers.proofs.Below.{AreAsked, fault_of, foreign_made, basic_asked, basic_comes, names_made, IsOnce, AsksAgain, AreAskedNext}
+use Rattle.mm_callers.proofs.Below.{AsksTwice, in_first}
 use Rattle.mm_callers.proofs.Leaving.{by_length, once, IsCalm, Left, asked_on, left_long, left_short, ends_once, ends_again}
 use Rattle.mm_basic.specs.AskPromise.{BasicAskPromise}
 use Rattle.mm_callers.proofs.Leaving.{ends_next, asked_next}

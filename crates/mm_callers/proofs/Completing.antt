@@ -2,11 +2,9 @@
 use Rattle.mm_callers.proofs.Below.{◌≡◌, ℕ, ◌+◌, Bool, true, false, List, [], ◌∷◌, ◌++◌, None, Result, Ok, refl, sym, ap, ◌∙◌, subst}
 use Rattle.mm_callers.proofs.Below.{if◌then◌else◌, nat_eq, Variant, Batch, Content, Instance, History, total_of, Live, life_of, DeviceStep}
 use Rattle.mm_callers.proofs.Below.{ask_steps, at_the_end, before_the_last, Refusal, Verdict, list_level, state_after_moves, CallFinding}
-use Rattle.mm_callers.proofs.Below.{finding_at}
-use Rattle.mm_callers.proofs.Below.{finding_unless_wanting, End, Done, Fails, StepFate, StepsWalk, walk_from_step, walk, state_seen}
-use Rattle.mm_callers.proofs.Below.{call_ending_by, call_outcome_with}
-use Rattle.mm_callers.proofs.Below.{again_of, fresh_of, same_batches, more_batches, Commits, nothing, batch, IsOfferedAt, IsWelcome}
-use Rattle.mm_callers.proofs.Below.{batches_after_call, IsAnswer}
+use Rattle.mm_callers.proofs.Below.{finding_at, finding_unless_wanting, End, Done, Fails, StepFate, StepsWalk, walk_from_step, walk}
+use Rattle.mm_callers.proofs.Below.{state_seen, call_ending_by, call_outcome_with, again_of, fresh_of, same_batches, more_batches, Commits}
+use Rattle.mm_callers.proofs.Below.{nothing, batch, IsOfferedAt, IsWelcome, batches_after_call, IsAnswer}
 use Rattle.std.proofs.lemmas.Bool.{eq-eqb}
 use Rattle.mm_model.specs.Verdicts.{verdict_on}
 use Rattle.mm_model.specs.declared.verdict.Verdict.TheVariants.{Fresh, Again}

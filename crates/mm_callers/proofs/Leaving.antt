@@ -2,17 +2,14 @@
 use Rattle.mm_callers.proofs.Below.{◌≡◌, ℕ, ◌≤◌, Bool, true, false, List, [], ◌∷◌, ◌++◌, Option, None, Some, Result, Ok, Err, refl, sym, ap}
 use Rattle.mm_callers.proofs.Below.{◌∙◌, subst, ◌⊎◌, inl, inr, arith, if◌then◌else◌, Contains, last_position, Variant, Basic, Opt}
 use Rattle.mm_callers.proofs.Below.{StepFault, Standing, Meaning, Batch, parts_of, Content, IsContent, sealed_snapshot_of, Instance}
-use Rattle.mm_callers.proofs.Below.{History}
-use Rattle.mm_callers.proofs.Below.{Move, EndsWith, total_of, IsFit, is_long, AreMessagesIn, offer_messages, NamesPosition}
-use Rattle.mm_callers.proofs.Below.{content_of_issue, StandsFor, IsRight}
-use Rattle.mm_callers.proofs.Below.{issued_bytes, Reads, ask_steps, total-push, BatchAnswer, Refusal, Long, right_messages, IsWithin}
-use Rattle.mm_callers.proofs.Below.{call_outcome, state_seen, call_ending_by, result_of_ending, reading_steps, CallContinues}
-use Rattle.mm_callers.proofs.Below.{IsCallOnCourse, HistoryGrows, kept, grown, Course}
-use Rattle.mm_callers.proofs.Below.{StepsWalk, moves_seen, walk, CallFinding, finding_at, foreign_made, right_content}
-use Rattle.mm_callers.proofs.Below.{finding_unless_wanting, is_fresh}
+use Rattle.mm_callers.proofs.Below.{History, Move, EndsWith, total_of, IsFit, is_long, AreMessagesIn, offer_messages, NamesPosition}
+use Rattle.mm_callers.proofs.Below.{content_of_issue, StandsFor, IsRight, issued_bytes, Reads, ask_steps, total-push, BatchAnswer, Refusal}
+use Rattle.mm_callers.proofs.Below.{Long, right_messages, IsWithin, call_outcome, state_seen, call_ending_by, result_of_ending}
+use Rattle.mm_callers.proofs.Below.{reading_steps, CallContinues, IsCallOnCourse, HistoryGrows, kept, grown, Course, StepsWalk, moves_seen}
+use Rattle.mm_callers.proofs.Below.{walk, CallFinding, finding_at, foreign_made, right_content, finding_unless_wanting, is_fresh}
 use Rattle.mm_callers.proofs.Below.{AskPromise, CallKind, Given, CountsHandedFault, list_level, state_after_moves, one_content, right_of}
-use Rattle.mm_callers.proofs.Below.{listed_by, issued_once, AreAsked, fault_of, fault_in}
-use Rattle.mm_callers.proofs.Below.{answered_at, IsOnce, AnswersOnce, AreLeftBatches, SaysFound, SaysUnlessFault, finding_for, in_second}
+use Rattle.mm_callers.proofs.Below.{listed_by, issued_once, AreAsked, fault_of, fault_in, answered_at, IsOnce, AnswersOnce, AreLeftBatches}
+use Rattle.mm_callers.proofs.Below.{SaysFound, SaysUnlessFault, finding_for, in_second}
 use Rattle.mm_base.specs.Faults.{next_count, CountRose}
 use Rattle.mm_module.specs.BatchLaws.{size_of-pos}
 use Rattle.mm_call.specs.Answers.{answer_on}

@@ -2,16 +2,13 @@
 use Rattle.mm_callers.proofs.Below.{◌≡◌, ℕ, Bool, true, false, List, [], ◌++◌, map, Some, Result, Ok, Err, refl, sym, ap, ◌∙◌, subst, inl}
 use Rattle.mm_callers.proofs.Below.{inr, option_map, append-nil, Opt, StepFault, Item, Standing, Meaning, IsLawful, Batch, One, Content}
 use Rattle.mm_callers.proofs.Below.{Instance, opt_instance, History, Move, Commit, Foreign, history_after, is_long, AreMessagesIn}
-use Rattle.mm_callers.proofs.Below.{offer_messages}
-use Rattle.mm_callers.proofs.Below.{digests_of, content_of_issue, StandsFor, BatchAnswer, Refusal, Device, Long, Verdict, opt_issued}
-use Rattle.mm_callers.proofs.Below.{same_closed}
-use Rattle.mm_callers.proofs.Below.{IsAsked, call_outcome, IsCallOnCourse, CountsHandedFault, IsAccepted, list_level, state_after_moves}
-use Rattle.mm_callers.proofs.Below.{opt_content, AreAsked, AreShown}
-use Rattle.mm_callers.proofs.Below.{IsIdle, fault_of, items_after_moves, standing_items, foreign_first, opt_comes, stands_at, asked_for}
-use Rattle.mm_callers.proofs.Below.{asked_idle}
-use Rattle.mm_callers.proofs.Below.{idle_again, idle_moves, unless_idle, Alike, still, grown_by, alike_still, alike_foreign, issued_alike}
-use Rattle.mm_callers.proofs.Below.{names_after, Left as OptLeft, DigestMoves, GoesOn, Pushed, alike_call, call_goes_on, hands, seen_closes}
-use Rattle.mm_callers.proofs.Below.{bare, in_first, AsksOnce, AsksWelcome}
+use Rattle.mm_callers.proofs.Below.{offer_messages, digests_of, content_of_issue, StandsFor, BatchAnswer, Refusal, Device, Long, Verdict}
+use Rattle.mm_callers.proofs.Below.{opt_issued, same_closed, IsAsked, call_outcome, IsCallOnCourse, CountsHandedFault, IsAccepted}
+use Rattle.mm_callers.proofs.Below.{list_level, state_after_moves, opt_content, AreAsked, AreShown, IsIdle, fault_of, items_after_moves}
+use Rattle.mm_callers.proofs.Below.{standing_items, foreign_first, opt_comes, stands_at, asked_for, asked_idle, idle_again, idle_moves}
+use Rattle.mm_callers.proofs.Below.{unless_idle, Alike, still, grown_by, alike_still, alike_foreign, issued_alike, names_after}
+use Rattle.mm_callers.proofs.Below.{Left as OptLeft, DigestMoves, GoesOn, Pushed, alike_call, call_goes_on, hands, seen_closes, bare}
+use Rattle.mm_callers.proofs.Below.{in_first, AsksOnce, AsksWelcome}
 use Rattle.mm_opt.specs.AskPromise.{OptAskPromise}
 use Rattle.mm_callers.specs.Basic.{AreAskedNext}
 use Rattle.mm_callers.specs.Opt.{AsksTwice}

@@ -2,20 +2,15 @@
 use Rattle.mm_callers.proofs.Below.{◌≡◌, ℕ, Bool, true, false, List, [], ◌∷◌, ◌++◌, map, Option, None, Some, Ok, refl, sym, ap, ◌∙◌, subst}
 use Rattle.mm_callers.proofs.Below.{append_assoc, Err, Contains, append-nil, map-append, Opt, extended_message, anchored_message, StepFault}
 use Rattle.mm_callers.proofs.Below.{Item, foreign_item, item_values, digest_after, Instance, RegisterEntry, Value, History, Move, Foreign}
-use Rattle.mm_callers.proofs.Below.{Close}
-use Rattle.mm_callers.proofs.Below.{register_value_of, cell_digest_of, entry_values, AreMessagesIn, digests_after, Reads, DeviceStep}
-use Rattle.mm_callers.proofs.Below.{Writes, checkpoint_steps}
-use Rattle.mm_callers.proofs.Below.{after-append, End, Done, Fails, StepFate, StepsWalk, walk_from_step, walk, checkpoint_ending}
-use Rattle.mm_callers.proofs.Below.{counted_part, foreign_items}
-use Rattle.mm_callers.proofs.Below.{finished_walk, Said, checkpoint_result, MayClose, SaysClosing, life_of, is_lost, CheckpointRefusal}
-use Rattle.mm_callers.proofs.Below.{Result}
-use Rattle.mm_callers.proofs.Below.{AllByRecursion, Standing, trail, history_after, IsClear, Digests, IsAllowed, digests_of, has_close}
-use Rattle.mm_callers.proofs.Below.{checkpoint_outcome}
-use Rattle.mm_callers.proofs.Below.{IsClosedWithin, messages_of_moves, foreign_move_values, IsWithin, standing_items, IsCheckpointOnCourse}
-use Rattle.mm_callers.proofs.Below.{option_map, Meaning}
-use Rattle.mm_callers.proofs.Below.{Batch, Content, opt_instance, is_empty, NamesPosition, StandsFor, opt_names, list_level, digest_level}
-use Rattle.mm_callers.proofs.Below.{state_after_moves, state_seen}
-use Rattle.mm_callers.proofs.Below.{items_after_moves, AreShown, stands_at, StandsAt, same_batches}
+use Rattle.mm_callers.proofs.Below.{Close, register_value_of, cell_digest_of, entry_values, AreMessagesIn, digests_after, Reads, DeviceStep}
+use Rattle.mm_callers.proofs.Below.{Writes, checkpoint_steps, after-append, End, Done, Fails, StepFate, StepsWalk, walk_from_step, walk}
+use Rattle.mm_callers.proofs.Below.{checkpoint_ending, counted_part, foreign_items, finished_walk, Said, checkpoint_result, MayClose}
+use Rattle.mm_callers.proofs.Below.{SaysClosing, life_of, is_lost, CheckpointRefusal, Result, AllByRecursion, Standing, trail}
+use Rattle.mm_callers.proofs.Below.{history_after, IsClear, Digests, IsAllowed, digests_of, has_close, checkpoint_outcome, IsClosedWithin}
+use Rattle.mm_callers.proofs.Below.{messages_of_moves, foreign_move_values, IsWithin, standing_items, IsCheckpointOnCourse, option_map}
+use Rattle.mm_callers.proofs.Below.{Meaning, Batch, Content, opt_instance, is_empty, NamesPosition, StandsFor, opt_names, list_level}
+use Rattle.mm_callers.proofs.Below.{digest_level, state_after_moves, state_seen, items_after_moves, AreShown, stands_at, StandsAt}
+use Rattle.mm_callers.proofs.Below.{same_batches}
 use Rattle.mm_model.specs.Chains.{register_of}
 use Rattle.mm_model.specs.HistoryLaws.{values_of-append}
 use Rattle.mm_model.specs.ListLaws.{each_right}

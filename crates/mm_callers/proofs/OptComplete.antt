@@ -1,15 +1,11 @@
 -- Opt: a call that nothing disturbs answers a welcome offer, or lacks memory.
 use Rattle.mm_callers.proofs.Below.{◌≡◌, ℕ, Bool, true, false, List, [], Some, Result, Err, refl, sym, ap, ◌∙◌, subst, Contains, Opt}
 use Rattle.mm_callers.proofs.Below.{extended_message, StepFault, Standing, quiet_plan, Meaning, Batch, One, guard, Instance, opt_instance}
-use Rattle.mm_callers.proofs.Below.{History}
-use Rattle.mm_callers.proofs.Below.{Move, register_value_of, AreMessagesIn, Digests, digests_of, StandsFor, ask_steps, BatchAnswer, Refusal}
-use Rattle.mm_callers.proofs.Below.{Memory, Device, list_level, digest_level, finding_at, finding_unless_wanting, is_fresh, Done, StepFate}
-use Rattle.mm_callers.proofs.Below.{Course}
-use Rattle.mm_callers.proofs.Below.{walk, CallOutcome, call_outcome, result_of_ending, call_outcome_with, CallContinues, counted_part}
-use Rattle.mm_callers.proofs.Below.{counted_moves}
-use Rattle.mm_callers.proofs.Below.{messages_of_moves, foreign_move_values, IsAsked, AreAsked, asked_by, IsWelcome, AnswersOrLacks}
-use Rattle.mm_callers.proofs.Below.{AsksByQuietPlan}
-use Rattle.mm_callers.proofs.Below.{AsksInMemory}
+use Rattle.mm_callers.proofs.Below.{History, Move, register_value_of, AreMessagesIn, Digests, digests_of, StandsFor, ask_steps, BatchAnswer}
+use Rattle.mm_callers.proofs.Below.{Refusal, Memory, Device, list_level, digest_level, finding_at, finding_unless_wanting, is_fresh, Done}
+use Rattle.mm_callers.proofs.Below.{StepFate, Course, walk, CallOutcome, call_outcome, result_of_ending, call_outcome_with, CallContinues}
+use Rattle.mm_callers.proofs.Below.{counted_part, counted_moves, messages_of_moves, foreign_move_values, IsAsked, AreAsked, asked_by}
+use Rattle.mm_callers.proofs.Below.{IsWelcome, AnswersOrLacks, AsksByQuietPlan, AsksInMemory}
 use Rattle.mm_callers.proofs.Completing.{complete, welcome_found}
 use Rattle.mm_opt.specs.AskPromise.{OptAskPromise}
 

@@ -2,19 +2,13 @@
 use Rattle.mm_callers.proofs.Below.{◌≡◌, ℕ, Bool, true, false, List, Option, None, Some, Result, Ok, Err, refl, sym, ap, ◌∙◌, subst}
 use Rattle.mm_callers.proofs.Below.{if◌then◌else◌, Opt, StepFault, Standing, Meaning, Batch, Instance, History, Move, total_of, Digests}
 use Rattle.mm_callers.proofs.Below.{StandsFor, ask_steps, BatchAnswer, Refusal, digest_level, CallFinding, is_fresh, StepFate, walk}
-use Rattle.mm_callers.proofs.Below.{call_ending_by}
-use Rattle.mm_callers.proofs.Below.{result_of_ending, IsOnce, RepeatsReply, HistoryGrows, kept, grown, answered_at, Brought, reads_only}
-use Rattle.mm_callers.proofs.Below.{fault_of, ◌++◌}
-use Rattle.mm_callers.proofs.Below.{map, append_assoc, Item, foreign_item, One, Foreign, digests_of, list_level, state_after_moves}
-use Rattle.mm_callers.proofs.Below.{finding_at}
-use Rattle.mm_callers.proofs.Below.{finding_unless_wanting, StepsWalk, call_outcome, state_seen, finding_for, SaysUnlessFault, MayClose}
-use Rattle.mm_callers.proofs.Below.{AreShownUnlessIdle}
-use Rattle.mm_callers.proofs.Below.{RepeatsBehind, EndsBehind, in_closing, ClosesBetween, shown_front, option_map, opt_instance}
-use Rattle.mm_callers.proofs.Below.{checkpoint_outcome}
-use Rattle.mm_callers.proofs.Below.{IsCallOnCourse, AreAsked, AreShown, StandsAt, items_after_moves, standing_items, stands_at, placed}
-use Rattle.mm_callers.proofs.Below.{right_at, Said}
-use Rattle.mm_callers.proofs.Below.{IsCheckpointOnCourse, DigestMoves, call_goes_on, is_long, Answer, foreign_move_values, batch_answer_of}
-use Rattle.mm_callers.proofs.Below.{Long, CheckpointRefusal}
+use Rattle.mm_callers.proofs.Below.{call_ending_by, result_of_ending, IsOnce, RepeatsReply, HistoryGrows, kept, grown, answered_at, Brought}
+use Rattle.mm_callers.proofs.Below.{reads_only, fault_of, ◌++◌, map, append_assoc, Item, foreign_item, One, Foreign, digests_of, list_level}
+use Rattle.mm_callers.proofs.Below.{state_after_moves, finding_at, finding_unless_wanting, StepsWalk, call_outcome, state_seen, finding_for}
+use Rattle.mm_callers.proofs.Below.{SaysUnlessFault, MayClose, AreShownUnlessIdle, RepeatsBehind, EndsBehind, in_closing, ClosesBetween}
+use Rattle.mm_callers.proofs.Below.{shown_front, option_map, opt_instance, checkpoint_outcome, IsCallOnCourse, AreAsked, AreShown, StandsAt}
+use Rattle.mm_callers.proofs.Below.{items_after_moves, standing_items, stands_at, placed, right_at, Said, IsCheckpointOnCourse, DigestMoves}
+use Rattle.mm_callers.proofs.Below.{call_goes_on, is_long, Answer, foreign_move_values, batch_answer_of, Long, CheckpointRefusal}
 use Rattle.mm_call.specs.ShowingLaws.{shown_same}
 use Rattle.mm_opt.specs.AskPromise.{OptAskPromise}
 use Rattle.mm_callers.proofs.Leaving.{answered, asked_on, not_long, After, Left, Offers, not_at_end, once, once_twice, answers_once}

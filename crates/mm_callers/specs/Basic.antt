@@ -2,10 +2,9 @@
 use Rattle.std.specs.Prelude.{◌≡◌, ◌≤◌, ℕ, Bool, false, List, [], ◌∷◌, ◌++◌, Option, None, Some, Result, Ok, Err, ◌⊎◌, if◌then◌else◌}
 use Rattle.std.specs.List.{Contains}
 use Rattle.mm_callers.specs.Below.{next_count, Standing, StepFault, Batch, One, Meaning, History, Commit, history_after, Instance}
-use Rattle.mm_callers.specs.Below.{basic_instance, AreMessagesIn}
-use Rattle.mm_callers.specs.Below.{offer_messages, content_of_issue, is_long, StandsFor, issued_bytes, BatchAnswer, Refusal, Memory, Long}
-use Rattle.mm_callers.specs.Below.{answer_on}
-use Rattle.mm_callers.specs.Below.{EndsWith, CallFinding, finding_at, list_level, AreAsked, fault_of}
+use Rattle.mm_callers.specs.Below.{basic_instance, AreMessagesIn, offer_messages, content_of_issue, is_long, StandsFor, issued_bytes}
+use Rattle.mm_callers.specs.Below.{BatchAnswer, Refusal, Memory, Long, answer_on, EndsWith, CallFinding, finding_at, list_level, AreAsked}
+use Rattle.mm_callers.specs.Below.{fault_of}
 
 -- The batch was committed once: it follows the history's batches, or it was their last one before.
 abbrev pub IsOnce : List Batch → Batch → List Batch → Type 0

@@ -3,11 +3,9 @@
 use Rattle.std.specs.Prelude.{◌≡◌, ℕ, true, List, ◌++◌, Option, None, Some, Result, Ok, Err}
 use Rattle.std.specs.List.{Contains}
 use Rattle.mm_callers.specs.Below.{extended_message, anchored_message, digest_after, Opt, Item, Standing, item_values, StepFault, Batch}
-use Rattle.mm_callers.specs.Below.{One}
-use Rattle.mm_callers.specs.Below.{Meaning, History, register_value_of, cell_digest_of, Instance, life_of, is_lost, Answer, BatchAnswer}
-use Rattle.mm_callers.specs.Below.{Refusal, counted_part, IsCallOnCourse, batch_answer_of, AreShown, IsIdle, fault_of, IsCheckpointOnCourse}
-use Rattle.mm_callers.specs.Below.{CheckpointRefusal, Device}
-use Rattle.mm_callers.specs.Below.{Blank, Cell, Kind, Lost, Checkpointed}
+use Rattle.mm_callers.specs.Below.{One, Meaning, History, register_value_of, cell_digest_of, Instance, life_of, is_lost, Answer}
+use Rattle.mm_callers.specs.Below.{BatchAnswer, Refusal, counted_part, IsCallOnCourse, batch_answer_of, AreShown, IsIdle, fault_of}
+use Rattle.mm_callers.specs.Below.{IsCheckpointOnCourse, CheckpointRefusal, Device, Blank, Cell, Kind, Lost, Checkpointed}
 use Rattle.mm_callers.specs.Basic.{IsOnce, AnswersOnce, finding_for, SaysFound, StaysAsAsked, RefusesCall}
 use Rattle.mm_callers.specs.Opt.{HoldsOnEach}
 use Rattle.mm_callers.specs.declared.closing.Replies.{Replies}

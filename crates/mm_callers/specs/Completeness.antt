@@ -1,8 +1,8 @@
 -- When a call is answered: by lists, on every course.
 use Rattle.std.specs.Prelude.{◌≡◌, ℕ, ◌+◌, ◌≤◌, Bool, true, false, List, [], ◌∷◌, ◌++◌}
 use Rattle.mm_callers.specs.Below.{last_position, Content, Batch, size_of, Meaning, History, total_of, Instance, basic_instance}
-use Rattle.mm_callers.specs.Below.{opt_instance, Live, life_of}
-use Rattle.mm_callers.specs.Below.{IsRight, answer_on, Answers, CallOutcome, call_outcome, state_seen, EndsWith, Done, Course, list_level}
+use Rattle.mm_callers.specs.Below.{opt_instance, Live, life_of, IsRight, answer_on, Answers, CallOutcome, call_outcome, state_seen}
+use Rattle.mm_callers.specs.Below.{EndsWith, Done, Course, list_level}
 
 -- no step fails, and memory isn't wanting
 pub record IsSmooth (course : Course) : Type 0 where

@@ -43,32 +43,25 @@ pub use Rattle.mm_schedule.specs.declared.event.Event.{Event as CodeEvent}
 pub use Rattle.mm_schedule.specs.declared.header.Header.{Header}
 pub use Rattle.mm_schedule.specs.declared.reply.Reply.{Reply}
 pub use Rattle.mm_outcome.specs.Folds.{event_outcome, outcome_by_lists, first_digests, first_issued, RunOutcome, outcome_of_events, Outcome}
-pub use Rattle.mm_outcome.specs.Folds.{outcome_by_digests}
-pub use Rattle.mm_outcome.specs.Folds.{closing_reply, course_of, reply_of, way_of}
+pub use Rattle.mm_outcome.specs.Folds.{outcome_by_digests, closing_reply, course_of, reply_of, way_of}
 pub use Rattle.mm_outcome.specs.WorldState.{world_of, world_barrier, world_key}
 pub use Rattle.mm_outcome.specs.Premises.{AreGenuine, batches_of, event_messages, event_foreign_values, IsClearRun, IsGenuineEvent}
-pub use Rattle.mm_outcome.specs.Premises.{IsGenuineRun}
-pub use Rattle.mm_outcome.specs.Premises.{messages_from, moves_of}
-pub use Rattle.mm_outcome.specs.Premises.{AreApart, asked_batches, foreign_values, run_messages}
-pub use Rattle.mm_outcome.proofs.Above.{ask_moves, asking_messages}
-pub use Rattle.mm_outcome.proofs.Above.{goes_on, in_any_way, short_size}
+pub use Rattle.mm_outcome.specs.Premises.{IsGenuineRun, messages_from, moves_of, AreApart, asked_batches, foreign_values, run_messages}
+pub use Rattle.mm_outcome.proofs.Above.{ask_moves, asking_messages, goes_on, in_any_way, short_size}
 pub use Rattle.mm_evidence.proofs.Above.{any_in, any_some, event_apart, event_offer, event_or, genuine_or, names_by}
 pub use Rattle.mm_expect.specs.NumberedMessages.{messages_if, messages_where, numbered_event_messages}
 pub use Rattle.mm_play.proofs.Above.{for_whole, not_ok, ok_same, outcome_of, plays_err, plays_ok}
 pub use Rattle.mm_replay.specs.Schedule.{running_replay_after, is_too_much, replay_stage, RunningReplay, running_outcome, replay_state_of}
 pub use Rattle.mm_check.specs.CheckStage.{compared_run_after, AtHeader, check_answer, check_closing, CheckStage, ComparedRun}
-pub use Rattle.mm_check.specs.CheckStage.{first_compared_run}
-pub use Rattle.mm_check.specs.CheckStage.{first_recorded_run, answer_to_header, InEvents, InReplies, is_line, RecordedRun, answer_to_line}
-pub use Rattle.mm_check.specs.CheckStage.{with_event}
+pub use Rattle.mm_check.specs.CheckStage.{first_compared_run, first_recorded_run, answer_to_header, InEvents, InReplies, is_line}
+pub use Rattle.mm_check.specs.CheckStage.{RecordedRun, answer_to_line, with_event}
 pub use Rattle.mm_check.specs.PremiseDecision.{IsFirstForged, premise_by, StandsBehind}
 pub use Rattle.mm_check.specs.Guards.{digest_items, events_of, HasAll, secured_event_by}
 pub use Rattle.mm_check.specs.Listing.{pair_plus_one, first_number_of, number_of_first, is_zero, messages_with, lower_pair, message_digests}
-pub use Rattle.mm_check.specs.Listing.{shared_pair_in, shared_pair_with}
-pub use Rattle.mm_check.specs.Listing.{zero_number_in}
+pub use Rattle.mm_check.specs.Listing.{shared_pair_in, shared_pair_with, zero_number_in}
 pub use Rattle.mm_check.specs.Lists.{CountsDigests, has_message, ListsMessages, pair_of}
 pub use Rattle.mm_check.specs.Numbering.{DecidesPremise, expected_lines, is_secured, IsForgedAt, lines_of_all, numbered_messages}
-pub use Rattle.mm_check.specs.Numbering.{numbered_messages_from, secured_event_in}
-pub use Rattle.mm_check.specs.Numbering.{PremiseIsFixed}
+pub use Rattle.mm_check.specs.Numbering.{numbered_messages_from, secured_event_in, PremiseIsFixed}
 pub use Rattle.mm_check.specs.Verdicts.{agreement_of, AreVerdicts, AreVerdictsOn, StageConcludes, difference_from, end_difference}
 pub use Rattle.mm_check.specs.Verdicts.{first_difference, is_found, run_lines, RunsBehind}
 pub use Rattle.mm_check.specs.declared.verdicts.Premise.{Premise}

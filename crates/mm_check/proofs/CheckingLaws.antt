@@ -2,10 +2,9 @@
 use Rattle.mm_check.proofs.Below.{◌≡◌, ◌∙◌, ℕ, ◌+◌, Bool, true, false, cond, List, [], ◌∷◌, ◌++◌, length, map, nat_lt, Option, None, Some}
 use Rattle.mm_check.proofs.Below.{Result, Ok, Err, refl, sym, ap, subst, append_assoc, append-nil, arith, inl, inr, fold, longest_line}
 use Rattle.mm_check.proofs.Below.{Header, Event, world_of, plays_ok, plays_err, not_ok, ok_same, outcome_of, RecordedRun}
-use Rattle.mm_check.proofs.Below.{first_recorded_run, with_event}
-use Rattle.mm_check.proofs.Below.{ComparedRun, first_compared_run, compared_run_after, CheckStage, AtHeader, InEvents, InReplies}
-use Rattle.mm_check.proofs.Below.{answer_to_header, answer_to_line}
-use Rattle.mm_check.proofs.Below.{check_answer, check_closing, for_whole, AreVerdicts, StageConcludes, run_lines, Verdicts}
+use Rattle.mm_check.proofs.Below.{first_recorded_run, with_event, ComparedRun, first_compared_run, compared_run_after, CheckStage, AtHeader}
+use Rattle.mm_check.proofs.Below.{InEvents, InReplies, answer_to_header, answer_to_line, check_answer, check_closing, for_whole}
+use Rattle.mm_check.proofs.Below.{AreVerdicts, StageConcludes, run_lines, Verdicts}
 use Rattle.mm_base.specs.Input.{lines_of, tail_of}
 use Rattle.mm_base.specs.declared.replay_fault.ReplayFault.{ReplayFault}
 use Rattle.mm_base.specs.declared.replay_fault.ReplayFault.TheVariants.{Memory, ReadFault, WriteFault, BadLine, LineLong, TooMuch}

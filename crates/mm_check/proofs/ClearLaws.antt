@@ -1,17 +1,15 @@
 -- The messages of a run are clear exactly where the numbers tell nothing of their digests, and no value of others is a guard exactly
 -- where no event is told.
 use Rattle.mm_check.proofs.Below.{◌≡◌, ◌∙◌, ℕ, ◌+◌, Bool, true, false, cond, List, [], ◌∷◌, ◌++◌, map, Option, None, Some, refl, sym, ap}
-use Rattle.mm_check.proofs.Below.{arith, inl, inr, ◌⊎◌, ◌||◌, append_assoc, append-nil, fold, list_any, list_any-append}
-use Rattle.mm_check.proofs.Below.{Contains, option_map, bytes_eq, Contains-append_left, Contains-append_right, Contains-append_cases}
-use Rattle.mm_check.proofs.Below.{Contains-push, Contains-push_cases, nat_list_eq_equiv, bytes_eq-Decides, sha256, zero_bytes}
-use Rattle.mm_check.proofs.Below.{start_message, guard, own_values, Instance, History, Move, Close, history_after, first_history, IsClear}
-use Rattle.mm_check.proofs.Below.{AreNoGuards, move_messages, messages_of_moves, list_level, Event, event_outcome, first_issued}
-use Rattle.mm_check.proofs.Below.{event_messages}
+use Rattle.mm_check.proofs.Below.{arith, inl, inr, ◌⊎◌, ◌||◌, append_assoc, append-nil, fold, list_any, list_any-append, Contains}
+use Rattle.mm_check.proofs.Below.{option_map, bytes_eq, Contains-append_left, Contains-append_right, Contains-append_cases, Contains-push}
+use Rattle.mm_check.proofs.Below.{Contains-push_cases, nat_list_eq_equiv, bytes_eq-Decides, sha256, zero_bytes, start_message, guard}
+use Rattle.mm_check.proofs.Below.{own_values, Instance, History, Move, Close, history_after, first_history, IsClear, AreNoGuards}
+use Rattle.mm_check.proofs.Below.{move_messages, messages_of_moves, list_level, Event, event_outcome, first_issued, event_messages}
 use Rattle.mm_check.proofs.Below.{moves_of, messages_from, event_foreign_values, foreign_values, asked_batches, run_messages, messages_if}
 use Rattle.mm_check.proofs.Below.{messages_where, numbered_event_messages, number_of_first, messages_with, message_digests}
-use Rattle.mm_check.proofs.Below.{shared_pair_with, shared_pair_in, is_zero}
-use Rattle.mm_check.proofs.Below.{zero_number_in, numbered_messages_from, numbered_messages, is_secured, Variant, Basic, Opt, AreApart}
-use Rattle.mm_check.proofs.Below.{secured_event_by}
+use Rattle.mm_check.proofs.Below.{shared_pair_with, shared_pair_in, is_zero, zero_number_in, numbered_messages_from, numbered_messages}
+use Rattle.mm_check.proofs.Below.{is_secured, Variant, Basic, Opt, AreApart, secured_event_by}
 use Rattle.std.specs.Option.{is_some}
 use Rattle.std.specs.List.{All, IsDistinct}
 use Rattle.std.proofs.lemmas.Bool.{both_ways, false_from_ne_true}

@@ -2,9 +2,8 @@
 use Rattle.mm_check.proofs.Below.{◌≡◌, ◌∙◌, ℕ, zero, suc, ◌+◌, ◌<◌, ◌≤◌, Bool, true, false, cond, List, [], ◌∷◌, ◌++◌, length, map, drop}
 use Rattle.mm_check.proofs.Below.{Option, None, Some, refl, sym, ap, subst, arith, fold, slice_get, bytes_eq, nat_tests, drop_all, Header}
 use Rattle.mm_check.proofs.Below.{Event, world_of, DecidesPremise, expected_lines, ComparedRun, is_line, first_number_of}
-use Rattle.mm_check.proofs.Below.{compared_run_after, difference_from}
-use Rattle.mm_check.proofs.Below.{first_difference, is_found, end_difference, agreement_of, AreVerdicts, AreVerdictsOn, Verdicts, nat_lt}
-use Rattle.mm_check.proofs.Below.{not}
+use Rattle.mm_check.proofs.Below.{compared_run_after, difference_from, first_difference, is_found, end_difference, agreement_of}
+use Rattle.mm_check.proofs.Below.{AreVerdicts, AreVerdictsOn, Verdicts, nat_lt, not}
 use Rattle.std.proofs.lemmas.Bool.{le-ltb, lt-ltb}
 use Rattle.mm_check.specs.declared.verdicts.Agreement.TheVariants.{Differ}
 

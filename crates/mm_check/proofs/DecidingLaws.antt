@@ -3,11 +3,9 @@ use Rattle.mm_check.proofs.Below.{◌≡◌, ◌∙◌, ℕ, ◌+◌, ◌≤◌,
 use Rattle.mm_check.proofs.Below.{subst, arith, append_assoc, append-nil, length-append, fold, Variant, Basic, Opt, start_message}
 use Rattle.mm_check.proofs.Below.{variant_byte, Meaning, meaning_of, Instance, History, first_history, total_of, Header, Event}
 use Rattle.mm_check.proofs.Below.{lines_of_reply, end_line, list_level, RunOutcome, outcome_of_events, event_outcome, first_issued}
-use Rattle.mm_check.proofs.Below.{outcome_by_lists, world_of}
-use Rattle.mm_check.proofs.Below.{world_key, world_barrier, IsGenuineEvent, AreGenuine, IsClearRun, numbered_event_messages, messages_with}
-use Rattle.mm_check.proofs.Below.{message_digests}
-use Rattle.mm_check.proofs.Below.{shared_pair_in, zero_number_in, ListsMessages, pair_of, numbered_messages_from, numbered_messages}
-use Rattle.mm_check.proofs.Below.{secured_event_in, expected_lines, IsForgedAt}
+use Rattle.mm_check.proofs.Below.{outcome_by_lists, world_of, world_key, world_barrier, IsGenuineEvent, AreGenuine, IsClearRun}
+use Rattle.mm_check.proofs.Below.{numbered_event_messages, messages_with, message_digests, shared_pair_in, zero_number_in, ListsMessages}
+use Rattle.mm_check.proofs.Below.{pair_of, numbered_messages_from, numbered_messages, secured_event_in, expected_lines, IsForgedAt}
 use Rattle.mm_check.proofs.Below.{DecidesPremise, secured_event_by, IsFirstForged, StandsBehind, premise_by, ◌<◌, take, sha256, length-map}
 use Rattle.mm_check.proofs.Below.{length-take, most_events, CodeEvent, event_of, events_of}
 use Rattle.mm_check.specs.PremiseDecision.{LooksAtEvent}

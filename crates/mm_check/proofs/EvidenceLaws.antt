@@ -1,15 +1,13 @@
 -- What is told of the premises is evidence, by its numbers; and one premise is told of each run.
-use Rattle.mm_check.proofs.Below.{◌≡◌, ◌∙◌, ℕ, ◌+◌, Bool, true, false, cond, List, [], ◌∷◌, ◌++◌, length, Option, None, Some, refl}
-use Rattle.mm_check.proofs.Below.{sym, ap, subst, arith, inl, inr, append_assoc, list_any, option_map, Contains, Contains-append_left}
+use Rattle.mm_check.proofs.Below.{◌≡◌, ◌∙◌, ℕ, ◌+◌, Bool, true, false, cond, List, [], ◌∷◌, ◌++◌, length, Option, None, Some, refl, sym, ap}
+use Rattle.mm_check.proofs.Below.{subst, arith, inl, inr, append_assoc, list_any, option_map, Contains, Contains-append_left}
 use Rattle.mm_check.proofs.Below.{Contains-append_right, bytes_eq, bytes_eq-Decides, flat_map-append, sha256, zero_bytes, start_message}
-use Rattle.mm_check.proofs.Below.{guard, own_values, Opt, History, Instance, first_history, Event}
-use Rattle.mm_check.proofs.Below.{outcome_by_lists, first_issued, event_foreign_values, foreign_values, asked_batches, run_messages}
-use Rattle.mm_check.proofs.Below.{number_of_first}
-use Rattle.mm_check.proofs.Below.{message_digests, pair_plus_one, shared_pair_with, shared_pair_in, is_zero, zero_number_in}
-use Rattle.mm_check.proofs.Below.{numbered_messages, numbered_messages_from, is_secured}
-use Rattle.mm_check.proofs.Below.{secured_event_in, secured_event_by, IsForgedAt, IsFirstForged, DecidesPremise, premise_by, PremiseIsFixed}
-use Rattle.mm_check.proofs.Below.{Premise, any_some}
-use Rattle.mm_check.proofs.Below.{event_apart, event_offer, event_or, genuine_or}
+use Rattle.mm_check.proofs.Below.{guard, own_values, Opt, History, Instance, first_history, Event, outcome_by_lists, first_issued}
+use Rattle.mm_check.proofs.Below.{event_foreign_values, foreign_values, asked_batches, run_messages, number_of_first, message_digests}
+use Rattle.mm_check.proofs.Below.{pair_plus_one, shared_pair_with, shared_pair_in, is_zero, zero_number_in, numbered_messages}
+use Rattle.mm_check.proofs.Below.{numbered_messages_from, is_secured, secured_event_in, secured_event_by, IsForgedAt, IsFirstForged}
+use Rattle.mm_check.proofs.Below.{DecidesPremise, premise_by, PremiseIsFixed, Premise, any_some, event_apart, event_offer, event_or}
+use Rattle.mm_check.proofs.Below.{genuine_or}
 use Rattle.std.specs.List.{IsDistinct}
 use Rattle.std.proofs.lemmas.Bool.{both_ways}
 use Rattle.std.proofs.lemmas.List.Elements.{All-contains, All-from_recursion}

@@ -2,23 +2,16 @@
 use Rattle.mm_check.proofs.Below.{ℕ, ◌+◌, ◌*◌, ◌≤◌, Bool, true, false, cond, List, [], ◌∷◌, ◌++◌, length, map, Option, None, Some, arith}
 use Rattle.mm_check.proofs.Below.{length-append, ◌==◌, fold, filter, list_any, bytes_eq, length-map, length-take, Variant, Basic, Opt}
 use Rattle.mm_check.proofs.Below.{zero_bytes, anchored_message, anchored_digest_of, start_message, Batch, normal_batch, Meddle, Stop, guard}
-use Rattle.mm_check.proofs.Below.{Instance}
-use Rattle.mm_check.proofs.Below.{History, Move, Commit, Foreign, Close, history_after, first_history, is_long, messages_for_move}
-use Rattle.mm_check.proofs.Below.{form_messages}
-use Rattle.mm_check.proofs.Below.{offer_messages, DeviceStep, Reads, Changes, Writes, ask_steps, checkpoint_steps, right_messages, End}
-use Rattle.mm_check.proofs.Below.{Done}
-use Rattle.mm_check.proofs.Below.{Fails, StepFate, StepsWalk, step_moves, walk_from_step, walk, right_content, list_level, CodeEvent, Event}
-use Rattle.mm_check.proofs.Below.{Ask}
-use Rattle.mm_check.proofs.Below.{Checkpoint, event_of, meddles_of, offered_bytes, course_of, event_outcome, first_issued, moves_of}
-use Rattle.mm_check.proofs.Below.{event_messages, ask_moves, asking_messages, messages_if, messages_where, numbered_event_messages}
-use Rattle.mm_check.proofs.Below.{messages_with}
-use Rattle.mm_check.proofs.Below.{numbered_messages_from, numbered_messages, events_of, Many, One, ◌≡◌, ◌-◌, Result, Ok, Err, refl}
-use Rattle.mm_check.proofs.Below.{length-drop, most_members}
-use Rattle.mm_check.proofs.Below.{size_of, outputs_from, requests_of, total_of, Course, has_commit, CallFinding, finding_at}
-use Rattle.mm_check.proofs.Below.{state_after_moves, told_lines}
+use Rattle.mm_check.proofs.Below.{Instance, History, Move, Commit, Foreign, Close, history_after, first_history, is_long, messages_for_move}
+use Rattle.mm_check.proofs.Below.{form_messages, offer_messages, DeviceStep, Reads, Changes, Writes, ask_steps, checkpoint_steps}
+use Rattle.mm_check.proofs.Below.{right_messages, End, Done, Fails, StepFate, StepsWalk, step_moves, walk_from_step, walk, right_content}
+use Rattle.mm_check.proofs.Below.{list_level, CodeEvent, Event, Ask, Checkpoint, event_of, meddles_of, offered_bytes, course_of}
+use Rattle.mm_check.proofs.Below.{event_outcome, first_issued, moves_of, event_messages, ask_moves, asking_messages, messages_if}
+use Rattle.mm_check.proofs.Below.{messages_where, numbered_event_messages, messages_with, numbered_messages_from, numbered_messages}
+use Rattle.mm_check.proofs.Below.{events_of, Many, One, ◌≡◌, ◌-◌, Result, Ok, Err, refl, length-drop, most_members, size_of, outputs_from}
+use Rattle.mm_check.proofs.Below.{requests_of, total_of, Course, has_commit, CallFinding, finding_at, state_after_moves, told_lines}
 use Rattle.mm_check.proofs.Below.{lines_of_reply, end_line, way_of, reply_of, closing_reply, outcome_of_events, outcome_by_lists}
-use Rattle.mm_check.proofs.Below.{in_any_way, short_size}
-use Rattle.mm_check.proofs.Below.{lines_of_all, expected_lines}
+use Rattle.mm_check.proofs.Below.{in_any_way, short_size, lines_of_all, expected_lines}
 use Rattle.std.proofs.lemmas.List.Sums.{count_by-le-length, length-filter}
 use Rattle.mm_platform.specs.StandingWords.{due_values}
 use Rattle.mm_seal.specs.declared.snapshot.Place.{Place}

@@ -1,10 +1,9 @@
 -- One premise alone is told of a run.
 use Rattle.mm_check.proofs.Below.{◌≡◌, ◌∙◌, ℕ, List, [], ◌∷◌, ◌++◌, length, Option, None, Some, refl, sym, ap, subst, arith, Variant}
 use Rattle.mm_check.proofs.Below.{first_history, list_level, Event, RunOutcome, outcome_of_events, event_outcome, first_issued}
-use Rattle.mm_check.proofs.Below.{IsGenuineEvent}
-use Rattle.mm_check.proofs.Below.{AreGenuine, IsGenuineRun, Instance, History, message_digests, shared_pair_in, zero_number_in}
-use Rattle.mm_check.proofs.Below.{numbered_messages, IsForgedAt}
-use Rattle.mm_check.proofs.Below.{DecidesPremise, Premise, secured_event_by, IsFirstForged, premise_by, IsClearRun}
+use Rattle.mm_check.proofs.Below.{IsGenuineEvent, AreGenuine, IsGenuineRun, Instance, History, message_digests, shared_pair_in}
+use Rattle.mm_check.proofs.Below.{zero_number_in, numbered_messages, IsForgedAt, DecidesPremise, Premise, secured_event_by, IsFirstForged}
+use Rattle.mm_check.proofs.Below.{premise_by, IsClearRun}
 use Rattle.mm_check.specs.declared.verdicts.Premise.TheVariants.{Held, Shared, Zero, Secured, Forged}
 use Rattle.mm_check.proofs.ClearLaws.{unshared, no_zero, apart_none}
 

@@ -1,9 +1,8 @@
 -- What one more digest changes, and the numbers in code after it.
-use Rattle.mm_check.proofs.Below.{◌≡◌, ◌∙◌, ℕ, ◌+◌, ◌≤◌, Bool, true, false, cond, List, [], ◌∷◌, ◌++◌, length, Option, None, Some}
-use Rattle.mm_check.proofs.Below.{refl, sym, ap, arith, length-append, option_map, bytes_eq, nat_tests, nat_list_eq_equiv, bytes_eq-Decides}
+use Rattle.mm_check.proofs.Below.{◌≡◌, ◌∙◌, ℕ, ◌+◌, ◌≤◌, Bool, true, false, cond, List, [], ◌∷◌, ◌++◌, length, Option, None, Some, refl}
+use Rattle.mm_check.proofs.Below.{sym, ap, arith, length-append, option_map, bytes_eq, nat_tests, nat_list_eq_equiv, bytes_eq-Decides}
 use Rattle.mm_check.proofs.Below.{slice_cmp, nat_cmp, is_eq, is_eq-slice_cmp, number_of_first, pair_plus_one, shared_pair_with}
-use Rattle.mm_check.proofs.Below.{shared_pair_in, is_zero}
-use Rattle.mm_check.proofs.Below.{zero_number_in, lower_pair, first_number_of, pair_of, CountsDigests}
+use Rattle.mm_check.proofs.Below.{shared_pair_in, is_zero, zero_number_in, lower_pair, first_number_of, pair_of, CountsDigests}
 use Rattle.std.specs.BTreeMap as tree
 use Rattle.mm_check.specs.declared.digests.DigestIndex.{DigestIndex}
 

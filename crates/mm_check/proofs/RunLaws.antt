@@ -3,8 +3,7 @@ use Rattle.mm_check.proofs.Below.{◌≡◌, ◌∙◌, ℕ, false, List, [], �
 use Rattle.mm_check.proofs.Below.{flat_map-append, map-append, Header, CodeEvent, Event, event_of, lines_of_reply, Reply, digest_level}
 use Rattle.mm_check.proofs.Below.{Outcome, RunOutcome, event_outcome, first_issued, first_digests, outcome_by_digests, world_of, goes_on}
 use Rattle.mm_check.proofs.Below.{RunningReplay, is_too_much, replay_stage, replay_state_of, running_outcome, running_replay_after}
-use Rattle.mm_check.proofs.Below.{events_of, lines_of_all, RunsBehind, ◌<◌}
-use Rattle.mm_check.proofs.Below.{length, expected_lines, outcome_of_events, Instance}
+use Rattle.mm_check.proofs.Below.{events_of, lines_of_all, RunsBehind, ◌<◌, length, expected_lines, outcome_of_events, Instance}
 use Rattle.mm_model.specs.Moves.{Digests}
 use Rattle.mm_call.specs.Levels.{Level}
 use Rattle.mm_play.specs.Stage.{play_state}

@@ -6,8 +6,7 @@ use Rattle.std.proofs.lemmas.Bool.Decides.{nat_tests}
 use Rattle.std.proofs.lemmas.Slice.Eq.{bytes_eq-Decides}
 use Rattle.std.specs.Str.{bytes_eq}
 use Rattle.mm_check.specs.Below.{event_at, Event, Header, few_left, is_too_much, no_answer, replay_stage, play_state, same_answer}
-use Rattle.mm_check.specs.Below.{replay_state_of, LineRefusal}
-use Rattle.mm_check.specs.Below.{Bad, Much}
+use Rattle.mm_check.specs.Below.{replay_state_of, LineRefusal, Bad, Much}
 use Rattle.mm_check.specs.CheckStage.{RecordedRun, first_recorded_run, with_event, ComparedRun, first_compared_run, compared_run_after}
 use Rattle.mm_check.specs.CheckStage.{CheckStage, AtHeader, InEvents, InReplies, answer_to_header, answer_to_event, answer_to_line}
 use Rattle.mm_check.specs.CheckStage.{answer_to_recorded_line, check_answer, remaining_check_lines, most_recorded, section_line}

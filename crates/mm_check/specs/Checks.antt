@@ -2,8 +2,7 @@
 use Rattle.std.specs.Prelude.{◌≡◌, ℕ, List, [], ◌∷◌, ◌++◌, map, Option, Some, Result, Ok, Err, ◌⊎◌}
 use Rattle.std.specs.Io.KnownBytes.{Appends, Consumes, IsAtEnd}
 use Rattle.mm_check.specs.Below.{lines_of, ReplayFault, Memory, ReadFault, WriteFault, Event, event_at, header_at, Header, world_of}
-use Rattle.mm_check.specs.Below.{PlayOutcome}
-use Rattle.mm_check.specs.Below.{outcome_of_lines, outcome_of_input, HoldsOfWhole, IsTailShort, IsFrontOf}
+use Rattle.mm_check.specs.Below.{PlayOutcome, outcome_of_lines, outcome_of_input, HoldsOfWhole, IsTailShort, IsFrontOf}
 use Rattle.mm_check.specs.CheckStage.{CheckStage, AtHeader, check_answer, check_closing, section_line}
 use Rattle.mm_check.specs.Verdicts.{AreVerdicts, run_lines, verdicts_text}
 use Rattle.mm_check.specs.declared.verdicts.Verdicts.{Verdicts}

@@ -3,8 +3,7 @@
 use Rattle.std.specs.Prelude.{◌≡◌, ◌≢◌, ℕ, ◌+◌, List, ◌∷◌, ◌++◌, length, ◌⊎◌}
 use Rattle.std.specs.List.{Contains}
 use Rattle.mm_check.specs.Below.{sha256, zero_bytes, Opt, Batch, guard, Instance, Meddle, Stop, Offer, Ask, Event, outcome_by_lists}
-use Rattle.mm_check.specs.Below.{event_foreign_values}
-use Rattle.mm_check.specs.Below.{IsClearRun, IsGenuineRun, asked_batches, offered_bytes, HasEvidence, IsForged}
+use Rattle.mm_check.specs.Below.{event_foreign_values, IsClearRun, IsGenuineRun, asked_batches, offered_bytes, HasEvidence, IsForged}
 use Rattle.mm_check.specs.Numbering.{DecidesPremise, numbered_messages}
 use Rattle.mm_check.specs.declared.verdicts.Premise.{Premise}
 use Rattle.mm_check.specs.declared.verdicts.Premise.TheVariants.{Held, Shared, Zero, Secured, Forged}

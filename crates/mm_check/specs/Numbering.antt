@@ -5,8 +5,8 @@ use Rattle.std.specs.List.{flat_map, fold, list_any}
 use Rattle.std.specs.Str.{bytes_eq}
 use Rattle.mm_check.specs.Below.{start_message, Opt, own_values, History, first_history, total_of, Instance, IsClear, list_level, Event}
 use Rattle.mm_check.specs.Below.{lines_of_reply, end_line, Reply, RunOutcome, event_outcome, first_issued, outcome_by_lists}
-use Rattle.mm_check.specs.Below.{event_foreign_values, IsClearRun}
-use Rattle.mm_check.specs.Below.{IsGenuineEvent, IsGenuineRun, asked_batches, run_messages, numbered_event_messages}
+use Rattle.mm_check.specs.Below.{event_foreign_values, IsClearRun, IsGenuineEvent, IsGenuineRun, asked_batches, run_messages}
+use Rattle.mm_check.specs.Below.{numbered_event_messages}
 use Rattle.mm_check.specs.Listing.{number_of_first, messages_with, message_digests, shared_pair_in, zero_number_in}
 use Rattle.mm_check.specs.declared.verdicts.Premise.{Premise}
 use Rattle.mm_check.specs.declared.verdicts.Premise.TheVariants.{Held, Shared, Zero, Secured, Forged}

@@ -42,6 +42,5 @@ pub use Rattle.mm_outcome.specs.OneRun.{FrontsAreOneRun}
 pub use Rattle.mm_outcome.specs.Premises.{AreApartIn, AreGenuine, asked_batches, foreign_values, IsClearRun, IsGenuineEvent}
 pub use Rattle.mm_outcome.specs.Premises.{IsGenuineOffer, IsGenuineRun, run_messages}
 pub use Rattle.mm_evidence.specs.Evidence.{clash, collision, forgery, guarded, HasClash, HasEvidence, IsForged, zero_digest}
-pub use Rattle.mm_evidence.specs.Laws.{ForgedAreNew, FrontsAreLongest, IsDecidedRun, IsMadeUp, IsOneRunOrEvidence}
-pub use Rattle.mm_evidence.specs.Laws.{IsFrontWithoutEvidence, RunsUntil, StopsAt}
-pub use Rattle.mm_evidence.specs.Laws.{RepliesAreOneRun}
+pub use Rattle.mm_evidence.specs.Laws.{ForgedAreNew, FrontsAreLongest, IsDecidedRun, IsMadeUp, IsOneRunOrEvidence, IsFrontWithoutEvidence}
+pub use Rattle.mm_evidence.specs.Laws.{RunsUntil, StopsAt, RepliesAreOneRun}

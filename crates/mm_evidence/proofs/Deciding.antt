@@ -1,13 +1,11 @@
 -- A run meets the premises or gives evidence, and never both.
-use Rattle.mm_evidence.proofs.Below.{IsClear}
-use Rattle.mm_evidence.proofs.Below.{◌≡◌, ◌≢◌, ◌∙◌, ◌&&◌, ◌⊎◌, ◌++◌, ◌∷◌, ap, Bool, true, false, List, [], ℕ, Option, None, Some, inl, inr}
-use Rattle.mm_evidence.proofs.Below.{refl, sym, subst, not, Decides, Decides-and, Decides-not, Contains, bytes_eq, bytes_eq-Decides}
-use Rattle.mm_evidence.proofs.Below.{sha256, zero_bytes, Variant, Basic, Opt, parts_of, Content, Batch}
-use Rattle.mm_evidence.proofs.Below.{Meaning, guard, first_history, History, Instance, AreNoGuards, NamesPosition, IsGenuine, IsRight}
-use Rattle.mm_evidence.proofs.Below.{right_content, list_level, one_content, right_of, instance_by, Ask, Checkpoint, Event, Extend}
-use Rattle.mm_evidence.proofs.Below.{Power, is_named, IsDecided, BasicNamesAreDecided, OptNamesAreDecided, event_outcome}
-use Rattle.mm_evidence.proofs.Below.{outcome_by_lists, first_issued, outcome_of_events, RunOutcome, AreApartIn, AreGenuine, asked_batches}
-use Rattle.mm_evidence.proofs.Below.{foreign_values, IsClearRun}
+use Rattle.mm_evidence.proofs.Below.{IsClear, ◌≡◌, ◌≢◌, ◌∙◌, ◌&&◌, ◌⊎◌, ◌++◌, ◌∷◌, ap, Bool, true, false, List, [], ℕ, Option, None, Some}
+use Rattle.mm_evidence.proofs.Below.{inl, inr, refl, sym, subst, not, Decides, Decides-and, Decides-not, Contains, bytes_eq}
+use Rattle.mm_evidence.proofs.Below.{bytes_eq-Decides, sha256, zero_bytes, Variant, Basic, Opt, parts_of, Content, Batch, Meaning, guard}
+use Rattle.mm_evidence.proofs.Below.{first_history, History, Instance, AreNoGuards, NamesPosition, IsGenuine, IsRight, right_content}
+use Rattle.mm_evidence.proofs.Below.{list_level, one_content, right_of, instance_by, Ask, Checkpoint, Event, Extend, Power, is_named}
+use Rattle.mm_evidence.proofs.Below.{IsDecided, BasicNamesAreDecided, OptNamesAreDecided, event_outcome, outcome_by_lists, first_issued}
+use Rattle.mm_evidence.proofs.Below.{outcome_of_events, RunOutcome, AreApartIn, AreGenuine, asked_batches, foreign_values, IsClearRun}
 use Rattle.mm_evidence.proofs.Below.{IsGenuineEvent, IsGenuineOffer, IsGenuineRun, run_messages, clash, collision, forgery, guarded}
 use Rattle.mm_evidence.proofs.Below.{HasClash, HasEvidence, IsForged, offered_bytes, zero_digest, IsDecidedRun}
 use Rattle.mm_outcome.proofs.Above.{said_of}

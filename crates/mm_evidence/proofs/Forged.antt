@@ -1,12 +1,8 @@
 -- A forged offer is none of the snapshots that the run issued.
-use Rattle.mm_evidence.proofs.Below.{◌≡◌, ◌≤◌, List, ℕ, Some, subst, length, last_position}
-use Rattle.mm_evidence.proofs.Below.{AllByRecursion, Contains, All-contains, All-from_recursion, Contains-get_or, slice_get}
-use Rattle.mm_evidence.proofs.Below.{get_or_from_slice_get, slice_get_within}
-use Rattle.mm_evidence.proofs.Below.{IsLawful}
-use Rattle.mm_evidence.proofs.Below.{History}
-use Rattle.mm_evidence.proofs.Below.{total_of, Instance, Event, Offer}
-use Rattle.mm_evidence.proofs.Below.{Flip, Last, Number, Raw, ◌-◌, outcome_by_lists, IsIssued, IssuedNamePositions, offered_bytes, IsForged}
-use Rattle.mm_evidence.proofs.Below.{ForgedAreNew, IsMadeUp}
+use Rattle.mm_evidence.proofs.Below.{◌≡◌, ◌≤◌, List, ℕ, Some, subst, length, last_position, AllByRecursion, Contains, All-contains}
+use Rattle.mm_evidence.proofs.Below.{All-from_recursion, Contains-get_or, slice_get, get_or_from_slice_get, slice_get_within, IsLawful}
+use Rattle.mm_evidence.proofs.Below.{History, total_of, Instance, Event, Offer, Flip, Last, Number, Raw, ◌-◌, outcome_by_lists, IsIssued}
+use Rattle.mm_evidence.proofs.Below.{IssuedNamePositions, offered_bytes, IsForged, ForgedAreNew, IsMadeUp}
 use Rattle.mm_outcome.proofs.Above.{issued_names}
 
 module _ (i : Instance) (y : History) (lawful : IsLawful i.meaning) (few : total_of y.batches ≤ last_position) where

@@ -1,8 +1,7 @@
 -- The events before the first one that gives evidence: what holds of each first part that meets the premises holds of each of theirs.
 use Rattle.mm_evidence.proofs.Below.{◌≡◌, ◌∙◌, ◌⊎◌, ◌++◌, ◌∷◌, ap, List, [], inl, inr, refl, sym, subst, append_assoc, append-nil, Instance}
 use Rattle.mm_evidence.proofs.Below.{Event, IsClearRun, IsGenuineRun, HasEvidence, IsFrontWithoutEvidence, RunsUntil, StopsAt}
-use Rattle.mm_evidence.proofs.Below.{FrontsAreLongest}
-use Rattle.mm_evidence.proofs.Below.{IsDecidedRun, FrontsAreOneRun, RepliesAreOneRun, IsOneRunOrEvidence}
+use Rattle.mm_evidence.proofs.Below.{FrontsAreLongest, IsDecidedRun, FrontsAreOneRun, RepliesAreOneRun, IsOneRunOrEvidence}
 use Rattle.mm_evidence.proofs.FrontCases.{fronts_cases}
 
 -- a list is empty, or has a last event

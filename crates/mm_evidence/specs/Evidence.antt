@@ -2,9 +2,8 @@
 -- it hashes, of the values of others, and of what it is offered.
 use Rattle.std.specs.Prelude.{◌≡◌, ◌≢◌, ℕ, List, ◌∷◌, ◌++◌, Option, Some}
 use Rattle.std.specs.List.{Contains}
-use Rattle.mm_evidence.specs.Below.{sha256, zero_bytes, Opt, Content, Batch, guard, History, Instance, Meddle, Stop, Offer}
-use Rattle.mm_evidence.specs.Below.{NamesPosition, IsRight, Ask, Event, outcome_by_lists}
-use Rattle.mm_evidence.specs.Below.{offered_bytes, run_messages, foreign_values, asked_batches}
+use Rattle.mm_evidence.specs.Below.{sha256, zero_bytes, Opt, Content, Batch, guard, History, Instance, Meddle, Stop, Offer, NamesPosition}
+use Rattle.mm_evidence.specs.Below.{IsRight, Ask, Event, outcome_by_lists, offered_bytes, run_messages, foreign_values, asked_batches}
 
 -- The evidence in messages, and in values of others and batches: two different messages have one
 -- digest; or the digest of one is zero; or, in Opt, a value is the guard of a batch.

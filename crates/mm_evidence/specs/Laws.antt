@@ -1,9 +1,8 @@
 -- The laws of evidence.
 use Rattle.std.specs.Prelude.{◌≡◌, ◌⊎◌, ℕ, List, [], ◌∷◌, ◌++◌, Some}
 use Rattle.std.specs.List.{Contains}
-use Rattle.mm_evidence.specs.Below.{Instance, Event, Offer, Flip, Raw}
-use Rattle.mm_evidence.specs.Below.{outcome_by_lists, outcome_by_digests, IsOneRun}
-use Rattle.mm_evidence.specs.Below.{IsClearRun, IsGenuineRun, offered_bytes}
+use Rattle.mm_evidence.specs.Below.{Instance, Event, Offer, Flip, Raw, outcome_by_lists, outcome_by_digests, IsOneRun, IsClearRun}
+use Rattle.mm_evidence.specs.Below.{IsGenuineRun, offered_bytes}
 use Rattle.mm_evidence.specs.Evidence.{HasEvidence, IsForged}
 
 -- Behind these events there is none, or the next one gives evidence.

@@ -2,8 +2,7 @@
 use Rattle.mm_expect.proofs.Below.{◌≡◌, ℕ, List, [], ◌∷◌, ◌++◌, refl, sym, ap, ◌∙◌, option_to_list, Variant, Basic, Opt, AnyModule}
 use Rattle.mm_expect.proofs.Below.{meaning_of, Instance, History, first_history, list_level, instance_by, Header, Event, Outcome}
 use Rattle.mm_expect.proofs.Below.{event_outcome, RunOutcome, outcome_by_lists, first_issued, world_of, world_key, world_barrier, goes_on}
-use Rattle.mm_expect.proofs.Below.{EventReply}
-use Rattle.mm_expect.proofs.Below.{ChronicleGoesByEvent, ChronicleView, instance_with, ExpectedState, expected_state_after}
+use Rattle.mm_expect.proofs.Below.{EventReply, ChronicleGoesByEvent, ChronicleView, instance_with, ExpectedState, expected_state_after}
 use Rattle.mm_expect.proofs.Below.{first_expected_state, IsAfter}
 
 world_is : (variant : Variant) («module» : AnyModule)

@@ -3,17 +3,14 @@ use Rattle.mm_expect.proofs.Below.{◌≡◌, ℕ, ◌+◌, ◌≤◌, Bool, tru
 use Rattle.mm_expect.proofs.Below.{sym, ap, ◌∙◌, subst, arith, if◌then◌else◌, nat_eq, append-nil, last_position, Variant, Basic, Opt}
 use Rattle.mm_expect.proofs.Below.{StepFault, Meddle, Stop, Batch, size_of, Instance, History, Move, Commit, Foreign, total_of, is_last}
 use Rattle.mm_expect.proofs.Below.{DeviceStep, Reads, ask_steps, Refusal, is_last_of, total-push, answer_on, list_level, state_after_moves}
-use Rattle.mm_expect.proofs.Below.{CallFinding, finding_at}
-use Rattle.mm_expect.proofs.Below.{finding_unless_wanting, is_fresh, End, Done, Fails, StepFate, StepsWalk, walk_from_step, walk}
-use Rattle.mm_expect.proofs.Below.{moves_seen, has_commit}
-use Rattle.mm_expect.proofs.Below.{fate_by_plan, Answers, Breaks, CallOutcome, reading_steps, position_of, call_ending_by, call_outcome}
-use Rattle.mm_expect.proofs.Below.{state_seen, position_if_committed}
-use Rattle.mm_expect.proofs.Below.{call_outcome_with, AskResult, Refused, Broken, committed_batches, same_batches, more_batches, Commits}
-use Rattle.mm_expect.proofs.Below.{nothing, batch}
+use Rattle.mm_expect.proofs.Below.{CallFinding, finding_at, finding_unless_wanting, is_fresh, End, Done, Fails, StepFate, StepsWalk}
+use Rattle.mm_expect.proofs.Below.{walk_from_step, walk, moves_seen, has_commit, fate_by_plan, Answers, Breaks, CallOutcome, reading_steps}
+use Rattle.mm_expect.proofs.Below.{position_of, call_ending_by, call_outcome, state_seen, position_if_committed, call_outcome_with}
+use Rattle.mm_expect.proofs.Below.{AskResult, Refused, Broken, committed_batches, same_batches, more_batches, Commits, nothing, batch}
 use Rattle.mm_expect.proofs.Below.{finished_walk, commits-none, writing_commits, commits_batch, seen_none, reading_none, course_of, plan_of}
 use Rattle.mm_expect.proofs.Below.{ChronicleView, ChronicleGoes, chronicle_instance, instance_with, ChronicleWalks, repeat_in, AdmitsBatch}
-use Rattle.mm_expect.proofs.Below.{changing_steps, first_changing_step}
-use Rattle.mm_expect.proofs.Below.{changes_on, ChronicleChanges, ending_of, new_ending, NewCallGoesOn, ChronicleCalls}
+use Rattle.mm_expect.proofs.Below.{changing_steps, first_changing_step, changes_on, ChronicleChanges, ending_of, new_ending, NewCallGoesOn}
+use Rattle.mm_expect.proofs.Below.{ChronicleCalls}
 use Rattle.mm_module.specs.BatchLaws.{size_of-pos}
 use Rattle.mm_call.specs.WalkLaws as walks
 use Rattle.mm_call.specs.WalkLaws.{foreign_made, history_with_values}

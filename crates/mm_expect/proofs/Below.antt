@@ -3,9 +3,8 @@ pub use Rattle.std.specs.List.{AllByRecursion, list_any}
 pub use Rattle.std.specs.Prelude.{◌==◌, ◌||◌, IfOk, if◌then◌else◌, IsTrue, nat_eq, nat_le, option_map, option_to_list, slice_get}
 pub use Rattle.std.specs.Str.{bytes_eq}
 pub use Rattle.std.proofs.Common.{◌&&◌, ◌++◌, ◌+◌, ◌-◌, ◌<◌, ◌∙◌, ◌∷◌, ◌≡◌, ◌≤◌, [], ap, append_assoc, arith, Bool, cond, Err, false}
-pub use Rattle.std.proofs.Common.{filter}
-pub use Rattle.std.proofs.Common.{get_or, length, length-drop, List, map, None, Ok, Option, refl, Result, Some, subst, suc, sym, take, true}
-pub use Rattle.std.proofs.Common.{zero, ℕ}
+pub use Rattle.std.proofs.Common.{filter, get_or, length, length-drop, List, map, None, Ok, Option, refl, Result, Some, subst, suc, sym}
+pub use Rattle.std.proofs.Common.{take, true, zero, ℕ}
 pub use Rattle.std.proofs.lemmas.Bool.Decides.{Decides-eqb}
 pub use Rattle.std.proofs.lemmas.List.{append-nil, map-append, same_from_push}
 pub use Rattle.std.proofs.lemmas.List.Elements.{filter_more}
@@ -53,8 +52,7 @@ pub use Rattle.mm_call.specs.CallOutcome.{Answers, Breaks, CallOutcome, call_out
 pub use Rattle.mm_call.specs.CallOutcome.{state_seen}
 pub use Rattle.mm_call.specs.CallOutcomeWords.{call_outcome_with, position_if_committed}
 pub use Rattle.mm_call.specs.Courses.{walk_from_step, has_close, has_commit, Course, Done, End, Fails, StepFate, fate_by_plan, moves_seen}
-pub use Rattle.mm_call.specs.Courses.{step_moves, walk}
-pub use Rattle.mm_call.specs.Courses.{StepsWalk}
+pub use Rattle.mm_call.specs.Courses.{step_moves, walk, StepsWalk}
 pub use Rattle.mm_call.specs.CoursesWords.{end_of, made_move}
 pub use Rattle.mm_call.specs.CallFinding.{CallFinding, finding_at, finding_by_verdict, right_content}
 pub use Rattle.mm_call.specs.CallFindingWords.{finding_unless_wanting, is_fresh}
@@ -62,8 +60,7 @@ pub use Rattle.mm_call.specs.Levels.{state_after_moves, list_level}
 pub use Rattle.mm_call.specs.MoveLaws.{anchor-nil, committed_batches, more_batches, same_batches, summary-nil}
 pub use Rattle.mm_call.specs.Standing.{instance_by}
 pub use Rattle.mm_call.specs.WalkLaws.{batch, call_commits, Commits, commits-none, commits_batch, finished_walk, made-append, nothing}
-pub use Rattle.mm_call.specs.WalkLaws.{seen_none}
-pub use Rattle.mm_call.specs.WalkLaws.{writing_commits}
+pub use Rattle.mm_call.specs.WalkLaws.{seen_none, writing_commits}
 pub use Rattle.mm_call.specs.declared.ended.AskResult.{AskResult}
 pub use Rattle.mm_call.specs.declared.ended.AskResult.TheVariants.{Answered, Broken, Refused}
 pub use Rattle.mm_call.proofs.Above.{admitted_tells, again_of, found_with_tells, fresh_found, requests-push, said_last, unlacked}
@@ -75,8 +72,7 @@ pub use Rattle.mm_history.specs.Marks.{closed_marks, emptied_marks, grown_marks,
 pub use Rattle.mm_history.specs.Naming.{IsDecided}
 pub use Rattle.mm_history.specs.declared.marks.HistoryMarks.{HistoryMarks}
 pub use Rattle.mm_outcome.specs.Folds.{moves_after_stop, moves_after_checkpoint, course_of, event_outcome, outcome_by_lists, first_issued}
-pub use Rattle.mm_outcome.specs.Folds.{RunOutcome, outcome_of_events}
-pub use Rattle.mm_outcome.specs.Folds.{moves_after_call, Outcome, reply_of, snapshots_of, way_of, plan_of}
+pub use Rattle.mm_outcome.specs.Folds.{RunOutcome, outcome_of_events, moves_after_call, Outcome, reply_of, snapshots_of, way_of, plan_of}
 pub use Rattle.mm_outcome.specs.WorldState.{world_of, world_barrier, world_key}
 pub use Rattle.mm_outcome.specs.Laws.{IsIssued}
 pub use Rattle.mm_outcome.specs.EventOffers.{offered_bytes}
@@ -84,8 +80,7 @@ pub use Rattle.mm_outcome.specs.Premises.{IsGenuineEvent}
 pub use Rattle.mm_outcome.proofs.Above.{basic_issued_named, closing_all, goes_on, in_any_way, last_steps, opt_issued_named, printed_closing}
 pub use Rattle.mm_outcome.proofs.Above.{short_outputs, then_all, broken_reply, told_reply}
 pub use Rattle.mm_expect.specs.Calls.{AdmitsBatch, repeat_in, ChronicleCalls, changes_on, ChronicleChanges, first_changing_step}
-pub use Rattle.mm_expect.specs.Calls.{changing_steps, ending_of, NewCallGoesOn}
-pub use Rattle.mm_expect.specs.Calls.{new_ending, count_after_batch}
+pub use Rattle.mm_expect.specs.Calls.{changing_steps, ending_of, NewCallGoesOn, new_ending, count_after_batch}
 pub use Rattle.mm_expect.specs.ChronicleEvents.{call_outcome_on, moves_if, ChronicleGoesByCall, ChronicleGoesByEvent}
 pub use Rattle.mm_expect.specs.GenuineOffers.{EachOfferIsDecided, IssuedAreGenuine}
 pub use Rattle.mm_expect.specs.OfferDecision.{AreIssued, DecidesBytes, DecidesEvent, DecidesOffer, IsAmong}

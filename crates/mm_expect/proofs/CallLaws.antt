@@ -2,10 +2,9 @@
 use Rattle.mm_expect.proofs.Below.{ℕ, ◌≡◌, Bool, true, false, List, [], ◌++◌, refl, sym, ap, ◌∙◌, append_assoc, option_to_list, Variant}
 use Rattle.mm_expect.proofs.Below.{Opt, zero_bytes, Meddle, Stop, Batch, InOpt, Instance, History, cell_digest_of, issued_place, digest_of}
 use Rattle.mm_expect.proofs.Below.{AskResult, Answered, Refused, Broken, CallOutcome, right_content, list_level, state_after_moves, way_of}
-use Rattle.mm_expect.proofs.Below.{reply_of}
-use Rattle.mm_expect.proofs.Below.{snapshots_of, moves_after_call, moves_after_stop, HistoryMarks, EventReply, ChronicleCalls, ending_of}
-use Rattle.mm_expect.proofs.Below.{ChronicleGoesByCall, call_outcome_on, moves_if}
-use Rattle.mm_expect.proofs.Below.{marks_of, ChronicleView, ChronicleGoes, instance_with, chronicle_instance}
+use Rattle.mm_expect.proofs.Below.{reply_of, snapshots_of, moves_after_call, moves_after_stop, HistoryMarks, EventReply, ChronicleCalls}
+use Rattle.mm_expect.proofs.Below.{ending_of, ChronicleGoesByCall, call_outcome_on, moves_if, marks_of, ChronicleView, ChronicleGoes}
+use Rattle.mm_expect.proofs.Below.{instance_with, chronicle_instance}
 use Rattle.mm_digest.specs.declared.digest.Digest.{Digest}
 use Rattle.mm_call.specs.CallPremises.{right_messages}
 use Rattle.mm_call.specs.EndedCall.{is_broken}

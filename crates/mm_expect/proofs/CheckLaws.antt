@@ -1,13 +1,10 @@
 -- A checkpoint by lists, step by step.
 use Rattle.mm_expect.proofs.Below.{◌≡◌, ℕ, Bool, true, false, List, [], ◌∷◌, ◌++◌, Option, None, Some, refl, sym, ap, ◌∙◌, subst, Variant}
 use Rattle.mm_expect.proofs.Below.{Opt, StepFault, Meddle, Stop, fault_at, is_made_at, Instance, History, Close, life_of, is_lost}
-use Rattle.mm_expect.proofs.Below.{DeviceStep}
-use Rattle.mm_expect.proofs.Below.{Reads, Writes, checkpoint_steps, list_level, state_after_moves, StepFate, StepsWalk, walk_from_step}
-use Rattle.mm_expect.proofs.Below.{walk, moves_seen, has_close}
-use Rattle.mm_expect.proofs.Below.{fate_by_plan, end_of, reading_steps, state_seen, finished_walk, closes-append, closes-foreign}
-use Rattle.mm_expect.proofs.Below.{ClosesNone, shut_along}
-use Rattle.mm_expect.proofs.Below.{walk_along, course_of, plan_of, last_steps, Closes, Stops, ChronicleView, ChronicleGoes}
-use Rattle.mm_expect.proofs.Below.{chronicle_instance, ChronicleWalks}
+use Rattle.mm_expect.proofs.Below.{DeviceStep, Reads, Writes, checkpoint_steps, list_level, state_after_moves, StepFate, StepsWalk}
+use Rattle.mm_expect.proofs.Below.{walk_from_step, walk, moves_seen, has_close, fate_by_plan, end_of, reading_steps, state_seen}
+use Rattle.mm_expect.proofs.Below.{finished_walk, closes-append, closes-foreign, ClosesNone, shut_along, walk_along, course_of, plan_of}
+use Rattle.mm_expect.proofs.Below.{last_steps, Closes, Stops, ChronicleView, ChronicleGoes, chronicle_instance, ChronicleWalks}
 use Rattle.mm_call.specs.Checkpoints as ghost_closing
 use Rattle.mm_call.specs.CheckpointsWords as ghost_closing_words
 use Rattle.mm_expect.specs.declared.calls.ClosingResult.{ClosingResult}

@@ -1,17 +1,13 @@
 -- What an event comes to by lists: a schedule commits at most 2^48 requests, and each expected reply can be printed.
-use Rattle.mm_expect.proofs.Below.{◌≡◌, ℕ, ◌≤◌, Bool, true, false, List, [], ◌∷◌, length, Option, None, Some, Result, Ok, Err, refl}
-use Rattle.mm_expect.proofs.Below.{ap, arith, last_position, longest_request, StepFault, IsLawful, outputs_from, Batch, normal_batch}
-use Rattle.mm_expect.proofs.Below.{Instance, History, Move, first_history, requests_of, total_of, ask_steps, Refusal, total-push}
-use Rattle.mm_expect.proofs.Below.{answer_on, reading_steps, call_outcome, CallOutcome, call_ending_by, position_of, state_seen}
-use Rattle.mm_expect.proofs.Below.{position_if_committed, Course, StepsWalk, walk}
-use Rattle.mm_expect.proofs.Below.{has_commit, CallFinding, finding_at, finding_unless_wanting, is_fresh, list_level, state_after_moves}
-use Rattle.mm_expect.proofs.Below.{unlacked, committed_batches}
-use Rattle.mm_expect.proofs.Below.{same_batches, more_batches, Commits, nothing, batch, call_commits, checkpoint_none, fresh_found}
-use Rattle.mm_expect.proofs.Below.{again_of}
-use Rattle.mm_expect.proofs.Below.{Event, IsPrintable, course_of, way_of, reply_of, moves_after_call, moves_after_checkpoint, told_reply}
-use Rattle.mm_expect.proofs.Below.{broken_reply}
-use Rattle.mm_expect.proofs.Below.{event_outcome, outcome_of_events, first_issued, outcome_by_lists, in_any_way, then_all, closing_all}
-use Rattle.mm_expect.proofs.Below.{short_outputs}
+use Rattle.mm_expect.proofs.Below.{◌≡◌, ℕ, ◌≤◌, Bool, true, false, List, [], ◌∷◌, length, Option, None, Some, Result, Ok, Err, refl, ap}
+use Rattle.mm_expect.proofs.Below.{arith, last_position, longest_request, StepFault, IsLawful, outputs_from, Batch, normal_batch, Instance}
+use Rattle.mm_expect.proofs.Below.{History, Move, first_history, requests_of, total_of, ask_steps, Refusal, total-push, answer_on}
+use Rattle.mm_expect.proofs.Below.{reading_steps, call_outcome, CallOutcome, call_ending_by, position_of, state_seen, position_if_committed}
+use Rattle.mm_expect.proofs.Below.{Course, StepsWalk, walk, has_commit, CallFinding, finding_at, finding_unless_wanting, is_fresh}
+use Rattle.mm_expect.proofs.Below.{list_level, state_after_moves, unlacked, committed_batches, same_batches, more_batches, Commits, nothing}
+use Rattle.mm_expect.proofs.Below.{batch, call_commits, checkpoint_none, fresh_found, again_of, Event, IsPrintable, course_of, way_of}
+use Rattle.mm_expect.proofs.Below.{reply_of, moves_after_call, moves_after_checkpoint, told_reply, broken_reply, event_outcome}
+use Rattle.mm_expect.proofs.Below.{outcome_of_events, first_issued, outcome_by_lists, in_any_way, then_all, closing_all, short_outputs}
 use Rattle.mm_expect.proofs.Below.{printed_closing, AdmitsBatch, sym, ◌∙◌, ◌-◌, size_of, length-drop, length-outputs_from}
 use Rattle.std.proofs.lemmas.List.Elements.{All-drop}
 use Rattle.mm_call.specs.Checkpoints.{CheckpointOutcome, checkpoint_outcome}

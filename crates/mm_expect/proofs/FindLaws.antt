@@ -2,10 +2,8 @@
 use Rattle.mm_expect.proofs.Below.{◌≡◌, ℕ, ◌+◌, ◌≤◌, Bool, true, false, ◌&&◌, List, Result, Ok, Err, refl, arith, nat_eq, bytes_eq}
 use Rattle.mm_expect.proofs.Below.{Decides-eqb, last_position, Batch, size_of, PartsFault, Snapshot, tag_of, parts_of, Instance, History}
 use Rattle.mm_expect.proofs.Below.{total_of, Life, Live, life_by, life_of, is_lost, is_last, verdict_by_tests, verdict_on, list_level}
-use Rattle.mm_expect.proofs.Below.{CallFinding}
-use Rattle.mm_expect.proofs.Below.{finding_by_verdict, finding_at, admitted_tells, weighed_tells, found_with_tells, unless_lost}
-use Rattle.mm_expect.proofs.Below.{count_after_batch}
-use Rattle.mm_expect.proofs.Below.{AdmitsBatch}
+use Rattle.mm_expect.proofs.Below.{CallFinding, finding_by_verdict, finding_at, admitted_tells, weighed_tells, found_with_tells}
+use Rattle.mm_expect.proofs.Below.{unless_lost, count_after_batch, AdmitsBatch}
 use Rattle.std.proofs.lemmas.Bool.{and_parts, leb-true}
 use Rattle.mm_seal.specs.declared.snapshot.PartsFault.TheVariants.{Form, Kind}
 use Rattle.mm_call.specs.WeighingLaws.{weighed_only}

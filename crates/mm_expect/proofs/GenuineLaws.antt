@@ -1,9 +1,6 @@
 -- Whether an offer is genuine, by whether what it says names a position.
-use Rattle.mm_expect.proofs.Below.{◌≡◌, ℕ, zero, suc, Bool, true, false, List, [], ◌∷◌, None, Some, refl, sym, ◌∙◌}
-use Rattle.mm_expect.proofs.Below.{subst, slice_get, AllByRecursion}
-use Rattle.mm_expect.proofs.Below.{parts_of, Content}
-use Rattle.mm_expect.proofs.Below.{Instance, History}
-use Rattle.mm_expect.proofs.Below.{NamesPosition, IsGenuine, right_content, IsIssued}
+use Rattle.mm_expect.proofs.Below.{◌≡◌, ℕ, zero, suc, Bool, true, false, List, [], ◌∷◌, None, Some, refl, sym, ◌∙◌, subst, slice_get}
+use Rattle.mm_expect.proofs.Below.{AllByRecursion, parts_of, Content, Instance, History, NamesPosition, IsGenuine, right_content, IsIssued}
 use Rattle.mm_expect.proofs.Below.{IsDecided, EachOfferIsDecided, IssuedAreGenuine}
 use Rattle.mm_outcome.proofs.Above.{issued_names, said_of}
 use Rattle.mm_call.specs.OfferLaws.{one_content, right_of}

@@ -1,12 +1,10 @@
 -- Whether an offer is genuine.
-use Rattle.mm_expect.proofs.Below.{◌≡◌, ℕ, Bool, true, List, Option, None, Some, refl, sym, ap, ◌∙◌, subst, slice_get, IfOk}
-use Rattle.mm_expect.proofs.Below.{AllByRecursion, Variant, Basic, Opt, Meaning, AnyModule, meaning_of, any_is_lawful, Content}
-use Rattle.mm_expect.proofs.Below.{Instance, opt_instance, NamesPosition, IsGenuine, right_content, History, instance_by, Header, Event}
-use Rattle.mm_expect.proofs.Below.{offered_bytes}
+use Rattle.mm_expect.proofs.Below.{◌≡◌, ℕ, Bool, true, List, Option, None, Some, refl, sym, ap, ◌∙◌, subst, slice_get, IfOk, AllByRecursion}
+use Rattle.mm_expect.proofs.Below.{Variant, Basic, Opt, Meaning, AnyModule, meaning_of, any_is_lawful, Content, Instance, opt_instance}
+use Rattle.mm_expect.proofs.Below.{NamesPosition, IsGenuine, right_content, History, instance_by, Header, Event, offered_bytes}
 use Rattle.mm_expect.proofs.Below.{outcome_by_lists, world_of, world_key, world_barrier, IsIssued, IsGenuineEvent, basic_issued_named}
-use Rattle.mm_expect.proofs.Below.{opt_issued_named, AreIssued, IsAmong, DecidesBytes, DecidesOffer}
-use Rattle.mm_expect.proofs.Below.{DecidesEvent, IsDecided, ChronicleView, barrier_of, instance_with, chronicle_instance, ExpectedState}
-use Rattle.mm_expect.proofs.Below.{IsAfter}
+use Rattle.mm_expect.proofs.Below.{opt_issued_named, AreIssued, IsAmong, DecidesBytes, DecidesOffer, DecidesEvent, IsDecided, ChronicleView}
+use Rattle.mm_expect.proofs.Below.{barrier_of, instance_with, chronicle_instance, ExpectedState, IsAfter}
 use Rattle.std.specs.Prelude.{Result}
 use Rattle.mm_schedule.specs.declared.event.Offer.{Offer}
 use Rattle.mm_outcome.specs.Premises.{IsGenuineOffer}

@@ -2,14 +2,11 @@
 use Rattle.mm_expect.proofs.Below.{◌≡◌, ◌≤◌, ℕ, Bool, true, false, List, [], ◌∷◌, ◌++◌, length, sym, ap, ◌∙◌, subst, IsTrue, nat_le}
 use Rattle.mm_expect.proofs.Below.{same_from_push, list_any, ◌||◌, Variant, Basic, Opt, Batch, members_of, size_of, limit_of, zero_bytes}
 use Rattle.mm_expect.proofs.Below.{start_digest_of, state_after, outputs_from, state_after-append, state_from-is_spelled, AnyModule}
-use Rattle.mm_expect.proofs.Below.{meaning_of}
-use Rattle.mm_expect.proofs.Below.{Instance, any_is_lawful, guard, register_of, History, Value, first_history, requests_of, total_of}
-use Rattle.mm_expect.proofs.Below.{history_after_commit, cell_digest_of, values_of, is_last, is_long, digest_of, issued_bytes}
-use Rattle.mm_expect.proofs.Below.{is_last_tells}
-use Rattle.mm_expect.proofs.Below.{answer_on, last_outputs, Answered, anchor-nil, summary-nil, is_empty, has_value, requests-push}
-use Rattle.mm_expect.proofs.Below.{said_last, HistoryMarks, marks_of, with_value, emptied_marks, closed_marks, linked_marks, grown_marks}
-use Rattle.mm_expect.proofs.Below.{opened_marks}
-use Rattle.mm_expect.proofs.Below.{ChronicleView, barrier_of, instance_with, chronicle_instance}
+use Rattle.mm_expect.proofs.Below.{meaning_of, Instance, any_is_lawful, guard, register_of, History, Value, first_history, requests_of}
+use Rattle.mm_expect.proofs.Below.{total_of, history_after_commit, cell_digest_of, values_of, is_last, is_long, digest_of, issued_bytes}
+use Rattle.mm_expect.proofs.Below.{is_last_tells, answer_on, last_outputs, Answered, anchor-nil, summary-nil, is_empty, has_value}
+use Rattle.mm_expect.proofs.Below.{requests-push, said_last, HistoryMarks, marks_of, with_value, emptied_marks, closed_marks, linked_marks}
+use Rattle.mm_expect.proofs.Below.{grown_marks, opened_marks, ChronicleView, barrier_of, instance_with, chronicle_instance}
 use Rattle.std.proofs.lemmas.List.Folds.{list_any-append}
 use Rattle.mm_module.specs.MeaningWords.{state_from}
 use Rattle.mm_model.specs.FormLaws.{reads_zero}

@@ -1,13 +1,11 @@
 -- A chronicle goes on by moves, one after another.
 use Rattle.mm_expect.proofs.Below.{◌≡◌, ℕ, ◌+◌, ◌<◌, Bool, true, false, List, [], ◌∷◌, ◌++◌, length, map, take, get_or, filter, cond}
-use Rattle.mm_expect.proofs.Below.{Option, None, Some, refl, sym, ap, ◌∙◌, subst, append_assoc, ◌==◌, if◌then◌else◌, append-nil}
-use Rattle.mm_expect.proofs.Below.{map-append, filter_more, Decides-eqb, StepFault, Meddle, Stop, Fail, due_values, fault_at, is_made_at}
-use Rattle.mm_expect.proofs.Below.{Instance}
+use Rattle.mm_expect.proofs.Below.{Option, None, Some, refl, sym, ap, ◌∙◌, subst, append_assoc, ◌==◌, if◌then◌else◌, append-nil, map-append}
+use Rattle.mm_expect.proofs.Below.{filter_more, Decides-eqb, StepFault, Meddle, Stop, Fail, due_values, fault_at, is_made_at, Instance}
 use Rattle.mm_expect.proofs.Below.{History, Move, Foreign, history_after, DeviceStep, list_level, state_after_moves, StepFate, step_moves}
-use Rattle.mm_expect.proofs.Below.{walk_from_step, walk, fate_by_plan}
-use Rattle.mm_expect.proofs.Below.{made_move, end_of, made-append, plan_of, ChronicleView, ChronicleGoes, chronicle_instance, instance_with}
-use Rattle.mm_expect.proofs.Below.{move_of}
-use Rattle.mm_expect.proofs.Below.{model_step_of, steps_of, ChronicleWalks, arith, End, Done, Fails, StepsWalk, finished_walk}
+use Rattle.mm_expect.proofs.Below.{walk_from_step, walk, fate_by_plan, made_move, end_of, made-append, plan_of, ChronicleView}
+use Rattle.mm_expect.proofs.Below.{ChronicleGoes, chronicle_instance, instance_with, move_of, model_step_of, steps_of, ChronicleWalks}
+use Rattle.mm_expect.proofs.Below.{arith, End, Done, Fails, StepsWalk, finished_walk}
 use Rattle.std.proofs.lemmas.Bool.{false_from_ne_true}
 use Rattle.std.proofs.lemmas.Bool.Decides.{nat_tests}
 use Rattle.mm_expect.specs.NumberedMessages.{messages_if, messages_where}

@@ -2,9 +2,8 @@
 use Rattle.std.specs.Prelude.{◌≡◌, ℕ, ◌+◌, ◌≤◌, Bool, true, false, List, [], ◌∷◌, Option, None, Some, Result, Ok, Err}
 use Rattle.mm_expect.specs.Below.{last_position, Variant, Basic, Opt, StepFault, Meddle, Stop, Batch, size_of, History, Move, Commit}
 use Rattle.mm_expect.specs.Below.{Placed, Reset, total_of, is_last, DeviceStep, Changes, Writes, Refusal, answer_on, CallEnding, Answers}
-use Rattle.mm_expect.specs.Below.{Refuses}
-use Rattle.mm_expect.specs.Below.{Breaks, CallOutcome, position_if_committed, StepsWalk, fate_by_plan, walk, has_commit, CallFinding}
-use Rattle.mm_expect.specs.Below.{AskResult, Answered, Refused, Broken, plan_of}
+use Rattle.mm_expect.specs.Below.{Refuses, Breaks, CallOutcome, position_if_committed, StepsWalk, fate_by_plan, walk, has_commit}
+use Rattle.mm_expect.specs.Below.{CallFinding, AskResult, Answered, Refused, Broken, plan_of}
 use Rattle.mm_expect.specs.ChronicleView.{ChronicleView, ChronicleGoes, chronicle_instance}
 use Rattle.mm_expect.specs.ChronicleSteps.{ChronicleWalks}
 

@@ -1,8 +1,8 @@
 -- What an event comes to, as a chronicle goes on by it.
 use Rattle.std.specs.Prelude.{◌≡◌, ℕ, Bool, true, false, List, [], ◌++◌, option_to_list}
 use Rattle.mm_expect.specs.Below.{Meddle, Stop, Batch, History, Move, right_messages, CallOutcome, call_outcome, right_content, list_level}
-use Rattle.mm_expect.specs.Below.{state_after_moves}
-use Rattle.mm_expect.specs.Below.{Event, Outcome, course_of, way_of, reply_of, snapshots_of, moves_after_call, event_outcome}
+use Rattle.mm_expect.specs.Below.{state_after_moves, Event, Outcome, course_of, way_of, reply_of, snapshots_of, moves_after_call}
+use Rattle.mm_expect.specs.Below.{event_outcome}
 use Rattle.mm_expect.specs.declared.replies.EventReply.{EventReply}
 use Rattle.mm_expect.specs.NumberedMessages.{messages_where, numbered_event_messages}
 use Rattle.mm_expect.specs.ChronicleView.{ChronicleView, chronicle_instance}

@@ -2,8 +2,7 @@
 use Rattle.std.specs.Prelude.{◌≡◌, ℕ, ◌≤◌, Bool, List, Some, None, slice_get}
 use Rattle.std.specs.List.{AllByRecursion}
 use Rattle.mm_expect.specs.Below.{last_position, Content, Meaning, IsLawful, History, total_of, Instance, basic_instance, opt_instance}
-use Rattle.mm_expect.specs.Below.{NamesPosition, IsGenuine}
-use Rattle.mm_expect.specs.Below.{right_content, IsDecided, IsIssued}
+use Rattle.mm_expect.specs.Below.{NamesPosition, IsGenuine, right_content, IsDecided, IsIssued}
 
 -- An offer that isn't right is genuine; a right one exactly where what it says names a position.
 pub record OffersAreDecided (i : Instance) : Type 0 where

@@ -1,8 +1,7 @@
 -- How a call in flight begins, takes in others' values and goes on, and how it ends.
 use Rattle.mm_flight.proofs.Below.{◌≡◌, ℕ, ◌+◌, ◌<◌, Bool, true, false, List, [], ◌∷◌, ◌++◌, Option, Some, refl, sym, ap, ◌∙◌, subst, arith}
 use Rattle.mm_flight.proofs.Below.{option_map, next_count, Meddle, Quiet, Plan, Standing, plan_with_meddle, plan_by, standing_under}
-use Rattle.mm_flight.proofs.Below.{PlansAgreeAt, PlanAgreesWith}
-use Rattle.mm_flight.proofs.Below.{IsCallInFlight}
+use Rattle.mm_flight.proofs.Below.{PlansAgreeAt, PlanAgreesWith, IsCallInFlight}
 use Rattle.std.specs.Prelude.{◌==◌, filter}
 use Rattle.std.proofs.lemmas.Bool.{ne_eqb}
 use Rattle.std.proofs.lemmas.List.{append-nil}

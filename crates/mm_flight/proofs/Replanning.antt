@@ -1,8 +1,7 @@
 -- A device step that goes as its plan says goes so under each plan that says the same of it.
 use Rattle.mm_flight.proofs.Below.{◌≡◌, ℕ, ◌+◌, ◌<◌, true, Bool, List, Option, None, Some, refl, ap, ◌∙◌, subst, arith, next_count}
-use Rattle.mm_flight.proofs.Below.{StepFault}
-use Rattle.mm_flight.proofs.Below.{Meddle, Quiet, Plan, Standing, Act, StepGoes, DeviceStepEnds, StepGoesByPlan, fault_by_plan, plan_by}
-use Rattle.mm_flight.proofs.Below.{standing_under, PlansAgreeAt}
+use Rattle.mm_flight.proofs.Below.{StepFault, Meddle, Quiet, Plan, Standing, Act, StepGoes, DeviceStepEnds, StepGoesByPlan, fault_by_plan}
+use Rattle.mm_flight.proofs.Below.{plan_by, standing_under, PlansAgreeAt}
 use Rattle.mm_platform.specs.declared.fault.StepFault.TheVariants.{Failed, Off}
 
 pub counted_few : (made : ℕ) → made < 255 → next_count made ≡ made + 1

@@ -27,8 +27,7 @@ pub use Rattle.mm_outcome.specs.Folds.{RunOutcome, outcome_of_events, outcome_by
 pub use Rattle.mm_outcome.specs.WorldState.{world_of}
 pub use Rattle.mm_replay.specs.Progress.{running_replay}
 pub use Rattle.mm_replay.specs.Schedule.{running_replay_after, stage_among_events, header_stage, first_running_replay, is_too_much}
-pub use Rattle.mm_replay.specs.Schedule.{ReplayStage, RunningReplay, running_outcome}
-pub use Rattle.mm_replay.specs.Schedule.{schedule_answer, schedule_closing}
+pub use Rattle.mm_replay.specs.Schedule.{ReplayStage, RunningReplay, running_outcome, schedule_answer, schedule_closing}
 pub use Rattle.mm_replay.specs.Text.{text_of_replies}
 pub use Rattle.mm_gen.specs.Laws.{IsEventLine, IsSchedule}
 pub use Rattle.mm_gen.specs.Limits.{is_over, IsLimited}

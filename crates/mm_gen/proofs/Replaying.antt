@@ -1,12 +1,11 @@
 -- A replay of a generated schedule, from its header line to its end.
-use Rattle.mm_gen.proofs.Below.{◌≡◌, ◌∙◌, ◌≤◌, ◌+◌, ℕ, Bool, true, false, List, [], ◌∷◌, length, map, Result, Ok, Err, Some, refl}
-use Rattle.mm_gen.proofs.Below.{sym, ap, arith, lit≤, IfOk, AllByRecursion, nat_tests, recursion_from_All, longest_line}
-use Rattle.mm_gen.proofs.Below.{most_events, Variant, Basic, Opt, name_of, any_is_found, Header, Event, event_at, header_text}
-use Rattle.mm_gen.proofs.Below.{variant_text, header-read, spelled_is_read, IsEventLine, schedule_lines, outcome_by_digests}
-use Rattle.mm_gen.proofs.Below.{world_of, RunningReplay, ReplayStage, stage_among_events, header_stage, running_replay_after}
-use Rattle.mm_gen.proofs.Below.{first_running_replay, is_too_much, running_outcome}
-use Rattle.mm_gen.proofs.Below.{schedule_answer, schedule_closing, text_of_replies, IsLimited, is_over, SumsUp, BulkFault, Memory}
-use Rattle.mm_gen.proofs.Below.{TooMuch, Summary}
+use Rattle.mm_gen.proofs.Below.{◌≡◌, ◌∙◌, ◌≤◌, ◌+◌, ℕ, Bool, true, false, List, [], ◌∷◌, length, map, Result, Ok, Err, Some, refl, sym, ap}
+use Rattle.mm_gen.proofs.Below.{arith, lit≤, IfOk, AllByRecursion, nat_tests, recursion_from_All, longest_line, most_events, Variant, Basic}
+use Rattle.mm_gen.proofs.Below.{Opt, name_of, any_is_found, Header, Event, event_at, header_text, variant_text, header-read}
+use Rattle.mm_gen.proofs.Below.{spelled_is_read, IsEventLine, schedule_lines, outcome_by_digests, world_of, RunningReplay, ReplayStage}
+use Rattle.mm_gen.proofs.Below.{stage_among_events, header_stage, running_replay_after, first_running_replay, is_too_much, running_outcome}
+use Rattle.mm_gen.proofs.Below.{schedule_answer, schedule_closing, text_of_replies, IsLimited, is_over, SumsUp, BulkFault, Memory, TooMuch}
+use Rattle.mm_gen.proofs.Below.{Summary}
 use Rattle.std.proofs.Common.{nat_lt, length-append}
 use Rattle.mm_base.specs.declared.replay_fault.ReplayFault.TheVariants as fault
 use Rattle.mm_gen.proofs.Spelled.{is_schedule}

@@ -1,7 +1,6 @@
 -- Each line of a turn spells an event: so a generated schedule is read as it was made.
 use Rattle.mm_gen.proofs.Below.{◌<◌, ◌≤◌, ℕ, Bool, true, false, List, length, arith, if◌then◌else◌, Header, TurnWords, nat_tests, ◌≡◌, ◌≢◌}
-use Rattle.mm_gen.proofs.Below.{◌^◌}
-use Rattle.mm_gen.proofs.Below.{◌+◌, [], ◌∷◌, ◌++◌, refl, ◌==◌, not, decimal, list_all, length-append, All-append, IsUnbroken, name_of}
+use Rattle.mm_gen.proofs.Below.{◌^◌, ◌+◌, [], ◌∷◌, ◌++◌, refl, ◌==◌, not, decimal, list_all, length-append, All-append, IsUnbroken, name_of}
 use Rattle.mm_gen.proofs.Below.{any_is_found, any_is_listed, chosen_request, ◌%◌, nat_lt, codes, AllByRecursion, Variant, Basic, Opt, Ask}
 use Rattle.mm_gen.proofs.Below.{Checkpoint, Power, IsEventLine, ask_text, cut_word, pair, row_14, row_15, ◌*◌, zero, suc, sym, ap, ◌∙◌, All}
 use Rattle.mm_gen.proofs.Below.{length-take-le, All-from_recursion, All-nil, All-take, All-weaker, recursion_from_All, key_of, joined_lines}

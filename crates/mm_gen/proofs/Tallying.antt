@@ -4,9 +4,8 @@ use Rattle.mm_gen.proofs.Below.{arith, append_assoc, append-nil, Option, None, i
 use Rattle.mm_gen.proofs.Below.{position_or_len, ne_eqb, nat_tests, length-append, recursion_from_All, sha256, IsUnbroken, joined_lines}
 use Rattle.mm_gen.proofs.Below.{longest_line, most_events, Header, Event, event_at, header_text, end_line, spelled_is_read, IsEventLine}
 use Rattle.mm_gen.proofs.Below.{schedule_lines, schedule_text, RunOutcome, outcome_of_events, outcome_by_digests, world_of, RunningReplay}
-use Rattle.mm_gen.proofs.Below.{running_replay_after}
-use Rattle.mm_gen.proofs.Below.{first_running_replay, is_too_much, running_outcome, text_of_replies, IsLimited, is_over, is_break, SumsUp}
-use Rattle.mm_gen.proofs.Below.{BulkFault, Memory, TooMuch, Summary}
+use Rattle.mm_gen.proofs.Below.{running_replay_after, first_running_replay, is_too_much, running_outcome, text_of_replies, IsLimited}
+use Rattle.mm_gen.proofs.Below.{is_over, is_break, SumsUp, BulkFault, Memory, TooMuch, Summary}
 use Rattle.std.specs.Prelude.{Some, Err}
 use Rattle.std.proofs.Math.Seq.{take-append_seam, drop-append-add}
 use Rattle.mm_digest.specs.declared.digest.Digest.{Digest}

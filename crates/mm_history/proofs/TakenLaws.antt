@@ -1,9 +1,8 @@
 -- One more of a list that is walked over.
 use Rattle.mm_history.proofs.Below.{◌≡◌, ◌≢◌, ℕ, zero, suc, ◌+◌, ◌<◌, Bool, true, false, ◌||◌, List, [], ◌∷◌, ◌++◌, length, map, take, drop}
 use Rattle.mm_history.proofs.Below.{get_or, Some, refl, sym, ap, ◌∙◌, arith, Vec, not, nat_lt, bytes_eq, list_any, option_map, or_parts}
-use Rattle.mm_history.proofs.Below.{or_from, Decides-ltb, append-nil, map-append, take-map, drop_more, length-map, Batch}
-use Rattle.mm_history.proofs.Below.{members_of, Meaning, state_after, state_after-append, anchored_digest_of, register_of, own_values}
-use Rattle.mm_history.proofs.Below.{RegisterEntry}
+use Rattle.mm_history.proofs.Below.{or_from, Decides-ltb, append-nil, map-append, take-map, drop_more, length-map, Batch, members_of}
+use Rattle.mm_history.proofs.Below.{Meaning, state_after, state_after-append, anchored_digest_of, register_of, own_values, RegisterEntry}
 use Rattle.mm_history.proofs.Below.{requests_of, values_of, is_long, KeptBatch, KeptEntry, kept_batch, kept_batches, kept_entries}
 use Rattle.mm_history.proofs.Below.{kept_segments, first_with, same_batches, anchor_at, is_behind}
 use Rattle.std.specs.Prelude.{◌&&◌}

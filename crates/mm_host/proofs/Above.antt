@@ -5,8 +5,7 @@ pub use Rattle.mm_host.proofs.CallsMade.{among_input, chain_of, last_offer, serv
 pub use Rattle.mm_host.proofs.Continues.{continues_from, fits_genuine}
 pub use Rattle.mm_host.proofs.InTurn.{calls_reach, May, pending_for, StandsIn, stepped_by}
 pub use Rattle.mm_host.proofs.Leading.{basic_laws, Laws, Makes, Reaches, reach_same, reach_then, CallsRunOver-append, same_self, Shows}
-pub use Rattle.mm_host.proofs.Leading.{ShowsAt}
-pub use Rattle.mm_host.proofs.Leading.{Stays, steps_again, steps_fresh, unspoiled}
+pub use Rattle.mm_host.proofs.Leading.{ShowsAt, Stays, steps_again, steps_fresh, unspoiled}
 pub use Rattle.mm_host.proofs.Lines.{by_told, tells_call, TellsCall}
 pub use Rattle.mm_host.proofs.NextRefused.{IsFaulty, next_in_hand, next_refused, RefusesOrFails}
 pub use Rattle.mm_host.proofs.OptLeading.{opt_laws}

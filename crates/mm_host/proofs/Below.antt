@@ -28,8 +28,7 @@ pub use Rattle.mm_module.specs.Meaning.{IsLawful, Meaning}
 pub use Rattle.mm_model.specs.BatchLaws.{total-nil}
 pub use Rattle.mm_model.specs.Chains.{digest_after, summary_of, trail}
 pub use Rattle.mm_model.specs.History.{Commit, history_after_commit, RegisterEntry, first_history, Foreign, History, history_after, Own}
-pub use Rattle.mm_model.specs.History.{register_value_of}
-pub use Rattle.mm_model.specs.History.{requests_of, total_of, Value}
+pub use Rattle.mm_model.specs.History.{register_value_of, requests_of, total_of, Value}
 pub use Rattle.mm_model.specs.HistoryLaws.{has_value-append}
 pub use Rattle.mm_model.specs.Instance.{Instance}
 pub use Rattle.mm_model.specs.InstanceWords.{basic_instance, opt_instance}
@@ -82,13 +81,11 @@ pub use Rattle.mm_recovery.specs.declared.fault.HostFault.{HostFault}
 pub use Rattle.mm_recovery.specs.declared.resuming.Resumed.{Resumed}
 pub use Rattle.mm_recovery.specs.declared.resuming.Resumed.TheVariants.{Answered, Start}
 pub use Rattle.mm_recovery.proofs.Above.{answered_writes, AnsweredWrites, ask_exit, asked_at, basic_content, basic_met, both_writes}
-pub use Rattle.mm_recovery.proofs.Above.{by_refusal}
-pub use Rattle.mm_recovery.proofs.Above.{CameWrites, counted_most, grows, holds_issued, IsGrownBy, IsSame, issued_in_opt, joined}
-pub use Rattle.mm_recovery.proofs.Above.{leads_rest}
-pub use Rattle.mm_recovery.proofs.Above.{left_by, length-pending_spelling, Met, new_most, next_came, next_told, NoMore, not_lost, one_more}
-pub use Rattle.mm_recovery.proofs.Above.{one_waiting, opt_grown, opt_met, opt_met_idle, recovers_by, refusal_told, rests, resumes_came}
-pub use Rattle.mm_recovery.proofs.Above.{beyond_none, Enters, fits_on, found_full, IsMade, resumes_told, Saw, saw_two, Told, waiting_most}
-pub use Rattle.mm_recovery.proofs.Above.{was_powered}
+pub use Rattle.mm_recovery.proofs.Above.{by_refusal, CameWrites, counted_most, grows, holds_issued, IsGrownBy, IsSame, issued_in_opt}
+pub use Rattle.mm_recovery.proofs.Above.{joined, leads_rest, left_by, length-pending_spelling, Met, new_most, next_came, next_told, NoMore}
+pub use Rattle.mm_recovery.proofs.Above.{not_lost, one_more, one_waiting, opt_grown, opt_met, opt_met_idle, recovers_by, refusal_told}
+pub use Rattle.mm_recovery.proofs.Above.{rests, resumes_came, beyond_none, Enters, fits_on, found_full, IsMade, resumes_told, Saw, saw_two}
+pub use Rattle.mm_recovery.proofs.Above.{Told, waiting_most, was_powered}
 pub use Rattle.mm_host.specs.AnySlots.{history_after_answer, AreAmong, AreAskedInTurn, AsksNothingNew, EndsRun, MayStart, offer_after}
 pub use Rattle.mm_host.specs.AnySlots.{requests_with, RunsOnce, RunsOnceFrom, SessionRunsOnce}
 pub use Rattle.mm_host.specs.Continuation.{answer_reply, AreNewFrom, AreToldOnce, ContinuesTo, HasUntold, IsInHand}
@@ -96,9 +93,8 @@ pub use Rattle.mm_host.specs.Continuation.{IsNotBeyond, MayBeUntold, RefusesAs, 
 pub use Rattle.mm_host.specs.HonestStore.{ContinuesFrom, MayGoOn, SessionContinues}
 pub use Rattle.mm_host.specs.Continuation.{waiting_position}
 pub use Rattle.mm_host.specs.Sessions.{session_result_of, refusal_text, reply_text, SendsReply, TellsReply, told_cause, served_lines}
-pub use Rattle.mm_host.specs.Sessions.{SessionPlace}
-pub use Rattle.mm_host.specs.Sessions.{replies_to, ServedCall, ServesCalls, GoesAfterResume, BeginsWith, turn_answer_of, IsAtRest}
-pub use Rattle.mm_host.specs.Sessions.{most_lines, IsSession}
-pub use Rattle.mm_host.specs.Sessions.{StopsAtOnce, StopsInLine, AsksAndTells, TurnGoes, ServesInput, ServesLine, ServesNext, TurnSends}
+pub use Rattle.mm_host.specs.Sessions.{SessionPlace, replies_to, ServedCall, ServesCalls, GoesAfterResume, BeginsWith, turn_answer_of}
+pub use Rattle.mm_host.specs.Sessions.{IsAtRest, most_lines, IsSession, StopsAtOnce, StopsInLine, AsksAndTells, TurnGoes, ServesInput}
+pub use Rattle.mm_host.specs.Sessions.{ServesLine, ServesNext, TurnSends}
 pub use Rattle.mm_host.specs.declared.fault.SessionFault.{SessionFault}
 pub use Rattle.mm_host.specs.declared.fault.SessionFault.TheVariants.{Host, Lines}

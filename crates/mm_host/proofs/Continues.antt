@@ -1,11 +1,8 @@
 -- A session over an honest store goes on, also where the cell was read before.
 use Rattle.mm_host.proofs.Below.{◌≡◌, ◌∙◌, ℕ, List, Option, None, Some, Result, refl, [], Standing, Batch, Meaning, IsLawful, Instance}
-use Rattle.mm_host.proofs.Below.{opt_instance}
-use Rattle.mm_host.proofs.Below.{History, Variant, Basic, Opt, inl, StoreStanding, PendingRecord, Slots, SessionFault, ContinuesFrom}
-use Rattle.mm_host.proofs.Below.{MayGoOn}
-use Rattle.mm_host.proofs.Below.{MayStart, SessionContinues, FitsBy, history_with_values, names_alike, IsGenuine, first_offer, IsSnapshotAt}
-use Rattle.mm_host.proofs.Below.{one_content}
-use Rattle.mm_host.proofs.Below.{StepFault}
+use Rattle.mm_host.proofs.Below.{opt_instance, History, Variant, Basic, Opt, inl, StoreStanding, PendingRecord, Slots, SessionFault}
+use Rattle.mm_host.proofs.Below.{ContinuesFrom, MayGoOn, MayStart, SessionContinues, FitsBy, history_with_values, names_alike, IsGenuine}
+use Rattle.mm_host.proofs.Below.{first_offer, IsSnapshotAt, one_content, StepFault}
 use Rattle.mm_platform.specs.Steps.{items_beside, StepGoes, ReadCell}
 use Rattle.mm_host.proofs.Leading.{basic_laws}
 use Rattle.mm_host.proofs.OptLeading.{opt_laws}

@@ -2,13 +2,10 @@
 use Rattle.mm_host.proofs.Below.{ℕ, ◌≡◌, ◌≢◌, ◌+◌, ◌≤◌, List, [], ◌∷◌, length, Option, None, Some, Result, Ok, Err, refl, ap, ◌∙◌, subst}
 use Rattle.mm_host.proofs.Below.{inl, inr, arith, is_some, length-append, lines_of, lines_of-joined, lines_of-line, Variant, Basic, Opt}
 use Rattle.mm_host.proofs.Below.{Standing, StepFault, Meaning, Refusal, CountsHandedFault, fault_of, StoreStanding, HostFault, SessionFault}
-use Rattle.mm_host.proofs.Below.{Host}
-use Rattle.mm_host.proofs.Below.{Resumed, Start, Answered, MayBeUntold, SendsReply, told_cause, refusal_text, reply_text, SessionPlace}
-use Rattle.mm_host.proofs.Below.{ServedCall}
-use Rattle.mm_host.proofs.Below.{ServesCalls, served_lines, GoesAfterResume, BeginsWith, IsSession, Told, next_told, resumes_told}
-use Rattle.mm_host.proofs.Below.{AnsweredWrites}
-use Rattle.mm_host.proofs.Below.{CameWrites, answered_writes, both_writes, next_came, new_most, resumes_came, counted_most, joined}
-use Rattle.mm_host.proofs.Below.{leads_rest, rests}
+use Rattle.mm_host.proofs.Below.{Host, Resumed, Start, Answered, MayBeUntold, SendsReply, told_cause, refusal_text, reply_text}
+use Rattle.mm_host.proofs.Below.{SessionPlace, ServedCall, ServesCalls, served_lines, GoesAfterResume, BeginsWith, IsSession, Told}
+use Rattle.mm_host.proofs.Below.{next_told, resumes_told, AnsweredWrites, CameWrites, answered_writes, both_writes, next_came, new_most}
+use Rattle.mm_host.proofs.Below.{resumes_came, counted_most, joined, leads_rest, rests}
 use Rattle.std.specs.Prelude.{IsSome}
 use Rattle.mm_model.specs.declared.refusal.Refusal.TheVariants.{Device}
 use Rattle.mm_play.specs.PlaysInput.{IsBlamed}

@@ -1,14 +1,12 @@
 -- Calls one after another by lists, whatever is offered first that names a position where it is right.
-use Rattle.mm_host.proofs.Below.{◌≡◌, ◌≢◌, ◌∙◌, ◌+◌, ℕ, Bool, true, false, List, [], ◌∷◌, ◌++◌, Some, Result, Ok, refl, sym, ap, inl}
-use Rattle.mm_host.proofs.Below.{inr, arith, ◌⊎◌, if◌then◌else◌, nat_eq, nat_tests, Variant, Basic, Opt, Standing, Batch, One, Content}
+use Rattle.mm_host.proofs.Below.{◌≡◌, ◌≢◌, ◌∙◌, ◌+◌, ℕ, Bool, true, false, List, [], ◌∷◌, ◌++◌, Some, Result, Ok, refl, sym, ap, inl, inr}
+use Rattle.mm_host.proofs.Below.{arith, ◌⊎◌, if◌then◌else◌, nat_eq, nat_tests, Variant, Basic, Opt, Standing, Batch, One, Content}
 use Rattle.mm_host.proofs.Below.{offered_snapshot_of, sealed_snapshot_of, tag_of, parts_of, sealed_parts, Instance, History, Commit}
-use Rattle.mm_host.proofs.Below.{history_after, requests_of}
-use Rattle.mm_host.proofs.Below.{total_of, LostLife, life_of, StandsFor, IsGenuine, IsRight, issued_bytes, Answer, BatchAnswer, Refusal}
-use Rattle.mm_host.proofs.Below.{answer_on, IsWithin, right_content, batch_answer_of, batch_result_of, IsIdle, right_is, one_content}
-use Rattle.mm_host.proofs.Below.{IsBatchStep, PendingRecord}
-use Rattle.mm_host.proofs.Below.{AreAskedInTurn, history_after_answer, offer_after, IsCall, CallsRunOver, answer_reply, IsSnapshotAt}
-use Rattle.mm_host.proofs.Below.{ServedCall, served_lines}
-use Rattle.mm_host.proofs.Below.{one_more, IsGrownBy, IsSame, Met, holds_issued, SessionFault, IsCallOnCourse}
+use Rattle.mm_host.proofs.Below.{history_after, requests_of, total_of, LostLife, life_of, StandsFor, IsGenuine, IsRight, issued_bytes}
+use Rattle.mm_host.proofs.Below.{Answer, BatchAnswer, Refusal, answer_on, IsWithin, right_content, batch_answer_of, batch_result_of, IsIdle}
+use Rattle.mm_host.proofs.Below.{right_is, one_content, IsBatchStep, PendingRecord, AreAskedInTurn, history_after_answer, offer_after}
+use Rattle.mm_host.proofs.Below.{IsCall, CallsRunOver, answer_reply, IsSnapshotAt, ServedCall, served_lines, one_more, IsGrownBy, IsSame}
+use Rattle.mm_host.proofs.Below.{Met, holds_issued, SessionFault, IsCallOnCourse}
 use Rattle.std.proofs.lemmas.Slice.Eq.{bytes_eq-Decides}
 use Rattle.mm_model.specs.Fit.{IsFit}
 use Rattle.mm_call.specs.HistoryGrowth.{HistoryGrows, kept, grown}

@@ -2,17 +2,14 @@
 use Rattle.mm_host.proofs.Below.{◌≡◌, ℕ, ◌≤◌, true, false, List, [], ◌++◌, Some, Result, Ok, sym, ap, ◌∙◌, append_assoc, append-nil}
 use Rattle.mm_host.proofs.Below.{last_position, Variant, Basic, Opt, Item, Standing, IsLawful, Batch, One, Content, IsClear, IsContent}
 use Rattle.mm_host.proofs.Below.{Instance, History, Commit, first_history, history_after, total_of, has_value, Digests, NamesPosition}
-use Rattle.mm_host.proofs.Below.{content_of_issue, StandsFor}
-use Rattle.mm_host.proofs.Below.{BatchAnswer, Refusal, IsLedTo, IsCallOnCourse, AreAsked, AreShown, IsIdle, StandsAt, standing_items, bare}
-use Rattle.mm_host.proofs.Below.{PendingRecord, Met, IsGrownBy, IsSame, AreNoGuards, ◌+◌, Bool, ◌∷◌, arith, Meaning, requests_of, Answer}
-use Rattle.mm_host.proofs.Below.{answer_on, batch_answer_of, requests-push, said_last, IsBatchStep, CallsRunOver, answer_reply, ServedCall}
-use Rattle.mm_host.proofs.Below.{refl, inl, inr}
-use Rattle.mm_host.proofs.Below.{◌⊎◌, if◌then◌else◌, nat_eq, nat_tests, history_after_commit, Answered, first_served_call, IsAwaited}
-use Rattle.mm_host.proofs.Below.{one_more, ◌≢◌, ◌||◌, AllByRecursion, Contains, RegisterEntry, Own, Value, Spoiled, is_empty, are_own}
-use Rattle.mm_host.proofs.Below.{life_by}
-use Rattle.mm_host.proofs.Below.{life_of, counted_entries, values_in, IsOutside, AreItems, has_value-append, InBasic, InOpt, summary_of}
-use Rattle.mm_host.proofs.Below.{basic_instance}
-use Rattle.mm_host.proofs.Below.{IsPlaceOf, digest_of, total-nil, basic_met, basic_content}
+use Rattle.mm_host.proofs.Below.{content_of_issue, StandsFor, BatchAnswer, Refusal, IsLedTo, IsCallOnCourse, AreAsked, AreShown, IsIdle}
+use Rattle.mm_host.proofs.Below.{StandsAt, standing_items, bare, PendingRecord, Met, IsGrownBy, IsSame, AreNoGuards, ◌+◌, Bool, ◌∷◌, arith}
+use Rattle.mm_host.proofs.Below.{Meaning, requests_of, Answer, answer_on, batch_answer_of, requests-push, said_last, IsBatchStep}
+use Rattle.mm_host.proofs.Below.{CallsRunOver, answer_reply, ServedCall, refl, inl, inr, ◌⊎◌, if◌then◌else◌, nat_eq, nat_tests}
+use Rattle.mm_host.proofs.Below.{history_after_commit, Answered, first_served_call, IsAwaited, one_more, ◌≢◌, ◌||◌, AllByRecursion}
+use Rattle.mm_host.proofs.Below.{Contains, RegisterEntry, Own, Value, Spoiled, is_empty, are_own, life_by, life_of, counted_entries}
+use Rattle.mm_host.proofs.Below.{values_in, IsOutside, AreItems, has_value-append, InBasic, InOpt, summary_of, basic_instance, IsPlaceOf}
+use Rattle.mm_host.proofs.Below.{digest_of, total-nil, basic_met, basic_content}
 use Rattle.mm_model.specs.History.{items_of_all}
 use Rattle.mm_host.proofs.Below.{◌-◌, length, length-append}
 use Rattle.mm_schedule.specs.Machine.{IsTold}

@@ -1,19 +1,15 @@
 -- What a line comes to by lists, from where a session stands.
-use Rattle.mm_host.proofs.Below.{◌≡◌, ◌≢◌, ◌∙◌, ◌+◌, ◌-◌, ◌%◌, ℕ, List, Option, None, Some, Result, Ok, Err, IfOk, refl, sym, ap}
-use Rattle.mm_host.proofs.Below.{inl, arith, ◌⊎◌, nat_eq, take_all, MayGrow, longest_request, Standing, Batch, One, Content}
-use Rattle.mm_host.proofs.Below.{Instance, History, requests_of, total_of, LostLife, life_of, IsRight, Answer}
-use Rattle.mm_host.proofs.Below.{BatchAnswer, Refusal, batch_answer_of, batch_result_of}
-use Rattle.mm_host.proofs.Below.{StoreFault, WritesSlot, slots_with_bytes, StoreStanding, PendingRecord, pending_spelling, Slots}
-use Rattle.mm_host.proofs.Below.{longest_slot}
-use Rattle.mm_host.proofs.Below.{slot_front, slots_with, longest_slot-is, HostFault, Resumed, Start, Answered, IsNotBeyond}
-use Rattle.mm_host.proofs.Below.{waiting_position, refusal_fault, store_fault_as, FitsHistory, FitsBy, IsSnapshotAt, offer_slot, ◌∷◌}
-use Rattle.mm_host.proofs.Below.{history_after_answer, AreAskedInTurn, RecoversTo, position_at, snapshot_at}
+use Rattle.mm_host.proofs.Below.{◌≡◌, ◌≢◌, ◌∙◌, ◌+◌, ◌-◌, ◌%◌, ℕ, List, Option, None, Some, Result, Ok, Err, IfOk, refl, sym, ap, inl}
+use Rattle.mm_host.proofs.Below.{arith, ◌⊎◌, nat_eq, take_all, MayGrow, longest_request, Standing, Batch, One, Content, Instance, History}
+use Rattle.mm_host.proofs.Below.{requests_of, total_of, LostLife, life_of, IsRight, Answer, BatchAnswer, Refusal, batch_answer_of}
+use Rattle.mm_host.proofs.Below.{batch_result_of, StoreFault, WritesSlot, slots_with_bytes, StoreStanding, PendingRecord, pending_spelling}
+use Rattle.mm_host.proofs.Below.{Slots, longest_slot, slot_front, slots_with, longest_slot-is, HostFault, Resumed, Start, Answered}
+use Rattle.mm_host.proofs.Below.{IsNotBeyond, waiting_position, refusal_fault, store_fault_as, FitsHistory, FitsBy, IsSnapshotAt}
+use Rattle.mm_host.proofs.Below.{offer_slot, ◌∷◌, history_after_answer, AreAskedInTurn, RecoversTo, position_at, snapshot_at}
 use Rattle.mm_host.proofs.Below.{GoesAfterRecord, record_for, SessionPlace, length-pending_spelling, NoMore, left_by, ask_exit}
 use Rattle.mm_host.proofs.Below.{refusal_told, CallsRunOver, [], issued_bytes, inr, Met, sealed_snapshot_of, first_offer, requests_with}
-use Rattle.mm_host.proofs.Below.{IsCall}
-use Rattle.mm_host.proofs.Below.{last_position, one_content, one_more, IsSame, subst, ◌≤◌}
-use Rattle.mm_host.proofs.Below.{◌<◌, false, take, nat_tests, Batch, StepFault, fault_of, GoesAfterAsk, fits_on, found_full, grows}
-use Rattle.mm_host.proofs.Below.{RefusesAs, Host, IsRight}
+use Rattle.mm_host.proofs.Below.{IsCall, last_position, one_content, one_more, IsSame, subst, ◌≤◌, ◌<◌, false, take, nat_tests, StepFault}
+use Rattle.mm_host.proofs.Below.{fault_of, GoesAfterAsk, fits_on, found_full, grows, RefusesAs, Host}
 use Rattle.std.proofs.lemmas.Bool.{cases_lt}
 use Rattle.mm_call.specs.HistoryGrowth.{HistoryGrows}
 use Rattle.mm_call.specs.HistoryGrowth as coming

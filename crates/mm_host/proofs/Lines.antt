@@ -2,16 +2,13 @@
 use Rattle.mm_host.proofs.Below.{◌≡◌, ◌≢◌, ◌+◌, ℕ, List, [], length, Option, Result, Ok, Err, refl, subst, inl, inr, Variant, Standing}
 use Rattle.mm_host.proofs.Below.{Meaning, StoreStanding, HostFault, SessionFault, Host, Lines, Memory, WriteFault, Resumed, SendsReply}
 use Rattle.mm_host.proofs.Below.{session_result_of, reply_text, SessionPlace, IsAtRest, StopsInLine, ◌∙◌, ap, ◌⊎◌, Answer, Refusal}
-use Rattle.mm_host.proofs.Below.{StoreFault, Answered}
-use Rattle.mm_host.proofs.Below.{IsCall, store_fault_as, refusal_fault, GoesAfterAsk, result_of_keep, snapshot_at, GoesAfterRecord}
-use Rattle.mm_host.proofs.Below.{AsksNext, ◌∷◌, ◌++◌}
-use Rattle.mm_host.proofs.Below.{None, Some, sym, append_assoc, suc, Consumes, IsAtEnd, AllByRecursion, IsUnbroken, joined_lines}
-use Rattle.mm_host.proofs.Below.{lines_of, lines_of-joined, lines_of-line, ServedCall, ServesCalls, served_lines, BeginsWith, ◌<◌, ◌≤◌}
-use Rattle.mm_host.proofs.Below.{take}
-use Rattle.mm_host.proofs.Below.{drop, arith, length-append, length-take, take-append-drop, tail_of, lines_with_front, tail_with_front}
-use Rattle.mm_host.proofs.Below.{IsLong}
-use Rattle.mm_host.proofs.Below.{MayGrow, lines_of-append, tail_of-append, tail_of-joined, tail_of-unbroken, longest_request, LineLong}
-use Rattle.mm_host.proofs.Below.{BadLine, TooMuch, GoesAfterResume, IsSession, most_lines}
+use Rattle.mm_host.proofs.Below.{StoreFault, Answered, IsCall, store_fault_as, refusal_fault, GoesAfterAsk, result_of_keep, snapshot_at}
+use Rattle.mm_host.proofs.Below.{GoesAfterRecord, AsksNext, ◌∷◌, ◌++◌, None, Some, sym, append_assoc, suc, Consumes, IsAtEnd}
+use Rattle.mm_host.proofs.Below.{AllByRecursion, IsUnbroken, joined_lines, lines_of, lines_of-joined, lines_of-line, ServedCall}
+use Rattle.mm_host.proofs.Below.{ServesCalls, served_lines, BeginsWith, ◌<◌, ◌≤◌, take, drop, arith, length-append, length-take}
+use Rattle.mm_host.proofs.Below.{take-append-drop, tail_of, lines_with_front, tail_with_front, IsLong, MayGrow, lines_of-append}
+use Rattle.mm_host.proofs.Below.{tail_of-append, tail_of-joined, tail_of-unbroken, longest_request, LineLong, BadLine, TooMuch}
+use Rattle.mm_host.proofs.Below.{GoesAfterResume, IsSession, most_lines}
 use Rattle.mm_host.specs.Sessions.{ServesAllLines}
 use Rattle.std.proofs.Common.{append-nil}
 use Rattle.mm_model.specs.ListLaws.{each_right}

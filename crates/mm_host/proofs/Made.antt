@@ -1,16 +1,10 @@
 -- What a session asked, by its steps: the first of some requests.
-use Rattle.mm_host.proofs.Below.{◌≡◌, ◌∙◌, ℕ, List, [], ◌∷◌, ◌++◌, Option, Some, Result, Err, inl, inr}
-use Rattle.mm_host.proofs.Below.{Standing}
-use Rattle.mm_host.proofs.Below.{StoreStanding, PendingRecord, SessionFault, Host}
-use Rattle.mm_host.proofs.Below.{SessionPlace, ServedCall, IsAtRest, Ok}
-use Rattle.mm_host.proofs.Below.{served_lines, AreAmong}
-use Rattle.mm_host.proofs.Below.{first_served_call}
-use Rattle.mm_host.proofs.Below.{IsSession, GoesAfterResume}
-use Rattle.mm_host.proofs.Below.{sym, Variant}
-use Rattle.mm_host.proofs.Below.{append_assoc, append_cancel_left}
+use Rattle.mm_host.proofs.Below.{◌≡◌, ◌∙◌, ℕ, List, [], ◌∷◌, ◌++◌, Option, Some, Result, Err, inl, inr, Standing, StoreStanding}
+use Rattle.mm_host.proofs.Below.{PendingRecord, SessionFault, Host, SessionPlace, ServedCall, IsAtRest, Ok, served_lines, AreAmong}
+use Rattle.mm_host.proofs.Below.{first_served_call, IsSession, GoesAfterResume, sym, Variant, append_assoc, append_cancel_left}
 use Rattle.mm_host.specs.Sessions.{ServesAllLines}
-use Rattle.mm_host.proofs.Below.{◌+◌, length, Meaning, BeginsWith, turn_answer_of, IsMade}
-use Rattle.mm_host.proofs.Below.{Lines, Memory, TurnGoes, StopsInLine, StoreFault, WriteFault}
+use Rattle.mm_host.proofs.Below.{◌+◌, length, Meaning, BeginsWith, turn_answer_of, IsMade, Lines, Memory, TurnGoes, StopsInLine, StoreFault}
+use Rattle.mm_host.proofs.Below.{WriteFault}
 use Rattle.mm_host.proofs.Lines.{IsByInput}
 
 -- A line in hand is one of the requests, where it was asked.

@@ -1,20 +1,15 @@
 -- The request behind those that a session told: where the digests at its end refuse it, the session is refused so, unless memory was
 -- wanting or something failed.
 use Rattle.mm_host.proofs.Below.{◌≡◌, ◌∙◌, ◌+◌, ◌≤◌, ℕ, Bool, true, false, List, [], ◌∷◌, ◌++◌, length, Option, None, Some, Result, Ok, Err}
-use Rattle.mm_host.proofs.Below.{refl, sym, ap}
-use Rattle.mm_host.proofs.Below.{subst, inl, inr, ◌⊎◌, arith, IsSome, take, drop, take-append-drop, length-append, length-take}
-use Rattle.mm_host.proofs.Below.{append_assoc}
-use Rattle.mm_host.proofs.Below.{append_cancel_left, append-nil, Variant, Basic, Opt, Standing, One, Batch, Meaning, Instance, Digests}
-use Rattle.mm_host.proofs.Below.{Answer}
-use Rattle.mm_host.proofs.Below.{Refusal, SessionFault, Host, Lines, Memory, WriteFault, LineLong, BadLine, TooMuch, IsCall, StoreFault}
-use Rattle.mm_host.proofs.Below.{offer_after, ServedCall, IsSession, StandsAt, StoreStanding, finding_at, digest_level, fault_of}
-use Rattle.mm_host.proofs.Below.{by_refusal}
-use Rattle.mm_host.proofs.Below.{IsInHand, parts_of, HostFault, Resumed, SendsReply, reply_text, store_fault_as, refusal_fault}
-use Rattle.mm_host.proofs.Below.{snapshot_at, PendingRecord, Slots, slot_front, IsWaiting, first_offer, requests_with, served_lines}
-use Rattle.mm_host.proofs.Below.{served_calls_in, first_served_call}
-use Rattle.mm_host.proofs.Below.{lines_of, lines_of-append, IsUnbroken, IsLong, longest_request, most_lines}
-use Rattle.mm_host.proofs.Below.{GoesAfterResume, StopsAtOnce, StopsInLine, lines_with_front, InBasic, InOpt}
-use Rattle.mm_host.proofs.Below.{if◌then◌else◌, later_record, SessionPlace, ReadsPending}
+use Rattle.mm_host.proofs.Below.{refl, sym, ap, subst, inl, inr, ◌⊎◌, arith, IsSome, take, drop, take-append-drop, length-append}
+use Rattle.mm_host.proofs.Below.{length-take, append_assoc, append_cancel_left, append-nil, Variant, Basic, Opt, Standing, One, Batch}
+use Rattle.mm_host.proofs.Below.{Meaning, Instance, Digests, Answer, Refusal, SessionFault, Host, Lines, Memory, WriteFault, LineLong}
+use Rattle.mm_host.proofs.Below.{BadLine, TooMuch, IsCall, StoreFault, offer_after, ServedCall, IsSession, StandsAt, StoreStanding}
+use Rattle.mm_host.proofs.Below.{finding_at, digest_level, fault_of, by_refusal, IsInHand, parts_of, HostFault, Resumed, SendsReply}
+use Rattle.mm_host.proofs.Below.{reply_text, store_fault_as, refusal_fault, snapshot_at, PendingRecord, Slots, slot_front, IsWaiting}
+use Rattle.mm_host.proofs.Below.{first_offer, requests_with, served_lines, served_calls_in, first_served_call, lines_of, lines_of-append}
+use Rattle.mm_host.proofs.Below.{IsUnbroken, IsLong, longest_request, most_lines, GoesAfterResume, StopsAtOnce, StopsInLine}
+use Rattle.mm_host.proofs.Below.{lines_with_front, InBasic, InOpt, if◌then◌else◌, later_record, SessionPlace, ReadsPending}
 use Rattle.std.specs.Prelude.{◌<◌, IfSome, nat_le}
 use Rattle.mm_base.specs.InputLaws.{lines_of-unbroken}
 use Rattle.mm_base.specs.declared.replay_fault.ReplayFault.TheVariants.{ReadFault}

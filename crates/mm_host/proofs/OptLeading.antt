@@ -1,16 +1,14 @@
 -- What the calls of a session lead to in Opt.
 use Rattle.mm_host.proofs.Below.{◌≡◌, ℕ, Bool, true, false, List, [], ◌∷◌, ◌++◌, length, refl, sym, ap, ◌∙◌, inl, inr, append-nil}
 use Rattle.mm_host.proofs.Below.{zero_bytes, Opt, Meaning, Batch, InBasic, InOpt, Instance, opt_instance, RegisterEntry, History}
-use Rattle.mm_host.proofs.Below.{first_history}
-use Rattle.mm_host.proofs.Below.{has_value, is_empty, IsPoint, at_anchor, in_closed, in_current, IsPlaceOf, anchor_after, content_of_issue}
-use Rattle.mm_host.proofs.Below.{digest_of, IsSound, batches_in, has_value-append, bare, ◌+◌, Some, Result, Ok, append_assoc, arith}
-use Rattle.mm_host.proofs.Below.{append_cancel_right, Item, Standing, IsLawful, One, Commit, history_after, register_value_of, total_of}
-use Rattle.mm_host.proofs.Below.{BatchAnswer, Refusal, counted_part, IsCallOnCourse, finding_at, digest_level, state_after_moves}
-use Rattle.mm_host.proofs.Below.{items_after_moves, standing_items}
-use Rattle.mm_host.proofs.Below.{counted_open, asks, Alike, still, grown_by, alike_commit, clean_open, issued_alike, names_after, opened}
-use Rattle.mm_host.proofs.Below.{same_closed, issued_content, answered_at, Hands, hands, IsClear, AreNoGuards, flag_kept, pushed_open}
-use Rattle.mm_host.proofs.Below.{shown_front, PendingRecord, one_more, Met, IsGrownBy, opt_met, opt_met_idle, opt_grown, issued_in_opt}
-use Rattle.mm_host.proofs.Below.{◌⊎◌, ◌≤◌, last_position, not_lost}
+use Rattle.mm_host.proofs.Below.{first_history, has_value, is_empty, IsPoint, at_anchor, in_closed, in_current, IsPlaceOf, anchor_after}
+use Rattle.mm_host.proofs.Below.{content_of_issue, digest_of, IsSound, batches_in, has_value-append, bare, ◌+◌, Some, Result, Ok}
+use Rattle.mm_host.proofs.Below.{append_assoc, arith, append_cancel_right, Item, Standing, IsLawful, One, Commit, history_after}
+use Rattle.mm_host.proofs.Below.{register_value_of, total_of, BatchAnswer, Refusal, counted_part, IsCallOnCourse, finding_at, digest_level}
+use Rattle.mm_host.proofs.Below.{state_after_moves, items_after_moves, standing_items, counted_open, asks, Alike, still, grown_by}
+use Rattle.mm_host.proofs.Below.{alike_commit, clean_open, issued_alike, names_after, opened, same_closed, issued_content, answered_at}
+use Rattle.mm_host.proofs.Below.{Hands, hands, IsClear, AreNoGuards, flag_kept, pushed_open, shown_front, PendingRecord, one_more, Met}
+use Rattle.mm_host.proofs.Below.{IsGrownBy, opt_met, opt_met_idle, opt_grown, issued_in_opt, ◌⊎◌, ◌≤◌, last_position, not_lost}
 use Rattle.mm_seal.specs.declared.snapshot.Place.{Place}
 use Rattle.mm_model.specs.History.{items_of_all}
 use Rattle.mm_model.specs.ListLaws.{each_left}

@@ -1,10 +1,9 @@
 -- Where there is a position for each request, none is refused as Full.
 use Rattle.mm_host.proofs.Below.{◌≡◌, ◌+◌, ◌-◌, ◌≤◌, ℕ, Bool, true, false, List, [], ◌∷◌, ◌++◌, Option, Some, Result, Err, length, arith}
-use Rattle.mm_host.proofs.Below.{ap}
-use Rattle.mm_host.proofs.Below.{inl, inr, length-append, last_position, Variant, Standing, Batch, One, Meaning, Instance, History}
-use Rattle.mm_host.proofs.Below.{total_of}
-use Rattle.mm_host.proofs.Below.{IsBatchStep, StoreStanding, PendingRecord, Slots, slot_front, IsWaiting, ServedCall, served_lines}
-use Rattle.mm_host.proofs.Below.{AreAmong, ContinuesTo, IsInHand, CallsRunOver, SessionFault, Host, IsSession, served_calls_in}
+use Rattle.mm_host.proofs.Below.{ap, inl, inr, length-append, last_position, Variant, Standing, Batch, One, Meaning, Instance, History}
+use Rattle.mm_host.proofs.Below.{total_of, IsBatchStep, StoreStanding, PendingRecord, Slots, slot_front, IsWaiting, ServedCall}
+use Rattle.mm_host.proofs.Below.{served_lines, AreAmong, ContinuesTo, IsInHand, CallsRunOver, SessionFault, Host, IsSession}
+use Rattle.mm_host.proofs.Below.{served_calls_in}
 use Rattle.mm_host.proofs.CallsMade.{chain_of, Ends, rests, stops}
 use Rattle.mm_host.proofs.Lines.{length-served_lines}
 use Rattle.mm_model.specs.declared.refusal.Refusal.TheVariants.{Full}

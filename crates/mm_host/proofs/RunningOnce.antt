@@ -1,22 +1,19 @@
 -- A session is one run whatever the slots hold: each first part of what was told, and how it ends; also where the cell was read before.
-use Rattle.mm_host.proofs.Below.{bare, idle_again, ◌≡◌, ◌≢◌, ◌∙◌, ℕ, Bool, true, false, List, [], ◌∷◌, ◌++◌, Option, None, Some, Result}
-use Rattle.mm_host.proofs.Below.{Ok, Err, IsSome, refl, sym, ap, subst, inl, inr, append_assoc, ◌⊎◌, append_cancel_left, StepFault}
-use Rattle.mm_host.proofs.Below.{Standing, Batch, One, Meaning, Instance, opt_instance, History, requests_of, LostLife, life_of, StandsFor}
-use Rattle.mm_host.proofs.Below.{Answer, Refusal, IsWithin, batch_result_of, fault_of, unless_idle, StoreFault, StoreStanding}
-use Rattle.mm_host.proofs.Below.{PendingRecord, Slots}
+use Rattle.mm_host.proofs.Below.{bare, idle_again, ◌≡◌, ◌≢◌, ◌∙◌, ℕ, Bool, true, false, List, [], ◌∷◌, ◌++◌, Option, None, Some, Result, Ok}
+use Rattle.mm_host.proofs.Below.{Err, IsSome, refl, sym, ap, subst, inl, inr, append_assoc, ◌⊎◌, append_cancel_left, StepFault, Standing}
+use Rattle.mm_host.proofs.Below.{Batch, One, Meaning, Instance, opt_instance, History, requests_of, LostLife, life_of, StandsFor, Answer}
+use Rattle.mm_host.proofs.Below.{Refusal, IsWithin, batch_result_of, fault_of, unless_idle, StoreFault, StoreStanding, PendingRecord, Slots}
 use Rattle.mm_host.proofs.Below.{slot_front, HostFault, SessionFault, Host, Resumed, AreAskedInTurn, AsksNothingNew, EndsRun, RunsOnce}
 use Rattle.mm_host.proofs.Below.{offer_after, first_offer, IsCall, IsInHand, CallsRunOver, served_calls_in, store_fault_as, refusal_fault}
 use Rattle.mm_host.proofs.Below.{MayHaveCommitted, ServedCall, IsSession, served_lines, grows, IsWaiting, Met, by_refusal, map}
 use Rattle.mm_host.proofs.Below.{AllByRecursion, Contains, fold, extended_message, Variant, Basic, Opt, Item, foreign_item, IsLawful}
 use Rattle.mm_host.proofs.Below.{digest_after, trail, RegisterEntry, Value, Foreign, history_after, register_value_of, are_own, has_value}
-use Rattle.mm_host.proofs.Below.{is_empty, AreMessagesIn}
-use Rattle.mm_host.proofs.Below.{Digests, digests_of, opt_digests, messages_of_moves, state_after_moves, digest_level, list_level, AreShown}
-use Rattle.mm_host.proofs.Below.{StandsAt}
-use Rattle.mm_host.proofs.Below.{foreign_items, standing_items, stands_at, stands_for, agrees_is, foreign_may, is_agrees, counted_open}
-use Rattle.mm_host.proofs.Below.{foreign_agrees, holds_open, within_items, within_of, foreign_all, holds_made, foreign_messages}
-use Rattle.mm_host.proofs.Below.{history_with_values}
-use Rattle.mm_host.proofs.Below.{taking_is, names_alike, shown_back, shown_front, shown_shut, MayStart, RunsOnceFrom, not_lost}
-use Rattle.mm_host.proofs.Below.{was_powered, append-nil, SessionRunsOnce, counted_part}
+use Rattle.mm_host.proofs.Below.{is_empty, AreMessagesIn, Digests, digests_of, opt_digests, messages_of_moves, state_after_moves}
+use Rattle.mm_host.proofs.Below.{digest_level, list_level, AreShown, StandsAt, foreign_items, standing_items, stands_at, stands_for}
+use Rattle.mm_host.proofs.Below.{agrees_is, foreign_may, is_agrees, counted_open, foreign_agrees, holds_open, within_items, within_of}
+use Rattle.mm_host.proofs.Below.{foreign_all, holds_made, foreign_messages, history_with_values, taking_is, names_alike, shown_back}
+use Rattle.mm_host.proofs.Below.{shown_front, shown_shut, MayStart, RunsOnceFrom, not_lost, was_powered, append-nil, SessionRunsOnce}
+use Rattle.mm_host.proofs.Below.{counted_part}
 use Rattle.mm_model.specs.declared.refusal.Refusal.TheVariants as refusal
 use Rattle.mm_store.specs.declared.fault.StoreFault.TheVariants as fault
 use Rattle.mm_recovery.specs.declared.fault.HostFault.TheVariants as host

@@ -1,17 +1,13 @@
 -- A session by lists, in either variant: from what waited, over the lines, to each of its ends.
-use Rattle.mm_host.proofs.Below.{◌≡◌, ◌≢◌, ◌∙◌, ℕ, List, [], ◌∷◌, ◌++◌, Option, None, Some, Result, Err, refl, ap, inl, inr, ◌⊎◌}
-use Rattle.mm_host.proofs.Below.{Standing, Batch, One, Instance, History, requests_of, LostLife, life_of, requests-push}
-use Rattle.mm_host.proofs.Below.{StoreStanding, PendingRecord, Refusal, HostFault, SessionFault, Host, Resumed, ContinuesTo, HasUntold}
-use Rattle.mm_host.proofs.Below.{MayBeUntold, RefusesAs, CallsRunOver, IsGrown, MayHaveCommitted, SendsReply, session_result_of}
-use Rattle.mm_host.proofs.Below.{reply_text, SessionPlace, ServedCall, IsAtRest, Ok, Slots, Answered, FitsBy}
-use Rattle.mm_host.proofs.Below.{RecoversTo, record_for, ServesCalls, served_lines, AreAmong, AreAskedInTurn, history_after_answer}
-use Rattle.mm_host.proofs.Below.{snapshot_at}
-use Rattle.mm_host.proofs.Below.{batch_result_of, slot_front, Answer, IsInHand, first_served_call, served_calls_in, first_offer}
-use Rattle.mm_host.proofs.Below.{requests_with}
-use Rattle.mm_host.proofs.Below.{AreNewFrom, AreToldOnce}
-use Rattle.mm_host.proofs.Below.{offer_slot, HostResumes, IsSession, GoesAfterResume, StopsAtOnce, NoMore, left_by, IsCall, IsWaiting}
-use Rattle.mm_host.proofs.Below.{recovers_by, Met, IfOk, subst, sym, total_of, refusal_fault, RunsTo, StandsFor, IsWithin, Variant}
-use Rattle.mm_host.proofs.Below.{true}
+use Rattle.mm_host.proofs.Below.{◌≡◌, ◌≢◌, ◌∙◌, ℕ, List, [], ◌∷◌, ◌++◌, Option, None, Some, Result, Err, refl, ap, inl, inr, ◌⊎◌, Standing}
+use Rattle.mm_host.proofs.Below.{Batch, One, Instance, History, requests_of, LostLife, life_of, requests-push, StoreStanding, PendingRecord}
+use Rattle.mm_host.proofs.Below.{Refusal, HostFault, SessionFault, Host, Resumed, ContinuesTo, HasUntold, MayBeUntold, RefusesAs}
+use Rattle.mm_host.proofs.Below.{CallsRunOver, IsGrown, MayHaveCommitted, SendsReply, session_result_of, reply_text, SessionPlace}
+use Rattle.mm_host.proofs.Below.{ServedCall, IsAtRest, Ok, Slots, Answered, FitsBy, RecoversTo, record_for, ServesCalls, served_lines}
+use Rattle.mm_host.proofs.Below.{AreAmong, AreAskedInTurn, history_after_answer, snapshot_at, batch_result_of, slot_front, Answer, IsInHand}
+use Rattle.mm_host.proofs.Below.{first_served_call, served_calls_in, first_offer, requests_with, AreNewFrom, AreToldOnce, offer_slot}
+use Rattle.mm_host.proofs.Below.{HostResumes, IsSession, GoesAfterResume, StopsAtOnce, NoMore, left_by, IsCall, IsWaiting, recovers_by, Met}
+use Rattle.mm_host.proofs.Below.{IfOk, subst, sym, total_of, refusal_fault, RunsTo, StandsFor, IsWithin, Variant, true}
 use Rattle.mm_host.specs.Sessions.{SessionGoesOn}
 use Rattle.mm_host.proofs.Below.{◌+◌, ◌%◌, length, MayGrow, longest_request, GoesAfterRecord, BeginsWith, turn_answer_of, IsMade, Enters}
 use Rattle.mm_host.proofs.Below.{Lines, pending_spelling, position_at, TurnGoes, StoreFault, WriteFault, WritesSlot}

@@ -1,16 +1,10 @@
 -- Where a session stands between two lines, and what a request comes to.
-use Rattle.mm_host.proofs.Below.{◌≡◌, ◌≢◌, ◌∙◌, ◌+◌, ℕ, true, List, Option, None, Some, Result, Ok, Err, refl, sym, ap}
-use Rattle.mm_host.proofs.Below.{inl, arith, ◌⊎◌, nat_eq, Standing, Batch, One}
-use Rattle.mm_host.proofs.Below.{Instance, History, requests_of, total_of, LostLife, life_of, StandsFor, Answer}
-use Rattle.mm_host.proofs.Below.{BatchAnswer, Refusal, answer_on, IsWithin, batch_answer_of}
-use Rattle.mm_host.proofs.Below.{StoreStanding, PendingRecord, Slots}
-use Rattle.mm_host.proofs.Below.{HostFault, Resumed, Start, Answered, IsNotBeyond}
-use Rattle.mm_host.proofs.Below.{waiting_position, refusal_fault, FitsHistory, FitsBy, AnswersAt}
-use Rattle.mm_host.proofs.Below.{IsGrown, MayHaveCommitted, RecoversTo, IsRefusedAs, position_at}
-use Rattle.mm_host.proofs.Below.{SessionPlace}
-use Rattle.mm_host.proofs.Below.{CallsRunOver, first_served_call, inr}
-use Rattle.mm_host.proofs.Below.{last_position, subst, ◌≤◌}
-use Rattle.mm_host.proofs.Below.{◌++◌, Variant, Batch, Life, StepFault, fault_of, by_refusal}
+use Rattle.mm_host.proofs.Below.{◌≡◌, ◌≢◌, ◌∙◌, ◌+◌, ℕ, true, List, Option, None, Some, Result, Ok, Err, refl, sym, ap, inl, arith, ◌⊎◌}
+use Rattle.mm_host.proofs.Below.{nat_eq, Standing, Batch, One, Instance, History, requests_of, total_of, LostLife, life_of, StandsFor}
+use Rattle.mm_host.proofs.Below.{Answer, BatchAnswer, Refusal, answer_on, IsWithin, batch_answer_of, StoreStanding, PendingRecord, Slots}
+use Rattle.mm_host.proofs.Below.{HostFault, Resumed, Start, Answered, IsNotBeyond, waiting_position, refusal_fault, FitsHistory, FitsBy}
+use Rattle.mm_host.proofs.Below.{AnswersAt, IsGrown, MayHaveCommitted, RecoversTo, IsRefusedAs, position_at, SessionPlace, CallsRunOver}
+use Rattle.mm_host.proofs.Below.{first_served_call, inr, last_position, subst, ◌≤◌, ◌++◌, Variant, Life, StepFault, fault_of, by_refusal}
 use Rattle.mm_host.proofs.Below.{AreNewFrom, AreToldOnce, RefusesAs, ServedCall, Host}
 use Rattle.mm_model.specs.declared.refusal.Refusal.TheVariants as refusal
 use Rattle.mm_recovery.specs.declared.fault.HostFault.TheVariants as host

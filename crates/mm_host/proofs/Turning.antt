@@ -2,10 +2,9 @@
 use Rattle.mm_host.proofs.Below.{◌≡◌, ℕ, List, [], ◌++◌, Option, Result, Ok, Err, refl, ap, inl, inr, Appends-nil, Appends-trans}
 use Rattle.mm_host.proofs.Below.{Consumes-nil, Variant, Standing, Meaning, StoreStanding, HostFault, SessionFault, Host, Resumed}
 use Rattle.mm_host.proofs.Below.{HostResumes, SendsReply, TellsReply, session_result_of, reply_text, IsSession, ServesInput, ◌∙◌, ◌+◌, ◌≤◌}
-use Rattle.mm_host.proofs.Below.{◌∷◌, sym}
-use Rattle.mm_host.proofs.Below.{append_assoc, arith, longest_request, Lines, WriteFault, AsksNext, SessionPlace, BeginsWith, StopsInLine}
-use Rattle.mm_host.proofs.Below.{most_lines, ServesNext, TurnGoes, length, Some, Consumes-trans, joined_lines, Answered, served_lines}
-use Rattle.mm_host.proofs.Below.{replies_to, ServesLine, AsksAndTells, TurnSends, ServedCall, turn_answer_of}
+use Rattle.mm_host.proofs.Below.{◌∷◌, sym, append_assoc, arith, longest_request, Lines, WriteFault, AsksNext, SessionPlace, BeginsWith}
+use Rattle.mm_host.proofs.Below.{StopsInLine, most_lines, ServesNext, TurnGoes, length, Some, Consumes-trans, joined_lines, Answered}
+use Rattle.mm_host.proofs.Below.{served_lines, replies_to, ServesLine, AsksAndTells, TurnSends, ServedCall, turn_answer_of}
 use Rattle.mm_base.specs.ReadsNextLine.{ReadsNextLine}
 use Rattle.mm_base.specs.declared.lines.LineFault.{LineFault}
 use Rattle.mm_base.specs.declared.lines.Read.{Read}

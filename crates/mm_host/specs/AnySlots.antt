@@ -7,9 +7,8 @@ use Rattle.std.specs.List.{Contains}
 use Rattle.mm_host.specs.Below.{lines_of, Variant, Basic, Opt, Content, Item, Standing, Batch, One, Meaning, History, Commit, history_after}
 use Rattle.mm_host.specs.Below.{requests_of, total_of, Instance, basic_instance, opt_instance, AreMessagesIn, IsClear, AreNoGuards}
 use Rattle.mm_host.specs.Below.{StandsFor, IsGenuine, issued_bytes, Refusal, IsWithin, right_messages, finding_at, right_content}
-use Rattle.mm_host.specs.Below.{list_level}
-use Rattle.mm_host.specs.Below.{AreShown, IsIdle, fault_of, standing_items, StoreStanding, PendingRecord, Slots, slot_front, first_offer}
-use Rattle.mm_host.specs.Below.{IsWaiting, Refused}
+use Rattle.mm_host.specs.Below.{list_level, AreShown, IsIdle, fault_of, standing_items, StoreStanding, PendingRecord, Slots, slot_front}
+use Rattle.mm_host.specs.Below.{first_offer, IsWaiting, Refused}
 use Rattle.mm_host.specs.declared.fault.SessionFault.{SessionFault}
 use Rattle.mm_host.specs.declared.fault.SessionFault.TheVariants.{Host}
 use Rattle.mm_host.specs.Continuation.{IsInHand, CallsRunOver, RunsTo, served_calls_in}

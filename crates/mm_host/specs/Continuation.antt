@@ -3,11 +3,10 @@
 use Rattle.std.specs.Prelude.{◌≡◌, ◌≢◌, ◌+◌, ◌-◌, ◌≤◌, ℕ, List, [], ◌∷◌, ◌++◌, Option, None, Some, Result, Ok, Err, false, true, nat_eq}
 use Rattle.std.specs.Prelude.{◌⊎◌}
 use Rattle.std.proofs.Common.{inl, inr}
-use Rattle.mm_host.specs.Below.{last_position, WriteFault, Variant, Standing, Batch, One, Meaning, History}
-use Rattle.mm_host.specs.Below.{requests_of, total_of, Instance, Spoiled, LostLife}
-use Rattle.mm_host.specs.Below.{life_of, StandsFor, Answer, IsWithin, IsBatchStep}
-use Rattle.mm_host.specs.Below.{Reply, Told, StoreStanding, PendingRecord, Slots, slot_front, FitsHistory, IsRefusedAs}
-use Rattle.mm_host.specs.Below.{MayHaveCommitted, IsWaiting, HostFault, Store, Refused, Resumed, Answered}
+use Rattle.mm_host.specs.Below.{last_position, WriteFault, Variant, Standing, Batch, One, Meaning, History, requests_of, total_of, Instance}
+use Rattle.mm_host.specs.Below.{Spoiled, LostLife, life_of, StandsFor, Answer, IsWithin, IsBatchStep, Reply, Told, StoreStanding}
+use Rattle.mm_host.specs.Below.{PendingRecord, Slots, slot_front, FitsHistory, IsRefusedAs, MayHaveCommitted, IsWaiting, HostFault, Store}
+use Rattle.mm_host.specs.Below.{Refused, Resumed, Answered}
 use Rattle.mm_model.specs.declared.refusal.Refusal.TheVariants.{Full}
 use Rattle.mm_host.specs.declared.fault.SessionFault.{SessionFault}
 use Rattle.mm_host.specs.declared.fault.SessionFault.TheVariants.{Host, Lines}

@@ -27,9 +27,8 @@ use Rattle.mm_host.proofs.Above.{CallsInTurn, TellsCall}
 use Rattle.mm_life.specs.Deeds.{LifeCall}
 use Rattle.mm_life.specs.IdleParts.{has_open}
 use Rattle.mm_life.specs.OneList.{call_replies, told_replies}
-use Rattle.mm_life.specs.LifeWrites.{call_stop}
-use Rattle.mm_life.specs.LifeWrites.{fault_stop, host_stop, new_replies, refusal_stop, session_stop}
-use Rattle.mm_life.specs.LifeWrites.{turns_between, turns_unless_stopped}
+use Rattle.mm_life.specs.LifeWrites.{call_stop, fault_stop, host_stop, new_replies, refusal_stop, session_stop, turns_between}
+use Rattle.mm_life.specs.LifeWrites.{turns_unless_stopped}
 use Rattle.mm_life.proofs.Chains.{Ends, rests as at_rest, stops}
 use Rattle.mm_life.proofs.Idling.{open_told}
 

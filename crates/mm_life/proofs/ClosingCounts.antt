@@ -21,8 +21,7 @@ use Rattle.mm_opt.specs.declared.segment.CheckpointRefusal.{CheckpointRefusal}
 use Rattle.mm_opt.specs.declared.segment.Checkpointed.{Checkpointed}
 use Rattle.mm_recovery.specs.CellWrites.{TellsFlag}
 use Rattle.mm_life.specs.IdleParts.{has_open}
-use Rattle.mm_life.specs.LifeWrites.{checkpoint_stop}
-use Rattle.mm_life.specs.LifeWrites.{turns_between, turns_unless_stopped}
+use Rattle.mm_life.specs.LifeWrites.{checkpoint_stop, turns_between, turns_unless_stopped}
 use Rattle.mm_life.proofs.Idling.{open_told}
 use Rattle.mm_life.proofs.CallCounts.{Counts, counts_by, turned_same, turning}
 

@@ -1,7 +1,6 @@
 -- A life over one honest store, part after part, in either variant.
 use Rattle.std.proofs.Common.{◌≡◌, ◌≢◌, ◌≤◌, ◌+◌, ◌-◌, ◌∙◌, ◌⊎◌, ℕ, Bool, true, false, List, [], ◌∷◌, Option, None, Some, Result, Err}
-use Rattle.std.proofs.Common.{length}
-use Rattle.std.proofs.Common.{arith, refl, sym, ap, subst, inl, inr, length-append}
+use Rattle.std.proofs.Common.{length, arith, refl, sym, ap, subst, inl, inr, length-append}
 use Rattle.mm_platform.specs.Standing.{Standing}
 use Rattle.mm_module.specs.Batch.{Batch, One}
 use Rattle.mm_module.specs.Meaning.{Meaning}

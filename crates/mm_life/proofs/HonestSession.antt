@@ -39,8 +39,7 @@ use Rattle.mm_host.proofs.Above.{by_told, fits_room, unspoiled}
 use Rattle.mm_life.specs.OneList.{SessionSteps}
 use Rattle.mm_life.specs.Deeds.{LifeCall}
 use Rattle.mm_life.specs.SessionCalls.{bytes_of, first_bytes, first_calls, found_pending, IsInHandOf, last_calls, offered_calls}
-use Rattle.mm_life.specs.SessionCalls.{offer_after_finding}
-use Rattle.mm_life.specs.SessionCalls.{recorded_calls, session_calls, told_calls, untold_calls}
+use Rattle.mm_life.specs.SessionCalls.{offer_after_finding, recorded_calls, session_calls, told_calls, untold_calls}
 use Rattle.mm_life.proofs.Chains.{Chain, Ends, call_of, rests, session_chain, stops}
 use Rattle.mm_life.proofs.OneCall.{AreListed, makes_call}
 use Rattle.mm_life.proofs.Sessions.{AreIdle, ends_reach, listed_first, listed_rest}

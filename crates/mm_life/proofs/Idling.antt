@@ -37,8 +37,7 @@ use Rattle.mm_call.specs.Levels.{Level, digest_level, list_level}
 use Rattle.mm_call.specs.Premises.{AreAsked, IsIdle}
 use Rattle.mm_call.specs.Refusals.{fault_of}
 use Rattle.mm_call.specs.ShowingLaws.{asked_by}
-use Rattle.mm_call.proofs.Above.{Brought, reads_only, sight_is, stands_at}
-use Rattle.mm_call.proofs.Above.{life_bare}
+use Rattle.mm_call.proofs.Above.{Brought, reads_only, sight_is, stands_at, life_bare}
 use Rattle.mm_model.specs.History.{total_of}
 use Rattle.mm_module.specs.Batch.{size_of}
 

@@ -26,8 +26,8 @@ use Rattle.mm_life.specs.Deeds.{Calls, Checkpoints, Extends, LosesPower}
 use Rattle.mm_life.specs.OneList.{CallSteps, LifeFollows, PartSteps, SessionSteps, call_replies, life_replies, part_replies, told_replies}
 use Rattle.mm_life.specs.SessionCalls.{IsInHandOf, served_calls_of}
 use Rattle.mm_life.specs.Stages.{Does, Holds, IsLife, LifePart, PartLeads, LifeStage}
-use Rattle.mm_life.specs.LifeWrites.{call_stop, checkpoint_stop}
-use Rattle.mm_life.specs.LifeWrites.{fault_stop, host_stop, new_replies, part_stop, refusal_stop, session_stop, stops_in}
+use Rattle.mm_life.specs.LifeWrites.{call_stop, checkpoint_stop, fault_stop, host_stop, new_replies, part_stop, refusal_stop, session_stop}
+use Rattle.mm_life.specs.LifeWrites.{stops_in}
 
 pub new_append : (xs ys : List Reply) → new_replies (xs ++ ys) ≡ new_replies xs + new_replies ys
 new_append [] ys = omega arith

@@ -22,8 +22,7 @@ use Rattle.mm_host.specs.declared.fault.SessionFault.{SessionFault}
 use Rattle.mm_life.specs.Deeds.{LifeCall}
 use Rattle.mm_life.specs.Laws.{OffersSlots, SessionsOfferSlots}
 use Rattle.mm_life.specs.SessionCalls.{IsFirstOffered, bytes_of, first_bytes, first_calls, found_pending, offered_calls}
-use Rattle.mm_life.specs.SessionCalls.{offer_after_finding}
-use Rattle.mm_life.specs.SessionCalls.{served_calls_of, told_calls, untold_calls}
+use Rattle.mm_life.specs.SessionCalls.{offer_after_finding, served_calls_of, told_calls, untold_calls}
 use Rattle.mm_life.proofs.Chains.{session_chain}
 use Rattle.mm_life.proofs.Sessions.{offered_by}
 

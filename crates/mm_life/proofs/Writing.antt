@@ -1,8 +1,7 @@
 -- How often the cell is written over a life, by the counts of its parts.
 use Rattle.std.specs.Option.{option_map_or}
 use Rattle.std.specs.Str.{bytes_eq}
-use Rattle.std.proofs.Common.{◌≡◌, ◌≤◌, ◌∙◌, ◌+◌, ℕ, List, [], ◌∷◌, Option}
-use Rattle.std.proofs.Common.{arith, refl, ap}
+use Rattle.std.proofs.Common.{◌≡◌, ◌≤◌, ◌∙◌, ◌+◌, ℕ, List, [], ◌∷◌, Option, arith, refl, ap}
 use Rattle.mm_digest.specs.declared.variant.Variant.{Variant}
 use Rattle.mm_digest.specs.declared.variant.Variant.TheVariants.{Basic, Opt}
 use Rattle.mm_platform.specs.Standing.{Standing}
@@ -18,9 +17,8 @@ use Rattle.mm_life.specs.IdleParts.{flag_in, has_open}
 use Rattle.mm_life.specs.OneList.{life_replies, part_replies, told_replies}
 use Rattle.mm_life.specs.SessionCalls.{first_bytes, served_calls_of}
 use Rattle.mm_life.specs.Stages.{Does, Holds, IsLife, LifePart, PartLeads, Program, LifeStage}
-use Rattle.mm_life.specs.LifeWrites.{BasicLivesWriteOnce, OptLivesWriteOnce, PartWrites, WritesOnceEach}
-use Rattle.mm_life.specs.LifeWrites.{new_replies, part_stop, segment_turns, session_stop}
-use Rattle.mm_life.specs.LifeWrites.{turns_between, turns_unless_stopped}
+use Rattle.mm_life.specs.LifeWrites.{BasicLivesWriteOnce, OptLivesWriteOnce, PartWrites, WritesOnceEach, new_replies, part_stop}
+use Rattle.mm_life.specs.LifeWrites.{segment_turns, session_stop, turns_between, turns_unless_stopped}
 use Rattle.mm_life.proofs.Chains.{session_chain}
 use Rattle.mm_life.proofs.Standings.{part_stands}
 use Rattle.mm_life.proofs.CallCounts.{basic_counts, call_writes, CallsWrite, ends_writes, opt_counts, told_write, turned_same}

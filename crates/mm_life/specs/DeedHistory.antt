@@ -4,8 +4,7 @@ use Rattle.std.specs.Prelude.{◌≡◌, ℕ, List, []}
 use Rattle.std.specs.List.{AllByRecursion, Contains}
 use Rattle.std.specs.Option.{option_map_or}
 use Rattle.mm_life.specs.Below.{Basic, Opt, Content, Standing, Batch, Meaning, History, Instance, basic_instance, opt_instance, IsClear}
-use Rattle.mm_life.specs.Below.{AreMessagesIn}
-use Rattle.mm_life.specs.Below.{NamesPosition, StandsFor, IsWithin, foreign_items}
+use Rattle.mm_life.specs.Below.{AreMessagesIn, NamesPosition, StandsFor, IsWithin, foreign_items}
 use Rattle.mm_life.specs.Deeds.{Calls, Deed, DeedLeads}
 use Rattle.mm_life.specs.Premises.{closing_messages, shown_messages}
 use Rattle.mm_life.specs.Stages.{Does, LifePart}

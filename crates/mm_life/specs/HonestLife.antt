@@ -2,12 +2,10 @@
 -- else calls.
 use Rattle.std.specs.Prelude.{◌≡◌, ◌≢◌, ◌+◌, ◌-◌, ◌≤◌, ℕ, true, List, [], ◌∷◌, ◌++◌, Option, None, Some, Result, Err, length, ◌⊎◌}
 use Rattle.mm_life.specs.Below.{Variant, Basic, Opt, Standing, IsLawful, Meaning, History, first_history, requests_of, Instance}
-use Rattle.mm_life.specs.Below.{basic_instance}
-use Rattle.mm_life.specs.Below.{opt_instance, StandsFor, Batch, IsClear, AreNoGuards, IsWithin, Lost, Spoiled, life_of, first_history_on}
-use Rattle.mm_life.specs.Below.{first_slots}
-use Rattle.mm_life.specs.Below.{PendingRecord, Slots, slot_front, IsWaiting, IsInHand, ServedCall, SessionFault, served_calls_in}
-use Rattle.mm_life.specs.Below.{last_position}
-use Rattle.mm_life.specs.Below.{StoreStanding, AreToldOnce, FitsHistory, IsNotBeyond, RefusesAs, Store}
+use Rattle.mm_life.specs.Below.{basic_instance, opt_instance, StandsFor, Batch, IsClear, AreNoGuards, IsWithin, Lost, Spoiled, life_of}
+use Rattle.mm_life.specs.Below.{first_history_on, first_slots, PendingRecord, Slots, slot_front, IsWaiting, IsInHand, ServedCall}
+use Rattle.mm_life.specs.Below.{SessionFault, served_calls_in, last_position, StoreStanding, AreToldOnce, FitsHistory, IsNotBeyond}
+use Rattle.mm_life.specs.Below.{RefusesAs, Store}
 use Rattle.mm_host.specs.declared.fault.SessionFault.TheVariants.{Host}
 use Rattle.mm_life.specs.Deeds.{Calls}
 use Rattle.mm_life.specs.OneList.{LifeFollows, SessionSteps}

@@ -1,10 +1,9 @@
 -- The laws of a life.
 use Rattle.std.specs.Prelude.{◌≡◌, ℕ, List, [], ◌∷◌, Option, Some, Result, ◌⊎◌}
 use Rattle.mm_life.specs.Below.{Variant, Basic, Opt, Standing, IsLawful, Meaning, AreSaid, AnyModule, meaning_of, first_history}
-use Rattle.mm_life.specs.Below.{basic_instance}
-use Rattle.mm_life.specs.Below.{AreNoGuards, IsClear, StandsFor, issued_bytes, ModulePromises, tellings_in, Instance, opt_instance, Batch}
-use Rattle.mm_life.specs.Below.{first_history_on}
-use Rattle.mm_life.specs.Below.{StoreStanding, PendingRecord, Slots, slot_front, first_offer, IsWaiting, MayStart, SessionFault, IsSession}
+use Rattle.mm_life.specs.Below.{basic_instance, AreNoGuards, IsClear, StandsFor, issued_bytes, ModulePromises, tellings_in, Instance}
+use Rattle.mm_life.specs.Below.{opt_instance, Batch, first_history_on, StoreStanding, PendingRecord, Slots, slot_front, first_offer}
+use Rattle.mm_life.specs.Below.{IsWaiting, MayStart, SessionFault, IsSession}
 use Rattle.mm_life.specs.SessionCalls.{IsFirstOffered, session_calls}
 use Rattle.mm_life.specs.Deeds.{LifeCall}
 use Rattle.mm_life.specs.OneList.{LifeFollows, IsOneWhole, life_replies}

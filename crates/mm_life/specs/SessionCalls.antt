@@ -3,10 +3,8 @@ use Rattle.std.specs.Prelude.{◌≡◌, ℕ, List, [], ◌∷◌, ◌++◌, Opt
 use Rattle.std.proofs.Common.{inl, inr}
 use Rattle.mm_base.specs.declared.replay_fault.ReplayFault.TheVariants.{WriteFault}
 use Rattle.mm_life.specs.Below.{Variant, Standing, Meaning, StoreFault, StoreStanding, PendingRecord, snapshot_at, GoesAfterRecord}
-use Rattle.mm_life.specs.Below.{AsksNext}
-use Rattle.mm_life.specs.Below.{GoesAfterFinding, GoesAfterOffer, AsksAndKeeps, HostFault, Resumed, GoesAfterResume, SessionPlace}
-use Rattle.mm_life.specs.Below.{ServedCall, TurnGoes}
-use Rattle.mm_life.specs.Below.{IsSession, IsInHand, turn_answer_of, served_calls_in, SessionFault}
+use Rattle.mm_life.specs.Below.{AsksNext, GoesAfterFinding, GoesAfterOffer, AsksAndKeeps, HostFault, Resumed, GoesAfterResume, SessionPlace}
+use Rattle.mm_life.specs.Below.{ServedCall, TurnGoes, IsSession, IsInHand, turn_answer_of, served_calls_in, SessionFault}
 use Rattle.mm_host.specs.declared.fault.SessionFault.TheVariants.{Host, Lines}
 use Rattle.mm_life.specs.Deeds.{LifeCall}
 

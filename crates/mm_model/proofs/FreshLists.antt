@@ -1,13 +1,10 @@
 -- Opt: a fresh offer lists the messages that its batch adds to the history.
-use Rattle.mm_model.proofs.Below.{ℕ, ◌≡◌, ◌+◌, Bool, true, false, ◌&&◌, List, map, refl, sym, ap, ◌∙◌, inl, inr}
-use Rattle.mm_model.proofs.Below.{nat_eq, Contains, Opt, extended_message, Batch, size_of, Meaning, Content}
-use Rattle.mm_model.proofs.Below.{guard_message, guard, register_of, own_values, Instance, opt_instance, History, Commit, items_of_all}
-use Rattle.mm_model.proofs.Below.{total_of}
-use Rattle.mm_model.proofs.Below.{values_of, is_empty, has_value, are_own, Life, Live, life_of, is_last, verdict_on, verdict_by_tests}
-use Rattle.mm_model.proofs.Below.{NamesPosition}
-use Rattle.mm_model.proofs.Below.{IsSound, AreMessagesIn, IsClearFor, point_messages, batch_messages, at_the_end, items_taken_in}
-use Rattle.mm_model.proofs.Below.{IsFreshSomehow}
-use Rattle.mm_model.proofs.Below.{reads_zero, values_of-own}
+use Rattle.mm_model.proofs.Below.{ℕ, ◌≡◌, ◌+◌, Bool, true, false, ◌&&◌, List, map, refl, sym, ap, ◌∙◌, inl, inr, nat_eq, Contains, Opt}
+use Rattle.mm_model.proofs.Below.{extended_message, Batch, size_of, Meaning, Content, guard_message, guard, register_of, own_values}
+use Rattle.mm_model.proofs.Below.{Instance, opt_instance, History, Commit, items_of_all, total_of, values_of, is_empty, has_value, are_own}
+use Rattle.mm_model.proofs.Below.{Life, Live, life_of, is_last, verdict_on, verdict_by_tests, NamesPosition, IsSound, AreMessagesIn}
+use Rattle.mm_model.proofs.Below.{IsClearFor, point_messages, batch_messages, at_the_end, items_taken_in, IsFreshSomehow, reads_zero}
+use Rattle.mm_model.proofs.Below.{values_of-own}
 use Rattle.mm_model.specs.declared.verdict.Verdict.TheVariants.{Fresh as IsFresh}
 use Rattle.mm_model.proofs.Opt.{second_listed}
 use Rattle.mm_model.proofs.OptJudge.{Stood, stood_at, path_messages, fresh_path, held_at, live_values_at}

@@ -1,13 +1,10 @@
 -- A snapshot that names a position names it after each move; the snapshot of an answer names the last position.
-use Rattle.mm_model.proofs.Below.{ℕ, ◌≡◌, ◌≤◌, Bool, true, false, List, [], ◌∷◌, ◌++◌, length, refl, sym, ap, ◌∙◌, ◌⊎◌, inl, inr}
-use Rattle.mm_model.proofs.Below.{arith, append_assoc, length-append, append-nil, append_cancel_right, Opt, Batch, Meaning, Place}
-use Rattle.mm_model.proofs.Below.{InBasic, InOpt, Content, guard, Instance, basic_instance, opt_instance, RegisterEntry, Own, Value}
-use Rattle.mm_model.proofs.Below.{History, Move, Commit, Foreign}
-use Rattle.mm_model.proofs.Below.{Placed, Close, items_of_all, history_after, with_last_batch, has_value, IsSound, IsClean, batches_in}
-use Rattle.mm_model.proofs.Below.{IsClosedPoint, IsCurrentPoint, IsPoint, at_anchor, in_closed, in_current, IsPlaceOf, NamesPosition}
-use Rattle.mm_model.proofs.Below.{content_of_issue, issued_place}
-use Rattle.mm_model.proofs.Below.{MayMove, length-batches_in}
-use Rattle.mm_model.proofs.Below.{anchor_after, basic_stands}
+use Rattle.mm_model.proofs.Below.{ℕ, ◌≡◌, ◌≤◌, Bool, true, false, List, [], ◌∷◌, ◌++◌, length, refl, sym, ap, ◌∙◌, ◌⊎◌, inl, inr, arith}
+use Rattle.mm_model.proofs.Below.{append_assoc, length-append, append-nil, append_cancel_right, Opt, Batch, Meaning, Place, InBasic, InOpt}
+use Rattle.mm_model.proofs.Below.{Content, guard, Instance, basic_instance, opt_instance, RegisterEntry, Own, Value, History, Move, Commit}
+use Rattle.mm_model.proofs.Below.{Foreign, Placed, Close, items_of_all, history_after, with_last_batch, has_value, IsSound, IsClean}
+use Rattle.mm_model.proofs.Below.{batches_in, IsClosedPoint, IsCurrentPoint, IsPoint, at_anchor, in_closed, in_current, IsPlaceOf}
+use Rattle.mm_model.proofs.Below.{NamesPosition, content_of_issue, issued_place, MayMove, length-batches_in, anchor_after, basic_stands}
 use Rattle.mm_model.proofs.Paths.{clean_size, current_clean, live_clean, shut_current}
 use Rattle.mm_model.proofs.Moves.{flagged, open_current, opening_clean}
 

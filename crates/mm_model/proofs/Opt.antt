@@ -1,11 +1,10 @@
 -- Opt: what the tests of the verdict by digests say of both forms of a place.
-use Rattle.mm_model.proofs.Below.{ℕ, ◌≡◌, Bool, true, false, ◌||◌, List, [], ◌∷◌, ◌++◌, refl, sym, ap, ◌∙◌, subst, ◌⊎◌}
-use Rattle.mm_model.proofs.Below.{if◌then◌else◌, Decides, bytes_eq, Contains, list_any, zero_bytes, anchored_message, anchored_digest_of}
-use Rattle.mm_model.proofs.Below.{register_of, anchor_of, is_empty, Point, forms_of, fits_fresh, fits_again, AreMessagesIn, IsClear}
-use Rattle.mm_model.proofs.Below.{register_trail, form_messages, point_messages, anchor-push, same_tests, IsFreshPath, IsFreshSomehow}
-use Rattle.mm_model.proofs.Below.{IsAgainPath, IsAgainSomehow, true_not_false, HasListedMessages, IsClearFromStart, point_of, fresh_tells}
-use Rattle.mm_model.proofs.Below.{again_tells, zero_register}
-use Rattle.mm_model.proofs.Below.{listed_segment, reads_zero}
+use Rattle.mm_model.proofs.Below.{ℕ, ◌≡◌, Bool, true, false, ◌||◌, List, [], ◌∷◌, ◌++◌, refl, sym, ap, ◌∙◌, subst, ◌⊎◌, if◌then◌else◌}
+use Rattle.mm_model.proofs.Below.{Decides, bytes_eq, Contains, list_any, zero_bytes, anchored_message, anchored_digest_of, register_of}
+use Rattle.mm_model.proofs.Below.{anchor_of, is_empty, Point, forms_of, fits_fresh, fits_again, AreMessagesIn, IsClear, register_trail}
+use Rattle.mm_model.proofs.Below.{form_messages, point_messages, anchor-push, same_tests, IsFreshPath, IsFreshSomehow, IsAgainPath}
+use Rattle.mm_model.proofs.Below.{IsAgainSomehow, true_not_false, HasListedMessages, IsClearFromStart, point_of, fresh_tells, again_tells}
+use Rattle.mm_model.proofs.Below.{zero_register, listed_segment, reads_zero}
 use Rattle.std.proofs.lemmas.Bool.Decides.{Decides-or}
 
 or_nothing : (x : Bool) → x ≡ (x || false)

@@ -1,23 +1,17 @@
 -- Opt: from a sound history the verdict by digests is the verdict on the history.
-use Rattle.mm_model.proofs.Below.{ℕ, ◌≡◌, ◌+◌, Bool, true, false, ◌&&◌, List, [], ◌∷◌, ◌++◌, length, map, refl, sym, ap, ◌∙◌}
-use Rattle.mm_model.proofs.Below.{subst, inl, inr, nat_eq, if◌then◌else◌, Decides, bytes_eq, AllByRecursion, Contains, list_any}
-use Rattle.mm_model.proofs.Below.{append-nil, map-append, Opt, zero_bytes, start_digest_of, anchored_message, Batch, size_of, guard_message}
-use Rattle.mm_model.proofs.Below.{closing_message}
-use Rattle.mm_model.proofs.Below.{guard, register_of, anchor_of, own_values, Meaning, Place, InBasic, InOpt, Content, Instance}
-use Rattle.mm_model.proofs.Below.{opt_instance, RegisterEntry}
-use Rattle.mm_model.proofs.Below.{History, items_of_all, total_of, register_value_of, values_of, cell_digest_of, is_empty, has_value}
-use Rattle.mm_model.proofs.Below.{are_own}
-use Rattle.mm_model.proofs.Below.{Life, Live, Spoiled, Lost, life_by, life_of, is_lost_life, verdict_by_digests, forms_of, fits_fresh}
-use Rattle.mm_model.proofs.Below.{fits_again, is_last, verdict_by, opt_verdict, verdict_on, verdict_by_tests, IsPoint, IsPlaceOf}
-use Rattle.mm_model.proofs.Below.{NamesPosition, anchor_after}
-use Rattle.mm_model.proofs.Below.{AreMessagesIn, IsClear, IsClearFor, register_trail, point_messages, messages_of, counted_entries}
-use Rattle.mm_model.proofs.Below.{values_in}
-use Rattle.mm_model.proofs.Below.{AreNoGuards, IsSound, IsClean, batches_in, each_left, each_right, each_append, trail_front}
-use Rattle.mm_model.proofs.Below.{same_own_values, same_tests, at_the_end, before_the_last, verdicts, true_not_false, items_taken_in}
-use Rattle.mm_model.proofs.Below.{IsFreshSomehow, IsAgainSomehow, fresh_joins, again_joins, PathReaches, IsHeld, fresh_from, again_from}
-use Rattle.mm_model.proofs.Below.{HasListedMessages, IsClearFromStart}
-use Rattle.mm_model.proofs.Below.{own_values-append, values_of-append, joined-values, has_value-append, values_of-clean, values_of-own}
-use Rattle.mm_model.proofs.Below.{meets}
+use Rattle.mm_model.proofs.Below.{ℕ, ◌≡◌, ◌+◌, Bool, true, false, ◌&&◌, List, [], ◌∷◌, ◌++◌, length, map, refl, sym, ap, ◌∙◌, subst, inl}
+use Rattle.mm_model.proofs.Below.{inr, nat_eq, if◌then◌else◌, Decides, bytes_eq, AllByRecursion, Contains, list_any, append-nil, map-append}
+use Rattle.mm_model.proofs.Below.{Opt, zero_bytes, start_digest_of, anchored_message, Batch, size_of, guard_message, closing_message, guard}
+use Rattle.mm_model.proofs.Below.{register_of, anchor_of, own_values, Meaning, Place, InBasic, InOpt, Content, Instance, opt_instance}
+use Rattle.mm_model.proofs.Below.{RegisterEntry, History, items_of_all, total_of, register_value_of, values_of, cell_digest_of, is_empty}
+use Rattle.mm_model.proofs.Below.{has_value, are_own, Life, Live, Spoiled, Lost, life_by, life_of, is_lost_life, verdict_by_digests}
+use Rattle.mm_model.proofs.Below.{forms_of, fits_fresh, fits_again, is_last, verdict_by, opt_verdict, verdict_on, verdict_by_tests, IsPoint}
+use Rattle.mm_model.proofs.Below.{IsPlaceOf, NamesPosition, anchor_after, AreMessagesIn, IsClear, IsClearFor, register_trail}
+use Rattle.mm_model.proofs.Below.{point_messages, messages_of, counted_entries, values_in, AreNoGuards, IsSound, IsClean, batches_in}
+use Rattle.mm_model.proofs.Below.{each_left, each_right, each_append, trail_front, same_own_values, same_tests, at_the_end, before_the_last}
+use Rattle.mm_model.proofs.Below.{verdicts, true_not_false, items_taken_in, IsFreshSomehow, IsAgainSomehow, fresh_joins, again_joins}
+use Rattle.mm_model.proofs.Below.{PathReaches, IsHeld, fresh_from, again_from, HasListedMessages, IsClearFromStart, own_values-append}
+use Rattle.mm_model.proofs.Below.{values_of-append, joined-values, has_value-append, values_of-clean, values_of-own, meets}
 use Rattle.std.proofs.lemmas.Bool.{or_left, or_right, false_from_ne_true}
 use Rattle.mm_digest.specs.declared.digest.Digest.{Digest}
 use Rattle.std.proofs.lemmas.List.Elements.{Contains-append_left, Contains-append_right, Contains-push, Contains-push_cases}

@@ -1,14 +1,13 @@
 -- Opt: a place of a sound history as a path, some first closed segments and some batches after them.
-use Rattle.mm_model.proofs.Below.{ℕ, ◌≡◌, ◌+◌, ◌-◌, ◌≤◌, Bool, true, false, List, [], ◌∷◌, ◌++◌, length, map, take, drop, refl}
-use Rattle.mm_model.proofs.Below.{sym, ap, ◌∙◌, subst, ◌⊎◌, inl, inr, arith, append_assoc, length-append, append-nil, append_cancel_right}
+use Rattle.mm_model.proofs.Below.{ℕ, ◌≡◌, ◌+◌, ◌-◌, ◌≤◌, Bool, true, false, List, [], ◌∷◌, ◌++◌, length, map, take, drop, refl, sym, ap}
+use Rattle.mm_model.proofs.Below.{◌∙◌, subst, ◌⊎◌, inl, inr, arith, append_assoc, length-append, append-nil, append_cancel_right}
 use Rattle.mm_model.proofs.Below.{length-map, length-drop, drop-append-le, or_parts, AllByRecursion, zero_bytes, extended_message, Batch}
 use Rattle.mm_model.proofs.Below.{guard, register_of, own_values, Instance, RegisterEntry, History, items_of_all, extension_value}
-use Rattle.mm_model.proofs.Below.{values_of, is_empty}
-use Rattle.mm_model.proofs.Below.{has_value, IsClosedPoint, IsPoint, at_anchor, in_closed, in_current, anchor_after, AreMessagesIn}
-use Rattle.mm_model.proofs.Below.{register_trail, closed_runs, runs_of, IsSound, IsClean, IsMarred, batches_in, each_left, each_right}
-use Rattle.mm_model.proofs.Below.{trail_front, same_halves, joined-append, joined-push, true_not_false, nil_from_length, PathReaches}
-use Rattle.mm_model.proofs.Below.{reads_zero}
-use Rattle.mm_model.proofs.Below.{own_values-append, has_value-append, batches_in-append, length-batches_in, values_of-clean, sooner}
+use Rattle.mm_model.proofs.Below.{values_of, is_empty, has_value, IsClosedPoint, IsPoint, at_anchor, in_closed, in_current, anchor_after}
+use Rattle.mm_model.proofs.Below.{AreMessagesIn, register_trail, closed_runs, runs_of, IsSound, IsClean, IsMarred, batches_in, each_left}
+use Rattle.mm_model.proofs.Below.{each_right, trail_front, same_halves, joined-append, joined-push, true_not_false, nil_from_length}
+use Rattle.mm_model.proofs.Below.{PathReaches, reads_zero, own_values-append, has_value-append, batches_in-append, length-batches_in}
+use Rattle.mm_model.proofs.Below.{values_of-clean, sooner}
 use Rattle.std.proofs.Math.Seq.{take-append-add}
 
 -- the batches begin with those of these segments, which hold no value that stands for none

@@ -1,13 +1,12 @@
 -- Whether an offer stands where the module stands: the verdicts by digests and on the history tell the same, whatever the
 -- batch, and no message of a batch is looked at.
-use Rattle.mm_model.proofs.Below.{ℕ, ◌≡◌, ◌+◌, Bool, true, false, ◌&&◌, List, [], ◌∷◌, refl, sym, ◌∙◌, nat_eq}
-use Rattle.mm_model.proofs.Below.{if◌then◌else◌, bytes_eq, Basic, Opt, zero_bytes, anchored_message, Batch}
-use Rattle.mm_model.proofs.Below.{size_of, Meaning, Content, guard, summary_of, register_of}
-use Rattle.mm_model.proofs.Below.{Instance, basic_instance, opt_instance, History, total_of, register_value_of, values_of, cell_digest_of}
-use Rattle.mm_model.proofs.Below.{Life, Live, Spoiled, Lost, life_of, is_lost_life, verdict_by_digests, forms_of}
-use Rattle.mm_model.proofs.Below.{is_last, verdict_by, opt_verdict, verdict_on, verdict_by_tests, AreMessagesIn, IsClear, AreNoGuards}
-use Rattle.mm_model.proofs.Below.{history_messages, values_in, counted_entries, NamesPosition, anchor_after, IsSound}
-use Rattle.mm_model.proofs.Below.{basic_here, basic_stands}
+use Rattle.mm_model.proofs.Below.{ℕ, ◌≡◌, ◌+◌, Bool, true, false, ◌&&◌, List, [], ◌∷◌, refl, sym, ◌∙◌, nat_eq, if◌then◌else◌, bytes_eq}
+use Rattle.mm_model.proofs.Below.{Basic, Opt, zero_bytes, anchored_message, Batch, size_of, Meaning, Content, guard, summary_of}
+use Rattle.mm_model.proofs.Below.{register_of, Instance, basic_instance, opt_instance, History, total_of, register_value_of, values_of}
+use Rattle.mm_model.proofs.Below.{cell_digest_of, Life, Live, Spoiled, Lost, life_of, is_lost_life, verdict_by_digests, forms_of, is_last}
+use Rattle.mm_model.proofs.Below.{verdict_by, opt_verdict, verdict_on, verdict_by_tests, AreMessagesIn, IsClear, AreNoGuards}
+use Rattle.mm_model.proofs.Below.{history_messages, values_in, counted_entries, NamesPosition, anchor_after, IsSound, basic_here}
+use Rattle.mm_model.proofs.Below.{basic_stands}
 use Rattle.mm_model.specs.PlaceMessages.{is_new, place_messages}
 use Rattle.mm_model.proofs.Opt.{zero_tells}
 use Rattle.mm_model.proofs.OptJudge.{Stood, stood_at, told, fresh_told, zero_is_lost}

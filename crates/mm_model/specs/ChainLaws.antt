@@ -2,8 +2,7 @@
 use Rattle.std.proofs.Common.{◌≡◌, ◌≢◌, ◌++◌, length, refl, sym, ap, ◌∙◌, inl, inr, ℕ, List, [], ◌∷◌}
 use Rattle.std.specs.List.{AllByRecursion, Contains}
 use Rattle.mm_model.specs.Below.{length-sha256, sha256, length-zero_bytes, length-start_digest_of, zero_bytes, start_digest_of}
-use Rattle.mm_model.specs.Below.{extended_message, Basic}
-use Rattle.mm_model.specs.Below.{Opt, Batch}
+use Rattle.mm_model.specs.Below.{extended_message, Basic, Opt, Batch}
 use Rattle.mm_model.specs.Chains.{digest_after, trail, link, link_message, closing_message, summary_of, anchor_of, register_of}
 use Rattle.mm_model.specs.Messages.{AreMessagesIn, IsClear}
 use Rattle.mm_model.specs.ListLaws.{ends, by_last, each_left, each_right, each_append}

@@ -6,8 +6,7 @@ use Rattle.std.specs.Bool.{Decides}
 use Rattle.std.specs.List.{AllByRecursion, Contains, fold}
 use Rattle.std.specs.Str.{bytes_eq}
 use Rattle.mm_model.specs.Below.{sha256, append-injective, length-zero_bytes, length-start_digest_of, zero_bytes, start_message}
-use Rattle.mm_model.specs.Below.{extended_message}
-use Rattle.mm_model.specs.Below.{Basic, Opt, Batch, One, Many}
+use Rattle.mm_model.specs.Below.{extended_message, Basic, Opt, Batch, One, Many}
 use Rattle.mm_digest.specs.Messages.{start_digest_of, extended_digest_of, anchored_digest_of}
 use Rattle.mm_platform.specs.Standing as platform
 use Rattle.mm_model.specs.Chains.{digest_after, trail, link_message, guard_message, closing_message, link, guard, summary_of, register_of}

@@ -1,8 +1,7 @@
 -- A batch that isn't too long has at most 64 requests, each of them a line.
 use Rattle.std.specs.Prelude.{nat_lt}
 use Rattle.std.proofs.Common.{◌≡◌, ◌≢◌, ◌≤◌, ◌||◌, ◌++◌, length, length-append, sym, ap, append_assoc, ◌∙◌, subst, arith, Some, ℕ, false}
-use Rattle.std.proofs.Common.{List, [], ◌∷◌}
-use Rattle.std.proofs.Common.{zero, suc}
+use Rattle.std.proofs.Common.{List, [], ◌∷◌, zero, suc}
 use Rattle.std.proofs.lemmas.Bool.{or_parts}
 use Rattle.std.proofs.lemmas.Bool.Decides.{nat_tests}
 use Rattle.std.proofs.lemmas.List.{append-nil}

@@ -4,8 +4,7 @@ use Rattle.std.specs.Prelude.{ℕ, ◌-◌, Bool, true, List, [], ◌∷◌, map
 use Rattle.std.specs.List.{flat_map, AllByRecursion, Contains}
 use Rattle.std.specs.Str.{bytes_eq}
 use Rattle.mm_model.specs.Below.{sha256, zero_bytes, start_message, start_digest_of, extended_message, extended_digest_of, anchored_message}
-use Rattle.mm_model.specs.Below.{anchored_digest_of}
-use Rattle.mm_model.specs.Below.{Variant, Basic, Opt, Place, InBasic, InOpt, Batch}
+use Rattle.mm_model.specs.Below.{anchored_digest_of, Variant, Basic, Opt, Place, InBasic, InOpt, Batch}
 use Rattle.mm_model.specs.Chains.{trail, link_message, guard_message, closing_message, guard}
 use Rattle.mm_model.specs.ChainsWords.{own_values}
 use Rattle.mm_model.specs.Instance.{Instance}

@@ -2,8 +2,7 @@
 use Rattle.std.specs.Prelude.{ℕ, Bool, false, List, Option, ◌≡◌, Some, IsTrue}
 use Rattle.std.specs.Option.{option_map}
 use Rattle.mm_model.specs.Below.{Variant, Basic, Opt, IsCell, cell_spelling, Content, IsContent, variant_of, sealed_snapshot_of, Cell}
-use Rattle.mm_model.specs.Below.{Standing}
-use Rattle.mm_model.specs.Below.{item_values, register_after}
+use Rattle.mm_model.specs.Below.{Standing, item_values, register_after}
 use Rattle.mm_model.specs.Instance.{Instance}
 use Rattle.mm_model.specs.History.{History, register_value_of}
 use Rattle.mm_model.specs.HistoryWords.{cell_digest_of}

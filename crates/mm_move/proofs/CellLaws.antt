@@ -2,8 +2,7 @@
 use Rattle.mm_move.proofs.Below.{◌≡◌, ℕ, ◌++◌, Bool, true, false, List, length, get_or, Result, Ok, Err, refl, sym, ap, ◌∙◌, subst, arith}
 use Rattle.mm_move.proofs.Below.{◌==◌, slice_index, if◌then◌else◌, bytes_eq, cell_length, Variant, Basic, Opt, variant_byte, Cell}
 use Rattle.mm_move.proofs.Below.{CellFault, Blank, Unspelled, IsCell, flag_byte, WaitingCell, MovedCell, variant_in, moved_spelling}
-use Rattle.mm_move.proofs.Below.{IsWaiting}
-use Rattle.mm_move.proofs.Below.{IsRetired, IsMoved, SpellsMoved, waiting_cell_in, retired_cell_in, live_cell_in, moved_cell_in}
+use Rattle.mm_move.proofs.Below.{IsWaiting, IsRetired, IsMoved, SpellsMoved, waiting_cell_in, retired_cell_in, live_cell_in, moved_cell_in}
 use Rattle.mm_move.proofs.Below.{is_fit_for_variant, moved_cell_by, CellsAreRead}
 use Rattle.mm_seal.specs.Cell.{cell_spelling, blank_cell}
 use Rattle.mm_move.specs.declared.cell.RetiredCell.{RetiredCell}

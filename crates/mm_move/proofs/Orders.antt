@@ -2,10 +2,9 @@
 use Rattle.mm_move.proofs.Below.{◌≡◌, ℕ, Bool, true, false, List, Option, None, Some, Result, Ok, Err, refl, ◌||◌, if◌then◌else◌, bytes_eq}
 use Rattle.mm_move.proofs.Below.{Digest, Variant, Cell, CellFault, Blank, Unspelled, PartsFault, Form, Kind, Content, Snapshot, tag_of}
 use Rattle.mm_move.proofs.Below.{MovedCell, WaitingCell, ReadyMove, MoveRefusal, is_barred, is_other, is_place_at, retired_cell_from}
-use Rattle.mm_move.proofs.Below.{offer_by}
-use Rattle.mm_move.proofs.Below.{right_offer, retirement_by, retirement_in, ticket_by, right_ticket, acceptance_by, acceptance_again_by}
-use Rattle.mm_move.proofs.Below.{acceptance_in}
-use Rattle.mm_move.proofs.Below.{retired_spelling, move_fault_in, summary_in, TicketContent, TaggedTicket, ticket_tag, ticket_of}
+use Rattle.mm_move.proofs.Below.{offer_by, right_offer, retirement_by, retirement_in, ticket_by, right_ticket, acceptance_by}
+use Rattle.mm_move.proofs.Below.{acceptance_again_by, acceptance_in, retired_spelling, move_fault_in, summary_in, TicketContent}
+use Rattle.mm_move.proofs.Below.{TaggedTicket, ticket_tag, ticket_of}
 use Rattle.std.specs.Prelude.{not}
 use Rattle.mm_module.specs.Meaning.{Meaning}
 use Rattle.mm_seal.specs.Parts.{parts_of}

@@ -3,12 +3,10 @@ use Rattle.mm_opt.proofs.Below.{◌≡◌, ℕ, ◌+◌, Bool, true, false, List
 use Rattle.mm_opt.proofs.Below.{if◌then◌else◌, nat_le, bytes_eq, last_position, Opt, Meaning, Batch, normal_batch, members_of-normal}
 use Rattle.mm_opt.proofs.Below.{PartsFault, Form, Kind, InBasic, InOpt, Content, Snapshot, ReadsParts, variant_of, tag_of, guard, Instance}
 use Rattle.mm_opt.proofs.Below.{opt_instance, verdict_by_digests, Digests, BatchAnswer, Refusal, Verdict, check_of_offer, check_by_tests}
-use Rattle.mm_opt.proofs.Below.{IsOrMemory, digest_level}
-use Rattle.mm_opt.proofs.Below.{place_after_batch, Accepted, accepted_from, accepted_at, finding_with, accepted_in, cell_at, Accepts}
-use Rattle.mm_opt.proofs.Below.{is_memory}
-use Rattle.mm_opt.proofs.Below.{lacks_in, BatchFinding, Repeat, Change, Extending, Emptying, has_lost_power, verdict_at, verdict_of}
-use Rattle.mm_opt.proofs.Below.{answer_of, place_after}
-use Rattle.mm_opt.proofs.Below.{change_by, opened_cell, answer_in, finding_from, finding_in_offer, finding_unless, finding_in, FindsIn}
+use Rattle.mm_opt.proofs.Below.{IsOrMemory, digest_level, place_after_batch, Accepted, accepted_from, accepted_at, finding_with}
+use Rattle.mm_opt.proofs.Below.{accepted_in, cell_at, Accepts, is_memory, lacks_in, BatchFinding, Repeat, Change, Extending, Emptying}
+use Rattle.mm_opt.proofs.Below.{has_lost_power, verdict_at, verdict_of, answer_of, place_after, change_by, opened_cell, answer_in}
+use Rattle.mm_opt.proofs.Below.{finding_from, finding_in_offer, finding_unless, finding_in, FindsIn}
 use Rattle.mm_machine.specs.declared.change.Change as change
 use Rattle.mm_seal.specs.declared.snapshot.Place.{Place}
 use Rattle.mm_seal.specs.FieldLaws.{parts_are}

@@ -1,7 +1,6 @@
 -- Each turn makes exactly the device step that comes next.
 use Rattle.mm_opt.proofs.Below.{◌≡◌, ℕ, List, Result, Ok, Err, sym, ap, ◌∙◌, subst, Standing, StepGoes, Meaning, Batch, BatchAnswer}
-use Rattle.mm_opt.proofs.Below.{Refusal}
-use Rattle.mm_opt.proofs.Below.{BatchStage, opt_operation, result_of}
+use Rattle.mm_opt.proofs.Below.{Refusal, BatchStage, opt_operation, result_of}
 use Rattle.mm_machine.specs.OpSteps.{StepMayGoOn, OpSteps, act_of}
 use Rattle.mm_machine.specs.declared.call.StepResult.{StepResult}
 use Rattle.mm_machine.specs.declared.call.StepResult.TheVariants.{Going, Over}

@@ -1,10 +1,8 @@
 -- The ends of a call: what holds of each holds of every call; so that each answer is fit.
 use Rattle.mm_opt.proofs.Below.{◌≡◌, ℕ, List, Result, Ok, Err, sym, ◌∙◌, subst, refl, IfOk, Standing, Meaning, IsLawful, Batch, Cell}
 use Rattle.mm_opt.proofs.Below.{CellFault, Blank, Unspelled, IsCell, ReadsCell, BatchAnswer, Refusal, Long, AskResult, AreStepsToEnd}
-use Rattle.mm_opt.proofs.Below.{EndsByFinding, IsCallToEnd}
-use Rattle.mm_opt.proofs.Below.{IsWholeCall, result_of, end_of_refusal, each_call, ends_result, steps_give, given_all, BatchFinding}
-use Rattle.mm_opt.proofs.Below.{acts_for, answer_in}
-use Rattle.mm_opt.proofs.Below.{is_cell_of, cell_in, opt_call}
+use Rattle.mm_opt.proofs.Below.{EndsByFinding, IsCallToEnd, IsWholeCall, result_of, end_of_refusal, each_call, ends_result, steps_give}
+use Rattle.mm_opt.proofs.Below.{given_all, BatchFinding, acts_for, answer_in, is_cell_of, cell_in, opt_call}
 use Rattle.mm_model.specs.Fit.{IsFit}
 use Rattle.mm_opt.proofs.Reading.{ReadsOn, ReadsOwnCell, ReadsRegister, reads_told}
 use Rattle.mm_opt.proofs.Findings.{own_is, made}

@@ -76,19 +76,17 @@ pub use Rattle.mm_call.specs.declared.ended.AskResult.{AskResult}
 pub use Rattle.mm_call.specs.declared.ended.AskResult.TheVariants.{Refused}
 pub use Rattle.mm_call.proofs.Above.{Accepts, agrees_is, answered_result, AsFound as AsMade, asked_for, basic_checkpoints_agree, before}
 pub use Rattle.mm_call.proofs.Above.{calls_blamed, calls_from, calls_untouched, course_by, each_call, ends_fates, ends_result, fate_of}
-pub use Rattle.mm_call.proofs.Above.{finds}
-pub use Rattle.mm_call.proofs.Above.{given_all, is_agrees, IsQuiet, is_memory, lacks_in, life_bare, MakesAll, opt_calls_agree}
-pub use Rattle.mm_call.proofs.Above.{opt_checkpoints_agree}
-pub use Rattle.mm_call.proofs.Above.{opt_tied, reading_tale, refused_reading, register_untouched, sees, sight_is, stands_at, stands_for}
-pub use Rattle.mm_call.proofs.Above.{steps_give, Tale, tale_on, then_untouched, Told, told_on, told_reading, two_reads}
+pub use Rattle.mm_call.proofs.Above.{finds, given_all, is_agrees, IsQuiet, is_memory, lacks_in, life_bare, MakesAll, opt_calls_agree}
+pub use Rattle.mm_call.proofs.Above.{opt_checkpoints_agree, opt_tied, reading_tale, refused_reading, register_untouched, sees, sight_is}
+pub use Rattle.mm_call.proofs.Above.{stands_at, stands_for, steps_give, Tale, tale_on, then_untouched, Told, told_on, told_reading}
+pub use Rattle.mm_call.proofs.Above.{two_reads}
 pub use Rattle.mm_opt.specs.Answers.{answer_of, change_by, extension_after, extension_at, finding_from, finding_in, finding_in_offer}
 pub use Rattle.mm_opt.specs.Answers.{finding_unless, opened_cell, place_after}
 pub use Rattle.mm_opt.specs.AskPromise.{OptAskPromise}
 pub use Rattle.mm_opt.specs.OptCall.{opt_call}
 pub use Rattle.mm_opt.specs.Checkpoints.{closed_cell, WritesClosing, ClosesSegment, closing_by, closing_fault_in, closing_fault_of}
 pub use Rattle.mm_opt.specs.Checkpoints.{result_of_closing_write, ClosingStepsBy, ClosingStepsRefused, EndsClosing, EndsLooking}
-pub use Rattle.mm_opt.specs.Checkpoints.{FindsSegment}
-pub use Rattle.mm_opt.specs.Checkpoints.{LeavesStill, LooksAtSegment, segment_by, segment_in, WeighsRegister}
+pub use Rattle.mm_opt.specs.Checkpoints.{FindsSegment, LeavesStill, LooksAtSegment, segment_by, segment_in, WeighsRegister}
 pub use Rattle.mm_opt.specs.CheckpointOnCourse.{CheckpointGoesBy, IsCheckpointOnCourse, checkpoint_result}
 pub use Rattle.mm_opt.specs.BatchFinding.{BatchFinding, BatchStage}
 pub use Rattle.mm_opt.specs.Operation.{FindsIn, opt_operation}

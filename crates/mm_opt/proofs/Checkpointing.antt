@@ -1,15 +1,11 @@
 -- The ends of a checkpoint, and what it leaves and counts.
 use Rattle.mm_opt.proofs.Below.{◌≡◌, ℕ, Bool, true, false, List, Option, None, Some, Result, Ok, Err, refl, ap, ◌∙◌, sym, subst, next_count}
-use Rattle.mm_opt.proofs.Below.{bytes_eq}
-use Rattle.mm_opt.proofs.Below.{Variant, Basic, Opt, zero_bytes, StepFault, Standing, ReadCell, WriteCell, ReadRegister, StepGoes, Cell}
-use Rattle.mm_opt.proofs.Below.{CellFault}
-use Rattle.mm_opt.proofs.Below.{CountsHandedFault, blamed, blamed_later, read_untouched, register_untouched, then_untouched, Checkpointed}
-use Rattle.mm_opt.proofs.Below.{CheckpointRefusal, Segment, Open, Shut, StepsAre}
-use Rattle.mm_opt.proofs.Below.{closing_fault_of, closing_fault_in, segment_by, segment_in, closed_cell, closing_by, LooksAtSegment}
-use Rattle.mm_opt.proofs.Below.{FindsSegment, WeighsRegister}
-use Rattle.mm_opt.proofs.Below.{WritesClosing, result_of_closing_write, EndsClosing, EndsLooking, ClosesSegment, LeavesStill}
-use Rattle.mm_opt.proofs.Below.{ClosingStepsRefused}
-use Rattle.mm_opt.proofs.Below.{ClosingStepsBy}
+use Rattle.mm_opt.proofs.Below.{bytes_eq, Variant, Basic, Opt, zero_bytes, StepFault, Standing, ReadCell, WriteCell, ReadRegister, StepGoes}
+use Rattle.mm_opt.proofs.Below.{Cell, CellFault, CountsHandedFault, blamed, blamed_later, read_untouched, register_untouched}
+use Rattle.mm_opt.proofs.Below.{then_untouched, Checkpointed, CheckpointRefusal, Segment, Open, Shut, StepsAre, closing_fault_of}
+use Rattle.mm_opt.proofs.Below.{closing_fault_in, segment_by, segment_in, closed_cell, closing_by, LooksAtSegment, FindsSegment}
+use Rattle.mm_opt.proofs.Below.{WeighsRegister, WritesClosing, result_of_closing_write, EndsClosing, EndsLooking, ClosesSegment}
+use Rattle.mm_opt.proofs.Below.{LeavesStill, ClosingStepsRefused, ClosingStepsBy}
 use Rattle.mm_seal.specs.declared.cell.CellFault.TheVariants as fault
 use Rattle.mm_opt.specs.declared.segment.Checkpointed.TheVariants.{Done, NoSegment}
 use Rattle.mm_opt.specs.declared.segment.CheckpointRefusal.TheVariants as refusal

@@ -1,9 +1,8 @@
 -- A checkpoint by the machine is the one that the definitions of a checkpoint give.
 use Rattle.mm_opt.proofs.Below.{◌≡◌, ℕ, false, List, [], ◌∷◌, Option, None, Some, Result, Ok, Err, refl, sym, ap, ◌∙◌, subst, ◌+◌, ◌≤◌}
-use Rattle.mm_opt.proofs.Below.{arith}
-use Rattle.mm_opt.proofs.Below.{StepFault, Standing, Cell, StepGoes, ReadCell, ReadRegister, WriteCell, Checkpointed, CheckpointRefusal}
-use Rattle.mm_opt.proofs.Below.{Segment}
-use Rattle.mm_opt.proofs.Below.{Open, Shut, closing_fault_of, closing_fault_in, EndsLooking, EndsClosing, FindsSegment, ClosesSegment}
+use Rattle.mm_opt.proofs.Below.{arith, StepFault, Standing, Cell, StepGoes, ReadCell, ReadRegister, WriteCell, Checkpointed}
+use Rattle.mm_opt.proofs.Below.{CheckpointRefusal, Segment, Open, Shut, closing_fault_of, closing_fault_in, EndsLooking, EndsClosing}
+use Rattle.mm_opt.proofs.Below.{FindsSegment, ClosesSegment}
 use Rattle.std.specs.Result.{result_map_both}
 use Rattle.mm_machine.specs.Acts.{MayChange, act_in, is_extension_left, number_in}
 use Rattle.mm_machine.specs.OpEnds.{OpActs, FindingEnds, OpEnds, goes_on, breaks_off}

@@ -1,19 +1,14 @@
 -- A right offer that the verdict on the history accepts is answered, where a call's steps bring nothing into a segment.
 use Rattle.mm_opt.proofs.Below.{◌≡◌, ℕ, ◌+◌, ◌≤◌, ◌^◌, Bool, true, false, List, [], ◌∷◌, ◌++◌, length, map, Option, None, Some, Result, Ok}
-use Rattle.mm_opt.proofs.Below.{Err, refl, sym, ap, ◌∙◌, subst, inl, inr, le-leb, if◌then◌else◌, nat_eq, nat_le, bytes_eq, Opt}
-use Rattle.mm_opt.proofs.Below.{StepFault, Standing, Meaning, Batch, size_of, normal_batch, members_of-normal, Content, tag_of}
-use Rattle.mm_opt.proofs.Below.{offered_snapshot_of}
+use Rattle.mm_opt.proofs.Below.{Err, refl, sym, ap, ◌∙◌, subst, inl, inr, le-leb, if◌then◌else◌, nat_eq, nat_le, bytes_eq, Opt, StepFault}
+use Rattle.mm_opt.proofs.Below.{Standing, Meaning, Batch, size_of, normal_batch, members_of-normal, Content, tag_of, offered_snapshot_of}
 use Rattle.mm_opt.proofs.Below.{Instance, opt_instance, History, Move, Foreign, Value, total_of, verdict_on, verdict_by_tests, is_last}
-use Rattle.mm_opt.proofs.Below.{Digests, digests_of}
-use Rattle.mm_opt.proofs.Below.{IsRight, ask_steps, BatchAnswer, Refusal, Verdict, Fresh, Again, call_outcome, call_ending_by}
-use Rattle.mm_opt.proofs.Below.{result_of_ending, End, Done, Course, StepsWalk, walk, finding_by_verdict, finding_at, finding_with}
-use Rattle.mm_opt.proofs.Below.{finding_unless_wanting, is_fresh, CountsHandedFault, IsAccepted, IsAnswered, check_of_verdict}
-use Rattle.mm_opt.proofs.Below.{check_by_tests, list_level, digest_level}
-use Rattle.mm_opt.proofs.Below.{state_after_moves, fault_in, items_after_moves, stands_at, asked_for, same_batches, is_agrees, before}
-use Rattle.mm_opt.proofs.Below.{sight_is, opt_calls_agree}
-use Rattle.mm_opt.proofs.Below.{two_reads, life_bare, opt_tied, steps_of_change, asks, foreign_first, foreign_move_values-first}
-use Rattle.mm_opt.proofs.Below.{IsWholeCall}
-use Rattle.mm_opt.proofs.Below.{opt_call}
+use Rattle.mm_opt.proofs.Below.{Digests, digests_of, IsRight, ask_steps, BatchAnswer, Refusal, Verdict, Fresh, Again, call_outcome}
+use Rattle.mm_opt.proofs.Below.{call_ending_by, result_of_ending, End, Done, Course, StepsWalk, walk, finding_by_verdict, finding_at}
+use Rattle.mm_opt.proofs.Below.{finding_with, finding_unless_wanting, is_fresh, CountsHandedFault, IsAccepted, IsAnswered, check_of_verdict}
+use Rattle.mm_opt.proofs.Below.{check_by_tests, list_level, digest_level, state_after_moves, fault_in, items_after_moves, stands_at}
+use Rattle.mm_opt.proofs.Below.{asked_for, same_batches, is_agrees, before, sight_is, opt_calls_agree, two_reads, life_bare, opt_tied}
+use Rattle.mm_opt.proofs.Below.{steps_of_change, asks, foreign_first, foreign_move_values-first, IsWholeCall, opt_call}
 use Rattle.std.proofs.Common.{◌&&◌}
 use Rattle.std.proofs.lemmas.Slice.Eq.{bytes_eq-Decides}
 use Rattle.mm_seal.specs.Parts.{parts_of}

@@ -1,12 +1,10 @@
 -- What is found, and the room that is made after it.
-use Rattle.mm_opt.proofs.Below.{◌≡◌, ℕ, Bool, true, false, List, length, None, Result, Ok, Err, refl, sym, subst}
-use Rattle.mm_opt.proofs.Below.{inl, inr, arith, IsTrue, nat_tests, Standing}
-use Rattle.mm_opt.proofs.Below.{nat_le, bytes_eq, last_position, IsLawful, Meaning, Batch, size_of, Cell, CellFault, Blank, IsCell}
-use Rattle.mm_opt.proofs.Below.{Unspelled, PartsFault, Form, Kind, Snapshot, tag_of, BatchAnswer, Refusal, Verdict, Fresh, Again}
-use Rattle.mm_opt.proofs.Below.{check_of_verdict, check_of_offer, check_by_tests, fault_of, fault_in, IsOrMemory, BatchFinding, Repeat}
-use Rattle.mm_opt.proofs.Below.{Change, Extending, Emptying}
-use Rattle.mm_opt.proofs.Below.{is_cell_of, own_cell, cell_in, batch_value, has_lost_power, verdict_of, answer_of, answer_in, change_by}
-use Rattle.mm_opt.proofs.Below.{finding_from, finding_in_offer, finding_unless, finding_in, opened_cell}
+use Rattle.mm_opt.proofs.Below.{◌≡◌, ℕ, Bool, true, false, List, length, None, Result, Ok, Err, refl, sym, subst, inl, inr, arith, IsTrue}
+use Rattle.mm_opt.proofs.Below.{nat_tests, Standing, nat_le, bytes_eq, last_position, IsLawful, Meaning, Batch, size_of, Cell, CellFault}
+use Rattle.mm_opt.proofs.Below.{Blank, IsCell, Unspelled, PartsFault, Form, Kind, Snapshot, tag_of, BatchAnswer, Refusal, Verdict, Fresh}
+use Rattle.mm_opt.proofs.Below.{Again, check_of_verdict, check_of_offer, check_by_tests, fault_of, fault_in, IsOrMemory, BatchFinding}
+use Rattle.mm_opt.proofs.Below.{Repeat, Change, Extending, Emptying, is_cell_of, own_cell, cell_in, batch_value, has_lost_power, verdict_of}
+use Rattle.mm_opt.proofs.Below.{answer_of, answer_in, change_by, finding_from, finding_in_offer, finding_unless, finding_in, opened_cell}
 use Rattle.mm_opt.proofs.Below.{Opt, StepsAre, one_step, two_steps, StepsRefused, extension_at, extension_after, place_after}
 use Rattle.mm_opt.proofs.Below.{length-zero_bytes, length-extended_digest_of}
 use Rattle.std.specs.Prelude.{◌+◌}

@@ -1,7 +1,6 @@
 -- The first cell and snapshot.
 use Rattle.mm_opt.proofs.Below.{◌≡◌, ℕ, false, List, [], ap, ◌∙◌, Opt, zero_bytes, start_digest_of, Meaning, Cell, InOpt, cell_spelling}
-use Rattle.mm_opt.proofs.Below.{Content}
-use Rattle.mm_opt.proofs.Below.{sealed_snapshot_of, anchor_of, opt_instance, first_history, cell_of, issued_bytes, anchor-nil}
+use Rattle.mm_opt.proofs.Below.{Content, sealed_snapshot_of, anchor_of, opt_instance, first_history, cell_of, issued_bytes, anchor-nil}
 use Rattle.mm_digest.specs.declared.digest.Digest.{Digest}
 use Rattle.mm_model.specs.PlacesWords.{digest_of}
 

@@ -1,18 +1,14 @@
 -- A call of Opt is the walk of its steps on a course, by digests and by lists.
-use Rattle.mm_opt.proofs.Below.{◌≡◌, ℕ, Bool, true, false, List, [], ◌∷◌, length, map, None, Result, Ok, Err, refl, sym, ap, ◌∙◌}
-use Rattle.mm_opt.proofs.Below.{subst, arith, fold, Opt, zero_bytes, extended_digest_of, Standing, ReadCell, ReadRegister, next_plan}
-use Rattle.mm_opt.proofs.Below.{Meaning}
+use Rattle.mm_opt.proofs.Below.{◌≡◌, ℕ, Bool, true, false, List, [], ◌∷◌, length, map, None, Result, Ok, Err, refl, sym, ap, ◌∙◌, subst}
+use Rattle.mm_opt.proofs.Below.{arith, fold, Opt, zero_bytes, extended_digest_of, Standing, ReadCell, ReadRegister, next_plan, Meaning}
 use Rattle.mm_opt.proofs.Below.{Batch, normal_batch, Cell, IsCell, guard, Instance, opt_instance, Commit, Foreign, Placed, Reset, Digests}
-use Rattle.mm_opt.proofs.Below.{DeviceStep, Reading}
-use Rattle.mm_opt.proofs.Below.{Changes, Writes, ask_steps, is_long, BatchAnswer, Refusal, AskResult, EndsByFinding, IsCallToEnd}
-use Rattle.mm_opt.proofs.Below.{IsWholeCall, IsCallSoFar}
-use Rattle.mm_opt.proofs.Below.{IsCallOnCourse, Course, StepFate, step_moves, end_of_refusal, EndsAsCall, Accepted, accepted_at}
-use Rattle.mm_opt.proofs.Below.{accepted_in}
-use Rattle.mm_opt.proofs.Below.{is_fresh, state_after_moves, digest_level, fault_of, fault_in, cell_at, StandsAt}
-use Rattle.mm_opt.proofs.Below.{with_register, IsWrite, steps_of_change, asks, fate_of, ends_fates, tale_on, reading_tale, MakesAll, AsMade}
-use Rattle.mm_opt.proofs.Below.{Told, course_by, lacks_in, told_on, refused_reading, told_reading, sees, finds, opt_calls_agree}
-use Rattle.mm_opt.proofs.Below.{BatchFinding, Repeat, Change, Extending, Emptying, SegmentOpening, opened_cell, remaining_acts, acts_for}
-use Rattle.mm_opt.proofs.Below.{Begun, CallFinishes, CallReads, opt_operation, opt_call}
+use Rattle.mm_opt.proofs.Below.{DeviceStep, Reading, Changes, Writes, ask_steps, is_long, BatchAnswer, Refusal, AskResult, EndsByFinding}
+use Rattle.mm_opt.proofs.Below.{IsCallToEnd, IsWholeCall, IsCallSoFar, IsCallOnCourse, Course, StepFate, step_moves, end_of_refusal}
+use Rattle.mm_opt.proofs.Below.{EndsAsCall, Accepted, accepted_at, accepted_in, is_fresh, state_after_moves, digest_level, fault_of}
+use Rattle.mm_opt.proofs.Below.{fault_in, cell_at, StandsAt, with_register, IsWrite, steps_of_change, asks, fate_of, ends_fates, tale_on}
+use Rattle.mm_opt.proofs.Below.{reading_tale, MakesAll, AsMade, Told, course_by, lacks_in, told_on, refused_reading, told_reading, sees}
+use Rattle.mm_opt.proofs.Below.{finds, opt_calls_agree, BatchFinding, Repeat, Change, Extending, Emptying, SegmentOpening, opened_cell}
+use Rattle.mm_opt.proofs.Below.{remaining_acts, acts_for, Begun, CallFinishes, CallReads, opt_operation, opt_call}
 use Rattle.std.specs.Prelude.{◌≤◌}
 use Rattle.mm_call.proofs.Above.{Accepts}
 use Rattle.mm_machine.specs.OpReads.{CellSays}

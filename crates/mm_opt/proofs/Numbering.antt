@@ -1,9 +1,7 @@
 -- The number of the step behind one that goes on is the next.
 use Rattle.mm_opt.proofs.Below.{◌≡◌, ℕ, ◌+◌, Bool, List, Option, None, Some, Result, Ok, Err, refl, StepFault, Standing, Meaning, Batch}
-use Rattle.mm_opt.proofs.Below.{Cell}
-use Rattle.mm_opt.proofs.Below.{BatchAnswer, Refusal, Begun, Seen, Changing, BatchFinding, Repeat, Change, Extending, Emptying, Placing}
-use Rattle.mm_opt.proofs.Below.{Writing}
-use Rattle.mm_opt.proofs.Below.{BatchStage, finding_of_machine, opt_operation}
+use Rattle.mm_opt.proofs.Below.{Cell, BatchAnswer, Refusal, Begun, Seen, Changing, BatchFinding, Repeat, Change, Extending, Emptying}
+use Rattle.mm_opt.proofs.Below.{Placing, Writing, BatchStage, finding_of_machine, opt_operation}
 use Rattle.mm_machine.specs.Acts.{number_in}
 use Rattle.mm_machine.specs.OpMeaning.{OpMeaning}
 use Rattle.mm_machine.specs.OpReads as reading

@@ -1,8 +1,7 @@
 -- What the reading steps of a call find: a device's fault is told among the refusals, and want of memory for its own extension too.
 use Rattle.mm_opt.proofs.Below.{◌≡◌, ℕ, Bool, true, false, List, None, Some, Result, Ok, Err, refl, sym, ap, subst, inr, Standing, StepGoes}
 use Rattle.mm_opt.proofs.Below.{ReadCell, ReadRegister, Meaning, Batch, Cell, BatchAnswer, Refusal, IsOrMemory, fault_in, finding_in}
-use Rattle.mm_opt.proofs.Below.{BatchFinding, FindsIn, opt_operation}
-use Rattle.mm_opt.proofs.Below.{CallReads, IsQuiet, finding_of_machine, refusal_of_halt}
+use Rattle.mm_opt.proofs.Below.{BatchFinding, FindsIn, opt_operation, CallReads, IsQuiet, finding_of_machine, refusal_of_halt}
 use Rattle.mm_machine.specs.OpMeaning.{OpMeaning}
 use Rattle.mm_machine.specs.OpReads as machine
 use Rattle.mm_machine.specs.OpReads.{CellSays, FindsRoom, RegisterSays, RoomIsMadeIf, RoomIsMadeFor}

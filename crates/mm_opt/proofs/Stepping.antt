@@ -1,14 +1,11 @@
 -- The steps of a call over a platform, each by digests, and what is read by the first two.
-use Rattle.mm_opt.proofs.Below.{◌≡◌, ℕ, Bool, true, false, List, [], ◌∷◌, ◌++◌, map, Option, None, Some, Result, Ok, refl, sym}
-use Rattle.mm_opt.proofs.Below.{ap, ◌∙◌, subst, arith, nat_eq, fold, nat_tests, Opt, zero_bytes, extended_digest_of}
-use Rattle.mm_opt.proofs.Below.{Item, own_item, Standing, item_values, register_after, ResetRegister, ExtendRegister}
-use Rattle.mm_opt.proofs.Below.{Meaning, Batch, Cell, IsCell, cell_spelling, reads_cell-same, guard, Instance, opt_instance, Move, Commit}
-use Rattle.mm_opt.proofs.Below.{Foreign, Placed, Reset, Digests, digests_after, Refusal}
-use Rattle.mm_opt.proofs.Below.{state_after_moves, digest_level}
-use Rattle.mm_opt.proofs.Below.{cell_at, StandsAt, items_after_move, IsChange, IsWrite, register_of_items, reads_beside, StepFault}
-use Rattle.mm_opt.proofs.Below.{StepGoes, ReadCell}
-use Rattle.mm_opt.proofs.Below.{ReadRegister}
-use Rattle.mm_opt.proofs.Below.{with_register, foreign_made, state_after_moves-append}
+use Rattle.mm_opt.proofs.Below.{◌≡◌, ℕ, Bool, true, false, List, [], ◌∷◌, ◌++◌, map, Option, None, Some, Result, Ok, refl, sym, ap, ◌∙◌}
+use Rattle.mm_opt.proofs.Below.{subst, arith, nat_eq, fold, nat_tests, Opt, zero_bytes, extended_digest_of, Item, own_item, Standing}
+use Rattle.mm_opt.proofs.Below.{item_values, register_after, ResetRegister, ExtendRegister, Meaning, Batch, Cell, IsCell, cell_spelling}
+use Rattle.mm_opt.proofs.Below.{reads_cell-same, guard, Instance, opt_instance, Move, Commit, Foreign, Placed, Reset, Digests}
+use Rattle.mm_opt.proofs.Below.{digests_after, Refusal, state_after_moves, digest_level, cell_at, StandsAt, items_after_move, IsChange}
+use Rattle.mm_opt.proofs.Below.{IsWrite, register_of_items, reads_beside, StepFault, StepGoes, ReadCell, ReadRegister, with_register}
+use Rattle.mm_opt.proofs.Below.{foreign_made, state_after_moves-append}
 use Rattle.mm_machine.specs.OpReads.{CellSays}
 use Rattle.mm_opt.specs.CellSight.{SeesCell}
 use Rattle.std.proofs.lemmas.List.{append-nil}

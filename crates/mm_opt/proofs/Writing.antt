@@ -1,11 +1,10 @@
 -- What a call counts: its steps, and how often it writes the cell, by the flag that the platform tells.
 use Rattle.mm_opt.proofs.Below.{◌≡◌, ℕ, true, false, List, Some, Result, Ok, Err, refl, sym, ap, ◌∙◌, inl, inr, next_count, Standing}
 use Rattle.mm_opt.proofs.Below.{Meaning, Batch, Cell, CellFault, IsCell, cell_spelling, reads_cell-same, is_long, BatchAnswer, Refusal}
-use Rattle.mm_opt.proofs.Below.{Long}
-use Rattle.mm_opt.proofs.Below.{AskResult, goes_on, breaks_off, AreStepsToEnd, IsCallToEnd, IsWholeCall, result_of, each_call}
-use Rattle.mm_opt.proofs.Below.{answered_result, BatchFinding, Repeat, Change, Extending, Emptying}
-use Rattle.mm_opt.proofs.Below.{remaining_acts, is_cell_of, cell_in, acts_for, answer_in, opt_call, Opt, StepsAre}
-use Rattle.mm_opt.proofs.Below.{three_steps, four_steps, five_steps, StepsRefused, StepsBy, WritesByFlag}
+use Rattle.mm_opt.proofs.Below.{Long, AskResult, goes_on, breaks_off, AreStepsToEnd, IsCallToEnd, IsWholeCall, result_of, each_call}
+use Rattle.mm_opt.proofs.Below.{answered_result, BatchFinding, Repeat, Change, Extending, Emptying, remaining_acts, is_cell_of, cell_in}
+use Rattle.mm_opt.proofs.Below.{acts_for, answer_in, opt_call, Opt, StepsAre, three_steps, four_steps, five_steps, StepsRefused, StepsBy}
+use Rattle.mm_opt.proofs.Below.{WritesByFlag}
 use Rattle.mm_machine.specs.declared.change.Change as change
 use Rattle.mm_model.specs.declared.refusal.Refusal.TheVariants.{Device}
 use Rattle.mm_opt.proofs.Findings.{Made, own_is, first_refused, made}

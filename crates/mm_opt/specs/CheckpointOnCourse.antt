@@ -2,10 +2,9 @@
 use Rattle.std.specs.Prelude.{◌≡◌, ℕ, List, Result, Ok, Err, is_some}
 use Rattle.std.specs.Option.{option_map}
 use Rattle.mm_opt.specs.Below.{Variant, Standing, Batch, Meaning, History, Instance, Digests, digests_of, StandsFor, IsWithin}
-use Rattle.mm_opt.specs.Below.{CheckpointEnding}
-use Rattle.mm_opt.specs.Below.{Closes, HasNone, NoSegment, LostPower, Stops, CheckpointOutcome, checkpoint_outcome, IsClosedWithin, Course}
-use Rattle.mm_opt.specs.Below.{AreTold}
-use Rattle.mm_opt.specs.Below.{StaysPlanned, list_level, digest_level, instance_by, StandsAt, items_after_moves, count_after_more}
+use Rattle.mm_opt.specs.Below.{CheckpointEnding, Closes, HasNone, NoSegment, LostPower, Stops, CheckpointOutcome, checkpoint_outcome}
+use Rattle.mm_opt.specs.Below.{IsClosedWithin, Course, AreTold, StaysPlanned, list_level, digest_level, instance_by, StandsAt}
+use Rattle.mm_opt.specs.Below.{items_after_moves, count_after_more}
 use Rattle.mm_opt.specs.declared.segment.Checkpointed.{Checkpointed as Said}
 use Rattle.mm_opt.specs.declared.segment.Checkpointed.TheVariants as said
 use Rattle.mm_opt.specs.declared.segment.CheckpointRefusal.{CheckpointRefusal}

@@ -1,8 +1,7 @@
 -- What crates above may cite of these proofs: the other files can be read and changed by this crate alone.
 pub use Rattle.mm_outcome.proofs.Expecting.{basic_begins, basic_events_agree, opt_begins, opt_events_agree}
 pub use Rattle.mm_outcome.proofs.Counting.{count-made, few_committed, grown, issues, issues_one, meaning_by, printable, printed}
-pub use Rattle.mm_outcome.proofs.Counting.{printed_closing}
-pub use Rattle.mm_outcome.proofs.Counting.{short_outputs, short_size, sizes_of, world_few}
+pub use Rattle.mm_outcome.proofs.Counting.{printed_closing, short_outputs, short_size, sizes_of, world_few}
 pub use Rattle.mm_outcome.proofs.EachWay.{closing_all, in_any_way, then_all}
 pub use Rattle.mm_outcome.proofs.FirstBytes.{clear_within}
 pub use Rattle.mm_outcome.proofs.FrontRuns.{goes_on}

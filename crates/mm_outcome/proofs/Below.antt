@@ -34,8 +34,7 @@ pub use Rattle.mm_model.specs.Chains.{guard, guard_message, link_message}
 pub use Rattle.mm_model.specs.EndLaws.{first_outside, first_sound}
 pub use Rattle.mm_model.specs.FormLaws.{reads_zero}
 pub use Rattle.mm_model.specs.History.{Close, Commit, first_history, Foreign, History, items_of_all, Move, history_after, Own, Placed}
-pub use Rattle.mm_model.specs.History.{Power as PowerMove}
-pub use Rattle.mm_model.specs.History.{requests_of, Reset, total_of, Value}
+pub use Rattle.mm_model.specs.History.{Power as PowerMove, requests_of, Reset, total_of, Value}
 pub use Rattle.mm_model.specs.Instance.{Instance}
 pub use Rattle.mm_model.specs.InstanceWords.{basic_instance, opt_instance}
 pub use Rattle.mm_model.specs.Verdicts.{is_last, verdict_on, verdict_by_tests}
@@ -70,9 +69,8 @@ pub use Rattle.mm_call.specs.Order.{check_of_verdict, check_of_offer}
 pub use Rattle.mm_call.specs.OrderWords.{check_by_tests}
 pub use Rattle.mm_call.specs.Standing.{instance_by}
 pub use Rattle.mm_call.specs.WalkLaws.{asks, batch, call_commits, Commits, commits-none, commits_batch, foreign_move_values-append}
-pub use Rattle.mm_call.specs.WalkLaws.{foreign_move_values-first}
-pub use Rattle.mm_call.specs.WalkLaws.{foreign_move_values-foreign, moves_from_reset-foreign, messages-made, nothing, seen_none}
-pub use Rattle.mm_call.specs.WalkLaws.{history_with_values, taking_is}
+pub use Rattle.mm_call.specs.WalkLaws.{foreign_move_values-first, foreign_move_values-foreign, moves_from_reset-foreign, messages-made}
+pub use Rattle.mm_call.specs.WalkLaws.{nothing, seen_none, history_with_values, taking_is}
 pub use Rattle.mm_call.proofs.Above.{admitted_tells, again_of, AllMay, AreOwn, ask_may, bare, basic_checkpoint_same, basic_same, before}
 pub use Rattle.mm_call.proofs.Above.{each_at, first_in, foreign_fine, foreign_may, found_with_tells, fresh_of, holds_moved, holds_open}
 pub use Rattle.mm_call.proofs.Above.{listed_bare, live_found, may_of, not_lost, opt_agrees_moved, opt_calls_agree_by_lists}
@@ -86,16 +84,14 @@ pub use Rattle.mm_schedule.specs.declared.event.Offer.TheVariants.{Last}
 pub use Rattle.mm_schedule.specs.declared.reply.Reply.{Reply}
 pub use Rattle.mm_schedule.specs.declared.reply.Way.{Way}
 pub use Rattle.mm_outcome.specs.Folds.{moves_after_stop, ask_event_outcome, checkpoint_event_outcome, closing_reply, moves_after_checkpoint}
-pub use Rattle.mm_outcome.specs.Folds.{course_of, event_outcome, outcome_by_lists}
-pub use Rattle.mm_outcome.specs.Folds.{first_digests, first_issued, outcome_of_events, RunOutcome, moves_after_call, Outcome, outcome_by}
-pub use Rattle.mm_outcome.specs.Folds.{outcome_by_digests, reply_of, snapshots_of, outcome_without_call, way_of}
+pub use Rattle.mm_outcome.specs.Folds.{course_of, event_outcome, outcome_by_lists, first_digests, first_issued, outcome_of_events}
+pub use Rattle.mm_outcome.specs.Folds.{RunOutcome, moves_after_call, Outcome, outcome_by, outcome_by_digests, reply_of, snapshots_of}
+pub use Rattle.mm_outcome.specs.Folds.{outcome_without_call, way_of}
 pub use Rattle.mm_outcome.specs.WorldState.{world_barrier, world_key}
 pub use Rattle.mm_outcome.specs.Laws.{after_two_segments, AgreesThroughout, outcome_joined_to, ExpectedRuns, IsExpected, IsIssued}
-pub use Rattle.mm_outcome.specs.Laws.{IssuedNamePositions}
-pub use Rattle.mm_outcome.specs.Laws.{one_ask, two_segments}
+pub use Rattle.mm_outcome.specs.Laws.{IssuedNamePositions, one_ask, two_segments}
 pub use Rattle.mm_outcome.specs.EventOffers.{bytes_with_flipped_bit, offered_bytes}
 pub use Rattle.mm_outcome.specs.OneEvent.{EventsAgree, EventsKeepNames, IsSameOutcome, IsSoundIn, KeepsHistory, KeepsNames}
 pub use Rattle.mm_outcome.specs.Premises.{AreApartIn, AreGenuine, batches_of, event_messages, event_foreign_values, IsClearRun}
-pub use Rattle.mm_outcome.specs.Premises.{IsGenuineEvent}
-pub use Rattle.mm_outcome.specs.Premises.{IsGenuineRun, messages_from, moves_of, asked_batches, foreign_values}
+pub use Rattle.mm_outcome.specs.Premises.{IsGenuineEvent, IsGenuineRun, messages_from, moves_of, asked_batches, foreign_values}
 pub use Rattle.mm_outcome.specs.Premises.{IsGenuineOffer, run_messages}

@@ -3,20 +3,16 @@
 use Rattle.mm_outcome.proofs.Below.{found_with_tells, unless_lost, bytes_eq, tag_of, position_if_committed, has_commit}
 use Rattle.mm_outcome.proofs.Parts.{broken_reply}
 use Rattle.mm_outcome.proofs.Below.{◌≡◌, ℕ, ◌+◌, ◌≤◌, Bool, true, false, List, [], ◌∷◌, ◌++◌, length, IsTrue, Option, None, Some, Result}
-use Rattle.mm_outcome.proofs.Below.{Ok}
-use Rattle.mm_outcome.proofs.Below.{Err, refl, sym, ap, subst, arith, length-append, All, nat_tests}
-use Rattle.mm_outcome.proofs.Below.{All-nil, All-cons, last_position, longest_request, most_members, Variant, Basic, Opt, Meaning, IsLawful}
-use Rattle.mm_outcome.proofs.Below.{outputs_from, length-outputs_from, Batch, members_of, size_of, normal_batch, members_of-normal}
-use Rattle.mm_outcome.proofs.Below.{StepFault, PartsFault, Form, Kind, parts_of, Content, Snapshot}
-use Rattle.mm_outcome.proofs.Below.{Instance, Move, Commit, is_long, Digests, digests_after, digests_after_commit}
-use Rattle.mm_outcome.proofs.Below.{ask_steps, Refusal, check_of_offer, digest_level, state_after_moves, CallFinding}
+use Rattle.mm_outcome.proofs.Below.{Ok, Err, refl, sym, ap, subst, arith, length-append, All, nat_tests, All-nil, All-cons, last_position}
+use Rattle.mm_outcome.proofs.Below.{longest_request, most_members, Variant, Basic, Opt, Meaning, IsLawful, outputs_from}
+use Rattle.mm_outcome.proofs.Below.{length-outputs_from, Batch, members_of, size_of, normal_batch, members_of-normal, StepFault, PartsFault}
+use Rattle.mm_outcome.proofs.Below.{Form, Kind, parts_of, Content, Snapshot, Instance, Move, Commit, is_long, Digests, digests_after}
+use Rattle.mm_outcome.proofs.Below.{digests_after_commit, ask_steps, Refusal, check_of_offer, digest_level, state_after_moves, CallFinding}
 use Rattle.mm_outcome.proofs.Below.{finding_by_verdict, finding_at, finding_unless_wanting, is_fresh, Course, StepsWalk, walk, CallEnding}
-use Rattle.mm_outcome.proofs.Below.{Answers, CallOutcome, call_ending_by, state_seen, call_outcome, CheckpointEnding}
-use Rattle.mm_outcome.proofs.Below.{Stops, CheckpointOutcome, checkpoint_outcome, committed_batches, Commits, nothing, batch, call_commits}
-use Rattle.mm_outcome.proofs.Below.{unlacked, checkpoint_none, Event, Way, way_of, course_of}
-use Rattle.mm_outcome.proofs.Below.{reply_of, snapshots_of, closing_reply}
-use Rattle.mm_outcome.proofs.Below.{event_outcome, world_key, world_barrier}
-use Rattle.mm_outcome.proofs.Below.{inl, inr, append-nil}
+use Rattle.mm_outcome.proofs.Below.{Answers, CallOutcome, call_ending_by, state_seen, call_outcome, CheckpointEnding, Stops}
+use Rattle.mm_outcome.proofs.Below.{CheckpointOutcome, checkpoint_outcome, committed_batches, Commits, nothing, batch, call_commits}
+use Rattle.mm_outcome.proofs.Below.{unlacked, checkpoint_none, Event, Way, way_of, course_of, reply_of, snapshots_of, closing_reply}
+use Rattle.mm_outcome.proofs.Below.{event_outcome, world_key, world_barrier, inl, inr, append-nil}
 use Rattle.mm_outcome.specs.OneEvent.{IssuesAtMostOne}
 use Rattle.mm_seal.specs.ReadingLaws.{le_tells}
 use Rattle.mm_call.specs.WeighingLaws.{weighed_only}

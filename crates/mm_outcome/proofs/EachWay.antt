@@ -1,12 +1,9 @@
 -- What holds of an event's outcome in each way that it may go.
 use Rattle.mm_outcome.proofs.Below.{ℕ, ◌≡◌, Bool, true, false, List, Option, None, Some, refl, if◌then◌else◌, Batch, normal_batch, Meddle}
-use Rattle.mm_outcome.proofs.Below.{Stop}
-use Rattle.mm_outcome.proofs.Below.{Instance, Foreign, PowerMove, is_long, Level, call_outcome, checkpoint_outcome, Event, Ask, Checkpoint}
-use Rattle.mm_outcome.proofs.Below.{Power, Extend}
-use Rattle.mm_outcome.proofs.Below.{offered_bytes, Outcome, course_of, outcome_by, outcome_without_call, ask_event_outcome}
-use Rattle.mm_outcome.proofs.Below.{checkpoint_event_outcome, event_outcome}
-use Rattle.mm_outcome.proofs.Below.{[], ◌∷◌, Cut, Move, CallEnding, Breaks, CheckpointEnding, Stops, moves_after_stop, moves_after_call}
-use Rattle.mm_outcome.proofs.Below.{moves_after_checkpoint}
+use Rattle.mm_outcome.proofs.Below.{Stop, Instance, Foreign, PowerMove, is_long, Level, call_outcome, checkpoint_outcome, Event, Ask}
+use Rattle.mm_outcome.proofs.Below.{Checkpoint, Power, Extend, offered_bytes, Outcome, course_of, outcome_by, outcome_without_call}
+use Rattle.mm_outcome.proofs.Below.{ask_event_outcome, checkpoint_event_outcome, event_outcome, [], ◌∷◌, Cut, Move, CallEnding, Breaks}
+use Rattle.mm_outcome.proofs.Below.{CheckpointEnding, Stops, moves_after_stop, moves_after_call, moves_after_checkpoint}
 use Rattle.mm_schedule.specs.declared.reply.Cause.{Cause}
 use Rattle.mm_schedule.specs.declared.reply.Cause.TheVariants as cause
 use Rattle.mm_schedule.specs.declared.reply.Reply.TheVariants as reply

@@ -1,27 +1,19 @@
 -- In either variant, what is told by digests is what is expected.
 use Rattle.mm_outcome.proofs.Below.{ℕ, List, refl, sym, Contains, Meaning, Batch, Instance, basic_instance, History, Foreign, PowerMove}
-use Rattle.mm_outcome.proofs.Below.{Move, history_after}
-use Rattle.mm_outcome.proofs.Below.{IsClear, reads_zero, IsPlain, IsWithin, agrees-moved, plain-moved, summary-nil, plain_outside}
-use Rattle.mm_outcome.proofs.Below.{basic_same}
-use Rattle.mm_outcome.proofs.Below.{basic_checkpoint_same, course_of, EventsAgree, AreMessagesIn, history_messages, counted_part}
-use Rattle.mm_outcome.proofs.Below.{AllByRecursion, KeepsHistory, first_digests, first_history, start_message, Basic, ◌≡◌, ◌+◌, Bool, true}
-use Rattle.mm_outcome.proofs.Below.{false}
-use Rattle.mm_outcome.proofs.Below.{cond, [], ◌∷◌, ◌++◌, map, ap, ◌∙◌, subst, ◌==◌, if◌then◌else◌, filter, append-nil, Opt, Meddle}
-use Rattle.mm_outcome.proofs.Below.{opt_instance, Value}
-use Rattle.mm_outcome.proofs.Below.{Reset, AreNoGuards, Digests, digests_after, DeviceStep, Reads, Changes, Writes, ask_steps}
-use Rattle.mm_outcome.proofs.Below.{checkpoint_steps, each_left}
-use Rattle.mm_outcome.proofs.Below.{each_right, each_append, sound_moved, outside_moved, first_sound, first_outside, list_level}
-use Rattle.mm_outcome.proofs.Below.{state_after_moves}
+use Rattle.mm_outcome.proofs.Below.{Move, history_after, IsClear, reads_zero, IsPlain, IsWithin, agrees-moved, plain-moved, summary-nil}
+use Rattle.mm_outcome.proofs.Below.{plain_outside, basic_same, basic_checkpoint_same, course_of, EventsAgree, AreMessagesIn}
+use Rattle.mm_outcome.proofs.Below.{history_messages, counted_part, AllByRecursion, KeepsHistory, first_digests, first_history}
+use Rattle.mm_outcome.proofs.Below.{start_message, Basic, ◌≡◌, ◌+◌, Bool, true, false, cond, [], ◌∷◌, ◌++◌, map, ap, ◌∙◌, subst, ◌==◌}
+use Rattle.mm_outcome.proofs.Below.{if◌then◌else◌, filter, append-nil, Opt, Meddle, opt_instance, Value, Reset, AreNoGuards, Digests}
+use Rattle.mm_outcome.proofs.Below.{digests_after, DeviceStep, Reads, Changes, Writes, ask_steps, checkpoint_steps, each_left, each_right}
+use Rattle.mm_outcome.proofs.Below.{each_append, sound_moved, outside_moved, first_sound, first_outside, list_level, state_after_moves}
 use Rattle.mm_outcome.proofs.Below.{finding_at, is_fresh, finding_unless_wanting, End, Done, Fails, StepFate, Course, StepsWalk, step_moves}
-use Rattle.mm_outcome.proofs.Below.{walk_from_step}
-use Rattle.mm_outcome.proofs.Below.{walk, state_seen, counted_moves, moves_from_reset, messages_of_moves, foreign_move_values, anchor-nil}
-use Rattle.mm_outcome.proofs.Below.{opt_agrees_moved}
-use Rattle.mm_outcome.proofs.Below.{foreign_may, power_may, power_brings, holds_moved, foreign_fine, asks, history_with_values, taking_is}
-use Rattle.mm_outcome.proofs.Below.{messages-made}
-use Rattle.mm_outcome.proofs.Below.{foreign_move_values-append, foreign_move_values-foreign, foreign_move_values-first}
-use Rattle.mm_outcome.proofs.Below.{moves_from_reset-foreign, AreOwn, own_asked, own_checked}
-use Rattle.mm_outcome.proofs.Below.{Shape, still, reset, shape, bare, listed_bare, holds_open, within_of, within_items, reset_messages}
-use Rattle.mm_outcome.proofs.Below.{opt_calls_agree_by_lists, read_moves, opt_checkpoints_agree_by_lists}
+use Rattle.mm_outcome.proofs.Below.{walk_from_step, walk, state_seen, counted_moves, moves_from_reset, messages_of_moves}
+use Rattle.mm_outcome.proofs.Below.{foreign_move_values, anchor-nil, opt_agrees_moved, foreign_may, power_may, power_brings, holds_moved}
+use Rattle.mm_outcome.proofs.Below.{foreign_fine, asks, history_with_values, taking_is, messages-made, foreign_move_values-append}
+use Rattle.mm_outcome.proofs.Below.{foreign_move_values-foreign, foreign_move_values-first, moves_from_reset-foreign, AreOwn, own_asked}
+use Rattle.mm_outcome.proofs.Below.{own_checked, Shape, still, reset, shape, bare, listed_bare, holds_open, within_of, within_items}
+use Rattle.mm_outcome.proofs.Below.{reset_messages, opt_calls_agree_by_lists, read_moves, opt_checkpoints_agree_by_lists}
 use Rattle.mm_call.specs.MoveLaws.{IsBasicMove}
 use Rattle.mm_outcome.proofs.Below.{Variant, instance_by, AreApartIn, IsExpected, zero_bytes, run_messages, foreign_values, asked_batches}
 use Rattle.mm_outcome.proofs.Following.{Variants, event_same, expected_from}

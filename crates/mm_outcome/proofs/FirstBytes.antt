@@ -1,12 +1,9 @@
 -- Messages are told apart by the first bytes of their digests; SHA-256 with each word computed once; and so the messages of two runs.
 use Rattle.mm_outcome.proofs.Below.{ℕ, zero, suc, ◌≡◌, ◌+◌, ◌*◌, ◌/◌, take, drop, List, [], ◌∷◌, ◌++◌, length, refl, sym, ap, ◌∙◌, subst}
-use Rattle.mm_outcome.proofs.Below.{arith}
-use Rattle.mm_outcome.proofs.Below.{Option, None, Some, if◌then◌else◌, nat_eq, slice_index, replicate, codes, AllByRecursion, Contains}
-use Rattle.mm_outcome.proofs.Below.{each_at}
-use Rattle.mm_outcome.proofs.Below.{next_word, first_words, rounds, add_state, digest_bytes, initial_hash_256, padded_message, IsClear}
-use Rattle.mm_outcome.proofs.Below.{AreMessagesIn}
-use Rattle.mm_outcome.proofs.Below.{Basic, Opt, Batch, One, start_message, link_message, extended_message, anchored_message, guard_message}
-use Rattle.mm_outcome.proofs.Below.{world_barrier}
+use Rattle.mm_outcome.proofs.Below.{arith, Option, None, Some, if◌then◌else◌, nat_eq, slice_index, replicate, codes, AllByRecursion}
+use Rattle.mm_outcome.proofs.Below.{Contains, each_at, next_word, first_words, rounds, add_state, digest_bytes, initial_hash_256}
+use Rattle.mm_outcome.proofs.Below.{padded_message, IsClear, AreMessagesIn, Basic, Opt, Batch, One, start_message, link_message}
+use Rattle.mm_outcome.proofs.Below.{extended_message, anchored_message, guard_message, world_barrier}
 use Rattle.sha2.specs.Sha256.{sha256, schedule, compress, hash_after, first_words, rounds, digest_bytes}
 use Rattle.mm_digest.specs.Messages.{zero_bytes, start_digest_of, extended_digest_of, anchored_digest_of}
 use Rattle.mm_model.specs.Chains.{guard}

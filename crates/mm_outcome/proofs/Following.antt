@@ -2,19 +2,16 @@
 use Rattle.mm_outcome.proofs.Below.{ℕ, ◌+◌, Bool, true, false, List, [], ◌∷◌, ◌++◌, map, Option, None, Some, refl, sym, ap, subst}
 use Rattle.mm_outcome.proofs.Below.{if◌then◌else◌, AllByRecursion, Contains, Meddle, Stop, Batch, normal_batch, Instance, History, Foreign}
 use Rattle.mm_outcome.proofs.Below.{PowerMove, history_after, is_long, AreMessagesIn, Digests, digests_after, IsGenuine, each_left}
-use Rattle.mm_outcome.proofs.Below.{each_right, list_level, digest_level}
-use Rattle.mm_outcome.proofs.Below.{state_after_moves, right_content, CallOutcome, call_outcome, CheckpointOutcome, checkpoint_outcome}
-use Rattle.mm_outcome.proofs.Below.{IsSameCheckpoint, messages_of_moves, right_messages, IsSameCall, Event, Ask, Checkpoint, Power, Extend}
-use Rattle.mm_outcome.proofs.Below.{Reply}
-use Rattle.mm_outcome.proofs.Below.{offered_bytes, Outcome, way_of, course_of, reply_of, snapshots_of, outcome_by}
-use Rattle.mm_outcome.proofs.Below.{outcome_without_call, ask_event_outcome, closing_reply, checkpoint_event_outcome, event_outcome}
-use Rattle.mm_outcome.proofs.Below.{outcome_of_events, moves_of}
-use Rattle.mm_outcome.proofs.Below.{event_messages, messages_from, event_foreign_values, batches_of, AreGenuine}
-use Rattle.mm_outcome.proofs.Below.{foreign_values, asked_batches, IsGenuineOffer, AgreesThroughout, KeepsHistory, IsSameOutcome}
+use Rattle.mm_outcome.proofs.Below.{each_right, list_level, digest_level, state_after_moves, right_content, CallOutcome, call_outcome}
+use Rattle.mm_outcome.proofs.Below.{CheckpointOutcome, checkpoint_outcome, IsSameCheckpoint, messages_of_moves, right_messages, IsSameCall}
+use Rattle.mm_outcome.proofs.Below.{Event, Ask, Checkpoint, Power, Extend, Reply, offered_bytes, Outcome, way_of, course_of, reply_of}
+use Rattle.mm_outcome.proofs.Below.{snapshots_of, outcome_by, outcome_without_call, ask_event_outcome, closing_reply}
+use Rattle.mm_outcome.proofs.Below.{checkpoint_event_outcome, event_outcome, outcome_of_events, moves_of, event_messages, messages_from}
+use Rattle.mm_outcome.proofs.Below.{event_foreign_values, batches_of, AreGenuine, foreign_values, asked_batches, IsGenuineOffer}
+use Rattle.mm_outcome.proofs.Below.{AgreesThroughout, KeepsHistory, IsSameOutcome}
 use Rattle.mm_outcome.proofs.Parts.{ask_moves, asking_messages}
 use Rattle.mm_outcome.proofs.Below.{start_message, first_history, first_digests, first_issued, run_messages, outcome_by_lists}
-use Rattle.mm_outcome.proofs.Below.{outcome_by_digests}
-use Rattle.mm_outcome.proofs.Below.{IsGenuineRun, each_self}
+use Rattle.mm_outcome.proofs.Below.{outcome_by_digests, IsGenuineRun, each_self}
 use Rattle.mm_outcome.specs.OneEvent.{IsEventWithin}
 use Rattle.mm_outcome.proofs.Below.{Move}
 use Rattle.mm_outcome.proofs.EachWay.{then_all, closing_all}

@@ -1,14 +1,11 @@
 -- A schedule goes on from what stands after its first events; and each first part of it is one run, where it meets the premises.
 use Rattle.mm_outcome.proofs.Below.{ℕ, ◌+◌, ◌≡◌, List, [], ◌∷◌, ◌++◌, refl, sym, ap, ◌∙◌, add_assoc, zero-add, append_assoc, Instance}
-use Rattle.mm_outcome.proofs.Below.{History}
-use Rattle.mm_outcome.proofs.Below.{Event, Level, list_level, Outcome, event_outcome, RunOutcome, outcome_of_events, messages_of_moves}
-use Rattle.mm_outcome.proofs.Below.{event_messages, moves_of, messages_from, outcome_joined_to, subst, Contains-append_left, Contains}
-use Rattle.mm_outcome.proofs.Below.{flat_map}
-use Rattle.mm_outcome.proofs.Below.{digest_level, start_message, Variant, instance_by, Meaning, first_history, requests_of, IsClear}
-use Rattle.mm_outcome.proofs.Below.{IsEventRun, Reply}
-use Rattle.mm_outcome.proofs.Below.{outcome_by_lists}
-use Rattle.mm_outcome.proofs.Below.{outcome_by_digests, first_digests, first_issued, AreGenuine, IsClearRun, IsGenuineRun}
-use Rattle.mm_outcome.proofs.Below.{batches_of, event_foreign_values, run_messages, each_left, each_self}
+use Rattle.mm_outcome.proofs.Below.{History, Event, Level, list_level, Outcome, event_outcome, RunOutcome, outcome_of_events}
+use Rattle.mm_outcome.proofs.Below.{messages_of_moves, event_messages, moves_of, messages_from, outcome_joined_to, subst}
+use Rattle.mm_outcome.proofs.Below.{Contains-append_left, Contains, flat_map, digest_level, start_message, Variant, instance_by, Meaning}
+use Rattle.mm_outcome.proofs.Below.{first_history, requests_of, IsClear, IsEventRun, Reply, outcome_by_lists, outcome_by_digests}
+use Rattle.mm_outcome.proofs.Below.{first_digests, first_issued, AreGenuine, IsClearRun, IsGenuineRun, batches_of, event_foreign_values}
+use Rattle.mm_outcome.proofs.Below.{run_messages, each_left, each_self}
 use Rattle.std.proofs.lemmas.Grind.{flat_map-append}
 use Rattle.mm_outcome.proofs.FirstBytes.{clear_within}
 use Rattle.mm_outcome.specs.OneRun.{FrontsAreOneRun}

@@ -1,26 +1,19 @@
 -- The premises of the laws are met: by a run of one request in Basic, and by one of three in Opt, with a segment closed between them.
-use Rattle.mm_outcome.proofs.Below.{ℕ, ◌≡◌, Bool, true, false, List, [], ◌∷◌, ◌++◌, refl, subst, arith, Contains, Basic, Opt}
-use Rattle.mm_outcome.proofs.Below.{Batch, counter, counter_is_lawful, Meaning, link_message, Instance, basic_instance, opt_instance}
-use Rattle.mm_outcome.proofs.Below.{History}
+use Rattle.mm_outcome.proofs.Below.{ℕ, ◌≡◌, Bool, true, false, List, [], ◌∷◌, ◌++◌, refl, subst, arith, Contains, Basic, Opt, Batch}
+use Rattle.mm_outcome.proofs.Below.{counter, counter_is_lawful, Meaning, link_message, Instance, basic_instance, opt_instance, History}
 use Rattle.mm_outcome.proofs.Below.{first_history, AreMessagesIn, offer_messages, NamesPosition, anchor_after, content_of_issue, IsGenuine}
-use Rattle.mm_outcome.proofs.Below.{issued_bytes}
-use Rattle.mm_outcome.proofs.Below.{ask_steps, each_append, basic_issued, Quiet, Content, IsContent, finding_at, right_content}
-use Rattle.mm_outcome.proofs.Below.{finding_unless_wanting, is_fresh, one_ask, course_of, list_level, parts_of, right_messages}
-use Rattle.mm_outcome.proofs.Below.{messages_of_moves}
-use Rattle.mm_outcome.proofs.Below.{IsClearRun, IsGenuineRun, run_messages, state_seen, walk, summary-nil, ◌≤◌, ◌+◌, nat_le, Ok, Err, sym}
-use Rattle.mm_outcome.proofs.Below.{ap, ◌∙◌, if◌then◌else◌, slice_index, bytes_eq, last_position, extended_message, anchored_message}
-use Rattle.mm_outcome.proofs.Below.{anchored_digest_of, size_of, IsLawful, state_after-is_spelled, Event, Ask, Checkpoint, Extend, Last}
-use Rattle.mm_outcome.proofs.Below.{variant_of}
-use Rattle.mm_outcome.proofs.Below.{offered_snapshot_of, tag_of, InOpt, sealed_parts, guard, Own, Value, Move, Commit, Foreign, Placed}
-use Rattle.mm_outcome.proofs.Below.{Reset, Close}
-use Rattle.mm_outcome.proofs.Below.{requests_of, total_of, verdict_on, life_of, is_lost, form_messages, issued_place, digest_of, Fresh}
-use Rattle.mm_outcome.proofs.Below.{first_sound, reads_zero, opt_issued, CallOutcome, call_outcome, call_outcome_with, CallFinding}
-use Rattle.mm_outcome.proofs.Below.{finding_by_verdict, finding_with}
-use Rattle.mm_outcome.proofs.Below.{check_by_tests, Outcome, outcome_of_events, event_outcome, outcome_by, outcome_by_lists, first_issued}
-use Rattle.mm_outcome.proofs.Below.{world_barrier, two_segments}
-use Rattle.mm_outcome.proofs.Below.{after_two_segments, moves_of, event_messages, messages_from, IsGenuineEvent, AreGenuine, each_at}
-use Rattle.mm_outcome.proofs.Below.{Option}
-use Rattle.mm_outcome.proofs.Below.{Some, offered_bytes, ask_event_outcome, IsGenuineOffer}
+use Rattle.mm_outcome.proofs.Below.{issued_bytes, ask_steps, each_append, basic_issued, Quiet, Content, IsContent, finding_at}
+use Rattle.mm_outcome.proofs.Below.{right_content, finding_unless_wanting, is_fresh, one_ask, course_of, list_level, parts_of}
+use Rattle.mm_outcome.proofs.Below.{right_messages, messages_of_moves, IsClearRun, IsGenuineRun, run_messages, state_seen, walk}
+use Rattle.mm_outcome.proofs.Below.{summary-nil, ◌≤◌, ◌+◌, nat_le, Ok, Err, sym, ap, ◌∙◌, if◌then◌else◌, slice_index, bytes_eq}
+use Rattle.mm_outcome.proofs.Below.{last_position, extended_message, anchored_message, anchored_digest_of, size_of, IsLawful}
+use Rattle.mm_outcome.proofs.Below.{state_after-is_spelled, Event, Ask, Checkpoint, Extend, Last, variant_of, offered_snapshot_of, tag_of}
+use Rattle.mm_outcome.proofs.Below.{InOpt, sealed_parts, guard, Own, Value, Move, Commit, Foreign, Placed, Reset, Close, requests_of}
+use Rattle.mm_outcome.proofs.Below.{total_of, verdict_on, life_of, is_lost, form_messages, issued_place, digest_of, Fresh, first_sound}
+use Rattle.mm_outcome.proofs.Below.{reads_zero, opt_issued, CallOutcome, call_outcome, call_outcome_with, CallFinding, finding_by_verdict}
+use Rattle.mm_outcome.proofs.Below.{finding_with, check_by_tests, Outcome, outcome_of_events, event_outcome, outcome_by, outcome_by_lists}
+use Rattle.mm_outcome.proofs.Below.{first_issued, world_barrier, two_segments, after_two_segments, moves_of, event_messages, messages_from}
+use Rattle.mm_outcome.proofs.Below.{IsGenuineEvent, AreGenuine, each_at, Option, Some, offered_bytes, ask_event_outcome, IsGenuineOffer}
 use Rattle.mm_outcome.proofs.Parts.{ask_moves, asking_messages}
 use Rattle.mm_digest.specs.Messages.{start_digest_of, zero_bytes, extended_digest_of}
 use Rattle.mm_model.specs.Chains.{anchor_of, register_of}

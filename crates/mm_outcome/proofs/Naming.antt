@@ -1,23 +1,18 @@
 -- An event keeps what names a position of the history, whichever snapshot or ticket says it; and each snapshot that was issued
 -- names one.
 use Rattle.mm_outcome.proofs.Below.{ℕ, ◌≡◌, Bool, true, false, List, [], ◌∷◌, Option, None, Some, Result, Ok, Err, refl, sym, ap, ◌∙◌}
-use Rattle.mm_outcome.proofs.Below.{AllByRecursion, Variant, Basic, Opt, Meaning, Batch, normal_batch, StepFault, Stop}
-use Rattle.mm_outcome.proofs.Below.{Instance, basic_instance, opt_instance, History, Move, Foreign, Close, PowerMove, history_after}
-use Rattle.mm_outcome.proofs.Below.{first_history, items_of_all, life_of}
-use Rattle.mm_outcome.proofs.Below.{has_value, is_lost, IsSound, NamesPosition, content_issued, Content, DeviceStep, Reads, Writes}
-use Rattle.mm_outcome.proofs.Below.{ask_steps}
-use Rattle.mm_outcome.proofs.Below.{checkpoint_steps, Refusal, first_sound, sound_moved, basic_names, basic_issued, opt_names, opt_issued}
-use Rattle.mm_outcome.proofs.Below.{list_level, state_after_moves, CallFinding, finding_at, finding_unless_wanting, is_fresh, StepFate}
-use Rattle.mm_outcome.proofs.Below.{Course, StepsWalk, walk, has_close}
-use Rattle.mm_outcome.proofs.Below.{CallOutcome, state_seen, call_ending_by, call_outcome, CheckpointOutcome}
-use Rattle.mm_outcome.proofs.Below.{checkpoint_outcome, foreign_move_values, not_lost, live_found, foreign_fine, power_fine, ready_closing}
-use Rattle.mm_outcome.proofs.Below.{before, sight}
-use Rattle.mm_outcome.proofs.Below.{sight_is, Ready, walk_fine, asks, unlacked, opt_closes, closed_kept, AllMay, may_of, first_in}
-use Rattle.mm_outcome.proofs.Below.{ask_may, each_self, each_append, Event, Outcome}
-use Rattle.mm_outcome.proofs.Below.{course_of, snapshots_of, moves_after_call, outcome_by, moves_after_checkpoint, event_outcome}
-use Rattle.mm_outcome.proofs.Below.{RunOutcome, outcome_of_events}
-use Rattle.mm_outcome.proofs.Below.{first_issued, IsIssued, IssuedNamePositions, IsSoundIn, KeepsNames, EventsKeepNames}
-use Rattle.mm_outcome.proofs.Below.{AreOwn, instance_by, zero_bytes}
+use Rattle.mm_outcome.proofs.Below.{AllByRecursion, Variant, Basic, Opt, Meaning, Batch, normal_batch, StepFault, Stop, Instance}
+use Rattle.mm_outcome.proofs.Below.{basic_instance, opt_instance, History, Move, Foreign, Close, PowerMove, history_after, first_history}
+use Rattle.mm_outcome.proofs.Below.{items_of_all, life_of, has_value, is_lost, IsSound, NamesPosition, content_issued, Content, DeviceStep}
+use Rattle.mm_outcome.proofs.Below.{Reads, Writes, ask_steps, checkpoint_steps, Refusal, first_sound, sound_moved, basic_names}
+use Rattle.mm_outcome.proofs.Below.{basic_issued, opt_names, opt_issued, list_level, state_after_moves, CallFinding, finding_at}
+use Rattle.mm_outcome.proofs.Below.{finding_unless_wanting, is_fresh, StepFate, Course, StepsWalk, walk, has_close, CallOutcome, state_seen}
+use Rattle.mm_outcome.proofs.Below.{call_ending_by, call_outcome, CheckpointOutcome, checkpoint_outcome, foreign_move_values, not_lost}
+use Rattle.mm_outcome.proofs.Below.{live_found, foreign_fine, power_fine, ready_closing, before, sight, sight_is, Ready, walk_fine, asks}
+use Rattle.mm_outcome.proofs.Below.{unlacked, opt_closes, closed_kept, AllMay, may_of, first_in, ask_may, each_self, each_append, Event}
+use Rattle.mm_outcome.proofs.Below.{Outcome, course_of, snapshots_of, moves_after_call, outcome_by, moves_after_checkpoint, event_outcome}
+use Rattle.mm_outcome.proofs.Below.{RunOutcome, outcome_of_events, first_issued, IsIssued, IssuedNamePositions, IsSoundIn, KeepsNames}
+use Rattle.mm_outcome.proofs.Below.{EventsKeepNames, AreOwn, instance_by, zero_bytes}
 use Rattle.mm_outcome.proofs.EachWay.{in_any_way, then_all, closing_all}
 
 -- from one history to another, whichever snapshots were issued

@@ -1,8 +1,6 @@
 -- Parts of what the definitions say of a call, which proofs speak of alone.
 use Rattle.mm_outcome.proofs.Below.{ℕ, ◌-◌, length, Bool, List, [], Option, if◌then◌else◌, Batch, normal_batch, History, Move, Instance}
-use Rattle.mm_outcome.proofs.Below.{is_long}
-use Rattle.mm_outcome.proofs.Below.{call_outcome}
-use Rattle.mm_outcome.proofs.Below.{right_messages, list_level, course_of, Meddle, Stop}
+use Rattle.mm_outcome.proofs.Below.{is_long, call_outcome, right_messages, list_level, course_of, Meddle, Stop}
 use Rattle.std.specs.Option.{option_map_or}
 use Rattle.mm_model.specs.declared.answer.BatchAnswer.{BatchAnswer}
 use Rattle.mm_call.specs.CallFinding.{right_content}

@@ -1,8 +1,7 @@
 -- What a right offer says; and that an issued snapshot, as a right offer, names a position.
-use Rattle.mm_outcome.proofs.Below.{◌≡◌, ℕ, ◌≤◌, ◌∙◌, List, length, Some, Ok, refl, sym, ap, subst, arith, get_or, last_position}
-use Rattle.mm_outcome.proofs.Below.{Variant, Basic, Opt, parts_of, sealed_parts, Content, IsContent, offered_snapshot_of, tag_of, InOpt}
-use Rattle.mm_outcome.proofs.Below.{Batch, IsLawful}
-use Rattle.mm_outcome.proofs.Below.{state_after, state_after-is_spelled, History, requests_of, total_of, Instance, NamesPosition}
+use Rattle.mm_outcome.proofs.Below.{◌≡◌, ℕ, ◌≤◌, ◌∙◌, List, length, Some, Ok, refl, sym, ap, subst, arith, get_or, last_position, Variant}
+use Rattle.mm_outcome.proofs.Below.{Basic, Opt, parts_of, sealed_parts, Content, IsContent, offered_snapshot_of, tag_of, InOpt, Batch}
+use Rattle.mm_outcome.proofs.Below.{IsLawful, state_after, state_after-is_spelled, History, requests_of, total_of, Instance, NamesPosition}
 use Rattle.mm_outcome.proofs.Below.{right_content}
 use Rattle.std.proofs.lemmas.Slice.Eq.{bytes_eq-Decides}
 use Rattle.mm_base.specs.Limits.{limit_of}

@@ -1,25 +1,19 @@
 -- What is expected is a run of the machine, in each variant.
 use Rattle.mm_outcome.proofs.Below.{ℕ, ◌≡◌, ◌+◌, ◌-◌, Bool, true, false, ◌&&◌, List, [], ◌∷◌, ◌++◌, length, Option, None, Some, Result, Ok}
-use Rattle.mm_outcome.proofs.Below.{Err}
-use Rattle.mm_outcome.proofs.Below.{refl, sym, ap, ◌∙◌, subst, nat_eq, bytes_eq, and_parts, Meaning, state_after, outputs_from}
-use Rattle.mm_outcome.proofs.Below.{Batch, members_of, size_of, normal_batch, members_of-normal, length-outputs_from, length-append, arith}
-use Rattle.mm_outcome.proofs.Below.{PartsFault, Form, Kind}
-use Rattle.mm_outcome.proofs.Below.{Snapshot, tag_of, parts_of, StepFault, Meddle, Stop, Instance, History, Move}
+use Rattle.mm_outcome.proofs.Below.{Err, refl, sym, ap, ◌∙◌, subst, nat_eq, bytes_eq, and_parts, Meaning, state_after, outputs_from, Batch}
+use Rattle.mm_outcome.proofs.Below.{members_of, size_of, normal_batch, members_of-normal, length-outputs_from, length-append, arith}
+use Rattle.mm_outcome.proofs.Below.{PartsFault, Form, Kind, Snapshot, tag_of, parts_of, StepFault, Meddle, Stop, Instance, History, Move}
 use Rattle.mm_outcome.proofs.Below.{requests_of, total_of, first_history, Life, Live, life_of, is_lost, is_last, verdict_by_tests}
-use Rattle.mm_outcome.proofs.Below.{verdict_on}
-use Rattle.mm_outcome.proofs.Below.{ask_steps, Refusal, check_of_verdict, check_of_offer, list_level, state_after_moves, CallFinding}
-use Rattle.mm_outcome.proofs.Below.{finding_by_verdict, finding_at}
-use Rattle.mm_outcome.proofs.Below.{finding_unless_wanting, is_fresh, Course, StepsWalk, walk, moves_seen, has_commit, Answers, Breaks}
-use Rattle.mm_outcome.proofs.Below.{CallOutcome}
-use Rattle.mm_outcome.proofs.Below.{reading_steps, call_ending_by, call_outcome, position_if_committed, CheckpointEnding, Stops}
-use Rattle.mm_outcome.proofs.Below.{CheckpointOutcome, checkpoint_outcome_with, same_batches, more_batches, Commits, nothing, batch}
-use Rattle.mm_outcome.proofs.Below.{commits-none}
-use Rattle.mm_outcome.proofs.Below.{call_commits, commits_batch, seen_none, admitted_tells, weighed_tells, found_with_tells, unless_lost}
-use Rattle.mm_outcome.proofs.Below.{requests-push, said_last, again_of, fresh_of, unlacked, checkpoint_none, Event, Ask}
-use Rattle.mm_outcome.proofs.Below.{Checkpoint, IsTold, IsBatchStep, IsStepWithoutBatch, IsRunStep, IsEventRun, Way, Reply, offered_bytes}
-use Rattle.mm_outcome.proofs.Below.{Outcome}
-use Rattle.mm_outcome.proofs.Below.{way_of, course_of, reply_of, outcome_by, closing_reply}
-use Rattle.mm_outcome.proofs.Below.{checkpoint_event_outcome, event_outcome, RunOutcome, outcome_of_events, first_issued, ExpectedRuns}
+use Rattle.mm_outcome.proofs.Below.{verdict_on, ask_steps, Refusal, check_of_verdict, check_of_offer, list_level, state_after_moves}
+use Rattle.mm_outcome.proofs.Below.{CallFinding, finding_by_verdict, finding_at, finding_unless_wanting, is_fresh, Course, StepsWalk, walk}
+use Rattle.mm_outcome.proofs.Below.{moves_seen, has_commit, Answers, Breaks, CallOutcome, reading_steps, call_ending_by, call_outcome}
+use Rattle.mm_outcome.proofs.Below.{position_if_committed, CheckpointEnding, Stops, CheckpointOutcome, checkpoint_outcome_with}
+use Rattle.mm_outcome.proofs.Below.{same_batches, more_batches, Commits, nothing, batch, commits-none, call_commits, commits_batch}
+use Rattle.mm_outcome.proofs.Below.{seen_none, admitted_tells, weighed_tells, found_with_tells, unless_lost, requests-push, said_last}
+use Rattle.mm_outcome.proofs.Below.{again_of, fresh_of, unlacked, checkpoint_none, Event, Ask, Checkpoint, IsTold, IsBatchStep}
+use Rattle.mm_outcome.proofs.Below.{IsStepWithoutBatch, IsRunStep, IsEventRun, Way, Reply, offered_bytes, Outcome, way_of, course_of}
+use Rattle.mm_outcome.proofs.Below.{reply_of, outcome_by, closing_reply, checkpoint_event_outcome, event_outcome, RunOutcome}
+use Rattle.mm_outcome.proofs.Below.{outcome_of_events, first_issued, ExpectedRuns}
 use Rattle.mm_model.specs.BatchLaws.{HasLastBatch, is_last_tells}
 use Rattle.mm_call.specs.Answers.{answer_on}
 use Rattle.mm_schedule.specs.declared.reply.Reply.TheVariants.{Told, Kept}

@@ -2,14 +2,11 @@
 use Rattle.std.specs.Prelude.{ℕ, ◌+◌, ◌-◌, false, List, [], ◌∷◌, ◌++◌, length, fold, Option, None, Some, Err, if◌then◌else◌}
 use Rattle.std.specs.Option.{option_map_or}
 use Rattle.mm_outcome.specs.Below.{zero_bytes, start_digest_of, sealed_snapshot_of, Plan, Meddle, Stop, Cut, Drop, Batch, One, normal_batch}
-use Rattle.mm_outcome.specs.Below.{History, Move, Foreign}
-use Rattle.mm_outcome.specs.Below.{PowerMove, first_history, Instance, is_long, Digests, content_of_issue, Reads, Refusal, CallEnding}
-use Rattle.mm_outcome.specs.Below.{Answers, Refuses}
-use Rattle.mm_outcome.specs.Below.{Breaks, CallOutcome, call_outcome, call_outcome_by, CheckpointEnding, Closes, HasNone, NoSegment}
-use Rattle.mm_outcome.specs.Below.{LostPower, Stops, CheckpointOutcome}
-use Rattle.mm_outcome.specs.Below.{checkpoint_outcome, Course, fate_by_plan, walk, Level, list_level, digest_level, Event, Ask, Checkpoint}
-use Rattle.mm_outcome.specs.Below.{Power}
-use Rattle.mm_outcome.specs.Below.{Extend, Cause, Reply, Way}
+use Rattle.mm_outcome.specs.Below.{History, Move, Foreign, PowerMove, first_history, Instance, is_long, Digests, content_of_issue, Reads}
+use Rattle.mm_outcome.specs.Below.{Refusal, CallEnding, Answers, Refuses, Breaks, CallOutcome, call_outcome, call_outcome_by}
+use Rattle.mm_outcome.specs.Below.{CheckpointEnding, Closes, HasNone, NoSegment, LostPower, Stops, CheckpointOutcome, checkpoint_outcome}
+use Rattle.mm_outcome.specs.Below.{Course, fate_by_plan, walk, Level, list_level, digest_level, Event, Ask, Checkpoint, Power, Extend}
+use Rattle.mm_outcome.specs.Below.{Cause, Reply, Way}
 use Rattle.mm_model.specs.declared.refusal.Refusal.TheVariants as refusal
 use Rattle.mm_schedule.specs.declared.reply.Way.TheVariants as way
 use Rattle.mm_schedule.specs.declared.reply.Cause.TheVariants as cause

@@ -2,8 +2,8 @@
 use Rattle.std.specs.Prelude.{◌≡◌, ℕ, ◌+◌, true, List, [], ◌∷◌, ◌++◌, codes, replicate}
 use Rattle.std.specs.List.{AllByRecursion}
 use Rattle.mm_outcome.specs.Below.{Content, sealed_snapshot_of, Quiet, One, Meaning, History, Own, requests_of, Instance, basic_instance}
-use Rattle.mm_outcome.specs.Below.{opt_instance, Digests, NamesPosition}
-use Rattle.mm_outcome.specs.Below.{list_level, digest_level, DigestsAgree, Event, Ask, Checkpoint, Extend, IsEventRun, Last}
+use Rattle.mm_outcome.specs.Below.{opt_instance, Digests, NamesPosition, list_level, digest_level, DigestsAgree, Event, Ask, Checkpoint}
+use Rattle.mm_outcome.specs.Below.{Extend, IsEventRun, Last}
 use Rattle.mm_outcome.specs.Folds.{RunOutcome, outcome_of_events, outcome_by_lists, outcome_by_digests}
 use Rattle.mm_outcome.specs.Premises.{messages_from, IsClearRun, IsGenuineRun}
 

@@ -2,8 +2,8 @@
 use Rattle.std.specs.Prelude.{◌≡◌, ℕ, List, [], ◌∷◌, ◌++◌, ◌⊎◌}
 use Rattle.std.specs.List.{AllByRecursion, Contains}
 use Rattle.mm_outcome.specs.Below.{Variant, Basic, Opt, Content, Batch, History, requests_of, Instance, AreMessagesIn, IsClear, Digests}
-use Rattle.mm_outcome.specs.Below.{NamesPosition}
-use Rattle.mm_outcome.specs.Below.{IsSound, messages_of_moves, IsWithin, list_level, digest_level, DigestsAgree, Event, IsRunStep}
+use Rattle.mm_outcome.specs.Below.{NamesPosition, IsSound, messages_of_moves, IsWithin, list_level, digest_level, DigestsAgree, Event}
+use Rattle.mm_outcome.specs.Below.{IsRunStep}
 use Rattle.mm_outcome.specs.Folds.{Outcome, event_outcome}
 use Rattle.mm_outcome.specs.Laws.{IsIssued}
 use Rattle.mm_outcome.specs.Premises.{moves_of, event_messages, event_foreign_values, batches_of, AreApartIn, IsGenuineEvent}

@@ -2,10 +2,9 @@
 -- the run.
 use Rattle.std.specs.Prelude.{◌≡◌, ℕ, List, [], ◌∷◌, ◌++◌, Option, IfSome, map, flat_map, if◌then◌else◌}
 use Rattle.std.specs.Option.{option_map_or}
-use Rattle.mm_outcome.specs.Below.{start_message, Variant, Opt, Batch, normal_batch, History, Move, Foreign, PowerMove}
-use Rattle.mm_outcome.specs.Below.{first_history, Instance, is_long, IsClear, AreNoGuards, IsGenuine, messages_of_moves, right_messages}
-use Rattle.mm_outcome.specs.Below.{call_outcome, checkpoint_outcome}
-use Rattle.mm_outcome.specs.Below.{right_content, list_level, Event, Ask, Checkpoint, Power, Extend}
+use Rattle.mm_outcome.specs.Below.{start_message, Variant, Opt, Batch, normal_batch, History, Move, Foreign, PowerMove, first_history}
+use Rattle.mm_outcome.specs.Below.{Instance, is_long, IsClear, AreNoGuards, IsGenuine, messages_of_moves, right_messages, call_outcome}
+use Rattle.mm_outcome.specs.Below.{checkpoint_outcome, right_content, list_level, Event, Ask, Checkpoint, Power, Extend}
 use Rattle.mm_outcome.specs.EventOffers.{offered_bytes}
 use Rattle.mm_outcome.specs.Folds.{course_of, event_outcome, first_issued}
 

@@ -2,8 +2,7 @@
 use Rattle.std.specs.Prelude.{◌≡◌, ℕ, ◌-◌, ◌^◌, List, length, min, ◌⊎◌}
 use Rattle.std.specs.List.{range_with_len}
 use Rattle.mm_outcome.specs.Below.{Meddle, Stop, meaning_of, Instance, Digests, state_seen, reading_steps, digest_level, instance_by}
-use Rattle.mm_outcome.specs.Below.{count_after_more}
-use Rattle.mm_outcome.specs.Below.{Event, Ask, Power, Header, Reply}
+use Rattle.mm_outcome.specs.Below.{count_after_more, Event, Ask, Power, Header, Reply}
 use Rattle.mm_outcome.specs.Folds.{Outcome, course_of, event_outcome, first_issued, first_digests}
 
 -- 32 bytes in rising order, from this one on

@@ -25,6 +25,5 @@ pub use Rattle.mm_pages.specs.Calls.{slots_with_change, ReadsLength, ReadsPage, 
 pub use Rattle.mm_pages.specs.Counts.{change_count, changes_of, count_after_so_many, look_count, total_of_looks, may_be_same, one_if}
 pub use Rattle.mm_pages.specs.PageStanding.{PageStanding}
 pub use Rattle.mm_pages.specs.SlotWrites.{AreDigestsOf, ChangesSlot, EndsInSync, WriteFails, SlotFails, FitsSlot, FitsAndSyncs, HoldsPage}
-pub use Rattle.mm_pages.specs.SlotWrites.{IsFilled, IsInStep}
-pub use Rattle.mm_pages.specs.SlotWrites.{IsPutAt, PutsBytes, PutsFirstPages, PutsOnePage, PutsWholeSlot}
+pub use Rattle.mm_pages.specs.SlotWrites.{IsFilled, IsInStep, IsPutAt, PutsBytes, PutsFirstPages, PutsOnePage, PutsWholeSlot}
 pub use Rattle.mm_pages.specs.Rows.{DropsPage, row_with_digest, kept_digest, page_digest, digests_of_pages, row_in, Rows, rows_with}

@@ -1,8 +1,7 @@
 -- Laws of counts, and of what tests of bytes and of digests tell.
 use Rattle.mm_pages.proofs.Below.{ℕ, ◌≡◌, ◌+◌, zero, suc, Bool, true, false, Option, Some, None, List, refl, ap, ◌∙◌, subst, arith}
-use Rattle.mm_pages.proofs.Below.{zero-add}
-use Rattle.mm_pages.proofs.Below.{◌&&◌, bytes_eq, next_count, Digest, page_of, count_after_so_many, may_be_same, change_count, changes_of}
-use Rattle.mm_pages.proofs.Below.{page_digest}
+use Rattle.mm_pages.proofs.Below.{zero-add, ◌&&◌, bytes_eq, next_count, Digest, page_of, count_after_so_many, may_be_same, change_count}
+use Rattle.mm_pages.proofs.Below.{changes_of, page_digest}
 use Rattle.std.proofs.lemmas.Slice.Eq.{bytes_eq-Decides}
 use Rattle.sha2.specs.Sha256.{sha256}
 

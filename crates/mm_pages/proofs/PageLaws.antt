@@ -2,10 +2,9 @@
 use Rattle.mm_pages.proofs.Below.{ℕ, ◌≡◌, Bool, true, false, Result, Option, Some, None, Ok, Err, List, [], length, get_or, refl, ap, sym}
 use Rattle.mm_pages.proofs.Below.{◌∙◌, subst, arith, ◌&&◌, bytes_eq, Failed, next_count, Digest, Slots, slot_in, unsynced_with_mark}
 use Rattle.mm_pages.proofs.Below.{slots_with_bytes, with_slot-same, marks_alone, page_of, bytes_with_page, PageStanding, WritesPage}
-use Rattle.mm_pages.proofs.Below.{slots_with_change, count_after_so_many, may_be_same}
-use Rattle.mm_pages.proofs.Below.{look_count, change_count, one_if, Rows, row_in, rows_with, kept_digest, page_digest, row_with_digest}
-use Rattle.mm_pages.proofs.Below.{DropsPage}
-use Rattle.mm_pages.proofs.Below.{IsInStep, HoldsPage, IsPutAt, WriteFails, ChangesSlot, PutsOnePage}
+use Rattle.mm_pages.proofs.Below.{slots_with_change, count_after_so_many, may_be_same, look_count, change_count, one_if, Rows, row_in}
+use Rattle.mm_pages.proofs.Below.{rows_with, kept_digest, page_digest, row_with_digest, DropsPage, IsInStep, HoldsPage, IsPutAt, WriteFails}
+use Rattle.mm_pages.proofs.Below.{ChangesSlot, PutsOnePage}
 use Rattle.mm_pages.proofs.BytesLaws.{get_or-page_of, put_at}
 use Rattle.mm_pages.proofs.RowLaws.{row_in-with_row, with_row-twice, with_row-same, keeping-alike}
 use Rattle.mm_pages.proofs.CountLaws.{held, no_change, a_change}

@@ -1,10 +1,9 @@
 -- Digests that are those of what the device has.
 use Rattle.std.proofs.lemmas.Bool.Decides.{nat_tests}
-use Rattle.mm_pages.proofs.Below.{ℕ, ◌≡◌, ◌-◌, zero, suc, Option, Some, None, List, [], ◌∷◌, length, get_or, ap}
-use Rattle.mm_pages.proofs.Below.{sym, ◌∙◌, subst, inl, inr, arith, cases_lt, get_or_append_left, get_or-append_right}
-use Rattle.mm_pages.proofs.Below.{Digest, Slots, slots_with, slots_with_bytes, page_of, page_count, PageStanding, Rows, rows_with}
-use Rattle.mm_pages.proofs.Below.{page_digest, digests_of_pages}
-use Rattle.mm_pages.proofs.Below.{PutsWholeSlot, AreDigestsOf, AreInStep, KeepsStep}
+use Rattle.mm_pages.proofs.Below.{ℕ, ◌≡◌, ◌-◌, zero, suc, Option, Some, None, List, [], ◌∷◌, length, get_or, ap, sym, ◌∙◌, subst, inl, inr}
+use Rattle.mm_pages.proofs.Below.{arith, cases_lt, get_or_append_left, get_or-append_right, Digest, Slots, slots_with, slots_with_bytes}
+use Rattle.mm_pages.proofs.Below.{page_of, page_count, PageStanding, Rows, rows_with, page_digest, digests_of_pages, PutsWholeSlot}
+use Rattle.mm_pages.proofs.Below.{AreDigestsOf, AreInStep, KeepsStep}
 use Rattle.mm_pages.proofs.RowLaws.{length-digests_of}
 
 last_of : (n : ℕ) (digest other : Digest) → get_or (Some digest ∷ []) n None ≡ Some other → (n ≡ 0) × (digest ≡ other)

@@ -1,16 +1,12 @@
 -- The steps of a write, one after another.
-use Rattle.mm_pages.proofs.Below.{ℕ, ◌≡◌, ◌+◌, ◌*◌, ◌<◌, ◌≤◌, suc, true, false, Option, Some, Result, Ok, Err, List, ◌++◌, length}
-use Rattle.mm_pages.proofs.Below.{get_or, take, drop, refl, ap, sym, ◌∙◌, subst, inl, inr, arith, ◌-◌, length-append, is_err, cases_lt}
-use Rattle.mm_pages.proofs.Below.{Failed, CountRose, Digest, Slots, slot_in, slots_with, slots_with_bytes, slot_in-with_slot}
-use Rattle.mm_pages.proofs.Below.{with_slot-same}
+use Rattle.mm_pages.proofs.Below.{ℕ, ◌≡◌, ◌+◌, ◌*◌, ◌<◌, ◌≤◌, suc, true, false, Option, Some, Result, Ok, Err, List, ◌++◌, length, get_or}
+use Rattle.mm_pages.proofs.Below.{take, drop, refl, ap, sym, ◌∙◌, subst, inl, inr, arith, ◌-◌, length-append, is_err, cases_lt, Failed}
+use Rattle.mm_pages.proofs.Below.{CountRose, Digest, Slots, slot_in, slots_with, slots_with_bytes, slot_in-with_slot, with_slot-same}
 use Rattle.mm_pages.proofs.Below.{putting-twice, marks_alone, marked_last, unsynced_with_mark, CachedDevice, resized_bytes, page_of}
-use Rattle.mm_pages.proofs.Below.{page_count, PageStanding}
-use Rattle.mm_pages.proofs.Below.{ReadsLength, SyncsPages, slots_with_change, count_after_so_many, may_be_same, look_count, total_of_looks}
-use Rattle.mm_pages.proofs.Below.{change_count, changes_of, one_if}
-use Rattle.mm_pages.proofs.Below.{Rows, row_in, rows_with, kept_digest, page_digest, row_with_digest, digests_of_pages, IsPutAt, SlotFails}
-use Rattle.mm_pages.proofs.Below.{WriteFails}
-use Rattle.mm_pages.proofs.Below.{ChangesSlot, PutsOnePage, IsFilled, PutsFirstPages, FitsSlot, FitsAndSyncs, EndsInSync, PutsWholeSlot}
-use Rattle.mm_pages.proofs.Below.{PutsBytes}
+use Rattle.mm_pages.proofs.Below.{page_count, PageStanding, ReadsLength, SyncsPages, slots_with_change, count_after_so_many, may_be_same}
+use Rattle.mm_pages.proofs.Below.{look_count, total_of_looks, change_count, changes_of, one_if, Rows, row_in, rows_with, kept_digest}
+use Rattle.mm_pages.proofs.Below.{page_digest, row_with_digest, digests_of_pages, IsPutAt, SlotFails, WriteFails, ChangesSlot, PutsOnePage}
+use Rattle.mm_pages.proofs.Below.{IsFilled, PutsFirstPages, FitsSlot, FitsAndSyncs, EndsInSync, PutsWholeSlot, PutsBytes}
 use Rattle.mm_pages.proofs.BytesLaws.{get_or-page_of, page_of-same, resized-same, resized-length}
 use Rattle.mm_pages.proofs.RowLaws.{row_in-with_row, with_row-twice, with_row-same, keeping-next, kept_of-next, length-digests_of}
 use Rattle.mm_pages.proofs.RowLaws.{take-digests_of}

@@ -7,6 +7,5 @@ pub use Rattle.mm_platform.specs.Entries.{item_of, items_of}
 pub use Rattle.mm_platform.specs.Standing.{foreign_item, Item, Plan, plan_after, Standing}
 pub use Rattle.mm_platform.specs.StepLaws.{extends, goes, is_made_of, known_plan, resets}
 pub use Rattle.mm_platform.specs.Steps.{Act, items_beside, cell_after, ExtendRegister, faults_after, StepGoes, items_after, ReadCell}
-pub use Rattle.mm_platform.specs.Steps.{ReadRegister}
-pub use Rattle.mm_platform.specs.Steps.{ResetRegister, fault_by_plan, is_made_by_plan, is_on_by_plan, values_by_plan}
+pub use Rattle.mm_platform.specs.Steps.{ReadRegister, ResetRegister, fault_by_plan, is_made_by_plan, is_on_by_plan, values_by_plan}
 pub use Rattle.mm_platform.specs.contracts.memory.MemPlatform.{the_view}

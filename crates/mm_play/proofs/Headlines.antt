@@ -1,10 +1,9 @@
 -- The headline of a command over events, from the run of its lines.
-use Rattle.mm_play.proofs.Below.{◌≡◌, ◌∙◌, ◌+◌, ◌≤◌, ◌<◌, ℕ, List, [], ◌∷◌, ◌++◌, length, map, Result, Ok, Err, Option, None, Some}
-use Rattle.mm_play.proofs.Below.{refl, sym, ap, subst, append-nil, append_assoc, arith, inl, inr, ◌⊎◌, AllByRecursion, IsUnbroken, lines_of}
+use Rattle.mm_play.proofs.Below.{◌≡◌, ◌∙◌, ◌+◌, ◌≤◌, ◌<◌, ℕ, List, [], ◌∷◌, ◌++◌, length, map, Result, Ok, Err, Option, None, Some, refl}
+use Rattle.mm_play.proofs.Below.{sym, ap, subst, append-nil, append_assoc, arith, inl, inr, ◌⊎◌, AllByRecursion, IsUnbroken, lines_of}
 use Rattle.mm_play.proofs.Below.{tail_of, joined_lines, ReplayFault, Memory, ReadFault, WriteFault, BadLine, LineLong, TooMuch}
-use Rattle.mm_play.proofs.Below.{longest_line}
-use Rattle.mm_play.proofs.Below.{LineRefusal, Bad, Much, play_outcome, outcome_of_lines, outcome_of_input, HoldsOfWhole, AnswerFits}
-use Rattle.mm_play.proofs.Below.{IsFrontOf}
+use Rattle.mm_play.proofs.Below.{longest_line, LineRefusal, Bad, Much, play_outcome, outcome_of_lines, outcome_of_input, HoldsOfWhole}
+use Rattle.mm_play.proofs.Below.{AnswerFits, IsFrontOf}
 use Rattle.mm_base.specs.InputLaws.{joined-append}
 use Rattle.mm_play.specs.Counting.{same_answer, no_answer}
 use Rattle.mm_play.specs.HeadingStep.{HeadingStep, More, Begins}

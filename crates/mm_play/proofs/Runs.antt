@@ -2,12 +2,10 @@
 use Rattle.mm_play.proofs.Below.{◌≡◌, ◌∙◌, ◌<◌, ◌≤◌, ◌+◌, ℕ, Bool, true, false, cond, List, [], ◌∷◌, ◌++◌, length, Result, Ok, Err, Option}
 use Rattle.mm_play.proofs.Below.{refl, sym, ap, append_assoc, append-nil, arith, nat_lt, length-append, nat_tests, AllByRecursion}
 use Rattle.mm_play.proofs.Below.{IsUnbroken, lines_of, tail_of, joined_lines, lines_with_front, tail_with_front, lines_of-append}
-use Rattle.mm_play.proofs.Below.{tail_of-append}
-use Rattle.mm_play.proofs.Below.{lines_of-line, tail_of-line, lines_of-joined, tail_of-joined, lines_of-unbroken, tail_of-unbroken}
-use Rattle.mm_play.proofs.Below.{ReplayFault, BadLine, LineLong, longest_line, LineRefusal, PlayOutcome, play_outcome, stopped_outcome}
-use Rattle.mm_play.proofs.Below.{outcome_after_bytes, refusal_at}
-use Rattle.mm_play.proofs.Below.{outcome_of_answer, outcome_of_lines, outcome_of_tail, outcome_then, outcome_of_both, outcome_of_rest}
-use Rattle.mm_play.proofs.Below.{outcome_of_input}
+use Rattle.mm_play.proofs.Below.{tail_of-append, lines_of-line, tail_of-line, lines_of-joined, tail_of-joined, lines_of-unbroken}
+use Rattle.mm_play.proofs.Below.{tail_of-unbroken, ReplayFault, BadLine, LineLong, longest_line, LineRefusal, PlayOutcome, play_outcome}
+use Rattle.mm_play.proofs.Below.{stopped_outcome, outcome_after_bytes, refusal_at, outcome_of_answer, outcome_of_lines, outcome_of_tail}
+use Rattle.mm_play.proofs.Below.{outcome_then, outcome_of_both, outcome_of_rest, outcome_of_input}
 
 is_long : {n : ℕ} → longest_line < n → nat_lt longest_line n ≡ true
 is_long h = grind (arith, nat_tests)

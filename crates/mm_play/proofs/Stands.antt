@@ -5,8 +5,7 @@ use Rattle.mm_play.proofs.Below.{subst, append_assoc, append-nil, arith, inl, in
 use Rattle.mm_play.proofs.Below.{Appends-nil, Appends-trans, Consumes-nil, Consumes-trans, IsUnbroken, joined_lines, lines_of-joined}
 use Rattle.mm_play.proofs.Below.{lines_of-unbroken, tail_of-joined, tail_of-unbroken, joined-append, ReplayFault, Memory, ReadFault}
 use Rattle.mm_play.proofs.Below.{WriteFault, LineRefusal, PlayOutcome, play_outcome, stopped_outcome, outcome_after_bytes, outcome_of_lines}
-use Rattle.mm_play.proofs.Below.{outcome_of_rest, outcome_of_input, IsFrontOf, HoldsOfWhole}
-use Rattle.mm_play.proofs.Below.{AnswerFits, PlaysInput, TurnPlays, PlaysNext}
+use Rattle.mm_play.proofs.Below.{outcome_of_rest, outcome_of_input, IsFrontOf, HoldsOfWhole, AnswerFits, PlaysInput, TurnPlays, PlaysNext}
 use Rattle.mm_play.proofs.Runs.{run-more, outcome_of_rest-joined}
 use Rattle.mm_play.proofs.Turning.{front_after}
 

@@ -3,9 +3,9 @@
 use Rattle.mm_play.proofs.Below.{◌≡◌, ◌∙◌, ◌+◌, ℕ, Bool, true, false, List, [], ◌∷◌, ◌++◌, take, drop, Result, Ok, Err, Option, refl, sym}
 use Rattle.mm_play.proofs.Below.{ap, append_assoc, arith, inl, inr, length-take, take-append-drop, ReplayFault, Memory, BadLine, LineLong}
 use Rattle.mm_play.proofs.Below.{TooMuch, longest_line, LineRefusal, refusal_at, stopped_outcome, outcome_of_rest, HoldsOfWhole}
-use Rattle.mm_play.proofs.Below.{PlayerAnswers, TurnPlays, TurnAdvances, ◌≢◌}
-use Rattle.mm_play.proofs.Below.{length, subst, append-nil, Appends-trans, Consumes-nil, IsUnbroken, ReadFault, WriteFault, PlayOutcome}
-use Rattle.mm_play.proofs.Below.{outcome_after_bytes, IsFrontOf, SendsDue, SendsAndAnswers, IsSent, PlaysNext}
+use Rattle.mm_play.proofs.Below.{PlayerAnswers, TurnPlays, TurnAdvances, ◌≢◌, length, subst, append-nil, Appends-trans, Consumes-nil}
+use Rattle.mm_play.proofs.Below.{IsUnbroken, ReadFault, WriteFault, PlayOutcome, outcome_after_bytes, IsFrontOf, SendsDue, SendsAndAnswers}
+use Rattle.mm_play.proofs.Below.{IsSent, PlaysNext}
 use Rattle.mm_base.specs.Lines.{MayGrow}
 use Rattle.mm_base.specs.ReadsNextLine.{ReadsNextLine}
 use Rattle.mm_base.specs.declared.lines.LineFault.{LineFault}

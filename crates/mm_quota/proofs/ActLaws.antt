@@ -1,12 +1,10 @@
 -- What an action does to the bytes of a ledger.
-use Rattle.mm_quota.proofs.Below.{Result, Ok, Err, IfOk, ◌≡◌, ◌+◌, ◌^◌, ◌<◌, ◌≤◌, Bool, true, false, nat_le, List, [], ◌++◌, length}
-use Rattle.mm_quota.proofs.Below.{Option, Some, None, is_some, option_map, if◌then◌else◌, refl, sym, ◌∙◌, ap, arith, subst, nat_tests}
+use Rattle.mm_quota.proofs.Below.{Result, Ok, Err, IfOk, ◌≡◌, ◌+◌, ◌^◌, ◌<◌, ◌≤◌, Bool, true, false, nat_le, List, [], ◌++◌, length, Option}
+use Rattle.mm_quota.proofs.Below.{Some, None, is_some, option_map, if◌then◌else◌, refl, sym, ◌∙◌, ap, arith, subst, nat_tests}
 use Rattle.mm_quota.proofs.Below.{LedgerAccount, LedgerAction, LedgerRequest, On, LedgerOutput, account_of_name, accounts_with, decision_of}
-use Rattle.mm_quota.proofs.Below.{is_name, is_account, request_of}
-use Rattle.mm_quota.proofs.Below.{is_rising_from, account_bytes, body_of, count_bytes, is_state, ledger_of, outcome_of_bytes}
-use Rattle.mm_quota.proofs.Below.{greatest_limit, IsFoundIfAny}
-use Rattle.mm_quota.proofs.Below.{account_of_name-found, length-after, put-place, is_state-SpellsLedger, IsAccount-from}
-use Rattle.mm_quota.proofs.Below.{IsSpelled, as_account}
+use Rattle.mm_quota.proofs.Below.{is_name, is_account, request_of, is_rising_from, account_bytes, body_of, count_bytes, is_state, ledger_of}
+use Rattle.mm_quota.proofs.Below.{outcome_of_bytes, greatest_limit, IsFoundIfAny, account_of_name-found, length-after, put-place}
+use Rattle.mm_quota.proofs.Below.{is_state-SpellsLedger, IsAccount-from, IsSpelled, as_account}
 use Rattle.std.specs.Prelude.{ℕ, min}
 use Rattle.mm_quota.specs.Table.{spelling_of}
 use Rattle.mm_quota.specs.QuotaLaws.{IsAction, IsQuotaRequest, request_of-IsQuotaRequest, IsPutIfAny, IsPut, decision_of-is}

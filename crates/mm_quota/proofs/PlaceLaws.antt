@@ -1,11 +1,11 @@
 -- Going through the accounts of a ledger.
-use Rattle.mm_quota.proofs.Below.{◌≡◌, suc, ◌+◌, ◌^◌, ◌<◌, ◌≤◌, ◌&&◌, Bool, true, false, nat_le, List, [], ◌∷◌, ◌++◌, length, take}
-use Rattle.mm_quota.proofs.Below.{drop, Option, Some, None, option_map, option_and_then, refl, sym, ◌∙◌, ap, arith, subst, append_assoc}
+use Rattle.mm_quota.proofs.Below.{◌≡◌, suc, ◌+◌, ◌^◌, ◌<◌, ◌≤◌, ◌&&◌, Bool, true, false, nat_le, List, [], ◌∷◌, ◌++◌, length, take, drop}
+use Rattle.mm_quota.proofs.Below.{Option, Some, None, option_map, option_and_then, refl, sym, ◌∙◌, ap, arith, subst, append_assoc}
 use Rattle.mm_quota.proofs.Below.{length-append, nat_tests, and-true, LedgerAccount, order_of, account_of_name, accounts_with, used_total}
-use Rattle.mm_quota.proofs.Below.{is_account, is_rising_from}
-use Rattle.mm_quota.proofs.Below.{account_bytes, body_of, account_at, accounts_from, count_of_bytes, holds_ledger, ledger_of}
-use Rattle.mm_quota.proofs.Below.{used_total-le, account_of_name-other, account_of_name-this, account_of_name-absent, bytes_eq-order}
-use Rattle.mm_quota.proofs.Below.{account_at-account_bytes, ReadsBody, accounts_from-reads, IsSpelled, has_rising_from}
+use Rattle.mm_quota.proofs.Below.{is_account, is_rising_from, account_bytes, body_of, account_at, accounts_from, count_of_bytes}
+use Rattle.mm_quota.proofs.Below.{holds_ledger, ledger_of, used_total-le, account_of_name-other, account_of_name-this}
+use Rattle.mm_quota.proofs.Below.{account_of_name-absent, bytes_eq-order, account_at-account_bytes, ReadsBody, accounts_from-reads}
+use Rattle.mm_quota.proofs.Below.{IsSpelled, has_rising_from}
 use Rattle.std.specs.Prelude.{ℕ, ◌-◌}
 use Rattle.std.specs.declared.cmp.Ordering.{Ordering}
 use Rattle.std.specs.declared.cmp.Ordering.TheVariants.{Less, Equal, Greater}

@@ -1,11 +1,9 @@
 -- Receipts that aren't forged never clash: each known pair is one, and two of one position are equal.
-use Rattle.mm_receipt.proofs.Below.{◌≡◌, ◌∙◌, ◌+◌, ◌≤◌, ◌==◌, ◌++◌, ℕ, Bool, true, false, cond, nat_lt, List, [], ◌∷◌}
-use Rattle.mm_receipt.proofs.Below.{length, Option, Some, None, Result, Ok, Err, refl, sym, ap, subst, arith}
-use Rattle.mm_receipt.proofs.Below.{first_answered, receipts-true, no-clash, AskedRequest, CheckTally, CheckState, pair_at}
-use Rattle.mm_receipt.proofs.Below.{request_by_space}
-use Rattle.mm_receipt.proofs.Below.{is_too_much, known_at, verdict_against, receipt_verdict, pair_verdict, verdict_text, tally_after_pair}
-use Rattle.mm_receipt.proofs.Below.{first_answer_by}
-use Rattle.mm_receipt.proofs.Below.{reply_of_first, reply_of_second, receipts_answer, first_tally}
+use Rattle.mm_receipt.proofs.Below.{◌≡◌, ◌∙◌, ◌+◌, ◌≤◌, ◌==◌, ◌++◌, ℕ, Bool, true, false, cond, nat_lt, List, [], ◌∷◌, length, Option, Some}
+use Rattle.mm_receipt.proofs.Below.{None, Result, Ok, Err, refl, sym, ap, subst, arith, first_answered, receipts-true, no-clash}
+use Rattle.mm_receipt.proofs.Below.{AskedRequest, CheckTally, CheckState, pair_at, request_by_space, is_too_much, known_at, verdict_against}
+use Rattle.mm_receipt.proofs.Below.{receipt_verdict, pair_verdict, verdict_text, tally_after_pair, first_answer_by, reply_of_first}
+use Rattle.mm_receipt.proofs.Below.{reply_of_second, receipts_answer, first_tally}
 use Rattle.std.specs.Prelude.{if◌then◌else◌}
 use Rattle.std.specs.BTreeMap.{is_at, insert_entry}
 use Rattle.std.specs.List.{AllByRecursion, position}

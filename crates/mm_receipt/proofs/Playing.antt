@@ -1,9 +1,7 @@
 -- What a check does with a line, with the end of an input, and with a whole input.
 use Rattle.mm_receipt.proofs.Below.{◌≡◌, ◌∙◌, ℕ, List, ◌++◌, Option, Some, None, Result, Ok, Err, ap, LineRefusal, plays_err, tells}
-use Rattle.mm_receipt.proofs.Below.{AskedRequest}
-use Rattle.mm_receipt.proofs.Below.{CheckTally, CheckState, second_answer, reply_of_second, receipts_answer, receipts_closing, closing_at}
-use Rattle.mm_receipt.proofs.Below.{last_line}
-use Rattle.mm_receipt.proofs.Below.{first_check}
+use Rattle.mm_receipt.proofs.Below.{AskedRequest, CheckTally, CheckState, second_answer, reply_of_second, receipts_answer, receipts_closing}
+use Rattle.mm_receipt.proofs.Below.{closing_at, last_line, first_check}
 use Rattle.mm_base.specs.declared.replay_fault.ReplayFault.{ReplayFault}
 use Rattle.mm_play.specs.declared.player.ReplyFault.{ReplyFault}
 use Rattle.mm_play.specs.declared.player.ReplyFault.TheVariants as fault

@@ -1,7 +1,6 @@
 -- A line of at most 4,096 bytes isn't too long to be asked, and its record fits a slot.
 use Rattle.mm_recovery.proofs.Below.{ℕ, ◌≡◌, ◌≢◌, false, List, length, refl, arith, nat_lt, list_any, nat_tests, longest_request, One}
-use Rattle.mm_recovery.proofs.Below.{is_long}
-use Rattle.mm_recovery.proofs.Below.{◌+◌, ◌≤◌, ap, length-append, length-sha256, PendingRecord, length-pending_front}
+use Rattle.mm_recovery.proofs.Below.{is_long, ◌+◌, ◌≤◌, ap, length-append, length-sha256, PendingRecord, length-pending_front}
 use Rattle.std.proofs.lemmas.List.Folds.{list_any_none}
 use Rattle.mm_base.specs.Lines.{MayGrow}
 use Rattle.mm_model.specs.LongWords.{is_lf}

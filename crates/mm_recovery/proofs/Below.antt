@@ -30,8 +30,7 @@ pub use Rattle.mm_model.specs.BatchLaws.{before_the_last, total-push}
 pub use Rattle.mm_model.specs.Chains.{guard, register_of}
 pub use Rattle.mm_model.specs.Fit.{IsFit}
 pub use Rattle.mm_model.specs.History.{Commit, history_after_commit, RegisterEntry, first_history, Foreign, History, items_of_all, Move}
-pub use Rattle.mm_model.specs.History.{history_after, with_last_batch, requests_of}
-pub use Rattle.mm_model.specs.History.{Reset, total_of, Value}
+pub use Rattle.mm_model.specs.History.{history_after, with_last_batch, requests_of, Reset, total_of, Value}
 pub use Rattle.mm_model.specs.Instance.{Instance}
 pub use Rattle.mm_model.specs.InstanceWords.{basic_instance, opt_instance}
 pub use Rattle.mm_model.specs.Life.{are_own, has_value, is_empty, is_lost, Life, life_by, life_of, Lost as LostLife}
@@ -84,17 +83,14 @@ pub use Rattle.mm_recovery.specs.HostCall.{IsCall}
 pub use Rattle.mm_recovery.specs.FirstStart.{InstanceBegins, BlamesDevice, first_history_on, first_slots, IsFirstStore, InitLeaves}
 pub use Rattle.mm_recovery.specs.FirstStart.{ShowsValues, TellsUse}
 pub use Rattle.mm_recovery.specs.CellWrites.{CallWrites, is_open_after, IsNewAt, IsNewOf, LeavesFlag, LeavesOpen, new_requests_by}
-pub use Rattle.mm_recovery.specs.CellWrites.{new_requests_at, openings}
-pub use Rattle.mm_recovery.specs.CellWrites.{RequestWrites, TellsFlag, WritesByOpening, WritesFor}
+pub use Rattle.mm_recovery.specs.CellWrites.{new_requests_at, openings, RequestWrites, TellsFlag, WritesByOpening, WritesFor}
 pub use Rattle.mm_recovery.specs.Faults.{refusal_fault, store_fault_as}
 pub use Rattle.mm_recovery.specs.SlotFit.{first_offer, FitsBy, FitsHistory, IsSnapshotAt, IsAwaited, offer_slot}
 pub use Rattle.mm_recovery.specs.Init.{GoesAfterLooking, GoesAfterAllPuts, GoesAfterTaking, Devices, first_puts, InitGoes, instance_from}
-pub use Rattle.mm_recovery.specs.Init.{LooksAtCell, SlotPut}
-pub use Rattle.mm_recovery.specs.Init.{PutsAll, SetsUp, TakesBytes, result_of_write}
+pub use Rattle.mm_recovery.specs.Init.{LooksAtCell, SlotPut, PutsAll, SetsUp, TakesBytes, result_of_write}
 pub use Rattle.mm_recovery.specs.NextRequest.{GoesAfterRecord, AsksNext}
 pub use Rattle.mm_recovery.specs.Recovery.{AnswersAt, AsksIdly, CanRecover, ResumeComesTo, IsAskedFor, IsGrown, IsRefusedAs}
-pub use Rattle.mm_recovery.specs.Recovery.{MayHaveCommitted}
-pub use Rattle.mm_recovery.specs.Recovery.{HostRecovers, RecoversTo}
+pub use Rattle.mm_recovery.specs.Recovery.{MayHaveCommitted, HostRecovers, RecoversTo}
 pub use Rattle.mm_recovery.specs.Resumption.{GoesAfterAsk, GoesAfterFinding, GoesAfterOffer, GoesAfterThree, GoesAfterTwo, result_of_keep}
 pub use Rattle.mm_recovery.specs.Resumption.{HostResumes, result_of_start}
 pub use Rattle.mm_recovery.specs.WaitingRequest.{IsWaiting, later_record}

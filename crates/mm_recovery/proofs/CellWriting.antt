@@ -1,14 +1,12 @@
 -- How often calls are to write the cell, and what flag they leave: one of either core, and calls one after another.
 use Rattle.mm_recovery.proofs.Below.{◌≡◌, ◌∙◌, ◌+◌, ◌≤◌, ℕ, zero, suc, Bool, true, false, List, Some, Ok, refl, sym, ap, inl, inr, arith}
 use Rattle.mm_recovery.proofs.Below.{◌⊎◌, next_count, Variant, Basic, Opt, Standing, Answer, count_after_more, WritesAtMostOnce, LeavesOpen}
-use Rattle.mm_recovery.proofs.Below.{TellsFlag}
-use Rattle.mm_recovery.proofs.Below.{WritesByOpening, WritesFor, is_open_after, openings, Option, None, Result, Err, StepFault, cell_after}
-use Rattle.mm_recovery.proofs.Below.{Meaning, Batch, PartsFault, IsCell, ReadsCell, SpellsCell, cell_spelling, Snapshot, BatchAnswer}
-use Rattle.mm_recovery.proofs.Below.{Refusal}
-use Rattle.mm_recovery.proofs.Below.{Memory, Device, is_long, batch_answer_of, batch_result_of, AskResult, goes_on, breaks_off}
-use Rattle.mm_recovery.proofs.Below.{EndsByFinding, result_of, acts_for, answer_in}
-use Rattle.mm_recovery.proofs.Below.{fault_of, IsOrMemory, refused_result, CallReads, Long, StepsRefused, StepsBy, opt_call}
-use Rattle.mm_recovery.proofs.Below.{StepsAnswered, StepsFrom, CallWrites, IsNewAt, LeavesFlag, new_requests_by, [], ◌∷◌}
+use Rattle.mm_recovery.proofs.Below.{TellsFlag, WritesByOpening, WritesFor, is_open_after, openings, Option, None, Result, Err, StepFault}
+use Rattle.mm_recovery.proofs.Below.{cell_after, Meaning, Batch, PartsFault, IsCell, ReadsCell, SpellsCell, cell_spelling, Snapshot}
+use Rattle.mm_recovery.proofs.Below.{BatchAnswer, Refusal, Memory, Device, is_long, batch_answer_of, batch_result_of, AskResult, goes_on}
+use Rattle.mm_recovery.proofs.Below.{breaks_off, EndsByFinding, result_of, acts_for, answer_in, fault_of, IsOrMemory, refused_result}
+use Rattle.mm_recovery.proofs.Below.{CallReads, Long, StepsRefused, StepsBy, opt_call, StepsAnswered, StepsFrom, CallWrites, IsNewAt}
+use Rattle.mm_recovery.proofs.Below.{LeavesFlag, new_requests_by, [], ◌∷◌}
 use Rattle.mm_platform.specs.Steps.{Act}
 use Rattle.mm_machine.specs.Acts.{remaining_acts}
 use Rattle.mm_call.specs.CallKind.{AreStepsToEnd}

@@ -1,11 +1,10 @@
 -- What each exit of a recovery, and of one more request, is told as: whose fault it is, and how often the cell was to be written.
-use Rattle.mm_recovery.proofs.Below.{ℕ, ◌≡◌, ◌≢◌, ◌≤◌, Bool, List, Option, None, Some, Result, Ok, Err, refl, sym, ap, ◌∙◌}
-use Rattle.mm_recovery.proofs.Below.{arith, Variant, Standing, Meaning, Answer, Refusal, Long, CountsHandedFault, fault_of}
-use Rattle.mm_recovery.proofs.Below.{StoreFault, CountsFailures, StoreStanding, PendingRecord, HostFault, Resumed, store_fault_as}
-use Rattle.mm_recovery.proofs.Below.{refusal_fault}
-use Rattle.mm_recovery.proofs.Below.{GoesAfterRecord, AsksNext, GoesAfterTwo, result_of_start, result_of_keep, GoesAfterAsk, GoesAfterOffer}
-use Rattle.mm_recovery.proofs.Below.{GoesAfterFinding, HostResumes}
-use Rattle.mm_recovery.proofs.Below.{IsCall, CallWrites, WritesFor, new_requests_by, IsNewOf, RequestWrites, new_requests_at}
+use Rattle.mm_recovery.proofs.Below.{ℕ, ◌≡◌, ◌≢◌, ◌≤◌, Bool, List, Option, None, Some, Result, Ok, Err, refl, sym, ap, ◌∙◌, arith, Variant}
+use Rattle.mm_recovery.proofs.Below.{Standing, Meaning, Answer, Refusal, Long, CountsHandedFault, fault_of, StoreFault, CountsFailures}
+use Rattle.mm_recovery.proofs.Below.{StoreStanding, PendingRecord, HostFault, Resumed, store_fault_as, refusal_fault, GoesAfterRecord}
+use Rattle.mm_recovery.proofs.Below.{AsksNext, GoesAfterTwo, result_of_start, result_of_keep, GoesAfterAsk, GoesAfterOffer}
+use Rattle.mm_recovery.proofs.Below.{GoesAfterFinding, HostResumes, IsCall, CallWrites, WritesFor, new_requests_by, IsNewOf, RequestWrites}
+use Rattle.mm_recovery.proofs.Below.{new_requests_at}
 use Rattle.mm_recovery.specs.Blame.{BlamesHostFault, IsNamed}
 use Rattle.mm_recovery.proofs.CellWriting.{AnsweredWrites, LeadsOver, leads_answer, leads_rest, rests}
 use Rattle.mm_model.specs.declared.refusal.Refusal.TheVariants as refusal

@@ -1,20 +1,15 @@
 -- What one call for a request comes to by lists, in either variant.
 use Rattle.mm_recovery.proofs.Below.{arith, ◌≡◌, ◌≢◌, ℕ, List, [], ◌∷◌, ◌++◌, Option, None, Some, Result, Ok, Err, refl, ◌∙◌, subst, inl}
-use Rattle.mm_recovery.proofs.Below.{inr}
-use Rattle.mm_recovery.proofs.Below.{Variant, Basic, Opt, Item, Standing, StepFault, Meaning, IsLawful, Batch, One, Content, Instance}
-use Rattle.mm_recovery.proofs.Below.{basic_instance}
-use Rattle.mm_recovery.proofs.Below.{opt_instance, History, Commit, history_after, Life, LostLife, life_of, digests_of, NamesPosition}
-use Rattle.mm_recovery.proofs.Below.{StandsFor, BatchAnswer, Refusal}
-use Rattle.mm_recovery.proofs.Below.{Memory, IsAsked, IsWithin, call_outcome, result_of_ending, CallContinues, IsCallOnCourse, Course}
-use Rattle.mm_recovery.proofs.Below.{finding_at, list_level, ◌⊎◌}
-use Rattle.mm_recovery.proofs.Below.{digest_level, AreAsked, AreShown, IsIdle, fault_of, stands_at, bare, asked_for, asked_idle}
-use Rattle.mm_recovery.proofs.Below.{basic_asked}
-use Rattle.mm_recovery.proofs.Below.{names_made, basic_comes, comes, HistoryGrows, Alike, alike_call, names_after, answered_clean_as}
-use Rattle.mm_recovery.proofs.Below.{PendingRecord, IsRefusedAs, Bool, true, false, map, guard, RegisterEntry, Value, Move, Foreign, Reset}
+use Rattle.mm_recovery.proofs.Below.{inr, Variant, Basic, Opt, Item, Standing, StepFault, Meaning, IsLawful, Batch, One, Content, Instance}
+use Rattle.mm_recovery.proofs.Below.{basic_instance, opt_instance, History, Commit, history_after, Life, LostLife, life_of, digests_of}
+use Rattle.mm_recovery.proofs.Below.{NamesPosition, StandsFor, BatchAnswer, Refusal, Memory, IsAsked, IsWithin, call_outcome}
+use Rattle.mm_recovery.proofs.Below.{result_of_ending, CallContinues, IsCallOnCourse, Course, finding_at, list_level, ◌⊎◌, digest_level}
+use Rattle.mm_recovery.proofs.Below.{AreAsked, AreShown, IsIdle, fault_of, stands_at, bare, asked_for, asked_idle, basic_asked, names_made}
+use Rattle.mm_recovery.proofs.Below.{basic_comes, comes, HistoryGrows, Alike, alike_call, names_after, answered_clean_as, PendingRecord}
+use Rattle.mm_recovery.proofs.Below.{IsRefusedAs, Bool, true, false, map, guard, RegisterEntry, Value, Move, Foreign, Reset}
 use Rattle.mm_recovery.proofs.Below.{history_after_commit, items_of_all, with_last_batch, are_own, has_value, is_empty, life_by, IsAllowed}
-use Rattle.mm_recovery.proofs.Below.{ask_steps, CallFinding}
-use Rattle.mm_recovery.proofs.Below.{finding_unless_wanting, is_fresh, state_after_moves, before, AllMay, ask_may, last_position, total_of}
-use Rattle.mm_recovery.proofs.Below.{◌≤◌}
+use Rattle.mm_recovery.proofs.Below.{ask_steps, CallFinding, finding_unless_wanting, is_fresh, state_after_moves, before, AllMay, ask_may}
+use Rattle.mm_recovery.proofs.Below.{last_position, total_of, ◌≤◌}
 use Rattle.mm_call.specs.ShownItems.{standing_items}
 use Rattle.mm_recovery.proofs.Refusing.{grows, MayRefuse, IsOffered, offered_then, found_refused, has_room, keeps_refused, judged_refused}
 use Rattle.mm_recovery.proofs.Slots.{IsIssued, issued_in_basic, issued_in_opt}

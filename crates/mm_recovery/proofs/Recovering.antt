@@ -1,20 +1,13 @@
 -- Every exit of a recovery leaves slots that fit the history.
 use Rattle.mm_recovery.proofs.Below.{arith, ◌≡◌, ℕ, ◌-◌, ◌%◌, true, List, Option, None, Some, Result, Ok, Err, refl, sym, ap, ◌∙◌, subst}
-use Rattle.mm_recovery.proofs.Below.{inl}
-use Rattle.mm_recovery.proofs.Below.{◌≤◌, IfOk, ◌⊎◌, Variant, Basic, Opt, Standing, Meaning, IsLawful, Batch, One, Instance, basic_instance}
-use Rattle.mm_recovery.proofs.Below.{opt_instance, inr}
-use Rattle.mm_recovery.proofs.Below.{History, total_of, StandsFor, Answer, BatchAnswer, life_of, Refusal, batch_answer_of, batch_result_of}
-use Rattle.mm_recovery.proofs.Below.{AreAsked, fault_of}
-use Rattle.mm_recovery.proofs.Below.{StepFault, StoreFault, ReadsSlot, WritesSlot, slots_with_bytes, StoreStanding, PendingRecord, Slots}
-use Rattle.mm_recovery.proofs.Below.{slot_front, slots_with}
-use Rattle.mm_recovery.proofs.Below.{last_position, IsFit, HostFault, Resumed, Start, store_fault_as, refusal_fault, IsWaiting}
-use Rattle.mm_recovery.proofs.Below.{result_of_start}
-use Rattle.mm_recovery.proofs.Below.{result_of_keep, GoesAfterAsk, GoesAfterOffer, GoesAfterFinding, HostResumes, IsCall, offer_slot}
-use Rattle.mm_recovery.proofs.Below.{IsSnapshotAt, FitsBy, IsAskedFor}
-use Rattle.mm_recovery.proofs.Below.{AnswersAt, CanRecover, IsGrown, AsksIdly, ResumeComesTo, MayHaveCommitted, HostRecovers, RecoversTo}
-use Rattle.mm_recovery.proofs.Below.{one_reading}
-use Rattle.mm_recovery.proofs.Below.{GoesAfterTwo, GoesAfterThree}
-use Rattle.mm_recovery.proofs.Below.{FitsHistory, IsWithin}
+use Rattle.mm_recovery.proofs.Below.{inl, ◌≤◌, IfOk, ◌⊎◌, Variant, Basic, Opt, Standing, Meaning, IsLawful, Batch, One, Instance}
+use Rattle.mm_recovery.proofs.Below.{basic_instance, opt_instance, inr, History, total_of, StandsFor, Answer, BatchAnswer, life_of, Refusal}
+use Rattle.mm_recovery.proofs.Below.{batch_answer_of, batch_result_of, AreAsked, fault_of, StepFault, StoreFault, ReadsSlot, WritesSlot}
+use Rattle.mm_recovery.proofs.Below.{slots_with_bytes, StoreStanding, PendingRecord, Slots, slot_front, slots_with, last_position, IsFit}
+use Rattle.mm_recovery.proofs.Below.{HostFault, Resumed, Start, store_fault_as, refusal_fault, IsWaiting, result_of_start, result_of_keep}
+use Rattle.mm_recovery.proofs.Below.{GoesAfterAsk, GoesAfterOffer, GoesAfterFinding, HostResumes, IsCall, offer_slot, IsSnapshotAt, FitsBy}
+use Rattle.mm_recovery.proofs.Below.{IsAskedFor, AnswersAt, CanRecover, IsGrown, AsksIdly, ResumeComesTo, MayHaveCommitted, HostRecovers}
+use Rattle.mm_recovery.proofs.Below.{RecoversTo, one_reading, GoesAfterTwo, GoesAfterThree, FitsHistory, IsWithin}
 use Rattle.mm_recovery.specs.LastAnswer.{position_at, snapshot_at}
 use Rattle.mm_recovery.specs.declared.resuming.Resumed.TheVariants.{Answered}
 use Rattle.mm_recovery.proofs.Slots.{IsElsewhere, elsewhere_same, elsewhere_put, seen_put, holds_issued}

@@ -1,16 +1,13 @@
 -- What a call for the request that waits makes of the history, and why it is refused.
 use Rattle.mm_recovery.proofs.Below.{◌≡◌, ℕ, ◌+◌, ◌-◌, ◌≤◌, true, false, List, [], ◌∷◌, ◌++◌, Result, Ok, refl, sym, ap, ◌∙◌, subst, arith}
-use Rattle.mm_recovery.proofs.Below.{inl}
-use Rattle.mm_recovery.proofs.Below.{inr, ◌⊎◌, nat_eq, nat_tests, Batch, One, Content, Instance, History, total_of, IsRight, total-push}
-use Rattle.mm_recovery.proofs.Below.{BatchAnswer, Refusal, HistoryGrows, kept, grown, one_content, PendingRecord, IsSnapshotAt, IsAwaited}
-use Rattle.mm_recovery.proofs.Below.{Some, Answer, batch_answer_of}
-use Rattle.mm_recovery.proofs.Below.{AnswersAt, NamesPosition, IsGenuine, Bool, ◌&&◌, map, Option, None, Err, if◌then◌else◌}
-use Rattle.mm_recovery.proofs.Below.{last_position, Variant, StepFault, Snapshot, tag_of, offered_snapshot_of, PartsFault, Move, Foreign}
-use Rattle.mm_recovery.proofs.Below.{Life, life_of, is_lost, Reads, ask_steps, Memory, Lost, before_the_last}
+use Rattle.mm_recovery.proofs.Below.{inl, inr, ◌⊎◌, nat_eq, nat_tests, Batch, One, Content, Instance, History, total_of, IsRight}
+use Rattle.mm_recovery.proofs.Below.{total-push, BatchAnswer, Refusal, HistoryGrows, kept, grown, one_content, PendingRecord, IsSnapshotAt}
+use Rattle.mm_recovery.proofs.Below.{IsAwaited, Some, Answer, batch_answer_of, AnswersAt, NamesPosition, IsGenuine, Bool, ◌&&◌, map, Option}
+use Rattle.mm_recovery.proofs.Below.{None, Err, if◌then◌else◌, last_position, Variant, StepFault, Snapshot, tag_of, offered_snapshot_of}
+use Rattle.mm_recovery.proofs.Below.{PartsFault, Move, Foreign, Life, life_of, is_lost, Reads, ask_steps, Memory, Lost, before_the_last}
 use Rattle.mm_recovery.proofs.Below.{call_ending_by, result_of_ending, call_outcome, Course, End, StepFate, StepsWalk, walk, walk_from_step}
-use Rattle.mm_recovery.proofs.Below.{moves_seen, state_seen}
-use Rattle.mm_recovery.proofs.Below.{reading_steps, CallFinding, finding_by_verdict, finding_at, finding_with, finding_unless_wanting}
-use Rattle.mm_recovery.proofs.Below.{is_fresh, list_level}
+use Rattle.mm_recovery.proofs.Below.{moves_seen, state_seen, reading_steps, CallFinding, finding_by_verdict, finding_at, finding_with}
+use Rattle.mm_recovery.proofs.Below.{finding_unless_wanting, is_fresh, list_level}
 use Rattle.mm_call.specs.Levels.{Level}
 use Rattle.mm_recovery.proofs.Below.{state_after_moves, check_of_verdict, same_batches, seen_none, fault_of, IsWaiting}
 use Rattle.mm_recovery.proofs.Below.{IsRefusedAs, call_commits, fresh_found, unlacked, found_with_tells, weighed_tells, unless_lost}

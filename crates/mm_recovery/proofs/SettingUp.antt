@@ -2,20 +2,14 @@
 use Rattle.mm_recovery.proofs.Below.{◌≡◌, ℕ, ◌+◌, ◌<◌, ◌≤◌, List, length, take, drop, Option, Ok, sym, ap, ◌∙◌, subst, arith, take-add}
 use Rattle.mm_recovery.proofs.Below.{Consumes, IsAtEnd, Consumes-both, TakesBytes, Bool, true, false, [], ◌∷◌, map, None, Some, Result, Err}
 use Rattle.mm_recovery.proofs.Below.{refl, inl, inr, ◌⊎◌, length-take, length-drop, option_map, CountRose, Variant, Basic, Opt}
-use Rattle.mm_recovery.proofs.Below.{length-zero_bytes}
-use Rattle.mm_recovery.proofs.Below.{Meaning, IsLawful, blank_cell, cell_spelling, StepFault, Item, Standing, item_values, folded_of}
-use Rattle.mm_recovery.proofs.Below.{WriteCell}
-use Rattle.mm_recovery.proofs.Below.{DeviceStepEnds, cell_after, register_of, Value, first_history, StandsFor, cell_of, issued_bytes}
-use Rattle.mm_recovery.proofs.Below.{Instance}
-use Rattle.mm_recovery.proofs.Below.{instance_by, StoreFault, StoreStanding, Slots, slots_with, CountsFailures, slots_with_bytes, InitFault}
-use Rattle.mm_recovery.proofs.Below.{Devices}
-use Rattle.mm_recovery.proofs.Below.{LooksAtCell, instance_from, SlotPut, first_puts, PutsAll, result_of_write, GoesAfterAllPuts, SetsUp}
-use Rattle.mm_recovery.proofs.Below.{GoesAfterTaking}
-use Rattle.mm_recovery.proofs.Below.{GoesAfterLooking, InitGoes, first_history_on, ShowsValues, InstanceBegins, InitLeaves, TellsUse}
-use Rattle.mm_recovery.proofs.Below.{BlamesDevice, take-nil, take_all}
+use Rattle.mm_recovery.proofs.Below.{length-zero_bytes, Meaning, IsLawful, blank_cell, cell_spelling, StepFault, Item, Standing}
+use Rattle.mm_recovery.proofs.Below.{item_values, folded_of, WriteCell, DeviceStepEnds, cell_after, register_of, Value, first_history}
+use Rattle.mm_recovery.proofs.Below.{StandsFor, cell_of, issued_bytes, Instance, instance_by, StoreFault, StoreStanding, Slots, slots_with}
+use Rattle.mm_recovery.proofs.Below.{CountsFailures, slots_with_bytes, InitFault, Devices, LooksAtCell, instance_from, SlotPut, first_puts}
+use Rattle.mm_recovery.proofs.Below.{PutsAll, result_of_write, GoesAfterAllPuts, SetsUp, GoesAfterTaking, GoesAfterLooking, InitGoes}
+use Rattle.mm_recovery.proofs.Below.{first_history_on, ShowsValues, InstanceBegins, InitLeaves, TellsUse, BlamesDevice, take-nil, take_all}
 use Rattle.mm_recovery.proofs.Below.{Contains, start_message, Batch, basic_instance, opt_instance, IsSound, IsWithin, ReadsPending}
-use Rattle.mm_recovery.proofs.Below.{longest_slot, slot_front}
-use Rattle.mm_recovery.proofs.Below.{reads_none-short, longest_slot-is, IsWaiting, first_slots, IsFirstStore}
+use Rattle.mm_recovery.proofs.Below.{longest_slot, slot_front, reads_none-short, longest_slot-is, IsWaiting, first_slots, IsFirstStore}
 use Rattle.std.proofs.lemmas.List.{length-take}
 use Rattle.std.specs.List.{fold}
 use Rattle.std.specs.Result.{result_err}

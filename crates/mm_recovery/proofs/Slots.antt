@@ -1,16 +1,13 @@
 -- What slots hold: what a history issues names its end, and a snapshot fits; and slots that fit go on to fit.
 use Rattle.mm_recovery.proofs.Below.{◌≡◌, ◌≤◌, ℕ, Bool, false, List, refl, sym, last_position, Variant, Basic, Opt, Meaning, IsLawful}
 use Rattle.mm_recovery.proofs.Below.{IsContent, variant_of, Instance, basic_instance, opt_instance, History, items_of_all, requests_of}
-use Rattle.mm_recovery.proofs.Below.{total_of, has_value, NamesPosition}
-use Rattle.mm_recovery.proofs.Below.{content_of_issue, issued_place, IsSound, issued_bytes, basic_issued, opt_issued, basic_content}
-use Rattle.mm_recovery.proofs.Below.{opt_content, IsSnapshotAt}
-use Rattle.mm_recovery.proofs.Below.{◌-◌, ◌%◌, length, take, ap, ◌∙◌, arith, inl, inr, ◌⊎◌, take_all, PendingRecord, Slots, longest_slot}
-use Rattle.mm_recovery.proofs.Below.{slots_with}
-use Rattle.mm_recovery.proofs.Below.{slot_front, longest_slot-is, slot_in-with_slot, offer_slot, [], ◌∷◌, Option, None, Some, subst}
-use Rattle.mm_recovery.proofs.Below.{Contains}
+use Rattle.mm_recovery.proofs.Below.{total_of, has_value, NamesPosition, content_of_issue, issued_place, IsSound, issued_bytes}
+use Rattle.mm_recovery.proofs.Below.{basic_issued, opt_issued, basic_content, opt_content, IsSnapshotAt, ◌-◌, ◌%◌, length, take, ap, ◌∙◌}
+use Rattle.mm_recovery.proofs.Below.{arith, inl, inr, ◌⊎◌, take_all, PendingRecord, Slots, longest_slot, slots_with, slot_front}
+use Rattle.mm_recovery.proofs.Below.{longest_slot-is, slot_in-with_slot, offer_slot, [], ◌∷◌, Option, None, Some, subst, Contains}
 use Rattle.mm_recovery.proofs.Below.{start_message, Content, Move, history_after, IsGenuine, basic_names, opt_names, has_commit}
-use Rattle.mm_recovery.proofs.Below.{instance_by}
-use Rattle.mm_recovery.proofs.Below.{first_offer, FitsBy, instance_from, first_history_on, first_slots, IsFirstStore, IsAskedFor}
+use Rattle.mm_recovery.proofs.Below.{instance_by, first_offer, FitsBy, instance_from, first_history_on, first_slots, IsFirstStore}
+use Rattle.mm_recovery.proofs.Below.{IsAskedFor}
 use Rattle.mm_module.specs.RunLaws.{state_after-is_spelled}
 use Rattle.mm_recovery.proofs.Refusing.{awaited_then, genuine_by, holds_on}
 use Rattle.mm_recovery.specs.SlotLaws.{FitsWith, MayCome, KeepsFitting, FittingAreGenuine, StaysGenuine, FirstStartsCanGoOn}

@@ -4,8 +4,8 @@ use Rattle.std.specs.Io.KnownBytes.{Consumes}
 use Rattle.std.specs.List.{Contains}
 use Rattle.std.specs.Option.{option_map}
 use Rattle.mm_recovery.specs.Below.{CountRose, start_message, Variant, Basic, Opt, blank_cell, Standing, item_values, Batch, Meaning}
-use Rattle.mm_recovery.specs.Below.{History, Value}
-use Rattle.mm_recovery.specs.Below.{first_history, Instance, StandsFor, issued_bytes, IsWithin, Slots, UnsyncedSlots, synced_slots}
+use Rattle.mm_recovery.specs.Below.{History, Value, first_history, Instance, StandsFor, issued_bytes, IsWithin, Slots, UnsyncedSlots}
+use Rattle.mm_recovery.specs.Below.{synced_slots}
 use Rattle.mm_recovery.specs.declared.init_fault.InitFault.{InitFault}
 use Rattle.mm_recovery.specs.declared.init_fault.InitFault.TheVariants.{Platform, Already, ReadFault, Store}
 use Rattle.mm_recovery.specs.SlotFit.{FitsHistory}

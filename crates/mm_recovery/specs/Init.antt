@@ -5,9 +5,8 @@ use Rattle.std.specs.Prelude.{Err, IfOk, MatchResult, ◌⊎◌}
 use Rattle.std.specs.Io.KnownBytes.{Consumes, IsAtEnd}
 use Rattle.std.specs.Result.{result_err}
 use Rattle.mm_recovery.specs.Below.{CountsFaults, Failed, Variant, blank_cell, cell_spelling, Standing, ReadCell, WriteCell, StepGoes}
-use Rattle.mm_recovery.specs.Below.{StepFault}
-use Rattle.mm_recovery.specs.Below.{Meaning, first_history, Instance, cell_of, issued_bytes, instance_by, WritesSlot, StoreStanding}
-use Rattle.mm_recovery.specs.Below.{StoreFault}
+use Rattle.mm_recovery.specs.Below.{StepFault, Meaning, first_history, Instance, cell_of, issued_bytes, instance_by, WritesSlot}
+use Rattle.mm_recovery.specs.Below.{StoreStanding, StoreFault}
 use Rattle.mm_recovery.specs.declared.init_fault.InitFault.{InitFault}
 use Rattle.mm_recovery.specs.declared.init_fault.InitFault.TheVariants.{Memory, Platform, Already, ReadFault, Short}
 use Rattle.mm_recovery.specs.InitFaults.{init_fault_as}

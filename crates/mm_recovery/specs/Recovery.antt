@@ -2,12 +2,9 @@
 use Rattle.std.specs.Prelude.{◌≡◌, ◌≢◌, ℕ, true, List, [], ◌∷◌, ◌++◌, Option, None, Some, Result, Ok, Err, nat_eq, ◌⊎◌, ◌%◌, IfOk, IsSome}
 use Rattle.std.specs.List.{Contains}
 use Rattle.mm_recovery.specs.Below.{Variant, Basic, Opt, Item, Standing, Batch, One, Meaning, History, total_of, Instance, basic_instance}
-use Rattle.mm_recovery.specs.Below.{opt_instance, Life}
-use Rattle.mm_recovery.specs.Below.{Spoiled, LostLife, life_of, AreMessagesIn, IsClear, AreNoGuards, StandsFor, Answer, Refusal, Device}
-use Rattle.mm_recovery.specs.Below.{Lost, Stale}
-use Rattle.mm_recovery.specs.Below.{answer_on, IsWithin, right_messages, right_content, batch_answer_of, AreShown, IsIdle, fault_of}
-use Rattle.mm_recovery.specs.Below.{standing_items}
-use Rattle.mm_recovery.specs.Below.{StoreStanding, PendingRecord, Slots, slot_front}
+use Rattle.mm_recovery.specs.Below.{opt_instance, Life, Spoiled, LostLife, life_of, AreMessagesIn, IsClear, AreNoGuards, StandsFor, Answer}
+use Rattle.mm_recovery.specs.Below.{Refusal, Device, Lost, Stale, answer_on, IsWithin, right_messages, right_content, batch_answer_of}
+use Rattle.mm_recovery.specs.Below.{AreShown, IsIdle, fault_of, standing_items, StoreStanding, PendingRecord, Slots, slot_front}
 use Rattle.mm_recovery.specs.declared.fault.HostFault.{HostFault}
 use Rattle.mm_recovery.specs.declared.fault.HostFault.TheVariants.{Refused}
 use Rattle.mm_recovery.specs.declared.resuming.Resumed.{Resumed}

@@ -2,8 +2,7 @@
 use Rattle.std.specs.Prelude.{◌≡◌, ℕ, true, false, List, [], ◌∷◌, Option, None, Some}
 use Rattle.std.specs.List.{Contains}
 use Rattle.mm_recovery.specs.Below.{start_message, Variant, Basic, Opt, Batch, Meaning, History, Move, history_after, Instance, IsClear}
-use Rattle.mm_recovery.specs.Below.{AreNoGuards}
-use Rattle.mm_recovery.specs.Below.{MayMove, IsSound, IsGenuine, has_commit, instance_by, PendingRecord, Slots}
+use Rattle.mm_recovery.specs.Below.{AreNoGuards, MayMove, IsSound, IsGenuine, has_commit, instance_by, PendingRecord, Slots}
 use Rattle.mm_recovery.specs.SlotFit.{first_offer, FitsHistory}
 use Rattle.mm_recovery.specs.Init.{Devices, instance_from}
 use Rattle.mm_recovery.specs.FirstStart.{first_history_on, first_slots, ShowsValues, InstanceBegins}

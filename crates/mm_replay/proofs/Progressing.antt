@@ -1,7 +1,6 @@
 -- What an event leaves of a replay.
-use Rattle.mm_replay.proofs.Below.{◌≡◌, ◌∙◌, ◌+◌, ◌-◌, ◌^◌, ◌≤◌, ◌<◌, ℕ, List, length, Some, inl, inr, refl, ap}
-use Rattle.mm_replay.proofs.Below.{subst, arith, Meddle, Stop, reading_steps, course_of}
-use Rattle.mm_replay.proofs.Below.{count_none, Event, Ask, Power, Reply, Digests, WorldState, instance_of}
+use Rattle.mm_replay.proofs.Below.{◌≡◌, ◌∙◌, ◌+◌, ◌-◌, ◌^◌, ◌≤◌, ◌<◌, ℕ, List, length, Some, inl, inr, refl, ap, subst, arith, Meddle, Stop}
+use Rattle.mm_replay.proofs.Below.{reading_steps, course_of, count_none, Event, Ask, Power, Reply, Digests, WorldState, instance_of}
 use Rattle.mm_replay.proofs.Below.{world_after_reading, WorldFollows, EventWantsMemory}
 use Rattle.mm_replay.specs.ReplayEvents.{replay_state_in, KeepsWorld, ReplayLacksMemory}
 use Rattle.mm_replay.specs.Schedule.{replay_state_after, ReplayState, replay_steps}

@@ -1,8 +1,7 @@
 -- A replay shows of events what is told of a whole replay.
 use Rattle.mm_replay.proofs.Below.{◌≡◌, ◌∙◌, ℕ, suc, List, [], ◌∷◌, ◌++◌, length, Option, None, Some, refl, ap, subst, sym, Header, Digests}
 use Rattle.mm_replay.proofs.Below.{Event, end_line, Reply, promises-kept, RunOutcome, outcome_of_events, outcome_by_digests, world_of}
-use Rattle.mm_replay.proofs.Below.{digest_level, sum_by}
-use Rattle.mm_replay.proofs.Below.{meaning_by, option_map}
+use Rattle.mm_replay.proofs.Below.{digest_level, sum_by, meaning_by, option_map}
 use Rattle.std.specs.Prelude.{take}
 use Rattle.std.specs.List.{flat_map}
 use Rattle.std.proofs.Common.{inl, inr}

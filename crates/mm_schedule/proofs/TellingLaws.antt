@@ -1,9 +1,7 @@
 -- Replies tell what was said: a run only grows its requests, and a batch's outputs stand behind those before it.
-use Rattle.mm_schedule.proofs.Below.{IsTold}
-use Rattle.mm_schedule.proofs.Below.{◌≡◌, ℕ, ◌+◌, true, false, List, [], ◌∷◌, ◌++◌, length, drop, refl, sym, ◌∙◌, ap, append_assoc}
+use Rattle.mm_schedule.proofs.Below.{IsTold, ◌≡◌, ℕ, ◌+◌, true, false, List, [], ◌∷◌, ◌++◌, length, drop, refl, sym, ◌∙◌, ap, append_assoc}
 use Rattle.mm_schedule.proofs.Below.{append-nil, slice_get, AllByRecursion, Batch, members_of, Meaning, state_after, outputs_from, Reply}
-use Rattle.mm_schedule.proofs.Below.{Told, IsEventRun, IsRunStep, tellings_from}
-use Rattle.mm_schedule.proofs.Below.{tellings_of, tellings_in, TellsWhatWasSaid}
+use Rattle.mm_schedule.proofs.Below.{Told, IsEventRun, IsRunStep, tellings_from, tellings_of, tellings_in, TellsWhatWasSaid}
 use Rattle.mm_module.specs.RunLaws.{outputs_from-append, length-outputs_from}
 use Rattle.mm_listing.specs.Tellings.{Telling, WasSaid}
 use Rattle.mm_listing.specs.TellingLaws.{drop-next, slice_get-drop}

@@ -2,19 +2,14 @@
 use Rattle.mm_sides.proofs.Below.{ℕ, ◌≡◌, Bool, true, false, List, [], ◌∷◌, ◌++◌, map, Option, None, Some, Result, Ok, Err, refl, sym, ap}
 use Rattle.mm_sides.proofs.Below.{◌∙◌, subst, if◌then◌else◌, AllByRecursion, Contains, Variant, Batch, Meaning, state_after, StepFault}
 use Rattle.mm_sides.proofs.Below.{Meddle, Stop, Content, sealed_snapshot_of, Instance, History, requests_of, total_of, AreMessagesIn}
-use Rattle.mm_sides.proofs.Below.{IsClear, Digests}
-use Rattle.mm_sides.proofs.Below.{NamesPosition, content_of_issue, place_messages, each_left, each_right, each_append, messages_of_moves}
-use Rattle.mm_sides.proofs.Below.{StepFate, StepsWalk, walk}
-use Rattle.mm_sides.proofs.Below.{list_level, digest_level, state_after_moves, instance_by, TicketContent, summary_in, course_of}
-use Rattle.mm_sides.proofs.Below.{KeepsHistory, AreApartIn}
-use Rattle.mm_sides.proofs.Below.{Role, Effect, Invites, Leaves, Enters, MoveNotes, is_live, Pair, Both, lists_move, digests_move}
-use Rattle.mm_sides.proofs.Below.{MoveCommand}
-use Rattle.mm_sides.proofs.Below.{DenialCause, FoundMove, BothAct, Plain, Moves, Entered, move_steps, is_moved, effect_if, effect_of}
-use Rattle.mm_sides.proofs.Below.{stopped_moves, state_after_steps, sides_after_effect_if, sides_after_issue, effect_reply}
-use Rattle.mm_sides.proofs.Below.{move_end_outcome, outcome_if_found, found_command, outcome_here}
-use Rattle.mm_sides.proofs.Below.{notes_with_effect_if, read_moves, found_moves, command_messages, messages_here, others_values_in}
-use Rattle.mm_sides.proofs.Below.{batches_in, IsGenuineHere}
-use Rattle.mm_sides.proofs.Below.{IsOursIn, history_now}
+use Rattle.mm_sides.proofs.Below.{IsClear, Digests, NamesPosition, content_of_issue, place_messages, each_left, each_right, each_append}
+use Rattle.mm_sides.proofs.Below.{messages_of_moves, StepFate, StepsWalk, walk, list_level, digest_level, state_after_moves, instance_by}
+use Rattle.mm_sides.proofs.Below.{TicketContent, summary_in, course_of, KeepsHistory, AreApartIn, Role, Effect, Invites, Leaves, Enters}
+use Rattle.mm_sides.proofs.Below.{MoveNotes, is_live, Pair, Both, lists_move, digests_move, MoveCommand, DenialCause, FoundMove, BothAct}
+use Rattle.mm_sides.proofs.Below.{Plain, Moves, Entered, move_steps, is_moved, effect_if, effect_of, stopped_moves, state_after_steps}
+use Rattle.mm_sides.proofs.Below.{sides_after_effect_if, sides_after_issue, effect_reply, move_end_outcome, outcome_if_found, found_command}
+use Rattle.mm_sides.proofs.Below.{outcome_here, notes_with_effect_if, read_moves, found_moves, command_messages, messages_here}
+use Rattle.mm_sides.proofs.Below.{others_values_in, batches_in, IsGenuineHere, IsOursIn, history_now}
 use Rattle.mm_sides.proofs.Found.{Fits, FitsFound, FitsIn, finding_fits, IsFine, pushed_last, unbroken, found_is, ended_told}
 use Rattle.mm_sides.proofs.Found.{affected_order, EntersSo, enters_so}
 use Rattle.mm_sides.proofs.Outer.{AreOuter, found_outer, stopped_outer, due_among, IsAlike, same_batches, same_open, brought_alike}

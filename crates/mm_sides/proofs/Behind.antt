@@ -1,11 +1,9 @@
 -- A side that the module left, and the history that goes on from where it left.
 use Rattle.mm_sides.proofs.Below.{ℕ, ◌≡◌, ◌∙◌, ◌++◌, ◌∷◌, Bool, true, false, List, [], inl, inr, refl, sym, ap, append-nil, Variant, Basic}
-use Rattle.mm_sides.proofs.Below.{Opt}
-use Rattle.mm_sides.proofs.Below.{Batch, Meaning, History, RegisterEntry, Move, history_after, Instance, items_of_all, has_value, life_of}
-use Rattle.mm_sides.proofs.Below.{LiveHistory, list_level, state_after_moves, instance_by, Event, event_outcome, IsSoundIn, Role}
+use Rattle.mm_sides.proofs.Below.{Opt, Batch, Meaning, History, RegisterEntry, Move, history_after, Instance, items_of_all, has_value}
+use Rattle.mm_sides.proofs.Below.{life_of, LiveHistory, list_level, state_after_moves, instance_by, Event, event_outcome, IsSoundIn, Role}
 use Rattle.mm_sides.proofs.Below.{Foreign, PowerMove, lives, Content, NamesPosition, total_of, nat_eq, requests_of, state_after, Digests}
-use Rattle.mm_sides.proofs.Below.{AreMessagesIn}
-use Rattle.mm_sides.proofs.Below.{IsClear, place_messages, IsWithin, DigestsAgree, digest_level, stands_here, Retired}
+use Rattle.mm_sides.proofs.Below.{AreMessagesIn, IsClear, place_messages, IsWithin, DigestsAgree, digest_level, stands_here, Retired}
 use Rattle.mm_sides.proofs.Below.{is_new, One, zero_bytes, sound_shut, if◌then◌else◌}
 use Rattle.std.proofs.Common.{append_assoc}
 use Rattle.mm_model.specs.Chains.{guard}

@@ -21,8 +21,7 @@ pub use Rattle.mm_platform.specs.declared.plan.Stop.TheVariants.{Cut, Quiet}
 pub use Rattle.mm_module.specs.Batch.{Batch, members_of, One, size_of}
 pub use Rattle.mm_module.specs.Meaning.{Meaning, state_after}
 pub use Rattle.mm_model.specs.History.{RegisterEntry, first_history, Foreign, History, items_of_all, Move, history_after}
-pub use Rattle.mm_model.specs.History.{Power as PowerMove, register_value_of}
-pub use Rattle.mm_model.specs.History.{requests_of, total_of}
+pub use Rattle.mm_model.specs.History.{Power as PowerMove, register_value_of, requests_of, total_of}
 pub use Rattle.mm_model.specs.Instance.{Instance}
 pub use Rattle.mm_model.specs.InstanceWords.{basic_instance, opt_instance}
 pub use Rattle.mm_model.specs.Life.{are_own, has_value, is_empty, Life, life_by, life_of, Live as LiveHistory}
@@ -50,8 +49,7 @@ pub use Rattle.mm_move.specs.Tickets.{IsTicket, place_at, summary_in, TaggedTick
 pub use Rattle.mm_move.proofs.Above.{bytes_are, tickets_are_read}
 pub use Rattle.mm_schedule.specs.Events.{Ask, Checkpoint, Event, Extend, Power}
 pub use Rattle.mm_outcome.specs.Folds.{moves_after_stop, vain_ask_outcome, course_of, vain_event_outcome, event_outcome, first_digests}
-pub use Rattle.mm_outcome.specs.Folds.{Outcome, outcome_by}
-pub use Rattle.mm_outcome.specs.Folds.{read_only_outcome, outcome_without_call, way_of}
+pub use Rattle.mm_outcome.specs.Folds.{Outcome, outcome_by, read_only_outcome, outcome_without_call, way_of}
 pub use Rattle.mm_outcome.specs.Laws.{IsIssued, one_ask}
 pub use Rattle.mm_outcome.specs.EventOffers.{offered_bytes}
 pub use Rattle.mm_outcome.specs.OneEvent.{EventsAgree, EventsKeepNames, IsSoundIn, KeepsHistory}
@@ -61,28 +59,23 @@ pub use Rattle.mm_outcome.proofs.Above.{event_steps, opt_events_agree, opt_event
 pub use Rattle.mm_sides.specs.Both.{Both, digests_move, First, first_both, first_lists, instance_on, key_of, lists_move, Mover, Pair}
 pub use Rattle.mm_sides.specs.Both.{Second, SideState, sides_swapped, Which, history_at, history_now}
 pub use Rattle.mm_sides.specs.Folds.{found_acceptance, BothAct, sides_after_effect_if, both_outcome_by_lists, both_outcome_of_events}
-pub use Rattle.mm_sides.specs.Folds.{both_outcome, BothEvent, BothRunOutcome}
-pub use Rattle.mm_sides.specs.Folds.{BothOutcome, BothReply, state_after_steps, effect_if, effect_of, Entered, found_command}
-pub use Rattle.mm_sides.specs.Folds.{sides_after_issue, Invited, is_moved}
-pub use Rattle.mm_sides.specs.Folds.{Left, move_end_outcome, move_steps, outcome_of_found_move, outcome_if_found, Moves}
-pub use Rattle.mm_sides.specs.Folds.{notes_with_effect_if, outcome_here, Plain, plain_outcome}
-pub use Rattle.mm_sides.specs.Folds.{refusal_for_role, found_retirement, Said, stopped_moves, effect_reply, unissued_reply}
+pub use Rattle.mm_sides.specs.Folds.{both_outcome, BothEvent, BothRunOutcome, BothOutcome, BothReply, state_after_steps, effect_if}
+pub use Rattle.mm_sides.specs.Folds.{effect_of, Entered, found_command, sides_after_issue, Invited, is_moved, Left, move_end_outcome}
+pub use Rattle.mm_sides.specs.Folds.{move_steps, outcome_of_found_move, outcome_if_found, Moves, notes_with_effect_if, outcome_here, Plain}
+pub use Rattle.mm_sides.specs.Folds.{plain_outcome, refusal_for_role, found_retirement, Said, stopped_moves, effect_reply, unissued_reply}
 pub use Rattle.mm_sides.specs.Laws.{both_outcome_joined, counters, EntersAlone, IsOneFrom, MovesOnce, one_move}
 pub use Rattle.mm_sides.specs.Laws.{OneIsLive, PairsAgree, PairsAgreeThroughout, PairsGoOn, plain_events, plain_events_in, plain_replies}
 pub use Rattle.mm_sides.specs.Laws.{plain_reply, SidesIssueNames, SidesRunAsOne, SnapshotsName}
 pub use Rattle.mm_sides.specs.Moves.{Accept, acceptance_on, Already, MoveCommand, repeated_entry, entry_by_ticket, FoundMove, Gone, Invite}
-pub use Rattle.mm_sides.specs.Moves.{invitation_on}
-pub use Rattle.mm_sides.specs.Moves.{found_retirement_by, DenialCause, Nonce, retirement_with, Open, Refused, Retire, retirement_on}
-pub use Rattle.mm_sides.specs.Moves.{stands_here, ticket_in}
-pub use Rattle.mm_sides.specs.Moves.{verdict_here}
+pub use Rattle.mm_sides.specs.Moves.{invitation_on, found_retirement_by, DenialCause, Nonce, retirement_with, Open, Refused, Retire}
+pub use Rattle.mm_sides.specs.Moves.{retirement_on, stands_here, ticket_in, verdict_here}
 pub use Rattle.mm_sides.specs.Order.{AreInOrder, AtMostOne, away, EntersLast, here, IsAwaited, IsFreshEffect, IsLastTicket, IsSomewhere}
 pub use Rattle.mm_sides.specs.Order.{MayTake, nonces_of, RolesAreOne, RolesBegin, RolesEnterLast, RolesGoOn, RolesSwap, there, WaitApart}
 pub use Rattle.mm_sides.specs.Order.{WaitsElse}
 pub use Rattle.mm_sides.specs.Premises.{AreFreshFrom, AreGenuineFrom, batches_in, both_batches, both_event_messages, both_messages}
 pub use Rattle.mm_sides.specs.Premises.{both_messages_from, both_others, messages_of_closing, command_messages, found_moves}
-pub use Rattle.mm_sides.specs.Premises.{IsGenuineCommand}
-pub use Rattle.mm_sides.specs.Premises.{IsGenuineHere, IsGenuineIn, IsGenuineTo, IsNew, IsOurs, IsOursFor, IsOursIn, IsOursOffered}
-pub use Rattle.mm_sides.specs.Premises.{messages_here, offer_closing_messages, others_values_in, plain_messages, read_moves, vain_ask_moves}
-pub use Rattle.mm_sides.specs.Premises.{vain_moves}
+pub use Rattle.mm_sides.specs.Premises.{IsGenuineCommand, IsGenuineHere, IsGenuineIn, IsGenuineTo, IsNew, IsOurs, IsOursFor, IsOursIn}
+pub use Rattle.mm_sides.specs.Premises.{IsOursOffered, messages_here, offer_closing_messages, others_values_in, plain_messages, read_moves}
+pub use Rattle.mm_sides.specs.Premises.{vain_ask_moves, vain_moves}
 pub use Rattle.mm_sides.specs.Roles.{Blank, Effect, Enters, Invites, is_live, Leaves, Live, no_notes, notes_with_effect, MoveNotes, Retired}
 pub use Rattle.mm_sides.specs.Roles.{Role, Waiting}

@@ -2,15 +2,11 @@
 use Rattle.mm_sides.proofs.Below.{ℕ, ◌≡◌, List, [], ◌∷◌, ◌++◌, refl, sym, ap, subst, AllByRecursion, Contains, start_message, Variant}
 use Rattle.mm_sides.proofs.Below.{Basic, Opt, Batch, Meaning, Instance, History, first_history, AreMessagesIn, IsClear, Digests, each_left}
 use Rattle.mm_sides.proofs.Below.{each_right, each_self, instance_by, first_digests, KeepsHistory, AreApartIn, MoveNotes, no_notes, Which}
-use Rattle.mm_sides.proofs.Below.{First}
-use Rattle.mm_sides.proofs.Below.{Second, Pair, instance_on, Both, sides_swapped, Mover, lists_move, digests_move, first_lists, first_both}
-use Rattle.mm_sides.proofs.Below.{BothAct}
-use Rattle.mm_sides.proofs.Below.{BothEvent, BothReply, BothOutcome, outcome_here, both_outcome, BothRunOutcome, both_outcome_of_events}
-use Rattle.mm_sides.proofs.Below.{notes_with_effect_if}
-use Rattle.mm_sides.proofs.Below.{both_event_messages, both_messages_from, both_messages, others_values_in, both_others, batches_in}
-use Rattle.mm_sides.proofs.Below.{both_batches}
-use Rattle.mm_sides.proofs.Below.{IsGenuineIn, AreGenuineFrom, IsNew, IsOursIn, AreFreshFrom, PairsAgree, PairsAgreeThroughout}
-use Rattle.mm_sides.proofs.Below.{both_outcome_joined, PairsGoOn, basic_begins, opt_begins}
+use Rattle.mm_sides.proofs.Below.{First, Second, Pair, instance_on, Both, sides_swapped, Mover, lists_move, digests_move, first_lists}
+use Rattle.mm_sides.proofs.Below.{first_both, BothAct, BothEvent, BothReply, BothOutcome, outcome_here, both_outcome, BothRunOutcome}
+use Rattle.mm_sides.proofs.Below.{both_outcome_of_events, notes_with_effect_if, both_event_messages, both_messages_from, both_messages}
+use Rattle.mm_sides.proofs.Below.{others_values_in, both_others, batches_in, both_batches, IsGenuineIn, AreGenuineFrom, IsNew, IsOursIn}
+use Rattle.mm_sides.proofs.Below.{AreFreshFrom, PairsAgree, PairsAgreeThroughout, both_outcome_joined, PairsGoOn, basic_begins, opt_begins}
 use Rattle.mm_sides.proofs.InOrder.{roles_begin}
 use Rattle.mm_sides.proofs.OneLive.{here_ordered}
 use Rattle.mm_sides.proofs.Twins.{Twin, twin, turned_twin, Kept, Goes, turned_kept}

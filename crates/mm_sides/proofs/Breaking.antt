@@ -1,12 +1,11 @@
 -- A run of both sides meets the premises or gives evidence, and never both.
-use Rattle.mm_sides.proofs.Below.{ℕ, ◌≡◌, ◌&&◌, ◌++◌, ◌∷◌, Bool, false, List, [], Option, None, Some, Result, Ok, Err, inl, inr}
-use Rattle.mm_sides.proofs.Below.{refl, sym, ap, subst, Contains, bytes_eq, bytes_eq-Decides, nat_eq, Content}
-use Rattle.mm_sides.proofs.Below.{History, Instance, Refusal, TicketContent, Event, offered_bytes}
-use Rattle.mm_sides.proofs.Below.{Role, Live, Retired, Waiting, Blank, Effect, Invites, Leaves, Enters, MoveNotes, no_notes}
-use Rattle.mm_sides.proofs.Below.{First, Which, key_of, Pair, instance_on, Both, lists_move, first_lists, history_now}
+use Rattle.mm_sides.proofs.Below.{ℕ, ◌≡◌, ◌&&◌, ◌++◌, ◌∷◌, Bool, false, List, [], Option, None, Some, Result, Ok, Err, inl, inr, refl, sym}
+use Rattle.mm_sides.proofs.Below.{ap, subst, Contains, bytes_eq, bytes_eq-Decides, nat_eq, Content, History, Instance, Refusal}
+use Rattle.mm_sides.proofs.Below.{TicketContent, Event, offered_bytes, Role, Live, Retired, Waiting, Blank, Effect, Invites, Leaves, Enters}
+use Rattle.mm_sides.proofs.Below.{MoveNotes, no_notes, First, Which, key_of, Pair, instance_on, Both, lists_move, first_lists, history_now}
 use Rattle.mm_sides.proofs.Below.{Invite, Retire, Accept, ticket_in, BothAct, Plain, Moves, BothEvent, both_outcome, both_outcome_of_events}
-use Rattle.mm_sides.proofs.Below.{notes_with_effect_if, IsGenuineTo, IsGenuineHere, IsGenuineIn, AreGenuineFrom, IsNew}
-use Rattle.mm_sides.proofs.Below.{IsOurs, IsOursOffered, IsOursIn, AreFreshFrom, both_messages, both_others, both_batches}
+use Rattle.mm_sides.proofs.Below.{notes_with_effect_if, IsGenuineTo, IsGenuineHere, IsGenuineIn, AreGenuineFrom, IsNew, IsOurs}
+use Rattle.mm_sides.proofs.Below.{IsOursOffered, IsOursIn, AreFreshFrom, both_messages, both_others, both_batches}
 use Rattle.std.proofs.Common.{◌⊎◌}
 use Rattle.std.specs.Bool.{Decides}
 use Rattle.std.proofs.lemmas.Bool.Decides.{Decides-and, Decides-eqb}

@@ -2,17 +2,14 @@
 use Rattle.mm_sides.proofs.Below.{ℕ, ◌≡◌, Bool, true, false, List, Option, None, Some, Result, Ok, Err, refl, sym, [], ◌∷◌, ◌++◌}
 use Rattle.mm_sides.proofs.Below.{if◌then◌else◌, Contains, bytes_eq, bytes_eq-Decides, PartsFault, Form, Kind, parts_of, Content, Snapshot}
 use Rattle.mm_sides.proofs.Below.{tag_of, Refusal, Instance, check_by_tests, weighed_only, accepting_verdict, StepFate, End, Done, Fails}
-use Rattle.mm_sides.proofs.Below.{walk}
-use Rattle.mm_sides.proofs.Below.{walk_from_step, TicketContent, offered_bytes, Role, Live, Waiting, Retired, Effect, Invites, Leaves}
-use Rattle.mm_sides.proofs.Below.{Enters}
-use Rattle.mm_sides.proofs.Below.{MoveNotes, is_live, MayTake, IsFreshEffect, IsLastTicket, AreInOrder, EntersLast, Pair, Both, Mover}
-use Rattle.mm_sides.proofs.Below.{MoveCommand}
-use Rattle.mm_sides.proofs.Below.{Invite, Retire, Accept, DenialCause, Open, Gone, Nonce, Already, FoundMove, stands_here, verdict_here}
-use Rattle.mm_sides.proofs.Below.{invitation_on, found_retirement_by, retirement_with, retirement_on, ticket_in, entry_by_ticket}
-use Rattle.mm_sides.proofs.Below.{repeated_entry, acceptance_on, is_moved}
-use Rattle.mm_sides.proofs.Below.{effect_if, effect_of, found_retirement, found_acceptance, found_command, BothOutcome}
-use Rattle.mm_sides.proofs.Below.{sides_after_effect_if, sides_after_issue, effect_reply, move_end_outcome}
-use Rattle.mm_sides.proofs.Below.{notes_with_effect_if, IsNew, IsOurs, IsOursOffered, IsOursFor, Reads, StepFault, Stop, plain_reply}
+use Rattle.mm_sides.proofs.Below.{walk, walk_from_step, TicketContent, offered_bytes, Role, Live, Waiting, Retired, Effect, Invites, Leaves}
+use Rattle.mm_sides.proofs.Below.{Enters, MoveNotes, is_live, MayTake, IsFreshEffect, IsLastTicket, AreInOrder, EntersLast, Pair, Both}
+use Rattle.mm_sides.proofs.Below.{Mover, MoveCommand, Invite, Retire, Accept, DenialCause, Open, Gone, Nonce, Already, FoundMove}
+use Rattle.mm_sides.proofs.Below.{stands_here, verdict_here, invitation_on, found_retirement_by, retirement_with, retirement_on, ticket_in}
+use Rattle.mm_sides.proofs.Below.{entry_by_ticket, repeated_entry, acceptance_on, is_moved, effect_if, effect_of, found_retirement}
+use Rattle.mm_sides.proofs.Below.{found_acceptance, found_command, BothOutcome, sides_after_effect_if, sides_after_issue, effect_reply}
+use Rattle.mm_sides.proofs.Below.{move_end_outcome, notes_with_effect_if, IsNew, IsOurs, IsOursOffered, IsOursFor, Reads, StepFault, Stop}
+use Rattle.mm_sides.proofs.Below.{plain_reply}
 use Rattle.mm_sides.proofs.InOrder.{not_dead, roles_go_on, roles_enter_last}
 
 -- How a list of tickets ends, and how the walk of a move does.

@@ -3,9 +3,8 @@ use Rattle.mm_sides.proofs.Below.{ℕ, ◌≡◌, Bool, true, false, List, [], �
 use Rattle.mm_sides.proofs.Below.{Contains, map-append, All-from_recursion, All-contains, Contains-append_left, Contains-push}
 use Rattle.mm_sides.proofs.Below.{Contains-push_cases, each_append, each_self, TicketContent, Role, Blank, Live, Waiting, Retired, Invites}
 use Rattle.mm_sides.proofs.Below.{Leaves, Enters, is_live, MoveNotes, notes_with_effect, nonces_of, IsAwaited, WaitsElse, WaitApart}
-use Rattle.mm_sides.proofs.Below.{IsSomewhere, here}
-use Rattle.mm_sides.proofs.Below.{there, away, AreInOrder, MayTake, RolesBegin, RolesSwap, RolesGoOn, RolesEnterLast, AtMostOne}
-use Rattle.mm_sides.proofs.Below.{RolesAreOne}
+use Rattle.mm_sides.proofs.Below.{IsSomewhere, here, there, away, AreInOrder, MayTake, RolesBegin, RolesSwap, RolesGoOn, RolesEnterLast}
+use Rattle.mm_sides.proofs.Below.{AtMostOne, RolesAreOne}
 
 -- an item of a list of which each is one of another is one of that other
 among : {A : Type 0} (P : A → Type 0) (xs : List A) (x : A) → AllByRecursion P xs → Contains xs x → P x

@@ -2,12 +2,9 @@
 use Rattle.mm_sides.proofs.Below.{ℕ, ◌≡◌, List, [], ◌∷◌, Option, None, Some, Result, sym, subst, Meddle, Stop, Instance, History, StepFate}
 use Rattle.mm_sides.proofs.Below.{walk, course_of, Role, Effect, Enters, MoveNotes, no_notes, AreInOrder, EntersLast, Which, First, Second}
 use Rattle.mm_sides.proofs.Below.{Pair, instance_on, Both, sides_swapped, lists_move, first_lists, MoveCommand, DenialCause, FoundMove}
-use Rattle.mm_sides.proofs.Below.{BothAct, Plain}
-use Rattle.mm_sides.proofs.Below.{Moves, BothEvent, BothOutcome, sides_after_effect_if, state_after_steps, effect_of, move_steps}
-use Rattle.mm_sides.proofs.Below.{found_command, outcome_of_found_move}
-use Rattle.mm_sides.proofs.Below.{outcome_if_found, outcome_here, both_outcome, notes_with_effect_if, IsNew, IsOursIn, AreFreshFrom}
-use Rattle.mm_sides.proofs.Below.{EntersAlone, IsOneFrom}
-use Rattle.mm_sides.proofs.Below.{OneIsLive}
+use Rattle.mm_sides.proofs.Below.{BothAct, Plain, Moves, BothEvent, BothOutcome, sides_after_effect_if, state_after_steps, effect_of}
+use Rattle.mm_sides.proofs.Below.{move_steps, found_command, outcome_of_found_move, outcome_if_found, outcome_here, both_outcome}
+use Rattle.mm_sides.proofs.Below.{notes_with_effect_if, IsNew, IsOursIn, AreFreshFrom, EntersAlone, IsOneFrom, OneIsLive}
 use Rattle.mm_sides.proofs.InOrder.{roles_begin, roles_swap, roles_are_one}
 use Rattle.mm_sides.proofs.Found.{FitsIn, IsFine, finding_fits, effect_fine, IsEnded, ended_told, affected_order, EntersSo, enters_so}
 

@@ -1,21 +1,16 @@
 -- A run in which the module moves once meets the premises.
-use Rattle.mm_sides.proofs.Below.{ℕ, ◌≡◌, Bool, true, false, List, [], ◌∷◌, ◌++◌, length, Option, Some, Result, Ok, refl}
-use Rattle.mm_sides.proofs.Below.{sym, ap, ◌∙◌, subst, arith, if◌then◌else◌, Contains, bytes_eq, Variant, Basic, Opt, start_message}
-use Rattle.mm_sides.proofs.Below.{zero_bytes, Quiet, parts_of, Content, IsContent, variant_of, tag_of, sealed_snapshot_of}
-use Rattle.mm_sides.proofs.Below.{offered_snapshot_of, Instance}
+use Rattle.mm_sides.proofs.Below.{ℕ, ◌≡◌, Bool, true, false, List, [], ◌∷◌, ◌++◌, length, Option, Some, Result, Ok, refl, sym, ap, ◌∙◌}
+use Rattle.mm_sides.proofs.Below.{subst, arith, if◌then◌else◌, Contains, bytes_eq, Variant, Basic, Opt, start_message, zero_bytes, Quiet}
+use Rattle.mm_sides.proofs.Below.{parts_of, Content, IsContent, variant_of, tag_of, sealed_snapshot_of, offered_snapshot_of, Instance}
 use Rattle.mm_sides.proofs.Below.{basic_instance, opt_instance, History, first_history, IsClear, NamesPosition, content_of_issue, IsGenuine}
-use Rattle.mm_sides.proofs.Below.{place_messages, Reads, Refusal}
-use Rattle.mm_sides.proofs.Below.{messages_of_moves, list_level, instance_by, place_at, summary_in, TicketContent}
-use Rattle.mm_sides.proofs.Below.{IsTicket, TaggedTicket, ticket_tag, ticket_of, bytes_are, tickets_are_read, anchor_nil, clear_within}
-use Rattle.mm_sides.proofs.Below.{one_ask, run_messages, AreApartIn, Live, Waiting, Retired, Leaves, Enters, Invites, MoveNotes, no_notes}
-use Rattle.mm_sides.proofs.Below.{notes_with_effect, First, Second, Pair, Both, lists_move, first_lists, sides_swapped, Invite, Retire}
-use Rattle.mm_sides.proofs.Below.{Accept, FoundMove}
-use Rattle.mm_sides.proofs.Below.{DenialCause, stands_here, ticket_in}
-use Rattle.mm_sides.proofs.Below.{BothEvent, BothOutcome, Moves, Invited, Left, Entered, found_command, both_outcome}
-use Rattle.mm_sides.proofs.Below.{both_outcome_of_events, both_outcome_by_lists, notes_with_effect_if, read_moves, found_moves}
-use Rattle.mm_sides.proofs.Below.{offer_closing_messages}
-use Rattle.mm_sides.proofs.Below.{both_event_messages, both_messages, both_messages_from, AreFreshFrom, IsNew, IsOurs, IsOursIn, one_move}
-use Rattle.mm_sides.proofs.Below.{counters, MovesOnce}
+use Rattle.mm_sides.proofs.Below.{place_messages, Reads, Refusal, messages_of_moves, list_level, instance_by, place_at, summary_in}
+use Rattle.mm_sides.proofs.Below.{TicketContent, IsTicket, TaggedTicket, ticket_tag, ticket_of, bytes_are, tickets_are_read, anchor_nil}
+use Rattle.mm_sides.proofs.Below.{clear_within, one_ask, run_messages, AreApartIn, Live, Waiting, Retired, Leaves, Enters, Invites}
+use Rattle.mm_sides.proofs.Below.{MoveNotes, no_notes, notes_with_effect, First, Second, Pair, Both, lists_move, first_lists, sides_swapped}
+use Rattle.mm_sides.proofs.Below.{Invite, Retire, Accept, FoundMove, DenialCause, stands_here, ticket_in, BothEvent, BothOutcome, Moves}
+use Rattle.mm_sides.proofs.Below.{Invited, Left, Entered, found_command, both_outcome, both_outcome_of_events, both_outcome_by_lists}
+use Rattle.mm_sides.proofs.Below.{notes_with_effect_if, read_moves, found_moves, offer_closing_messages, both_event_messages, both_messages}
+use Rattle.mm_sides.proofs.Below.{both_messages_from, AreFreshFrom, IsNew, IsOurs, IsOursIn, one_move, counters, MovesOnce}
 use Rattle.mm_digest.specs.LengthLaws.{length-zero_bytes, length-start_digest_of, length-hmac_of}
 use Rattle.mm_module.specs.CounterTable.{counter}
 use Rattle.mm_module.specs.CounterLaws.{counter_is_lawful}

@@ -1,17 +1,14 @@
 -- The replies to the calls of both sides are those of one run.
-use Rattle.mm_sides.proofs.Below.{ℕ, ◌≡◌, ◌≤◌, ◌+◌, true, false, List, [], ◌∷◌, ◌++◌, length, Option, None, Some, Result}
-use Rattle.mm_sides.proofs.Below.{refl, sym, ap, ◌∙◌, subst, arith, length-append, Batch, members_of, Meaning, Meddle}
-use Rattle.mm_sides.proofs.Below.{Stop, Variant, Basic, Opt, Instance, History, requests_of, Refusal}
-use Rattle.mm_sides.proofs.Below.{StepFate, walk, list_level, instance_by, Outcome, refusal_for_role}
-use Rattle.mm_sides.proofs.Below.{course_of, event_outcome, vain_event_outcome, event_steps, Role}
-use Rattle.mm_sides.proofs.Below.{Live, Effect, Invites, Enters, is_live, MoveNotes, no_notes, AreInOrder, Which}
-use Rattle.mm_sides.proofs.Below.{First, Second, Pair, key_of, instance_on, Both, sides_swapped, lists_move, first_lists, MoveCommand}
-use Rattle.mm_sides.proofs.Below.{Accept, DenialCause, FoundMove, BothAct, Plain, Moves, BothEvent, BothOutcome, plain_outcome}
-use Rattle.mm_sides.proofs.Below.{sides_after_effect_if, state_after_steps, effect_of, move_steps, found_command, outcome_of_found_move}
-use Rattle.mm_sides.proofs.Below.{outcome_if_found, unissued_reply, outcome_here}
-use Rattle.mm_sides.proofs.Below.{both_outcome, BothRunOutcome, both_outcome_of_events, notes_with_effect_if, IsNew, IsOursIn, AreFreshFrom}
-use Rattle.mm_sides.proofs.Below.{plain_events_in}
-use Rattle.mm_sides.proofs.Below.{plain_events, plain_reply, plain_replies, history_at, history_now, SidesRunAsOne}
+use Rattle.mm_sides.proofs.Below.{ℕ, ◌≡◌, ◌≤◌, ◌+◌, true, false, List, [], ◌∷◌, ◌++◌, length, Option, None, Some, Result, refl, sym, ap}
+use Rattle.mm_sides.proofs.Below.{◌∙◌, subst, arith, length-append, Batch, members_of, Meaning, Meddle, Stop, Variant, Basic, Opt, Instance}
+use Rattle.mm_sides.proofs.Below.{History, requests_of, Refusal, StepFate, walk, list_level, instance_by, Outcome, refusal_for_role}
+use Rattle.mm_sides.proofs.Below.{course_of, event_outcome, vain_event_outcome, event_steps, Role, Live, Effect, Invites, Enters, is_live}
+use Rattle.mm_sides.proofs.Below.{MoveNotes, no_notes, AreInOrder, Which, First, Second, Pair, key_of, instance_on, Both, sides_swapped}
+use Rattle.mm_sides.proofs.Below.{lists_move, first_lists, MoveCommand, Accept, DenialCause, FoundMove, BothAct, Plain, Moves, BothEvent}
+use Rattle.mm_sides.proofs.Below.{BothOutcome, plain_outcome, sides_after_effect_if, state_after_steps, effect_of, move_steps}
+use Rattle.mm_sides.proofs.Below.{found_command, outcome_of_found_move, outcome_if_found, unissued_reply, outcome_here, both_outcome}
+use Rattle.mm_sides.proofs.Below.{BothRunOutcome, both_outcome_of_events, notes_with_effect_if, IsNew, IsOursIn, AreFreshFrom}
+use Rattle.mm_sides.proofs.Below.{plain_events_in, plain_events, plain_reply, plain_replies, history_at, history_now, SidesRunAsOne}
 use Rattle.mm_schedule.specs.Events as events
 use Rattle.mm_schedule.specs.Machine.{IsBatchStep, IsStepWithoutBatch, IsRunStep, IsEventRun}
 use Rattle.mm_schedule.specs.declared.reply.Reply.{Reply}

@@ -1,18 +1,14 @@
 -- Moves that the core doesn't make: values of others, and losses of power. They change the register's items alone.
 use Rattle.mm_sides.proofs.Below.{ℕ, ◌≡◌, ◌+◌, Bool, true, false, List, [], ◌∷◌, map, Option, None, Some, Result, Ok, Err, refl, ap, ◌∙◌}
 use Rattle.mm_sides.proofs.Below.{◌++◌, sym, subst, if◌then◌else◌, ◌==◌, filter, AllByRecursion, Contains, append-nil, StepFault, Meddle}
-use Rattle.mm_sides.proofs.Below.{Stop, Cut, Instance, History, Move, Foreign, PowerMove, history_after, Reads}
-use Rattle.mm_sides.proofs.Below.{each_append, each_left, each_right, End, Done, Fails, StepFate, StepsWalk, walk, walk_from_step}
-use Rattle.mm_sides.proofs.Below.{has_commit, list_level}
+use Rattle.mm_sides.proofs.Below.{Stop, Cut, Instance, History, Move, Foreign, PowerMove, history_after, Reads, each_append, each_left}
+use Rattle.mm_sides.proofs.Below.{each_right, End, Done, Fails, StepFate, StepsWalk, walk, walk_from_step, has_commit, list_level}
 use Rattle.mm_sides.proofs.Below.{state_after_moves, digest_level, moves_after_stop, course_of, Outcome, outcome_by, outcome_without_call}
-use Rattle.mm_sides.proofs.Below.{read_only_outcome, vain_ask_outcome}
-use Rattle.mm_sides.proofs.Below.{vain_event_outcome, DenialCause, FoundMove, move_steps, stopped_moves, state_after_steps, lists_move}
-use Rattle.mm_sides.proofs.Below.{Variant, Basic}
-use Rattle.mm_sides.proofs.Below.{Opt, Batch, One, Meaning, is_long, AreMessagesIn, IsClear, messages_for_move, Digests, digests_after}
-use Rattle.mm_sides.proofs.Below.{Refusal, messages_of_moves, call_outcome_by, instance_by, Event, Ask, Checkpoint, Power, Extend}
-use Rattle.mm_sides.proofs.Below.{offered_bytes}
-use Rattle.mm_sides.proofs.Below.{KeepsHistory, EventsAgree, IsSoundIn, EventsKeepNames, event_foreign_values, AreApartIn}
-use Rattle.mm_sides.proofs.Below.{basic_events_agree}
+use Rattle.mm_sides.proofs.Below.{read_only_outcome, vain_ask_outcome, vain_event_outcome, DenialCause, FoundMove, move_steps}
+use Rattle.mm_sides.proofs.Below.{stopped_moves, state_after_steps, lists_move, Variant, Basic, Opt, Batch, One, Meaning, is_long}
+use Rattle.mm_sides.proofs.Below.{AreMessagesIn, IsClear, messages_for_move, Digests, digests_after, Refusal, messages_of_moves}
+use Rattle.mm_sides.proofs.Below.{call_outcome_by, instance_by, Event, Ask, Checkpoint, Power, Extend, offered_bytes, KeepsHistory}
+use Rattle.mm_sides.proofs.Below.{EventsAgree, IsSoundIn, EventsKeepNames, event_foreign_values, AreApartIn, basic_events_agree}
 use Rattle.mm_sides.proofs.Below.{opt_events_agree, basic_events_keep_names, opt_events_keep_names, read_moves, vain_ask_moves, vain_moves}
 use Rattle.mm_platform.specs.StandingWords.{due_values}
 use Rattle.mm_call.specs.CallOutcomeWords.{position_if_committed}

@@ -3,16 +3,13 @@
 use Rattle.mm_sides.proofs.Below.{ℕ, ◌≡◌, ◌+◌, Bool, true, false, ◌&&◌, List, [], ◌∷◌, refl, sym, ap, ◌∙◌, subst, nat_eq, if◌then◌else◌}
 use Rattle.mm_sides.proofs.Below.{bytes_eq, AllByRecursion, Contains, bytes_eq-Decides, All-from_recursion, All-contains, Variant, Basic}
 use Rattle.mm_sides.proofs.Below.{Opt, zero_bytes, anchored_message, Batch, One, size_of, Meaning, state_after, Content, Instance}
-use Rattle.mm_sides.proofs.Below.{basic_instance}
-use Rattle.mm_sides.proofs.Below.{opt_instance, History, RegisterEntry, requests_of, total_of, items_of_all, register_value_of, is_empty}
-use Rattle.mm_sides.proofs.Below.{are_own, has_value, Life}
-use Rattle.mm_sides.proofs.Below.{life_by, life_of, AreMessagesIn, IsClear, AreNoGuards, history_messages, values_in, counted_entries}
-use Rattle.mm_sides.proofs.Below.{Digests, IsPoint, IsPlaceOf, NamesPosition, anchor_after, issued_place, content_of_issue, is_new}
-use Rattle.mm_sides.proofs.Below.{place_messages, flag_of}
-use Rattle.mm_sides.proofs.Below.{basic_issued, opt_issued, point_kept, basic_stands_here, opt_stands_here, IsLedTo, IsWithin, list_level}
-use Rattle.mm_sides.proofs.Below.{digest_level, DigestsAgree, instance_by, plain_outside, lives, within_items, summary_in, place_at}
-use Rattle.mm_sides.proofs.Below.{IsSoundIn}
-use Rattle.mm_sides.proofs.Below.{AreApartIn, digests_move, stands_here}
+use Rattle.mm_sides.proofs.Below.{basic_instance, opt_instance, History, RegisterEntry, requests_of, total_of, items_of_all}
+use Rattle.mm_sides.proofs.Below.{register_value_of, is_empty, are_own, has_value, Life, life_by, life_of, AreMessagesIn, IsClear}
+use Rattle.mm_sides.proofs.Below.{AreNoGuards, history_messages, values_in, counted_entries, Digests, IsPoint, IsPlaceOf, NamesPosition}
+use Rattle.mm_sides.proofs.Below.{anchor_after, issued_place, content_of_issue, is_new, place_messages, flag_of, basic_issued, opt_issued}
+use Rattle.mm_sides.proofs.Below.{point_kept, basic_stands_here, opt_stands_here, IsLedTo, IsWithin, list_level, digest_level, DigestsAgree}
+use Rattle.mm_sides.proofs.Below.{instance_by, plain_outside, lives, within_items, summary_in, place_at, IsSoundIn, AreApartIn}
+use Rattle.mm_sides.proofs.Below.{digests_move, stands_here}
 use Rattle.mm_seal.specs.declared.snapshot.Place.{Place}
 use Rattle.mm_seal.specs.declared.snapshot.Place.TheVariants.{Basic as InBasic, Opt as InOpt}
 use Rattle.mm_model.specs.HistoryWords.{cell_digest_of}

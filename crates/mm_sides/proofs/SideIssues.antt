@@ -1,18 +1,14 @@
 -- Moves keep what both sides issued; and so does every schedule.
 use Rattle.mm_sides.proofs.Below.{ℕ, ◌≡◌, Bool, true, false, List, [], ◌∷◌, Option, None, Some, Result, Ok, Err, refl, sym, ◌∙◌, subst}
 use Rattle.mm_sides.proofs.Below.{if◌then◌else◌, AllByRecursion, Variant, Meaning, StepFault, Meddle, Stop, sealed_snapshot_of, Instance}
-use Rattle.mm_sides.proofs.Below.{History}
-use Rattle.mm_sides.proofs.Below.{first_history, LiveHistory, life_of, NamesPosition, content_of_issue, each_append, StepFate, StepsWalk}
-use Rattle.mm_sides.proofs.Below.{walk, list_level, state_after_moves}
-use Rattle.mm_sides.proofs.Below.{instance_by, course_of, IsIssued, IsSoundIn, Role, Effect, Invites, Leaves, Enters, MoveNotes}
-use Rattle.mm_sides.proofs.Below.{no_notes, is_live, Which, First, Second, Pair, instance_on, Both, sides_swapped, lists_move, first_lists}
-use Rattle.mm_sides.proofs.Below.{MoveCommand, DenialCause, FoundMove, BothAct, Plain, Moves, BothEvent, BothOutcome, is_moved, effect_if}
-use Rattle.mm_sides.proofs.Below.{effect_of}
-use Rattle.mm_sides.proofs.Below.{sides_after_effect_if, state_after_steps, stopped_moves, move_steps, sides_after_issue, move_end_outcome}
-use Rattle.mm_sides.proofs.Below.{outcome_of_found_move, outcome_if_found, found_command}
-use Rattle.mm_sides.proofs.Below.{outcome_here, both_outcome, BothRunOutcome, both_outcome_of_events, notes_with_effect_if, IsNew, IsOursIn}
-use Rattle.mm_sides.proofs.Below.{AreFreshFrom}
-use Rattle.mm_sides.proofs.Below.{EntersLast, history_now, SnapshotsName, SidesIssueNames}
+use Rattle.mm_sides.proofs.Below.{History, first_history, LiveHistory, life_of, NamesPosition, content_of_issue, each_append, StepFate}
+use Rattle.mm_sides.proofs.Below.{StepsWalk, walk, list_level, state_after_moves, instance_by, course_of, IsIssued, IsSoundIn, Role, Effect}
+use Rattle.mm_sides.proofs.Below.{Invites, Leaves, Enters, MoveNotes, no_notes, is_live, Which, First, Second, Pair, instance_on, Both}
+use Rattle.mm_sides.proofs.Below.{sides_swapped, lists_move, first_lists, MoveCommand, DenialCause, FoundMove, BothAct, Plain, Moves}
+use Rattle.mm_sides.proofs.Below.{BothEvent, BothOutcome, is_moved, effect_if, effect_of, sides_after_effect_if, state_after_steps}
+use Rattle.mm_sides.proofs.Below.{stopped_moves, move_steps, sides_after_issue, move_end_outcome, outcome_of_found_move, outcome_if_found}
+use Rattle.mm_sides.proofs.Below.{found_command, outcome_here, both_outcome, BothRunOutcome, both_outcome_of_events, notes_with_effect_if}
+use Rattle.mm_sides.proofs.Below.{IsNew, IsOursIn, AreFreshFrom, EntersLast, history_now, SnapshotsName, SidesIssueNames}
 use Rattle.mm_sides.proofs.InOrder.{not_dead, invites_none, roles_begin}
 use Rattle.mm_sides.proofs.Found.{Fits, FitsFound, FitsIn, finding_fits, IsFine, unbroken, found_is, IsEnded, ended_told, affected_order}
 use Rattle.mm_sides.proofs.Found.{enters_so}

@@ -1,11 +1,10 @@
 -- What both sides issue names positions of where they stand, and of the one history.
 use Rattle.mm_sides.proofs.Below.{ℕ, ◌≡◌, Bool, true, false, List, [], ◌∷◌, refl, sym, ap, ◌∙◌, subst, AllByRecursion, Variant, Basic, Opt}
 use Rattle.mm_sides.proofs.Below.{Meaning, Content, sealed_snapshot_of, Instance, History, RegisterEntry, items_of_all, first_history, Life}
-use Rattle.mm_sides.proofs.Below.{LiveHistory, life_by}
-use Rattle.mm_sides.proofs.Below.{is_empty, are_own, has_value, life_of, NamesPosition, Refusal, list_level}
+use Rattle.mm_sides.proofs.Below.{LiveHistory, life_by, is_empty, are_own, has_value, life_of, NamesPosition, Refusal, list_level}
 use Rattle.mm_sides.proofs.Below.{instance_by, sound_shut, Event, Outcome, event_outcome, vain_event_outcome, IsIssued, IsSoundIn, Role}
-use Rattle.mm_sides.proofs.Below.{Live, MoveNotes, is_live, AreInOrder, Both, sides_swapped, lists_move, plain_outcome}
-use Rattle.mm_sides.proofs.Below.{history_at, history_now, refusal_for_role}
+use Rattle.mm_sides.proofs.Below.{Live, MoveNotes, is_live, AreInOrder, Both, sides_swapped, lists_move, plain_outcome, history_at}
+use Rattle.mm_sides.proofs.Below.{history_now, refusal_for_role}
 use Rattle.mm_model.specs.EndLaws.{first_sound}
 use Rattle.mm_sides.proofs.InOrder.{not_dead, roles_swap}
 use Rattle.mm_sides.proofs.Outer.{in_vain, IsAlike, events_keep_names}

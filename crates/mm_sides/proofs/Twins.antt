@@ -1,15 +1,12 @@
 -- Both sides by digests beside both sides by lists: what holds of them before and after each event.
-use Rattle.mm_sides.proofs.Below.{Basic, Bool, Opt, true}
-use Rattle.mm_sides.proofs.Below.{ℕ, ◌≡◌, false, List, [], ◌∷◌, sym, ◌∙◌, subst, ◌+◌, ◌-◌, None, AllByRecursion, Contains}
-use Rattle.mm_sides.proofs.Below.{Variant, Batch, Meaning, Instance, History, total_of, AreMessagesIn, IsClear, Digests, NamesPosition}
-use Rattle.mm_sides.proofs.Below.{content_of_issue}
-use Rattle.mm_sides.proofs.Below.{place_messages, IsWithin, messages_of_moves, instance_by, TicketContent, KeepsHistory, Role, Live}
-use Rattle.mm_sides.proofs.Below.{Retired, MoveNotes, is_live, AreInOrder, IsLastTicket, Both, sides_swapped, lists_move, digests_move}
-use Rattle.mm_sides.proofs.Below.{BothOutcome, notes_with_effect_if, Plain, Said, plain_outcome, history_at, history_now, Refusal}
-use Rattle.mm_sides.proofs.Below.{each_left}
-use Rattle.mm_sides.proofs.Below.{each_right, list_level, digest_level, Event, Outcome, event_outcome, vain_event_outcome}
-use Rattle.mm_sides.proofs.Below.{event_foreign_values, batches_of}
-use Rattle.mm_sides.proofs.Below.{event_messages, moves_of, AreApartIn, refusal_for_role, vain_moves, plain_messages, IsGenuineHere}
+use Rattle.mm_sides.proofs.Below.{Basic, Bool, Opt, true, ℕ, ◌≡◌, false, List, [], ◌∷◌, sym, ◌∙◌, subst, ◌+◌, ◌-◌, None, AllByRecursion}
+use Rattle.mm_sides.proofs.Below.{Contains, Variant, Batch, Meaning, Instance, History, total_of, AreMessagesIn, IsClear, Digests}
+use Rattle.mm_sides.proofs.Below.{NamesPosition, content_of_issue, place_messages, IsWithin, messages_of_moves, instance_by, TicketContent}
+use Rattle.mm_sides.proofs.Below.{KeepsHistory, Role, Live, Retired, MoveNotes, is_live, AreInOrder, IsLastTicket, Both, sides_swapped}
+use Rattle.mm_sides.proofs.Below.{lists_move, digests_move, BothOutcome, notes_with_effect_if, Plain, Said, plain_outcome, history_at}
+use Rattle.mm_sides.proofs.Below.{history_now, Refusal, each_left, each_right, list_level, digest_level, Event, Outcome, event_outcome}
+use Rattle.mm_sides.proofs.Below.{vain_event_outcome, event_foreign_values, batches_of, event_messages, moves_of, AreApartIn}
+use Rattle.mm_sides.proofs.Below.{refusal_for_role, vain_moves, plain_messages, IsGenuineHere}
 use Rattle.mm_sides.proofs.InOrder.{roles_swap, not_dead}
 use Rattle.mm_sides.proofs.OneHistory.{turned_history, alike_at}
 use Rattle.mm_sides.proofs.Rests.{names_cross, alike_names, issued_cross, within_cross, sound_in}

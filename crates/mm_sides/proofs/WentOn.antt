@@ -2,13 +2,10 @@
 -- requests.
 use Rattle.mm_sides.proofs.Below.{[], ◌&&◌, ◌++◌, ◌+◌, ◌-◌, ◌∙◌, ◌∷◌, ◌≡◌, ◌≤◌, AllByRecursion, anchor_after, anchored_message, ap}
 use Rattle.mm_sides.proofs.Below.{append-nil, are_own, arith, Basic, basic_instance, Batch, Bool, bytes_eq, bytes_eq-Decides, Contains}
-use Rattle.mm_sides.proofs.Below.{Content}
-use Rattle.mm_sides.proofs.Below.{each_left, each_right, RegisterEntry, false, has_value, History, history_messages, if◌then◌else◌, inl}
-use Rattle.mm_sides.proofs.Below.{inr}
-use Rattle.mm_sides.proofs.Below.{Instance, is_empty, is_new, IsClear, IsPlaceOf, IsPoint, items_of_all, length, length-append, Life}
-use Rattle.mm_sides.proofs.Below.{life_by}
-use Rattle.mm_sides.proofs.Below.{List, map, map-append, Meaning, NamesPosition, nat_eq, opt_instance, Opt, place_messages, refl, size_of}
-use Rattle.mm_sides.proofs.Below.{start_message, subst, sym, total_of, true, AreMessagesIn, zero_bytes, ℕ}
+use Rattle.mm_sides.proofs.Below.{Content, each_left, each_right, RegisterEntry, false, has_value, History, history_messages, if◌then◌else◌}
+use Rattle.mm_sides.proofs.Below.{inl, inr, Instance, is_empty, is_new, IsClear, IsPlaceOf, IsPoint, items_of_all, length, length-append}
+use Rattle.mm_sides.proofs.Below.{Life, life_by, List, map, map-append, Meaning, NamesPosition, nat_eq, opt_instance, Opt, place_messages}
+use Rattle.mm_sides.proofs.Below.{refl, size_of, start_message, subst, sym, total_of, true, AreMessagesIn, zero_bytes, ℕ}
 use Rattle.std.proofs.Common.{◌<◌, ◌||◌, ◌⊎◌, append_assoc, take, drop}
 use Rattle.std.proofs.lemmas.Bool.{both_ways, false_from_ne_true, or_parts}
 use Rattle.std.proofs.lemmas.Bool.Decides.{Decides-and, Decides-or, Decides-eqb}

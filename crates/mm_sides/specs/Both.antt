@@ -2,8 +2,7 @@
 -- digests.
 use Rattle.std.specs.Prelude.{ℕ, Bool, true, false, List, []}
 use Rattle.mm_sides.specs.Below.{Variant, Content, Meaning, History, first_history, Instance, Digests, content_of_issue, digest_of, Level}
-use Rattle.mm_sides.specs.Below.{list_level}
-use Rattle.mm_sides.specs.Below.{digest_level, instance_by, summary_in, place_at, first_issued, first_digests}
+use Rattle.mm_sides.specs.Below.{list_level, digest_level, instance_by, summary_in, place_at, first_issued, first_digests}
 use Rattle.mm_sides.specs.Roles.{Role, Blank, Live, is_live}
 
 -- the first side or the second

@@ -2,9 +2,8 @@
 use Rattle.std.specs.Prelude.{ℕ, ◌+◌, ◌-◌, Bool, true, false, List, [], ◌∷◌, ◌++◌, length, Option, None, Some, Result, Ok, Err}
 use Rattle.std.specs.Prelude.{fold, if◌then◌else◌}
 use Rattle.mm_sides.specs.Below.{sealed_snapshot_of, StepFault, Meddle, Stop, History, Move, Instance, Digests, DeviceStep, Reads, Refusal}
-use Rattle.mm_sides.specs.Below.{End, Done}
-use Rattle.mm_sides.specs.Below.{Fails, StepFate, walk, sealed_ticket, Event, Reply, Way, Outcome, way_of, moves_after_stop, course_of}
-use Rattle.mm_sides.specs.Below.{event_outcome, vain_event_outcome, offered_bytes}
+use Rattle.mm_sides.specs.Below.{End, Done, Fails, StepFate, walk, sealed_ticket, Event, Reply, Way, Outcome, way_of, moves_after_stop}
+use Rattle.mm_sides.specs.Below.{course_of, event_outcome, vain_event_outcome, offered_bytes}
 use Rattle.mm_model.specs.declared.refusal.Refusal.TheVariants as refusal
 use Rattle.mm_sides.specs.Roles.{Role, Blank, Live, Waiting, Retired, Effect, Invites, Leaves, Enters, MoveNotes, notes_with_effect}
 use Rattle.mm_sides.specs.Both.{Which, First, Second, Pair, instance_on, SideState, Both, sides_swapped, sides_seen_from, Mover, lists_move}

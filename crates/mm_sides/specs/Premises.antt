@@ -4,10 +4,8 @@ use Rattle.std.specs.Prelude.{ℕ, List, [], ◌∷◌, ◌++◌, Option, None, 
 use Rattle.std.specs.List.{Contains}
 use Rattle.mm_sides.specs.Below.{start_message, Content, Meddle, Stop, Batch, History, Move, Foreign, PowerMove, Instance, is_long, IsClear}
 use Rattle.mm_sides.specs.Below.{place_messages, DeviceStep, Reads, Refusal, messages_of_moves, walk, right_content, TicketContent, Event}
-use Rattle.mm_sides.specs.Below.{Ask}
-use Rattle.mm_sides.specs.Below.{Checkpoint, Power, Extend, course_of, offered_bytes, moves_of, event_messages, event_foreign_values}
-use Rattle.mm_sides.specs.Below.{batches_of}
-use Rattle.mm_sides.specs.Below.{IsGenuineEvent, AreApartIn, IsGenuineOffer}
+use Rattle.mm_sides.specs.Below.{Ask, Checkpoint, Power, Extend, course_of, offered_bytes, moves_of, event_messages, event_foreign_values}
+use Rattle.mm_sides.specs.Below.{batches_of, IsGenuineEvent, AreApartIn, IsGenuineOffer}
 use Rattle.mm_sides.specs.Roles.{Role, Live, Retired, Effect, Invites, MoveNotes, no_notes}
 use Rattle.mm_sides.specs.Both.{First, Pair, instance_on, SideState, Both, sides_seen_from, history_now, lists_move, first_lists}
 use Rattle.mm_sides.specs.Moves.{MoveCommand, Retire, Accept, FoundMove, DenialCause, ticket_in}

@@ -2,14 +2,12 @@
 use Rattle.mm_slots.proofs.Below.{◌≡◌, ◌∙◌, ◌+◌, ◌<◌, ℕ, true, false, List, [], length, Option, None, Some, IsSome, refl, sym, ap, subst}
 use Rattle.mm_slots.proofs.Below.{arith, vec_capacity, option_map, One, meaning_of, Meddle, Quiet, Item, Plan, Standing, next_step}
 use Rattle.mm_slots.proofs.Below.{item_values, register_after, next_plan, quiet_plan, plan_with_meddle, standing_after_cycle, Foreign}
-use Rattle.mm_slots.proofs.Below.{PowerMove}
-use Rattle.mm_slots.proofs.Below.{is_long, Digests, digests_after, register_reading, Extend, rising_from, offered_bytes, plan_by, meddled}
-use Rattle.mm_slots.proofs.Below.{digest_in, flag_in, HasDigests, IsQuiet, extended_standing, stands_extended, stands_settled}
-use Rattle.mm_slots.proofs.Below.{asks_begun, closes_begun, may_take_in, SlotAction, AskInFlight}
-use Rattle.mm_slots.proofs.Below.{CodeFlight, SlotReply, Begun, Replied, Parts, SlotTurn, Asks, event_turn, turn_saying}
-use Rattle.mm_slots.proofs.Below.{with_flight, first_flight, begin_turn, turn_by_action, turn_in_flight, with_meddle, digests_in, slot_in}
-use Rattle.mm_slots.proofs.Below.{flight_in, call_in, instance_in}
-use Rattle.mm_slots.proofs.Below.{PartsFit, SlotComesTo, SlotLosesPower, parts_with_flight, HasRegister, SeatStaysOn}
+use Rattle.mm_slots.proofs.Below.{PowerMove, is_long, Digests, digests_after, register_reading, Extend, rising_from, offered_bytes, plan_by}
+use Rattle.mm_slots.proofs.Below.{meddled, digest_in, flag_in, HasDigests, IsQuiet, extended_standing, stands_extended, stands_settled}
+use Rattle.mm_slots.proofs.Below.{asks_begun, closes_begun, may_take_in, SlotAction, AskInFlight, CodeFlight, SlotReply, Begun, Replied}
+use Rattle.mm_slots.proofs.Below.{Parts, SlotTurn, Asks, event_turn, turn_saying, with_flight, first_flight, begin_turn, turn_by_action}
+use Rattle.mm_slots.proofs.Below.{turn_in_flight, with_meddle, digests_in, slot_in, flight_in, call_in, instance_in, PartsFit, SlotComesTo}
+use Rattle.mm_slots.proofs.Below.{SlotLosesPower, parts_with_flight, HasRegister, SeatStaysOn}
 use Rattle.mm_digest.specs.declared.digest.Digest.{Digest}
 use Rattle.mm_schedule.specs.declared.reply.Reply.TheVariants as reply
 use Rattle.mm_machine.specs.declared.call.OpStage.{OpStage}

@@ -57,8 +57,7 @@ pub use Rattle.mm_play.proofs.Above.{events_err, events_ok, plays_err, unrefused
 pub use Rattle.mm_slots.specs.Answers.{answer_text, answers_text, end_lines, IsSayable, slot_end_line}
 pub use Rattle.mm_slots.specs.Grammar.{action_at, event_at}
 pub use Rattle.mm_slots.specs.HeldParts.{call_in, SlotComesTo, digests_in, PartsFit, FitsCall, FitsFlight, flight_in, parts_with_flight}
-pub use Rattle.mm_slots.specs.HeldParts.{SlotGoesOn, HasRegister}
-pub use Rattle.mm_slots.specs.HeldParts.{instance_in, CallEndsIn, SlotLacksMemory, SlotLosesPower, row_in, slot_in}
+pub use Rattle.mm_slots.specs.HeldParts.{SlotGoesOn, HasRegister, instance_in, CallEndsIn, SlotLacksMemory, SlotLosesPower, row_in, slot_in}
 pub use Rattle.mm_world.specs.Lengths.{within_64}
 pub use Rattle.mm_slots.specs.Laws.{SlotIsOneRun, SlotsAreAlone, SlotsRun}
 pub use Rattle.mm_slots.specs.WholeSlots.{ReportsSlots}
@@ -66,17 +65,14 @@ pub use Rattle.mm_slots.specs.Rows.{RowActs, SlotActsAt, CanCount, IsCounted, Is
 pub use Rattle.mm_slots.specs.Rows.{meetings_at, losses_of_others, EventTells, rows_after_meetings}
 pub use Rattle.mm_world.specs.Seat.{extended_standing, IsFirst, SeatStaysOn}
 pub use Rattle.mm_slots.specs.Tenant.{turn_by_action, turn_in_flight, Acts, Asks, first_flight, begin_turn, SlotCall, Closes, event_by}
-pub use Rattle.mm_slots.specs.Tenant.{first_tenant, Flight, with_flight, turn_over_all}
-pub use Rattle.mm_slots.specs.Tenant.{with_meddle, Loses, turn_saying, Meeting, outcome_in, event_turn, Tenant, tenant_instance}
-pub use Rattle.mm_slots.specs.Tenant.{event_so_far, step_turn}
-pub use Rattle.mm_slots.specs.Tenant.{stop_at, SlotTurn, turn_by_met, power_turn, ActionLacksMemory}
+pub use Rattle.mm_slots.specs.Tenant.{first_tenant, Flight, with_flight, turn_over_all, with_meddle, Loses, turn_saying, Meeting}
+pub use Rattle.mm_slots.specs.Tenant.{outcome_in, event_turn, Tenant, tenant_instance, event_so_far, step_turn, stop_at, SlotTurn}
+pub use Rattle.mm_slots.specs.Tenant.{turn_by_met, power_turn, ActionLacksMemory}
 pub use Rattle.mm_slots.specs.Slots.{slots_after_cycle, selected_standing, Slots}
 pub use Rattle.mm_slots.specs.Stage.{kept_bytes_in, slots_steps, SlotsState}
 pub use Rattle.mm_slots.specs.Table.{rows_after_event, rows_after_all, SlotAnswer, answers, answers_to, items_by_place, cuts_all, first_row}
-pub use Rattle.mm_slots.specs.Table.{first_rows}
-pub use Rattle.mm_slots.specs.Table.{RowsLackMemory, instance_of, is_cut, slot_meetings, event_meetings, PowerLost, Row, row_after}
-pub use Rattle.mm_slots.specs.Table.{slot_replies_at, slot_replies_for, Says}
-pub use Rattle.mm_slots.specs.Table.{OneRowLacksMemory}
+pub use Rattle.mm_slots.specs.Table.{first_rows, RowsLackMemory, instance_of, is_cut, slot_meetings, event_meetings, PowerLost, Row}
+pub use Rattle.mm_slots.specs.Table.{row_after, slot_replies_at, slot_replies_for, Says, OneRowLacksMemory}
 pub use Rattle.mm_slots.specs.declared.event.SlotAction.{SlotAction}
 pub use Rattle.mm_slots.specs.declared.event.SlotEvent.{SlotEvent}
 pub use Rattle.mm_slots.specs.declared.event.SlotEvent.TheVariants.{At, Power}

@@ -1,18 +1,14 @@
 -- A slot over its platform: where no call is in flight, behind a call that is over, and what is planned behind steps that were made.
 use Rattle.mm_slots.proofs.Below.{◌≡◌, ◌∙◌, ◌+◌, ◌^◌, ◌≤◌, ◌<◌, ℕ, List, [], ◌∷◌, Option, None, Some, refl, sym, ap, subst}
 use Rattle.std.specs.List.{sum_by}
-use Rattle.mm_slots.proofs.Below.{◌-◌, length, arith, vec_capacity, most_members, Variant, Basic, Opt, Meaning}
-use Rattle.mm_slots.proofs.Below.{IsLawful, meaning_of, Standing, Instance, Digests, instance_by, Event, Header, Reply, rising_from}
-use Rattle.mm_slots.proofs.Below.{Outcome, few_committed, printable, CallReport, CallComesTo, digest_in, flag_in, value_in, HasDigests}
-use Rattle.mm_slots.proofs.Below.{IsQuiet}
-use Rattle.mm_slots.proofs.Below.{digests_are, counting, CodeFlight, SlotReply, Replied, Parts, IsSayable, Tenant, tenant_instance}
-use Rattle.mm_slots.proofs.Below.{outcome_in}
+use Rattle.mm_slots.proofs.Below.{◌-◌, length, arith, vec_capacity, most_members, Variant, Basic, Opt, Meaning, IsLawful, meaning_of}
+use Rattle.mm_slots.proofs.Below.{Standing, Instance, Digests, instance_by, Event, Header, Reply, rising_from, Outcome, few_committed}
+use Rattle.mm_slots.proofs.Below.{printable, CallReport, CallComesTo, digest_in, flag_in, value_in, HasDigests, IsQuiet, digests_are}
+use Rattle.mm_slots.proofs.Below.{counting, CodeFlight, SlotReply, Replied, Parts, IsSayable, Tenant, tenant_instance, outcome_in}
 use Rattle.mm_slots.proofs.Below.{event_turn, digests_in, slot_in, flight_in, instance_in, FitsFlight, PartsFit, SlotComesTo}
-use Rattle.mm_slots.proofs.Below.{parts_with_flight, HasRegister}
-use Rattle.mm_slots.proofs.Below.{within_64, CallEndsIn, next_plan, Bool, true, cond, option_map_or, Meddle, Quiet, Plan}
-use Rattle.mm_slots.proofs.Below.{quiet_plan, digests_after, plan_by, is_nothing, Going, Flight, SlotTurn, turn_saying, with_flight}
-use Rattle.mm_slots.proofs.Below.{event_so_far}
-use Rattle.mm_slots.proofs.Below.{step_turn, call_in, FitsCall, SlotGoesOn}
+use Rattle.mm_slots.proofs.Below.{parts_with_flight, HasRegister, within_64, CallEndsIn, next_plan, Bool, true, cond, option_map_or, Meddle}
+use Rattle.mm_slots.proofs.Below.{Quiet, Plan, quiet_plan, digests_after, plan_by, is_nothing, Going, Flight, SlotTurn, turn_saying}
+use Rattle.mm_slots.proofs.Below.{with_flight, event_so_far, step_turn, call_in, FitsCall, SlotGoesOn}
 use Rattle.mm_modules.specs.ModulesLaws.{any_is_lawful}
 use Rattle.mm_slots.proofs.Below.{flight_takes_in, meddled, plan_with_meddle, option_map, One}
 use Rattle.mm_digest.specs.declared.digest.Digest.{Digest}

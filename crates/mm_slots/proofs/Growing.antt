@@ -1,17 +1,13 @@
 -- What slots among their events keep: how many requests and snapshots they count.
-use Rattle.mm_slots.proofs.Below.{◌≡◌, ◌∙◌, ◌+◌, ◌^◌, ◌≤◌, ◌<◌, ◌==◌, inl, inr, ℕ, zero, suc, Bool, true, false, cond, List}
-use Rattle.mm_slots.proofs.Below.{[], ◌∷◌, length, Option, None, Some, Result, Ok, Err, OnOk, OnErr, refl, sym, ap, subst}
-use Rattle.mm_slots.proofs.Below.{arith, slice_get, slice_set, most_events, most_members}
-use Rattle.mm_slots.proofs.Below.{Batch, One, Quiet, Instance, digest_level, state_after_moves, course_of, few_committed, issues_one}
-use Rattle.mm_slots.proofs.Below.{count_none}
-use Rattle.mm_slots.proofs.Below.{stop_behind, offered_bytes, is_long, Offer, Event, Ask, Extend, Header}
-use Rattle.mm_slots.proofs.Below.{SlotEvent, Power, At, SlotAction, IsWithin, KeepsAll, Row, row_after, items_by_place}
+use Rattle.mm_slots.proofs.Below.{◌≡◌, ◌∙◌, ◌+◌, ◌^◌, ◌≤◌, ◌<◌, ◌==◌, inl, inr, ℕ, zero, suc, Bool, true, false, cond, List, [], ◌∷◌}
+use Rattle.mm_slots.proofs.Below.{length, Option, None, Some, Result, Ok, Err, OnOk, OnErr, refl, sym, ap, subst, arith, slice_get}
+use Rattle.mm_slots.proofs.Below.{slice_set, most_events, most_members, Batch, One, Quiet, Instance, digest_level, state_after_moves}
+use Rattle.mm_slots.proofs.Below.{course_of, few_committed, issues_one, count_none, stop_behind, offered_bytes, is_long, Offer, Event, Ask}
+use Rattle.mm_slots.proofs.Below.{Extend, Header, SlotEvent, Power, At, SlotAction, IsWithin, KeepsAll, Row, row_after, items_by_place}
 use Rattle.mm_slots.proofs.Below.{first_row, first_rows, rows_after_event, event_meetings, cuts_all, RowsLackMemory, OneRowLacksMemory}
-use Rattle.mm_slots.proofs.Below.{Tenant, Flight, SlotTurn, Meeting, Acts, Loses}
-use Rattle.mm_slots.proofs.Below.{instance_of, ActionLacksMemory, turn_in_flight, begin_turn, event_by, with_flight, with_meddle}
-use Rattle.mm_slots.proofs.Below.{first_flight, turn_saying, event_turn, event_so_far}
-use Rattle.mm_slots.proofs.Below.{Going, is_nothing, outcome_in}
-use Rattle.mm_slots.proofs.Below.{stop_at, turn_by_met, Begun, SlotCall, Asks, Closes}
+use Rattle.mm_slots.proofs.Below.{Tenant, Flight, SlotTurn, Meeting, Acts, Loses, instance_of, ActionLacksMemory, turn_in_flight}
+use Rattle.mm_slots.proofs.Below.{begin_turn, event_by, with_flight, with_meddle, first_flight, turn_saying, event_turn, event_so_far}
+use Rattle.mm_slots.proofs.Below.{Going, is_nothing, outcome_in, stop_at, turn_by_met, Begun, SlotCall, Asks, Closes}
 use Rattle.std.specs.List.{All}
 use Rattle.std.specs.Prelude.{take, drop, ◌++◌}
 use Rattle.std.proofs.lemmas.List.Elements.{All-cons, All-head, All-nil, All-set, All-tail, All-weaker}

@@ -1,8 +1,7 @@
 -- A slot that is the same but for the room of its snapshots, and a call that isn't begun.
 use Rattle.mm_slots.proofs.Below.{◌≡◌, ◌∙◌, None, sym, ap, subst, digest_in, flag_in, next_plan, Standing, HasDigests, Digests, Instance}
-use Rattle.mm_slots.proofs.Below.{IsQuiet}
-use Rattle.mm_slots.proofs.Below.{SlotAction, SlotReply, Parts, SlotTurn, turn_by_action, digests_in, slot_in, flight_in, instance_in}
-use Rattle.mm_slots.proofs.Below.{PartsFit, SlotComesTo}
+use Rattle.mm_slots.proofs.Below.{IsQuiet, SlotAction, SlotReply, Parts, SlotTurn, turn_by_action, digests_in, slot_in, flight_in}
+use Rattle.mm_slots.proofs.Below.{instance_in, PartsFit, SlotComesTo}
 use Rattle.mm_slots.proofs.Fitting.{FitsWith, idle, same_instance}
 
 pub record IsSame (slot mid : Parts) : Type 0 where

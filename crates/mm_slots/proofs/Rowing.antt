@@ -2,10 +2,8 @@
 use Rattle.mm_slots.proofs.Below.{◌≡◌, ◌∙◌, ◌+◌, ◌≤◌, ◌<◌, ◌==◌, ℕ, zero, suc, Bool, true, false, cond, List, [], ◌∷◌, ◌++◌, length, get_or}
 use Rattle.mm_slots.proofs.Below.{slice_set, Option, refl, sym, ap, append-nil, arith, eq-eqb, ne_eqb, eqb-true, nat_tests, if◌then◌else◌}
 use Rattle.mm_slots.proofs.Below.{option_map_or, slice_get-get_or, SlotAction, SlotReply, SlotTurn, Meeting, Acts, Loses, turn_by_action}
-use Rattle.mm_slots.proofs.Below.{Row, instance_of, row_after}
-use Rattle.mm_slots.proofs.Below.{items_by_place, OneRowLacksMemory, RowActs, RowLacksMemory, SlotActsAt, rows_after_meetings, meetings_at}
-use Rattle.mm_slots.proofs.Below.{losses_of_others, loss_of_one}
-use Rattle.mm_slots.proofs.Below.{Result, Ok, Err, IfOk, OnErr}
+use Rattle.mm_slots.proofs.Below.{Row, instance_of, row_after, items_by_place, OneRowLacksMemory, RowActs, RowLacksMemory, SlotActsAt}
+use Rattle.mm_slots.proofs.Below.{rows_after_meetings, meetings_at, losses_of_others, loss_of_one, Result, Ok, Err, IfOk, OnErr}
 use Rattle.std.specs.Prelude.{nat_lt}
 use Rattle.mm_slots.proofs.Alone.{folded_more}
 

@@ -1,12 +1,10 @@
 -- The calls of a slot that are over are a schedule, told by digests; and what is said for it has their replies.
-use Rattle.mm_slots.proofs.Below.{◌≡◌, ◌∙◌, ℕ, Bool, true, false, List, [], ◌∷◌, ◌++◌, Option, None, Some, refl, sym, ap, subst}
-use Rattle.mm_slots.proofs.Below.{Variant, Basic, Opt, Batch, One, Meaning, Instance, first_history, requests_of, is_long, Digests}
-use Rattle.mm_slots.proofs.Below.{digest_level, instance_by, Event, Offer, IsEventRun, RunOutcome, outcome_of_events, outcome_by_lists}
-use Rattle.mm_slots.proofs.Below.{outcome_by_digests}
-use Rattle.mm_slots.proofs.Below.{offered_bytes, is_nothing, SlotAction, Tenant, Flight, SlotTurn, Meeting, Acts, Loses, turn_by_met}
-use Rattle.mm_slots.proofs.Below.{turn_in_flight, begin_turn}
-use Rattle.mm_slots.proofs.Below.{step_turn, outcome_in, event_so_far, turn_over_all, first_tenant, SlotIsOneRun, SlotsRun, ◌+◌, ap₂}
-use Rattle.mm_slots.proofs.Below.{if◌then◌else◌}
+use Rattle.mm_slots.proofs.Below.{◌≡◌, ◌∙◌, ℕ, Bool, true, false, List, [], ◌∷◌, ◌++◌, Option, None, Some, refl, sym, ap, subst, Variant}
+use Rattle.mm_slots.proofs.Below.{Basic, Opt, Batch, One, Meaning, Instance, first_history, requests_of, is_long, Digests, digest_level}
+use Rattle.mm_slots.proofs.Below.{instance_by, Event, Offer, IsEventRun, RunOutcome, outcome_of_events, outcome_by_lists}
+use Rattle.mm_slots.proofs.Below.{outcome_by_digests, offered_bytes, is_nothing, SlotAction, Tenant, Flight, SlotTurn, Meeting, Acts, Loses}
+use Rattle.mm_slots.proofs.Below.{turn_by_met, turn_in_flight, begin_turn, step_turn, outcome_in, event_so_far, turn_over_all, first_tenant}
+use Rattle.mm_slots.proofs.Below.{SlotIsOneRun, SlotsRun, ◌+◌, ap₂, if◌then◌else◌}
 use Rattle.mm_slots.proofs.Alone.{followed_by}
 use Rattle.mm_slots.proofs.Below.{flat_map, flat_map-append, Ask, Reply, Begun, Going, Asks, first_flight, with_flight, turn_saying}
 use Rattle.mm_slots.proofs.Below.{event_turn}

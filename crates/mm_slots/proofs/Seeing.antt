@@ -1,8 +1,7 @@
 -- What the parts of a slot come to, as contracts see the slot.
 use Rattle.mm_slots.proofs.Below.{◌≡◌, [], ◌∷◌, Result, Ok, Err, IfOk, OnErr, ◌<◌, ◌^◌, refl, sym, subst, SlotAction, SlotReply, Parts, Row}
 use Rattle.mm_slots.proofs.Below.{row_after, Tenant, Loses, turn_by_action, slot_in, instance_in, row_in, PartsFit, SlotGoesOn, SlotComesTo}
-use Rattle.mm_slots.proofs.Below.{SlotLacksMemory, SlotLosesPower}
-use Rattle.mm_slots.proofs.Below.{RowActs, RowLacksMemory, CanCount}
+use Rattle.mm_slots.proofs.Below.{SlotLacksMemory, SlotLosesPower, RowActs, RowLacksMemory, CanCount}
 use Rattle.mm_base.specs.declared.fault.Memory.{Memory}
 
 -- the row of a slot that went on

@@ -1,10 +1,9 @@
 -- The slots at first: each is as its header and number say.
 use Rattle.mm_slots.proofs.Below.{◌≡◌, ◌∙◌, ◌+◌, ◌<◌, ℕ, List, [], ◌∷◌, ◌++◌, length, take, get_or, None, Some, refl, sym, ap, subst, arith}
-use Rattle.mm_slots.proofs.Below.{length-take-le, take_more, next_plan, Standing, first_history, cell_of}
-use Rattle.mm_slots.proofs.Below.{cell_spelling, meaning_of, first_digests, register_reading, Header, IsQuiet, HasDigests, stands_new}
-use Rattle.mm_slots.proofs.Below.{Parts}
-use Rattle.mm_slots.proofs.Below.{IsFirst, digests_in, flight_in, instance_in, PartsFit, HasRegister, row_in}
-use Rattle.mm_slots.proofs.Below.{tenant_instance, items_by_place, first_row, first_rows, Row}
+use Rattle.mm_slots.proofs.Below.{length-take-le, take_more, next_plan, Standing, first_history, cell_of, cell_spelling, meaning_of}
+use Rattle.mm_slots.proofs.Below.{first_digests, register_reading, Header, IsQuiet, HasDigests, stands_new, Parts, IsFirst, digests_in}
+use Rattle.mm_slots.proofs.Below.{flight_in, instance_in, PartsFit, HasRegister, row_in, tenant_instance, items_by_place, first_row}
+use Rattle.mm_slots.proofs.Below.{first_rows, Row}
 use Rattle.std.proofs.lemmas.List.FromFn.{length-range_with_len}
 use Rattle.mm_digest.specs.Messages.{zero_bytes}
 use Rattle.mm_outcome.specs.WorldState.{rising_from}

@@ -1,14 +1,12 @@
 -- The call in flight of a slot: its next step, and a step that breaks it off.
 use Rattle.mm_slots.proofs.Below.{◌≡◌, ◌∙◌, ◌+◌, ◌^◌, ◌<◌, ℕ, Bool, true, false, cond, List, Option, None, Some, Result, Ok, Err, IsSome}
-use Rattle.mm_slots.proofs.Below.{refl, sym, ap, subst, arith, eq-eqb, One, meaning_of, Stop, Quiet, Plan, Standing, next_step}
-use Rattle.mm_slots.proofs.Below.{next_plan, Digests, digest_level, state_after_moves, course_of, rising_from, plan_by, CallReport}
-use Rattle.mm_slots.proofs.Below.{is_nothing}
+use Rattle.mm_slots.proofs.Below.{refl, sym, ap, subst, arith, eq-eqb, One, meaning_of, Stop, Quiet, Plan, Standing, next_step, next_plan}
+use Rattle.mm_slots.proofs.Below.{Digests, digest_level, state_after_moves, course_of, rising_from, plan_by, CallReport, is_nothing}
 use Rattle.mm_slots.proofs.Below.{stop_behind, FlightStepsAs, FlightBreaksAs, MayStepOn, asks_stepped, asks_broken_off, closes_stepped}
 use Rattle.mm_slots.proofs.Below.{closes_broken_off, AskInFlight, CheckpointInFlight, CodeFlight, SlotReply, Going, Parts, SlotTurn}
-use Rattle.mm_slots.proofs.Below.{outcome_in, event_turn, turn_saying}
-use Rattle.mm_slots.proofs.Below.{with_flight, event_so_far, step_turn, event_by, stop_at, digests_in, slot_in, call_in, instance_in}
-use Rattle.mm_slots.proofs.Below.{PartsFit, SlotLacksMemory}
-use Rattle.mm_slots.proofs.Below.{SlotComesTo, parts_with_flight, flight_in, HasRegister, CallEndsIn, count_none, vec_capacity}
+use Rattle.mm_slots.proofs.Below.{outcome_in, event_turn, turn_saying, with_flight, event_so_far, step_turn, event_by, stop_at, digests_in}
+use Rattle.mm_slots.proofs.Below.{slot_in, call_in, instance_in, PartsFit, SlotLacksMemory, SlotComesTo, parts_with_flight, flight_in}
+use Rattle.mm_slots.proofs.Below.{HasRegister, CallEndsIn, count_none, vec_capacity}
 use Rattle.mm_base.specs.declared.fault.Memory.{Memory}
 use Rattle.mm_platform.specs.Steps.{fault_at}
 use Rattle.mm_model.specs.declared.answer.BatchAnswer.{BatchAnswer}

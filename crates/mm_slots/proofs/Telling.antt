@@ -1,10 +1,8 @@
 -- Slots show of events what is told of whole slots.
 use Rattle.mm_slots.proofs.Below.{◌≡◌, ◌∙◌, ◌≤◌, ◌<◌, ℕ, Bool, true, false, cond, ◌||◌, ◌==◌, List, [], ◌∷◌, ◌++◌, nat_lt, Option, None}
 use Rattle.mm_slots.proofs.Below.{Some, refl, sym, ap, subst, arith, codes, slice_get, option_map, nat_tests, Header, rest_after_prefix}
-use Rattle.mm_slots.proofs.Below.{number_at}
-use Rattle.mm_slots.proofs.Below.{rising_from, SlotEvent, end_lines, event_at, SlotsRun, slots_steps, kept_bytes_in, Row, first_row}
-use Rattle.mm_slots.proofs.Below.{first_rows, answers}
-use Rattle.mm_slots.proofs.Below.{slot_meetings, rows_after_all, meaning_of}
+use Rattle.mm_slots.proofs.Below.{number_at, rising_from, SlotEvent, end_lines, event_at, SlotsRun, slots_steps, kept_bytes_in, Row}
+use Rattle.mm_slots.proofs.Below.{first_row, first_rows, answers, slot_meetings, rows_after_all, meaning_of}
 use Rattle.mm_play.specs.StageShows.{StageShows}
 use Rattle.mm_replay.proofs.Above.{promised_run}
 use Rattle.mm_slots.specs.Grammar.{slot_count_at}

@@ -1,6 +1,5 @@
 -- The parts of a slot in code, and what they keep.
-use Rattle.std.specs.Prelude.{◌≡◌, ◌+◌, ◌<◌, ℕ, false, List, [], ◌∷◌, length, Option, None, Some}
-use Rattle.std.specs.Prelude.{vec_capacity}
+use Rattle.std.specs.Prelude.{◌≡◌, ◌+◌, ◌<◌, ℕ, false, List, [], ◌∷◌, length, Option, None, Some, vec_capacity}
 use Rattle.mm_module.specs.Batch.{One}
 use Rattle.mm_modules.specs.Modules.{meaning_of}
 use Rattle.mm_platform.specs.Standing.{Plan, Standing}

@@ -1,8 +1,7 @@
 -- How a call in flight begins, and takes in a value of others.
 use Rattle.mm_steps.proofs.Below.{◌≡◌, ℕ, ◌<◌, List, [], Some, refl, sym, subst, option_map, Variant, Meddle, Plan, Standing}
-use Rattle.mm_steps.proofs.Below.{plan_with_meddle}
-use Rattle.mm_steps.proofs.Below.{next_plan, Meaning, Batch, Digests, instance_by, OpEnds, OpStage, Begun, begins, takes_in, meddled}
-use Rattle.mm_steps.proofs.Below.{MayGoOn, HasDigests, IsQuiet, ask_kind, checkpoint_kind, IsInFlight, Kind}
+use Rattle.mm_steps.proofs.Below.{plan_with_meddle, next_plan, Meaning, Batch, Digests, instance_by, OpEnds, OpStage, Begun, begins}
+use Rattle.mm_steps.proofs.Below.{takes_in, meddled, MayGoOn, HasDigests, IsQuiet, ask_kind, checkpoint_kind, IsInFlight, Kind}
 use Rattle.mm_digest.specs.declared.digest.Digest.{Digest}
 use Rattle.mm_model.specs.Instance.{Instance}
 use Rattle.mm_ask.proofs.Above.{begun_stage}

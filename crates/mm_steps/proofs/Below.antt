@@ -33,8 +33,7 @@ pub use Rattle.mm_machine.specs.declared.change.Change.TheVariants.{Emptying, Ex
 pub use Rattle.mm_flight.specs.Flight.{PlanAgreesWith, plan_by, PlansAgreeAt, standing_under}
 pub use Rattle.mm_flight.specs.Machine.{CallEndsUnder, fault_of_step, CallFlies, is_broken}
 pub use Rattle.mm_flight.proofs.Above.{AlwaysFails, begins, commits_at, counted_few, finish_breaks, goes_on, may_planned, meddled, replans}
-pub use Rattle.mm_flight.proofs.Above.{Replans}
-pub use Rattle.mm_flight.proofs.Above.{steps_fail, steps_faultless, steps_move, steps_over, steps_then, steps_under, takes_in}
+pub use Rattle.mm_flight.proofs.Above.{Replans, steps_fail, steps_faultless, steps_move, steps_over, steps_then, steps_under, takes_in}
 pub use Rattle.mm_world.specs.declared.call.CallReport.{CallReport}
 pub use Rattle.mm_world.specs.OwnCalls.{CallComesTo, HasRead}
 pub use Rattle.mm_world.specs.Calls.{SettlesPlan, stopped_step}

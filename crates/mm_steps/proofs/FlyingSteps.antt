@@ -1,15 +1,12 @@
 -- The next step of a call in flight, and a step that breaks it off.
-use Rattle.mm_steps.proofs.Below.{◌≡◌, ℕ, ◌+◌, ◌<◌, ◌≤◌, true, false, List, Option, Some, None, Result, Ok, Err, refl, sym, ◌∙◌}
-use Rattle.mm_steps.proofs.Below.{subst, arith, option_map, next_count, Memory, StepFault, Failed, Meddle, Stop, Quiet, Plan, Standing}
-use Rattle.mm_steps.proofs.Below.{plan_with_stop}
-use Rattle.mm_steps.proofs.Below.{standing_after_step, number_in, OpMeaning, OpEnds, act_of, MayGoOn, number_of, OpSteps, OpResult, Broken}
-use Rattle.mm_steps.proofs.Below.{OpStage}
-use Rattle.mm_steps.proofs.Below.{Begun, Seen, Changing, StepResult, Going, Over, Move, Extending, Emptying, Placing, Writing, plan_by}
-use Rattle.mm_steps.proofs.Below.{standing_under}
-use Rattle.mm_steps.proofs.Below.{CallEndsUnder, fault_of_step, CallFlies, is_broken, AlwaysFails, commits_at, finish_breaks, goes_on}
-use Rattle.mm_steps.proofs.Below.{may_planned, steps_fail}
-use Rattle.mm_steps.proofs.Below.{steps_faultless, steps_move, steps_over, steps_then, steps_under, CallReport, SettlesPlan, stopped_step}
-use Rattle.mm_steps.proofs.Below.{plan_behind, FlightBreaksAs, FlightGoesOn, IsOver, BreaksNext, stop_behind}
+use Rattle.mm_steps.proofs.Below.{◌≡◌, ℕ, ◌+◌, ◌<◌, ◌≤◌, true, false, List, Option, Some, None, Result, Ok, Err, refl, sym, ◌∙◌, subst}
+use Rattle.mm_steps.proofs.Below.{arith, option_map, next_count, Memory, StepFault, Failed, Meddle, Stop, Quiet, Plan, Standing}
+use Rattle.mm_steps.proofs.Below.{plan_with_stop, standing_after_step, number_in, OpMeaning, OpEnds, act_of, MayGoOn, number_of, OpSteps}
+use Rattle.mm_steps.proofs.Below.{OpResult, Broken, OpStage, Begun, Seen, Changing, StepResult, Going, Over, Move, Extending, Emptying}
+use Rattle.mm_steps.proofs.Below.{Placing, Writing, plan_by, standing_under, CallEndsUnder, fault_of_step, CallFlies, is_broken}
+use Rattle.mm_steps.proofs.Below.{AlwaysFails, commits_at, finish_breaks, goes_on, may_planned, steps_fail, steps_faultless, steps_move}
+use Rattle.mm_steps.proofs.Below.{steps_over, steps_then, steps_under, CallReport, SettlesPlan, stopped_step, plan_behind, FlightBreaksAs}
+use Rattle.mm_steps.proofs.Below.{FlightGoesOn, IsOver, BreaksNext, stop_behind}
 use Rattle.std.specs.Result.{IsOk}
 use Rattle.mm_steps.proofs.Stopping.{always_fails, goes_as, fails_next, replans_behind, later_than, settled_under, stopped_under}
 

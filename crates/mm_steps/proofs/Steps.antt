@@ -1,13 +1,11 @@
 -- What the next step of a call in flight, and one that breaks it off, come to by the call's event.
 use Rattle.mm_steps.proofs.Below.{◌≡◌, ℕ, ◌+◌, Bool, true, false, ◌&&◌, List, Option, None, Some, Result, Ok, Err, refl, sym, ap, ◌∙◌}
-use Rattle.mm_steps.proofs.Below.{subst, is_some, MatchResult, Memory, Variant, Failed, Meddle, Stop, Fail, Standing}
-use Rattle.mm_steps.proofs.Below.{quiet_plan, standing_after_step, Batch, size_of, Meaning, Digests, instance_by, act_of, number_of}
-use Rattle.mm_steps.proofs.Below.{OpSteps, OpResult, Broken}
-use Rattle.mm_steps.proofs.Below.{OpStage, Going, standing_under, plan_by, is_broken, commits_at, CallReport, CallComesTo, HasRead}
-use Rattle.mm_steps.proofs.Below.{stopped_step, TellsAsk, TellsCheckpoint}
-use Rattle.mm_steps.proofs.Below.{WasPlanned, IsQuiet, HasDigests, FlightBreaksAs, MayStepOn, FlightStepsAs, outcome_of_stopped_ask}
-use Rattle.mm_steps.proofs.Below.{ask_kind, checkpoint_kind, outcome_of_stopped_closing}
-use Rattle.mm_steps.proofs.Below.{IsInFlight, Kind, StepComesTo, is_nothing, stop_behind}
+use Rattle.mm_steps.proofs.Below.{subst, is_some, MatchResult, Memory, Variant, Failed, Meddle, Stop, Fail, Standing, quiet_plan}
+use Rattle.mm_steps.proofs.Below.{standing_after_step, Batch, size_of, Meaning, Digests, instance_by, act_of, number_of, OpSteps, OpResult}
+use Rattle.mm_steps.proofs.Below.{Broken, OpStage, Going, standing_under, plan_by, is_broken, commits_at, CallReport, CallComesTo, HasRead}
+use Rattle.mm_steps.proofs.Below.{stopped_step, TellsAsk, TellsCheckpoint, WasPlanned, IsQuiet, HasDigests, FlightBreaksAs, MayStepOn}
+use Rattle.mm_steps.proofs.Below.{FlightStepsAs, outcome_of_stopped_ask, ask_kind, checkpoint_kind, outcome_of_stopped_closing, IsInFlight}
+use Rattle.mm_steps.proofs.Below.{Kind, StepComesTo, is_nothing, stop_behind}
 use Rattle.mm_model.specs.Instance.{Instance}
 use Rattle.mm_model.specs.Long.{is_long}
 use Rattle.mm_model.specs.declared.answer.BatchAnswer.{BatchAnswer}

@@ -1,10 +1,9 @@
 -- A stop says nothing of the steps before it; and what its step comes to.
 use Rattle.mm_steps.proofs.Below.{◌≡◌, ℕ, ◌+◌, ◌<◌, ◌≤◌, Bool, true, false, List, Option, None, Some, refl, sym, ap, ◌∙◌, arith, ◌==◌}
-use Rattle.mm_steps.proofs.Below.{is_some, option_map, next_count, StepFault, Failed, Meddle, Stop, Quiet, Cut, Drop, Fail}
-use Rattle.mm_steps.proofs.Below.{Plan, Standing, next_step, plan_with_stop, standing_after_step, plan_by, standing_under, PlansAgreeAt}
-use Rattle.mm_steps.proofs.Below.{PlanAgreesWith, AlwaysFails}
-use Rattle.mm_steps.proofs.Below.{counted_few, Replans, stopped_step, SettlesPlan, BreaksNext, stop_behind, replans, quiet_plan}
-use Rattle.mm_steps.proofs.Below.{plan_behind}
+use Rattle.mm_steps.proofs.Below.{is_some, option_map, next_count, StepFault, Failed, Meddle, Stop, Quiet, Cut, Drop, Fail, Plan, Standing}
+use Rattle.mm_steps.proofs.Below.{next_step, plan_with_stop, standing_after_step, plan_by, standing_under, PlansAgreeAt, PlanAgreesWith}
+use Rattle.mm_steps.proofs.Below.{AlwaysFails, counted_few, Replans, stopped_step, SettlesPlan, BreaksNext, stop_behind, replans}
+use Rattle.mm_steps.proofs.Below.{quiet_plan, plan_behind}
 use Rattle.std.proofs.lemmas.Bool.{ne_eqb}
 use Rattle.std.proofs.lemmas.Bool.Decides.{nat_tests}
 use Rattle.mm_platform.specs.Steps.{Act, StepGoes, fault_at}

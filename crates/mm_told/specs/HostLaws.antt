@@ -5,8 +5,7 @@ use Rattle.mm_platform.specs.declared.fault.StepFault.{StepFault}
 use Rattle.mm_platform.specs.declared.fault.StepFault.TheVariants.{Failed, Off}
 use Rattle.mm_platform.specs.Standing.{Standing}
 use Rattle.mm_platform.specs.Steps.{Act, ReadCell, WriteCell, ReadRegister, ResetRegister, ExtendRegister, DeviceStepEnds, StepGoes}
-use Rattle.mm_platform.specs.Steps.{items_beside}
-use Rattle.mm_platform.specs.Steps.{cell_after, items_after, writes_after}
+use Rattle.mm_platform.specs.Steps.{items_beside, cell_after, items_after, writes_after}
 use Rattle.mm_told.specs.declared.step.MadeStep.{MadeStep}
 use Rattle.mm_told.specs.declared.step.MadeStep.TheVariants as made
 use Rattle.mm_told.specs.Steps.{ReadIsTrue, made_act, fault_of_answer}

@@ -1,16 +1,13 @@
 -- What an acceptance finds in a side's cell is what it finds by the side's role.
-use Rattle.mm_transfer.proofs.Below.{◌≡◌, ℕ, Bool, true, false, List, [], ◌∷◌, length, None, Result, Ok, Err, refl, sym, ap, ◌∙◌}
-use Rattle.mm_transfer.proofs.Below.{subst, ◌&&◌, ◌||◌, not, if◌then◌else◌, list_any, bytes_eq, Variant, zero_bytes, anchored_digest_of}
-use Rattle.mm_transfer.proofs.Below.{Meaning, PartsFault, Form, Kind, Place, InBasic, InOpt}
-use Rattle.mm_transfer.proofs.Below.{variant_of, Instance, Digests, digest_of, Refusal, digest_level, cell_at}
-use Rattle.mm_transfer.proofs.Below.{Link, MoveRefusal, moved_cell_of, is_barred}
-use Rattle.mm_transfer.proofs.Below.{is_other, is_place_at, acceptance_of}
-use Rattle.mm_transfer.proofs.Below.{acceptance_by, acceptance_again_by, acceptance_in, refusal_if, TicketContent, TaggedTicket}
-use Rattle.mm_transfer.proofs.Below.{IsTicket, SpellsTicket, summary_in, place_at, ticket_of, bytes_are, bytes_tell}
-use Rattle.mm_transfer.proofs.Below.{tickets_are_read, Blank, Live, Waits, Left, Enters, Refused}
-use Rattle.mm_transfer.proofs.Below.{stands_here, ticket_by, entry_by_ticket}
-use Rattle.mm_transfer.proofs.Below.{repeated_entry, acceptance_on, waiting_cell_at, cell_of_role}
-use Rattle.mm_transfer.proofs.Below.{GivesEntry, IsSaid, MatchesRole, FitsCell, IsPlace, Role}
+use Rattle.mm_transfer.proofs.Below.{◌≡◌, ℕ, Bool, true, false, List, [], ◌∷◌, length, None, Result, Ok, Err, refl, sym, ap, ◌∙◌, subst}
+use Rattle.mm_transfer.proofs.Below.{◌&&◌, ◌||◌, not, if◌then◌else◌, list_any, bytes_eq, Variant, zero_bytes, anchored_digest_of, Meaning}
+use Rattle.mm_transfer.proofs.Below.{PartsFault, Form, Kind, Place, InBasic, InOpt, variant_of, Instance, Digests, digest_of, Refusal}
+use Rattle.mm_transfer.proofs.Below.{digest_level, cell_at, Link, MoveRefusal, moved_cell_of, is_barred, is_other, is_place_at}
+use Rattle.mm_transfer.proofs.Below.{acceptance_of, acceptance_by, acceptance_again_by, acceptance_in, refusal_if, TicketContent}
+use Rattle.mm_transfer.proofs.Below.{TaggedTicket, IsTicket, SpellsTicket, summary_in, place_at, ticket_of, bytes_are, bytes_tell}
+use Rattle.mm_transfer.proofs.Below.{tickets_are_read, Blank, Live, Waits, Left, Enters, Refused, stands_here, ticket_by, entry_by_ticket}
+use Rattle.mm_transfer.proofs.Below.{repeated_entry, acceptance_on, waiting_cell_at, cell_of_role, GivesEntry, IsSaid, MatchesRole}
+use Rattle.mm_transfer.proofs.Below.{FitsCell, IsPlace, Role}
 use Rattle.mm_digest.specs.declared.digest.Digest.{Digest}
 use Rattle.mm_digest.specs.declared.variant.Variant.TheVariants as variants
 use Rattle.mm_model.specs.Verdicts.{fits_fresh}

@@ -1,17 +1,14 @@
 -- An acceptance on a side comes to what it comes to by digests.
-use Rattle.mm_transfer.proofs.Below.{◌≡◌, ◌&&◌, ℕ, Bool, true, false, not, List, [], ◌∷◌, ◌++◌, length, None, Some, Result, Ok}
-use Rattle.mm_transfer.proofs.Below.{Err, inl, inr, refl, sym, ap, ◌∙◌, subst, arith, length-append, MatchResult, if◌then◌else◌}
-use Rattle.mm_transfer.proofs.Below.{Memory, Meaning, Meddle, Stop, Standing, Instance, Digests, walk, digest_level, course_of}
-use Rattle.mm_transfer.proofs.Below.{offered_bytes}
-use Rattle.mm_transfer.proofs.Below.{Offer, MoveRefusal, moved_cell_of, acceptance_in, TicketContent, ticket_of, place_at, Content}
-use Rattle.mm_transfer.proofs.Below.{sealed_snapshot_of}
-use Rattle.mm_transfer.proofs.Below.{digest_of, Role, Effect, Enters, is_live, role_after, Which, Pair, key_of, instance_on, Both}
-use Rattle.mm_transfer.proofs.Below.{digests_move, DenialCause, FoundMove, Accept, acceptance_on, ticket_by, ticket_in, move_steps}
-use Rattle.mm_transfer.proofs.Below.{effect_of}
-use Rattle.mm_transfer.proofs.Below.{sides_after_issue, effect_reply, found_acceptance, IssuedTickets, MoveReply, CodeSide, TellsEntry}
-use Rattle.mm_transfer.proofs.Below.{both_with, outcome_of_command, FitsIssuedTickets}
-use Rattle.mm_transfer.proofs.Below.{CommandDone, CommandLacks, has_moved, link_of, role_in, at_in, FitsSide, move_reply_of}
-use Rattle.mm_transfer.proofs.Below.{cell_of_role, digests_after_move, GivesEntry, GivesEntryBy, FitsLive, MatchesRole, FitsCell}
+use Rattle.mm_transfer.proofs.Below.{◌≡◌, ◌&&◌, ℕ, Bool, true, false, not, List, [], ◌∷◌, ◌++◌, length, None, Some, Result, Ok, Err, inl}
+use Rattle.mm_transfer.proofs.Below.{inr, refl, sym, ap, ◌∙◌, subst, arith, length-append, MatchResult, if◌then◌else◌, Memory, Meaning}
+use Rattle.mm_transfer.proofs.Below.{Meddle, Stop, Standing, Instance, Digests, walk, digest_level, course_of, offered_bytes, Offer}
+use Rattle.mm_transfer.proofs.Below.{MoveRefusal, moved_cell_of, acceptance_in, TicketContent, ticket_of, place_at, Content}
+use Rattle.mm_transfer.proofs.Below.{sealed_snapshot_of, digest_of, Role, Effect, Enters, is_live, role_after, Which, Pair, key_of}
+use Rattle.mm_transfer.proofs.Below.{instance_on, Both, digests_move, DenialCause, FoundMove, Accept, acceptance_on, ticket_by, ticket_in}
+use Rattle.mm_transfer.proofs.Below.{move_steps, effect_of, sides_after_issue, effect_reply, found_acceptance, IssuedTickets, MoveReply}
+use Rattle.mm_transfer.proofs.Below.{CodeSide, TellsEntry, both_with, outcome_of_command, FitsIssuedTickets, CommandDone, CommandLacks}
+use Rattle.mm_transfer.proofs.Below.{has_moved, link_of, role_in, at_in, FitsSide, move_reply_of, cell_of_role, digests_after_move}
+use Rattle.mm_transfer.proofs.Below.{GivesEntry, GivesEntryBy, FitsLive, MatchesRole, FitsCell}
 use Rattle.mm_move.specs.declared.accepting.Accepted.{Accepted}
 use Rattle.mm_transfer.specs.declared.reply.MoveReply.TheVariants as reply
 use Rattle.mm_transfer.proofs.Commanded.{by_known, IsIdle, chosen, whole, tell, Told, told_still, move_done, Named}

@@ -1,13 +1,11 @@
 -- What happens on a side is what happens on both.
 use Rattle.mm_transfer.proofs.Below.{◌≡◌, ◌∙◌, ◌^◌, ◌<◌, ℕ, List, length, Option, None, Some, Result, Ok, Err, refl, sym, ap, subst, arith}
 use Rattle.mm_transfer.proofs.Below.{MatchResult, IfOk, OnOk, OnErr, sum_by, Memory, StepFault, Meddle, Stop, Instance, Digests, walk}
-use Rattle.mm_transfer.proofs.Below.{course_of}
-use Rattle.mm_transfer.proofs.Below.{meddles_of, Header, Which, First, Second, Pair, instance_on, Both, sides_swapped, digests_move, Moves}
-use Rattle.mm_transfer.proofs.Below.{BothEvent, sides_after_effect_if, state_after_steps, effect_of, found_command, move_end_outcome}
-use Rattle.mm_transfer.proofs.Below.{move_outcome, move_steps, outcome_if_found}
-use Rattle.mm_transfer.proofs.Below.{MoveCommand, Accept, FoundMove, DenialCause, Effect, Invites, IssuedTickets, MoveReply, CodeSide}
-use Rattle.mm_transfer.proofs.Below.{Inside, both_with, outcome_of_command, FitsIssuedTickets, CommandDone, CommandLacks, CommandGoes}
-use Rattle.mm_transfer.proofs.Below.{act_of, command_of}
+use Rattle.mm_transfer.proofs.Below.{course_of, meddles_of, Header, Which, First, Second, Pair, instance_on, Both, sides_swapped}
+use Rattle.mm_transfer.proofs.Below.{digests_move, Moves, BothEvent, sides_after_effect_if, state_after_steps, effect_of, found_command}
+use Rattle.mm_transfer.proofs.Below.{move_end_outcome, move_outcome, move_steps, outcome_if_found, MoveCommand, Accept, FoundMove}
+use Rattle.mm_transfer.proofs.Below.{DenialCause, Effect, Invites, IssuedTickets, MoveReply, CodeSide, Inside, both_with}
+use Rattle.mm_transfer.proofs.Below.{outcome_of_command, FitsIssuedTickets, CommandDone, CommandLacks, CommandGoes, act_of, command_of}
 use Rattle.mm_transfer.proofs.Below.{side_event_of, which_of, side_in, within_64, pair_of, move_reply_of, IsSayable}
 use Rattle.mm_schedule.specs.declared.event.Meddles.{Meddles}
 use Rattle.mm_sides.specs.Folds.{BothAct}

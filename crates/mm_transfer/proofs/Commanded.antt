@@ -1,14 +1,13 @@
 -- A command on a side comes to what it comes to by digests: what is common to all commands.
 use Rattle.mm_transfer.proofs.Below.{◌≡◌, ◌≤◌, ◌+◌, ◌&&◌, ℕ, Bool, true, false, not, List, length, Option, None, Some, Result, Ok, Err}
 use Rattle.mm_transfer.proofs.Below.{refl, sym, ap, ◌∙◌, subst, arith, MatchResult, if◌then◌else◌, is_some, sum_by, Memory, StepFault}
-use Rattle.mm_transfer.proofs.Below.{Meddle, Stop, Standing, Instance, Digests, walk, course_of, way_of, offered_bytes, Offer}
-use Rattle.mm_transfer.proofs.Below.{Link, ReadyMove, MoveRefusal, Role, Effect, Which, Pair, instance_on, SideState, Both, digests_move}
+use Rattle.mm_transfer.proofs.Below.{Meddle, Stop, Standing, Instance, Digests, walk, course_of, way_of, offered_bytes, Offer, Link}
+use Rattle.mm_transfer.proofs.Below.{ReadyMove, MoveRefusal, Role, Effect, Which, Pair, instance_on, SideState, Both, digests_move}
 use Rattle.mm_transfer.proofs.Below.{DenialCause, FoundMove, MoveCommand, Denied, move_steps, effect_if, effect_of, state_after_steps}
-use Rattle.mm_transfer.proofs.Below.{sides_after_effect_if}
-use Rattle.mm_transfer.proofs.Below.{found_command, outcome_if_found, move_end_outcome, role_after, IssuedTickets, MoveReply, CodeSide}
-use Rattle.mm_transfer.proofs.Below.{TellsRefusalAs, TriesMove}
-use Rattle.mm_transfer.proofs.Below.{both_with, outcome_of_command, FitsIssuedTickets, CommandDone, CommandLacks, has_moved, role_in, at_in}
-use Rattle.mm_transfer.proofs.Below.{within_64, FitsSide, MovesByPlan, has_effect_at, move_reply_of, refusal_of}
+use Rattle.mm_transfer.proofs.Below.{sides_after_effect_if, found_command, outcome_if_found, move_end_outcome, role_after, IssuedTickets}
+use Rattle.mm_transfer.proofs.Below.{MoveReply, CodeSide, TellsRefusalAs, TriesMove, both_with, outcome_of_command, FitsIssuedTickets}
+use Rattle.mm_transfer.proofs.Below.{CommandDone, CommandLacks, has_moved, role_in, at_in, within_64, FitsSide, MovesByPlan, has_effect_at}
+use Rattle.mm_transfer.proofs.Below.{move_reply_of, refusal_of}
 use Rattle.mm_model.specs.declared.refusal.Refusal.TheVariants as core
 use Rattle.mm_move.specs.declared.refusal.MoveRefusal.TheVariants as refusal
 use Rattle.mm_transfer.specs.declared.reply.MoveReply.TheVariants as reply

@@ -1,16 +1,12 @@
 -- What a move that was found makes of a side's cell, and what it gives; where the side stands then.
 use Rattle.mm_transfer.proofs.Below.{◌≡◌, ℕ, Bool, true, false, List, Option, None, Some, Result, Ok, Err, refl, sym, ap, ◌∙◌, subst}
-use Rattle.mm_transfer.proofs.Below.{StepFault, Meddle, Stop, Standing, Instance}
-use Rattle.mm_transfer.proofs.Below.{Digests, register_reading, walk, course_of}
-use Rattle.mm_transfer.proofs.Below.{IsQuiet, ReadyMove, MoveRefusal, Role, Effect, digests_move, DenialCause, FoundMove, move_steps}
-use Rattle.mm_transfer.proofs.Below.{is_moved, effect_if, effect_of, state_after_steps, bytes_if_written, move_answer_of, MakesMove}
-use Rattle.mm_transfer.proofs.Below.{cell_of_role}
+use Rattle.mm_transfer.proofs.Below.{StepFault, Meddle, Stop, Standing, Instance, Digests, register_reading, walk, course_of, IsQuiet}
+use Rattle.mm_transfer.proofs.Below.{ReadyMove, MoveRefusal, Role, Effect, digests_move, DenialCause, FoundMove, move_steps, is_moved}
+use Rattle.mm_transfer.proofs.Below.{effect_if, effect_of, state_after_steps, bytes_if_written, move_answer_of, MakesMove, cell_of_role}
 use Rattle.mm_transfer.proofs.Below.{refusal_of, next_cell_if, MatchesRole, Memory, MoveReply, Denied, Refused, move_reply_of}
-use Rattle.mm_transfer.proofs.Below.{TellsRefusalAs, has_moved}
-use Rattle.mm_transfer.proofs.Below.{FitsEffect, FitsLive, IsSaid, digest_level, state_after_moves, Invites, Leaves, Enters}
-use Rattle.mm_transfer.proofs.Below.{role_after, Which, Pair, instance_on, SideState, stopped_moves, sides_after_effect_if, any_value}
-use Rattle.mm_transfer.proofs.Below.{found_outer}
-use Rattle.mm_transfer.proofs.Below.{stopped_outer, CodeSide, link_of, FitsRole, FitsCell, ◌≤◌, Both}
+use Rattle.mm_transfer.proofs.Below.{TellsRefusalAs, has_moved, FitsEffect, FitsLive, IsSaid, digest_level, state_after_moves, Invites}
+use Rattle.mm_transfer.proofs.Below.{Leaves, Enters, role_after, Which, Pair, instance_on, SideState, stopped_moves, sides_after_effect_if}
+use Rattle.mm_transfer.proofs.Below.{any_value, found_outer, stopped_outer, CodeSide, link_of, FitsRole, FitsCell, ◌≤◌, Both}
 use Rattle.mm_model.specs.declared.refusal.Refusal.TheVariants as core
 use Rattle.mm_move.specs.declared.refusal.MoveRefusal.TheVariants as refusal
 use Rattle.mm_transfer.specs.RoleCells.{cell_after}

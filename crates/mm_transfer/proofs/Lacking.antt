@@ -1,14 +1,10 @@
 -- A command for which memory was wanting, or whose offer names nothing.
-use Rattle.mm_transfer.proofs.Below.{◌≡◌, ℕ, List, length, None, Some, Result, Ok, Err, IsErr}
-use Rattle.mm_transfer.proofs.Below.{inl, inr, refl, sym, ap, ◌∙◌, subst, arith, MatchResult, sum_by, Memory}
-use Rattle.mm_transfer.proofs.Below.{Meddle, Stop, Standing, Instance, Digests, register_reading, course_of}
-use Rattle.mm_transfer.proofs.Below.{IsQuiet, MoveRefusal, Which, Pair, instance_on, SideState, digests_move}
-use Rattle.mm_transfer.proofs.Below.{MoveCommand}
-use Rattle.mm_transfer.proofs.Below.{found_command, outcome_if_found, unissued_reply, IssuedTickets, MoveReply, CodeSide}
-use Rattle.mm_transfer.proofs.Below.{both_with, outcome_of_command, FitsIssuedTickets, CommandDone, CommandLacks, role_in, at_by, at_in}
-use Rattle.mm_transfer.proofs.Below.{side_in}
-use Rattle.mm_transfer.proofs.Below.{Reads, [], ◌∷◌, ◌⊎◌, moves_seen, state_after_moves, digest_level}
-use Rattle.mm_transfer.proofs.Below.{within_64, FitsSide, WantsMemory, move_reply_of}
+use Rattle.mm_transfer.proofs.Below.{◌≡◌, ℕ, List, length, None, Some, Result, Ok, Err, IsErr, inl, inr, refl, sym, ap, ◌∙◌, subst, arith}
+use Rattle.mm_transfer.proofs.Below.{MatchResult, sum_by, Memory, Meddle, Stop, Standing, Instance, Digests, register_reading, course_of}
+use Rattle.mm_transfer.proofs.Below.{IsQuiet, MoveRefusal, Which, Pair, instance_on, SideState, digests_move, MoveCommand, found_command}
+use Rattle.mm_transfer.proofs.Below.{outcome_if_found, unissued_reply, IssuedTickets, MoveReply, CodeSide, both_with, outcome_of_command}
+use Rattle.mm_transfer.proofs.Below.{FitsIssuedTickets, CommandDone, CommandLacks, role_in, at_by, at_in, side_in, Reads, [], ◌∷◌, ◌⊎◌}
+use Rattle.mm_transfer.proofs.Below.{moves_seen, state_after_moves, digest_level, within_64, FitsSide, WantsMemory, move_reply_of}
 use Rattle.mm_transfer.proofs.SideStands.{KeepsFor, same_keeps, side_stays}
 use Rattle.mm_transfer.proofs.Vain.{seen_digests}
 

@@ -1,16 +1,13 @@
 -- What a move finds in a side's cell is what it finds by the side's role.
-use Rattle.mm_transfer.proofs.Below.{◌≡◌, ℕ, Bool, true, false, List, [], length, Option, Result, Ok, Err, refl, sym, ap, ◌∙◌}
-use Rattle.mm_transfer.proofs.Below.{subst, not, bytes_eq, Batch}
-use Rattle.mm_transfer.proofs.Below.{One, CellFault, PartsFault, Form, Kind, Place, InBasic, InOpt, parts_of, Content, Snapshot}
-use Rattle.mm_transfer.proofs.Below.{tag_of, Instance, Digests, digest_of, digest_level, check_by_tests, MovedCell}
-use Rattle.mm_transfer.proofs.Below.{Link, IsWaiting, moved_cell_of, waiting_spelling, retired_spelling, barrier_of, is_barred}
-use Rattle.mm_transfer.proofs.Below.{is_other, waiting_for, is_same_waiting, invitation_in, is_place_at, ticket_for, offer_by}
-use Rattle.mm_transfer.proofs.Below.{retirement_by, retirement_in, refusal_if}
-use Rattle.mm_transfer.proofs.Below.{place_at, sealed_ticket, bytes_are, bytes_tell}
-use Rattle.mm_transfer.proofs.Below.{moved_back, Blank, Live, Waits, Left, digests_move, Refused, Open}
-use Rattle.mm_transfer.proofs.Below.{Gone, stands_here, verdict_here, invitation_on, found_retirement_by, retirement_with, retirement_on}
-use Rattle.mm_transfer.proofs.Below.{waiting_cell_at, retired_cell_at, cell_of_role, next_cell_if, GivesInvited, GivesTicket}
-use Rattle.mm_transfer.proofs.Below.{MatchesRole, FitsCell, is_live, Role}
+use Rattle.mm_transfer.proofs.Below.{◌≡◌, ℕ, Bool, true, false, List, [], length, Option, Result, Ok, Err, refl, sym, ap, ◌∙◌, subst, not}
+use Rattle.mm_transfer.proofs.Below.{bytes_eq, Batch, One, CellFault, PartsFault, Form, Kind, Place, InBasic, InOpt, parts_of, Content}
+use Rattle.mm_transfer.proofs.Below.{Snapshot, tag_of, Instance, Digests, digest_of, digest_level, check_by_tests, MovedCell, Link}
+use Rattle.mm_transfer.proofs.Below.{IsWaiting, moved_cell_of, waiting_spelling, retired_spelling, barrier_of, is_barred, is_other}
+use Rattle.mm_transfer.proofs.Below.{waiting_for, is_same_waiting, invitation_in, is_place_at, ticket_for, offer_by, retirement_by}
+use Rattle.mm_transfer.proofs.Below.{retirement_in, refusal_if, place_at, sealed_ticket, bytes_are, bytes_tell, moved_back, Blank, Live}
+use Rattle.mm_transfer.proofs.Below.{Waits, Left, digests_move, Refused, Open, Gone, stands_here, verdict_here, invitation_on}
+use Rattle.mm_transfer.proofs.Below.{found_retirement_by, retirement_with, retirement_on, waiting_cell_at, retired_cell_at, cell_of_role}
+use Rattle.mm_transfer.proofs.Below.{next_cell_if, GivesInvited, GivesTicket, MatchesRole, FitsCell, is_live, Role}
 use Rattle.mm_seal.specs.ReadingLaws.{spells_read}
 use Rattle.mm_model.specs.Verdicts.{verdict_by, verdict_by_digests}
 use Rattle.mm_model.specs.PlaceMessages.{is_new}

@@ -1,9 +1,8 @@
 -- Which effect a move had, by how it was stopped.
-use Rattle.mm_transfer.proofs.Below.{◌≡◌, ℕ, Bool, true, false, List, [], Option, None, Some, Result, Ok, Err, refl, sym, ap, ◌∙◌}
-use Rattle.mm_transfer.proofs.Below.{◌==◌, ◌&&◌, is_some, if◌then◌else◌, StepFault, Meddle, Stop, fault_at, is_made_at}
-use Rattle.mm_transfer.proofs.Below.{Reads, End, Done, Fails, walk, walk_from_step, end_of, course_of, takes_effect}
-use Rattle.mm_transfer.proofs.Below.{stopped_at, Effect, DenialCause, FoundMove, move_steps}
-use Rattle.mm_transfer.proofs.Below.{is_moved, effect_if, effect_of, has_effect_at}
+use Rattle.mm_transfer.proofs.Below.{◌≡◌, ℕ, Bool, true, false, List, [], Option, None, Some, Result, Ok, Err, refl, sym, ap, ◌∙◌, ◌==◌}
+use Rattle.mm_transfer.proofs.Below.{◌&&◌, is_some, if◌then◌else◌, StepFault, Meddle, Stop, fault_at, is_made_at, Reads, End, Done, Fails}
+use Rattle.mm_transfer.proofs.Below.{walk, walk_from_step, end_of, course_of, takes_effect, stopped_at, Effect, DenialCause, FoundMove}
+use Rattle.mm_transfer.proofs.Below.{move_steps, is_moved, effect_if, effect_of, has_effect_at}
 
 -- which effect a move had, by how it was stopped
 

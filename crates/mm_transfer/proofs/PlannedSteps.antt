@@ -1,16 +1,12 @@
 -- One step under a plan, and what is left once the plan is over.
 use Rattle.mm_transfer.proofs.Below.{append_assoc, ◌≡◌, ℕ, Bool, true, false, List, [], ◌∷◌, ◌++◌, map, Option, None, Some, Result, Ok, Err}
-use Rattle.mm_transfer.proofs.Below.{refl, sym, ap, ◌∙◌, subst, append-nil, ◌==◌, is_some, if◌then◌else◌, StepFault}
-use Rattle.mm_transfer.proofs.Below.{Meddle, Stop, Item, foreign_item, Plan, Standing, plan_after, item_values, register_after, Act}
-use Rattle.mm_transfer.proofs.Below.{StepGoes, DeviceStepEnds, fault_at, is_made_at, is_on_at, cell_after, items_after}
-use Rattle.mm_transfer.proofs.Below.{items_after_cycle, fault_by_plan, is_made_by_plan, is_on_by_plan, values_by_plan, Foreign, Instance}
-use Rattle.mm_transfer.proofs.Below.{Digests}
-use Rattle.mm_transfer.proofs.Below.{digests_after, register_reading, Reads, End, StepsWalk, walk_from_step, end_of, digest_level}
-use Rattle.mm_transfer.proofs.Below.{state_after_moves, items_after_moves, plan_of, is_cut, SettlesPlan, IsQuiet, reads_none, power_if}
-use Rattle.mm_transfer.proofs.Below.{stop_power, on_settled}
-use Rattle.mm_transfer.proofs.Below.{reads_shown, ReadyMove, MoveRefusal}
-use Rattle.mm_transfer.proofs.Below.{stopped_moves, bytes_if_written}
-use Rattle.mm_transfer.proofs.Below.{bytes_after_move}
+use Rattle.mm_transfer.proofs.Below.{refl, sym, ap, ◌∙◌, subst, append-nil, ◌==◌, is_some, if◌then◌else◌, StepFault, Meddle, Stop, Item}
+use Rattle.mm_transfer.proofs.Below.{foreign_item, Plan, Standing, plan_after, item_values, register_after, Act, StepGoes, DeviceStepEnds}
+use Rattle.mm_transfer.proofs.Below.{fault_at, is_made_at, is_on_at, cell_after, items_after, items_after_cycle, fault_by_plan}
+use Rattle.mm_transfer.proofs.Below.{is_made_by_plan, is_on_by_plan, values_by_plan, Foreign, Instance, Digests, digests_after}
+use Rattle.mm_transfer.proofs.Below.{register_reading, Reads, End, StepsWalk, walk_from_step, end_of, digest_level, state_after_moves}
+use Rattle.mm_transfer.proofs.Below.{items_after_moves, plan_of, is_cut, SettlesPlan, IsQuiet, reads_none, power_if, stop_power, on_settled}
+use Rattle.mm_transfer.proofs.Below.{reads_shown, ReadyMove, MoveRefusal, stopped_moves, bytes_if_written, bytes_after_move}
 use Rattle.std.specs.Option.{option_map}
 use Rattle.mm_base.specs.Faults.{next_count}
 use Rattle.mm_platform.specs.declared.fault.StepFault.TheVariants.{Failed}

@@ -1,16 +1,12 @@
 -- A planned move, however it ended, made the steps of what it found.
-use Rattle.mm_transfer.proofs.Below.{◌≡◌, ℕ, Bool, true, false, List, [], ◌++◌, map, Option, None, Some, Result, Ok, Err}
-use Rattle.mm_transfer.proofs.Below.{inl, inr, refl, sym, ap, ◌∙◌, subst, append-nil, ◌⊎◌, is_some, not, if◌then◌else◌, StepFault}
-use Rattle.mm_transfer.proofs.Below.{Meddle, Stop, Standing}
-use Rattle.mm_transfer.proofs.Below.{ReadCell, WriteCell, StepGoes, fault_at, is_made_at, cell_after}
-use Rattle.mm_transfer.proofs.Below.{Move, Foreign, Instance, Digests}
+use Rattle.mm_transfer.proofs.Below.{◌≡◌, ℕ, Bool, true, false, List, [], ◌++◌, map, Option, None, Some, Result, Ok, Err, inl, inr, refl}
+use Rattle.mm_transfer.proofs.Below.{sym, ap, ◌∙◌, subst, append-nil, ◌⊎◌, is_some, not, if◌then◌else◌, StepFault, Meddle, Stop, Standing}
+use Rattle.mm_transfer.proofs.Below.{ReadCell, WriteCell, StepGoes, fault_at, is_made_at, cell_after, Move, Foreign, Instance, Digests}
 use Rattle.mm_transfer.proofs.Below.{register_reading, Reads, End, Done, Fails, StepsWalk, walk, walk_from_step, fate_by_plan, end_of}
-use Rattle.mm_transfer.proofs.Below.{digest_level}
-use Rattle.mm_transfer.proofs.Below.{state_after_moves, plan_of, SettlesPlan}
-use Rattle.mm_transfer.proofs.Below.{CellFault, MovedCell, Invited, ReadyMove, MoveRefusal, is_same_waiting, invitation_in}
-use Rattle.mm_transfer.proofs.Below.{move_fault_of, move_fault_in, IsOrNoMemory, is_moved, is_written, stopped_moves, later_steps}
-use Rattle.mm_transfer.proofs.Below.{bytes_if_written}
-use Rattle.mm_transfer.proofs.Below.{bytes_after_move, move_answer_of, MoveEnds, MakesMove, WantsMemory, MovesByPlan}
+use Rattle.mm_transfer.proofs.Below.{digest_level, state_after_moves, plan_of, SettlesPlan, CellFault, MovedCell, Invited, ReadyMove}
+use Rattle.mm_transfer.proofs.Below.{MoveRefusal, is_same_waiting, invitation_in, move_fault_of, move_fault_in, IsOrNoMemory, is_moved}
+use Rattle.mm_transfer.proofs.Below.{is_written, stopped_moves, later_steps, bytes_if_written, bytes_after_move, move_answer_of, MoveEnds}
+use Rattle.mm_transfer.proofs.Below.{MakesMove, WantsMemory, MovesByPlan}
 use Rattle.std.specs.Option.{option_map}
 use Rattle.mm_platform.specs.StandingWords.{due_values}
 use Rattle.mm_model.specs.declared.refusal.Refusal.TheVariants.{Memory, Device}

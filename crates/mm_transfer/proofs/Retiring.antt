@@ -1,16 +1,14 @@
 -- An invitation to a side, and a retirement of it, come to what they come to by digests.
-use Rattle.mm_transfer.proofs.Below.{◌≡◌, ◌+◌, ◌&&◌, ℕ, Bool, true, not, List, [], ◌∷◌, ◌++◌, length, None, Some, Result, Ok}
-use Rattle.mm_transfer.proofs.Below.{inl, inr, refl, sym, ap, ◌∙◌, subst, arith, length-append, MatchResult, if◌then◌else◌, Memory, Meaning}
-use Rattle.mm_transfer.proofs.Below.{Meddle, Stop, Standing, Digests, register_reading, walk, course_of, offered_bytes, Offer, IsQuiet}
-use Rattle.mm_transfer.proofs.Below.{Link, MoveRefusal, moved_cell_of, waiting_for, invitation_in, retirement_in, Invited, Role, Effect}
-use Rattle.mm_transfer.proofs.Below.{Invites, Leaves, is_live, Which, Pair, key_of, instance_on, Both, digests_move, FoundMove, DenialCause}
-use Rattle.mm_transfer.proofs.Below.{Invite, Retire, invitation_on, retirement_on, move_steps, effect_of, sides_after_issue, effect_reply}
-use Rattle.mm_transfer.proofs.Below.{found_retirement, role_after, IssuedTickets}
-use Rattle.mm_transfer.proofs.Below.{MoveReply, CodeSide, TellsInvitation, KeepsDigest, TellsRetirement, both_with, outcome_of_command}
-use Rattle.mm_transfer.proofs.Below.{FitsIssuedTickets, CommandDone}
-use Rattle.mm_transfer.proofs.Below.{CommandLacks, has_moved, link_of, role_in, at_in, FitsSide, MovesByPlan, move_reply_of, cell_of_role}
-use Rattle.mm_transfer.proofs.Below.{GivesInvited, GivesInvitedBy, GivesTicket, GivesTicketBy, FitsLive, Instance, within_64, false}
-use Rattle.mm_transfer.proofs.Below.{kept_more}
+use Rattle.mm_transfer.proofs.Below.{◌≡◌, ◌+◌, ◌&&◌, ℕ, Bool, true, not, List, [], ◌∷◌, ◌++◌, length, None, Some, Result, Ok, inl, inr}
+use Rattle.mm_transfer.proofs.Below.{refl, sym, ap, ◌∙◌, subst, arith, length-append, MatchResult, if◌then◌else◌, Memory, Meaning, Meddle}
+use Rattle.mm_transfer.proofs.Below.{Stop, Standing, Digests, register_reading, walk, course_of, offered_bytes, Offer, IsQuiet, Link}
+use Rattle.mm_transfer.proofs.Below.{MoveRefusal, moved_cell_of, waiting_for, invitation_in, retirement_in, Invited, Role, Effect, Invites}
+use Rattle.mm_transfer.proofs.Below.{Leaves, is_live, Which, Pair, key_of, instance_on, Both, digests_move, FoundMove, DenialCause, Invite}
+use Rattle.mm_transfer.proofs.Below.{Retire, invitation_on, retirement_on, move_steps, effect_of, sides_after_issue, effect_reply}
+use Rattle.mm_transfer.proofs.Below.{found_retirement, role_after, IssuedTickets, MoveReply, CodeSide, TellsInvitation, KeepsDigest}
+use Rattle.mm_transfer.proofs.Below.{TellsRetirement, both_with, outcome_of_command, FitsIssuedTickets, CommandDone, CommandLacks}
+use Rattle.mm_transfer.proofs.Below.{has_moved, link_of, role_in, at_in, FitsSide, MovesByPlan, move_reply_of, cell_of_role, GivesInvited}
+use Rattle.mm_transfer.proofs.Below.{GivesInvitedBy, GivesTicket, GivesTicketBy, FitsLive, Instance, within_64, false, kept_more}
 use Rattle.mm_world.specs.declared.seat.Seat.{Seat}
 use Rattle.mm_transfer.specs.declared.reply.MoveReply.TheVariants as reply
 use Rattle.mm_transfer.proofs.Commanded.{by_known, IsIdle, chosen, whole, tell, Told, told_still, move_done, Named}

@@ -2,10 +2,9 @@
 use Rattle.mm_transfer.proofs.Below.{◌≡◌, ℕ, Bool, true, false, List, length, Result, Ok, Err, refl, sym, ap, ◌∙◌, ◌==◌, ◌&&◌, not}
 use Rattle.mm_transfer.proofs.Below.{if◌then◌else◌, bytes_eq, Variant, CellFault, FitsVariant, blank_cell, Instance, Digests, cell_at}
 use Rattle.mm_transfer.proofs.Below.{MovedCell, Link, ReadyMove, MoveRefusal, IsWaiting, moved_cell_of, barrier_of, is_barred, is_other}
-use Rattle.mm_transfer.proofs.Below.{refusal_if}
-use Rattle.mm_transfer.proofs.Below.{bytes_are, bytes_tell, eq_is, moved_back, blank_read, Role, Blank, Live, Waits, Left, DenialCause}
-use Rattle.mm_transfer.proofs.Below.{FoundMove, waiting_cell_at, retired_cell_at, cell_of_role, refusal_of, IsSaid, MatchesRole, FitsRole}
-use Rattle.mm_transfer.proofs.Below.{FitsCell}
+use Rattle.mm_transfer.proofs.Below.{refusal_if, bytes_are, bytes_tell, eq_is, moved_back, blank_read, Role, Blank, Live, Waits, Left}
+use Rattle.mm_transfer.proofs.Below.{DenialCause, FoundMove, waiting_cell_at, retired_cell_at, cell_of_role, refusal_of, IsSaid}
+use Rattle.mm_transfer.proofs.Below.{MatchesRole, FitsRole, FitsCell}
 use Rattle.mm_digest.specs.declared.variant.Variant.TheVariants as variants
 use Rattle.mm_seal.specs.declared.cell.CellFault.TheVariants as fault
 use Rattle.mm_seal.specs.PartsWords.{is_same_variant}

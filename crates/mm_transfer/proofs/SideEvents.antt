@@ -1,13 +1,11 @@
 -- A side in code goes on as its events say.
 use Rattle.mm_transfer.proofs.Below.{◌≡◌, ◌∙◌, ◌+◌, ◌^◌, ◌≤◌, ◌<◌, ℕ, List, length, Some, Result, Ok, Err, inl, inr, refl, sym, ap, subst}
-use Rattle.mm_transfer.proofs.Below.{arith, Memory, IsLawful, meaning_of, Meddle, Stop, Standing, cell_spelling, Instance}
-use Rattle.mm_transfer.proofs.Below.{Digests, moves_seen, reading_steps, digest_level, state_after_moves, cell_at, Event, Ask, Checkpoint}
-use Rattle.mm_transfer.proofs.Below.{Power}
-use Rattle.mm_transfer.proofs.Below.{Extend, IsPrintable, Offer, Reply, Outcome, Batch, course_of, event_outcome, few_committed}
-use Rattle.mm_transfer.proofs.Below.{printable, issues_one, Role, Live, Which, Pair, key_of, instance_on, digests_move, outcome_by_role}
-use Rattle.mm_transfer.proofs.Below.{commits_between}
-use Rattle.mm_transfer.proofs.Below.{CodeSide, pair_of, role_in, at_in, side_in, refusal_for_role, IsQuiet, StandsAs, FitsSide, SideComes}
-use Rattle.mm_transfer.proofs.Below.{SideLacks}
+use Rattle.mm_transfer.proofs.Below.{arith, Memory, IsLawful, meaning_of, Meddle, Stop, Standing, cell_spelling, Instance, Digests}
+use Rattle.mm_transfer.proofs.Below.{moves_seen, reading_steps, digest_level, state_after_moves, cell_at, Event, Ask, Checkpoint, Power}
+use Rattle.mm_transfer.proofs.Below.{Extend, IsPrintable, Offer, Reply, Outcome, Batch, course_of, event_outcome, few_committed, printable}
+use Rattle.mm_transfer.proofs.Below.{issues_one, Role, Live, Which, Pair, key_of, instance_on, digests_move, outcome_by_role}
+use Rattle.mm_transfer.proofs.Below.{commits_between, CodeSide, pair_of, role_in, at_in, side_in, refusal_for_role, IsQuiet, StandsAs}
+use Rattle.mm_transfer.proofs.Below.{FitsSide, SideComes, SideLacks}
 use Rattle.mm_base.specs.Limits.{most_members}
 use Rattle.mm_modules.specs.ModulesLaws.{any_is_lawful}
 use Rattle.mm_world.specs.Seat.{SeatStaysOn, SeatLacksMemoryInVain}

@@ -1,10 +1,9 @@
 -- Where a side in code stands, by its role.
-use Rattle.mm_transfer.proofs.Below.{◌≡◌, ◌∙◌, ◌<◌, ℕ, false, List, length, get_or, Some, Err, refl, sym, ap, subst, arith, ◌≢◌}
-use Rattle.mm_transfer.proofs.Below.{Variant, Basic, Opt, Meaning, Standing, IsNoCell, Instance, Digests, register_reading, instance_by}
-use Rattle.mm_transfer.proofs.Below.{IsRead, CellFault, value_in, digest_in, HasDigests, IsQuiet, register_at, digests_are, WaitingCell}
-use Rattle.mm_transfer.proofs.Below.{barrier_of, three, Role, Blank, Live, Waiting, Retired, is_live, Which, Pair, key_of, instance_on}
-use Rattle.mm_transfer.proofs.Below.{CodeSide, link_of, role_in, role_of, at_by, at_in, StandsAs, FitsSide, waiting_cell_at}
-use Rattle.mm_transfer.proofs.Below.{retired_cell_at}
+use Rattle.mm_transfer.proofs.Below.{◌≡◌, ◌∙◌, ◌<◌, ℕ, false, List, length, get_or, Some, Err, refl, sym, ap, subst, arith, ◌≢◌, Variant}
+use Rattle.mm_transfer.proofs.Below.{Basic, Opt, Meaning, Standing, IsNoCell, Instance, Digests, register_reading, instance_by, IsRead}
+use Rattle.mm_transfer.proofs.Below.{CellFault, value_in, digest_in, HasDigests, IsQuiet, register_at, digests_are, WaitingCell, barrier_of}
+use Rattle.mm_transfer.proofs.Below.{three, Role, Blank, Live, Waiting, Retired, is_live, Which, Pair, key_of, instance_on, CodeSide}
+use Rattle.mm_transfer.proofs.Below.{link_of, role_in, role_of, at_by, at_in, StandsAs, FitsSide, waiting_cell_at, retired_cell_at}
 use Rattle.mm_transfer.proofs.Below.{cell_of_role}
 use Rattle.mm_seal.specs.declared.cell.Cell.{Cell}
 use Rattle.mm_seal.specs.declared.cell.CellFault.TheVariants as fault

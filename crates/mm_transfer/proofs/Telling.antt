@@ -1,14 +1,10 @@
 -- Both sides show of events what is told of a whole transfer.
-use Rattle.mm_transfer.proofs.Below.{◌≡◌, ◌∙◌, ℕ, List, [], ◌∷◌, ◌++◌, refl, sym, ap, subst, History}
-use Rattle.mm_transfer.proofs.Below.{requests_of, Digests, Header, promises-kept, Role, MoveNotes, no_notes, Pair, Both, digests_move}
-use Rattle.mm_transfer.proofs.Below.{lists_move}
-use Rattle.mm_transfer.proofs.Below.{first_lists, BothEvent, BothReply, BothRunOutcome, both_outcome, both_outcome_of_events}
-use Rattle.mm_transfer.proofs.Below.{both_outcome_by_lists}
+use Rattle.mm_transfer.proofs.Below.{◌≡◌, ◌∙◌, ℕ, List, [], ◌∷◌, ◌++◌, refl, sym, ap, subst, History, requests_of, Digests, Header}
+use Rattle.mm_transfer.proofs.Below.{promises-kept, Role, MoveNotes, no_notes, Pair, Both, digests_move, lists_move, first_lists, BothEvent}
+use Rattle.mm_transfer.proofs.Below.{BothReply, BothRunOutcome, both_outcome, both_outcome_of_events, both_outcome_by_lists}
 use Rattle.mm_transfer.proofs.Below.{both_outcome_by_digests, notes_with_effect_if, IsOneFrom, PairsAgreeThroughout, OneIsLive}
-use Rattle.mm_transfer.proofs.Below.{SidesRunAsOne, plain_events}
-use Rattle.mm_transfer.proofs.Below.{plain_replies, history_now, pair_of, TransferState, first_transfer, transfer_steps, kept_size_of}
-use Rattle.mm_transfer.proofs.Below.{transfer_text, both_end_line}
-use Rattle.mm_transfer.proofs.Below.{IsOneTransfer}
+use Rattle.mm_transfer.proofs.Below.{SidesRunAsOne, plain_events, plain_replies, history_now, pair_of, TransferState, first_transfer}
+use Rattle.mm_transfer.proofs.Below.{transfer_steps, kept_size_of, transfer_text, both_end_line, IsOneTransfer}
 use Rattle.std.proofs.Common.{inl, inr}
 use Rattle.std.proofs.lemmas.List.{append-nil}
 use Rattle.mm_play.specs.StageShows.{state_behind_events, replies, StageShows}

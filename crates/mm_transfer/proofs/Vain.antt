@@ -1,14 +1,11 @@
 -- What an event comes to where the module isn't: the register alone changes.
-use Rattle.mm_transfer.proofs.Below.{◌≡◌, ◌∙◌, ◌+◌, ℕ, List, [], ◌∷◌, ◌++◌, map, Option, None, Some, Err, refl, ap, append-nil, Bool}
-use Rattle.mm_transfer.proofs.Below.{true, false, if◌then◌else◌, Batch, One, Meddle, Stop, Instance, Digests, digests_after, Move, Commit}
-use Rattle.mm_transfer.proofs.Below.{Foreign}
-use Rattle.mm_transfer.proofs.Below.{PowerMove, DeviceStep, Reads, Refusal, StepsWalk, End, Done, Fails, StepFate, walk_from_step}
-use Rattle.mm_transfer.proofs.Below.{has_commit, call_outcome_by}
-use Rattle.mm_transfer.proofs.Below.{moves_seen, digest_level, state_after_moves, Event, Ask, Checkpoint, Power, Extend, IsPrintable, Reply}
-use Rattle.mm_transfer.proofs.Below.{Outcome}
-use Rattle.mm_transfer.proofs.Below.{course_of, vain_event_outcome, offered_bytes, way_of, moves_after_stop, outcome_without_call}
-use Rattle.mm_transfer.proofs.Below.{read_only_outcome, vain_ask_outcome}
-use Rattle.mm_transfer.proofs.Below.{outcome_by, broken_reply, any_value, AreOuter, IsOuter, foreign_outer, stop_outer}
+use Rattle.mm_transfer.proofs.Below.{◌≡◌, ◌∙◌, ◌+◌, ℕ, List, [], ◌∷◌, ◌++◌, map, Option, None, Some, Err, refl, ap, append-nil, Bool, true}
+use Rattle.mm_transfer.proofs.Below.{false, if◌then◌else◌, Batch, One, Meddle, Stop, Instance, Digests, digests_after, Move, Commit}
+use Rattle.mm_transfer.proofs.Below.{Foreign, PowerMove, DeviceStep, Reads, Refusal, StepsWalk, End, Done, Fails, StepFate, walk_from_step}
+use Rattle.mm_transfer.proofs.Below.{has_commit, call_outcome_by, moves_seen, digest_level, state_after_moves, Event, Ask, Checkpoint}
+use Rattle.mm_transfer.proofs.Below.{Power, Extend, IsPrintable, Reply, Outcome, course_of, vain_event_outcome, offered_bytes, way_of}
+use Rattle.mm_transfer.proofs.Below.{moves_after_stop, outcome_without_call, read_only_outcome, vain_ask_outcome, outcome_by, broken_reply}
+use Rattle.mm_transfer.proofs.Below.{any_value, AreOuter, IsOuter, foreign_outer, stop_outer}
 use Rattle.mm_schedule.specs.declared.reply.Reply.TheVariants as reply
 use Rattle.mm_schedule.specs.declared.reply.Cause.TheVariants as cause
 use Rattle.mm_schedule.specs.declared.reply.Way.{Way}

@@ -1,8 +1,7 @@
 -- What an event leaves as it was for which memory was wanting.
-use Rattle.mm_transfer.proofs.Below.{◌≡◌, ℕ, List, [], ◌∷◌, Result, Ok, Err, OnErr, inl, inr, ap, Memory, Meddle, Stop, Instance}
-use Rattle.mm_transfer.proofs.Below.{Digests, Reads, DeviceStep, Event, Ask, Power, Header, Role, Live, Which, First, Second, Pair}
-use Rattle.mm_transfer.proofs.Below.{instance_on, SideState}
-use Rattle.mm_transfer.proofs.Below.{Both, BothEvent, Moves, MoveReply, pair_of}
+use Rattle.mm_transfer.proofs.Below.{◌≡◌, ℕ, List, [], ◌∷◌, Result, Ok, Err, OnErr, inl, inr, ap, Memory, Meddle, Stop, Instance, Digests}
+use Rattle.mm_transfer.proofs.Below.{Reads, DeviceStep, Event, Ask, Power, Header, Role, Live, Which, First, Second, Pair, instance_on}
+use Rattle.mm_transfer.proofs.Below.{SideState, Both, BothEvent, Moves, MoveReply, pair_of}
 use Rattle.mm_sides.specs.Both.{sides_seen_from}
 use Rattle.mm_sides.specs.Folds.{BothAct, Plain}
 use Rattle.mm_transfer.specs.Sides.{TransferSides, TransferSidesWant}

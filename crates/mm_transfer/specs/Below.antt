@@ -52,9 +52,8 @@ pub use Rattle.mm_outcome.specs.WorldState.{rising_from, world_barrier, world_ke
 pub use Rattle.mm_sides.specs.Both.{Both, First, Pair, Second, SideState, Which, digests_move, sides_seen_from, first_both, first_lists}
 pub use Rattle.mm_sides.specs.Both.{instance_on}
 pub use Rattle.mm_sides.specs.Folds.{BothAct, BothEvent, BothRunOutcome, BothOutcome, BothReply, Moves, Plain, both_outcome_by_digests}
-pub use Rattle.mm_sides.specs.Folds.{both_outcome_by_lists}
-pub use Rattle.mm_sides.specs.Folds.{both_outcome_of_events, both_outcome, commits_between, is_moved, move_outcome, outcome_here}
-pub use Rattle.mm_sides.specs.Folds.{outcome_by_role, stopped_moves}
+pub use Rattle.mm_sides.specs.Folds.{both_outcome_by_lists, both_outcome_of_events, both_outcome, commits_between, is_moved, move_outcome}
+pub use Rattle.mm_sides.specs.Folds.{outcome_here, outcome_by_role, stopped_moves}
 pub use Rattle.mm_sides.specs.Laws.{IsOneFrom, both_outcome_joined, plain_events, plain_replies}
 pub use Rattle.mm_sides.specs.Moves.{Accept, Already, MoveCommand, FoundMove, Gone, Invite, DenialCause, Nonce, Open, Retire}
 pub use Rattle.mm_sides.specs.Order.{AtMostOne}

@@ -5,8 +5,8 @@ use Rattle.std.specs.Option.{option_map}
 use Rattle.mm_play.specs.HeadingStep.{Begins}
 use Rattle.mm_play.specs.Headline.{EventPlayer}
 use Rattle.mm_transfer.specs.Below.{meaning_of, Digests, IsEventRun, ModulePromises, Header, first_lists, BothEvent, BothRunOutcome}
-use Rattle.mm_transfer.specs.Below.{both_outcome_by_lists}
-use Rattle.mm_transfer.specs.Below.{both_outcome_by_digests, IsOneFrom, plain_events, plain_replies, AtMostOne, no_notes}
+use Rattle.mm_transfer.specs.Below.{both_outcome_by_lists, both_outcome_by_digests, IsOneFrom, plain_events, plain_replies, AtMostOne}
+use Rattle.mm_transfer.specs.Below.{no_notes}
 use Rattle.mm_sides.specs.Evidence.{HasPairEvidence}
 use Rattle.mm_transfer.specs.Answers.{answers_text, end_line}
 use Rattle.mm_transfer.specs.Grammar.{event_at, first_header_at}

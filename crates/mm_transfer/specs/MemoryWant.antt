@@ -2,9 +2,8 @@
 -- may have been made.
 use Rattle.std.specs.Prelude.{◌≡◌, ℕ, List, [], ◌∷◌, ◌⊎◌}
 use Rattle.mm_transfer.specs.Below.{Meddle, Stop, Instance, Digests, Reads, DeviceStep, state_after_moves, digest_level, reading_steps}
-use Rattle.mm_transfer.specs.Below.{moves_seen, course_of}
-use Rattle.mm_transfer.specs.Below.{Ask, Event, Power, BothAct, BothEvent, Moves, Plain, Both, Pair, SideState, sides_seen_from}
-use Rattle.mm_transfer.specs.Below.{instance_on, Live, Role}
+use Rattle.mm_transfer.specs.Below.{moves_seen, course_of, Ask, Event, Power, BothAct, BothEvent, Moves, Plain, Both, Pair, SideState}
+use Rattle.mm_transfer.specs.Below.{sides_seen_from, instance_on, Live, Role}
 
 -- a side on which a call or a move has made these steps, which read, and nothing else
 abbrev pub side_after_reads : Instance → List DeviceStep → List Meddle → Stop → SideState Digests

@@ -1,10 +1,8 @@
 -- A move over a platform in memory, under the plan of an event.
 use Rattle.std.specs.Prelude.{◌≡◌, ◌==◌, ◌&&◌, ℕ, Bool, true, false, List, [], ◌∷◌, Option, None, Some, Result, Ok, Err, ◌⊎◌}
 use Rattle.mm_transfer.specs.Below.{Standing, StepFault, Meddle, Stop, Instance, Digests, register_reading, DeviceStep, Reads, Device}
-use Rattle.mm_transfer.specs.Below.{StepsWalk, moves_seen, walk}
-use Rattle.mm_transfer.specs.Below.{digest_level, state_after_moves, ReadyMove, MoveRefusal, Core, course_of, is_moved, stopped_moves}
-use Rattle.mm_transfer.specs.Below.{takes_effect}
-use Rattle.mm_transfer.specs.Below.{stopped_step, IsQuiet}
+use Rattle.mm_transfer.specs.Below.{StepsWalk, moves_seen, walk, digest_level, state_after_moves, ReadyMove, MoveRefusal, Core, course_of}
+use Rattle.mm_transfer.specs.Below.{is_moved, stopped_moves, takes_effect, stopped_step, IsQuiet}
 use Rattle.mm_model.specs.declared.refusal.Refusal.TheVariants.{Memory}
 
 -- the steps behind the first one: where the cell is to be written there is a second

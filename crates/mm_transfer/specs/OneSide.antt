@@ -1,10 +1,8 @@
 -- One side in code, and what it is by digests.
 use Rattle.std.specs.Prelude.{◌≡◌, ◌≤◌, ◌+◌, ℕ, Bool, false, List, length, Option, None, Some, Result, Ok, Err, MatchResult}
-use Rattle.mm_transfer.specs.Below.{most_members, Memory, CellFault, Standing, Digests, register_reading}
-use Rattle.mm_transfer.specs.Below.{moved_cell_of, MovedCell, Link, Event, IsPrintable, Header, Reply, Outcome, Which, Pair, instance_on}
-use Rattle.mm_transfer.specs.Below.{SideState}
-use Rattle.mm_transfer.specs.Below.{digests_move, outcome_by_role, commits_between, Role, Blank, Live, Waiting, Retired, digest_in, flag_in}
-use Rattle.mm_transfer.specs.Below.{value_in}
+use Rattle.mm_transfer.specs.Below.{most_members, Memory, CellFault, Standing, Digests, register_reading, moved_cell_of, MovedCell, Link}
+use Rattle.mm_transfer.specs.Below.{Event, IsPrintable, Header, Reply, Outcome, Which, Pair, instance_on, SideState, digests_move}
+use Rattle.mm_transfer.specs.Below.{outcome_by_role, commits_between, Role, Blank, Live, Waiting, Retired, digest_in, flag_in, value_in}
 use Rattle.mm_transfer.specs.Below.{IsQuiet}
 use Rattle.mm_move.specs.declared.cell.MovedCell.TheVariants as moved
 use Rattle.mm_transfer.specs.declared.side.Side.{Side as CodeSide}

@@ -2,9 +2,8 @@
 use Rattle.std.specs.Prelude.{◌≡◌, ℕ, Bool, true, false, not, List, length, Option, None, Some, Result, Ok, Err, if◌then◌else◌}
 use Rattle.mm_transfer.specs.Below.{FitsVariant, cell_spelling, blank_cell, Instance, Digests, digest_of, cell_at, waiting_spelling}
 use Rattle.mm_transfer.specs.Below.{retired_spelling, barrier_of, acceptance_of, sealed_ticket, summary_in, Accepted, Invited, Link}
-use Rattle.mm_transfer.specs.Below.{ReadyMove}
-use Rattle.mm_transfer.specs.Below.{MoveRefusal, digests_move, DenialCause, Already, Open, Gone, Nonce, FoundMove, Role, Blank, Live, Waits}
-use Rattle.mm_transfer.specs.Below.{Left, is_live, Effect, Invites, Leaves, Enters}
+use Rattle.mm_transfer.specs.Below.{ReadyMove, MoveRefusal, digests_move, DenialCause, Already, Open, Gone, Nonce, FoundMove, Role, Blank}
+use Rattle.mm_transfer.specs.Below.{Live, Waits, Left, is_live, Effect, Invites, Leaves, Enters}
 use Rattle.mm_model.specs.declared.refusal.Refusal.TheVariants as core
 use Rattle.mm_move.specs.declared.cell.RetiredCell.{RetiredCell}
 use Rattle.mm_move.specs.declared.cell.WaitingCell.{WaitingCell}

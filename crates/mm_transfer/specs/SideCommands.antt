@@ -3,8 +3,8 @@ use Rattle.std.specs.Prelude.{◌≡◌, ◌≤◌, ◌+◌, ◌&&◌, ℕ, Bool
 use Rattle.std.specs.Prelude.{MatchResult, is_some, if◌then◌else◌}
 use Rattle.std.specs.List.{sum_by}
 use Rattle.mm_transfer.specs.Below.{Memory, Standing, Meddle, Stop, Digests, Reads, Refusal, move_fault_of, Accepted, ReadyMove}
-use Rattle.mm_transfer.specs.Below.{MoveRefusal, cause_of}
-use Rattle.mm_transfer.specs.Below.{way_of, Which, Pair, instance_on, SideState, Both, digests_move, BothOutcome, move_outcome, MoveCommand}
+use Rattle.mm_transfer.specs.Below.{MoveRefusal, cause_of, way_of, Which, Pair, instance_on, SideState, Both, digests_move, BothOutcome}
+use Rattle.mm_transfer.specs.Below.{move_outcome, MoveCommand}
 use Rattle.mm_model.specs.declared.refusal.Refusal.TheVariants as core
 use Rattle.mm_move.specs.declared.refusal.MoveRefusal.TheVariants as refusal
 use Rattle.mm_world.specs.Lengths.{within_64}

@@ -1,7 +1,6 @@
 -- Events of two sides whose bytes still lie in their line.
 use Rattle.mm_transfer.specs.Below.{One, Ask, Checkpoint, Power, Extend, meddles_of, offer_of, BothAct, Plain, Moves, BothEvent}
-use Rattle.mm_transfer.specs.Below.{MoveCommand}
-use Rattle.mm_transfer.specs.Below.{Invite, Retire, Accept}
+use Rattle.mm_transfer.specs.Below.{MoveCommand, Invite, Retire, Accept}
 use Rattle.mm_transfer.specs.declared.text.ActText.{ActText}
 use Rattle.mm_transfer.specs.declared.text.ActText.TheVariants as text
 use Rattle.mm_transfer.specs.declared.text.CommandText.{CommandText}

@@ -12,11 +12,10 @@ pub use Rattle.mm_platform.specs.CallLaws.{beside-beside, beside-none}
 pub use Rattle.mm_platform.specs.Raw.{LeavesRest, range_of, ReadsRaw, bytes_with_part, WritesRaw}
 pub use Rattle.mm_platform.specs.Standing.{Plan, Standing}
 pub use Rattle.mm_platform.specs.Steps.{Act, items_beside, cell_after, DeviceStepEnds, ExtendRegister, faults_after, StepGoes, items_after}
-pub use Rattle.mm_platform.specs.Steps.{ReadRegister}
-pub use Rattle.mm_platform.specs.Steps.{ResetRegister, fault_by_plan, is_made_by_plan, is_on_by_plan, values_by_plan, WriteCell}
+pub use Rattle.mm_platform.specs.Steps.{ReadRegister, ResetRegister, fault_by_plan, is_made_by_plan, is_on_by_plan, values_by_plan}
+pub use Rattle.mm_platform.specs.Steps.{WriteCell}
 pub use Rattle.mm_platform.specs.declared.fault.StepFault.{StepFault}
 pub use Rattle.mm_platform.specs.declared.fault.StepFault.TheVariants.{Failed}
 pub use Rattle.mm_twocell.specs.Pairs.{picked_cell, WritesOtherCell}
 pub use Rattle.mm_twocell.specs.TornMemory.{memory_after_call, plan_from_start, IsSteady, IsUsable, memory_with_part, StepsRegister}
-pub use Rattle.mm_twocell.specs.TornMemory.{told_standing, TornMemory, whole_bytes}
-pub use Rattle.mm_twocell.specs.TornMemory.{will_fail}
+pub use Rattle.mm_twocell.specs.TornMemory.{told_standing, TornMemory, whole_bytes, will_fail}

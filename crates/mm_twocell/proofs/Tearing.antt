@@ -1,10 +1,8 @@
 -- A write that fails, of which a part is left.
 use Rattle.mm_twocell.proofs.Below.{ℕ, ◌≡◌, ◌+◌, ◌≤◌, Bool, true, false, List, [], length, take, drop, None, Some, refl, sym, ap, ◌∙◌}
 use Rattle.mm_twocell.proofs.Below.{subst, arith, ◌==◌, if◌then◌else◌, option_map, nat_tests, length-take, length-take-le, next_count}
-use Rattle.mm_twocell.proofs.Below.{CountRose}
-use Rattle.mm_twocell.proofs.Below.{Failed, range_of, bytes_with_part, WritesRaw, beside-none, TornMemory, whole_bytes, told_standing}
-use Rattle.mm_twocell.proofs.Below.{IsUsable, will_fail}
-use Rattle.mm_twocell.proofs.Below.{memory_after_call, memory_with_part}
+use Rattle.mm_twocell.proofs.Below.{CountRose, Failed, range_of, bytes_with_part, WritesRaw, beside-none, TornMemory, whole_bytes}
+use Rattle.mm_twocell.proofs.Below.{told_standing, IsUsable, will_fail, memory_after_call, memory_with_part}
 use Rattle.std.proofs.lemmas.List.{length-drop}
 use Rattle.mm_twocell.proofs.Cells.{behind, length-behind, put_behind, length-spliced}
 

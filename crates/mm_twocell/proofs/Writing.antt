@@ -2,8 +2,7 @@
 use Rattle.mm_twocell.proofs.Below.{nat_tests, ℕ, ◌≡◌, ◌-◌, ◌*◌, ◌⊎◌, inl, inr, Bool, true, false, List, [], ◌∷◌, ◌++◌, length, get_or}
 use Rattle.mm_twocell.proofs.Below.{Some, refl, sym, ap, ◌∙◌, arith, ◌%◌, ◌==◌, slice_index, option_map, cell_length, Option, None}
 use Rattle.mm_twocell.proofs.Below.{StepFault, Standing, WriteCell, items_beside, cell_after, DeviceStepEnds, bytes_with_part, LeavesRest}
-use Rattle.mm_twocell.proofs.Below.{ReadsRaw}
-use Rattle.mm_twocell.proofs.Below.{WritesRaw, beside-beside, picked_cell, WritesOtherCell}
+use Rattle.mm_twocell.proofs.Below.{ReadsRaw, WritesRaw, beside-beside, picked_cell, WritesOtherCell}
 use Rattle.mm_twocell.proofs.Cells.{in_three, pair, number, one_item, parity, picks_own, picks_other, put_other, put_selector, selector_of}
 use Rattle.std.specs.Prelude.{not}
 

@@ -30,6 +30,5 @@ pub use Rattle.mm_words.specs.Commands.{AreReceiptsWords, AreWordsOf, generated_
 pub use Rattle.mm_words.specs.Forms.{is_refused, IsMatched}
 pub use Rattle.mm_words.specs.declared.command.CommandLine.{CommandLine}
 pub use Rattle.mm_words.specs.declared.command.CommandLine.TheVariants.{Bulk, Check, Checkpoint, Gen, Help, Init, Power, Receipts, Replay}
-pub use Rattle.mm_words.specs.declared.command.CommandLine.TheVariants.{Run}
-pub use Rattle.mm_words.specs.declared.command.CommandLine.TheVariants.{Slots, Transfer}
+pub use Rattle.mm_words.specs.declared.command.CommandLine.TheVariants.{Run, Slots, Transfer}
 pub use Rattle.mm_words.specs.declared.command.GeneratedSchedule.{GeneratedSchedule}

@@ -1,10 +1,9 @@
 -- No word of a command but `--help` is refused before the parse.
-use Rattle.mm_words.proofs.Below.{◌≡◌, ◌∙◌, ◌<◌, ◌≤◌, ◌^◌, ℕ, true, false, List, [], ◌∷◌, length, refl, sym, arith, codes, Some}
-use Rattle.mm_words.proofs.Below.{None, Result, Ok, Err, ◌==◌, decimal, AllPass, list_any, all_ascii_digits, bytes_eq, nat_tests}
-use Rattle.mm_words.proofs.Below.{decode_of-ok, decode_sized-ok, decode_sized-twice, Variant, Basic, Opt, AnyModule, name_of, any_is_listed}
-use Rattle.mm_words.proofs.Below.{variant_text, Header, IsGenerated, SpellsCommand, generated_words, header_words, IsMatched, is_refused}
-use Rattle.mm_words.proofs.Below.{CommandLine, Init, Gen, Bulk, Receipts, Help}
-use Rattle.mm_words.proofs.Below.{GeneratedSchedule}
+use Rattle.mm_words.proofs.Below.{◌≡◌, ◌∙◌, ◌<◌, ◌≤◌, ◌^◌, ℕ, true, false, List, [], ◌∷◌, length, refl, sym, arith, codes, Some, None}
+use Rattle.mm_words.proofs.Below.{Result, Ok, Err, ◌==◌, decimal, AllPass, list_any, all_ascii_digits, bytes_eq, nat_tests, decode_of-ok}
+use Rattle.mm_words.proofs.Below.{decode_sized-ok, decode_sized-twice, Variant, Basic, Opt, AnyModule, name_of, any_is_listed, variant_text}
+use Rattle.mm_words.proofs.Below.{Header, IsGenerated, SpellsCommand, generated_words, header_words, IsMatched, is_refused, CommandLine}
+use Rattle.mm_words.proofs.Below.{Init, Gen, Bulk, Receipts, Help, GeneratedSchedule}
 use Rattle.std.specs.Char.{is_ascii_digit}
 use Rattle.std.specs.Result.{result_ok}
 use Rattle.std.proofs.lemmas.Bool.{or_parts}

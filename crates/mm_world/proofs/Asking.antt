@@ -1,22 +1,18 @@
 -- A planned call comes to what it does by digests: what it commits, what the register reads after its moves, and how it ends.
 use Rattle.mm_world.proofs.Below.{◌≡◌, ℕ, ◌+◌, Bool, true, false, List, [], ◌∷◌, ◌++◌, length, Option, None, Some, Result, Ok, Err, refl}
 use Rattle.mm_world.proofs.Below.{ap, ◌∙◌, arith, if◌then◌else◌, option_map, map-append, Variant, Basic, Opt, zero_bytes}
-use Rattle.mm_world.proofs.Below.{extended_digest_of}
-use Rattle.mm_world.proofs.Below.{Batch, members_of, size_of, outputs_from, StepFault, Item, own_item, foreign_item, item_values}
-use Rattle.mm_world.proofs.Below.{register_after, Instance, Move, Commit, Foreign, Placed, Close, Digests, digests_after, Refusal}
-use Rattle.mm_world.proofs.Below.{digest_level}
-use Rattle.mm_world.proofs.Below.{state_after_moves, CallFinding, is_fresh, StepsWalk, has_commit, CallEnding, Answers, Refuses, Breaks}
-use Rattle.mm_world.proofs.Below.{position_of, call_ending_by}
-use Rattle.mm_world.proofs.Below.{position_if_committed, items_after_move, items_after_moves, again_of, fresh_of, committed_batches}
-use Rattle.mm_world.proofs.Below.{Commits, nothing, batch, commits-none}
+use Rattle.mm_world.proofs.Below.{extended_digest_of, Batch, members_of, size_of, outputs_from, StepFault, Item, own_item, foreign_item}
+use Rattle.mm_world.proofs.Below.{item_values, register_after, Instance, Move, Commit, Foreign, Placed, Close, Digests, digests_after}
+use Rattle.mm_world.proofs.Below.{Refusal, digest_level, state_after_moves, CallFinding, is_fresh, StepsWalk, has_commit, CallEnding}
+use Rattle.mm_world.proofs.Below.{Answers, Refuses, Breaks, position_of, call_ending_by, position_if_committed, items_after_move}
+use Rattle.mm_world.proofs.Below.{items_after_moves, again_of, fresh_of, committed_batches, Commits, nothing, batch, commits-none}
 use Rattle.mm_world.proofs.Below.{commits_batch, size_if, count-made, sizes_of, sym, eqb-true, ◌==◌, Stop, Quiet, Cut, Drop, Fail, fault_at}
 use Rattle.mm_world.proofs.Below.{is_made_at, Fails, end_of, stopped_step, takes_effect, ◌&&◌, subst, option_to_list, append-nil, Standing}
 use Rattle.mm_world.proofs.Below.{items_after_cycle, Power, register_reading, DeviceStep, Reads, Writes, ask_steps, finding_at}
-use Rattle.mm_world.proofs.Below.{finding_unless_wanting, End}
-use Rattle.mm_world.proofs.Below.{Done, StepFate, walk, walk_from_step, moves_seen, CallOutcome, call_outcome, call_outcome_by}
-use Rattle.mm_world.proofs.Below.{result_of_ending, reading_steps, RegisterStandsAt}
-use Rattle.mm_world.proofs.Below.{StaysOn, fault_of, steps_of_change, reading_none, way_of, moves_after_stop, reply_of, snapshots_of}
-use Rattle.mm_world.proofs.Below.{moves_after_call, HasDigests, is_cut, register_of_items}
+use Rattle.mm_world.proofs.Below.{finding_unless_wanting, End, Done, StepFate, walk, walk_from_step, moves_seen, CallOutcome, call_outcome}
+use Rattle.mm_world.proofs.Below.{call_outcome_by, result_of_ending, reading_steps, RegisterStandsAt, StaysOn, fault_of, steps_of_change}
+use Rattle.mm_world.proofs.Below.{reading_none, way_of, moves_after_stop, reply_of, snapshots_of, moves_after_call, HasDigests, is_cut}
+use Rattle.mm_world.proofs.Below.{register_of_items}
 use Rattle.std.proofs.lemmas.List.Sums.{fold-append}
 use Rattle.mm_module.specs.RunLaws.{length-outputs_from}
 use Rattle.mm_model.specs.Chains.{guard}

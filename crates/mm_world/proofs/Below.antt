@@ -34,8 +34,7 @@ pub use Rattle.mm_model.specs.Steps.{ask_steps, checkpoint_steps, Reads, DeviceS
 pub use Rattle.mm_model.specs.declared.refusal.Refusal.{Refusal}
 pub use Rattle.mm_call.specs.AlongLaws.{checkpoint_none, closes-foreign, closes_first, reading_none}
 pub use Rattle.mm_call.specs.CallOutcome.{Answers, Breaks, CallOutcome, call_outcome, call_outcome_by, call_ending_by, CallEnding}
-pub use Rattle.mm_call.specs.CallOutcome.{result_of_ending, position_of, reading_steps}
-pub use Rattle.mm_call.specs.CallOutcome.{Refuses, state_seen}
+pub use Rattle.mm_call.specs.CallOutcome.{result_of_ending, position_of, reading_steps, Refuses, state_seen}
 pub use Rattle.mm_call.specs.CallOutcomeWords.{position_if_committed}
 pub use Rattle.mm_call.specs.Courses.{walk_from_step, has_close, has_commit, Course, Done, End, Fails, StepFate, fate_by_plan, moves_seen}
 pub use Rattle.mm_call.specs.Courses.{walk, StepsWalk}
@@ -60,9 +59,8 @@ pub use Rattle.mm_opt.specs.declared.segment.Checkpointed.{Checkpointed as Said}
 pub use Rattle.mm_schedule.specs.Events.{Ask, Checkpoint, Event, event_of, meddles_of}
 pub use Rattle.mm_schedule.specs.declared.reply.Reply.{Reply}
 pub use Rattle.mm_outcome.specs.Folds.{moves_after_stop, cause_of, checkpoint_event_outcome, closing_reply, moves_after_checkpoint}
-pub use Rattle.mm_outcome.specs.Folds.{course_of, first_digests}
-pub use Rattle.mm_outcome.specs.Folds.{moves_after_call, Outcome, outcome_by, read_only_outcome, reply_of, snapshots_of}
-pub use Rattle.mm_outcome.specs.Folds.{outcome_without_call, way_of}
+pub use Rattle.mm_outcome.specs.Folds.{course_of, first_digests, moves_after_call, Outcome, outcome_by, read_only_outcome, reply_of}
+pub use Rattle.mm_outcome.specs.Folds.{snapshots_of, outcome_without_call, way_of}
 pub use Rattle.mm_outcome.proofs.Above.{broken_reply, stopped_reply}
 pub use Rattle.mm_outcome.specs.Folds.{plan_of}
 pub use Rattle.mm_outcome.specs.WorldState.{first_world_state, WorldFollows, WorldState, outcome_in, EventWantsMemory, world_of}

@@ -1,9 +1,7 @@
 -- A checkpoint that a device's fault broke off has closed its segment exactly where its third step was stopped, and had its effect.
 use Rattle.mm_world.proofs.Below.{◌≡◌, ℕ, Bool, true, false, ◌&&◌, ◌==◌, List, Option, None, Some, Result, Ok, Err, refl, sym, ap, ◌∙◌}
-use Rattle.mm_world.proofs.Below.{subst}
-use Rattle.mm_world.proofs.Below.{StepFault, Meddle, Stop, Standing, StepGoes, ReadCell, fault_at, is_made_at, fault_by_plan, is_some}
-use Rattle.mm_world.proofs.Below.{end_of, Cell}
-use Rattle.mm_world.proofs.Below.{Said, CheckpointRefusal, stopped_step, takes_effect, checkpoint_reply}
+use Rattle.mm_world.proofs.Below.{subst, StepFault, Meddle, Stop, Standing, StepGoes, ReadCell, fault_at, is_made_at, fault_by_plan}
+use Rattle.mm_world.proofs.Below.{is_some, end_of, Cell, Said, CheckpointRefusal, stopped_step, takes_effect, checkpoint_reply}
 use Rattle.std.specs.Result.{result_map_both}
 use Rattle.mm_base.specs.Faults.{next_count}
 use Rattle.mm_platform.specs.Standing.{Plan}

@@ -2,22 +2,16 @@
 use Rattle.mm_world.proofs.Below.{◌≡◌, ℕ, Bool, true, false, ◌&&◌, List, Option, None, Some, Result, Ok, Err, refl, sym, ap, ◌∙◌, subst}
 use Rattle.mm_world.proofs.Below.{eq-eqb, if◌then◌else◌, ◌==◌, Variant, Basic, Opt, Meaning, Batch, StepFault, Standing, ReadCell, StepGoes}
 use Rattle.mm_world.proofs.Below.{Cell, CellFault, Blank, Unspelled, ReadsCell, is_same_variant, Refusal, AskResult, Refused, end_by_fault}
-use Rattle.mm_world.proofs.Below.{fault_of}
-use Rattle.mm_world.proofs.Below.{IsOrMemory, Said, CheckpointRefusal, closing_fault_of, segment_in, SeesSegment, LooksAtSegment}
-use Rattle.mm_world.proofs.Below.{EndsLooking}
-use Rattle.mm_world.proofs.Below.{vain_refusal, [], ◌∷◌, ◌++◌, map, append-nil, is_some, MatchResult, option_to_list}
-use Rattle.mm_world.proofs.Below.{Memory, One, size_of, Meddle, Stop, fault_at, is_made_at, fault_by_plan, values_by_plan, Instance}
-use Rattle.mm_world.proofs.Below.{Foreign, is_long, Digests, digests_after, register_reading, digest_level, state_after_moves, StepsWalk}
-use Rattle.mm_world.proofs.Below.{walk_from_step, has_commit}
-use Rattle.mm_world.proofs.Below.{end_of, Reads, call_outcome_by, position_if_committed, is_broken, StaysOn, EndsAsCall, inl, inr, Reply}
-use Rattle.mm_world.proofs.Below.{Outcome, way_of, cause_of}
-use Rattle.mm_world.proofs.Below.{outcome_by, outcome_without_call, read_only_outcome, plan_of, broken_reply, stopped_reply, IsQuiet}
-use Rattle.mm_world.proofs.Below.{quiet_call, refused_call}
-use Rattle.mm_world.proofs.Below.{broken_call, takes_effect, size_if, is_cut, IsCallResult, SettlesPlan, checkpoint_reply}
-use Rattle.mm_world.proofs.Below.{has_closing_fault, refusal_of_fault}
-use Rattle.mm_world.proofs.Below.{CallComesInVain, AsksInVain, ChecksInVain, AsksPlanned, ChecksPlanned, items_beside, register_of_items}
-use Rattle.mm_world.proofs.Below.{reads_beside}
-use Rattle.mm_world.proofs.Below.{foreign_made}
+use Rattle.mm_world.proofs.Below.{fault_of, IsOrMemory, Said, CheckpointRefusal, closing_fault_of, segment_in, SeesSegment, LooksAtSegment}
+use Rattle.mm_world.proofs.Below.{EndsLooking, vain_refusal, [], ◌∷◌, ◌++◌, map, append-nil, is_some, MatchResult, option_to_list, Memory}
+use Rattle.mm_world.proofs.Below.{One, size_of, Meddle, Stop, fault_at, is_made_at, fault_by_plan, values_by_plan, Instance, Foreign}
+use Rattle.mm_world.proofs.Below.{is_long, Digests, digests_after, register_reading, digest_level, state_after_moves, StepsWalk}
+use Rattle.mm_world.proofs.Below.{walk_from_step, has_commit, end_of, Reads, call_outcome_by, position_if_committed, is_broken, StaysOn}
+use Rattle.mm_world.proofs.Below.{EndsAsCall, inl, inr, Reply, Outcome, way_of, cause_of, outcome_by, outcome_without_call}
+use Rattle.mm_world.proofs.Below.{read_only_outcome, plan_of, broken_reply, stopped_reply, IsQuiet, quiet_call, refused_call, broken_call}
+use Rattle.mm_world.proofs.Below.{takes_effect, size_if, is_cut, IsCallResult, SettlesPlan, checkpoint_reply, has_closing_fault}
+use Rattle.mm_world.proofs.Below.{refusal_of_fault, CallComesInVain, AsksInVain, ChecksInVain, AsksPlanned, ChecksPlanned, items_beside}
+use Rattle.mm_world.proofs.Below.{register_of_items, reads_beside, foreign_made}
 use Rattle.mm_seal.specs.CellLaws.{reads_cell-same}
 use Rattle.mm_call.specs.CallKind.{IsCallToEnd, EndsByFinding}
 use Rattle.mm_opt.specs.Checkpoints.{closing_fault_in}
@@ -28,8 +22,7 @@ use Rattle.mm_platform.specs.StandingWords.{due_values}
 use Rattle.mm_opt.specs.Checkpoints.{ClosesSegment}
 use Rattle.mm_opt.specs.CheckpointOnCourse.{IsCheckpointOnCourse}
 use Rattle.mm_opt.specs.ClosingOperation.{closing_operation as closing_asked, result_of_end}
-use Rattle.mm_world.proofs.Asking.{stopped_at}
-use Rattle.mm_world.proofs.Asking.{settled_reads, stop_power, on_settled, power_if}
+use Rattle.mm_world.proofs.Asking.{stopped_at, settled_reads, stop_power, on_settled, power_if}
 use Rattle.mm_world.proofs.Calling.{asks_as}
 use Rattle.mm_world.proofs.ClosedAt.{closes_at}
 use Rattle.mm_world.specs.Calls.{has_closed_segment}

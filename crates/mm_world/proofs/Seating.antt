@@ -1,10 +1,8 @@
 -- What happens at a seat, by what its platform came to.
 use Rattle.mm_world.proofs.Below.{◌≡◌, ℕ, ◌+◌, ◌-◌, ◌≤◌, ◌^◌, List, [], ◌∷◌, ◌++◌, length, Option, None, Some, Result, Ok, Err, refl, sym}
-use Rattle.mm_world.proofs.Below.{ap, ◌∙◌, IfOk}
-use Rattle.mm_world.proofs.Below.{subst, arith, append-nil, option_to_list, Memory, Batch, meaning_of, Meddle, Stop, Standing}
-use Rattle.mm_world.proofs.Below.{Instance, Digests, digests_after, Foreign, Reply, Ask, Checkpoint}
-use Rattle.mm_world.proofs.Below.{HasDigests, AsksPlanned, ChecksPlanned, refusal_of_fault}
-use Rattle.mm_world.proofs.Below.{reads_beside}
+use Rattle.mm_world.proofs.Below.{ap, ◌∙◌, IfOk, subst, arith, append-nil, option_to_list, Memory, Batch, meaning_of, Meddle, Stop}
+use Rattle.mm_world.proofs.Below.{Standing, Instance, Digests, digests_after, Foreign, Reply, Ask, Checkpoint, HasDigests, AsksPlanned}
+use Rattle.mm_world.proofs.Below.{ChecksPlanned, refusal_of_fault, reads_beside}
 use Rattle.std.specs.List.{sum_by}
 use Rattle.std.proofs.lemmas.List.Sums.{sum_by-append}
 use Rattle.mm_schedule.specs.declared.event.Offer.{Offer}

@@ -1,13 +1,11 @@
 -- A world goes on as its seat does; each of its replies can be printed, and an event issues at most one snapshot.
-use Rattle.mm_world.proofs.Below.{◌≡◌, ℕ, ◌+◌, ◌-◌, ◌<◌, ◌≤◌, ◌^◌, Bool, true, false, List, [], ◌∷◌, ◌++◌, length, take, drop}
-use Rattle.mm_world.proofs.Below.{Result, Ok, Err, IfOk, OnErr, inl, inr, refl, sym, ap, ◌∙◌, subst, arith, ◌==◌}
-use Rattle.mm_world.proofs.Below.{slice_index, Memory, Variant, Basic, Opt, Meaning, Cell, flag_byte, Standing, Instance, first_history}
-use Rattle.mm_world.proofs.Below.{Digests, cell_of, issued_bytes, register_reading, digest_level, moves_seen, state_seen, reading_steps}
-use Rattle.mm_world.proofs.Below.{instance_by}
-use Rattle.mm_world.proofs.Below.{cell_at, anchor-nil, summary-nil, seen_none, meaning_of, Reply, Ask, Checkpoint, course_of}
-use Rattle.mm_world.proofs.Below.{first_digests, WorldState, world_of, first_world_state, outcome_in, WorldFollows, EventWantsMemory}
-use Rattle.mm_world.proofs.Below.{HasDigests, IsQuiet, Event, printed}
-use Rattle.mm_world.proofs.Below.{grown}
+use Rattle.mm_world.proofs.Below.{◌≡◌, ℕ, ◌+◌, ◌-◌, ◌<◌, ◌≤◌, ◌^◌, Bool, true, false, List, [], ◌∷◌, ◌++◌, length, take, drop, Result, Ok}
+use Rattle.mm_world.proofs.Below.{Err, IfOk, OnErr, inl, inr, refl, sym, ap, ◌∙◌, subst, arith, ◌==◌, slice_index, Memory, Variant, Basic}
+use Rattle.mm_world.proofs.Below.{Opt, Meaning, Cell, flag_byte, Standing, Instance, first_history, Digests, cell_of, issued_bytes}
+use Rattle.mm_world.proofs.Below.{register_reading, digest_level, moves_seen, state_seen, reading_steps, instance_by, cell_at, anchor-nil}
+use Rattle.mm_world.proofs.Below.{summary-nil, seen_none, meaning_of, Reply, Ask, Checkpoint, course_of, first_digests, WorldState}
+use Rattle.mm_world.proofs.Below.{world_of, first_world_state, outcome_in, WorldFollows, EventWantsMemory, HasDigests, IsQuiet, Event}
+use Rattle.mm_world.proofs.Below.{printed, grown}
 use Rattle.mm_digest.specs.LengthLaws.{length-zero_bytes, length-start_digest_of}
 use Rattle.mm_seal.specs.Cell.{cell_spelling}
 use Rattle.mm_seal.specs.FieldLaws.{take_front}

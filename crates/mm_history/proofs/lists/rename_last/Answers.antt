@@ -1,7 +1,6 @@
 use Rattle.mm_history.proofs.Below.{ℕ, ◌≡◌, ◌+◌, List, [], ◌∷◌, ◌++◌, length, refl, sym, ap, ◌∙◌, arith, map-append, MatchOption}
 use Rattle.mm_history.proofs.Below.{option_to_list, KeptBatch, KeptEntry, kept_batch, kept_entry, kept_entries, RegisterEntry}
-use Rattle.mm_history.proofs.Below.{with_last_batch}
-use Rattle.mm_history.proofs.Below.{renamed-push}
+use Rattle.mm_history.proofs.Below.{with_last_batch, renamed-push}
 use Rattle.std.specs.Prelude.{Option, None, Some}
 use Rattle.std.proofs.Common.{vec_len}
 use Rattle.mm_model.specs.declared.kept.KeptEntry.TheVariants as kept

@@ -1,6 +1,5 @@
 use Rattle.mm_outcome.proofs.Below.{◌≡◌, ℕ, ◌+◌, ◌-◌, ◌<◌, ◌%◌, List, ◌∷◌, ◌++◌, length, take, drop, get_or, sym, ap, ◌∙◌, add-one}
-use Rattle.mm_outcome.proofs.Below.{length-drop}
-use Rattle.mm_outcome.proofs.Below.{bit_xor, set_split, bytes_with_flipped_bit}
+use Rattle.mm_outcome.proofs.Below.{length-drop, bit_xor, set_split, bytes_with_flipped_bit}
 use Rattle.std.proofs.Common.{rules}
 use Rattle.std.proofs.lemmas.Nat.{mod_below}
 use Rattle.std.proofs.Math.Seq.{take-length}

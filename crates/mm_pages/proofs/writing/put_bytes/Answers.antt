@@ -1,6 +1,5 @@
 use Rattle.mm_pages.proofs.Below.{◌≡◌, ℕ, List, ap, ◌∙◌, take, length, Result, Ok, Err, Failed, page_count, PageStanding, Rows, row_in}
-use Rattle.mm_pages.proofs.Below.{rows_with}
-use Rattle.mm_pages.proofs.Below.{PutsFirstPages, EndsInSync, PutsBytes}
+use Rattle.mm_pages.proofs.Below.{rows_with, PutsFirstPages, EndsInSync, PutsBytes}
 use Rattle.mm_pages.proofs.WritingLaws.{puts_all, fails_at_end}
 use Rattle.mm_pages.proofs.writing.put_bytes.Goals as goal
 
