@@ -66,7 +66,7 @@ pub record IsTold (instance : Instance) (steps : List Step) (offer request : Lis
   pub number_is : number ≡ number_of says
   pub tells :
       TellsCallOutcome asked
-          (record { old = old; new = new; before = before; after = after; says = says })
+      (record { old = old; new = new; before = before; after = after; says = says })
 
 -- The same of a checkpoint.
 pub record IsClosing (steps : List Step)

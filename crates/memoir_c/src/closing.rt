@@ -19,7 +19,9 @@ pub extern "C" fn memoir_checkpoint(steps: &[Step], step: &mut Step) -> u32
 }
 
 // What the checkpoint comes to.
-fn closed(steps: &[Step]) -> Result<StepsOutcome<Result<Checkpointed, CheckpointRefusal>>, ReturnStatus>
+fn closed(
+    steps: &[Step],
+) -> Result<StepsOutcome<Result<Checkpointed, CheckpointRefusal>>, ReturnStatus>
     ensures { ClosesTo steps.now result }
 {
     if steps.len() > MOST_STEPS {

@@ -273,7 +273,7 @@ module _ (old new : Outside) (status : Status) (middle : Standing) where
   run_ends None found (in_basic it key can) f s =
       let at = can.may.stands in
       basic_ends it key can
-          (subst (λ (r : Result Header Status). Serves r) (found_is Basic it (cell_of (basic_instance (meaning_of it) key) can.y)
+      (subst (λ (r : Result Header Status). Serves r) (found_is Basic it (cell_of (basic_instance (meaning_of it) key) can.y)
       found f.0 refl refl at.spells at.cell f.1 f.2) s)
   run_ends None found (in_opt it key barrier can) f s =
       let at = can.may.stands in

@@ -42,9 +42,11 @@ told_whole bytes e = rw e
 
 pub tells_picked : (it : TwoCell TornMemory) (bytes : List ℕ) → it.raw.standing.cell ≡ Some bytes → length bytes ≡ 209 →
     (cell : List ℕ) × ((two_cells it).cell ≡ Some cell)
-tells_picked it bytes e size =
-    (picked_cell bytes, ap (λ (c : Option (List ℕ)). option_map picked_cell (whole_bytes c)) e ∙ ap (option_map picked_cell)
-    (told_whole bytes size))
+tells_picked it bytes e size = (
+  picked_cell bytes,
+  ap (λ (c : Option (List ℕ)). option_map picked_cell (whole_bytes c)) e ∙ ap (option_map picked_cell)
+      (told_whole bytes size),
+)
 
 some_same : (a b : Slots) → (let o : Option Slots = Some a in o ≡ Some b) → a ≡ b
 some_same a b h = cc

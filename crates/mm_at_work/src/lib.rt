@@ -13,7 +13,9 @@ pub use calls::{ask_basic, ask_opt, close_segment};
 pub use commands::{
     commands_are_one_life, commands_are_parts_of_life, commands_keep_promises, run_command,
 };
-pub use hosts::{HandedObjects, MemHandedObjects, Host, Verb, live_under_host, run_rounds, run_verb};
+pub use hosts::{
+    HandedObjects, Host, MemHandedObjects, Verb, live_under_host, run_rounds, run_verb,
+};
 pub use lives::{
     Checkpoint, TwoSessions, TwoSessionsFault, live_checkpointed, live_on_copy, live_without_power,
 };

@@ -19,8 +19,11 @@ module _ (meaning : Meaning) (old middle new : Standing) (ended : AskResult) whe
       → StepsBy Basic (result_of ended) old new
   writes_stepped (Writing bytes) answer new_one none g (goes_on next h e) =
       answered_result (λ (s : Standing) (r : Result BatchAnswer Refusal). StepsBy Basic r old s) answer next new ended e
-      (subst (λ (t : Bool). StepsAnswered Basic t old next) (sym new_one) (h.steps ∙ ap next_count g.steps, h.writes
-      ∙ ap next_count g.writes))
+      (subst (λ (t : Bool). StepsAnswered Basic t old next) (sym new_one) (
+        h.steps ∙ ap next_count g.steps,
+        h.writes
+            ∙ ap next_count g.writes,
+      ))
   writes_stepped (Writing bytes) answer new_one none g (breaks_off fault h e) =
       subst (λ (v : AskResult). StepsBy Basic (result_of v) old new) (sym e)
       (inr (h.steps ∙ ap next_count g.steps, h.writes ∙ ap next_count g.writes))

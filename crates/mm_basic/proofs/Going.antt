@@ -52,7 +52,7 @@ module _ (meaning : Meaning) (offer : List ℕ) (b : Batch) (old middle new : St
       let x : Digests → Result call.CallFinding Refusal = λ y.
       found_unless_wanting (call.finding_at i (digest_level i) y (normal_batch b) offer) (lacks_in found) in
       subst (λ (y : Digests). Told i d y c.fates 1 (ask_steps Basic d.flag (is_fresh (x y)) (normal_batch b)) (normal_batch b)
-          (x y) old new ended)
+      (x y) old new ended)
       (sym (ap (λ (ms : List Move). state_after_moves (digest_level i) d ms) (append-nil (map Foreign r.goes.others))))
       (subst (λ (st : List DeviceStep). Told i d seen c.fates 1 st (normal_batch b) (x seen) old new ended)
       (sym (asks_writing d.flag (is_fresh (x seen)) (normal_batch b)))

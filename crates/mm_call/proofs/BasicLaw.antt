@@ -141,17 +141,17 @@ module _ (meaning : Meaning) (key : List ℕ) where
         subst P (sym agree) (record {
           ending = ending_same all I sees y seen b walked sees (state_after_moves (digest_level I) d walked.moves) walked.broken
               found refl (record {
-            same = same;
-            found_at = placed_at;
-            place = λ f is whole.
-                let p = placed_at f is in
-                let fresh = λ (x : f.again ≡ false). p.fresh x ∙ same in
-                let repeat = λ (x : f.again ≡ true). p.repeat x ∙ same in
-                ap (λ v. InBasic (digest_of v)) (summary_then meaning.id y.batches p.named b f.again seen.digest
-                (ap (λ (x : Digests). x.digest) (foreign_digests I (c.fates 1).brings [] d) ∙ agrees.digest) fresh repeat
-                ∙ ap (summary_of meaning.id) (sym (batches-made I walked.moves y
-                ∙ ended_batches y.batches p.named b f.again walked fresh repeat (subst C is commits) whole)));
-          }) commits;
+                same = same;
+                found_at = placed_at;
+                place = λ f is whole.
+                    let p = placed_at f is in
+                    let fresh = λ (x : f.again ≡ false). p.fresh x ∙ same in
+                    let repeat = λ (x : f.again ≡ true). p.repeat x ∙ same in
+                    ap (λ v. InBasic (digest_of v)) (summary_then meaning.id y.batches p.named b f.again seen.digest
+                    (ap (λ (x : Digests). x.digest) (foreign_digests I (c.fates 1).brings [] d) ∙ agrees.digest) fresh repeat
+                    ∙ ap (summary_of meaning.id) (sym (batches-made I walked.moves y
+                    ∙ ended_batches y.batches p.named b f.again walked fresh repeat (subst C is commits) whole)));
+              }) commits;
           moves = refl;
           steps = refl;
           writes = refl;

@@ -94,14 +94,14 @@ module _ (meaning : Meaning) (key barrier : List ℕ) (all others : List (List �
         (foreign_stands meaning key barrier all others asked y d (c.fates 1).brings e agrees a.within))
     by_flag true e x k a =
         let ends : Bool → StepsWalk → CheckpointEnding = λ z w. checkpoint_ending_by w.broken (has_close w.moves)
-            (checkpoint_ending Opt true z) in
+        (checkpoint_ending Opt true z) in
         let here = subst (λ s. IsClosedWithin all others asked I y (walk c.fates 1 s).moves) (checks x) a in
         rw (checks lost) (rw (checks other)
         (same_walks meaning key barrier all others asked Bool CheckpointEnding closing_steps ends ends y d c lost other x e
         (holds_open meaning key barrier all others asked y d e agrees a.within) k
         (counts_at meaning key barrier all others asked true y _ e here.messages here.values) (λ hs. (
           lost_same meaning key barrier all others asked (state_after_moves (list_level I) y (before c))
-          (state_after_moves (digest_level I) d (before c)) a.clear
+              (state_after_moves (digest_level I) d (before c)) a.clear
               (subst (λ z. Holds all others asked I z (state_after_moves (digest_level I) d (before c))) (sym (sight_is I y c)) hs),
           own_closing lost,
           ready_close c.fates (sight y c) lost e

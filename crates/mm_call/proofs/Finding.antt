@@ -84,7 +84,7 @@ module _ (i : Instance) (y : History) (bytes : List ℕ) (b : Batch) where
       let fits = nat_le (content.position + size_of b) last_position in
       let live = admitted_lives (life_of i.variant y) here repeat fits found.again w.2 in
       let a = admitted_tells here repeat fits found.again (ap (λ l. check_of_verdict (verdict_by_tests l here repeat) fits) (sym live)
-          ∙ w.2) in
+      ∙ w.2) in
       record {
         live = live;
         read = (snapshot, e, t.0);

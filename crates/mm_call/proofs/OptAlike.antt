@@ -128,7 +128,7 @@ module _ (meaning : Meaning) (key barrier : List ℕ) where
   names_after y after b content sound then_sound (still e) n = names_alike y after content (sym e) n
   names_after y after b content sound then_sound (grown_by e) n =
       let clean : has_value (items_of_all y.closed) ≡ false = ap (λ (c : List (List RegisterEntry)). has_value (items_of_all c))
-          (sym (same_closed y after b e))
+      (sym (same_closed y after b e))
       ∙ clean_open after then_sound (opened y after b e) in
       names_alike (history_after I y (Commit b)) after content (sym e) (named_then y.is_open y b content refl sound clean n)
 

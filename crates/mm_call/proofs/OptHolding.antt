@@ -85,7 +85,7 @@ outside_items : (others : List (List ℕ)) (y : History) (items : List RegisterE
     → IsOutside others (record y { items = items })
 outside_items others y items e h =
     let P : Bool → List RegisterEntry → Type 0 = λ f xs. AllByRecursion (Contains others)
-        (values_in (items_of_all y.closed ++ (if f then xs else []))) in
+    (values_in (items_of_all y.closed ++ (if f then xs else []))) in
     let shut : P false y.items = subst (λ f. P f y.items) e h in
     rw e shut
 
@@ -182,7 +182,7 @@ module _ (meaning : Meaning) (key barrier : List ℕ) where
         → IsWithin all others asked I (record y { items = items })
     within_items y items e w =
         let P : Bool → List RegisterEntry → Type 0 = λ f xs. AreMessagesIn (history_messages I (record y { items = if f then xs else [] }))
-            all in
+        all in
         let shut : P false y.items = subst (λ f. P f y.items) e w.listed in record {
           sound = sound_shut y items e w.sound;
           outside = outside_items others y items e w.outside;

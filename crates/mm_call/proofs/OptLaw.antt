@@ -162,7 +162,7 @@ module _ (meaning : Meaning) (key barrier : List ℕ) where
               let one = foreign_holds y d v (map Foreign w ++ rest.moves) h
               (subst (λ z. Counts true y (two_reads v Done w z rest).moves) q first) in
               let two = foreign_holds (history_with_values y v) (state_after_moves (digest_level I) d (map Foreign v)) w
-                  rest.moves one.0 one.1 in
+              rest.moves one.0 one.1 in
               let r = past_so (rw (seen_is I d c) two.0) in
               let counted = subst (λ z. Counts true y (walked_by z).moves) (k r.0) counts in
               rw r.0 (same_on E y d (walked_by lists) (lists_end lists (walked_by lists)) (digests_end lists (walked_by lists)) r.3
@@ -314,7 +314,7 @@ module _ (meaning : Meaning) (key barrier : List ℕ) where
           let register : List ℕ = fold extended_digest_of (fold extended_digest_of d.register v) w in
           let seen_then : seen ≡ record d { register = register } =
           foreign_digests I v (map Foreign w ++ []) d ∙ foreign_digests I w []
-              (record d { register = fold extended_digest_of d.register v }) in
+          (record d { register = fold extended_digest_of d.register v }) in
           let digests : finding_at I (digest_level I) seen b offer ≡ finding_at I (digest_level I) (bare_digests d) b offer =
           ap (λ x. finding_at I (digest_level I) x b offer) seen_then
           ∙ found_digests meaning key barrier d register b offer (agrees.flag ∙ e) in

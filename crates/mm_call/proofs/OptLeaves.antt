@@ -273,6 +273,6 @@ module _ (meaning : Meaning) (key barrier : List ℕ) (all others : List (List �
         × ((answer : BatchAnswer) → result ≡ Ok answer → (walk c.course.fates 1 s).broken ≡ None)) (asks y.is_open (is_fresh found) b) (
           refl,
           λ answer gives. (answered_only w.broken (digest_level I) seen (state_after_moves (digest_level I) d w.moves) b
-          found w.moves answer
+              found w.moves answer
               (sym goes.gives ∙ gives)).whole,
         ))

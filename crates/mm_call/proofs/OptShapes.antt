@@ -97,7 +97,7 @@ pub none_counted : (y : History) (values : List (List ℕ)) (moves : List Move) 
     → counted_moves y.is_open moves ≡ []
 none_counted y values moves e is =
     ap (λ (f : Bool). counted_moves f moves) e ∙ ap moves_from_reset (is ∙ sym (append-nil (map Foreign values)))
-        ∙ moves_from_reset-foreign values []
+    ∙ moves_from_reset-foreign values []
 
 pub foreign_of-append : (xs ys : List Item) → foreign_items (xs ++ ys) ≡ foreign_items xs ++ foreign_items ys
 foreign_of-append [] ys = refl
@@ -278,6 +278,6 @@ pub opt_tied : OptMovesAreTied
 opt_tied meaning key barrier y d c offer b f =
     let i = opt_instance meaning key barrier in
     let fresh : Bool = is_fresh (finding_unless_wanting (finding_at i (digest_level i) (state_seen i (digest_level i) d c) b offer)
-        c.lacks) in
+    c.lacks) in
     rw (asks d.flag fresh b ∙ ap (λ g. Reads ∷ Reads ∷ steps_of_change g fresh b) f)
     (tied_by meaning key barrier y.is_open y d c.fates fresh b refl f)

@@ -58,7 +58,7 @@ shown_parts all others i y m k a =
     let front : List (List ℕ) = trail extended_message s (item_values m) in
     let back : List (List ℕ) = trail extended_message (digest_after extended_message s (item_values m)) (item_values k) in
     let messages : AreMessagesIn (front ++ back) all = subst (λ (ms : List (List ℕ)). AreMessagesIn ms all)
-        (trail_split s m k) a.messages in
+    (trail_split s m k) a.messages in
     let values = subst (AllByRecursion (Contains others)) (foreign_of-append m k) a.values in (
       record {
         messages = each_left (Contains all) front back messages;

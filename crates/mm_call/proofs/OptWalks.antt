@@ -105,9 +105,11 @@ module _ (others : List (List ℕ)) where
   -- among first moves, and among those behind
   outside_parts : (xs ys : List Move) → Outside (xs ++ ys) → Outside xs × Outside ys
   outside_parts xs ys h =
-      let w = subst (AllByRecursion (Contains others)) (foreign_move_values-append xs ys) h in
-      (each_left (Contains others) (foreign_move_values xs) (foreign_move_values ys) w, each_right (Contains others)
-      (foreign_move_values xs) (foreign_move_values ys) w)
+      let w = subst (AllByRecursion (Contains others)) (foreign_move_values-append xs ys) h in (
+        each_left (Contains others) (foreign_move_values xs) (foreign_move_values ys) w,
+        each_right (Contains others)
+            (foreign_move_values xs) (foreign_move_values ys) w,
+      )
 
   pub front_outside : (values : List (List ℕ)) (moves : List Move) → Outside (map Foreign values ++ moves)
       → AllByRecursion (Contains others) values × Outside moves

@@ -148,7 +148,7 @@ pub taking_is : (i : Instance) (values : List (List ℕ)) (y : History) → stat
 taking_is i [] y = ap (λ v. record y { items = v }) (sym (append-nil y.items))
 taking_is i (v ∷ values) y =
     taking_is i values (history_after i y (Foreign v)) ∙ ap (λ x. record y { items = x })
-        (append_assoc y.items (Value v ∷ []) (map Value values))
+    (append_assoc y.items (Value v ∷ []) (map Value values))
 
 pub foreign_made : (i : Instance) (values : List (List ℕ)) (moves : List Move) (y : History)
     → state_after_moves (list_level i) y (map Foreign values ++ moves) ≡ state_after_moves (list_level i)

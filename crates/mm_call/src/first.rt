@@ -28,11 +28,11 @@ pub fn provision_with<M: Module>(
     ensures cell { IfOk result (λ made. made.cell ≡ cell_spelling cell.now) }
     ensures snapshot { IfOk result
         (λ made. made.snapshot ≡ sealed_snapshot_of cell.now.key (record {
-      id = (M.meaning «module».now).id;
-      place = place;
-      position = 0;
-      state = (M.meaning «module».now).first;
-    })) }
+          id = (M.meaning «module».now).id;
+          place = place;
+          position = 0;
+          state = (M.meaning «module».now).first;
+        })) }
 {
     let state = module.first_state(alloc)?;
     let body = Body {

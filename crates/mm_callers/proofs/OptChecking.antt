@@ -112,7 +112,7 @@ pub may_close_back : (all : List (List ℕ)) (i : Instance) (y z : History) (fro
 may_close_back all i y z front later closed register w first rest e =
     let r : List ℕ = register_value_of i (counted_part y) in
     let message : List (List RegisterEntry) → List ℕ → List ℕ =
-        λ c s. anchored_message (cell_digest_of i Opt (record y { closed = c })) s in
+    λ c s. anchored_message (cell_digest_of i Opt (record y { closed = c })) s in
     subst (Contains all) (ap (message y.closed) (after-append extended_message r (item_values front) first
     ∙ ap (λ (s : List ℕ). after extended_message s first) (sym register))
     ∙ ap (λ (c : List (List RegisterEntry)). message c (after extended_message (register_value_of i (counted_part z)) first)) (sym closed))
@@ -152,9 +152,11 @@ module _ (meaning : Meaning) (key barrier : List ℕ) where
             (λ e. subst (λ (r : List ℕ). MayCloseAt all (cell_digest_of I Opt y) r (foreign_move_values moves)) push
             (λ first later s. w e (v ∷ first) later (ap (λ (vs : List (List ℕ)). v ∷ vs) s))),
       )
-  closing_within all (Close ∷ moves) true y c t w =
-      (w refl [] (foreign_move_values moves) refl, closing_within all moves false (history_after I y Close) c t
-      (λ (e : false ≡ true). absurd (cc)))
+  closing_within all (Close ∷ moves) true y c t w = (
+    w refl [] (foreign_move_values moves) refl,
+    closing_within all moves false (history_after I y Close) c t
+        (λ (e : false ≡ true). absurd (cc)),
+  )
   closing_within all (_ ∷ moves) _ y c t w = absurd c
 
   -- they may be made, where at the end no closed segment is empty
@@ -223,7 +225,7 @@ module _ (meaning : Meaning) (key barrier : List ℕ) (all others : List (List �
   closing_asked true z moves more c clear within same asks =
       let y : History = record z { is_open = true } in
       let values_are : item_values more ≡ foreign_move_values moves = ap item_values (sym (same refl))
-          ∙ foreign_values (foreign_move_values moves) in
+      ∙ foreign_values (foreign_move_values moves) in
       let a = asks refl in
       record {
         clear = clear;

@@ -54,7 +54,7 @@ module _ (meaning : Meaning) (key barrier : List ℕ) where
       (record { after = o.state; stands = k.stands; batches_are = a.batches; answer_is = refl })
   answers_or_lacks true all others asked y new offer b again result w k =
       let same : call_outcome I (list_level I) y (still_course true) offer b ≡ call_outcome_with I (list_level I) y y
-          (still_course true) b (Err Memory) =
+      (still_course true) b (Err Memory) =
       simp (welcome_found I y offer b again w) in
       subst (AnswersOrLacks I y new b again) (sym (k.gives ∙ ap (λ (o : CallOutcome History). result_of_ending o.ending) same))
       (refl, subst (λ (o : CallOutcome History). StandsFor I new o.state) same k.stands)
@@ -72,7 +72,7 @@ asked_quietly {meaning = meaning} {new = new} {offer = offer} {request = request
     let c = call.goes short in
     let is : c.course ≡ still_course c.course.lacks = course_is c.course (c.tells quiet_plan on plan refl) in
     let goes = subst (λ (q : Course). IsAsked all others asked i y (call_outcome i (digest_level i) (digests_of i y) q offer b).moves offer
-        b
+    b
     → CallContinues all others asked i (call_outcome i (list_level i) y q offer b) new result) is
     (c.continues key barrier y all others asked s) in
     answers_or_lacks meaning key barrier c.course.lacks all others asked y new offer b again result w

@@ -126,66 +126,66 @@ module _ {meaning : Meaning} {old answered_at closed : Standing} {offer request 
 
   -- the call made once more
   module _ {new : Standing} {result : Result BatchAnswer Refusal} (r : IsCallOnCourse Opt meaning closed new offer (One request) result)
-      where
-    -- one that found no new batch makes its reading steps alone
-    quietly : (d : Digests) → StandsAt I closed d → IsQuiet result
-        → Brought (call_outcome I (digest_level I) d r.course offer (One request)).moves
-    quietly d stands q =
-        let b : Batch = One request in
-        let seen : Digests = state_seen I (digest_level I) d r.course in
-        let found : Result CallFinding Refusal = finding_unless_wanting (finding_at I (digest_level I) seen b offer) r.course.lacks in
-        let w : StepsWalk = walk r.course.fates 1 (ask_steps Opt d.flag (is_fresh found) b) in
-        quiet_walk r.course.fates d.flag (is_fresh found) b
-        (told_quiet w.broken I seen (state_after_moves (digest_level I) d w.moves) b found w.moves
-        (subst IsQuiet (r.goes key barrier d stands).gives q))
+    where
+      -- one that found no new batch makes its reading steps alone
+      quietly : (d : Digests) → StandsAt I closed d → IsQuiet result
+          → Brought (call_outcome I (digest_level I) d r.course offer (One request)).moves
+      quietly d stands q =
+          let b : Batch = One request in
+          let seen : Digests = state_seen I (digest_level I) d r.course in
+          let found : Result CallFinding Refusal = finding_unless_wanting (finding_at I (digest_level I) seen b offer) r.course.lacks in
+          let w : StepsWalk = walk r.course.fates 1 (ask_steps Opt d.flag (is_fresh found) b) in
+          quiet_walk r.course.fates d.flag (is_fresh found) b
+          (told_quiet w.broken I seen (state_after_moves (digest_level I) d w.moves) b found w.moves
+          (subst IsQuiet (r.goes key barrier d stands).gives q))
 
-    -- The first two calls, where the register's items are known at the end: a call that makes its reading steps alone leaves all items
-    -- in front.
-    behind_quiet : (items more : List Item) → StandsFor I old y → old.items ≡ Some items
-        → new.items ≡ Some (standing_items y.is_open items ++ more) → AreAsked all others asked I y offer (One request) → Shown more
-        → IsQuiet result → Behind
-    behind_quiet items more s known ends a shown_so q =
-        let d : Digests = digests_of I y in
-        let moves : List Move = DigestMoves meaning key barrier all others asked old answered_at offer request (Ok first) c y in
-        let g = c.goes key barrier d (stands_at I old y s) in
-        let d1 : Digests = state_after_moves (digest_level I) d moves in
-        let h = k.goes Opt meaning key barrier d1 g.stands in
-        let o = checkpoint_outcome I (digest_level I) d1 k.course in
-        let there : List Item = items_after_moves I d1 o.moves (items_after_moves I d moves items) in
-        let known_there : closed.items ≡ Some there =
-        h.items ∙ ap (option_map (items_after_moves I d1 o.moves)) (g.items ∙ ap (option_map (items_after_moves I d moves)) known) in
-        let front = front_by items there s known known_there y.is_open refl in
-        let standing : List Item = standing_items y.is_open items in
-        let here : List Item = standing ++ front.0 in
-        let third : List Move = (call_outcome I (digest_level I) o.state r.course offer (One request)).moves in
-        let alone = quietly o.state h.stands q in
-        let later : List Item = map foreign_item (foreign_move_values (map Foreign alone.values)) in
-        let same : front.0 ++ later ≡ more = shown_same closed.items (items_after_moves I o.state third) here standing more
-            (front.0 ++ later) front.1
-        (ap (λ (ms : List Move). items_after_moves I o.state ms here) alone.are
-        ∙ closing_shown meaning key barrier (map Foreign alone.values) false o.state here (closing_foreign alone.values false)
-        ∙ append_assoc standing front.0 later)
-        (sym (r.goes key barrier o.state h.stands).items ∙ ends) in
-        behind items front.0 s known front.1 a (λ busy.
-        let all_of = subst (λ (xs : List Item). AreShown all others I y xs × MayClose all I y xs) (sym same) (shown_so busy) in
-        (shown_front all others I y front.0 later all_of.0, may_close_front all I y front.0 later all_of.1))
+      -- The first two calls, where the register's items are known at the end: a call that makes its reading steps alone leaves all items
+      -- in front.
+      behind_quiet : (items more : List Item) → StandsFor I old y → old.items ≡ Some items
+          → new.items ≡ Some (standing_items y.is_open items ++ more) → AreAsked all others asked I y offer (One request) → Shown more
+          → IsQuiet result → Behind
+      behind_quiet items more s known ends a shown_so q =
+          let d : Digests = digests_of I y in
+          let moves : List Move = DigestMoves meaning key barrier all others asked old answered_at offer request (Ok first) c y in
+          let g = c.goes key barrier d (stands_at I old y s) in
+          let d1 : Digests = state_after_moves (digest_level I) d moves in
+          let h = k.goes Opt meaning key barrier d1 g.stands in
+          let o = checkpoint_outcome I (digest_level I) d1 k.course in
+          let there : List Item = items_after_moves I d1 o.moves (items_after_moves I d moves items) in
+          let known_there : closed.items ≡ Some there =
+          h.items ∙ ap (option_map (items_after_moves I d1 o.moves)) (g.items ∙ ap (option_map (items_after_moves I d moves)) known) in
+          let front = front_by items there s known known_there y.is_open refl in
+          let standing : List Item = standing_items y.is_open items in
+          let here : List Item = standing ++ front.0 in
+          let third : List Move = (call_outcome I (digest_level I) o.state r.course offer (One request)).moves in
+          let alone = quietly o.state h.stands q in
+          let later : List Item = map foreign_item (foreign_move_values (map Foreign alone.values)) in
+          let same : front.0 ++ later ≡ more = shown_same closed.items (items_after_moves I o.state third) here standing more
+          (front.0 ++ later) front.1
+          (ap (λ (ms : List Move). items_after_moves I o.state ms here) alone.are
+          ∙ closing_shown meaning key barrier (map Foreign alone.values) false o.state here (closing_foreign alone.values false)
+          ∙ append_assoc standing front.0 later)
+          (sym (r.goes key barrier o.state h.stands).items ∙ ends) in
+          behind items front.0 s known front.1 a (λ busy.
+          let all_of = subst (λ (xs : List Item). AreShown all others I y xs × MayClose all I y xs) (sym same) (shown_so busy) in
+          (shown_front all others I y front.0 later all_of.0, may_close_front all I y front.0 later all_of.1))
 
-    -- on such an offer, with no segment open, it doesn't find a new batch
-    never_new : (x : Behind) (found : Result CallFinding Refusal) → finding_at I (list_level I) x.two.after (One request) offer ≡ found
-        → is_fresh found ≡ false
-    never_new x (Err why) e = refl
-    never_new x (Ok f) e =
-        let z : History = x.two.after in
-        let p = placed all I z offer (One request)
-        (record { clear = x.asks.clear; listed = x.asks.offered; genuine = x.asks.genuine }) f e in
-        not_fresh f.again (λ is. not_at_end (offers x.one.comes) f.offered (right_at I z offer (One request) f e)
-        (p.position ∙ ap total_of (p.fresh is ∙ x.two.batches)))
+      -- on such an offer, with no segment open, it doesn't find a new batch
+      never_new : (x : Behind) (found : Result CallFinding Refusal) → finding_at I (list_level I) x.two.after (One request) offer ≡ found
+          → is_fresh found ≡ false
+      never_new x (Err why) e = refl
+      never_new x (Ok f) e =
+          let z : History = x.two.after in
+          let p = placed all I z offer (One request)
+          (record { clear = x.asks.clear; listed = x.asks.offered; genuine = x.asks.genuine }) f e in
+          not_fresh f.again (λ is. not_at_end (offers x.one.comes) f.offered (right_at I z offer (One request) f e)
+          (p.position ∙ ap total_of (p.fresh is ∙ x.two.batches)))
 
-    -- what it leaves and says
-    once_more : (x : Behind) → x.two.after.is_open ≡ false → Left all others asked I x.two.after new offer (One request) result
-    once_more x shut =
-        let not_new = never_new x (finding_at I (list_level I) x.two.after (One request) offer) refl in
-        (left_idle meaning key barrier all others asked r x.two.stands x.asks short (record { shut = shut; not_new = not_new })).0
+      -- what it leaves and says
+      once_more : (x : Behind) → x.two.after.is_open ≡ false → Left all others asked I x.two.after new offer (One request) result
+      once_more x shut =
+          let not_new = never_new x (finding_at I (list_level I) x.two.after (One request) offer) refl in
+          (left_idle meaning key barrier all others asked r x.two.stands x.asks short (record { shut = shut; not_new = not_new })).0
 
   replies_alike : {new : Standing} {second : BatchAnswer} (r : IsCallOnCourse Opt meaning closed new offer (One request) (Ok second))
       → (x : Behind) → x.two.after.is_open ≡ false → RepeatsReply I y new (One request) first second

@@ -164,7 +164,7 @@ module _ (i : Instance) (events : List Event) where
       → IsZeroAt (numbered_messages i events) message
   zero_at message e =
       let f = found_first (λ m. is_zero (sha256 m)) (numbered_messages i events) message
-          (sym (where_mapped is_zero (numbered_messages i events)) ∙ e) in
+      (sym (where_mapped is_zero (numbered_messages i events)) ∙ e) in
       record {
         before = f.before;
         message = f.item;
@@ -206,7 +206,7 @@ module _ (i : Instance) (events : List Event) where
       → Contains (event_foreign_values event) value → Contains (foreign_values events) value
   brought_in before event after value split there =
       subst (λ (l : List (List ℕ)). Contains l value)
-          (sym (ap foreign_values split ∙ flat_map-append event_foreign_values before (event ∷ after)))
+      (sym (ap foreign_values split ∙ flat_map-append event_foreign_values before (event ∷ after)))
       (Contains-append_right (foreign_values before) (event_foreign_values event ++ foreign_values after) value
       (Contains-append_left (event_foreign_values event) (foreign_values after) value there))
 

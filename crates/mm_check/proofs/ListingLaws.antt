@@ -20,7 +20,7 @@ first_pass : {A : Type 0} (p : A → Bool) (y : A) (pass : Bool) (xs : List A) (
     → number_of_first p (xs ++ x ∷ []) ≡ first_number_of (number_of_first p xs) (p x) (length xs + 1)
     → (let o : Option ℕ = cond pass (Some 1) (option_map (λ n. n + 1) (number_of_first p (xs ++ x ∷ []))) in
     let w : Option ℕ = cond pass (Some 1) (option_map (λ n. n + 1) (number_of_first p xs)) in
-        o ≡ first_number_of w (p x) (length (y ∷ xs) + 1))
+    o ≡ first_number_of w (p x) (length (y ∷ xs) + 1))
 first_pass p y true xs x e = refl
 first_pass p y false xs x e =
     ap (option_map (λ n. n + 1)) e ∙ more_here (number_of_first p xs) (p x) (length xs + 1) (length (y ∷ xs) + 1) (omega arith)

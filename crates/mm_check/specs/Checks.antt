@@ -52,7 +52,7 @@ JudgeSettles left taken (Ok verdicts) = IsJudged left taken verdicts
 -- line's
 JudgeSettles left taken (Err ReadFault) =
     IsTailShort taken × ((after : CheckStage)
-        × ((check_of_lines (lines_of taken)).outcome ≡ Ok after))
+    × ((check_of_lines (lines_of taken)).outcome ≡ Ok after))
 JudgeSettles left taken (Err WriteFault) = ⊥
 JudgeSettles left taken (Err Memory) = Unit {0}
 -- else the run over the lines stops so

@@ -12,7 +12,7 @@ use crate::comparing::Comparison;
 use crate::reading::ScheduleReader;
 use crate::verdicts::Verdicts;
 use mm_base::{Bytes, Memory};
-use mm_play::{Player, LineRefusal, ReplyFault};
+use mm_play::{LineRefusal, Player, ReplyFault};
 use mm_schedule::read_header;
 use std::alloc::Global;
 use std::marker::Model;

@@ -47,7 +47,7 @@ impl Model for ScheduleReader {
     } };
 
     ghost invariant = { λ it. RunsBehind it.header (running_replay it.progress)
-    (events_of it.events.items)
+        (events_of it.events.items)
         it.told.items };
 }
 

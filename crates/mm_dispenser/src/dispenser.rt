@@ -66,7 +66,9 @@ fn read_request(bytes: &[u8]) -> Option<DispenserRequest>
     ensures { result ≡ request_of (words_of bytes.now) }
 {
     match Words::of(bytes) {
-        Words::Two(word, seed) if word == b"seed".as_slice() => value_in(seed).map(DispenserRequest::Seed),
+        Words::Two(word, seed) if word == b"seed".as_slice() => value_in(seed).map(
+            DispenserRequest::Seed,
+        ),
         Words::Two(word, number) if word == b"draw".as_slice() => drawing(read_decimal(number)?),
         _ => None,
     }
@@ -117,22 +119,36 @@ fn drawn(seed: [u8; 32], place: u64, count: u8) -> (DispenserState, DispenserOut
             let state = DispenserState::Seeded { seed, place: next };
             (state, DispenserOutput::Words { seed, place, count })
         }
-        _ => (DispenserState::Seeded { seed, place }, DispenserOutput::Full),
+        _ => (
+            DispenserState::Seeded { seed, place },
+            DispenserOutput::Full,
+        ),
     }
 }
 
 /// What a request does, and what is said.
-fn outcome(state: DispenserState, request: Option<DispenserRequest>) -> (DispenserState, DispenserOutput)
+fn outcome(
+    state: DispenserState,
+    request: Option<DispenserRequest>,
+) -> (DispenserState, DispenserOutput)
     ensures { result ≡ outcome_of state request }
 {
     let Some(request) = request else {
         return (state, DispenserOutput::Bad);
     };
     match (state, request) {
-        (DispenserState::Unset, DispenserRequest::Seed(seed)) => (DispenserState::Seeded { seed, place: 0 }, DispenserOutput::Seeded),
+        (DispenserState::Unset, DispenserRequest::Seed(seed)) => (
+            DispenserState::Seeded { seed, place: 0 },
+            DispenserOutput::Seeded,
+        ),
         (DispenserState::Unset, DispenserRequest::Draw(_)) => (state, DispenserOutput::Unset),
-        (DispenserState::Seeded { .. }, DispenserRequest::Seed(_)) => (state, DispenserOutput::Taken),
-        (DispenserState::Seeded { seed, place }, DispenserRequest::Draw(count)) => drawn(seed, place, count),
+        (DispenserState::Seeded { .. }, DispenserRequest::Seed(_)) => (
+            state,
+            DispenserOutput::Taken,
+        ),
+        (DispenserState::Seeded { seed, place }, DispenserRequest::Draw(count)) => drawn(
+            seed, place, count,
+        ),
     }
 }
 

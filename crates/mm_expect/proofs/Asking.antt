@@ -218,7 +218,7 @@ module _ (a : ChronicleView) (stop : Stop) (meddles : List Meddle) (bytes : List
       let steps : reading_steps a.variant ++ changing ≡ steps_for (Ok f.0) = sym (ask_changing a.variant a.history.is_open b)
       ∙ ap (λ (k : Bool). ask_steps a.variant a.history.is_open (if k then false else true) b) (sym f.2) in
       let t = then_walked fates 1 (first_changing_step a.variant) (reading_steps a.variant) changing (changing_behind a.variant)
-          (sym w.broken) in
+      (sym w.broken) in
       let whole : ChronicleWalks a m (walk fates 1 (steps_for (Ok f.0))) more.broken =
       subst (λ (s : List DeviceStep). ChronicleWalks a m (walk fates 1 s) more.broken) steps
       (walks_then fates 1 (first_changing_step a.variant) (reading_steps a.variant) changing (changing_behind a.variant) w went) in

@@ -29,8 +29,13 @@ module _ (i : Instance) where
   told_printable lawful y b again few = let all = outputs_from i.meaning i.meaning.first (requests_of y.batches) in (
     All-drop (λ (o : List ℕ). length o ≤ longest_request) _ (outputs_from i.meaning i.meaning.first (requests_of y.batches))
         (short_outputs i.meaning lawful i.meaning.first (requests_of y.batches) lawful.begins),
-    omega (arith, few, length-drop (total_of y.batches - size_of b) all, length-outputs_from i.meaning i.meaning.first
-    (requests_of y.batches)),
+    omega (
+      arith,
+      few,
+      length-drop (total_of y.batches - size_of b) all,
+      length-outputs_from i.meaning i.meaning.first
+          (requests_of y.batches),
+    ),
   )
 
   broken_printable : (way : Way) (commit : Bool) (position : ℕ) → IsPrintable (broken_reply way (position_if_committed commit position))

@@ -8,8 +8,8 @@ use mm_base::Memory;
 use mm_call::AskResult;
 use mm_digest::Variant;
 use mm_module::Batch;
-use mm_platform::StepFault;
 use mm_outcome::CallPlan;
+use mm_platform::StepFault;
 use mm_seal::SealingKey;
 
 impl Chronicle {
@@ -42,17 +42,29 @@ impl Chronicle {
     }
 
     // The steps behind the reading ones, of a call whose batch is a new one.
-    fn change(&mut self, course: &CallPlan<'_>, batch: Batch<'_>) -> Result<Option<StepFault>, Memory>
+    fn change(
+        &mut self,
+        course: &CallPlan<'_>,
+        batch: Batch<'_>,
+    ) -> Result<Option<StepFault>, Memory>
         requires { is_long (batch_of batch) ≡ false }
         ensures { IfOk result
             (ChronicleChanges self.old self.new course.now.stop course.now.meddles.now
             (batch_of batch.entry)) }
     {
         match self.variant {
-            Variant::Basic => self.walk(course, 2, &[ChronicleStep::Writes(ChronicleMove::Commit(batch))]),
+            Variant::Basic => self.walk(
+                course,
+                2,
+                &[ChronicleStep::Writes(ChronicleMove::Commit(batch))],
+            ),
             Variant::Opt => {
                 if self.lists.is_open() {
-                    self.walk(course, 3, &[ChronicleStep::Changes(ChronicleMove::Commit(batch))])
+                    self.walk(
+                        course,
+                        3,
+                        &[ChronicleStep::Changes(ChronicleMove::Commit(batch))],
+                    )
                 } else {
                     self.walk(
                         course,
@@ -146,7 +158,11 @@ impl Chronicle {
     }
 
     // A checkpoint that reads the cell alone, and ends so unless it is broken off.
-    fn check_shut(&mut self, course: &CallPlan<'_>, closing: ClosingResult) -> Result<ClosingResult, Memory>
+    fn check_shut(
+        &mut self,
+        course: &CallPlan<'_>,
+        closing: ClosingResult,
+    ) -> Result<ClosingResult, Memory>
         ensures { IfOk result
             (ChronicleClosesBy self.old self.new
             (walk (fate_by_plan (plan_of course.now.stop course.now.meddles.now)) 1 (Reads ∷ []))
@@ -211,7 +227,10 @@ impl ClosingResult {
     {
         match self {
             ClosingResult::Stops { .. } => true,
-            ClosingResult::Closes | ClosingResult::HasNone | ClosingResult::NoSegment | ClosingResult::LostPower => false,
+            ClosingResult::Closes
+            | ClosingResult::HasNone
+            | ClosingResult::NoSegment
+            | ClosingResult::LostPower => false,
         }
     }
 }

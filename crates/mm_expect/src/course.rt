@@ -6,8 +6,8 @@ ghost use Rattle.mm_platform.specs.Steps.{fault_at, is_made_at};
 use crate::chronicle::Chronicle;
 use mm_base::Memory;
 use mm_module::Batch;
-use mm_platform::{StepFault, Stop};
 use mm_outcome::CallPlan;
+use mm_platform::{StepFault, Stop};
 
 /// What a step of the core does to a history.
 #[derive(Clone, Copy)]
@@ -85,8 +85,7 @@ impl Chronicle {
     // What others put into the register just before the step of this number.
     fn bring_due(&mut self, course: &CallPlan<'_>, step: u8) -> Result<(), Memory>
         ensures { OnOk result
-            (ChronicleGoes self.old self.new (map Foreign (due_values step course.now.meddles.now)))
-            }
+            (ChronicleGoes self.old self.new (map Foreign (due_values step course.now.meddles.now))) }
     {
         'meddles: for meddle in course.meddles {
             if meddle.step == step {

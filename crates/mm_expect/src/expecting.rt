@@ -22,8 +22,8 @@ use mm_digest::Digest;
 use mm_history::list_place;
 use mm_model::{is_long, normal};
 use mm_module::Batch;
-use mm_platform::{Meddle, Stop};
 use mm_outcome::{CallPlan, offered, way, world_key};
+use mm_platform::{Meddle, Stop};
 use mm_schedule::{Cause, Event, Header, Meddles, Offer, Reply};
 use mm_seal::SealingKey;
 use std::alloc::Global;
@@ -197,7 +197,11 @@ fn follow_checkpoint(
 }
 
 // Power is lost and comes back.
-fn follow_power(chronicle: &mut Chronicle, issued: &[Bytes], messages: &mut Vec<Bytes>) -> EventReply
+fn follow_power(
+    chronicle: &mut Chronicle,
+    issued: &[Bytes],
+    messages: &mut Vec<Bytes>,
+) -> EventReply
     ensures { ChronicleGoesByEvent chronicle.old chronicle.new issued.now Power messages.old.items
         messages.new.items result }
 {
@@ -314,8 +318,7 @@ impl Expectation {
 
     /// Follows one event. After want of memory nothing is said of what stands.
     pub fn event(&mut self, event: &Event) -> Result<ExpectedOutcome, Memory>
-        ensures state { OnOk result (self.new ≡ expected_state_after self.old (event_of event.now))
-            }
+        ensures state { OnOk result (self.new ≡ expected_state_after self.old (event_of event.now)) }
         ensures hears { IfOk result (HearsEvent (world_of self.old.header) self.old.history
             self.old.issued (event_of event.now)) }
         ensures after { OnOk result (StandsLater self.old (event_of event.now) self.new) }

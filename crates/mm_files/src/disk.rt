@@ -142,7 +142,11 @@ where
 
 /// Makes an empty file at this path, as that of a name. An error where something is there: no link
 /// is followed.
-pub fn make<R: Files>(files: &R, name: &'static str, path: &str) -> Result<OpenedFile<R::File>, Reason>
+pub fn make<R: Files>(
+    files: &R,
+    name: &'static str,
+    path: &str,
+) -> Result<OpenedFile<R::File>, Reason>
 where
     R::File: FileExt,
 {

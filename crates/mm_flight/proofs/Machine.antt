@@ -67,16 +67,24 @@ module _ {A R : Type 0} (o : OpMeaning A R) (p q : Plan) (made : ℕ) (old : Sta
   looks_under : (new : Standing) (seen : Result (Sight A) (Halt R)) → OpLooks o old new seen → OpLooks o begun (then new) seen
   looks_under new =
       draws_under {later = λ seen. CellSays begun (λ bytes. o.sees bytes seen)} (λ fault g. replanned ReadCell p q made old new fault r g)
-      (λ (seen : Result (Sight A) R) (s : CellSays old (λ bytes. o.sees bytes seen)). record { bytes = s.bytes; told = s.told; said =
-      s.said })
+      (λ (seen : Result (Sight A) R) (s : CellSays old (λ bytes. o.sees bytes seen)). record {
+        bytes = s.bytes;
+        told = s.told;
+        said =
+            s.said;
+      })
 
   weighs_under : (cell : Cell) (new : Standing) (given : Result (OpFinding A) (Halt R)) → OpWeighs o cell old new given
       → OpWeighs o cell begun (then new) given
   weighs_under cell new =
       draws_under {later = λ given. RegisterSays (then new) (λ register. o.finds cell register given)}
       (λ fault g. replanned ReadRegister p q made old new fault r g)
-      (λ (given : Result (OpFinding A) R) (s : RegisterSays new (λ register. o.finds cell register given)). record { register = s.register;
-      told = s.told; size = s.size; said = s.said })
+      (λ (given : Result (OpFinding A) R) (s : RegisterSays new (λ register. o.finds cell register given)). record {
+        register = s.register;
+        told = s.told;
+        size = s.size;
+        said = s.said;
+      })
 
   pub steps_under : (stage : OpStage A) (new : Standing) (step : StepResult A R) → OpSteps o stage old new step
       → OpSteps o stage begun (then new) step

@@ -50,7 +50,7 @@ replanned act p q made now new fault r g =
       told = λ (plan : Plan) (known : Some (record p { at = made }) ≡ Some plan).
           let same : record p { at = made } ≡ plan = cc in
           subst (λ (x : Plan). StepGoesByPlan x (standing_under p made now) (standing_under p (next_count made) new) g.is_made g.others
-              fault) same told;
+          fault) same told;
     }
 
 -- A device step that didn't fail and wrote no cell, and room that may have been made behind it.

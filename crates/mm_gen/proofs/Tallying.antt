@@ -178,7 +178,7 @@ module _ (lines : List (List ℕ)) where
   ended_at [] are rest r counts text going none =
       let rests = going.rests in
       let written : text ≡ flat_map text_of_replies (outcome_by_digests (world_of r.header) going.all).replies = sym (append-nil text)
-          ∙ rests.replies in
+      ∙ rests.replies in
       let numbered = rests.counted in let state = rests.state in let issued = rests.issued in (
         sym going.over,
         record { events = going.all; read = going.whole; told = rw (sym state, sym issued, sym numbered, sym written) refl },

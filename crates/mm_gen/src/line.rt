@@ -25,7 +25,10 @@ pub enum SnapshotChoice {
 #[derive(Clone, Copy)]
 pub enum Line {
     /// A request is asked of a snapshot.
-    Ask { stop: Stop, snapshot: SnapshotChoice },
+    Ask {
+        stop: Stop,
+        snapshot: SnapshotChoice,
+    },
     /// The open segment is closed.
     Checkpoint,
     /// Power is lost and returns.

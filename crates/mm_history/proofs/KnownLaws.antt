@@ -58,7 +58,7 @@ absent_inside : (front : List Batch) (b : Batch) (rest : List Batch) (position :
 absent_inside [] b rest position lt gt =
     let some : (position == 0) ≡ false = ne_eqb position 0 (λ none. absurd (omega (arith, none, lt))) in
     let over : nat_le (size_of b) position ≡ false = elim (nat_le (size_of b) position) as (λ t. nat_le (size_of b) position ≡ t
-        → t ≡ false) [
+    → t ≡ false) [
       | true ↦ λ t. let fits = (le-Decides (size_of b) position).0 t in absurd (omega (arith, fits, gt))
       | false ↦ λ t. refl
     ] refl in
@@ -178,7 +178,7 @@ nowhere variant meaning barrier {batches} marks bs {position} all are between =
     let m = each_found P marks between.at between.before are between.among in
     let parts : kept_batches bs ≡ m.front ++ m.rest = all ∙ m.split in
     let counts : length bs ≡ length m.front + length m.rest = sym (length-map bs kept_batch) ∙ ap length parts
-        ∙ length-append m.front m.rest in
+    ∙ length-append m.front m.rest in
     elim between.shown [
       | inl last ↦
           let both = and_parts (between.before.count == length bs) (nat_lt between.before.position position) last in

@@ -68,7 +68,12 @@ fn state_after(alloc: Global, module: &AnyModule, batches: &[KeptBatch]) -> Resu
 {
     let mut state = module.first_state(alloc)?;
     'batches: for batch in batches {
-        let BatchRun { state: next, .. } = run_batch(alloc, module, state.as_slice(), batch.lent())?;
+        let BatchRun { state: next, .. } = run_batch(
+            alloc,
+            module,
+            state.as_slice(),
+            batch.lent(),
+        )?;
         state = next;
     }
     Ok(state)
@@ -167,7 +172,12 @@ fn is_behind(barrier: &[u8; 32], here: &Digest, start: usize, sought: &SoughtPla
 }
 
 // Whether the place is inside the open segment, whose batches are the last of all.
-fn is_inside(lists: &HistoryLists, barrier: &[u8; 32], last: &Digest, sought: &SoughtPlace<'_>) -> bool
+fn is_inside(
+    lists: &HistoryLists,
+    barrier: &[u8; 32],
+    last: &Digest,
+    sought: &SoughtPlace<'_>,
+) -> bool
     requires register { sought.now.register.now.bytes ≡ register_of (own_values barrier.now
         (drop sought.now.start (kept_batches sought.now.named.now))) }
     requires ends { EndsWithCurrent lists.now }
@@ -202,7 +212,12 @@ fn first_stage(id: u8) -> SegmentStart
 }
 
 // The anchor after all these segments, which was kept or is computed.
-fn last_anchor(id: u8, barrier: &[u8; 32], stages: &[SegmentStart], closed: &[Vec<KeptEntry>]) -> Digest
+fn last_anchor(
+    id: u8,
+    barrier: &[u8; 32],
+    stages: &[SegmentStart],
+    closed: &[Vec<KeptEntry>],
+) -> Digest
     requires { AllByRecursion (IsStage id barrier.now (kept_segments closed.now)) stages.now }
     ensures { result.bytes ≡ anchor_at id barrier.now (kept_segments closed.now) }
 {

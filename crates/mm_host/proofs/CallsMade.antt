@@ -172,50 +172,50 @@ module _ {variant : Variant} {meaning : Meaning} {before after : Standing} {old 
     (s : IsSession variant meaning before after old new left left' received received' result) where
   -- a session that began so
   module _ (offer : List ℕ) (waiting : Option PendingRecord) (begun_by : Begun variant meaning before s.platform offer waiting s.begun)
-      where
-    pub first_by : (first : Resumed) → s.begun ≡ Ok first → FirstCalls variant meaning before s.platform offer waiting first
-    first_by first e =
-        first_calls variant meaning before s.platform offer waiting first
-        (rw e at begun_by)
+    where
+      pub first_by : (first : Resumed) → s.begun ≡ Ok first → FirstCalls variant meaning before s.platform offer waiting first
+      first_by first e =
+          first_calls variant meaning before s.platform offer waiting first
+          (rw e at begun_by)
 
-    chain_by : (goes : GoesAfterResume variant meaning s.begun s.platform after s.store new left' s.taken s.sent result)
-        → Chain variant meaning offer before after (served_calls_in waiting goes) (IsInHand waiting goes) result
-    chain_by (inl e) = record {
-      at = before;
-      calls = refl;
-      ends = at_once variant meaning before after offer waiting s.begun s.taken s.sent result e.2
-          (rw e.0 begun_by);
-    }
-    chain_by (inr g) =
-        let l = lines_chain g.lines in
-        let f = first_by g.first g.begins in
-        record {
-          at = l.at;
-          calls = f.calls g.lines.calls l.at l.calls;
-          ends = rw (f.offers g.lines.calls) l.ends;
-        }
+      chain_by : (goes : GoesAfterResume variant meaning s.begun s.platform after s.store new left' s.taken s.sent result)
+          → Chain variant meaning offer before after (served_calls_in waiting goes) (IsInHand waiting goes) result
+      chain_by (inl e) = record {
+        at = before;
+        calls = refl;
+        ends = at_once variant meaning before after offer waiting s.begun s.taken s.sent result e.2
+            (rw e.0 begun_by);
+      }
+      chain_by (inr g) =
+          let l = lines_chain g.lines in
+          let f = first_by g.first g.begins in
+          record {
+            at = l.at;
+            calls = f.calls g.lines.calls l.at l.calls;
+            ends = rw (f.offers g.lines.calls) l.ends;
+          }
 
-    among_by : (input : List ℕ) → IsRead input s.taken left'
-        → (goes : GoesAfterResume variant meaning s.begun s.platform after s.store new left' s.taken s.sent result)
-        → AreAmong (served_calls_in waiting goes) (IsInHand waiting goes) (requests_with waiting (lines_of input))
-    among_by input read (inl e) = record {
-      served = (requests_with waiting (lines_of input), refl);
-      in_hand = λ request h. rw h.1 (lines_of input, ap (λ (r : List ℕ). r ∷ lines_of input) (sym h.2));
-    }
-    among_by input read (inr g) =
-        let l = g.lines in
-        let told : List ServedCall = first_served_call waiting g.first in
-        let all_lines : served_lines (told ++ l.calls) ++ lines_of (l.more ++ read.rest) ≡ requests_with waiting (lines_of input) =
-        (first_by g.first g.begins).told l.calls (lines_of (l.more ++ read.rest)) ∙ ap (requests_with waiting) (sym (lines_in l read)) in
-        record {
-          served = (lines_of (l.more ++ read.rest), all_lines);
-          in_hand = λ request h. (
-            lines_of (h.0 ++ read.rest),
-            append_assoc (served_lines (told ++ l.calls)) (request ∷ []) (lines_of (h.0 ++ read.rest))
-                ∙ ap (λ (x : List (List ℕ)). served_lines (told ++ l.calls) ++ x) (sym (next_line l.more read.rest request h.0 h.1))
-                ∙ all_lines,
-          );
-        }
+      among_by : (input : List ℕ) → IsRead input s.taken left'
+          → (goes : GoesAfterResume variant meaning s.begun s.platform after s.store new left' s.taken s.sent result)
+          → AreAmong (served_calls_in waiting goes) (IsInHand waiting goes) (requests_with waiting (lines_of input))
+      among_by input read (inl e) = record {
+        served = (requests_with waiting (lines_of input), refl);
+        in_hand = λ request h. rw h.1 (lines_of input, ap (λ (r : List ℕ). r ∷ lines_of input) (sym h.2));
+      }
+      among_by input read (inr g) =
+          let l = g.lines in
+          let told : List ServedCall = first_served_call waiting g.first in
+          let all_lines : served_lines (told ++ l.calls) ++ lines_of (l.more ++ read.rest) ≡ requests_with waiting (lines_of input) =
+          (first_by g.first g.begins).told l.calls (lines_of (l.more ++ read.rest)) ∙ ap (requests_with waiting) (sym (lines_in l read)) in
+          record {
+            served = (lines_of (l.more ++ read.rest), all_lines);
+            in_hand = λ request h. (
+              lines_of (h.0 ++ read.rest),
+              append_assoc (served_lines (told ++ l.calls)) (request ∷ []) (lines_of (h.0 ++ read.rest))
+                  ∙ ap (λ (x : List (List ℕ)). served_lines (told ++ l.calls) ++ x) (sym (next_line l.more read.rest request h.0 h.1))
+                  ∙ all_lines,
+            );
+          }
 
   -- over a store that tells its slots
   module _ (slots : Slots) (waiting : Option PendingRecord) (slots_told : old.slots ≡ Some slots)

@@ -189,7 +189,7 @@ module _ {all others : List (List ℕ)} {asked : List Batch} {i : Instance} {fin
         let slots : Slots = put (pending_spelling next) in
         let can : Enters all others asked i y slots at.platform middle = enters room it middle w in
         let o = subst (λ (bytes : List ℕ). (o : Met all others asked i y after bytes next (batch_result_of g.asked)) × More o.after)
-            (sym offers)
+        (sym offers)
         leads in
         let l = left_by all others asked i y slots at.platform middle can More after next (batch_result_of g.asked) refl o.0 o.1 in
         ask_exit More all others asked i laws.lawful y slots (Some next) next after g.asked middle new came l.0 l.1 g.asks.fits can.honest
@@ -363,11 +363,11 @@ module _ {all others : List (List ℕ)} {asked : List Batch} {i : Instance} {fin
       line_goes (Ok it) after middle new answer reaches w g =
           let told = refusal_told g.asked middle new (Ok (Answered answer)) g.goes in
           let o = between_told y z at.platform after offer next g.asked (Answered answer) lines here s.follow s.between.0
-              reaches g.asks told
+          reaches g.asks told
           in
           let room : position < last_position = room_for after g.asked (Answered answer) told o.0 in
           let r = recovered room (IsBetween then_is after (issued_bytes i then_is) lines) after middle new
-              (Ok (Answered answer)) it w g o in
+          (Ok (Answered answer)) it w g o in
           let f : FitsBy i (put (pending_spelling next)) y (Some next) = (enters room it middle w).fits.fits in
           let a = answers_of i y r.0.after next answer r.0.comes in
           let total : total_of r.0.after.batches ≡ total_of y.batches + 1 = sym a.0 ∙ ap (λ (n : ℕ). n + 1) settled.at_end in

@@ -320,7 +320,7 @@ module _ {variant : Variant} {meaning : Meaning} {before after : Standing} {old 
         let calls = f.calls l.calls l.at.platform
         (served_calls variant meaning _ l.at l.calls l.serves) in
         let there_at = calls_leave variant meaning key barrier first before l.at.platform (first_served_call waiting g.first ++ l.calls)
-            calls d
+        calls d
         starts_at in
         let offer_is : offer_after first (first_served_call waiting g.first ++ l.calls) ≡ snapshot_at l.at.last =
         f.offers l.calls ∙ last_offer variant meaning _ l.at l.calls l.serves in

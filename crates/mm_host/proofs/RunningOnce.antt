@@ -205,7 +205,7 @@ module _ (meaning : Meaning) (key barrier : List ℕ) where
   register_looked [] y = refl
   register_looked (v ∷ values) y =
       register_looked values (history_after i y (Foreign v)) ∙ ap (λ (s : List ℕ). digest_after extended_message s values)
-          (register_pushed y v)
+      (register_pushed y v)
 
   pub messages_looked : (values : List (List ℕ)) (y : History)
       → messages_of_moves i y (map Foreign values) ≡ trail extended_message (register_value_of i y) values

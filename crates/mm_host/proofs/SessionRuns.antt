@@ -153,7 +153,7 @@ module _ {all others : List (List ℕ)} {asked : List Batch} {i : Instance} {fin
       (served_calls i.variant i.meaning next to calls h.rest) reaches)
       h.asks.records h.asks.goes in
       let r = lines_come (history_after_answer i z (snapshot_at from.last) c.line) next to calls rest b.settled_then b.ready
-          h.rest reaches in
+      h.rest reaches in
       record {
         settled = r.settled;
         then_is = r.then_is;
@@ -232,7 +232,7 @@ module _ {all others : List (List ℕ)} {asked : List Batch} {i : Instance} {fin
         recovers_by More i.variant all others asked i laws.lawful y slots before after old enters s.store came none r
         (λ made p call e told c.
         let o = leads made p call e c told in left_by all others asked i y slots before old enters More after p
-            (batch_result_of call) e o.0 o.1)
+        (batch_result_of call) e o.0 o.1)
 
     -- it is all
     recovers_last : final ≡ s.platform → IsFirstAsked s waiting requests → RecoversTo all others asked i y slots waiting
@@ -260,7 +260,7 @@ module _ {all others : List (List ℕ)} {asked : List Batch} {i : Instance} {fin
         (all_lines ∙ ap (λ (v : Option PendingRecord). requests_with v lines) n)
         (subst (λ (v : Option PendingRecord). May laws y before (first_offer slots v) requests) n may)) in
         subst (λ (v : Option PendingRecord). IsBetween laws (waiting_then laws z slots v) s.platform (offer_then laws z slots v) lines y)
-            (sym n)
+        (sym n)
         (rests, here.same))
         (rw is at s.resumes)
         (λ made p call e c told.
@@ -368,7 +368,7 @@ module _ {all others : List (List ℕ)} {asked : List Batch} {i : Instance} {fin
       a.served.0,
       a.served.1,
       line_among (first_served_call waiting g.first ++ g.lines.calls) (length g.lines.calls + 1) g.lines.at left' g.lines.more
-      g.lines.last a result
+          g.lines.last a result
           g.lines.ends,
     )
 

@@ -124,7 +124,7 @@ module _ {all others : List (List ℕ)} {asked : List Batch} {i : Instance} {IsS
     fits_then : (c : On) → FitsHistory i c.slots_after c.runs.after
     fits_then c = elim (store_failed p.result) [
       | inl failed ↦ c.fits (beyond_less c.slots_after (reached_position fits.waiting (served_calls_in fits.waiting s.goes))
-      (total_of c.runs.after.batches)
+          (total_of c.runs.after.batches)
           (omega (
             arith,
             reached_most i.meaning fits.waiting (served_calls_in fits.waiting s.goes) (requests_of y.batches) c.runs.requests waits

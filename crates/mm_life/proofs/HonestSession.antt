@@ -195,7 +195,7 @@ module _ (variant : Variant) (meaning : Meaning) (before after : Standing) where
   first_made (Ok (Some q)) middle new came g m p e =
       let same : q ≡ p = cc in
       subst (λ (x : PendingRecord). requests_in (offered_calls variant meaning before after g.offer g.middle new q came g.goes) ≡ x.request
-          ∷ [])
+      ∷ [])
       same (offer_made g.offer g.middle new q came g.goes m)
   first_made (Ok None) middle new came g m p e = absurd m
   first_made (Err why) middle new came g m p e = absurd m
@@ -263,9 +263,9 @@ module _ {all others : List (List ℕ)} {asked : List Batch} {i : Instance} {fin
   on_offers listed is found =
       let untold : List LifeCall = untold_calls s s.goes in
       let k = subst (λ (bytes : List ℕ). Chain i.variant i.meaning bytes before final (served_calls_in fits.waiting s.goes)
-          (IsInHandOf s) untold result)
+      (IsInHandOf s) untold result)
       is (subst (λ (w : Option PendingRecord). Chain i.variant i.meaning (first_bytes s) before final (served_calls_in w s.goes)
-          (IsInHandOf s) untold
+      (IsInHandOf s) untold
       result) found (session_chain s)) in
       let l = subst (λ (bytes : List ℕ). AreListed all asked i (told_calls bytes (served_calls_in fits.waiting s.goes) ++ untold)) is
       (subst (λ (w : Option PendingRecord). AreListed all asked i (told_calls (first_bytes s) (served_calls_in w s.goes) ++ untold)) found
@@ -274,7 +274,7 @@ module _ {all others : List (List ℕ)} {asked : List Batch} {i : Instance} {fin
       let follow : AreAskedStill laws y before (first_offer slots fits.waiting) requests = elim seen [
         | inl shows ↦ (
           asked_in_turn laws (served_calls_in fits.waiting s.goes) y y before k.at (first_offer slots fits.waiting)
-          (IsInHandOf s) untold result
+              (IsInHandOf s) untold result
               k.calls k.ends here shows l,
           inl shows,
         )

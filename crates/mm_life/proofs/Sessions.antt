@@ -290,10 +290,10 @@ module _ {all others : List (List ℕ)} {asked : List Batch} {i : Instance} {fin
       let one : made ∷ untold ≡ made ∷ [] = cc in
       let call = k.calls.1 in
       let makes = makes_call laws before k.calls.0 offer c.line y (Ok (batch_answer_of c.answer)) call.goes stands within
-          first listed.batches.0
+      first listed.batches.0
       (listed_first all asked i made untold listed) in
       let m = laws.idle y before k.calls.0 offer (pending_for c.line) (Ok (batch_answer_of c.answer)) makes
-          (idle made one k.calls.0 makes) in
+      (idle made one k.calls.0 makes) in
       ended y offer k.at (c ∷ []) hand untold (record {
         after = m.after;
         stands = rw k.calls.2 m.stands;

@@ -43,8 +43,12 @@ session_writes : (variant : Variant) (meaning : Meaning) (old new : Standing) (p
     → CallsWrite variant old new (new_replies (told_replies (served_calls_of f))) (session_stop p.result)
 session_writes variant meaning old new p f =
     let k = session_chain f in
-    record { at = k.at; answered = told_write variant meaning (served_calls_of f) (first_bytes f) old k.at k.calls; last =
-        ends_writes k.ends }
+    record {
+      at = k.at;
+      answered = told_write variant meaning (served_calls_of f) (first_bytes f) old k.at k.calls;
+      last =
+          ends_writes k.ends;
+    }
 
 -- a part, and the parts behind it
 joined_parts : (start : Standing) (stage : LifeStage) (stages : List LifeStage) (here later due : ℕ) → due ≡ here + later

@@ -54,7 +54,7 @@ abbrev pub LeavesNoChance : (variant : Variant) (meaning : Meaning) (old : Stand
     (new : Standing) → PartLeads variant meaning old part new → Type 0
 LeavesNoChance variant meaning old (Holds p) new s =
     p.result ≡ Err (Host Store) → (waiting : Option PendingRecord)
-        → WaitsInSlots p.old.slots waiting →
+    → WaitsInSlots p.old.slots waiting →
     (slots : Slots) → p.new.slots ≡ Some slots →
     IsNotBeyond slots (reached_position waiting (served_calls_in waiting s.goes) + 1)
 LeavesNoChance variant meaning old (Does deed) new f = Unit {0}

@@ -13,5 +13,5 @@ pub use laws::{
     sessions_offer_slots,
 };
 pub use one_store::{
-    BothSessions, CheckedSessions, BothSessionsFault, live_on_one_store, live_over_checkpoint,
+    BothSessions, BothSessionsFault, CheckedSessions, live_on_one_store, live_over_checkpoint,
 };

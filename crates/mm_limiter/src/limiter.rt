@@ -119,7 +119,10 @@ fn read_state(bytes: &[u8]) -> Option<LimiterState<'_>>
 }
 
 /// What a request does, and what is said.
-fn outcome<'a>(state: LimiterState<'a>, request: Option<LimiterRequest<'a>>) -> (LimiterState<'a>, LimiterOutput)
+fn outcome<'a>(
+    state: LimiterState<'a>,
+    request: Option<LimiterRequest<'a>>,
+) -> (LimiterState<'a>, LimiterOutput)
     ensures { (as_state result.0, as_says result.1)
         ≡ outcome_of (as_state state.entry) (option_map as_request request.entry) }
 {
@@ -136,9 +139,18 @@ fn outcome<'a>(state: LimiterState<'a>, request: Option<LimiterRequest<'a>>) -> 
             (set, LimiterOutput::Set)
         }
         (LimiterState::Unset, _) => (state, LimiterOutput::Unset),
-        (LimiterState::Guarded { .. }, LimiterRequest::Guard { .. }) => (state, LimiterOutput::Taken),
-        (LimiterState::Guarded { left, .. }, LimiterRequest::Left) => (state, LimiterOutput::Left(left)),
-        (LimiterState::Guarded { left: 0, .. }, LimiterRequest::Guess(_)) => (state, LimiterOutput::Locked),
+        (LimiterState::Guarded { .. }, LimiterRequest::Guard { .. }) => (
+            state,
+            LimiterOutput::Taken,
+        ),
+        (LimiterState::Guarded { left, .. }, LimiterRequest::Left) => (
+            state,
+            LimiterOutput::Left(left),
+        ),
+        (LimiterState::Guarded { left: 0, .. }, LimiterRequest::Guess(_)) => (
+            state,
+            LimiterOutput::Locked,
+        ),
         (
             LimiterState::Guarded {
                 tries,

@@ -175,8 +175,11 @@ pub basic_digests : (meaning : Meaning) (key : List ℕ) (y : History) (m : Move
     → digests_of (basic_instance meaning key) (history_after (basic_instance meaning key) y m) ≡ digests_after (basic_instance meaning key)
     (digests_of (basic_instance meaning key) y) m
 basic_digests meaning key y (Commit b) may =
-    λ j. record (digests_of (basic_instance meaning key) y) { digest = summary-push meaning.id y.batches b j; count =
-        total-push y.batches b j }
+    λ j. record (digests_of (basic_instance meaning key) y) {
+      digest = summary-push meaning.id y.batches b j;
+      count =
+          total-push y.batches b j;
+    }
 basic_digests meaning key y (Foreign d) may =
     λ j. record (digests_of (basic_instance meaning key) y) { register = register_more zero_bytes y.items (Value d) j }
 basic_digests meaning key y Power may = λ j. record (digests_of (basic_instance meaning key) y) { register = reads_zero j }

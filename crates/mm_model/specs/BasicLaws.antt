@@ -29,7 +29,7 @@ module _ (id : ℕ) where
       → bytes_eq (summary_of id named) (summary_of id batches) ≡ nat_eq (total_of named) (total_of batches)
   basic_here batches named rest all clear starts listed e =
       let wn : AreMessagesIn (trail link_message (start_digest_of Basic id) named) all =
-          trail_front link_message (start_digest_of Basic id) named rest all
+      trail_front link_message (start_digest_of Basic id) named rest all
       (rw e at listed) in
       same_from_decides _ _ (bytes_decide _ _ (same_summaries id all clear starts named batches wn listed) (ap (summary_of id)))
       (at_the_end batches named rest e)
@@ -44,7 +44,7 @@ module _ (id : ℕ) where
   basic_at batches named rest b all clear starts listed called e =
       let t = trail link_message (start_digest_of Basic id) in
       let wn : AreMessagesIn (trail link_message (start_digest_of Basic id) named) all =
-          trail_front link_message (start_digest_of Basic id) named rest all
+      trail_front link_message (start_digest_of Basic id) named rest all
       (rw e at listed) in
       let wb : AreMessagesIn (trail link_message (start_digest_of Basic id) (named ++ b ∷ [])) all =
       trail_push link_message (start_digest_of Basic id) named b all wn called in

@@ -83,7 +83,7 @@ module _ (id : ℕ) (all : List (List ℕ)) where
         omega (arith, heads_of 3 0 (a ++ digest_after extended_message zero_bytes vs) (2 ∷ id ∷ []) same);
     tells = λ a b vs ws la lb lv lw e.
         let both = tagged_parts 3 3 a b (digest_after extended_message zero_bytes vs) (digest_after extended_message zero_bytes ws) la lb
-            e in
+        e in
         (both.0, same_registers all clear vs ws lv lw both.1);
   }
 

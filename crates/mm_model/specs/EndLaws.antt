@@ -23,7 +23,7 @@ pub ended : (l : Life) (y : History) (p : ℕ) (b : Batch) → life_of Opt y ≡
     && is_last y.batches b)
 ended l y p b e =
     ap (λ (k : Life). verdict_by_tests k (nat_eq p (total_of y.batches)) (nat_eq (p + size_of b) (total_of y.batches)
-        && is_last y.batches b)) e
+    && is_last y.batches b)) e
 
 within_itself : (ms ns : List (List ℕ)) → AreMessagesIn ms (ms ++ ns) × AreMessagesIn ns (ms ++ ns)
 within_itself ms ns =

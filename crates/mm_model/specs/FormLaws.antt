@@ -97,6 +97,6 @@ module _ (id : ℕ) (all : List (List ℕ)) where
       rw (register-push rest v) m.1.0 in
       let closes = listed_segment before (rest ++ v ∷ []) l.inner l.outer longer called in
       let is : anchor_of id (before ++ (rest ++ v ∷ []) ∷ []) ≡ anchored_digest_of (anchor_of id before)
-          (extended_digest_of (register_of rest) v) =
+      (extended_digest_of (register_of rest) v) =
       anchor-push id before (rest ++ v ∷ []) ∙ ap (anchored_digest_of (anchor_of id before)) (register-push rest v) in
       rw is at (same_anchor id all clears (before ++ (rest ++ v ∷ []) ∷ []) closed [] items closes k)

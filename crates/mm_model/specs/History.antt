@@ -80,8 +80,12 @@ history_after i y (Commit b) = history_after_commit i.variant y.is_open y b
 history_after i y (Foreign d) = record y { items = y.items ++ Value d ∷ [] }
 history_after i y (Placed b) = record y { items = y.items ++ Value (guard i.barrier b) ∷ [] }
 history_after i y Reset = record y { items = [] }
-history_after i y Close = record y { closed = y.closed ++ y.items ∷ []; current = []; is_open =
-    false }
+history_after i y Close = record y {
+  closed = y.closed ++ y.items ∷ [];
+  current = [];
+  is_open =
+      false;
+}
 history_after i y Power = record y { items = [] }
 
 -- the register's value for a history

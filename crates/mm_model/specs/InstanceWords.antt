@@ -5,9 +5,19 @@ use Rattle.mm_model.specs.Instance.{Instance}
 
 -- an instance of Basic, which has no barrier
 abbrev pub basic_instance : Meaning → List ℕ → Instance
-basic_instance meaning key = record { variant = Basic; meaning = meaning; key = key; barrier =
-    zero_bytes }
+basic_instance meaning key = record {
+  variant = Basic;
+  meaning = meaning;
+  key = key;
+  barrier =
+      zero_bytes;
+}
 
 abbrev pub opt_instance : Meaning → List ℕ → List ℕ → Instance
-opt_instance meaning key barrier = record { variant = Opt; meaning = meaning; key = key; barrier =
-    barrier }
+opt_instance meaning key barrier = record {
+  variant = Opt;
+  meaning = meaning;
+  key = key;
+  barrier =
+      barrier;
+}

@@ -58,8 +58,11 @@ abbrev pub digests_after_commit : Variant → Bool → Instance → Digests → 
 digests_after_commit Basic flag i d b =
     record d { digest = link d.digest b; count = d.count + size_of b }
 digests_after_commit Opt true i d b =
-    record d { register = extended_digest_of d.register (guard i.barrier b); count =
-        d.count + size_of b }
+    record d {
+      register = extended_digest_of d.register (guard i.barrier b);
+      count =
+          d.count + size_of b;
+    }
 digests_after_commit Opt false i d b = record d { flag = true; count = d.count + size_of b }
 
 -- what a move does to the digests: the effect of the device step that makes it

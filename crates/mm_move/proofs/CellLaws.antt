@@ -87,7 +87,7 @@ moved_back cell is =
     let spelled : is_spelled_by bytes cell ≡ true =
     both_true (is_fit_for_variant cell) (bytes_eq bytes bytes) (fitting cell is) (bytes_are bytes bytes refl) in
     ap (λ (b : Bool). if b then Err Blank else moved_cell_by bytes (moved_cell_in bytes)) (not_blank cell)
-        ∙ ap (moved_cell_by bytes) (back cell is)
+    ∙ ap (moved_cell_by bytes) (back cell is)
     ∙ ap (λ (b : Bool). if b then Ok cell else Err Unspelled) spelled
 
 -- what a reading that succeeds has found

@@ -72,7 +72,7 @@ invitation_in next (Err Blank) = invitation_by next
 invitation_in next (Ok (Left cell)) = invitation_by next
 invitation_in next (Ok (Waits cell)) =
     refuse_if (not (is_same_waiting cell next)) Already
-        (Ok (record { next = None; answer = Again }))
+    (Ok (record { next = None; answer = Again }))
 invitation_in next (Ok (Live cell)) = Err Already
 invitation_in next (Err Unspelled) = Err Already
 

@@ -66,7 +66,10 @@ fn invite_by<P: Platform>(platform: &mut P, next: &WaitingCell) -> Result<Invite
 }
 
 // What is found in a cell that was read.
-fn find(cell: Result<MovedCell, CellFault>, next: &WaitingCell) -> Result<ReadyMove<Invited>, MoveRefusal>
+fn find(
+    cell: Result<MovedCell, CellFault>,
+    next: &WaitingCell,
+) -> Result<ReadyMove<Invited>, MoveRefusal>
     ensures { result ≡ invitation_in next.now cell }
 {
     match cell {

@@ -13,7 +13,7 @@ pub refused_first : (why : Refusal) (found : Result BatchFinding Refusal) (meani
     → (new ≡ first) × (ended ≡ end_of_refusal why)
 refused_first why found meaning first second new offer b ended on e =
     let x : (new ≡ second) × (ended ≡ end_of_refusal why) =
-        subst (λ (f : Result BatchFinding Refusal). EndsByFinding opt_call f second new ended) on.1 e in
+    subst (λ (f : Result BatchFinding Refusal). EndsByFinding opt_call f second new ended) on.1 e in
     (x.0 ∙ on.0, x.1)
 
 module _ (meaning : Meaning) (offer : List ℕ) (b : Batch) (old : Standing) (P : Standing → Result BatchAnswer Refusal → Type 0) where

@@ -63,7 +63,7 @@ concluded i d c steps old new fault result s e t is =
     let all : List DeviceStep = checkpoint_steps i.variant d.flag (lost_on i d c) in
     let closed : Bool = has_close (walk c.fates 1 all).moves in
     let l = leads i d c.fates 1 all old new fault s (subst (λ (st : List DeviceStep). IsTrail i d c.fates 1 st old new fault) (sym e) t) in
-        record {
+    record {
       gives = is closed
           ∙ ap (λ (f : Option StepFault). checkpoint_result
           (checkpoint_ending_by f closed (checkpoint_ending i.variant d.flag (lost_on i d c)))) (sym l.broken);

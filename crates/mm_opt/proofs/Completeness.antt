@@ -59,7 +59,7 @@ found_right i y offer b content live right fits =
     let e : check_by_tests (i.meaning.is_spelled content.state) (bytes_eq tag tag) v (nat_le (content.position + size_of b) (2 ^ 48))
     ≡ check_of_verdict v true = rw (spelled, (bytes_eq-Decides tag tag).1 refl, le-leb (content.position + size_of b) (2 ^ 48) fits) refl in
     ap (λ (l : Life). if is_lost l then Err refusal.Lost else finding_by_verdict i (list_level i) y b
-        (parts_of i.variant i.meaning.id offer))
+    (parts_of i.variant i.meaning.id offer))
     live
     ∙ ap (finding_by_verdict i (list_level i) y b) parts
     ∙ ap (finding_with content) e
@@ -90,7 +90,7 @@ none_brought : (v : List (List ℕ)) (e : End) (w : List (List ℕ)) (f : End) (
     → foreign_move_values (two_reads v e w f rest).moves ≡ [] → (v ≡ []) × (w ≡ [])
 none_brought v Done w Done rest whole none =
     let one = nil_front v (foreign_move_values (map Foreign w ++ rest.moves))
-        (sym (foreign_move_values-first v (map Foreign w ++ rest.moves)) ∙ none) in
+    (sym (foreign_move_values-first v (map Foreign w ++ rest.moves)) ∙ none) in
     (one.0, (nil_front w (foreign_move_values rest.moves) (sym (foreign_move_values-first w rest.moves) ∙ one.1)).0)
 none_brought v Done w (Fails fault made) rest whole none = absurd (cc)
 none_brought v (Fails fault made) w f rest whole none = absurd (cc)
@@ -152,7 +152,7 @@ complete meaning old new offer batch result calls blames short key barrier y all
     let brought : walked.broken ≡ None → y.is_open ≡ true → (v ≡ []) × (u ≡ []) = λ whole e.
     let t = counts_open i y d moves e tie in
     let more_is : t.more ≡ more = shown_same old.items (items_after_moves i d moves) items (standing_items y.is_open items)
-        more t.more known
+    more t.more known
     (t.are items) (sym g.items ∙ ends) in
     let empty : foreign_move_values moves ≡ [] = ap (λ (f : Bool). foreign_move_values (counted_moves f moves)) (sym e) ∙ t.tied.values
     ∙ ap foreign_items more_is ∙ alone e in

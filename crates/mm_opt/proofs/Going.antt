@@ -45,7 +45,7 @@ module _ (meaning : Meaning) (key barrier : List ℕ) (seen : Digests) (b : Batc
               let r : List ℕ = extended_digest_of (fold extended_digest_of zero_bytes w) (guard barrier b) in
               let same : state_after_moves (digest_level here) e (step_moves (Changes (Placed b)) true w) ≡ with_register seen r =
               ap (λ (y : Digests). state_after_moves (digest_level here) y (step_moves (Changes (Placed b)) true w))
-                  (reset_kept here seen v)
+              (reset_kept here seen v)
               ∙ placed_kept here (with_register seen zero_bytes) w b in (
                 subst (λ (y : Digests). IsWrite here y opening.next (Commit b)) (sym same)
                     (write_opened meaning key barrier (with_register seen r) b opening.next shut is next_is),
@@ -141,7 +141,7 @@ module _ (meaning : Meaning) (offer : List ℕ) (b : Batch) (old new : Standing)
       (as_made meaning key barrier (with_register d value) (normal_batch b) found (x (with_register d value)) s.spells
       (as_found meaning key barrier (with_register d value) b offer found (rw (own, read) at f.said))) in
       subst (λ (y : Digests). Told i d y fates 1 (ask_steps Opt d.flag (is_fresh (x y)) (normal_batch b)) (normal_batch b)
-          (x y) old new ended)
+      (x y) old new ended)
       (sym (seen_is i d r.goes.others on.goes.others))
       (subst (λ (st : List DeviceStep). Told i d seen fates 1 st (normal_batch b) (x seen) old new ended)
       (sym (asks d.flag (is_fresh (x seen)) (normal_batch b)))

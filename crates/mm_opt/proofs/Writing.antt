@@ -69,9 +69,11 @@ module _ (meaning : Meaning) (b : Batch) (old two new : Standing) (cell : Cell) 
       rw e (quiet (Device fault) old new (four_steps (h.steps ∙ ap next_count (g.steps ∙ ap next_count t.0), h.writes ∙ g.writes ∙ t.1))
       (h.writes ∙ g.writes ∙ t.1))
   change_counted (Emptying opening) answer m (goes_on third g (goes_on fourth h (breaks_off fault k e))) =
-      let five : StepsAre 5 1 old new =
-      (k.steps ∙ ap next_count (h.steps ∙ ap next_count (g.steps ∙ ap next_count t.0)), k.writes
-      ∙ ap next_count (h.writes ∙ g.writes ∙ t.1)) in
+      let five : StepsAre 5 1 old new = (
+        k.steps ∙ ap next_count (h.steps ∙ ap next_count (g.steps ∙ ap next_count t.0)),
+        k.writes
+            ∙ ap next_count (h.writes ∙ g.writes ∙ t.1),
+      ) in
       rw e (
         five_steps five,
         record {
@@ -81,9 +83,11 @@ module _ (meaning : Meaning) (b : Batch) (old two new : Standing) (cell : Cell) 
         },
       )
   change_counted (Emptying opening) answer m (goes_on third g (goes_on fourth h (goes_on last k s))) =
-      let five : StepsAre 5 1 old last =
-      (k.steps ∙ ap next_count (h.steps ∙ ap next_count (g.steps ∙ ap next_count t.0)), k.writes
-      ∙ ap next_count (h.writes ∙ g.writes ∙ t.1)) in
+      let five : StepsAre 5 1 old last = (
+        k.steps ∙ ap next_count (h.steps ∙ ap next_count (g.steps ∙ ap next_count t.0)),
+        k.writes
+            ∙ ap next_count (h.writes ∙ g.writes ∙ t.1),
+      ) in
       answered_result (Counted old) answer last new ended s (
         rw m.shape (inr five),
         record {

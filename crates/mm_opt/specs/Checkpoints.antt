@@ -49,9 +49,9 @@ pub record FindsSegment (old : Standing) (found : Result Segment CheckpointRefus
 
 -- The first step, and what is found where it doesn't fail.
 pub record LooksAtSegment (old new : Standing) (found : Result Segment CheckpointRefusal) : Type 0
-    where
-  pub goes : StepGoes ReadCell old new (closing_fault_in found)
-  pub finds : closing_fault_in found ≡ None → FindsSegment old found
+  where
+    pub goes : StepGoes ReadCell old new (closing_fault_in found)
+    pub finds : closing_fault_in found ≡ None → FindsSegment old found
 
 -- the cell once its segment is closed, where the register has this value
 abbrev pub closed_cell : Cell → List ℕ → List ℕ

@@ -85,7 +85,12 @@ fn turn_of(step: StepResult<Checkpointed, CheckpointRefusal>) -> CheckpointTurn
 pub fn checkpoint<P: Platform>(platform: &mut P) -> Result<Checkpointed, CheckpointRefusal>
     ensures { CheckpointPromise (P.standing platform.old) (P.standing platform.new) result }
 {
-    closing_result(finish(&OptCheckpoint, OpCall::begin(), platform, &mut KeptKey::new()))
+    closing_result(finish(
+        &OptCheckpoint,
+        OpCall::begin(),
+        platform,
+        &mut KeptKey::new(),
+    ))
 }
 
 /// What is told of how the machine ended. It lacks no memory, as a checkpoint extends nothing.

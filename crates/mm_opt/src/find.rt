@@ -19,7 +19,7 @@ use crate::verdicts::{has_lost_power, verdict};
 use mm_base::CELL_LENGTH;
 use mm_call::{KeptKey, answer, examine};
 use mm_digest::{Digest, Variant, extended, secured, secured_batch, zero};
-use mm_machine::{Change, OpFinding, SegmentOpening, ReadyChange};
+use mm_machine::{Change, OpFinding, ReadyChange, SegmentOpening};
 use mm_model::{BatchAnswer, Refusal, Verdict, has_tab};
 use mm_module::{Batch, Module};
 use mm_seal::{Cell, CellFault, Offered, PartsFault, Place, cell_bytes, parts, read_cell};

@@ -48,7 +48,7 @@ called_few : (i : Instance) (d : Digests) (c : Course) (bytes : List ℕ) (b : B
     → (call_outcome i (digest_level i) d c bytes b).state.count ≤ d.count + size_of b
 called_few i d c bytes b =
     let fresh : Bool = is_fresh (finding_unless_wanting (finding_at i (digest_level i) (state_seen i (digest_level i) d c) b bytes)
-        c.lacks) in
+    c.lacks) in
     let w : StepsWalk = walk c.fates 1 (ask_steps i.variant d.flag fresh b) in
     omega (arith, count-made i w.moves d, walk_sizes b fresh w (call_commits i.variant c.fates d.flag fresh b))
 

@@ -138,11 +138,11 @@ module _ (meaning : Meaning) (key barrier : List ℕ) (all others : List (List �
       (messages_of_moves I (state_after_moves (list_level I) y (map Foreign values)) (Reset ∷ rest))
       (subst W (messages-made I (map Foreign values) (Reset ∷ rest) y) listed.0) in
       let after : Within (messages_of_moves I (bare y) rest) all =
-          each_right (Contains all) (move_messages I (history_with_values y values) Reset)
+      each_right (Contains all) (move_messages I (history_with_values y values) Reset)
       (messages_of_moves I (bare y) rest) (subst (λ z. Within (messages_of_moves I z (Reset ∷ rest)) all) (taking_is I values y) back) in
       subst (AreListed (bare y)) (sym (moves_from_reset-foreign values (Reset ∷ rest))) (
         subst (λ w. Within (w ++ messages_of_moves I (bare y) rest) all) (sym (reset_messages meaning key barrier (bare y) y.is_open))
-        after,
+            after,
         each_right (Contains others) values (foreign_move_values rest)
             (subst (AllByRecursion (Contains others)) (foreign_move_values-first values (Reset ∷ rest)) listed.1),
       )
@@ -211,7 +211,7 @@ module _ (meaning : Meaning) (key barrier : List ℕ) (all others : List (List �
     calls = λ y d stop meddles bytes b k a.
         let c : Course = course_of stop meddles in
         let fresh : Bool = is_fresh
-            (finding_unless_wanting (finding_at i (list_level i) (state_seen i (list_level i) y c) b bytes) c.lacks) in
+        (finding_unless_wanting (finding_at i (list_level i) (state_seen i (list_level i) y c) b bytes) c.lacks) in
         let among = walk_among others c.fates (ask_steps Opt y.is_open fresh b) 1 (own_asked y.is_open fresh b)
         (λ n. due_outside others meddles a.outside n) in
         let counts = call_counted meaning key barrier all others y c.fates y.is_open fresh b (a.messages, among) in

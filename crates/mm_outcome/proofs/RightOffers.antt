@@ -20,7 +20,7 @@ use Rattle.mm_outcome.specs.Laws.{IsIssued}
 pub said_of : (i : Instance) (bytes : List ℕ) (content : Content) → IsRight i bytes content → right_content i bytes ≡ Some content
 said_of i bytes content right =
     let parts : parts_of i.variant i.meaning.id bytes ≡ Ok (offered_snapshot_of i.key content) =
-        ap (parts_of i.variant i.meaning.id) right.sealed
+    ap (parts_of i.variant i.meaning.id) right.sealed
     ∙ sealed_parts i.key content i.variant i.meaning.id right.formed right.variant right.id in
     right_is i (parts_of i.variant i.meaning.id bytes) (offered_snapshot_of i.key content) parts right.state
     ((bytes_eq-Decides (tag_of i.key content) (tag_of i.key content)).1 refl)

@@ -31,7 +31,7 @@ repeats_from : (i : Instance) (y : History) (b : Batch) (parts : Result Snapshot
     → finding_by_verdict i (list_level i) y b parts ≡ Ok found → found.again ≡ true → HasLastBatch y.batches b
 repeats_from i y b (Ok snapshot) found is again =
     let t = found_with_tells snapshot.content
-        (check_of_offer i.meaning i.key snapshot b (verdict_on i.variant y snapshot.content.position b)) found is
+    (check_of_offer i.meaning i.key snapshot b (verdict_on i.variant y snapshot.content.position b)) found is
     in
     let w = weighed_tells (i.meaning.is_spelled snapshot.content.state) (bytes_eq snapshot.tag (tag_of i.key snapshot.content)) _ _
     found.again t.1 in

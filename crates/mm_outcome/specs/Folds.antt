@@ -84,8 +84,13 @@ outcome_by level stop issued o = record {
 
 -- nothing was called
 abbrev pub outcome_without_call : {S : Type 0} → S → List (List ℕ) → Reply → Outcome S
-outcome_without_call s issued said = record { state = s; issued = issued; reply = said; steps = 0;
-    writes = 0 }
+outcome_without_call s issued said = record {
+  state = s;
+  issued = issued;
+  reply = said;
+  steps = 0;
+  writes = 0;
+}
 
 -- the number isn't issued, or the batch is too long: then nothing is called, and nothing meddles
 abbrev pub ask_event_outcome : {S : Type 0} → Instance → Level S → S → List (List ℕ) → List Meddle

@@ -211,7 +211,7 @@ puts_all {slot} {bytes} {old} {mid} {new} {rows} {some} f r ends =
       lengths = rw (ap (λ (x : PageStanding). x.length_writes) s.same, sym f.lengths) g.lengths;
       synced =
           marked_last slot false old.unsynced ends.fitted.unsynced new.unsynced (g.marks ∙ f.marks)
-              (ap (λ (x : PageStanding). x.unsynced) s.same);
+          (ap (λ (x : PageStanding). x.unsynced) s.same);
       rows_are =
           r ∙ (λ j. rows_with (f.rows_are j) slot (cut j))
           ∙ with_row-twice rows slot _ (digests_of_pages bytes count);

@@ -27,9 +27,11 @@ AreDigestsOf row was = (page : ℕ) → IsInStep row page was
 pub record HoldsPage (slot page : ℕ) (kept : Option Digest) (digest : Digest) (part : List ℕ)
     (old new : PageStanding)
     (result : Result Bool Failed) : Type 0 where
-  pub same : new ≡ record old
-      { faults = new.faults; page_reads =
-      count_after_so_many (one_if (may_be_same kept digest)) old.page_reads }
+  pub same : new ≡ record old {
+    faults = new.faults;
+    page_reads =
+        count_after_so_many (one_if (may_be_same kept digest)) old.page_reads;
+  }
   pub counted_faults : CountsFaults old.faults new.faults result
   pub holds : IfOk result (λ is. (slots : Slots) → old.slots ≡ Some slots
       → is ≡ (may_be_same kept digest && bytes_eq (page_of (slot_in slots slot) page) part))

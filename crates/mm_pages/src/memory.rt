@@ -303,8 +303,7 @@ impl MemPages {
         requires { slot < 4 }
         ensures fails { IsTrue result ↔ (self.old.ahead ≡ 1) }
         ensures after { self.new
-            ≡ (if result then sheets_after_slot_fault slot self.old else sheets_after_call self.old)
-            }
+            ≡ (if result then sheets_after_slot_fault slot self.old else sheets_after_call self.old) }
         ensures later { self.old.faults ≤ self.new.faults }
     {
         if !self.is_to_fail() {
@@ -380,8 +379,8 @@ impl PageDevice for MemPages {
         ensures failing { IsErr result ↔ (self.old.ahead ≡ 1) }
         ensures after { self.new
             ≡ record (sheets_after_change slot (resized_bytes length) self.old result) {
-          length_writes = next_count self.old.length_writes;
-        } }
+              length_writes = next_count self.old.length_writes;
+            } }
     {
         self.length_writes = self.length_writes.saturating_add(1);
         if self.is_to_fail_in(slot) {

@@ -92,9 +92,11 @@ pub told_then : (act : Act) (acts : List Act) (old mid new : Standing) (fault : 
 told_then act acts old mid new fault step plan known rest =
     let told = as_told act old mid None step plan known in
     let same = acted-alike acts mid (standing_after_step act old) told.stands in
-    first_acted act acts old new fault None told.answer
-    (alike-then new (outcome_of_acts acts mid).0 (outcome_of_acts acts (standing_after_step act old)).0 rest.stands same.0, rest.answer
-    ∙ same.1)
+    first_acted act acts old new fault None told.answer (
+      alike-then new (outcome_of_acts acts mid).0 (outcome_of_acts acts (standing_after_step act old)).0 rest.stands same.0,
+      rest.answer
+          ∙ same.1,
+    )
 
 -- the last step, whatever it answers
 pub told_last : (act : Act) (old new : Standing) (fault : Option StepFault) → StepGoes act old new fault

@@ -43,5 +43,9 @@ failing_plan done = record { stop = Fail 1 done; meddles = []; at = 0 }
 -- what stands once power was lost and came back, which is counted
 abbrev pub standing_after_cycle : Standing → Standing
 standing_after_cycle old =
-    record old { items = option_map (λ _. []) old.items; is_on = true; cycles =
-        next_count old.cycles }
+    record old {
+      items = option_map (λ _. []) old.items;
+      is_on = true;
+      cycles =
+          next_count old.cycles;
+    }

@@ -98,7 +98,7 @@ module _ {G E R : Type 0} (heads : HeadStage G R) (s : EventStage R) (steps : Ev
       let stage : next.stage ≡ steps.after r.stage event = ap (λ (x : PlayState R). x.stage) so in
       let bytes : next.read ≡ r.read + length line = ap (λ (x : PlayState R). x.read) so in
       let stands : s.kept (state_behind_events steps (steps.after r.stage e) events)
-          ≡ s.kept (state_behind_events steps next.stage events) = cc in
+      ≡ s.kept (state_behind_events steps next.stage events) = cc in
       let sums : sum_by length (first ∷ before) ≡ length line + sum_by length before = rw head (sums_more first before) in
       let counts : s.events next.stage ≡ s.events r.stage + 1 = ap s.events stage ∙ takes.counts r.stage event in
       let reading : steps.event_in next.stage ≡ steps.event_in r.stage = ap steps.event_in stage ∙ takes.reads r.stage event in
@@ -115,7 +115,7 @@ module _ {G E R : Type 0} (heads : HeadStage G R) (s : EventStage R) (steps : Ev
   answered_more r line lines event written last is few short a =
       let counts : s.events (steps.after r.stage event) ≡ s.events r.stage + 1 = takes.counts r.stage event in
       let bytes : r.read + length line + sum_by length lines ≡ r.read + sum_by length (line ∷ lines) =
-          omega (arith, sums_more line lines) in
+      omega (arith, sums_more line lines) in
       record {
         events = event ∷ a.events;
         read = ap (λ first. first ∷ map (steps.event_in r.stage) lines) is ∙ ap (λ others. Some event ∷ others)

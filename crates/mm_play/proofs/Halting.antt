@@ -154,7 +154,7 @@ module _ {P : Type 0} (answer : P → List ℕ → Result (List ℕ × P) LineRe
         let size : length (tail ++ long_bytes) ≡ length tail + (longest_line + 1) =
         length-append tail long_bytes ∙ ap (λ (n : ℕ). length tail + n) long_size in
         let long : outcome_of_rest answer closing (1 + length lines) next ((tail ++ long_bytes) ++ [])
-            ≡ stopped_outcome (LineLong (1 + length lines)) =
+        ≡ stopped_outcome (LineLong (1 + length lines)) =
         outcome_of_rest-long answer closing (1 + length lines) next (tail ++ long_bytes) [] unbroken (omega (arith, size)) in
         ap (outcome_of_input answer closing player) split ∙ more
         ∙ ap (outcome_after_bytes written) (ap (outcome_of_rest answer closing (1 + length lines) next)
@@ -168,7 +168,7 @@ module _ {P : Type 0} (answer : P → List ℕ → Result (List ℕ × P) LineRe
         → HoldsOfWhole left taken (λ input. outcome_of_input answer closing player input ≡ play_outcome sent (Err (BadLine number)))
         → HaltsAt 1 player (lines_of taken) sent (BadLine number)
         ⊎ (IsAtEnd left × ((next : P) × (outcome_of_lines answer 1 player (lines_of taken) ≡ play_outcome sent (Ok next))
-            × (number ≡ 1 + length (lines_of taken))))
+        × (number ≡ 1 + length (lines_of taken))))
     bad_at left taken sent number (inr w) = elim (comes_so taken sent (Err (BadLine number)) w.1) [ inl h ↦ inl h | inr t ↦ inr (w.0, t) ]
     bad_at left taken sent number (inl each) =
         elim (comes_so taken sent (Err (BadLine number))

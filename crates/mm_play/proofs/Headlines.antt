@@ -121,7 +121,7 @@ module _ {G H E S R : Type 0} (p : EventPlayer G H E S) (heads : HeadStage G R) 
   opened (line ∷ lines) number at written last h =
       let f = first_answered answer number (AtHeading at) line lines written last h in
       by (λ to ran. opened lines (number + 1) to written last ran) f (p.head at line) refl
-          (ap (λ (x : Option (HeadingStep G R)). head_answer x) (sym (shows.leads at line)) ∙ f.replied)
+      (ap (λ (x : Option (HeadingStep G R)). head_answer x) (sym (shows.leads at line)) ∙ f.replied)
     where
       ran_from : (f : FirstAnswered answer number (AtHeading at) line lines written last) (to : P)
           → (let x : List ℕ × P = ([], to) in x ≡ f.reply) → outcome_of_lines answer (number + 1) to lines ≡ play_outcome written (Ok last)
@@ -269,7 +269,7 @@ module _ {G H E S R : Type 0} (p : EventPlayer G H E S) (heads : HeadStage G R) 
             parts taken done rest split,
             both_short done u.0 (all_short p.start done written next o),
             continues left (joined_lines rest ++ tail_of taken) [] sent result done written next o (λ h. at_head h u.1)
-            (λ e. at_events e u.1)
+                (λ e. at_events e u.1)
                 went,
           )
 
@@ -312,8 +312,13 @@ module _ {G H E S R : Type 0} (p : EventPlayer G H E S) (heads : HeadStage G R) 
             → ToldOf {T = T} left taken [] sent (Err WriteFault)
         by written (Ok end) front c =
             told_at left taken sent T (Err WriteFault) (lines_of taken) [] c.0 end (whole_lines taken) c.3 (λ h u. tt) (λ e u. tt)
-            (λ text last w e. inr (c.2, c.1, sym e ∙ c.4, front_text sent written (text ++ c.1)
-            (c.5 ∙ ap (λ (l : List ℕ). l ++ c.1) w) front))
+            (λ text last w e. inr (
+              c.2,
+              c.1,
+              sym e ∙ c.4,
+              front_text sent written (text ++ c.1)
+                  (c.5 ∙ ap (λ (l : List ℕ). l ++ c.1) w) front,
+            ))
         by written (Err why) front (inl h) =
             told_at left taken sent T (Err WriteFault) h.done (h.line ∷ h.rest) written h.next h.split h.ran (λ h u. tt) (λ e u. tt)
             (λ text last w e. inl (front_text sent written text w front))
@@ -322,7 +327,7 @@ module _ {G H E S R : Type 0} (p : EventPlayer G H E S) (heads : HeadStage G R) 
             (λ text last w e. inl (front_text sent written text w front))
     tells {T} next left taken sent (Err Memory) settled =
         let it = told_at left settled.0 sent T (Err Memory) (lines_of settled.0) [] sent settled.2 (whole_lines settled.0) settled.3
-            (λ h u. tt) (λ e u. tt)
+        (λ h u. tt) (λ e u. tt)
         (λ text end w e. all_text sent text w) in (
           it.0,
           it.1 ++ settled.1.0,

@@ -9,6 +9,6 @@ mod stage;
 
 pub use commands::LinePlayer;
 pub use lines::play;
-pub use player::{Player, LineRefusal, ReplyFault};
+pub use player::{LineRefusal, Player, ReplyFault};
 pub use progress::Progress;
 pub use stage::{Heading, PlayStage};

@@ -9,7 +9,7 @@ ghost use Rattle.mm_base.specs.Limits.{longest_line};
 ghost use Rattle.mm_play.specs.LineTurn.{TurnAdvances, PlayerAnswers, EndsInput, SendsDue, SendsAndAnswers, PlaysNext};
 ghost use Rattle.mm_play.specs.PlaysInput.{PlaysInput, IsBlamed, is_read_fault, is_write_fault};
 
-use crate::player::{Player, LineRefusal, ReplyFault};
+use crate::player::{LineRefusal, Player, ReplyFault};
 use mm_base::{
     Bytes, LONGEST_LINE, LineFault, LineReader, Read, ReplayFault, Sink, Source, WriteFault,
     write_all,

@@ -203,7 +203,7 @@ follow-next previous rest count number front going read formed later =
     (λ (g : LedgerAccount × List ℕ). option_map (λ accounts. g.0 ∷ accounts) (accounts_from (count - (number + 1)) g.1)) f) (sym read)) ∙
     follow-front previous front.0 (accounts_from (count - (number + 1)) front.1) ∙
     ap (λ (b : Bool). b && (is_lt (order_of previous front.0.name) && has_rising_from front.0.name
-        (accounts_from (count - (number + 1)) front.1)))
+    (accounts_from (count - (number + 1)) front.1)))
     (sym formed) ∙
     ap (λ (b : Bool). b && has_rising_from front.0.name (accounts_from (count - (number + 1)) front.1)) (sym later)
 

@@ -10,7 +10,7 @@ ghost use Rattle.mm_quota.specs.Ids.{small_ledger, small_ledger_is_lawful, small
 
 use crate::account::{Account, put_account};
 use crate::place::{AccountPlace, parts, state_is_spelled, sum_of};
-use crate::request::{QuotaAction, QuotaRequest, QuotaOutput, decision, read_request, text};
+use crate::request::{QuotaAction, QuotaOutput, QuotaRequest, decision, read_request, text};
 use mm_base::{Bytes, Memory};
 use mm_module::{Module, Short, Stepped};
 use std::alloc::Global;

@@ -192,7 +192,7 @@ module _ (inner : Meaning) (requests : List (List ℕ)) (counted : AllByRecursio
       let new : answer ≡ Ok tt → IsUnforged inner requests key asked.position asked.request line = unforged asked line s.formed genuine.0 in
       let plain : pair_verdict tally asked line ≡ receipt_verdict answer None asked.request line =
       ap (λ (k : List ℕ). receipt_verdict (check_of_receipt k asked.position asked.request line)
-          (known_at asked.position tally.known) asked.request
+      (known_at asked.position tally.known) asked.request
       line) s.keyed
       ∙ verdict-alone asked line (known_at asked.position tally.known) answer new (sound-at asked.position tally.known s.sound) in
       let after = tally_after_pair tally asked line (pair_verdict tally asked line) in

@@ -163,7 +163,12 @@ impl Tally {
     }
 
     /// Answers a pair by its second line.
-    pub fn second(&mut self, alloc: Global, asked: AskedRequest, line: &[u8]) -> Result<Bytes, ReplyFault>
+    pub fn second(
+        &mut self,
+        alloc: Global,
+        asked: AskedRequest,
+        line: &[u8],
+    ) -> Result<Bytes, ReplyFault>
         requires line { length line.now ≤ longest_line }
         requires short { length asked.request ≤ longest_request }
         ensures { GivesReply (second_answer (tally_of self.old) asked line.now) (tally_of self.new)

@@ -143,7 +143,7 @@ pub receipts-true : ReceiptsAreTrue
 receipts-true inner requests counted key position request output u =
     let said = drop 65 output in
     let w = was-tagged inner key (first_receipt_state inner) requests (record { few = omega arith; keyed = tt }) counted position
-        request said u.near
+    request said u.near
     u.short u.tagged in
     record {
       before = w.before;

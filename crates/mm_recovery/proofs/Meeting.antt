@@ -75,7 +75,7 @@ module _ (meaning : Meaning) (key barrier : List ℕ) where
       → life_of Opt (call_outcome I (list_level I) y c offer b).state ≢ LostLife
   stays_powered y c offer b h =
       let found : Result CallFinding Refusal =
-          finding_unless_wanting (finding_at I (list_level I) (state_after_moves (list_level I) y (before c)) b offer) c.lacks
+      finding_unless_wanting (finding_at I (list_level I) (state_after_moves (list_level I) y (before c)) b offer) c.lacks
       in
       let end : History = (call_outcome I (list_level I) y c offer b).state in
       not_lost end.is_open (is_empty end.items) (are_own end.items end.current) (has_value (items_of_all end.closed))

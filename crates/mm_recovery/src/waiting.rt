@@ -29,7 +29,10 @@ impl Model for WaitingRequest {
 }
 
 /// Reads slots 2 and 3, and takes the request of the later of their valid records.
-pub fn find_waiting<T: Store>(alloc: Global, store: &mut T) -> Result<Option<WaitingRequest>, StoreFault>
+pub fn find_waiting<T: Store>(
+    alloc: Global,
+    store: &mut T,
+) -> Result<Option<WaitingRequest>, StoreFault>
     ensures finds { FindsWaiting (T.kept store.old) (T.kept store.new) result }
     ensures askable { IfOk result (λ waiting. IfSome waiting IsAskable) }
 {

@@ -146,7 +146,7 @@ shows = record {
   text = λ header events. texts_behind events (first_replay_state header);
   last = λ header events.
       ap (λ (d : Digests). end_line d.count (length (followed_in (first_replay_state header) events).issued))
-          (sym (state_behind events (first_replay_state header)))
+      (sym (state_behind events (first_replay_state header)))
       ∙ ap (λ (xs : List (List ℕ)). end_line (state_behind_events replay_steps (first_replay_state header) events).digests.count
       (length xs))
       (sym (issued_behind events (first_replay_state header)));

@@ -15,7 +15,11 @@ pub struct HeaderLine {}
 impl Heading<ScheduleReplay> for HeaderLine {
     ghost heads = { replay_heads };
 
-    fn take_line(&mut self, alloc: Global, line: &[u8]) -> Result<Option<ScheduleReplay>, ReplyFault> {
+    fn take_line(
+        &mut self,
+        alloc: Global,
+        line: &[u8],
+    ) -> Result<Option<ScheduleReplay>, ReplyFault> {
         let header = match read_header(line) {
             Some(header) => header,
             None => return Err(ReplyFault::Refused(LineRefusal::Bad)),

@@ -6,7 +6,7 @@ ghost use Rattle.mm_base.specs.Limits.{most_events};
 use crate::put::put_reply;
 use crate::report::Report;
 use mm_base::{Bytes, Memory};
-use mm_play::{LineRefusal, ReplyFault, PlayStage};
+use mm_play::{LineRefusal, PlayStage, ReplyFault};
 use mm_schedule::{Event, Header, Meddles, Reply, event_in, put_end};
 use mm_world::{EventView, World, line_view, owned_view};
 use std::alloc::Global;

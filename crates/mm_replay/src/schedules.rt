@@ -11,8 +11,8 @@ use crate::replaying::ScheduleReplay;
 use crate::report::Report;
 use mm_base::{ReplayFault, Sink, Source};
 use mm_evidence::premises_or_evidence;
-use mm_play::{LinePlayer, play};
 use mm_outcome::fronts_are_one_run;
+use mm_play::{LinePlayer, play};
 use std::alloc::Global;
 
 /// What stands behind the last line.

@@ -58,7 +58,11 @@ impl SealingKey {
     }
 
     /// The key, which remembers these texts, and is absorbed once it is used. Takes no memory.
-    pub fn remembering(key: &[u8; 32], last: Option<TaggedText>, before: Option<TaggedText>) -> SealingKey
+    pub fn remembering(
+        key: &[u8; 32],
+        last: Option<TaggedText>,
+        before: Option<TaggedText>,
+    ) -> SealingKey
         requires last { IfSome last (λ it. it.tag.bytes ≡ hmac_of key.now it.text.items) }
         requires before { IfSome before (λ it. it.tag.bytes ≡ hmac_of key.now it.text.items) }
         ensures { result ≡ key.now }

@@ -169,8 +169,11 @@ module _ (variant : Variant) (meaning : Meaning) (key key' barrier : List ℕ) (
   told_goes : (pair : Pair) (l : Both History History) (x : Twin) (notes : MoveNotes) (effect : Effect) (made : Option Effect)
       → Kept all others asked me them l x (notes_with_effect_if made notes) → Says l x effect → Goes all others asked me them notes
       (record { both = sides_after_issue lists_move pair me l effect; reply = effect_reply lists_move me l effect; effect = made })
-      (record { both = sides_after_issue digests_move pair me (twin l x) effect; reply = effect_reply digests_move me (twin l x) effect;
-      effect = made })
+      (record {
+        both = sides_after_issue digests_move pair me (twin l x) effect;
+        reply = effect_reply digests_move me (twin l x) effect;
+        effect = made;
+      })
   told_goes pair l x notes (Enters ticket) made k says = record {
     at = x;
     same = λ j. record {

@@ -148,9 +148,9 @@ module _ (pair : Pair) (both : Both History History) (notes : MoveNotes) (event 
         → Breach ⊎ IsGenuinePlain role at_side here.first e
     genuine_plain (Ask meddles stop offer b) is Live at =
         elim (offer_or at_side named here.first.at (offered_bytes here.first.issued offer)) [
-      | inl f ↦ inl (asked meddles stop offer b is at f)
-      | inr fine ↦ inr fine
-    ]
+          | inl f ↦ inl (asked meddles stop offer b is at f)
+          | inr fine ↦ inr fine
+        ]
     genuine_plain (Checkpoint meddles stop) is Live at = inr tt
     genuine_plain Power is Live at = inr tt
     genuine_plain (Extend value) is Live at = inr tt

@@ -208,7 +208,7 @@ module _ (variant : Variant) (meaning : Meaning) (key key' barrier : List ℕ) w
       let a : Affected l1 notes effect = affected l1 notes effect k1 fine (left_of notes l.first.role y z fates found
       (rests_on y z alike) h) in
       subst (λ (e : Option Effect). Issues me them (outcome_of_found_move lists_move pair me l meddles stop found).both
-          (notes_with_effect_if e notes))
+      (notes_with_effect_if e notes))
       (sym ended.effect_is) (ended_issues pair l2 (notes_with_effect_if effect notes) stop broken found effect a.keeps
       (move_told l1 notes y fates found k1 (rests_on y z alike) h a.entered))
 

@@ -103,7 +103,7 @@ forms_told anchor register a e true is =
 forms_told anchor register a e false is =
     let second : Bool = bytes_eq (anchored_digest_of a e) anchor && bytes_eq zero_bytes zero_bytes in
     let both = Decides-and (bytes_eq (anchored_digest_of a e) anchor) (bytes_eq zero_bytes zero_bytes)
-        (bytes_eq-Decides (anchored_digest_of a e) anchor)
+    (bytes_eq-Decides (anchored_digest_of a e) anchor)
     (bytes_eq-Decides zero_bytes zero_bytes) in
     Decides-or (bytes_eq a anchor && bytes_eq e zero_bytes) (second || false)
     (Decides-and (bytes_eq a anchor) (bytes_eq e zero_bytes) (bytes_eq-Decides a anchor) (bytes_eq-Decides e zero_bytes)) (
@@ -449,8 +449,13 @@ module _ (i : Instance) (y z : History) (all : List (List ℕ)) (w : WentOn y z)
         | inl same ↦
             let n = not_empty p.taken p.begun in (
               λ s. absurd (omega (arith, closed_count (stands_closed s), ap length same)),
-              λ m. absurd (omega (arith, all_named m, named_count, ap (λ (x : List (List RegisterEntry)). length (items_of_all x)) same,
-                  n)),
+              λ m. absurd (omega (
+                arith,
+                all_named m,
+                named_count,
+                ap (λ (x : List (List RegisterEntry)). length (items_of_all x)) same,
+                n,
+              )),
             )
         | inr (inl l) ↦ (λ s. behind_named l (stands_closed s), λ m. closed_stands (behind_closed l m))
         | inr (inr l) ↦
@@ -488,7 +493,7 @@ module _ (i : Instance) (y z : History) (all : List (List ℕ)) (w : WentOn y z)
     inside_current a e p =
         let clean = current_clean z sound (begun_longer p.taken p.more p.begun p.split) in
         let counts : length (batches_in (items_of_all z.closed)) ≡ length (items_of_all z.closed) =
-            length-batches_in (items_of_all z.closed) clean.clean in
+        length-batches_in (items_of_all z.closed) clean.clean in
         record {
           before = z.closed;
           later = [];

@@ -226,7 +226,7 @@ extends_flying slot new tally bound flight value fits some e =
     let a = flight_is slot.seat.header (instance_in slot) (digests_in slot) f.from flight old p.meddles (p.at + 1) f.flies in
     let m = moved_by old new value a.made a.planned a.few a.is_next e in
     let flies = moves slot new tally bound value m (λ x q. SlotCallFlies slot.seat.header (instance_in slot) x f.from flight new
-        q.meddles (q.at + 1))
+    q.meddles (q.at + 1))
     (takes_value slot.seat.header (instance_in slot) (digests_in slot) f.from flight old new p.meddles (p.at + 1) value f.flies e) in
     joins_comes slot new tally bound flight value some m
     (back_from (over slot new tally bound) flight some (record { from = f.from; flies = flies; may = f.may }))

@@ -179,7 +179,7 @@ goes_comes slot before after keys tally bound new step same planned fits number 
     let on : SlotTurn = turn_saying (with_flight s (record f { next = f.next + 1 })) (Going (f.next + 1)) in
     let slot' = parts_with_flight (left slot new keys tally bound) after in
     let P : Bool → Type 0 = λ b. SlotComesTo (parts_with_flight slot before) slot' (cond b on (event_turn i s (event_so_far f)))
-        (Going step) in
+    (Going step) in
     subst P (sym nothing) (record {
       goes = record { fits = fits; header = refl; number = refl };
       stands = λ j. record {

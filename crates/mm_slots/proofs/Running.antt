@@ -63,7 +63,7 @@ completes_on : SchedulesGoOn → (i : Instance) (slot : Tenant) (first rest : Sl
 completes_on law i slot first rest c r =
     let f = told_from i slot first.events in
     let joins : told_from i slot (first.events ++ rest.events) ≡ outcome_joined_to f
-        (outcome_of_events i (digest_level i) f.state f.issued rest.events) =
+    (outcome_of_events i (digest_level i) f.state f.issued rest.events) =
     (law i first.events rest.events first_history slot.digests slot.issued).1 in
     let same : outcome_of_events i (digest_level i) f.state f.issued rest.events ≡ told_from i first.slot rest.events =
     ap (λ (d : Digests). outcome_of_events i (digest_level i) d f.issued rest.events) c.state

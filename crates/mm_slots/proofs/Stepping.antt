@@ -151,7 +151,7 @@ pub ask_goes : (slot : Parts) (it : AskInFlight) (call : OpStage BatchAnswer) (k
 ask_goes slot it call keys tally bound new step fits goes number =
     let t = asks_come slot it new (Ok (steps.Going call)) fits goes in
     flight_goes slot (code.Asks it) (code.Asks (record it { call = call })) keys tally bound new step fits refl
-        (call_of slot (code.Asks it) fits).may
+    (call_of slot (code.Asks it) fits).may
     t.0 t.1 (number ∙ t.0.number ∙ sym t.0.is_next)
 
 pub close_goes : (slot : Parts) (it : CheckpointInFlight) (call : OpStage Checkpointed) (keys : Unit {0}) (tally : Counted slot)
@@ -235,7 +235,7 @@ breaks_next how slot flight n fits is =
     let f = call_of slot flight fits in
     let p = next_plan slot.seat.platform in
     let a = flight_is slot.seat.header (instance_in slot) (digests_in (parts_with_flight slot flight)) f.from flight
-        slot.seat.platform p.meddles
+    slot.seat.platform p.meddles
     (p.at + 1) f.flies in
     let plan : Plan = record (plan_by Quiet p.meddles) { at = a.made } in
     let next : n ≡ next_step plan = omega (arith, is, a.is_next, a.few) in

@@ -51,8 +51,11 @@ pub record IsSlotRun (number : ℕ) (header : Header) (told : List SlotAnswer)
 abbrev pub AreSlotRuns : List Header → List SlotEvent
     → (List SlotEvent → List SlotAnswer × List Row) → Type 0
 AreSlotRuns headers events shown = (front later : List SlotEvent) → events ≡ front ++ later
-    → (shown front ≡ (answers (first_rows headers) front, rows_after_all
-    (first_rows headers) front))
+    → (shown front ≡ (
+      answers (first_rows headers) front,
+      rows_after_all
+          (first_rows headers) front,
+    ))
     × ((number : ℕ) (header : Header) → slice_get headers number ≡ Some header
     → IsSlotRun number header (shown front).0
     (tenant_turn header number (slot_meetings number (first_rows headers) front)))

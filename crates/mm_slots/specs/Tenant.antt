@@ -104,7 +104,7 @@ abbrev pub step_turn : Instance → Tenant → Flight → SlotTurn
 step_turn i slot flight =
     if is_nothing (outcome_in i slot (event_so_far flight)).reply
     then turn_saying (with_flight slot (record flight { next = flight.next + 1 }))
-        (Going (flight.next + 1))
+    (Going (flight.next + 1))
     else event_turn i slot (event_so_far flight)
 
 abbrev pub stop_at : CallBreak → ℕ → Stop

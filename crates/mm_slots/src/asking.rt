@@ -40,7 +40,12 @@ impl Parts {
     ghost use Rattle.mm_slots.specs.Tenant.{turn_by_action};
 
     /// Begins a call that asks a request, where none is in flight.
-    pub fn begin(&mut self, alloc: Global, offer: Offer, request: Bytes) -> Result<SlotReply, Memory>
+    pub fn begin(
+        &mut self,
+        alloc: Global,
+        offer: Offer,
+        request: Bytes,
+    ) -> Result<SlotReply, Memory>
         requires fits { PartsFit self.old }
         ensures ok { IfOk result (SlotComesTo self.old self.new
             (turn_by_action (instance_in self.old) (slot_in self.old)

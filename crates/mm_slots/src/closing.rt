@@ -40,7 +40,12 @@ impl Parts {
             SlotAction.Step) result }
     {
         let seat = &mut self.seat;
-        match step(&OptCheckpoint, &mut seat.platform, closing.call, &mut seat.keys) {
+        match step(
+            &OptCheckpoint,
+            &mut seat.platform,
+            closing.call,
+            &mut seat.keys,
+        ) {
             Err(_) => unreachable!(),
             Ok(FlightOutcome::Over(called)) => self.end(called),
             Ok(FlightOutcome::Going(call)) => {

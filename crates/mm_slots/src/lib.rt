@@ -24,7 +24,7 @@ mod tenant;
 mod totals;
 mod whole;
 
-pub use event::{SlotAction, CallBreak, SlotEvent};
+pub use event::{CallBreak, SlotAction, SlotEvent};
 pub use flight::{AskInFlight, CheckpointInFlight, Flight};
 pub use heads::Heads;
 pub use laws::{slots_are_alone, slots_are_runs, slots_go_on, slots_run, slots_tell_replies};

@@ -19,8 +19,7 @@ impl Parts {
         ensures ok { IfOk result (SlotComesTo self.old self.new
             (turn_by_action (instance_in self.old) (slot_in self.old)
             (SlotAction.Extend value.now))) }
-        ensures err { OnErr result (SlotLacksMemory (SlotAction.Extend value.now) self.old self.new)
-            }
+        ensures err { OnErr result (SlotLacksMemory (SlotAction.Extend value.now) self.old self.new) }
     {
         match &self.flight {
             None => self.extend_now(value),
@@ -35,8 +34,7 @@ impl Parts {
         ensures ok { IfOk result (SlotComesTo self.old self.new
             (turn_by_action (instance_in self.old) (slot_in self.old)
             (SlotAction.Extend value.now))) }
-        ensures err { OnErr result (SlotLacksMemory (SlotAction.Extend value.now) self.old self.new)
-            }
+        ensures err { OnErr result (SlotLacksMemory (SlotAction.Extend value.now) self.old self.new) }
     {
         let reply = self.seat.extend(value)?;
         self.register = *self.seat.platform.register();
@@ -50,8 +48,7 @@ impl Parts {
         ensures ok { IfOk result (SlotComesTo self.old self.new
             (turn_by_action (instance_in self.old) (slot_in self.old)
             (SlotAction.Extend value.now))) }
-        ensures err { OnErr result (SlotLacksMemory (SlotAction.Extend value.now) self.old self.new)
-            }
+        ensures err { OnErr result (SlotLacksMemory (SlotAction.Extend value.now) self.old self.new) }
     {
         self.seat.platform.meddle_next(value)?;
         Ok(SlotReply::Replied(Reply::Extended))

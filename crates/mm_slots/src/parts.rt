@@ -3,7 +3,7 @@
 ghost use Rattle.std.specs.Prelude.{◌≡◌};
 ghost use Rattle.mm_slots.specs.Tenant.{stop_at};
 
-use crate::event::{SlotAction, CallBreak};
+use crate::event::{CallBreak, SlotAction};
 use crate::flight::Flight;
 use crate::said::SlotReply;
 use mm_base::Memory;

@@ -5,7 +5,7 @@ ghost use Rattle.std.specs.Option.{option_map};
 ghost use Rattle.mm_slots.specs.Grammar.{action_at, begin_action_at, break_at, event_at, slot_count_at, index_at};
 ghost use Rattle.mm_slots.specs.Texts as texts;
 
-use crate::event::{SlotAction, CallBreak, SlotEvent};
+use crate::event::{CallBreak, SlotAction, SlotEvent};
 use mm_base::{Bytes, Memory};
 use mm_digest::Digest;
 use mm_schedule::{

@@ -11,7 +11,7 @@ use crate::rows::follow;
 use crate::tenant::Tenant;
 use crate::totals::{bytes_in, put_ends, requests_in, snapshots_in};
 use mm_base::{Bytes, Memory};
-use mm_play::{LineRefusal, ReplyFault, PlayStage};
+use mm_play::{LineRefusal, PlayStage, ReplyFault};
 use mm_schedule::{EventFault, Header};
 use std::alloc::Global;
 use std::marker::Model;

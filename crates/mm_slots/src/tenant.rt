@@ -1,6 +1,6 @@
 //! A module in one slot of a platform.
 
-use crate::event::{SlotAction, CallBreak};
+use crate::event::{CallBreak, SlotAction};
 use crate::parts::Parts;
 use crate::said::SlotReply;
 use mm_base::Memory;

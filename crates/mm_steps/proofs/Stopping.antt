@@ -55,7 +55,7 @@ pub always_fails : (stop : Stop) (old : Standing) → BreaksNext stop old
 always_fails stop old b = λ act new fault g none.
     let plan : Plan = plan_with_stop stop b.plan in
     let planned : option_map (plan_with_stop stop) old.plan ≡ Some plan =
-        ap (λ (p : Option Plan). option_map (plan_with_stop stop) p) b.planned in
+    ap (λ (p : Option Plan). option_map (plan_with_stop stop) p) b.planned in
     let known : fault ≡ fault_at plan.stop (next_step plan) = rw b.is_on at (g.told plan planned).answers in
     none_fails stop (next_step b.plan) (sym known ∙ none) b.fails
 

@@ -19,7 +19,11 @@ struct PlayedLines<'a> {
 }
 
 // Whether lines in pieces of so many bytes get the same replies.
-fn is_same_in(notes: &mut TableNotes, played: &PlayedLines<'_>, piece: u64) -> Result<bool, Memory> {
+fn is_same_in(
+    notes: &mut TableNotes,
+    played: &PlayedLines<'_>,
+    piece: u64,
+) -> Result<bool, Memory> {
     let mut setup = Setup::new();
     setup.piece = piece;
     let code = alone(notes, played.word, &setup, played.lines)?;

@@ -25,7 +25,12 @@ pub fn over_memory(
 }
 
 /// Does what a word says over a blank platform and an empty store.
-pub fn alone(notes: &mut TableNotes, word: &str, setup: &Setup, content: &[u8]) -> Result<u64, Memory> {
+pub fn alone(
+    notes: &mut TableNotes,
+    word: &str,
+    setup: &Setup,
+    content: &[u8],
+) -> Result<u64, Memory> {
     let mut platform = MemPlatform::new(notes.alloc, &[0; 104]);
     let mut store = MemStore::new(notes.alloc);
     run(notes, &[word], setup, content, &mut platform, &mut store)
@@ -40,7 +45,12 @@ fn stopping_store(alloc: Global, call: u64) -> Result<MemStore, Memory> {
 }
 
 /// Plays a scene over a platform and a store in memory of which this call fails, from 1.
-pub fn over_stopped(notes: &mut TableNotes, text: &str, scene: &str, row: &str) -> Result<bool, Memory> {
+pub fn over_stopped(
+    notes: &mut TableNotes,
+    text: &str,
+    scene: &str,
+    row: &str,
+) -> Result<bool, Memory> {
     let call = read_decimal(text.as_bytes()).unwrap_or(0);
     let mut store = stopping_store(notes.alloc, call)?;
     let mut old = MemStore::new(notes.alloc);
@@ -148,7 +158,12 @@ fn failure_in(text: &str) -> Option<(u64, FailureEffect)> {
 }
 
 /// Plays a scene over a memory of which a call fails: its number and what it leaves, as `5 half`.
-pub fn over_failing(notes: &mut TableNotes, text: &str, scene: &str, row: &str) -> Result<bool, Memory> {
+pub fn over_failing(
+    notes: &mut TableNotes,
+    text: &str,
+    scene: &str,
+    row: &str,
+) -> Result<bool, Memory> {
     match failure_in(text) {
         Some((call, leaves)) => over_failing_at(notes, call, leaves, scene, row),
         None => notes.tell(false, text, 0),

@@ -121,7 +121,12 @@ fn put_front(range: &mut [u8], bytes: &[u8], size: usize) {
 }
 
 // Gives the register a value, where the call that was to do so had its effect.
-fn settle(register: &mut Digest, outcome: Result<(), StepFault>, leaves: FailureEffect, value: Digest) {
+fn settle(
+    register: &mut Digest,
+    outcome: Result<(), StepFault>,
+    leaves: FailureEffect,
+    value: Digest,
+) {
     if left_of(outcome, leaves) == FailureEffect::All {
         *register = value;
     }

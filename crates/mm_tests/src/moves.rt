@@ -210,7 +210,11 @@ fn put_accepted(said: &mut Bytes, variant: Variant, accepted: &Accepted) -> Resu
     )
 }
 
-fn put_invite(said: &mut Bytes, row: &MoveCase<'_>, platform: &mut MemPlatform) -> Result<(), Memory> {
+fn put_invite(
+    said: &mut Bytes,
+    row: &MoveCase<'_>,
+    platform: &mut MemPlatform,
+) -> Result<(), Memory> {
     let came = invite(platform, &LINK, row.variant, 1, &NONCE, &KEY);
     put_invited(said, &came)
 }

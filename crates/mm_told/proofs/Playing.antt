@@ -91,8 +91,12 @@ module _ {A R : Type 0} (o : OpMeaning A R) where
   }
   steps (Seen cell) _ step old new l m = absurd l
   steps (Changing ready) it step old new l m =
-      record { fault = fault_of_answer it; goes =
-          subst (λ (act : Act). StepGoes act (bare_standing old) (bare_standing new) (fault_of_answer it)) l.0 m.goes; gives = l.1 }
+      record {
+        fault = fault_of_answer it;
+        goes =
+            subst (λ (act : Act). StepGoes act (bare_standing old) (bare_standing new) (fault_of_answer it)) l.0 m.goes;
+        gives = l.1;
+      }
 
   module _ (stood : ℕ → Standing) where
     one_step : (from : OpStage A) (it : MadeStep) (more : List MadeStep) (step : StepResult A R) → MadeStepLeads o from it step

@@ -15,5 +15,5 @@ pub use closing::checkpoint;
 pub use hosting::ask_by_steps;
 pub use making::make;
 pub use outcome::StepsOutcome;
-pub use step::{MadeStep, HostStep};
+pub use step::{HostStep, MadeStep};
 pub use told::{CallProgress, tell};

@@ -6,7 +6,7 @@ ghost use Rattle.mm_platform.specs.Steps.{StepGoes, ReadCell};
 ghost use Rattle.mm_told.specs.Host.{bare_standing};
 ghost use Rattle.mm_told.specs.Steps.{act_of, made_act, IsMade};
 
-use crate::step::{MadeStep, HostStep};
+use crate::step::{HostStep, MadeStep};
 use mm_base::{CELL_LENGTH, Memory};
 use mm_digest::Digest;
 use mm_platform::{Platform, StepFault};

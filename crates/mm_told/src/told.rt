@@ -9,9 +9,9 @@ ghost use Rattle.mm_machine.specs.declared.call.OpStage.TheVariants.{Begun, Seen
 ghost use Rattle.mm_told.specs.CallPath.{StepsComeTo, StepHasTarget, StepsWeighRegister, progress_at_end, step_by_sight, step_by_finding, target_of_step};
 ghost use Rattle.mm_told.specs.Steps.{act_of, fault_of_answer};
 
-use crate::step::{MadeStep, HostStep, is_of};
+use crate::step::{HostStep, MadeStep, is_of};
 use mm_digest::Digest;
-use mm_machine::{Change, OpResult, OpFinding, Operation, ReadyChange, Sight, OpStage};
+use mm_machine::{Change, OpFinding, OpResult, OpStage, Operation, ReadyChange, Sight};
 use mm_platform::StepFault;
 use mm_seal::{Cell, KeptKey};
 
@@ -197,7 +197,11 @@ fn at<A: Drop, R>(found: OpFinding<A>) -> StepTarget<A, R>
 }
 
 // A changing step was made.
-fn changed<O: Operation>(op: &O, ready: ReadyChange<O::Answer>, it: &MadeStep) -> StepTarget<O::Answer, O::Refusal>
+fn changed<O: Operation>(
+    op: &O,
+    ready: ReadyChange<O::Answer>,
+    it: &MadeStep,
+) -> StepTarget<O::Answer, O::Refusal>
     ensures { StepHasTarget (O.asked op.now) (Changing ready) it.now result }
 {
     if !is_of(it, &step_in(&ready.change)) {

@@ -108,7 +108,7 @@ and_or false = refl
 one_form : (anchor extension digest : List ℕ) (closed : Bool) → closed ≡ true → bytes_eq extension zero_bytes ≡ true
     → list_any (fits_fresh false digest zero_bytes) (record { anchor = anchor; extension = extension }
     ∷ (if closed then [] else record { anchor = anchored_digest_of anchor extension; extension = zero_bytes } ∷ []))
-        ≡ bytes_eq anchor digest
+    ≡ bytes_eq anchor digest
 one_form anchor extension digest false e z = cc
 one_form anchor extension digest true e z = ap (λ x. (bytes_eq anchor digest && x) || false) z ∙ and_or (bytes_eq anchor digest)
 

@@ -42,7 +42,7 @@ found_sayable pair i both meddles stop command (Some found) =
     let fates = (course_of stop meddles).fates in
     let effect = effect_of fates found in
     let here = record both
-        { first = record both.first { at = state_after_steps digests_move i both.first.at meddles stop (move_steps found) } } in
+    { first = record both.first { at = state_after_steps digests_move i both.first.at meddles stop (move_steps found) } } in
     ended_sayable pair i (sides_after_effect_if digests_move here effect) stop (walk fates 1 (move_steps found)).broken found effect
 
 move_sayable : (pair : Pair) (i : Instance) (both : Both Digests ℕ) (meddles : List Meddle) (stop : Stop) (command : MoveCommand)

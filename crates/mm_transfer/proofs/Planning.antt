@@ -150,7 +150,7 @@ module _ {A : Type 0} (i : Instance) (d : Digests) (stop : Stop) (meddles : List
       (sym makes.1) (one_made (Ok (record { next = None; answer = answer })) middle cell s here (λ moved. refl))
   made_by (Some next) answer result middle mid broken cell s on makes is settles =
       let t = step_by i (state_after_moves (digest_level i) d (map Foreign (due_values 1 meddles))) stop meddles 1 (WriteCell next)
-          middle mid makes.fault
+      middle mid makes.fault
       (λ made items. refl) on s.plan s.register makes.goes in
       let breaks : broken ≡ is_some makes.fault =
       is ∙ ap (λ (r : Result A MoveRefusal). is_some (move_fault_in r)) makes.gives ∙ ap is_some (answered_fault answer makes.fault) in
@@ -217,7 +217,7 @@ pub moves_planned : {A : Type 0} (finds : List ℕ → Result (ReadyMove A) Move
 moves_planned finds stop meddles old at mid new broken result none planned_at moved breaks settles = λ i d bytes cell register quiet.
     let goes = subst (λ (s : Standing). StepGoes ReadCell s moved.moves.middle moved.moves.fault) planned_at moved.moves.reads in
     let after = subst (λ (s : Standing). EndsAfterRead finds moved.moves.fault s moved.moves.middle mid result) planned_at
-        moved.moves.after in
+    moved.moves.after in
     after_read i d stop meddles bytes old new finds result moved.moves.fault moved.moves.middle mid broken none cell register quiet.is_on
     goes after breaks settles
 

@@ -25,8 +25,8 @@ use crate::side::Side;
 use mm_base::{Bytes, CELL_LENGTH, Memory};
 use mm_digest::Digest;
 use mm_move::{Accepted, Invited, Link, MoveRefusal, MovedCell, read_moved};
-use mm_platform::{MemPlatform, Stop};
 use mm_outcome::{CallPlan, offered, rising, world_barrier, world_key};
+use mm_platform::{MemPlatform, Stop};
 use mm_schedule::Offer;
 use std::alloc::Global;
 

@@ -10,7 +10,7 @@ use crate::reply::MoveReply;
 use crate::report::TransferReport;
 use crate::sides::Sides;
 use mm_base::{Bytes, Memory};
-use mm_play::{LineRefusal, ReplyFault, PlayStage};
+use mm_play::{LineRefusal, PlayStage, ReplyFault};
 use mm_schedule::{EventFault, Header};
 use std::alloc::Global;
 use std::marker::Model;

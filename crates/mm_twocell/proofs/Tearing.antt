@@ -44,7 +44,7 @@ write_fails at bytes old mid new h r w e f =
     let fits : length part ≤ n = part_within n old.leaves in
     let all : length (behind part range) ≡ n = length-behind part range (omega (arith, size, fits)) ∙ size in
     let after : new ≡ memory_with_part at part (memory_after_call old) =
-        f ∙ ap (λ (t : TornMemory). memory_with_part at (take n t.leaves) t) e in
+    f ∙ ap (λ (t : TornMemory). memory_with_part at (take n t.leaves) t) e in
     subst (λ (t : TornMemory). WritesRaw at bytes (told_standing old) (told_standing t) (Some Failed)) (sym after) (record {
       written = behind part range;
       size = all;

@@ -16,8 +16,13 @@ picked_cell bytes = take cell_length (drop (cell_length * (slice_index bytes 208
 -- of writes
 abbrev pub standing_as_one : Standing → ℕ → ℕ → Standing
 standing_as_one raw steps writes =
-    record raw { cell = option_map picked_cell raw.cell; steps = steps; writes = writes; plan =
-        None }
+    record raw {
+      cell = option_map picked_cell raw.cell;
+      steps = steps;
+      writes = writes;
+      plan =
+          None;
+    }
 
 -- the other cell was written and then picked: the picked cell is the new one, or the old one
 pub record WritesOtherCell (bytes : List ℕ) (old new : Standing) (fault : Option StepFault) : Type 0

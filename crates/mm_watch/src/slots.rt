@@ -33,7 +33,11 @@ fn keep_lines<D: PageDevice>(mount: &Mount<'_>, pages: &mut D, lines: &str) -> i
 }
 
 // Does what a line asks.
-fn answer<D: PageDevice>(mount: &Mount<'_>, pages: &mut D, asked: &WatchCommand<'_>) -> Option<u64> {
+fn answer<D: PageDevice>(
+    mount: &Mount<'_>,
+    pages: &mut D,
+    asked: &WatchCommand<'_>,
+) -> Option<u64> {
     match asked.word {
         "page" | "byte" => on_page(pages, asked),
         "length" | "set" | "sync" => on_slot(pages, asked),

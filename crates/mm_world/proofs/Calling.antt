@@ -326,7 +326,7 @@ checks_planned old mid new meddles stop result checks settles variant meaning is
     let stays = checks.plans (plan_of stop meddles) q.is_on refl refl in
     let told = checks.tells (plan_of stop meddles) q.is_on refl refl in
     let goes : CheckpointGoesBy i d (checkpoint_outcome i (digest_level i) d (course_of stop meddles)) at mid result =
-        subst (λ (f : ℕ → StepFate). CheckpointGoesBy i d
+    subst (λ (f : ℕ → StepFate). CheckpointGoesBy i d
     (checkpoint_outcome i (digest_level i) d (record { fates = f; lacks = false })) at mid result) (λ j. λ n. told n j)
     (checks.goes variant meaning
     key barrier d stands) in

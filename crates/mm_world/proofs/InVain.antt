@@ -350,7 +350,7 @@ module _ (old new : Standing) (meddles : List Meddle) (stop : Stop) (issued : Li
         own = λ variant meaning. closes_came old new meddles stop variant meaning called w issued;
         vain = λ i d fault read.
             subst (λ (r : Reply). CallComesInVain (read_only_outcome (digest_level i) d issued meddles stop (refusal_of_fault fault)) issued
-                old new (quiet_call r))
+            old new (quiet_call r))
             (sym (closes_told old new meddles stop called w read.quiet.is_on))
             (checks_in_vain old w.middle new meddles stop said goes closes settled issued i d fault read);
       }
@@ -373,12 +373,12 @@ module _ (old new : Standing) (meddles : List Meddle) (stop : Stop) (issued : Li
     pub checks_to : (it : code.Called) → called ≡ Ok it → ChecksPlanned old new issued meddles stop (Ok it.reply)
     checks_to it is =
         checks_told it (subst (λ (r : Result code.Called Memory). IsPlanned closing_asked TellsCheckpoint meddles stop old new r) is
-            planned)
+        planned)
 
     pub checks_lack : (memory : Memory) → called ≡ Err memory → ChecksPlanned old new issued meddles stop (Err memory)
     checks_lack memory is =
         checks_want memory (subst (λ (r : Result code.Called Memory). IsPlanned closing_asked TellsCheckpoint meddles stop old new r) is
-            planned)
+        planned)
 
 -- a call that isn't too long, over a planned platform
 
@@ -399,11 +399,11 @@ module _ (variant : Variant) (meaning : Meaning) (old new : Standing) (meddles :
         let breaks : is_broken ended ≡ is_some r.fault = ap is_broken r.ends ∙ broken_with r.fault why in
         let it : code.Called = vain_call stop (size_of b) r.fault why in
         let vain_outcome : Bool → Outcome Digests = λ long. if long then outcome_without_call d issued (reply.No cause.Long)
-            else read_only_outcome (digest_level
+        else read_only_outcome (digest_level
         i) d
         issued meddles stop why in
         let came : CallComesInVain (vain_outcome false) issued old new it = stopped_came i d stop meddles issued why old
-            w.middle new it r.fault
+        w.middle new it r.fault
         cell.quiet
         cell.register r.goes (subst (λ x. SettlesPlan stop x w.middle new) breaks settles) (subst (λ x. StaysOn stop x w.middle) breaks p.0)
         (vain_told stop (size_of b) r.fault why) in
@@ -411,7 +411,7 @@ module _ (variant : Variant) (meaning : Meaning) (old new : Standing) (meddles :
         (λ e. never_memory variant meaning.id read (vain ∙ ap Some e))
         (subst (λ (x : AskResult). IsCallResult stop (size_of b) x result) r.ends w.told) in
         subst (λ (x : Result code.Called Memory). MatchResult x (CallComesInVain (vain_outcome (is_long b)) issued old new)
-            (λ _. new ≡ old))
+        (λ _. new ≡ old))
         (sym gives) (subst (λ (long : Bool). CallComesInVain (vain_outcome long) issued old new it) (sym short) came)
 
     asks_either : AsksPlanned variant meaning old new issued meddles stop (Some offer) b result

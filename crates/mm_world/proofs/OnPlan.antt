@@ -105,7 +105,7 @@ module _ (old new : Standing) (meddles : List Meddle) (stop : Stop) where
       let said = result_of_end w.ended in
       let i = instance_by variant meaning key barrier in
       subst (λ (r : Reply). CallComesTo i (checkpoint_event_outcome (digest_level i) stop issued
-          (checkpoint_outcome i (digest_level i) d (course_of stop meddles)))
+      (checkpoint_outcome i (digest_level i) d (course_of stop meddles)))
       d.count issued old new (quiet_call r)) (sym (closes_told result w q.is_on))
       (checks_planned old w.middle new meddles stop said (checks_on at w.middle said (closes_whole w.middle w.ended at w.ends))
       (subst (λ x. SettlesPlan stop x w.middle new) (sym (closes_broken at w.middle w.ended w.ends)) w.settles) variant meaning issued

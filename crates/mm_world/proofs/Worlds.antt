@@ -87,7 +87,7 @@ module _ (old new : Seat) (world : WorldState) (is : world_in old ≡ world) (k 
       let c = f.own world_key world_barrier d k.stands k.quiet refl in
       let more = ap (λ (x : List (List ℕ)). length x) c.issued in
       keeps_so _ f.header c.stands c.quiet
-          (omega (arith, room, ap (λ (w : WorldState). length w.issued) is, more, grown (world_in old) event))
+      (omega (arith, room, ap (λ (w : WorldState). length w.issued) is, more, grown (world_in old) event))
   keeps_world event (Err memory) f room =
       let w = f.own world_key world_barrier d k.stands k.quiet refl in keeps_wanting event w.0 w.1
 
@@ -194,8 +194,13 @@ stands_new Basic meaning key barrier cell length-key length-barrier e =
     record {
       at = record {
         spells =
-            record { summary = length-start_digest_of Basic meaning.id; key = length-key; barrier = length-zero_bytes; variant =
-                (refl, refl) };
+            record {
+              summary = length-start_digest_of Basic meaning.id;
+              key = length-key;
+              barrier = length-zero_bytes;
+              variant =
+                  (refl, refl);
+            };
         cell = rw (e, summary-nil meaning.id) refl;
         reads = tt;
       };

@@ -19,8 +19,8 @@ use mm_machine::OpResult as End;
 use mm_model::{BatchAnswer, Refusal};
 use mm_module::{Batch, Module};
 use mm_opt::{CheckpointRefusal, Checkpointed, OptCheckpoint};
-use mm_platform::{Meddle, MemPlatform, Stop};
 use mm_outcome::{CallPlan, cause, offered, way};
+use mm_platform::{Meddle, MemPlatform, Stop};
 use mm_schedule::{Cause, Offer, Reply};
 use std::alloc::Global;
 

@@ -13,8 +13,8 @@ use mm_machine::{OpCall, OpResult, Operation, finish};
 use mm_model::{BatchAnswer, Refusal};
 use mm_module::Module;
 use mm_opt::{CheckpointRefusal, Checkpointed, OptCheckpoint, closing_result};
-use mm_platform::{MemPlatform, Stop};
 use mm_outcome::CallPlan;
+use mm_platform::{MemPlatform, Stop};
 
 /// An operation whose calls are told.
 pub trait CallTeller: Operation {
@@ -31,7 +31,11 @@ pub trait CallTeller: Operation {
     ghost tells: { Self → Stop → OpResult Self.Answer Self.Refusal → Result CallReport Memory → Type 0 };
 
     /// What a call came to that was stopped so and ended so. Memory exactly where that was wanting.
-    fn told(&self, stop: Stop, ended: OpResult<Self::Answer, Self::Refusal>) -> Result<CallReport, Memory>
+    fn told(
+        &self,
+        stop: Stop,
+        ended: OpResult<Self::Answer, Self::Refusal>,
+    ) -> Result<CallReport, Memory>
         ensures { tells self.now stop ended result };
 
     /// One that was broken off wanted none.

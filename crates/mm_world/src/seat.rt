@@ -11,8 +11,8 @@ use mm_base::{Bytes, CELL_LENGTH, Memory};
 use mm_call::{KeptKey, Provisioned};
 use mm_digest::Digest;
 use mm_module::Batch;
-use mm_platform::MemPlatform;
 use mm_outcome::CallPlan;
+use mm_platform::MemPlatform;
 use mm_schedule::{Header, Offer, Reply, owned_offer};
 use std::alloc::Global;
 

@@ -3,8 +3,8 @@
 use crate::seat::Seat;
 use crate::views::{EventView, line_view, owned_view};
 use mm_base::Memory;
-use mm_platform::MemPlatform;
 use mm_outcome::{world_barrier, world_key};
+use mm_platform::MemPlatform;
 use mm_schedule::{Event, EventText, Header, Meddles, Reply};
 use std::alloc::Global;
 use std::marker::Model;

@@ -9,7 +9,7 @@ unreachable-requires c = Summing-given _ _ _ _ _ None c.accounts.invariant c.acc
 pub overflow_add-total : goal.overflow_add-total
 overflow_add-total c =
     let next = Summing-given _ _ _ _ _ (Some (front_account (c.in-Some.account, c.in-Some.others))) c.accounts.invariant
-        c.accounts-test.true
+    c.accounts-test.true
     c.in-Some.ensures in
     omega (arith, next.0, IsSpelled-sum c.args.state.now c.requires)
 

@@ -8,7 +8,7 @@ returns t c =
     let first : Meddle = c.in_ok-meddle.meddle in
     let few : 8 - count ≡ suc (8 - (count + 1)) = omega (arith, c.args.meddles.now.few, c.if-meddles-eq8.false) in
     c.more_meddles.ensures ∙ ap (λ (n : ℕ). meddles_behind (meddles_of c.push.new.self) (meddles_at (8 - n) first.step line))
-        c.push.ensures.count
+    c.push.ensures.count
     ∙ ap (λ (front : List Meddle). meddles_behind front (meddles_at (8 - (count + 1)) first.step line)) c.push.ensures.items
     ∙ more (meddles_of c.args.meddles.now) (8 - count) (8 - (count + 1)) c.args.least c.args.line.now c.in-Some.words.now line first few
     (sym c.in-Some.ensures) (sym c.in_ok-meddle.ensures)

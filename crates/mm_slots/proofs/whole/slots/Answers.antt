@@ -22,4 +22,4 @@ returns-in-Ok-clause-plays g c =
 pub returns-clause-complete : goal.returns-clause-complete
 returns-clause-complete g c =
     unrefused (plays_err {R = SlotReport} (c.new-player.ensures ∙ ap AtHeading c.new.ensures) c.play.ensures.plays
-        c.in-Err.fault c.in-Err.is)
+    c.in-Err.fault c.in-Err.is)

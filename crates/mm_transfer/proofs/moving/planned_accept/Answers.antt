@@ -6,7 +6,7 @@ pub returns-in-Ok : goal.returns-in-Ok
 returns-in-Ok c =
     let meaning = meaning_of c.args.mover.now.header.module in
     moves_planned (λ (bytes : List ℕ). acceptance_in meaning c.args.mover.now.header.variant c.args.link.now c.args.ticket.now
-        (moved_cell_of bytes))
+    (moved_cell_of bytes))
     c.args.course.now.stop
     c.args.course.now.meddles.now
     c.args.platform.now c.plan.new.self c.accept-came.new.platform c.settle.new.platform c.is_broken.result c.accept-came.result

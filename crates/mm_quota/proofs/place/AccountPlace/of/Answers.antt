@@ -11,20 +11,20 @@ unreachable-requires c = Finding-given _ _ _ _ _ _ None c.accounts.invariant c.a
 pub returns-in-Equal : goal.returns-in-Equal
 returns-in-Equal c =
     let next = Finding-given _ _ _ _ _ _ (Some (front_account (c.in-Some.account, c.in-Some.others))) c.accounts.invariant
-        c.accounts-test.true
+    c.accounts-test.true
     c.in-Some.ensures in
     place-is _ _ _ _ _ (next.equal (sym c.in-Equal.ensures)) c.front_of.ensures
 
 pub returns-in-Less : goal.returns-in-Less
 returns-in-Less c =
     let next = Finding-given _ _ _ _ _ _ (Some (front_account (c.in-Some.account, c.in-Some.others))) c.accounts.invariant
-        c.accounts-test.true
+    c.accounts-test.true
     c.in-Some.ensures in
     place-is _ _ _ _ _ (next.less (sym c.in-Less.ensures)) c.front_of-in-Less.ensures
 
 pub accounts-preserved : goal.accounts-preserved
 accounts-preserved c =
     let next = Finding-given _ _ _ _ _ _ (Some (front_account (c.in-Some.account, c.in-Some.others))) c.accounts.invariant
-        c.accounts-test.true
+    c.accounts-test.true
     c.in-Some.ensures in
     next.greater (sym c.in-Greater.ensures)

@@ -6,7 +6,7 @@ use Rattle.mm_slots.proofs.stage.SlotsStage.follow.Goals as goal
 pub follow-requires-clause-inside : goal.follow-requires-clause-inside
 follow-requires-clause-inside c =
     rw c.as_mut_slice.ensures.value (subst (λ (r : SlotsState). IsInside (length r.rows) c.args.event) (sym c.self.view_is)
-        c.requires.inside)
+    c.requires.inside)
 
 pub follow-requires-clause-few : goal.follow-requires-clause-few
 follow-requires-clause-few c =

@@ -10,7 +10,7 @@ returns-clause-ok c =
 pub returns-clause-wants : goal.returns-clause-wants
 returns-clause-wants c =
     subst (λ (e : Event). OnErr c.follow.result (EventWantsMemory e c.args.self.now c.follow.new.self)) c.line_view.ensures
-        c.follow.ensures.wants
+    c.follow.ensures.wants
 
 pub returns-clause-few : goal.returns-clause-few
 returns-clause-few c = world_few c.args.self.now (event_in (meddles_of c.args.meddles.now) c.args.text)
