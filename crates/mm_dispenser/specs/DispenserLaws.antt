@@ -21,12 +21,12 @@ use Rattle.mm_module.specs.Words.{words_of}
 use Rattle.mm_dispenser.specs.Draws.{word_of, word_text, words_text}
 use Rattle.mm_dispenser.specs.Table.{request_of, outcome_of, text_of, seeded_state_of, state_of, spelling_of, outcome_of_bytes, is_state}
 use Rattle.mm_dispenser.specs.Table.{dispenser}
-use Rattle.mm_dispenser.specs.declared.dispenser.DispenserState.{DispenserState}
-use Rattle.mm_dispenser.specs.declared.dispenser.DispenserState.TheVariants.{Unset, Seeded}
-use Rattle.mm_dispenser.specs.declared.dispenser.DispenserRequest.{DispenserRequest}
-use Rattle.mm_dispenser.specs.declared.dispenser.DispenserRequest.TheVariants.{Seed, Draw}
-use Rattle.mm_dispenser.specs.declared.dispenser.DispenserOutput.{DispenserOutput}
-use Rattle.mm_dispenser.specs.declared.dispenser.DispenserOutput.TheVariants as says
+use Rattle.mm_dispenser.specs.declared.dispenser.State.{State}
+use Rattle.mm_dispenser.specs.declared.dispenser.State.TheVariants.{Unset, Seeded}
+use Rattle.mm_dispenser.specs.declared.dispenser.Request.{Request}
+use Rattle.mm_dispenser.specs.declared.dispenser.Request.TheVariants.{Seed, Draw}
+use Rattle.mm_dispenser.specs.declared.dispenser.Output.{Output}
+use Rattle.mm_dispenser.specs.declared.dispenser.Output.TheVariants as says
 
 -- a seed with a place
 pub record IsSeeded (seed : List ℕ) (place : ℕ) : Type 0 where
@@ -34,12 +34,12 @@ pub record IsSeeded (seed : List ℕ) (place : ℕ) : Type 0 where
   pub within : place ≤ last_position
 
 -- a state that can be spelled
-abbrev pub IsDispenserState : DispenserState → Type 0
+abbrev pub IsDispenserState : State → Type 0
 IsDispenserState Unset = Unit {0}
 IsDispenserState (Seeded seed place) = IsSeeded seed place
 
 -- a request that can be read
-abbrev IsDispenserRequest : Option DispenserRequest → Type 0
+abbrev IsDispenserRequest : Option Request → Type 0
 IsDispenserRequest (Some (Seed seed)) = IsValue seed
 IsDispenserRequest (Some (Draw count)) = count ≤ 16
 IsDispenserRequest None = Unit {0}
@@ -49,12 +49,12 @@ unfolding request_of
 request_of-IsDispenserRequest words = grind (arith, nat_tests, value_at-value)
 
 -- what is said, of at most 16 words
-abbrev pub SaysWords : DispenserOutput → Type 0
+abbrev pub SaysWords : Output → Type 0
 SaysWords (says.Words seed place count) = (place < 2 ^ 64) × (count ≤ 16)
 SaysWords _ = Unit {0}
 
 -- a state that can be spelled and what can be said
-pub outcome_of-IsOutcome : (state : DispenserState) (request : List ℕ) → IsDispenserState state
+pub outcome_of-IsOutcome : (state : State) (request : List ℕ) → IsDispenserState state
     → IsOutcome IsDispenserState SaysWords (outcome_of state (request_of (words_of request)))
 outcome_of-IsOutcome state request good =
     let asked = request_of-IsDispenserRequest (words_of request) in grind (arith, nat_tests)
@@ -73,25 +73,25 @@ seeded_state_of-joined seed place good =
       number_of_eight_bytes-eight place,
     )
 
-state_of-spelling_of : (state : DispenserState) → IsDispenserState state → state_of (spelling_of state) ≡ Some state
+state_of-spelling_of : (state : State) → IsDispenserState state → state_of (spelling_of state) ≡ Some state
 unfolding state_of
 state_of-spelling_of Unset good = refl
 state_of-spelling_of (Seeded [] place) good = absurd (omega (arith, good.formed.long))
 state_of-spelling_of (Seeded (x ∷ xs) place) good = seeded_state_of-joined (x ∷ xs) place good
 
 -- a spelled state is good, and has at most 41 bytes
-record IsRead (bytes : List ℕ) (state : DispenserState) : Type 0 where
+record IsRead (bytes : List ℕ) (state : State) : Type 0 where
   good : IsDispenserState state
   short : length bytes ≤ 41
   are : are_bytes bytes ≡ true
 
-seeded-read : (bytes : List ℕ) (state : DispenserState) → are_bytes bytes ≡ true
+seeded-read : (bytes : List ℕ) (state : State) → are_bytes bytes ≡ true
     → seeded_state_of bytes ≡ Some state → IsDispenserState state × (length bytes ≤ 40)
 seeded-read bytes state is read =
     let front = are_bytes-take 32 bytes is in grind (arith, nat_tests, length-take-le 32 bytes)
 
-formed-read : (formed : Bool) (read : Option DispenserState) (long : ℕ)
-    → ((state : DispenserState) → read ≡ Some state → IsDispenserState state × (long ≤ 40)) → is_some (if formed then read else None) ≡ true
+formed-read : (formed : Bool) (read : Option State) (long : ℕ)
+    → ((state : State) → read ≡ Some state → IsDispenserState state × (long ≤ 40)) → is_some (if formed then read else None) ≡ true
     → IsDispenserState (unwrap_or (if formed then read else None) Unset) × (long ≤ 40)
 formed-read true (Some state) long each is = each state refl
 formed-read true None long each is = cc
@@ -107,10 +107,10 @@ state-IsRead (form ∷ first ∷ rest) is =
     (λ state read. seeded-read (first ∷ rest) state (and-true (is_byte form) _ w.0).1 read) w.1 in
     record { good = r.0; short = omega (arith, r.1); are = w.0 }
 
-are_bytes-spelling_of : (state : DispenserState) → IsDispenserState state → are_bytes (spelling_of state) ≡ true
+are_bytes-spelling_of : (state : State) → IsDispenserState state → are_bytes (spelling_of state) ≡ true
 are_bytes-spelling_of state good = grind (arith, are_bytes-append, are_bytes-eight)
 
-is_state-spelling_of : (state : DispenserState) → IsDispenserState state → is_state (spelling_of state) ≡ true
+is_state-spelling_of : (state : State) → IsDispenserState state → is_state (spelling_of state) ≡ true
 unfolding is_state
 is_state-spelling_of state good = and-both _ _ (are_bytes-spelling_of state good) (ap is_some (state_of-spelling_of state good))
 
@@ -145,7 +145,7 @@ unbroken-words_text seed place (suc count) =
     (unbroken-words_text seed (place + 1) count)
 
 -- what is said has at most 170 bytes, with no LF
-text_of-IsText : (said : DispenserOutput) → SaysWords said → IsText 170 (text_of said)
+text_of-IsText : (said : Output) → SaysWords said → IsText 170 (text_of said)
 text_of-IsText said is =
     grind (
       arith,
@@ -157,7 +157,7 @@ text_of-IsText said is =
       unbroken-words_text,
     )
 
-abbrev pub dispenser_table : Table DispenserState
+abbrev pub dispenser_table : Table State
 dispenser_table = table_by Unset (λ bytes. unwrap_or (state_of bytes) Unset) spelling_of request_of outcome_of text_of
 
 pub dispenser_is_table : IsTable dispenser_table dispenser IsDispenserState 41 170
@@ -168,7 +168,7 @@ dispenser_is_table = record {
   reads = λ bytes is. (state-IsRead bytes is).good;
   spells = is_state-spelling_of;
   back = λ state good.
-      ap (λ (read : Option DispenserState). unwrap_or read Unset) (state_of-spelling_of state good);
+      ap (λ (read : Option State). unwrap_or read Unset) (state_of-spelling_of state good);
   next = λ bytes request. refl;
   says = λ bytes request. refl;
   stays = λ state request good. (outcome_of-IsOutcome state request good).state;

@@ -19,11 +19,11 @@ use Rattle.mm_dispenser.specs.Table.{request_of, outcome_of, text_of}
 use Rattle.mm_dispenser.specs.DispenserLaws.{IsDispenserState, SaysWords, outcome_of-IsOutcome, digits_at, dispenser_table}
 use Rattle.mm_dispenser.specs.DispenserLaws.{dispenser_is_table}
 use Rattle.mm_dispenser.specs.Places.{PlaceRange, told_places, places_at, PlacesRise, PlacesAreToldOnce}
-use Rattle.mm_dispenser.specs.declared.dispenser.DispenserState.{DispenserState}
-use Rattle.mm_dispenser.specs.declared.dispenser.DispenserState.TheVariants.{Unset, Seeded}
-use Rattle.mm_dispenser.specs.declared.dispenser.DispenserRequest.{DispenserRequest}
-use Rattle.mm_dispenser.specs.declared.dispenser.DispenserOutput.{DispenserOutput}
-use Rattle.mm_dispenser.specs.declared.dispenser.DispenserOutput.TheVariants as says
+use Rattle.mm_dispenser.specs.declared.dispenser.State.{State}
+use Rattle.mm_dispenser.specs.declared.dispenser.State.TheVariants.{Unset, Seeded}
+use Rattle.mm_dispenser.specs.declared.dispenser.Request.{Request}
+use Rattle.mm_dispenser.specs.declared.dispenser.Output.{Output}
+use Rattle.mm_dispenser.specs.declared.dispenser.Output.TheVariants as says
 
 -- no space in it, as a test
 abbrev is_whole : List ℕ → Bool
@@ -76,11 +76,11 @@ drawn-tells seed place count small =
     ) refl
 
 -- the places that are told
-abbrev told_of : DispenserOutput → Option PlaceRange
+abbrev told_of : Output → Option PlaceRange
 told_of (says.Words seed place count) = Some (record { from = place; size = count })
 told_of _ = None
 
-told-is : (said : DispenserOutput) → SaysWords said → told_places (text_of said) ≡ told_of said
+told-is : (said : Output) → SaysWords said → told_places (text_of said) ≡ told_of said
 unfolding decimal_number
 told-is (says.Words seed place count) is = drawn-tells seed place count is.0
 told-is says.Seeded is = refl
@@ -90,21 +90,21 @@ told-is says.Full is = refl
 told-is says.Bad is = refl
 
 -- what a request does at a state, and what is said
-abbrev after : DispenserState → List ℕ → DispenserState × List ℕ
+abbrev after : State → List ℕ → State × List ℕ
 after state request = dispenser_table.does state request
 
 -- the place of the next word
-abbrev next_place : DispenserState → ℕ
+abbrev next_place : State → ℕ
 next_place Unset = 0
 next_place (Seeded seed place) = place
 
 -- places that an outcome tells are those between the place before and the place after
-record Moves (place : ℕ) (outcome : DispenserState × DispenserOutput) : Type 0 where
+record Moves (place : ℕ) (outcome : State × Output) : Type 0 where
   rises : place ≤ next_place outcome.0
   tells : (p : PlaceRange) → told_of outcome.1 ≡ Some p
       → (p.from ≡ place) × (next_place outcome.0 ≡ p.from + p.size)
 
-moves_by : (state : DispenserState) (request : Option DispenserRequest) → Moves (next_place state) (outcome_of state request)
+moves_by : (state : State) (request : Option Request) → Moves (next_place state) (outcome_of state request)
 moves_by state request = record { rises = grind arith; tells = λ p is. grind arith }
 
 record MovesOn (place next : ℕ) (output : List ℕ) : Type 0 where
@@ -112,7 +112,7 @@ record MovesOn (place next : ℕ) (output : List ℕ) : Type 0 where
   tells : (p : PlaceRange) → told_places output ≡ Some p
       → (p.from ≡ place) × (next ≡ p.from + p.size)
 
-moves : (state : DispenserState) (request : List ℕ) → IsDispenserState state
+moves : (state : State) (request : List ℕ) → IsDispenserState state
     → MovesOn (next_place state) (next_place (after state request).0) (after state request).1
 moves state request good =
     let m = moves_by state (request_of (words_of request)) in
@@ -120,7 +120,7 @@ moves state request good =
     record { rises = m.rises; tells = λ p is. m.tells p (sym (told-is _ said) ∙ is) }
 
 -- places that are told later begin at or behind the place of now
-from_here : (j : ℕ) (state : DispenserState) (requests : List (List ℕ)) → IsDispenserState state → (q : PlaceRange)
+from_here : (j : ℕ) (state : State) (requests : List (List ℕ)) → IsDispenserState state → (q : PlaceRange)
     → places_at (outputs_by dispenser_table state requests) j ≡ Some q → next_place state ≤ q.from
 from_here j state [] good q is = cc
 from_here zero state (request ∷ requests) good q is =
@@ -134,7 +134,7 @@ from_here (suc j) state (request ∷ requests) good q is =
           (dispenser_is_table.stays state request good) q is,
     )
 
-rises-by : (i j : ℕ) (state : DispenserState) (requests : List (List ℕ)) → IsDispenserState state → (p q : PlaceRange) → i < j
+rises-by : (i j : ℕ) (state : State) (requests : List (List ℕ)) → IsDispenserState state → (p q : PlaceRange) → i < j
     → places_at (outputs_by dispenser_table state requests) i ≡ Some p → places_at (outputs_by dispenser_table state requests) j ≡ Some q
     → p.from + p.size ≤ q.from
 rises-by i j state [] good p q before one two = cc

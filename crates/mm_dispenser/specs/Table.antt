@@ -11,19 +11,19 @@ use Rattle.mm_module.specs.Numbers.{number_of_eight_bytes}
 use Rattle.mm_module.specs.Values.{value_at}
 use Rattle.mm_module.specs.Words.{words_of}
 use Rattle.mm_dispenser.specs.Draws.{text_of_draw}
-use Rattle.mm_dispenser.specs.declared.dispenser.DispenserState.{DispenserState}
-use Rattle.mm_dispenser.specs.declared.dispenser.DispenserState.TheVariants.{Unset, Seeded}
-use Rattle.mm_dispenser.specs.declared.dispenser.DispenserRequest.{DispenserRequest}
-use Rattle.mm_dispenser.specs.declared.dispenser.DispenserRequest.TheVariants.{Seed, Draw}
-use Rattle.mm_dispenser.specs.declared.dispenser.DispenserOutput.{DispenserOutput}
-use Rattle.mm_dispenser.specs.declared.dispenser.DispenserOutput.TheVariants as says
+use Rattle.mm_dispenser.specs.declared.dispenser.State.{State}
+use Rattle.mm_dispenser.specs.declared.dispenser.State.TheVariants.{Unset, Seeded}
+use Rattle.mm_dispenser.specs.declared.dispenser.Request.{Request}
+use Rattle.mm_dispenser.specs.declared.dispenser.Request.TheVariants.{Seed, Draw}
+use Rattle.mm_dispenser.specs.declared.dispenser.Output.{Output}
+use Rattle.mm_dispenser.specs.declared.dispenser.Output.TheVariants as says
 
 -- a draw of this many words, where there are 1 to 16
-abbrev pub draw_of : ℕ → Option DispenserRequest
+abbrev pub draw_of : ℕ → Option Request
 draw_of number = if nat_le 1 number && nat_le number 16 then Some (Draw number) else None
 
 -- the request that these words are: `seed HEX`, or `draw N`
-unfoldable pub request_of : List (List ℕ) → Option DispenserRequest
+unfoldable pub request_of : List (List ℕ) → Option Request
 request_of (word ∷ argument ∷ []) =
     if bytes_eq word (codes "seed") then option_map (λ seed. Seed seed) (value_at argument)
     else (if bytes_eq word (codes "draw") then option_and_then draw_of (decimal_number argument)
@@ -31,14 +31,14 @@ request_of (word ∷ argument ∷ []) =
 request_of _ = None
 
 -- what a draw does to a seed and a place: there are 2^48 places
-abbrev pub outcome_of_draw : List ℕ → ℕ → ℕ → DispenserState × DispenserOutput
+abbrev pub outcome_of_draw : List ℕ → ℕ → ℕ → State × Output
 outcome_of_draw seed place count =
     if nat_le (place + count) last_position
     then (Seeded seed (place + count), says.Words seed place count)
     else (Seeded seed place, says.Full)
 
 -- what a request does, and what is said
-abbrev pub outcome_of : DispenserState → Option DispenserRequest → DispenserState × DispenserOutput
+abbrev pub outcome_of : State → Option Request → State × Output
 outcome_of Unset (Some (Seed seed)) = (Seeded seed 0, says.Seeded)
 outcome_of (Seeded seed place) (Some (Seed other)) = (Seeded seed place, says.Taken)
 outcome_of Unset (Some (Draw count)) = (Unset, says.Unset)
@@ -46,7 +46,7 @@ outcome_of (Seeded seed place) (Some (Draw count)) = outcome_of_draw seed place 
 outcome_of state None = (state, says.Bad)
 
 -- the text of what is said
-abbrev pub text_of : DispenserOutput → List ℕ
+abbrev pub text_of : Output → List ℕ
 text_of says.Seeded = codes "seeded"
 text_of says.Taken = codes "taken"
 text_of says.Unset = codes "unset"
@@ -55,7 +55,7 @@ text_of (says.Words seed place count) = text_of_draw seed place count
 text_of says.Bad = codes "bad"
 
 -- words that are told stand at places that there are
-abbrev pub IsDrawn : DispenserOutput → Type 0
+abbrev pub IsDrawn : Output → Type 0
 IsDrawn says.Seeded = Unit {0}
 IsDrawn says.Taken = Unit {0}
 IsDrawn says.Unset = Unit {0}
@@ -64,28 +64,28 @@ IsDrawn (says.Words seed place count) = place + count ≤ last_position
 IsDrawn says.Bad = Unit {0}
 
 -- a seed with a place, where there is such a place
-abbrev pub state_at_place : List ℕ → ℕ → Option DispenserState
+abbrev pub state_at_place : List ℕ → ℕ → Option State
 state_at_place seed place = if nat_le place last_position then Some (Seeded seed place) else None
 
 -- a seed and the 8 bytes of a place
-abbrev pub seeded_state_of : List ℕ → Option DispenserState
+abbrev pub seeded_state_of : List ℕ → Option State
 seeded_state_of bytes =
     if length bytes == 40 then state_at_place (take 32 bytes)
     (number_of_eight_bytes (drop 32 bytes)) else None
 
 -- the state that these bytes spell
-unfoldable pub state_of : List ℕ → Option DispenserState
+unfoldable pub state_of : List ℕ → Option State
 state_of [] = None
 state_of (form ∷ []) = if form == 0 then Some Unset else None
 state_of (form ∷ first ∷ rest) = if form == 1 then seeded_state_of (first ∷ rest) else None
 
 -- the bytes of a state
-abbrev pub spelling_of : DispenserState → List ℕ
+abbrev pub spelling_of : State → List ℕ
 spelling_of Unset = 0 ∷ []
 spelling_of (Seeded seed place) = 1 ∷ (seed ++ eight_bytes place)
 
 -- what a request does to a spelled state
-unfoldable pub outcome_of_bytes : List ℕ → List ℕ → DispenserState × DispenserOutput
+unfoldable pub outcome_of_bytes : List ℕ → List ℕ → State × Output
 outcome_of_bytes state request =
     outcome_of (unwrap_or (state_of state) Unset) (request_of (words_of request))
 

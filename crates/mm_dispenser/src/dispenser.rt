@@ -22,21 +22,21 @@ pub struct Dispenser;
 
 /// What a dispenser keeps.
 #[derive(Clone, Copy)]
-enum DispenserState {
+enum State {
     Unset,
     Seeded { seed: [u8; 32], place: u64 },
 }
 
 /// A request to a dispenser.
 #[derive(Clone, Copy)]
-enum DispenserRequest {
+enum Request {
     Seed([u8; 32]),
     Draw(u8),
 }
 
 /// What a dispenser says.
 #[derive(Clone, Copy)]
-enum DispenserOutput {
+enum Output {
     Seeded,
     Taken,
     Unset,
@@ -50,11 +50,11 @@ enum DispenserOutput {
 }
 
 /// The request for this many words, where they are 1 to 16.
-fn drawing(number: u64) -> Option<DispenserRequest>
+fn drawing(number: u64) -> Option<Request>
     ensures { result ≡ draw_of number }
 {
     if 1 <= number && number <= 16 {
-        Some(DispenserRequest::Draw(number as u8))
+        Some(Request::Draw(number as u8))
     } else {
         None
     }
@@ -62,20 +62,18 @@ fn drawing(number: u64) -> Option<DispenserRequest>
 
 /// The request that these bytes are, where they are one.
 #[tactic(auto, unfolding(crate::specs::Table::request_of))]
-fn read_request(bytes: &[u8]) -> Option<DispenserRequest>
+fn read_request(bytes: &[u8]) -> Option<Request>
     ensures { result ≡ request_of (words_of bytes.now) }
 {
     match Words::of(bytes) {
-        Words::Two(word, seed) if word == b"seed".as_slice() => value_in(seed).map(
-            DispenserRequest::Seed,
-        ),
+        Words::Two(word, seed) if word == b"seed".as_slice() => value_in(seed).map(Request::Seed),
         Words::Two(word, number) if word == b"draw".as_slice() => drawing(read_decimal(number)?),
         _ => None,
     }
 }
 
 /// The state of a seed and a place, where there is such a place.
-fn seeded(bytes: &[u8], place: u64) -> Option<DispenserState>
+fn seeded(bytes: &[u8], place: u64) -> Option<State>
     requires { length bytes.now ≡ 32 }
     ensures { result ≡ state_at_place bytes.now place }
 {
@@ -84,11 +82,11 @@ fn seeded(bytes: &[u8], place: u64) -> Option<DispenserState>
     }
     let mut seed = [0; 32];
     seed.copy_from_slice(bytes);
-    Some(DispenserState::Seeded { seed, place })
+    Some(State::Seeded { seed, place })
 }
 
 /// The state of these bytes, where they are a seed and a place.
-fn read_seeded(bytes: &[u8]) -> Option<DispenserState>
+fn read_seeded(bytes: &[u8]) -> Option<State>
     ensures { result ≡ seeded_state_of bytes.now }
 {
     if bytes.len() != 40 {
@@ -100,80 +98,66 @@ fn read_seeded(bytes: &[u8]) -> Option<DispenserState>
 
 /// The state that these bytes spell, where they spell one.
 #[tactic(auto, unfolding(crate::specs::Table::state_of))]
-fn read_state(bytes: &[u8]) -> Option<DispenserState>
+fn read_state(bytes: &[u8]) -> Option<State>
     ensures { result ≡ state_of bytes.now }
 {
     match bytes {
-        [0] => Some(DispenserState::Unset),
+        [0] => Some(State::Unset),
         [1, _, ..] => read_seeded(&bytes[1..]),
         _ => None,
     }
 }
 
 /// What a draw does to a seeded state.
-fn drawn(seed: [u8; 32], place: u64, count: u8) -> (DispenserState, DispenserOutput)
+fn drawn(seed: [u8; 32], place: u64, count: u8) -> (State, Output)
     ensures { result ≡ outcome_of_draw seed place count }
 {
     match place.checked_add(u64::from(count)) {
         Some(next) if next <= LAST_POSITION => {
-            let state = DispenserState::Seeded { seed, place: next };
-            (state, DispenserOutput::Words { seed, place, count })
+            let state = State::Seeded { seed, place: next };
+            (state, Output::Words { seed, place, count })
         }
-        _ => (
-            DispenserState::Seeded { seed, place },
-            DispenserOutput::Full,
-        ),
+        _ => (State::Seeded { seed, place }, Output::Full),
     }
 }
 
 /// What a request does, and what is said.
-fn outcome(
-    state: DispenserState,
-    request: Option<DispenserRequest>,
-) -> (DispenserState, DispenserOutput)
+fn outcome(state: State, request: Option<Request>) -> (State, Output)
     ensures { result ≡ outcome_of state request }
 {
     let Some(request) = request else {
-        return (state, DispenserOutput::Bad);
+        return (state, Output::Bad);
     };
     match (state, request) {
-        (DispenserState::Unset, DispenserRequest::Seed(seed)) => (
-            DispenserState::Seeded { seed, place: 0 },
-            DispenserOutput::Seeded,
-        ),
-        (DispenserState::Unset, DispenserRequest::Draw(_)) => (state, DispenserOutput::Unset),
-        (DispenserState::Seeded { .. }, DispenserRequest::Seed(_)) => (
-            state,
-            DispenserOutput::Taken,
-        ),
-        (DispenserState::Seeded { seed, place }, DispenserRequest::Draw(count)) => drawn(
-            seed, place, count,
-        ),
+        (State::Unset, Request::Seed(seed)) => (State::Seeded { seed, place: 0 }, Output::Seeded),
+        (State::Unset, Request::Draw(_)) => (state, Output::Unset),
+        (State::Seeded { .. }, Request::Seed(_)) => (state, Output::Taken),
+        (State::Seeded { seed, place }, Request::Draw(count)) => drawn(seed, place, count),
     }
 }
 
 /// The text of what is said.
-fn text(alloc: Global, says: DispenserOutput) -> Result<Bytes, Memory>
+fn text(alloc: Global, says: Output) -> Result<Bytes, Memory>
     requires { IsDrawn says }
     ensures { IfOk result (λ text. text ≡ text_of says) }
 {
     match says {
-        DispenserOutput::Seeded => Bytes::copy_of(alloc, b"seeded"),
-        DispenserOutput::Taken => Bytes::copy_of(alloc, b"taken"),
-        DispenserOutput::Unset => Bytes::copy_of(alloc, b"unset"),
-        DispenserOutput::Full => Bytes::copy_of(alloc, b"full"),
-        DispenserOutput::Words { seed, place, count } => draw(alloc, &seed, place, count),
-        DispenserOutput::Bad => Bytes::copy_of(alloc, b"bad"),
+        Output::Seeded => Bytes::copy_of(alloc, b"seeded"),
+        Output::Taken => Bytes::copy_of(alloc, b"taken"),
+        Output::Unset => Bytes::copy_of(alloc, b"unset"),
+        Output::Full => Bytes::copy_of(alloc, b"full"),
+        Output::Words { seed, place, count } => draw(alloc, &seed, place, count),
+        Output::Bad => Bytes::copy_of(alloc, b"bad"),
     }
 }
 
 /// The bytes of a state.
-fn spelled(alloc: Global, state: DispenserState) -> Result<Bytes, Memory>
+fn spelled(alloc: Global, state: State) -> Result<Bytes, Memory>
     ensures { IfOk result (λ bytes. bytes ≡ spelling_of state) }
 {
     match state {
-        DispenserState::Unset => Bytes::copy_of(alloc, &[0]),
-        DispenserState::Seeded { seed, place } => {
+        State::Unset => Bytes::copy_of(alloc, &[0]),
+        State::Seeded { seed, place } => {
             let mut bytes = Bytes::with_capacity(alloc, 41)?;
             bytes.push(1)?;
             bytes.append(&seed)?;
@@ -202,7 +186,7 @@ impl Module for Dispenser {
     }
 
     fn step(&self, alloc: Global, state: &[u8], request: &[u8]) -> Result<Stepped, Memory> {
-        let state = read_state(state).unwrap_or(DispenserState::Unset);
+        let state = read_state(state).unwrap_or(State::Unset);
         let (state, says) = outcome(state, read_request(request));
         Ok(Stepped {
             state: spelled(alloc, state)?,

@@ -1,22 +1,22 @@
 -- The values of the code as those of the table.
 use Rattle.mm_limiter.specs.Table as table
-use Rattle.mm_limiter.specs.declared.limiter.LimiterState.{LimiterState}
-use Rattle.mm_limiter.specs.declared.limiter.LimiterState.TheVariants as state
-use Rattle.mm_limiter.specs.declared.limiter.LimiterRequest.{LimiterRequest}
-use Rattle.mm_limiter.specs.declared.limiter.LimiterRequest.TheVariants as request
-use Rattle.mm_limiter.specs.declared.limiter.LimiterOutput.{LimiterOutput}
-use Rattle.mm_limiter.specs.declared.limiter.LimiterOutput.TheVariants as says
+use Rattle.mm_limiter.specs.declared.limiter.State.{State}
+use Rattle.mm_limiter.specs.declared.limiter.State.TheVariants as state
+use Rattle.mm_limiter.specs.declared.limiter.Request.{Request}
+use Rattle.mm_limiter.specs.declared.limiter.Request.TheVariants as request
+use Rattle.mm_limiter.specs.declared.limiter.Output.{Output}
+use Rattle.mm_limiter.specs.declared.limiter.Output.TheVariants as says
 
-abbrev pub as_state : LimiterState → table.TableState
+abbrev pub as_state : State → table.TableState
 as_state state.Unset = table.Unset
 as_state (state.Guarded tries left secret) = table.Guarded tries left secret.now
 
-abbrev pub as_request : LimiterRequest → table.TableRequest
+abbrev pub as_request : Request → table.TableRequest
 as_request (request.Guard secret tries) = table.Guard secret.now tries
 as_request (request.Guess secret) = table.Guess secret.now
 as_request request.Left = table.Left
 
-abbrev pub as_says : LimiterOutput → table.TableOutput
+abbrev pub as_says : Output → table.TableOutput
 as_says says.Set = table.IsSet
 as_says says.Taken = table.IsTaken
 as_says says.Unset = table.IsUnset

@@ -20,7 +20,7 @@ pub struct Limiter;
 
 /// What a limiter keeps.
 #[derive(Clone, Copy)]
-enum LimiterState<'a> {
+enum State<'a> {
     Unset,
     Guarded {
         tries: u8,
@@ -31,7 +31,7 @@ enum LimiterState<'a> {
 
 /// A request to a limiter.
 #[derive(Clone, Copy)]
-enum LimiterRequest<'a> {
+enum Request<'a> {
     Guard { secret: &'a [u8], tries: u8 },
     Guess(&'a [u8]),
     Left,
@@ -39,7 +39,7 @@ enum LimiterRequest<'a> {
 
 /// What a limiter says.
 #[derive(Clone, Copy, PartialEq, Eq)]
-enum LimiterOutput {
+enum Output {
     Set,
     Taken,
     Unset,
@@ -71,18 +71,18 @@ fn tries_of(number: u64) -> Option<u8>
 
 /// The request that these bytes are, where they are one.
 #[tactic(auto, unfolding(crate::specs::Table::request_of))]
-fn read_request(bytes: &[u8]) -> Option<LimiterRequest<'_>>
+fn read_request(bytes: &[u8]) -> Option<Request<'_>>
     ensures { option_map as_request result ≡ request_of (words_of bytes.now) }
 {
     match Words::of(bytes) {
-        Words::One(word) if word == b"left".as_slice() => Some(LimiterRequest::Left),
+        Words::One(word) if word == b"left".as_slice() => Some(Request::Left),
         Words::Two(word, secret) if word == b"guess".as_slice() && secret_is_formed(secret) => {
-            Some(LimiterRequest::Guess(secret))
+            Some(Request::Guess(secret))
         }
         Words::Three(word, secret, number)
             if word == b"set".as_slice() && secret_is_formed(secret) => {
             let tries = tries_of(read_decimal(number)?)?;
-            Some(LimiterRequest::Guard { secret, tries })
+            Some(Request::Guard { secret, tries })
         }
         _ => None,
     }
@@ -102,13 +102,13 @@ fn guard_is_formed(tries: u8, left: u8, count: u8, secret: &[u8]) -> bool
 
 /// The state that these bytes spell, where they spell one.
 #[tactic(auto, unfolding(crate::specs::Table::state_of))]
-fn read_state(bytes: &[u8]) -> Option<LimiterState<'_>>
+fn read_state(bytes: &[u8]) -> Option<State<'_>>
     ensures { option_map as_state result ≡ state_of bytes.now }
 {
     match bytes {
-        [0] => Some(LimiterState::Unset),
+        [0] => Some(State::Unset),
         [1, tries, left, count, secret @ ..] if guard_is_formed(*tries, *left, *count, secret) => {
-            Some(LimiterState::Guarded {
+            Some(State::Guarded {
                 tries: *tries,
                 left: *left,
                 secret,
@@ -119,90 +119,78 @@ fn read_state(bytes: &[u8]) -> Option<LimiterState<'_>>
 }
 
 /// What a request does, and what is said.
-fn outcome<'a>(
-    state: LimiterState<'a>,
-    request: Option<LimiterRequest<'a>>,
-) -> (LimiterState<'a>, LimiterOutput)
+fn outcome<'a>(state: State<'a>, request: Option<Request<'a>>) -> (State<'a>, Output)
     ensures { (as_state result.0, as_says result.1)
         ≡ outcome_of (as_state state.entry) (option_map as_request request.entry) }
 {
     let Some(request) = request else {
-        return (state, LimiterOutput::Bad);
+        return (state, Output::Bad);
     };
     match (state, request) {
-        (LimiterState::Unset, LimiterRequest::Guard { secret, tries }) => {
-            let set = LimiterState::Guarded {
+        (State::Unset, Request::Guard { secret, tries }) => {
+            let set = State::Guarded {
                 tries,
                 left: tries,
                 secret,
             };
-            (set, LimiterOutput::Set)
+            (set, Output::Set)
         }
-        (LimiterState::Unset, _) => (state, LimiterOutput::Unset),
-        (LimiterState::Guarded { .. }, LimiterRequest::Guard { .. }) => (
-            state,
-            LimiterOutput::Taken,
-        ),
-        (LimiterState::Guarded { left, .. }, LimiterRequest::Left) => (
-            state,
-            LimiterOutput::Left(left),
-        ),
-        (LimiterState::Guarded { left: 0, .. }, LimiterRequest::Guess(_)) => (
-            state,
-            LimiterOutput::Locked,
-        ),
+        (State::Unset, _) => (state, Output::Unset),
+        (State::Guarded { .. }, Request::Guard { .. }) => (state, Output::Taken),
+        (State::Guarded { left, .. }, Request::Left) => (state, Output::Left(left)),
+        (State::Guarded { left: 0, .. }, Request::Guess(_)) => (state, Output::Locked),
         (
-            LimiterState::Guarded {
+            State::Guarded {
                 tries,
                 left,
                 secret,
             },
-            LimiterRequest::Guess(guess),
+            Request::Guess(guess),
         ) => {
             if guess == secret {
-                let open = LimiterState::Guarded {
+                let open = State::Guarded {
                     tries,
                     left: tries,
                     secret,
                 };
-                (open, LimiterOutput::Open)
+                (open, Output::Open)
             } else {
                 let left = left - 1;
-                let wrong = LimiterState::Guarded {
+                let wrong = State::Guarded {
                     tries,
                     left,
                     secret,
                 };
-                (wrong, LimiterOutput::Wrong(left))
+                (wrong, Output::Wrong(left))
             }
         }
     }
 }
 
 /// The text of what is said.
-fn text(alloc: Global, says: LimiterOutput) -> Result<Bytes, Memory>
+fn text(alloc: Global, says: Output) -> Result<Bytes, Memory>
     ensures { IfOk result (λ text. text ≡ text_of (as_says says)) }
 {
     match says {
-        LimiterOutput::Set => Bytes::copy_of(alloc, b"set"),
-        LimiterOutput::Taken => Bytes::copy_of(alloc, b"taken"),
-        LimiterOutput::Unset => Bytes::copy_of(alloc, b"unset"),
-        LimiterOutput::Locked => Bytes::copy_of(alloc, b"locked"),
-        LimiterOutput::Open => Bytes::copy_of(alloc, b"open"),
-        LimiterOutput::Wrong(left) => text_and_number(alloc, b"wrong ", u64::from(left)),
-        LimiterOutput::Left(left) => text_and_number(alloc, b"left ", u64::from(left)),
-        LimiterOutput::Bad => Bytes::copy_of(alloc, b"bad"),
+        Output::Set => Bytes::copy_of(alloc, b"set"),
+        Output::Taken => Bytes::copy_of(alloc, b"taken"),
+        Output::Unset => Bytes::copy_of(alloc, b"unset"),
+        Output::Locked => Bytes::copy_of(alloc, b"locked"),
+        Output::Open => Bytes::copy_of(alloc, b"open"),
+        Output::Wrong(left) => text_and_number(alloc, b"wrong ", u64::from(left)),
+        Output::Left(left) => text_and_number(alloc, b"left ", u64::from(left)),
+        Output::Bad => Bytes::copy_of(alloc, b"bad"),
     }
 }
 
 /// The bytes of a state.
-fn spelled(alloc: Global, state: LimiterState<'_>) -> Result<Bytes, Memory>
+fn spelled(alloc: Global, state: State<'_>) -> Result<Bytes, Memory>
     requires { IsShortSecret (as_state state) }
     ensures { IfOk result (λ bytes. bytes ≡ spelling_of (as_state state.entry)) }
 {
     match state {
-        LimiterState::Unset => Bytes::copy_of(alloc, &[0]),
-        LimiterState::Guarded {
+        State::Unset => Bytes::copy_of(alloc, &[0]),
+        State::Guarded {
             tries,
             left,
             secret,
@@ -233,7 +221,7 @@ impl Module for Limiter {
     }
 
     fn step(&self, alloc: Global, state: &[u8], request: &[u8]) -> Result<Stepped, Memory> {
-        let state = read_state(state).unwrap_or(LimiterState::Unset);
+        let state = read_state(state).unwrap_or(State::Unset);
         let (state, says) = outcome(state, read_request(request));
         Ok(Stepped {
             state: spelled(alloc, state)?,

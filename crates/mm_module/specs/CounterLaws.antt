@@ -8,8 +8,8 @@ use Rattle.mm_module.specs.Bytes.{are_bytes}
 use Rattle.mm_module.specs.Numbers.{number_of_eight_bytes}
 use Rattle.mm_module.specs.PartLaws.{number_of_eight_bytes-eight}
 use Rattle.mm_module.specs.Words.{words_of}
-use Rattle.mm_module.specs.declared.counter.CounterOutput.{CounterOutput}
-use Rattle.mm_module.specs.declared.counter.CounterOutput.TheVariants.{Value}
+use Rattle.mm_module.specs.declared.counter.Output.{Output}
+use Rattle.mm_module.specs.declared.counter.Output.TheVariants.{Value}
 use Rattle.mm_module.specs.Meaning.{IsLawful, IsShort}
 use Rattle.mm_module.specs.TableLaws.{IsTable, IsOutcome, table_by, table_is_lawful, table_is_short}
 use Rattle.mm_module.specs.CounterTable.{counter, outcome_of_bytes, is_state, request_of, outcome_of, text_of}
@@ -47,12 +47,12 @@ unfolding is_state eight_bytes
 is_state-eight value = simp is_byte-rem
 
 -- what is said of 64 bits
-abbrev Says64 : CounterOutput → Type 0
+abbrev Says64 : Output → Type 0
 Says64 (Value value) = value < 2 ^ 64
 Says64 _ = Unit {0}
 
 -- its text is at most 20 bytes, with no LF
-text_of-IsText : (says : CounterOutput) → Says64 says → IsText 20 (text_of says)
+text_of-IsText : (says : Output) → Says64 says → IsText 20 (text_of says)
 text_of-IsText says small = grind (arith, length-decimal, is_unbroken-decimal)
 
 outcome_of-64 : (value : ℕ) (request : List ℕ) → value < 2 ^ 64

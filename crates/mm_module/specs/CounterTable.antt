@@ -9,20 +9,20 @@ use Rattle.mm_module.specs.Bytes.{are_bytes}
 use Rattle.mm_module.specs.Numbers.{number_of_eight_bytes}
 use Rattle.mm_module.specs.Words.{words_of}
 use Rattle.mm_module.specs.Meaning.{Meaning}
-use Rattle.mm_module.specs.declared.counter.CounterRequest.{CounterRequest}
-use Rattle.mm_module.specs.declared.counter.CounterRequest.TheVariants.{Read, Add}
-use Rattle.mm_module.specs.declared.counter.CounterOutput.{CounterOutput}
-use Rattle.mm_module.specs.declared.counter.CounterOutput.TheVariants.{Value, Full, Bad}
+use Rattle.mm_module.specs.declared.counter.Request.{Request}
+use Rattle.mm_module.specs.declared.counter.Request.TheVariants.{Read, Add}
+use Rattle.mm_module.specs.declared.counter.Output.{Output}
+use Rattle.mm_module.specs.declared.counter.Output.TheVariants.{Value, Full, Bad}
 
 -- the request that these words are: `read`, or `add N`
-abbrev pub request_of : List (List ℕ) → Option CounterRequest
+abbrev pub request_of : List (List ℕ) → Option Request
 request_of (word ∷ []) = if bytes_eq word (codes "read") then Some Read else None
 request_of (word ∷ number ∷ []) =
     if bytes_eq word (codes "add") then option_map (λ n. Add n) (decimal_number number) else None
 request_of _ = None
 
 -- the value after a request, and what the counter says
-abbrev pub outcome_of : ℕ → Option CounterRequest → ℕ × CounterOutput
+abbrev pub outcome_of : ℕ → Option Request → ℕ × Output
 outcome_of value (Some Read) = (value, Value value)
 outcome_of value (Some (Add number)) =
     if nat_lt (value + number) (2 ^ 64) then (value + number, Value (value + number))
@@ -30,13 +30,13 @@ outcome_of value (Some (Add number)) =
 outcome_of value None = (value, Bad)
 
 -- the text of what is said
-abbrev pub text_of : CounterOutput → List ℕ
+abbrev pub text_of : Output → List ℕ
 text_of (Value value) = decimal value
 text_of Full = codes "full"
 text_of Bad = codes "bad"
 
 -- what a request does to a state
-unfoldable pub outcome_of_bytes : List ℕ → List ℕ → ℕ × CounterOutput
+unfoldable pub outcome_of_bytes : List ℕ → List ℕ → ℕ × Output
 outcome_of_bytes state request = outcome_of (number_of_eight_bytes state)
     (request_of (words_of request))
 

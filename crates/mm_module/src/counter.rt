@@ -20,58 +20,58 @@ pub struct Counter;
 
 /// A request to a counter.
 #[derive(Clone, Copy, Debug, PartialEq, Eq)]
-enum CounterRequest {
+enum Request {
     Read,
     Add(u64),
 }
 
 /// What a counter says.
 #[derive(Clone, Copy, Debug, PartialEq, Eq)]
-enum CounterOutput {
+enum Output {
     Value(u64),
     Full,
     Bad,
 }
 
 /// The request that these bytes are, where they are one.
-fn read_request(bytes: &[u8]) -> Option<CounterRequest>
+fn read_request(bytes: &[u8]) -> Option<Request>
     ensures { result ≡ request_of (words_of bytes.now) }
 {
     match Words::of(bytes) {
-        Words::One(word) if word == b"read".as_slice() => Some(CounterRequest::Read),
+        Words::One(word) if word == b"read".as_slice() => Some(Request::Read),
         Words::Two(word, number) if word == b"add".as_slice() => read_decimal(number).map(
-            CounterRequest::Add,
+            Request::Add,
         ),
         _ => None,
     }
 }
 
 /// The value after a request, and what the counter says.
-fn outcome(value: u64, request: Option<CounterRequest>) -> (u64, CounterOutput)
+fn outcome(value: u64, request: Option<Request>) -> (u64, Output)
     ensures { result ≡ outcome_of value request }
 {
     match request {
-        Some(CounterRequest::Read) => (value, CounterOutput::Value(value)),
-        Some(CounterRequest::Add(number)) => match value.checked_add(number) {
-            Some(sum) => (sum, CounterOutput::Value(sum)),
-            None => (value, CounterOutput::Full),
+        Some(Request::Read) => (value, Output::Value(value)),
+        Some(Request::Add(number)) => match value.checked_add(number) {
+            Some(sum) => (sum, Output::Value(sum)),
+            None => (value, Output::Full),
         },
-        None => (value, CounterOutput::Bad),
+        None => (value, Output::Bad),
     }
 }
 
 /// The text of what is said.
-fn text(alloc: Global, says: CounterOutput) -> Result<Bytes, Memory>
+fn text(alloc: Global, says: Output) -> Result<Bytes, Memory>
     ensures { IfOk result (λ text. text ≡ text_of says) }
 {
     match says {
-        CounterOutput::Value(value) => {
+        Output::Value(value) => {
             let mut text = Bytes::new(alloc);
             put_decimal(&mut text, value)?;
             Ok(text)
         }
-        CounterOutput::Full => Bytes::copy_of(alloc, b"full"),
-        CounterOutput::Bad => Bytes::copy_of(alloc, b"bad"),
+        Output::Full => Bytes::copy_of(alloc, b"full"),
+        Output::Bad => Bytes::copy_of(alloc, b"bad"),
     }
 }
 

@@ -5,10 +5,10 @@ use Rattle.mm_quota.specs.Table as table
 use Rattle.mm_quota.specs.declared.account.Account.{Account}
 use Rattle.mm_quota.specs.declared.request.QuotaAction.{QuotaAction}
 use Rattle.mm_quota.specs.declared.request.QuotaAction.TheVariants as action
-use Rattle.mm_quota.specs.declared.request.QuotaRequest.{QuotaRequest}
-use Rattle.mm_quota.specs.declared.request.QuotaRequest.TheVariants as request
-use Rattle.mm_quota.specs.declared.request.QuotaOutput.{QuotaOutput}
-use Rattle.mm_quota.specs.declared.request.QuotaOutput.TheVariants as says
+use Rattle.mm_quota.specs.declared.request.Request.{Request}
+use Rattle.mm_quota.specs.declared.request.Request.TheVariants as request
+use Rattle.mm_quota.specs.declared.request.Output.{Output}
+use Rattle.mm_quota.specs.declared.request.Output.TheVariants as says
 
 abbrev pub as_account : Account → table.LedgerAccount
 as_account account = record { name = account.name.now; limit = account.limit; used = account.used }
@@ -22,11 +22,11 @@ as_action (action.Use number) = table.Use number
 as_action (action.Free number) = table.Free number
 as_action action.Left = table.Left
 
-abbrev pub as_request : QuotaRequest → table.LedgerRequest
+abbrev pub as_request : Request → table.LedgerRequest
 as_request request.Sum = table.Sum
 as_request (request.On name action) = table.On name.now (as_action action)
 
-abbrev pub as_says : QuotaOutput → table.LedgerOutput
+abbrev pub as_says : Output → table.LedgerOutput
 as_says says.Opened = table.IsOpened
 as_says says.Exists = table.IsThere
 as_says says.Full = table.IsFull

@@ -10,7 +10,7 @@ ghost use Rattle.mm_quota.specs.Ids.{small_ledger, small_ledger_is_lawful, small
 
 use crate::account::{Account, put_account};
 use crate::place::{AccountPlace, parts, state_is_spelled, sum_of};
-use crate::request::{QuotaAction, QuotaOutput, QuotaRequest, decision, read_request, text};
+use crate::request::{Output, QuotaAction, Request, decision, read_request, text};
 use mm_base::{Bytes, Memory};
 use mm_module::{Module, Short, Stepped};
 use std::alloc::Global;
@@ -58,7 +58,7 @@ fn with_account(
 }
 
 /// The same state, and what is said.
-fn told(alloc: Global, state: &[u8], says: QuotaOutput) -> Result<Stepped, Memory>
+fn told(alloc: Global, state: &[u8], says: Output) -> Result<Stepped, Memory>
     requires { IsSpelled state.now }
     ensures state { IfOk result (λ stepped. stepped.state ≡ spelling_of (ledger_of state.now)) }
     ensures output { IfOk result (λ stepped. stepped.output ≡ text_of (as_says says)) }
@@ -122,9 +122,9 @@ fn step(most: u16, alloc: Global, state: &[u8], request: &[u8]) -> Result<Steppe
         ≡ text_of (outcome_of_bytes most state.now request.now).1) }
 {
     match read_request(request) {
-        None => told(alloc, state, QuotaOutput::Bad),
-        Some(QuotaRequest::Sum) => told(alloc, state, QuotaOutput::Sum(sum_of(state))),
-        Some(QuotaRequest::On(name, action)) => acted(most, alloc, state, name, action),
+        None => told(alloc, state, Output::Bad),
+        Some(Request::Sum) => told(alloc, state, Output::Sum(sum_of(state))),
+        Some(Request::On(name, action)) => acted(most, alloc, state, name, action),
     }
 }
 

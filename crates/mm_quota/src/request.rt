@@ -22,14 +22,14 @@ pub enum QuotaAction {
 
 /// A request to a ledger.
 #[derive(Clone, Copy)]
-pub enum QuotaRequest<'a> {
+pub enum Request<'a> {
     Sum,
     On(&'a [u8], QuotaAction),
 }
 
 /// What a ledger says.
 #[derive(Clone, Copy)]
-pub enum QuotaOutput {
+pub enum Output {
     Opened,
     Exists,
     Full,
@@ -64,17 +64,17 @@ fn read_action(word: &[u8], number: u64) -> Option<QuotaAction>
 
 /// The request that these bytes are, where they are one.
 #[tactic(auto, unfolding(crate::specs::Table::request_of))]
-pub fn read_request(bytes: &[u8]) -> Option<QuotaRequest<'_>>
+pub fn read_request(bytes: &[u8]) -> Option<Request<'_>>
     ensures { option_map as_request result ≡ request_of (words_of bytes.now) }
 {
     match Words::of(bytes) {
-        Words::One(word) if word == b"sum".as_slice() => Some(QuotaRequest::Sum),
+        Words::One(word) if word == b"sum".as_slice() => Some(Request::Sum),
         Words::Two(word, name) if word == b"left".as_slice() && name_is_formed(name) => {
-            Some(QuotaRequest::On(name, QuotaAction::Left))
+            Some(Request::On(name, QuotaAction::Left))
         }
         Words::Three(word, name, number) if name_is_formed(name) => {
             let action = read_action(word, read_decimal(number)?)?;
-            Some(QuotaRequest::On(name, action))
+            Some(Request::On(name, action))
         }
         _ => None,
     }
@@ -87,7 +87,7 @@ pub fn decision<'a>(
     name: &'a [u8],
     found: Option<Account<'a>>,
     action: QuotaAction,
-) -> (Option<Account<'a>>, QuotaOutput)
+) -> (Option<Account<'a>>, Output)
     requires { ForSome found (λ account. (account.used ≤ account.limit)
         × (account.limit ≤ greatest_limit)) }
     ensures { (option_map as_account result.0, as_says result.1)
@@ -98,36 +98,36 @@ pub fn decision<'a>(
     };
     let left = account.limit - account.used;
     match action {
-        QuotaAction::Open(_) => (None, QuotaOutput::Exists),
+        QuotaAction::Open(_) => (None, Output::Exists),
         QuotaAction::Use(number) if number <= left => used(account, account.used + number),
-        QuotaAction::Use(_) => (None, QuotaOutput::Over(left)),
+        QuotaAction::Use(_) => (None, Output::Over(left)),
         QuotaAction::Free(number) if number <= account.used => used(account, account.used - number),
-        QuotaAction::Free(_) => (None, QuotaOutput::Under(account.used)),
-        QuotaAction::Left => (None, QuotaOutput::Left(left)),
+        QuotaAction::Free(_) => (None, Output::Under(account.used)),
+        QuotaAction::Left => (None, Output::Left(left)),
     }
 }
 
 /// What an action does where there is no such account.
-fn opening(full: bool, name: &[u8], action: QuotaAction) -> (Option<Account<'_>>, QuotaOutput)
+fn opening(full: bool, name: &[u8], action: QuotaAction) -> (Option<Account<'_>>, Output)
     ensures { (option_map as_account result.0, as_says result.1)
         ≡ decision_of full name.now None (as_action action) }
 {
     match action {
-        QuotaAction::Open(_) if full => (None, QuotaOutput::Full),
+        QuotaAction::Open(_) if full => (None, Output::Full),
         QuotaAction::Open(limit) => {
             let account = Account {
                 name,
                 limit,
                 used: 0,
             };
-            (Some(account), QuotaOutput::Opened)
+            (Some(account), Output::Opened)
         }
-        _ => (None, QuotaOutput::None),
+        _ => (None, Output::None),
     }
 }
 
 /// The account with another use, and what is said.
-fn used(account: Account<'_>, amount: u64) -> (Option<Account<'_>>, QuotaOutput)
+fn used(account: Account<'_>, amount: u64) -> (Option<Account<'_>>, Output)
     ensures account { option_map as_account result.0
         ≡ Some (record (as_account account.entry) { used = amount }) }
     ensures says { as_says result.1 ≡ IsUsed amount }
@@ -137,23 +137,23 @@ fn used(account: Account<'_>, amount: u64) -> (Option<Account<'_>>, QuotaOutput)
         limit: account.limit,
         used: amount,
     };
-    (Some(account), QuotaOutput::Used(amount))
+    (Some(account), Output::Used(amount))
 }
 
 /// The text of what is said.
-pub fn text(alloc: Global, says: QuotaOutput) -> Result<Bytes, Memory>
+pub fn text(alloc: Global, says: Output) -> Result<Bytes, Memory>
     ensures { IfOk result (λ text. text ≡ text_of (as_says says)) }
 {
     match says {
-        QuotaOutput::Opened => Bytes::copy_of(alloc, b"opened"),
-        QuotaOutput::Exists => Bytes::copy_of(alloc, b"exists"),
-        QuotaOutput::Full => Bytes::copy_of(alloc, b"full"),
-        QuotaOutput::None => Bytes::copy_of(alloc, b"none"),
-        QuotaOutput::Used(used) => text_and_number(alloc, b"used ", used),
-        QuotaOutput::Over(left) => text_and_number(alloc, b"over ", left),
-        QuotaOutput::Under(used) => text_and_number(alloc, b"under ", used),
-        QuotaOutput::Left(left) => text_and_number(alloc, b"left ", left),
-        QuotaOutput::Sum(sum) => text_and_number(alloc, b"sum ", sum),
-        QuotaOutput::Bad => Bytes::copy_of(alloc, b"bad"),
+        Output::Opened => Bytes::copy_of(alloc, b"opened"),
+        Output::Exists => Bytes::copy_of(alloc, b"exists"),
+        Output::Full => Bytes::copy_of(alloc, b"full"),
+        Output::None => Bytes::copy_of(alloc, b"none"),
+        Output::Used(used) => text_and_number(alloc, b"used ", used),
+        Output::Over(left) => text_and_number(alloc, b"over ", left),
+        Output::Under(used) => text_and_number(alloc, b"under ", used),
+        Output::Left(left) => text_and_number(alloc, b"left ", left),
+        Output::Sum(sum) => text_and_number(alloc, b"sum ", sum),
+        Output::Bad => Bytes::copy_of(alloc, b"bad"),
     }
 }

@@ -1,6 +1,6 @@
 use Rattle.mm_quota.proofs.Below.{rules, arith, sym, ap, ◌∙◌, Some, as_action, as_request}
 use Rattle.mm_module.specs.Words.{words_of}
-use Rattle.mm_quota.specs.declared.request.QuotaRequest.{QuotaRequest}
+use Rattle.mm_quota.specs.declared.request.Request.{Request}
 use Rattle.mm_quota.proofs.ActLaws.{IsSpelled-from, few-from, asked-named}
 use Rattle.mm_quota.proofs.quota.step.Goals as goal
 
@@ -24,9 +24,9 @@ acted-requires-clause-few c = few-from c.args.most c.args.state.now (search (rul
 pub acted-requires-clause-named : goal.acted-requires-clause-named
 acted-requires-clause-named c =
     (asked-named (words_of c.args.request.now) c.in-Some-On.name.now (as_action c.in-Some-On.action)
-    (sym c.in-Some-On.ensures ∙ ap (λ (r : QuotaRequest). Some (as_request r)) c.in-Some-On.field-0-is)).0
+    (sym c.in-Some-On.ensures ∙ ap (λ (r : Request). Some (as_request r)) c.in-Some-On.field-0-is)).0
 
 pub acted-requires-clause-action : goal.acted-requires-clause-action
 acted-requires-clause-action c =
     (asked-named (words_of c.args.request.now) c.in-Some-On.name.now (as_action c.in-Some-On.action)
-    (sym c.in-Some-On.ensures ∙ ap (λ (r : QuotaRequest). Some (as_request r)) c.in-Some-On.field-0-is)).1
+    (sym c.in-Some-On.ensures ∙ ap (λ (r : Request). Some (as_request r)) c.in-Some-On.field-0-is)).1
