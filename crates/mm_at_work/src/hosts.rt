@@ -103,6 +103,7 @@ pub fn live_under_host<H: Host<PageStore<MemPages>, MemSource, MemSource, MemSin
 ) -> Result<(), InitFault>
     ensures { OnOk result (LivesUnderHost «module».now (two_cells platform.new) rounds) }
 {
+    // Laws, which do nothing: the clauses rest on their contracts.
     commands_keep_promises();
     tells_cell(platform);
     match start(

@@ -60,6 +60,7 @@ pub fn live_on_copy<M: Module>(
         second_input.old.left second_input.new.left out.old.received out.new.received both.first
         both.second) }
 {
+    // Laws, which do nothing: the clauses rest on their contracts.
     basic_life_is_one();
     sessions_offer_slots();
     match start(alloc, Variant::Basic, module, platform, store, entropy) {
@@ -106,6 +107,7 @@ pub fn live_without_power<M: Module>(
         second_input.old.left second_input.new.left out.old.received out.new.received both.first
         both.second) }
 {
+    // Laws, which do nothing: the clauses rest on their contracts.
     basic_life_is_one();
     sessions_offer_slots();
     device_calls_are_deeds();
@@ -158,6 +160,7 @@ pub fn live_checkpointed<M: Module>(
         second_input.old.left second_input.new.left out.old.received out.new.received
         all.sessions.first all.said all.sessions.second) }
 {
+    // Laws, which do nothing: the clauses rest on their contracts.
     opt_life_is_one();
     sessions_offer_slots();
     match start(alloc, Variant::Opt, module, platform, store, entropy) {

@@ -59,6 +59,7 @@ pub fn live_on_one_store<M: Module, P: Platform, T: Store, E: Source, S: Source,
         (S.left second_input.new) (K.received out.old) (K.received out.new) both.first
         both.second) }
 {
+    // Laws, which do nothing: the clauses rest on their contracts.
     basic_life_goes_on();
     device_calls_are_deeds();
     lives_write_once();
@@ -112,6 +113,7 @@ pub fn live_over_checkpoint<M: Module, P: Platform, T: Store, E: Source, S: Sour
         (S.left second_input.new) (K.received out.old) (K.received out.new) held.first
         held.checkpoint held.second) }
 {
+    // Laws, which do nothing: the clauses rest on their contracts.
     opt_life_goes_on();
     device_calls_are_deeds();
     lives_write_once();

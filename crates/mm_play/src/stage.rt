@@ -31,7 +31,7 @@ pub trait PlayStage {
         ensures { IfOk result (λ is. is ≡ is_some (plays.answer self.now line.now)) };
 
     /// Plays the event that a line spells, one of at most 20,000, and gives its reply as text.
-    /// `Refused::Bad` comes exactly where the line spells none. Where memory is wanting for the
+    /// `LineRefusal::Bad` comes exactly where the line spells none. Where memory is wanting for the
     /// line nothing has changed; for its event, the stage is as `wants` says; for its reply, the
     /// event was played.
     fn play(&mut self, alloc: Global, line: &[u8]) -> Result<Bytes, ReplyFault>
@@ -57,7 +57,7 @@ pub trait Heading<S> {
     ghost heads: { HeadStage Self S };
 
     /// Takes one more line: the first stage, where it is the last line of the heading.
-    /// `Refused::Bad` comes exactly where it is none of the heading.
+    /// `LineRefusal::Bad` comes exactly where it is none of the heading.
     fn take_line(&mut self, alloc: Global, line: &[u8]) -> Result<Option<S>, ReplyFault>
         ensures { TakesHead (heads.behind self.old line.now) self.new result };
 

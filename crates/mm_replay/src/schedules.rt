@@ -51,6 +51,7 @@ pub fn replay<S: Source, K: Sink>(
         → (outcome_of_input schedule_answer schedule_closing header_stage bytes).outcome ≡ Ok next
         → IsUnrefused result }
 {
+    // Laws, which do nothing: the clauses rest on their contracts.
     fronts_are_one_run();
     premises_or_evidence();
     let mut player: LinePlayer<HeaderLine, ScheduleReplay> = LinePlayer::new(HeaderLine {});

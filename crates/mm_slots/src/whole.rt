@@ -52,6 +52,7 @@ pub fn slots<S: Source, K: Sink>(
         → (outcome_of_input slots_answer slots_closing first_slots_stage bytes).outcome ≡ Ok next
         → IsUnrefused result }
 {
+    // Laws, which do nothing: the clauses rest on their contracts.
     slots_run();
     premises_or_evidence();
     let mut player: LinePlayer<SlotsHeading, SlotsStage> = LinePlayer::new(SlotsHeading::new());

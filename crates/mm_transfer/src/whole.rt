@@ -52,6 +52,7 @@ pub fn transfer<S: Source, K: Sink>(
         ≡ Ok next
         → IsUnrefused result }
 {
+    // Laws, which do nothing: the clauses rest on their contracts.
     both_sides_agree();
     one_side_is_live();
     sides_run_as_one();
