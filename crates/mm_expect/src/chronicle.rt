@@ -141,7 +141,8 @@ impl Chronicle {
 
     /// The core puts the guard of a batch into the register, which isn't committed yet.
     pub(crate) fn place(&mut self, batch: Batch<'_>) -> Result<(), Memory>
-        ensures { OnOk result (ChronicleGoes self.old self.new (Placed (batch_of batch.entry) ∷ [])) }
+        ensures { OnOk result
+            (ChronicleGoes self.old self.new (Placed (batch_of batch.entry) ∷ [])) }
     {
         let value = guard(&self.barrier, batch);
         self.bring(&value)
@@ -207,7 +208,8 @@ impl Chronicle {
     /// A batch is committed.
     pub(crate) fn commit(&mut self, batch: Batch<'_>) -> Result<(), Memory>
         requires { is_long (batch_of batch) ≡ false }
-        ensures { OnOk result (ChronicleGoes self.old self.new (Commit (batch_of batch.entry) ∷ [])) }
+        ensures { OnOk result
+            (ChronicleGoes self.old self.new (Commit (batch_of batch.entry) ∷ [])) }
     {
         let ran = run_batch(self.alloc, &self.module, self.state.as_slice(), batch)?;
         let size = batch.len() as u64;
@@ -235,7 +237,8 @@ impl Chronicle {
         requires fits { total_of self.old.history.batches + size < 2 ^ 64 }
         requires state { ran.state ≡ state_after_batch self.old (batch_of batch) }
         requires said { ran.outputs ≡ outputs_of_batch self.old (batch_of batch) }
-        ensures { OnOk result (ChronicleGoes self.old self.new (Commit (batch_of batch.entry) ∷ [])) }
+        ensures { OnOk result
+            (ChronicleGoes self.old self.new (Commit (batch_of batch.entry) ∷ [])) }
     {
         self.lists.add(batch)?;
         self.marks = self.marks.linked(batch, size);
@@ -254,7 +257,8 @@ impl Chronicle {
         requires fits { total_of self.old.history.batches + size < 2 ^ 64 }
         requires state { ran.state ≡ state_after_batch self.old (batch_of batch) }
         requires said { ran.outputs ≡ outputs_of_batch self.old (batch_of batch) }
-        ensures { OnOk result (ChronicleGoes self.old self.new (Commit (batch_of batch.entry) ∷ [])) }
+        ensures { OnOk result
+            (ChronicleGoes self.old self.new (Commit (batch_of batch.entry) ∷ [])) }
     {
         let value = guard(&self.barrier, batch);
         self.tell_extension(&value)?;
@@ -299,7 +303,8 @@ impl Chronicle {
         requires fits { total_of self.old.history.batches + size < 2 ^ 64 }
         requires state { ran.state ≡ state_after_batch self.old (batch_of batch) }
         requires said { ran.outputs ≡ outputs_of_batch self.old (batch_of batch) }
-        ensures { OnOk result (ChronicleGoes self.old self.new (Commit (batch_of batch.entry) ∷ [])) }
+        ensures { OnOk result
+            (ChronicleGoes self.old self.new (Commit (batch_of batch.entry) ∷ [])) }
     {
         let value = guard(&self.barrier, batch);
         let is_alone = self.lists.is_alone();

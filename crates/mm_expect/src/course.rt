@@ -85,7 +85,8 @@ impl Chronicle {
     // What others put into the register just before the step of this number.
     fn bring_due(&mut self, course: &CallPlan<'_>, step: u8) -> Result<(), Memory>
         ensures { OnOk result
-            (ChronicleGoes self.old self.new (map Foreign (due_values step course.now.meddles.now))) }
+            (ChronicleGoes self.old self.new
+            (map Foreign (due_values step course.now.meddles.now))) }
     {
         'meddles: for meddle in course.meddles {
             if meddle.step == step {

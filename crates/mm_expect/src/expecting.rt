@@ -318,7 +318,8 @@ impl Expectation {
 
     /// Follows one event. After want of memory nothing is said of what stands.
     pub fn event(&mut self, event: &Event) -> Result<ExpectedOutcome, Memory>
-        ensures state { OnOk result (self.new ≡ expected_state_after self.old (event_of event.now)) }
+        ensures state { OnOk result
+            (self.new ≡ expected_state_after self.old (event_of event.now)) }
         ensures hears { IfOk result (HearsEvent (world_of self.old.header) self.old.history
             self.old.issued (event_of event.now)) }
         ensures after { OnOk result (StandsLater self.old (event_of event.now) self.new) }

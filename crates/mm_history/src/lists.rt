@@ -76,7 +76,8 @@ impl HistoryLists {
     /// Basic: one more batch.
     pub fn add(&mut self, batch: Batch<'_>) -> Result<(), Memory>
         ensures ok { OnOk result
-            (self.new ≡ history_after_commit Basic self.old.is_open self.old (batch_of batch.entry)) }
+            (self.new ≡ history_after_commit Basic self.old.is_open self.old
+            (batch_of batch.entry)) }
         ensures err { OnErr result (self.new ≡ self.old) }
     {
         let kept = KeptBatch::copy_of(self.alloc, &batch)?;

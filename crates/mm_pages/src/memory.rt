@@ -303,7 +303,8 @@ impl MemPages {
         requires { slot < 4 }
         ensures fails { IsTrue result ↔ (self.old.ahead ≡ 1) }
         ensures after { self.new
-            ≡ (if result then sheets_after_slot_fault slot self.old else sheets_after_call self.old) }
+            ≡ (if result then sheets_after_slot_fault slot self.old
+            else sheets_after_call self.old) }
         ensures later { self.old.faults ≤ self.new.faults }
     {
         if !self.is_to_fail() {

@@ -145,7 +145,8 @@ fn step_unkeyed(alloc: Global, kept: KeptState<'_>, request: &[u8]) -> Result<St
         ≡ spelling_of (outcome_without_key (kept_state_of kept.entry)
         (key_of_words (words_of request.now))).0) }
     ensures output { IfOk result (λ stepped. stepped.output
-        ≡ (outcome_without_key (kept_state_of kept.entry) (key_of_words (words_of request.now))).1) }
+        ≡ (outcome_without_key (kept_state_of kept.entry)
+        (key_of_words (words_of request.now))).1) }
 {
     let key = key_of(request);
     Ok(Stepped {

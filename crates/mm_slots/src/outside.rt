@@ -19,7 +19,8 @@ impl Parts {
         ensures ok { IfOk result (SlotComesTo self.old self.new
             (turn_by_action (instance_in self.old) (slot_in self.old)
             (SlotAction.Extend value.now))) }
-        ensures err { OnErr result (SlotLacksMemory (SlotAction.Extend value.now) self.old self.new) }
+        ensures err { OnErr result
+            (SlotLacksMemory (SlotAction.Extend value.now) self.old self.new) }
     {
         match &self.flight {
             None => self.extend_now(value),
@@ -34,7 +35,8 @@ impl Parts {
         ensures ok { IfOk result (SlotComesTo self.old self.new
             (turn_by_action (instance_in self.old) (slot_in self.old)
             (SlotAction.Extend value.now))) }
-        ensures err { OnErr result (SlotLacksMemory (SlotAction.Extend value.now) self.old self.new) }
+        ensures err { OnErr result
+            (SlotLacksMemory (SlotAction.Extend value.now) self.old self.new) }
     {
         let reply = self.seat.extend(value)?;
         self.register = *self.seat.platform.register();
@@ -48,7 +50,8 @@ impl Parts {
         ensures ok { IfOk result (SlotComesTo self.old self.new
             (turn_by_action (instance_in self.old) (slot_in self.old)
             (SlotAction.Extend value.now))) }
-        ensures err { OnErr result (SlotLacksMemory (SlotAction.Extend value.now) self.old self.new) }
+        ensures err { OnErr result
+            (SlotLacksMemory (SlotAction.Extend value.now) self.old self.new) }
     {
         self.seat.platform.meddle_next(value)?;
         Ok(SlotReply::Replied(Reply::Extended))

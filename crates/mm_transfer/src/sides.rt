@@ -137,7 +137,8 @@ impl Sides {
         ensures after { OnOk result
             (self.new.both ≡ (outcome_in self.old (side_event_of event.now)).both) }
         ensures grows { OnOk result (GrowsByOne self.old self.new) }
-        ensures wants { OnErr result (TransferSidesWant (side_event_of event.now) self.old self.new) }
+        ensures wants { OnErr result
+            (TransferSidesWant (side_event_of event.now) self.old self.new) }
     {
         let Sides {
             header: _,
