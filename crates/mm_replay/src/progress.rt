@@ -6,7 +6,7 @@ ghost use Rattle.mm_base.specs.Limits.{longest_line};
 use crate::replaying::ScheduleReplay;
 use crate::report::Report;
 use mm_base::{Bytes, Memory};
-use mm_play::{LineRefusal, ReplayProgress as Events, ReplyFault};
+use mm_play::{LineRefusal, Progress as Events, ReplyFault};
 use mm_schedule::{Event, Header, Reply};
 use std::alloc::Global;
 

@@ -4,11 +4,11 @@ ghost use Rattle.std.specs.Prelude.{◌≡◌, false, IfOk};
 ghost use Rattle.clap.specs.Words.{App, app_of, new_app, rule_of, with_rule, with_subcommand};
 ghost use Rattle.mm_words.specs.App.{IsForm, generating_app, has_globals, header_app, key_app, the_app, top_app, wanted_rule, with_host_forms};
 
-use clap::{Arg, ArgAction, CommandLine};
+use clap::{Arg, ArgAction, Command};
 use std::alloc::{AllocError, Global};
 
 /// All forms of words but `--help`: a form is added here, with its subcommand.
-pub fn command_line<'a>(alloc: Global) -> Result<CommandLine<'a>, AllocError>
+pub fn command_line<'a>(alloc: Global) -> Result<Command<'a>, AllocError>
     ensures { IfOk result (λ line. app_of line ≡ the_app) }
 {
     let line = host_forms(alloc, top(alloc));
@@ -22,7 +22,7 @@ pub fn command_line<'a>(alloc: Global) -> Result<CommandLine<'a>, AllocError>
 }
 
 /// The forms that run the module on the platform.
-fn host_forms<'a>(alloc: Global, line: CommandLine<'a>) -> Result<CommandLine<'a>, AllocError>
+fn host_forms<'a>(alloc: Global, line: Command<'a>) -> Result<Command<'a>, AllocError>
     ensures { IfOk result (λ whole. app_of whole ≡ with_host_forms (app_of line.entry)) }
 {
     let line = with_form(Ok(line), with_header(alloc, "init"));
@@ -33,9 +33,9 @@ fn host_forms<'a>(alloc: Global, line: CommandLine<'a>) -> Result<CommandLine<'a
 
 /// A command with one more form, if memory was enough for both.
 fn with_form<'a>(
-    line: Result<CommandLine<'a>, AllocError>,
-    form: Result<CommandLine<'a>, AllocError>,
-) -> Result<CommandLine<'a>, AllocError>
+    line: Result<Command<'a>, AllocError>,
+    form: Result<Command<'a>, AllocError>,
+) -> Result<Command<'a>, AllocError>
     ensures { (whole part : App) → IfOk line.entry (λ command. app_of command ≡ whole)
         → IfOk form.entry (IsForm part)
         → IfOk result (λ command. app_of command ≡ with_subcommand whole part.top) }
@@ -44,11 +44,11 @@ fn with_form<'a>(
 }
 
 /// The command that the subcommands are added to. It answers no call for help.
-fn top<'a>(alloc: Global) -> CommandLine<'a>
+fn top<'a>(alloc: Global) -> Command<'a>
     ensures app { app_of result ≡ top_app }
     ensures local { has_globals result ≡ false }
 {
-    CommandLine::new(alloc, "memoir")
+    Command::new(alloc, "memoir")
         .no_binary_name(true)
         .subcommand_required(true)
         .disable_help_flag(true)
@@ -57,14 +57,14 @@ fn top<'a>(alloc: Global) -> CommandLine<'a>
 }
 
 /// A subcommand with no words of its own.
-fn bare<'a>(alloc: Global, name: &'a str) -> Result<CommandLine<'a>, AllocError>
+fn bare<'a>(alloc: Global, name: &'a str) -> Result<Command<'a>, AllocError>
     ensures { IfOk result (IsForm (new_app name.entry.now)) }
 {
-    Ok(CommandLine::new(alloc, name))
+    Ok(Command::new(alloc, name))
 }
 
 /// A subcommand with a variant and a module.
-fn with_header<'a>(alloc: Global, name: &'a str) -> Result<CommandLine<'a>, AllocError>
+fn with_header<'a>(alloc: Global, name: &'a str) -> Result<Command<'a>, AllocError>
     ensures { IfOk result (IsForm (header_app name.entry.now)) }
 {
     let command = with_word(alloc, bare(alloc, name), "VARIANT");
@@ -72,7 +72,7 @@ fn with_header<'a>(alloc: Global, name: &'a str) -> Result<CommandLine<'a>, Allo
 }
 
 /// A subcommand with the four words of a generated schedule.
-fn generating<'a>(alloc: Global, name: &'a str) -> Result<CommandLine<'a>, AllocError>
+fn generating<'a>(alloc: Global, name: &'a str) -> Result<Command<'a>, AllocError>
     ensures { IfOk result (IsForm (generating_app name.entry.now)) }
 {
     let command = with_word(alloc, bare(alloc, name), "NUMBER");
@@ -82,7 +82,7 @@ fn generating<'a>(alloc: Global, name: &'a str) -> Result<CommandLine<'a>, Alloc
 }
 
 /// A subcommand with a key.
-fn with_key<'a>(alloc: Global, name: &'a str) -> Result<CommandLine<'a>, AllocError>
+fn with_key<'a>(alloc: Global, name: &'a str) -> Result<Command<'a>, AllocError>
     ensures { IfOk result (IsForm (key_app name.entry.now)) }
 {
     with_word(alloc, bare(alloc, name), "KEY")
@@ -91,9 +91,9 @@ fn with_key<'a>(alloc: Global, name: &'a str) -> Result<CommandLine<'a>, AllocEr
 /// A command with one more word of its own, if memory was enough for both.
 fn with_word<'a>(
     alloc: Global,
-    command: Result<CommandLine<'a>, AllocError>,
+    command: Result<Command<'a>, AllocError>,
     id: &'a str,
-) -> Result<CommandLine<'a>, AllocError>
+) -> Result<Command<'a>, AllocError>
     ensures { (app : App) → IfOk command.entry (IsForm app)
         → IfOk result (IsForm (with_rule app (wanted_rule id.entry.now))) }
 {
