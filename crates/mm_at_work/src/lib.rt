@@ -1,6 +1,6 @@
-//! All crates put together once, at types of devices that exist, in memory: there the theorem
-//! holds, so its clauses ask nothing that no device meets. And tests: whole schedules through the
-//! top call, and commands over devices that fail.
+//! The room of laws at work: all crates put together, at types of devices that exist, in memory.
+//! Each function here is proved from the laws, so these ask nothing that no device meets. A law
+//! that is to be shown at work gets a caller here; tests stand in mm_device_tests.
 #![tactic(auto)]
 
 mod calls;
@@ -20,10 +20,3 @@ pub use lives::{
     Checkpoint, TwoSessions, TwoSessionsFault, live_checkpointed, live_on_copy, live_without_power,
 };
 pub use sessions::{go_on, serve, serve_copy, start, start_and_serve};
-
-#[cfg(test)]
-mod limits;
-#[cfg(test)]
-mod run;
-#[cfg(test)]
-mod streams;

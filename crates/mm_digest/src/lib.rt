@@ -11,3 +11,6 @@ pub use digest::{
 };
 pub use hmac::{HmacKey, hmac_sha256};
 pub use variant::Variant;
+
+#[cfg(test)]
+mod tests;

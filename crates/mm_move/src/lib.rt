@@ -26,3 +26,6 @@ pub use link::Link;
 pub use refusal::MoveRefusal;
 pub use retiring::retire;
 pub use ticket::{OfferedTicket, Ticket, read_ticket, ticket_bytes};
+
+#[cfg(test)]
+mod tests;

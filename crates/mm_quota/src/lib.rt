@@ -8,3 +8,6 @@ mod quota;
 mod request;
 
 pub use quota::{Accounts, Ledger, Quota};
+
+#[cfg(test)]
+mod tests;

@@ -2,20 +2,20 @@
 
 ghost use Rattle.std.specs.Prelude.{None};
 
-use crate::run::{play, replay};
+use crate::commands::{play, replay};
 use mm_base::{Bytes, Failed, MemSink, Memory, Source};
 use std::alloc::{AllocError, Global};
 use std::test::Fail;
 
 /// A source of some bytes, and then of others so many times.
 #[derive(Drop)]
-pub struct RepeatedSource<'a> {
+pub struct Repeated<'a> {
     pub next: &'a [u8],
     pub again: &'a [u8],
     pub times: u64,
 }
 
-impl Source for RepeatedSource<'_> {
+impl Source for Repeated<'_> {
     ghost left = { λ _. None };
 
     ghost faults = { λ _. 0 };
@@ -43,7 +43,7 @@ fn has_lines(content: &[u8], lines: usize, last: &[u8]) -> bool {
 // them are these.
 fn replays(
     alloc: Global,
-    input: &mut RepeatedSource<'_>,
+    input: &mut Repeated<'_>,
     lines: usize,
     last: &[u8],
     code: u8,
@@ -54,7 +54,7 @@ fn replays(
 
 #[test]
 fn a_line_without_an_end_is_not_read_to_it(rt: HostRuntime) -> Result<(), Fail> {
-    let mut input = RepeatedSource {
+    let mut input = Repeated {
         next: b"memoir 1 basic counter\n",
         again: b"aaaaaaaaaaaaaaaa",
         times: u64::MAX,
@@ -84,7 +84,7 @@ fn longest_line(alloc: Global) -> Result<Bytes, Memory> {
 // Whether such lines behind a schedule come to an end.
 fn long_lines_come_to_an_end(alloc: Global, schedule: &[u8]) -> Result<bool, Memory> {
     let line = longest_line(alloc)?;
-    let mut input = RepeatedSource {
+    let mut input = Repeated {
         next: schedule,
         again: line.as_slice(),
         times: 20_000,
@@ -104,7 +104,7 @@ fn lines_and_snapshots_have_268435456_bytes(rt: HostRuntime) -> Result<(), Fail>
 /// Lines that are played, and whose bytes with those of the snapshots come to 268,435,456 behind
 /// the last.
 #[derive(Clone, Copy)]
-struct KeptLines<'a> {
+struct Kept<'a> {
     /// The command.
     word: &'a str,
     /// What comes before the events.
@@ -120,7 +120,7 @@ struct KeptLines<'a> {
     last: usize,
 }
 
-const REPLAY: KeptLines<'_> = KeptLines {
+const REPLAY: Kept<'_> = Kept {
     word: "replay",
     head: "memoir 1 basic ledger\n",
     open: "ask last open ",
@@ -130,7 +130,7 @@ const REPLAY: KeptLines<'_> = KeptLines {
     last: 6_901,
 };
 
-const TRANSFER: KeptLines<'_> = KeptLines {
+const TRANSFER: Kept<'_> = Kept {
     word: "transfer",
     head: "memoir transfer 1 basic ledger\n",
     open: "0 ask last open ",
@@ -140,7 +140,7 @@ const TRANSFER: KeptLines<'_> = KeptLines {
     last: 7_789,
 };
 
-const SLOTS: KeptLines<'_> = KeptLines {
+const SLOTS: Kept<'_> = Kept {
     word: "slots",
     head: "memoir slots 1 1\nbasic ledger\n",
     open: "0 begin last open ",
@@ -151,7 +151,7 @@ const SLOTS: KeptLines<'_> = KeptLines {
 };
 
 // Puts the lines that open the accounts.
-fn put_accounts(alloc: Global, text: &mut String, kept: &KeptLines<'_>) -> Result<(), AllocError> {
+fn put_accounts(alloc: Global, text: &mut String, kept: &Kept<'_>) -> Result<(), AllocError> {
     let (open, behind) = (kept.open, kept.behind);
     for number in 0..3306u32 {
         let lines = format!(in alloc; "{open}{number:032}{behind}")?;
@@ -161,7 +161,7 @@ fn put_accounts(alloc: Global, text: &mut String, kept: &KeptLines<'_>) -> Resul
 }
 
 // Puts a line of so many bytes whose request is too long.
-fn put_long(text: &mut String, kept: &KeptLines<'_>, size: usize) -> Result<(), AllocError> {
+fn put_long(text: &mut String, kept: &Kept<'_>, size: usize) -> Result<(), AllocError> {
     text.push_str(kept.long)?;
     for _ in kept.long.len()..size {
         text.push('a')?;
@@ -169,7 +169,7 @@ fn put_long(text: &mut String, kept: &KeptLines<'_>, size: usize) -> Result<(), 
     text.push('\n')
 }
 
-fn put_fillers(text: &mut String, kept: &KeptLines<'_>) -> Result<(), AllocError> {
+fn put_fillers(text: &mut String, kept: &Kept<'_>) -> Result<(), AllocError> {
     for _ in 0..kept.fillers {
         put_long(text, kept, 7_500)?;
     }
@@ -177,7 +177,7 @@ fn put_fillers(text: &mut String, kept: &KeptLines<'_>) -> Result<(), AllocError
 }
 
 // The lines, the last of which has so many bytes more.
-fn lines_of(alloc: Global, kept: &KeptLines<'_>, more: usize) -> Result<String, AllocError> {
+fn lines_of(alloc: Global, kept: &Kept<'_>, more: usize) -> Result<String, AllocError> {
     let mut text = String::from_str(alloc, kept.head)?;
     put_accounts(alloc, &mut text, kept)?;
     put_fillers(&mut text, kept)?;
@@ -186,10 +186,10 @@ fn lines_of(alloc: Global, kept: &KeptLines<'_>, more: usize) -> Result<String, 
 }
 
 // The status of such lines, and whether what they are answered ends with a stop.
-fn code_of(alloc: Global, kept: &KeptLines<'_>, more: usize) -> Result<(u8, bool), Memory> {
+fn code_of(alloc: Global, kept: &Kept<'_>, more: usize) -> Result<(u8, bool), Memory> {
     let text = lines_of(alloc, kept, more)?;
     let mut out = MemSink::new(alloc, 1 << 20, &[])?;
-    let mut input = RepeatedSource {
+    let mut input = Repeated {
         next: text.as_bytes(),
         again: b"",
         times: 0,
@@ -199,7 +199,7 @@ fn code_of(alloc: Global, kept: &KeptLines<'_>, more: usize) -> Result<(u8, bool
 }
 
 // Whether such lines are all answered, and aren't with a byte more.
-fn are_most(alloc: Global, kept: &KeptLines<'_>) -> Result<bool, Memory> {
+fn are_most(alloc: Global, kept: &Kept<'_>) -> Result<bool, Memory> {
     let most = code_of(alloc, kept, 0)?;
     let more = code_of(alloc, kept, 1)?;
     Ok(most == (0, false) && more == (15, true))

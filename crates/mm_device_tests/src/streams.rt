@@ -3,7 +3,7 @@
 
 ghost use Rattle.std.specs.Prelude.{None};
 
-use crate::run::{command, replay};
+use crate::commands::{command, replay};
 use mm_base::{Failed, MemSink, MemSource, Memory, Sink, Source};
 use mm_files::{StdSink, StdSource};
 use mm_platform::MemPlatform;
@@ -131,7 +131,7 @@ fn an_error_of_the_writer_is_no_write(rt: HostRuntime) -> Result<(), Fail> {
 /// A source that gives one line a call, one and three others, and fails where a line that it gave
 /// was not answered yet, but for so many of the first.
 #[derive(Drop)]
-struct WaitingSource<'a> {
+struct Waiting<'a> {
     first: &'a [u8],
     others: &'a [u8],
     unanswered: u64,
@@ -140,7 +140,7 @@ struct WaitingSource<'a> {
     faults: u64,
 }
 
-impl Source for WaitingSource<'_> {
+impl Source for Waiting<'_> {
     ghost left = { λ _. None };
 
     ghost faults = { λ source. source.faults };
@@ -166,11 +166,11 @@ impl Source for WaitingSource<'_> {
 
 /// A sink that counts the lines that it receives.
 #[derive(Drop)]
-struct CountingSink<'a> {
+struct Counting<'a> {
     replies: &'a Cell<u64>,
 }
 
-impl Sink for CountingSink<'_> {
+impl Sink for Counting<'_> {
     ghost received = { λ _. None };
 
     ghost faults = { λ _. 0 };
@@ -187,7 +187,7 @@ fn serve<S: Source, K: Sink>(alloc: Global, input: &mut S, out: &mut K) -> u8 {
     let mut platform = MemPlatform::new(alloc, &[0; 104]);
     let mut store = MemStore::new(alloc);
     let replies = Cell::new(0);
-    let mut made = CountingSink { replies: &replies };
+    let mut made = Counting { replies: &replies };
     let words = ["init", "basic", "counter"];
     command(alloc, &words, &mut platform, &mut store, input, &mut made);
     command(alloc, &["run"], &mut platform, &mut store, input, out)
@@ -197,7 +197,7 @@ fn serve<S: Source, K: Sink>(alloc: Global, input: &mut S, out: &mut K) -> u8 {
 #[test]
 fn each_reply_is_out_before_the_source_is_asked_again(rt: HostRuntime) -> Result<(), Fail> {
     let replies = Cell::new(0);
-    let mut input = WaitingSource {
+    let mut input = Waiting {
         first: b"memoir 1 basic counter\n",
         others: b"ask last add 5\n",
         unanswered: 1,
@@ -205,7 +205,7 @@ fn each_reply_is_out_before_the_source_is_asked_again(rt: HostRuntime) -> Result
         replies: &replies,
         faults: 0,
     };
-    let mut out = CountingSink { replies: &replies };
+    let mut out = Counting { replies: &replies };
     assert!(&rt; replay(rt.alloc(), &mut input, &mut out) == 0);
     assert!(&rt; replies.get() == 4);
     Ok(())
@@ -215,7 +215,7 @@ fn each_reply_is_out_before_the_source_is_asked_again(rt: HostRuntime) -> Result
 #[test]
 fn each_reply_of_a_session_is_out_before_the_next_line(rt: HostRuntime) -> Result<(), Fail> {
     let replies = Cell::new(0);
-    let mut input = WaitingSource {
+    let mut input = Waiting {
         first: b"add 5\n",
         others: b"add 7\n",
         unanswered: 0,
@@ -223,7 +223,7 @@ fn each_reply_of_a_session_is_out_before_the_next_line(rt: HostRuntime) -> Resul
         replies: &replies,
         faults: 0,
     };
-    let mut out = CountingSink { replies: &replies };
+    let mut out = Counting { replies: &replies };
     assert!(&rt; serve(rt.alloc(), &mut input, &mut out) == 0);
     assert!(&rt; replies.get() == 4);
     Ok(())

@@ -1,6 +1,6 @@
 //! Single commands over a platform and a store in memory.
 
-use crate::limits::RepeatedSource;
+use crate::limits::Repeated;
 use mm_app::memoir;
 use mm_base::{Sink, Source};
 use mm_platform::{MemPlatform, Platform};
@@ -17,7 +17,7 @@ pub fn command<P: Platform, T: Store, S: Source, K: Sink>(
     input: &mut S,
     out: &mut K,
 ) -> u8 {
-    let mut entropy = RepeatedSource {
+    let mut entropy = Repeated {
         next: &[7; 64],
         again: &[],
         times: 0,
