@@ -30,11 +30,11 @@ pub record RunsInBulk (it : GeneratedSchedule) (received received' : Option (Lis
   pub limit : IsLimited (is_over (first_running_replay it.header)
       (schedule_lines it.number it.count it.header)) answer
   pub replayed : IsReplayed (replay_of it.number it.count it.header) answer
-  pub tells : Tells (bulk_lines it.count answer) received received' writes writes' status
+  pub tells : TellsLines (bulk_lines it.count answer) received received' writes writes' status
 
 -- The five lines were told, or memory was wanting for them.
 abbrev pub TellsSummary : ℕ → Summary → (received received' : Option (List ℕ)) (writes writes' : ℕ)
     → Status → Type 0
 TellsSummary count summary received received' writes writes' status =
-    Tells (Ok (bulk_text count summary)) received received' writes writes' status
-    ⊎ Tells (Err Memory) received received' writes writes' status
+    TellsLines (Ok (bulk_text count summary)) received received' writes writes' status
+    ⊎ TellsLines (Err Memory) received received' writes writes' status

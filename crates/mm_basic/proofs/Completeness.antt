@@ -51,14 +51,14 @@ found_right meaning key y all offer content b register right names clear accepts
 answered_by : (broken : Option StepFault) (lacks : Bool) (x : Result call.CallFinding Refusal) (i : Instance) (seen s : Digests) (b : Batch)
     (moves : List Move) (old new : Standing) → IsOk x
     → (let result = result_of_ending (call_ending_by (digest_level i) seen s b (finding_unless_wanting x lacks) moves broken) in
-    Blames (fault_in result) old.faults new.faults → IsAnswered result old new)
+    CountsHandedFault (fault_in result) old.faults new.faults → IsAnswered result old new)
 answered_by (Some fault) lacks x i seen s b moves old new is blames = inr (inr (refl, blames))
 answered_by None lacks (Err why) i seen s b moves old new is blames = absurd (cc)
 answered_by None false (Ok it) i seen s b moves old new is blames = inl refl
 answered_by None true (Ok it) i seen s b moves old new is blames = inr (inl refl)
 
 pub complete : (meaning : Meaning) (old new : Standing) (offer : List ℕ) (batch : Batch) (result : Result BatchAnswer Refusal)
-    → (is_long batch ≡ false → IsCallOnCourse Basic meaning old new offer batch result) → Blames (fault_in result) old.faults new.faults
+    → (is_long batch ≡ false → IsCallOnCourse Basic meaning old new offer batch result) → CountsHandedFault (fault_in result) old.faults new.faults
     → IsComplete Basic meaning old new offer batch result
 complete meaning old new offer batch result goes blames short key y all content s right names clear accepts fits =
     let i : Instance = basic_instance meaning key in
@@ -77,7 +77,7 @@ complete meaning old new offer batch result goes blames short key y all content 
     (answered_by w.broken c.course.lacks x i seen (state_after_moves (digest_level i) d w.moves) b w.moves old new
     (subst (λ (z : Digests). IsOk (call.finding_at i (digest_level i) z b offer)) (sym sees)
     (found_right meaning key y all offer content b (fold extended_digest_of d.register v) right names clear accepts few))
-    (subst (λ (r : Result BatchAnswer Refusal). Blames (fault_in r) old.faults new.faults) gives blames))
+    (subst (λ (r : Result BatchAnswer Refusal). CountsHandedFault (fault_in r) old.faults new.faults) gives blames))
 
 -- what a whole call promises, from what it does and from how it goes
 pub asked : (meaning : Meaning) → IsLawful meaning → (old new : Standing) (offer : List ℕ) (b : Batch)

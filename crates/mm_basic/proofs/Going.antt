@@ -50,7 +50,7 @@ module _ (meaning : Meaning) (offer : List ℕ) (b : Batch) (old middle new : St
       let c : Course = course_by fates old (lacks_in found) in
       let seen : Digests = state_after_moves (digest_level i) d (map Foreign r.goes.others) in
       let x : Digests → Result call.CallFinding Refusal = λ y.
-      found_unless_wanting (call.finding_at i (digest_level i) y (normal_batch b) offer) (lacks_in found) in
+      finding_unless_wanting (call.finding_at i (digest_level i) y (normal_batch b) offer) (lacks_in found) in
       subst (λ (y : Digests). Told i d y c.fates 1 (ask_steps Basic d.flag (is_fresh (x y)) (normal_batch b)) (normal_batch b)
       (x y) old new ended)
       (sym (ap (λ (ms : List Move). state_after_moves (digest_level i) d ms) (append-nil (map Foreign r.goes.others))))

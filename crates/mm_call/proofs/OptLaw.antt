@@ -83,11 +83,11 @@ module _ (meaning : Meaning) (key barrier : List ℕ) where
     -- what counts of the moves of a call inside a segment, and of one with none open
     abbrev pub Counts : Bool → History → List Move → Type 0
     Counts flag y moves =
-        Within (messages_of_moves I y (counted_moves flag moves)) all
+        AreMessagesIn (messages_of_moves I y (counted_moves flag moves)) all
         × AllByRecursion (Contains others) (foreign_move_values (counted_moves flag moves))
 
     pub counts_at : (flag : Bool) (y : History) (moves : List Move) → y.is_open ≡ flag
-        → Within (messages_of_moves I (counted_part y) (counted_moves y.is_open moves)) all
+        → AreMessagesIn (messages_of_moves I (counted_part y) (counted_moves y.is_open moves)) all
         → AllByRecursion (Contains others) (foreign_move_values (counted_moves y.is_open moves))
         → Counts flag (record y { items = if flag then y.items else [] }) moves
     counts_at flag y moves e messages values =
@@ -103,7 +103,7 @@ module _ (meaning : Meaning) (key barrier : List ℕ) where
         let front : List (List ℕ) = messages_of_moves I y xs in
         let back : List (List ℕ) = messages_of_moves I (state_after_moves (list_level I) y xs) rest in
         let o = front_outside others values rest c.1 in
-        let m : Within (front ++ back) all = subst (λ (v : List (List ℕ)). Within v all) (messages-made I xs rest y) c.0 in
+        let m : AreMessagesIn (front ++ back) all = subst (λ (v : List (List ℕ)). AreMessagesIn v all) (messages-made I xs rest y) c.0 in
         subst (λ z. Holds all others asked I z (state_after_moves (digest_level I) d xs) × Counts true z rest) (taking_is I values y) (
           holds_made meaning key barrier all others asked xs y d h (foreign_all meaning key barrier all others asked values y o.0)
               (each_left (Contains all) front back m),
@@ -116,7 +116,7 @@ module _ (meaning : Meaning) (key barrier : List ℕ) where
       pub within : IsWithin all others asked I (state_after_moves (list_level I) y moves)
 
     stands_after : (y : History) (d : Digests) (moves : List Move) → Holds all others asked I y d → AllFine all others asked I y moves
-        → Within (messages_of_moves I y moves) all → StandsAfter y d moves
+        → AreMessagesIn (messages_of_moves I y moves) all → StandsAfter y d moves
     stands_after y d moves h fine messages =
         let end = holds_made meaning key barrier all others asked moves y d h fine messages in record {
           agrees = end.agrees;
@@ -213,7 +213,7 @@ module _ (meaning : Meaning) (key barrier : List ℕ) where
         ] in
         let end = stands_after (bare y) (bare_digests d) rest (holds_shut meaning key barrier all others asked y d e agrees within) fine
         (each_right (Contains all) (move_messages I (bare y) Reset) (messages_of_moves I (bare y) rest)
-        (subst (λ m. Within (messages_of_moves I (bare y) m) all) begins counts.0)) in
+        (subst (λ m. AreMessagesIn (messages_of_moves I (bare y) m) all) begins counts.0)) in
         let lists : state_after_moves (list_level I) y moves ≡ state_after_moves (list_level I) (bare y) rest =
         ap (state_after_moves (list_level I) y) is ∙ foreign_made I values (Reset ∷ rest) y in
         let digests : state_after_moves (digest_level I) d moves ≡ state_after_moves (digest_level I) (bare_digests d) rest =

@@ -20,7 +20,7 @@ IsComplete Basic meaning old new offer b result =
     is_long b ≡ false → (key : List ℕ) (y : History) (all : List (List ℕ)) (content : Content) →
     StandsFor (basic_instance meaning key) old y
     → IsRight (basic_instance meaning key) offer content →
-    Names (basic_instance meaning key) y content →
+    NamesPosition (basic_instance meaning key) y content →
     IsClearFor all (basic_instance meaning key) y content.place (normal_batch b) →
     IsAccepted (verdict_on Basic y content.position (normal_batch b)) →
     content.position + size_of b ≤ last_position →

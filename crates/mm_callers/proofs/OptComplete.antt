@@ -24,7 +24,7 @@ module _ (meaning : Meaning) (key barrier : List ℕ) where
   abbrev CountsAlone : List (List ℕ) → History → Batch → Bool → Bool → Type 0
   CountsAlone all y b flag fresh =
       let moves = counted_moves flag (walk still_fates 1 (ask_steps Opt flag fresh b)).moves in
-      Within (messages_of_moves I (counted_part y) moves) all × (foreign_move_values moves ≡ [])
+      AreMessagesIn (messages_of_moves I (counted_part y) moves) all × (foreign_move_values moves ≡ [])
 
   counts_alone : (all : List (List ℕ)) (y : History) (b : Batch) (flag fresh : Bool)
       → Contains all (extended_message (register_value_of I (counted_part (record y { is_open = flag }))) (guard barrier b))

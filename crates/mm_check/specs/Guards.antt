@@ -30,4 +30,4 @@ HasAll digests set =
 abbrev pub secured_event_by : Variant → List ℕ → List Event → Option ℕ
 secured_event_by Basic barrier events = None
 secured_event_by Opt barrier events =
-    first_where (is_secured (own_values barrier (asked_batches events))) events
+    number_of_first (is_secured (own_values barrier (asked_batches events))) events

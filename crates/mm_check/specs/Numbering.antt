@@ -51,9 +51,9 @@ pub record IsForgedAt (i : Instance) (events : List Event) (number : ℕ) : Type
 abbrev pub DecidesPremise : Instance → List Event → Premise → Type 0
 DecidesPremise i events Held = IsClearRun i events × IsGenuineRun i events
 DecidesPremise i events (Shared first second) =
-    shared_in (message_digests (numbered_messages i events)) ≡ Some (first, second)
+    shared_pair_in (message_digests (numbered_messages i events)) ≡ Some (first, second)
 DecidesPremise i events (Zero message) =
-    (shared_in (message_digests (numbered_messages i events)) ≡ None)
+    (shared_pair_in (message_digests (numbered_messages i events)) ≡ None)
     × (zero_number_in (message_digests (numbered_messages i events)) ≡ Some message)
 DecidesPremise i events (Secured event) =
     IsClear (run_messages i events) × (i.variant ≡ Opt) × (secured_event_in i events ≡ Some event)

@@ -14,7 +14,7 @@ moves_if false moves = []
 abbrev pub call_outcome_on : ChronicleView → Stop → List Meddle → List ℕ → Batch
     → CallOutcome History
 call_outcome_on old stop meddles bytes b =
-    called (chronicle_instance old) (list_level (chronicle_instance old)) old.history
+    call_outcome (chronicle_instance old) (list_level (chronicle_instance old)) old.history
     (course_of stop meddles) bytes b
 
 -- The chronicle went on by a call in a schedule: what is said of it, and the messages behind those

@@ -31,7 +31,7 @@ module _ {A R : Type 0} (o : OpMeaning A R) where
   -- A call that began over a platform that stood so is in flight, and stands here.
   abbrev pub CallFlies : Standing → List Meddle → ℕ → OpStage A → Standing → Type 0
   CallFlies from meddles made stage now =
-      InFlight (OpEnds o Begun) (OpEnds o stage) from now meddles made
+      IsCallInFlight (OpEnds o Begun) (OpEnds o stage) from now meddles made
 
   -- the whole call, which ended so under this stop
   abbrev pub CallEndsUnder : Standing → List Meddle → Stop → Standing → OpResult A R → Type 0

@@ -37,4 +37,4 @@ schedule_lines number count header =
 -- the schedule: its header line and its event lines
 abbrev pub schedule_text : ℕ → ℕ → Header → List ℕ
 schedule_text number count header =
-    lines_joined (header_text header ∷ schedule_lines number count header)
+    joined_lines (header_text header ∷ schedule_lines number count header)

@@ -28,5 +28,5 @@ replies_text digest = codes "replies " ++ encode_lower digest
 -- the five lines
 abbrev pub bulk_text : ℕ → Summary → List ℕ
 bulk_text events it =
-    lines_joined (events_text events ∷ told_counts it.counts ∷ other_counts it.counts ∷ end_text it
+    joined_lines (events_text events ∷ told_counts it.counts ∷ other_counts it.counts ∷ end_text it
     ∷ replies_text it.replies.bytes ∷ [])

@@ -71,7 +71,7 @@ abbrev pub invitation_in : WaitingCell → Result MovedCell CellFault
 invitation_in next (Err Blank) = invitation_by next
 invitation_in next (Ok (Left cell)) = invitation_by next
 invitation_in next (Ok (Waits cell)) =
-    refuse_if (not (is_same_waiting cell next)) Already
+    refusal_if (not (is_same_waiting cell next)) Already
     (Ok (record { next = None; answer = Again }))
 invitation_in next (Ok (Live cell)) = Err Already
 invitation_in next (Err Unspelled) = Err Already
@@ -82,8 +82,8 @@ abbrev pub offer_by : Meaning → List ℕ → Result Snapshot PartsFault → Re
 offer_by meaning key (Err Form) = Err (Core core.Form)
 offer_by meaning key (Err Kind) = Err (Core core.Kind)
 offer_by meaning key (Ok offered) =
-    refuse_if (not (meaning.is_spelled offered.content.state)) (Core core.State)
-    (refuse_if (not (bytes_eq offered.tag (tag_of key offered.content))) (Core core.Tag)
+    refusal_if (not (meaning.is_spelled offered.content.state)) (Core core.State)
+    (refusal_if (not (bytes_eq offered.tag (tag_of key offered.content))) (Core core.Tag)
     (Ok offered.content))
 
 abbrev pub right_offer : Meaning → Variant → List ℕ → List ℕ → Result Content MoveRefusal
@@ -107,7 +107,7 @@ abbrev pub retirement_by : Variant → Link → List ℕ → Digest → Option (
     → Result (ReadyMove (List ℕ)) MoveRefusal
 retirement_by variant link nonce summary next (Err why) = Err why
 retirement_by variant link nonce summary next (Ok offered) =
-    refuse_if (not (is_place_at summary offered.place)) (Core core.Stale)
+    refusal_if (not (is_place_at summary offered.place)) (Core core.Stale)
     (Ok (record {
       next = next;
       answer = sealed_ticket link.key (ticket_for variant nonce summary offered);
@@ -130,15 +130,15 @@ retirement_in meaning variant link nonce offer (Err Blank) = Err (Core core.Blan
 retirement_in meaning variant link nonce offer (Err Unspelled) = Err (Core core.Cell)
 retirement_in meaning variant link nonce offer (Ok (Waits cell)) = Err (Core core.Cell)
 retirement_in meaning variant link nonce offer (Ok (Live cell)) =
-    refuse_if (is_other variant meaning.id cell.variant cell.module) (Core core.Cell)
-    (refuse_if (is_barred variant cell.barrier link) Barrier
-    (refuse_if cell.flag Open
+    refusal_if (is_other variant meaning.id cell.variant cell.module) (Core core.Cell)
+    (refusal_if (is_barred variant cell.barrier link) Barrier
+    (refusal_if cell.flag Open
     (retirement_by variant link nonce cell.summary
     (Some (retired_spelling (retired_cell_from cell nonce)))
     (right_offer meaning variant cell.key offer))))
 retirement_in meaning variant link nonce offer (Ok (Left cell)) =
-    refuse_if (is_other variant meaning.id cell.variant cell.module) (Core core.Cell)
-    (refuse_if (not (bytes_eq cell.nonce nonce)) Gone
+    refusal_if (is_other variant meaning.id cell.variant cell.module) (Core core.Cell)
+    (refusal_if (not (bytes_eq cell.nonce nonce)) Gone
     (retirement_by variant link nonce cell.summary None
     (right_offer meaning variant cell.key offer)))
 
@@ -149,8 +149,8 @@ abbrev pub ticket_by : Meaning → List ℕ → Result TaggedTicket PartsFault
 ticket_by meaning key (Err Form) = Err (Core core.Form)
 ticket_by meaning key (Err Kind) = Err (Core core.Kind)
 ticket_by meaning key (Ok offered) =
-    refuse_if (not (meaning.is_spelled offered.ticket.content.state)) (Core core.State)
-    (refuse_if (not (bytes_eq offered.tag (ticket_tag key offered.ticket))) (Core core.Tag)
+    refusal_if (not (meaning.is_spelled offered.ticket.content.state)) (Core core.State)
+    (refusal_if (not (bytes_eq offered.tag (ticket_tag key offered.ticket))) (Core core.Tag)
     (Ok offered.ticket))
 
 abbrev pub right_ticket : Meaning → Variant → List ℕ → List ℕ → Result TicketContent MoveRefusal
@@ -176,7 +176,7 @@ abbrev pub acceptance_by : WaitingCell → Result TicketContent MoveRefusal
     → Result (ReadyMove Accepted) MoveRefusal
 acceptance_by cell (Err why) = Err why
 acceptance_by cell (Ok ticket) =
-    refuse_if (not (bytes_eq ticket.nonce cell.nonce)) Nonce
+    refusal_if (not (bytes_eq ticket.nonce cell.nonce)) Nonce
     (Ok (record {
       next = Some (cell_spelling (live_cell_from cell ticket.content));
       answer = acceptance_of cell.key ticket.content;
@@ -186,7 +186,7 @@ abbrev pub acceptance_again_by : Cell → Result TicketContent MoveRefusal
     → Result (ReadyMove Accepted) MoveRefusal
 acceptance_again_by cell (Err why) = Err why
 acceptance_again_by cell (Ok ticket) =
-    refuse_if (cell.flag
+    refusal_if (cell.flag
     || not (bytes_eq (summary_in ticket.content.place).bytes cell.summary.bytes))
     (Core core.Stale)
     (Ok (record { next = None; answer = acceptance_of cell.key ticket.content }))
@@ -198,10 +198,10 @@ acceptance_in meaning variant link ticket (Err Blank) = Err (Core core.Blank)
 acceptance_in meaning variant link ticket (Ok (Left cell)) = Err Gone
 acceptance_in meaning variant link ticket (Err Unspelled) = Err (Core core.Cell)
 acceptance_in meaning variant link ticket (Ok (Waits cell)) =
-    refuse_if (is_other variant meaning.id cell.variant cell.module) (Core core.Cell)
-    (refuse_if (is_barred variant cell.barrier link) Barrier
+    refusal_if (is_other variant meaning.id cell.variant cell.module) (Core core.Cell)
+    (refusal_if (is_barred variant cell.barrier link) Barrier
     (acceptance_by cell (right_ticket meaning variant link.key ticket)))
 acceptance_in meaning variant link ticket (Ok (Live cell)) =
-    refuse_if (is_other variant meaning.id cell.variant cell.module) (Core core.Cell)
-    (refuse_if (is_barred variant cell.barrier link) Barrier
+    refusal_if (is_other variant meaning.id cell.variant cell.module) (Core core.Cell)
+    (refusal_if (is_barred variant cell.barrier link) Barrier
     (acceptance_again_by cell (right_ticket meaning variant link.key ticket)))

@@ -28,7 +28,7 @@ module _ (meaning : Meaning) (key : List ℕ) (all others : List (List ℕ)) (as
 
   -- what stands in the place of the register's items doesn't matter
   plain_within : (y : History) (m : Move) → IsBasicMove m → IsWithin all others asked_for it y → (let z : History = history_after it y m in
-      Within (history_messages it (counted_part z)) all → AllByRecursion (Contains asked_for) z.batches
+      AreMessagesIn (history_messages it (counted_part z)) all → AllByRecursion (Contains asked_for) z.batches
       → IsWithin all others asked_for it z)
   plain_within y m is w listed batches =
       let z : History = history_after it y m in let plain : IsPlain z = plain-moved meaning key y m is w.sound in record {
@@ -118,7 +118,7 @@ module _ (meaning : Meaning) (key barrier : List ℕ) (all others : List (List �
 
   -- what is listed of moves, and what of them others made
   abbrev AreListed : History → List Move → Type 0
-  AreListed z moves = Within (messages_of_moves I z moves) all × AllByRecursion (Contains others) (foreign_move_values moves)
+  AreListed z moves = AreMessagesIn (messages_of_moves I z moves) all × AllByRecursion (Contains others) (foreign_move_values moves)
 
   -- what counts, by whether a segment is open
   abbrev Counted : Bool → List Move → Type 0
@@ -133,15 +133,15 @@ module _ (meaning : Meaning) (key barrier : List ℕ) (all others : List (List �
   reset_counted : (values : List (List ℕ)) (rest : List Move) → AreListed y (map Foreign values ++ Reset ∷ rest)
       → Counted false (map Foreign values ++ Reset ∷ rest)
   reset_counted values rest listed =
-      let W : List (List ℕ) → Type 0 = λ v. Within v all in
+      let W : List (List ℕ) → Type 0 = λ v. AreMessagesIn v all in
       let back = each_right (Contains all) (messages_of_moves I y (map Foreign values))
       (messages_of_moves I (state_after_moves (list_level I) y (map Foreign values)) (Reset ∷ rest))
       (subst W (messages-made I (map Foreign values) (Reset ∷ rest) y) listed.0) in
-      let after : Within (messages_of_moves I (bare y) rest) all =
+      let after : AreMessagesIn (messages_of_moves I (bare y) rest) all =
       each_right (Contains all) (move_messages I (history_with_values y values) Reset)
-      (messages_of_moves I (bare y) rest) (subst (λ z. Within (messages_of_moves I z (Reset ∷ rest)) all) (taking_is I values y) back) in
+      (messages_of_moves I (bare y) rest) (subst (λ z. AreMessagesIn (messages_of_moves I z (Reset ∷ rest)) all) (taking_is I values y) back) in
       subst (AreListed (bare y)) (sym (moves_from_reset-foreign values (Reset ∷ rest))) (
-        subst (λ w. Within (w ++ messages_of_moves I (bare y) rest) all) (sym (reset_messages meaning key barrier (bare y) y.is_open))
+        subst (λ w. AreMessagesIn (w ++ messages_of_moves I (bare y) rest) all) (sym (reset_messages meaning key barrier (bare y) y.is_open))
             after,
         each_right (Contains others) values (foreign_move_values rest)
             (subst (AllByRecursion (Contains others)) (foreign_move_values-first values (Reset ∷ rest)) listed.1),
@@ -168,8 +168,8 @@ module _ (meaning : Meaning) (key barrier : List ℕ) (all others : List (List �
 -- a loss of power, and a value of others
 
 power_listed : (meaning : Meaning) (key barrier : List ℕ) (all : List (List ℕ)) (y : History) (flag : Bool)
-    → Within (history_messages (opt_instance meaning key barrier) (record y { items = if flag then y.items else [] })) all
-    → Within (history_messages (opt_instance meaning key barrier) (record y { items = if flag then [] else [] })) all
+    → AreMessagesIn (history_messages (opt_instance meaning key barrier) (record y { items = if flag then y.items else [] })) all
+    → AreMessagesIn (history_messages (opt_instance meaning key barrier) (record y { items = if flag then [] else [] })) all
 power_listed meaning key barrier all y true h = listed_bare meaning key barrier all y h
 power_listed meaning key barrier all y false h = h
 
@@ -192,7 +192,7 @@ module _ (meaning : Meaning) (key barrier : List ℕ) (all others : List (List �
   }
 
   foreign_by : (flag : Bool) (y : History) (d : Digests) (v : List ℕ) → y.is_open ≡ flag → Kept y d → Contains others v
-      → Within (move_messages i y (Foreign v)) all → IsWithin all others asked_for i (history_after i y (Foreign v))
+      → AreMessagesIn (move_messages i y (Foreign v)) all → IsWithin all others asked_for i (history_after i y (Foreign v))
   foreign_by true y d v e k c message =
       let h = holds_open meaning key barrier all others asked_for y d e k.agrees k.within in
       within_of meaning key barrier all others asked_for (history_after i y (Foreign v)) (digests_after i d (Foreign v))

@@ -24,9 +24,9 @@ pub record IsCallWithin (all others : List (List ℕ)) (asked_for : List Batch) 
     (meddles : List Meddle) (bytes : List ℕ) (b : Batch) : Type 0 where
   pub outside : AllByRecursion (Contains others) (map (λ m. m.value.bytes) meddles)
   pub is_asked : Contains asked_for b
-  pub listed : Within (right_messages i b (right_content i bytes)) all
+  pub listed : AreMessagesIn (right_messages i b (right_content i bytes)) all
   pub genuine : IsGenuine i y bytes
-  pub messages : Within (messages_of_moves i y (call_outcome i (list_level i) y (course_of stop meddles) bytes b).moves) all
+  pub messages : AreMessagesIn (messages_of_moves i y (call_outcome i (list_level i) y (course_of stop meddles) bytes b).moves) all
 
 -- What one variant gives: the laws of calls and of checkpoints on a planned course, by the moves by lists; that a loss of
 -- power and a value of others keep what holds; and that it holds at the start.
@@ -37,13 +37,13 @@ pub record Variants (all others : List (List ℕ)) (asked_for : List Batch) (i :
       (call_outcome i (digest_level i) d (course_of stop meddles) bytes b)
   pub checkpoints : (y : History) (d : Digests) (stop : Stop) (meddles : List Meddle) → KeepsHistory all others asked_for i y d
       → AllByRecursion (Contains others) (map (λ m. m.value.bytes) meddles)
-      → Within (messages_of_moves i y (checkpoint_outcome i (list_level i) y (course_of stop meddles)).moves) all
+      → AreMessagesIn (messages_of_moves i y (checkpoint_outcome i (list_level i) y (course_of stop meddles)).moves) all
       → IsSameCheckpoint all others asked_for i (checkpoint_outcome i (list_level i) y (course_of stop meddles))
       (checkpoint_outcome i (digest_level i) d (course_of stop meddles))
   pub power : (y : History) (d : Digests) → KeepsHistory all others asked_for i y d
       → KeepsHistory all others asked_for i (history_after i y PowerMove) (digests_after i d PowerMove)
   pub foreign : (y : History) (d : Digests) (v : List ℕ) → KeepsHistory all others asked_for i y d → Contains others v
-      → Within (messages_of_moves i y (Foreign v ∷ [])) all → KeepsHistory all others asked_for i (history_after i y (Foreign v))
+      → AreMessagesIn (messages_of_moves i y (Foreign v ∷ [])) all → KeepsHistory all others asked_for i (history_after i y (Foreign v))
       (digests_after i d (Foreign v))
   pub starts : Contains all (start_message i.variant i.meaning.id) → KeepsHistory all others asked_for i first_history (first_digests i)
 
@@ -89,10 +89,10 @@ module _ (all others : List (List ℕ)) (asked_for : List Batch) (i : Instance) 
   asked_same : (y : History) (d : Digests) (issued : List (List ℕ)) (meddles : List Meddle) (stop : Stop) (bytes : List ℕ) (b : Batch)
       (long : Bool) → Kept y d → AllByRecursion (Contains others) (map (λ m. m.value.bytes) meddles)
       → AllByRecursion (Contains asked_for) (if long then [] else b ∷ [])
-      → Within (if long then [] else right_messages i b (right_content i bytes)) all → IsGenuine i y bytes
+      → AreMessagesIn (if long then [] else right_messages i b (right_content i bytes)) all → IsGenuine i y bytes
       → (let lists : CallOutcome History = call_outcome i (list_level i) y (course_of stop meddles) bytes b in
       let digests : CallOutcome Digests = call_outcome i (digest_level i) d (course_of stop meddles) bytes b in
-      Within (messages_of_moves i y (if long then [] else lists.moves)) all
+      AreMessagesIn (messages_of_moves i y (if long then [] else lists.moves)) all
       → Same (if long then outcome_without_call y issued (reply.No cause.Long) else outcome_by (list_level i) stop issued lists)
       (if long then outcome_without_call d issued (reply.No cause.Long) else outcome_by (digest_level i) stop issued digests))
   asked_same y d issued meddles stop bytes b true k outside batches listed genuine messages =
@@ -103,8 +103,8 @@ module _ (all others : List (List ℕ)) (asked_for : List Batch) (i : Instance) 
 
   offered_same : (y : History) (d : Digests) (issued : List (List ℕ)) (meddles : List Meddle) (stop : Stop) (bytes : Option (List ℕ))
       (b : Batch) → Kept y d → AllByRecursion (Contains others) (map (λ m. m.value.bytes) meddles)
-      → AllByRecursion (Contains asked_for) (if is_long b then [] else normal_batch b ∷ []) → Within (asking_messages i bytes b) all
-      → IsGenuineOffer i y bytes → Within (messages_of_moves i y (ask_moves i y meddles stop bytes b)) all
+      → AllByRecursion (Contains asked_for) (if is_long b then [] else normal_batch b ∷ []) → AreMessagesIn (asking_messages i bytes b) all
+      → IsGenuineOffer i y bytes → AreMessagesIn (messages_of_moves i y (ask_moves i y meddles stop bytes b)) all
       → Same (ask_event_outcome i (list_level i) y issued meddles stop bytes b)
       (ask_event_outcome i (digest_level i) d issued meddles stop bytes b)
   offered_same y d issued meddles stop None b k outside batches listed genuine messages =
@@ -124,7 +124,7 @@ module _ (all others : List (List ℕ)) (asked_for : List Batch) (i : Instance) 
 
   pub follow_same : (events : List Event) (y : History) (d : Digests) (issued : List (List ℕ)) → Kept y d
       → AllByRecursion (Contains others) (foreign_values events) → AllByRecursion (Contains asked_for) (asked_batches events)
-      → Within (messages_from i y issued events) all → AreGenuine i y issued events
+      → AreMessagesIn (messages_from i y issued events) all → AreGenuine i y issued events
       → AgreesThroughout i (outcome_of_events i (list_level i) y issued events) (outcome_of_events i (digest_level i) d issued events)
   follow_same [] y d issued k outside among listed genuine =
       record { replies = refl; issued = refl; steps = refl; writes = refl; stands = k.agrees }

@@ -27,9 +27,9 @@ use Rattle.mm_model.specs.declared.refusal.Refusal.TheVariants as refusal
 
 -- what is asked of the snapshot of a history
 right_within : (i : Instance) (y : History) (b : Batch) (all : List (List ℕ)) → IsContent (content_of_issue i y)
-    → Within (offer_messages i (content_of_issue i y).place b) all → Within (right_messages i b (right_content i (issued_bytes i y))) all
+    → AreMessagesIn (offer_messages i (content_of_issue i y).place b) all → AreMessagesIn (right_messages i b (right_content i (issued_bytes i y))) all
 right_within i y b all formed h = listed_by i y b all (right_content i (issued_bytes i y))
-    (λ content seen. subst (λ (x : Content). Within (offer_messages i x.place b) all) (issued_once i (issued_bytes i y) y content formed
+    (λ content seen. subst (λ (x : Content). AreMessagesIn (offer_messages i x.place b) all) (issued_once i (issued_bytes i y) y content formed
     refl
     (right_of i (issued_bytes i y) (parts_of i.variant i.meaning.id (issued_bytes i y)) refl content seen)) h)
 
@@ -42,7 +42,7 @@ is_genuine i y later formed names content right =
 -- Basic
 
 basic_moves : (key : List ℕ) (all : List (List ℕ)) (fresh : Bool)
-    → Within (messages_of_moves (basic_instance counter key) first_history (walk (course_of Quiet []).fates 1 (ask_steps Basic false fresh
+    → AreMessagesIn (messages_of_moves (basic_instance counter key) first_history (walk (course_of Quiet []).fates 1 (ask_steps Basic false fresh
     five)).moves) all
 basic_moves key all false = tt
 basic_moves key all true = tt
@@ -51,7 +51,7 @@ pub basic_met : (key : List ℕ) → IsClearRun (basic_instance counter key) one
 basic_met key =
     let i = basic_instance counter key in let all = basic_messages in
     let formed = basic_content counter counter_is_lawful key first_history (omega arith) in
-    let offered : Within (offer_messages i (content_of_issue i first_history).place five) all =
+    let offered : AreMessagesIn (offer_messages i (content_of_issue i first_history).place five) all =
     (subst (λ s. Contains all (link_message s five)) (summary-nil 1) basic_listed.1, tt) in
     let found = finding_unless_wanting (finding_at i (list_level i) (state_seen i (list_level i) first_history (course_of Quiet [])) five
     (issued_bytes i first_history)) false in
@@ -93,14 +93,14 @@ found_fresh meaning key barrier y b c bytes live parts spelled here fits =
 
 -- what a run of events comes to from a history on
 record Met (all : List (List ℕ)) (i : Instance) (y : History) (issued : List (List ℕ)) (events : List Event) (last : History) : Type 0 where
-  within : Within (messages_from i y issued events) all
+  within : AreMessagesIn (messages_from i y issued events) all
   genuine : AreGenuine i y issued events
   ends : (outcome_of_events i (list_level i) y issued events).state ≡ last
 
 met_first : (all : List (List ℕ)) (i : Instance) (y : History) (issued : List (List ℕ)) (event : Event) (events : List Event)
     (last : History)
     (o : Outcome History) (moves : List Move) → event_outcome i (list_level i) y issued event ≡ o → moves_of i y issued event ≡ moves
-    → IsGenuineEvent i y issued event → Within (event_messages i issued event) all → Within (messages_of_moves i y moves) all
+    → IsGenuineEvent i y issued event → AreMessagesIn (event_messages i issued event) all → AreMessagesIn (messages_of_moves i y moves) all
     → Met all i o.state o.issued events last → Met all i y issued (event ∷ events) last
 met_first all i y issued event events last o moves eo em genuine asked made met =
     let P : List ℕ → Type 0 = Contains all in
@@ -109,8 +109,8 @@ met_first all i y issued event events last o moves eo em genuine asked made met 
     let x : Outcome History = event_outcome i (list_level i) y issued event in
     record {
       within = each_append P (heard ++ went) (messages_from i x.state x.issued events)
-          (each_append P heard went asked (subst (λ (m : List Move). Within (messages_of_moves i y m) all) (sym em) made))
-          (subst (λ (z : Outcome History). Within (messages_from i z.state z.issued events) all) (sym eo) met.within);
+          (each_append P heard went asked (subst (λ (m : List Move). AreMessagesIn (messages_of_moves i y m) all) (sym em) made))
+          (subst (λ (z : Outcome History). AreMessagesIn (messages_from i z.state z.issued events) all) (sym eo) met.within);
       genuine = (genuine, subst (λ (z : Outcome History). AreGenuine i z.state z.issued events) (sym eo) met.genuine);
       ends = ap (λ (z : Outcome History). (outcome_of_events i (list_level i) z.state z.issued events).state) eo ∙ met.ends;
     }
@@ -145,7 +145,7 @@ two_of : (v : List ℕ) → register_of (v ∷ v ∷ []) ≡ twice v
 unfolding register_of extended_digest_of
 two_of v = refl
 
-if_other : (same : Bool) (all xs : List (List ℕ)) → (same ≡ false → Within xs all) → Within (if same then [] else xs) all
+if_other : (same : Bool) (all xs : List (List ℕ)) → (same ≡ false → AreMessagesIn xs all) → AreMessagesIn (if same then [] else xs) all
 if_other true all xs h = tt
 if_other false all xs h = h refl
 
@@ -177,24 +177,24 @@ module _ (meaning : Meaning) (lawful : IsLawful meaning) (key barrier d : List �
   -- the messages of what is asked
 
   -- of a place by its digests
-  pointed : (a e : List ℕ) → Within (form_messages a e v) all → (bytes_eq e zero_bytes ≡ false
-      → Within (anchored_message a e ∷ form_messages (anchored_digest_of a e) zero_bytes v) all)
-      → Within (offer_messages here (InOpt (digest_of a) (digest_of e)) five) all
+  pointed : (a e : List ℕ) → AreMessagesIn (form_messages a e v) all → (bytes_eq e zero_bytes ≡ false
+      → AreMessagesIn (anchored_message a e ∷ form_messages (anchored_digest_of a e) zero_bytes v) all)
+      → AreMessagesIn (offer_messages here (InOpt (digest_of a) (digest_of e)) five) all
   pointed a e fresh_form closed_form =
       (l.guarded, each_append (Contains all) (form_messages a e v) _ fresh_form (if_other (bytes_eq e zero_bytes) all _ closed_form))
 
   abbrev start : List ℕ
   start = start_digest_of Opt meaning.id
 
-  first_offered : Within (offer_messages here (content_of_issue here first_history).place five) all
+  first_offered : AreMessagesIn (offer_messages here (content_of_issue here first_history).place five) all
   first_offered = rw (anchor_nil meaning key barrier) (pointed start zero_bytes (l.first, (l.closes_first, tt))
       (λ other. let clash : true ≡ false = sym zero_is_zero ∙ other in cc))
 
-  second_offered : Within (offer_messages here (content_of_issue here asked_once).place five) all
+  second_offered : AreMessagesIn (offer_messages here (content_of_issue here asked_once).place five) all
   second_offered = rw (anchor_nil meaning key barrier, one_of v)
       (pointed start (once v) (l.second, (l.closes_second, tt)) (λ other. (l.closes_first, (l.first, (l.behind_first, tt)))))
 
-  third_offered : Within (offer_messages here (content_of_issue here asked_twice).place five) all
+  third_offered : AreMessagesIn (offer_messages here (content_of_issue here asked_twice).place five) all
   third_offered = rw (anchor_nil meaning key barrier, two_of v)
       (pointed start (twice v) (l.third, (l.closes_third, tt)) (λ other. (l.closes_second, (l.first, (l.behind_second, tt)))))
 
@@ -236,9 +236,9 @@ module _ (meaning : Meaning) (lawful : IsLawful meaning) (key barrier d : List �
   asked_met : (offered y last : History) (issued_before : List (List ℕ)) (events : List Event) → total_of offered.batches ≤ last_position
       → is_lost (life_of Opt y) ≡ false → verdict_on Opt y (total_of offered.batches) five ≡ Fresh
       → nat_le (total_of offered.batches + 1) last_position ≡ true → offered_bytes issued_before Last ≡ Some (issued_bytes here offered)
-      → NamesPosition here y (content_of_issue here offered) → Within (offer_messages here (content_of_issue here offered).place five) all
+      → NamesPosition here y (content_of_issue here offered) → AreMessagesIn (offer_messages here (content_of_issue here offered).place five) all
       → (let o : Outcome History = outcome_by (list_level here) Quiet issued_before (call offered y) in
-      Within (messages_of_moves here y (call offered y).moves) all → Met all here o.state o.issued events last
+      AreMessagesIn (messages_of_moves here y (call offered y).moves) all → Met all here o.state o.issued events last
       → Met all here y issued_before (five_asked ∷ events) last)
   asked_met offered y last issued_before events few live at fits newest names offers made met =
       let i : Instance = here in
@@ -250,7 +250,7 @@ module _ (meaning : Meaning) (lawful : IsLawful meaning) (key barrier d : List �
       (ap (λ bytes. ask_moves i y [] Quiet bytes five) newest ∙ ap (λ (c : CallOutcome History). c.moves) same)
       (subst (λ bytes. IsGenuineOffer i y bytes) (sym newest) (is_genuine here offered y (opt_content meaning lawful key barrier offered
       few) names))
-      (subst (λ bytes. Within (asking_messages i bytes five) all) (sym newest) (right_within here offered five all (opt_content meaning
+      (subst (λ bytes. AreMessagesIn (asking_messages i bytes five) all) (sym newest) (right_within here offered five all (opt_content meaning
       lawful key barrier offered few) offers))
       made met
 

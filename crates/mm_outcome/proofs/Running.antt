@@ -138,7 +138,7 @@ members_steps meaning requests after b c said e s = s
 
 -- what a checkpoint says tells no request
 closing_stays : (how : Way) (closing : CheckpointEnding) (requests after : List (List ℕ)) → after ≡ requests
-    → AsksNone requests (closing_reply how closing) after
+    → IsStepWithoutBatch requests (closing_reply how closing) after
 closing_stays how (Stops fault true) requests after e = e
 closing_stays how (Stops fault false) requests after e = e
 closing_stays how closing requests after e = e
@@ -146,7 +146,7 @@ closing_stays how closing requests after e = e
 checkpointed_steps : (i : Instance) (y : History) (issued : List (List ℕ)) (meddles : List Meddle) (stop : Stop) (is_lost : Bool)
     → (let o : Outcome History = checkpoint_event_outcome (list_level i) stop issued
     (checkpoint_outcome_with i (list_level i) y (course_of stop meddles) is_lost) in
-    AsksNone (requests_of y.batches) o.reply (requests_of o.state.batches))
+    IsStepWithoutBatch (requests_of y.batches) o.reply (requests_of o.state.batches))
 checkpointed_steps i y issued meddles stop is_lost =
     let c : Course = course_of stop meddles in
     let o : CheckpointOutcome History = checkpoint_outcome_with i (list_level i) y c is_lost in

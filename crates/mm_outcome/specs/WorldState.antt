@@ -66,7 +66,7 @@ pub record WorldFollows (o : Outcome Digests) (old new : WorldState) (said : Rep
 abbrev pub world_after_reading : Stop → List Meddle → WorldState → WorldState
 world_after_reading stop meddles world = record world {
   digests =
-      seen_at (instance_of world) (digest_level (instance_of world)) world.digests
+      state_seen (instance_of world) (digest_level (instance_of world)) world.digests
       (course_of stop meddles);
   steps = count_after_more (length (reading_steps (instance_of world).variant)) world.steps;
 }

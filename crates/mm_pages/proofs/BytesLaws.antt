@@ -6,8 +6,8 @@ use Rattle.mm_pages.proofs.Below.{append-nil, drop_all, drop-drop, take-min, sam
 use Rattle.mm_pages.specs.Bytes.{resized_bytes, page_of, bytes_with_page}
 use Rattle.mm_pages.specs.SlotWrites.{IsPutIn, IsPutAt}
 
-pub length-resized : (n : ℕ) (bytes : List ℕ) → length (resized n bytes) ≡ n
-unfolding resized
+pub length-resized : (n : ℕ) (bytes : List ℕ) → length (resized_bytes n bytes) ≡ n
+unfolding resized_bytes
 length-resized n bytes = simp (length-append, length-take, length-replicate) (omega arith)
 
 get_or-zeros : (n i : ℕ) → ◌≡◌ {A = ℕ} (get_or (replicate n 0) i 0) 0
@@ -16,8 +16,8 @@ get_or-zeros (suc n) zero = refl
 get_or-zeros (suc n) (suc i) = get_or-zeros n i
 
 -- each byte below the new length is as before, those past the old end being zero
-pub get_or-resized : (n i : ℕ) (bytes : List ℕ) → i < n → get_or (resized n bytes) i 0 ≡ get_or bytes i 0
-unfolding resized
+pub get_or-resized : (n i : ℕ) (bytes : List ℕ) → i < n → get_or (resized_bytes n bytes) i 0 ≡ get_or bytes i 0
+unfolding resized_bytes
 get_or-resized n i bytes h =
     elim (cases_lt i (length bytes)) [
       | inl within ↦
@@ -50,7 +50,7 @@ page_of-same bytes other page h =
 
 -- bytes with a part in place of as many at some place
 placed : ℕ → List ℕ → ℕ → List ℕ → List ℕ
-placed at part size bytes = resized at bytes ++ (part ++ drop (at + size) bytes)
+placed at part size bytes = resized_bytes at bytes ++ (part ++ drop (at + size) bytes)
 
 placed_is : (at size : ℕ) (part bytes : List ℕ) → length part ≡ size → IsPutIn at size part bytes (placed at part size bytes)
 unfolding placed
@@ -59,13 +59,13 @@ placed_is at size part bytes l =
     record {
       within = λ i h.
           let k : at + i - at ≡ i = omega arith in
-          get_or-append_right (resized at bytes) whole at (at + i) 0 (length-resized at bytes) (omega arith)
+          get_or-append_right (resized_bytes at bytes) whole at (at + i) 0 (length-resized at bytes) (omega arith)
           ∙ ap (λ n. get_or whole n 0) k ∙ get_or_append_left part (drop (at + size) bytes) 0 i (omega arith);
-      before = λ i h. get_or_append_left (resized at bytes) whole 0 i (omega (arith, length-resized at bytes))
+      before = λ i h. get_or_append_left (resized_bytes at bytes) whole 0 i (omega (arith, length-resized at bytes))
           ∙ get_or-resized at i bytes h;
       after = λ i h.
           let k : at + size + (i - at - size) ≡ i = omega arith in
-          get_or-append_right (resized at bytes) whole at i 0 (length-resized at bytes) (omega arith)
+          get_or-append_right (resized_bytes at bytes) whole at i 0 (length-resized at bytes) (omega arith)
           ∙ get_or-append_right part (drop (at + size) bytes) size (i - at) 0 l (omega arith)
           ∙ get_or-drop (at + size) bytes (i - at - size) 0 ∙ ap (λ n. get_or bytes n 0) k;
     }
@@ -76,21 +76,21 @@ put_at page part was l = placed_is (256 * page) 256 part was l
 
 -- bytes of this length that agree up to there
 pub resized-same : (bytes now : List ℕ) → ((i : ℕ) → i < length bytes → get_or now i 0 ≡ get_or bytes i 0) →
-    resized (length bytes) now ≡ bytes
+    resized_bytes (length bytes) now ≡ bytes
 resized-same bytes now h =
-    same_number_lists (resized (length bytes) now) bytes (length-resized (length bytes) now)
+    same_number_lists (resized_bytes (length bytes) now) bytes (length-resized (length bytes) now)
     (λ i below. let few : i < length bytes = omega (arith, length-resized (length bytes) now) in
     get_or-resized (length bytes) i now few ∙ h i few)
 
 -- bytes that have this length already
-pub resized-length : (bytes : List ℕ) → resized (length bytes) bytes ≡ bytes
+pub resized-length : (bytes : List ℕ) → resized_bytes (length bytes) bytes ≡ bytes
 resized-length bytes = resized-same bytes bytes (λ i below. refl)
 
 -- a part of the bytes, and zero bytes up to a page
 padded_part : (size at : ℕ) (bytes rest part back : List ℕ) → rest ≡ drop (min at (length bytes)) bytes →
     part ≡ take (min (length rest) size) rest → back ≡ drop (length part) (replicate size 0) →
-    part ++ back ≡ resized size (drop at bytes)
-unfolding resized
+    part ++ back ≡ resized_bytes size (drop at bytes)
+unfolding resized_bytes
 padded_part size at bytes rest part back e f g =
     let rest_is : rest ≡ drop at bytes = e ∙ drop_min at bytes in
     let part_is : part ≡ take size rest = f ∙ take-min size rest in
@@ -108,16 +108,16 @@ page_of-parts page bytes rest part back e f g = padded_part 256 (256 * page) byt
 
 -- bytes that end within the part that is put in place
 placed-end : (at size : ℕ) (part bytes : List ℕ) → length bytes ≤ at + size →
-    resized at bytes ++ part ≡ placed at part size bytes
+    resized_bytes at bytes ++ part ≡ placed at part size bytes
 unfolding placed
 placed-end at size part bytes h =
-    ap (λ (x : List ℕ). resized at bytes ++ x) (sym (append-nil part)
+    ap (λ (x : List ℕ). resized_bytes at bytes ++ x) (sym (append-nil part)
     ∙ ap (λ (x : List ℕ). part ++ x) (sym (drop_all (at + size) bytes h)))
 
 -- bytes that go on after it
 placed-amid : (at size : ℕ) (part bytes : List ℕ) → at ≤ length bytes →
     take at bytes ++ (part ++ drop size (drop at bytes)) ≡ placed at part size bytes
-unfolding placed resized
+unfolding placed resized_bytes
 placed-amid at size part bytes h =
     let none : at - length bytes ≡ 0 = omega arith in
     ap (λ (x : List ℕ). x ++ (part ++ drop size (drop at bytes)))
@@ -125,7 +125,7 @@ placed-amid at size part bytes h =
     ∙ ap (λ (x : List ℕ). (take at bytes ++ replicate (at - length bytes) 0) ++ (part ++ x)) (drop-drop size at bytes)
 
 pub bytes_with_page-end : (page : ℕ) (part bytes : List ℕ) → length bytes ≤ 256 * page + 256 →
-    resized (256 * page) bytes ++ part ≡ bytes_with_page page part bytes
+    resized_bytes (256 * page) bytes ++ part ≡ bytes_with_page page part bytes
 unfolding bytes_with_page placed
 bytes_with_page-end page part bytes h = placed-end (256 * page) 256 part bytes h
 

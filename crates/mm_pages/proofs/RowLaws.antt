@@ -5,19 +5,19 @@ use Rattle.mm_pages.proofs.Below.{take, drop, refl, ap, sym, ◌∙◌, arith, l
 use Rattle.mm_pages.proofs.Below.{get_or-append_right, get_or-drop, drop-drop, drop_at, take-append_seam, Digest, page_of, Rows, row_in}
 use Rattle.mm_pages.proofs.Below.{rows_with, kept_digest, page_digest, row_with_digest, digests_of_pages}
 
-pub row_in-with_row : (rows : Rows) (n : ℕ) (row : List (Option Digest)) → row_in (with_row rows n row) n ≡ row
+pub row_in-with_row : (rows : Rows) (n : ℕ) (row : List (Option Digest)) → row_in (rows_with rows n row) n ≡ row
 row_in-with_row rows n row = grind (arith, nat_tests)
 
 pub with_row-twice : (rows : Rows) (n : ℕ) (one other : List (Option Digest)) →
-    with_row (with_row rows n one) n other ≡ with_row rows n other
+    rows_with (rows_with rows n one) n other ≡ rows_with rows n other
 with_row-twice rows n one other = grind (arith, nat_tests)
 
-pub with_row-same : (rows : Rows) (n : ℕ) → with_row rows n (row_in rows n) ≡ rows
+pub with_row-same : (rows : Rows) (n : ℕ) → rows_with rows n (row_in rows n) ≡ rows
 with_row-same rows n = grind (arith, nat_tests)
 
 -- a digest that follows those of the pages before it
 seam : (digest : Digest) (firsts row : List (Option Digest)) →
-    keeping (length firsts) digest (firsts ++ drop (length firsts) row)
+    row_with_digest (length firsts) digest (firsts ++ drop (length firsts) row)
     ≡ (firsts ++ (Some digest ∷ [])) ++ drop (suc (length firsts)) row
 seam digest firsts row =
     let n : ℕ = length firsts in
@@ -31,13 +31,13 @@ seam digest firsts row =
     ∙ sym (append_assoc firsts (Some digest ∷ []) (drop (suc n) row))
 
 pub keeping-next : (page : ℕ) (digest : Digest) (firsts row : List (Option Digest)) → length firsts ≡ page →
-    keeping page digest (firsts ++ drop page row) ≡ (firsts ++ (Some digest ∷ [])) ++ drop (suc page) row
+    row_with_digest page digest (firsts ++ drop page row) ≡ (firsts ++ (Some digest ∷ [])) ++ drop (suc page) row
 keeping-next page digest firsts row e =
-    subst (λ n. keeping n digest (firsts ++ drop n row) ≡ (firsts ++ (Some digest ∷ [])) ++ drop (suc n) row) e
+    subst (λ n. row_with_digest n digest (firsts ++ drop n row) ≡ (firsts ++ (Some digest ∷ [])) ++ drop (suc n) row) e
     (seam digest firsts row)
 
 pub keeping-alike : (page : ℕ) (digest : Digest) (one other : List (Option Digest)) → take page one ≡ take page other →
-    drop (page + 1) one ≡ drop (page + 1) other → keeping page digest one ≡ keeping page digest other
+    drop (page + 1) one ≡ drop (page + 1) other → row_with_digest page digest one ≡ row_with_digest page digest other
 keeping-alike page digest one other e f =
     ap (λ (x : List (Option Digest)). x ++ (Some digest ∷ drop (page + 1) one)) e
     ∙ ap (λ (x : List (Option Digest)). take page other ++ (Some digest ∷ x)) f

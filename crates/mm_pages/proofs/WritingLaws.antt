@@ -138,7 +138,7 @@ fails_after {slot} {old = old} {new = new} {rows = rows} f g = record {
 
 -- slots whose length is right
 length_stays : (slot size : ℕ) (slots : Option Slots) → ((told : Slots) → slots ≡ Some told → length (slot_in told slot) ≡ size) →
-    slots ≡ slots_with_change slot (resized size) slots
+    slots ≡ slots_with_change slot (resized_bytes size) slots
 length_stays slot size slots h = grind (arith, with_slot-same, resized-length, h)
 
 -- the length, where it is right already
@@ -176,7 +176,7 @@ fits_synced slot size old mid new (Err fault) f s = record {
       let left = s.leaves (f.honest ∙ honest) in (
         left.0,
         then_left slot old.slots
-            (left_by (changed slot (λ was now. Unit {0}) (resized size) old.slots mid.slots (f.slots honest) (λ told e. tt))) left,
+            (left_by (changed slot (λ was now. Unit {0}) (resized_bytes size) old.slots mid.slots (f.slots honest) (λ told e. tt))) left,
       );
   marks =
       marks_alone slot true mid.unsynced new.unsynced (ap (λ (x : PageStanding). x.unsynced) s.same) ∙ f.marks;
@@ -184,7 +184,7 @@ fits_synced slot size old mid new (Err fault) f s = record {
 
 -- what is in a slot whose pages are those of the bytes, once it has their length
 whole : (bytes was now : List ℕ) → IsFilled (page_count (length bytes)) bytes was now →
-    resized (length bytes) now ≡ bytes
+    resized_bytes (length bytes) now ≡ bytes
 whole bytes was now f = resized-same bytes now (λ i below. f.filled i (omega arith))
 
 put_as : (slot : ℕ) (bytes : List ℕ) (old new : Option Slots) → ChangesSlot slot (λ was now. now ≡ bytes) old new →
@@ -220,7 +220,7 @@ puts_all {slot} {bytes} {old} {mid} {new} {rows} {some} f r ends =
           λ honest.
           s.leaves (g.honest ∙ f.honest ∙ honest) ∙ put_as slot bytes old.slots ends.fitted.slots
           (changes_then (λ was between now filled fitted. fitted ∙ whole bytes was between filled) (f.fills honest)
-          (changed slot (λ was now. now ≡ resized (length bytes) was) (resized (length bytes)) mid.slots ends.fitted.slots
+          (changed slot (λ was now. now ≡ resized_bytes (length bytes) was) (resized_bytes (length bytes)) mid.slots ends.fitted.slots
           (g.slots (f.honest ∙ honest)) (λ told e. refl)));
       writes = λ honest told e steps. ap (λ (x : PageStanding). x.page_writes) s.same ∙ g.writes ∙ (f.changes honest told e steps).writes;
       settled =

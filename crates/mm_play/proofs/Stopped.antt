@@ -16,7 +16,7 @@ module _ {G H E S R T : Type 0} (p : EventPlayer G H E S) (heads : HeadStage G R
     (begun : H → R) (shown : H → List E → S) (shows : StageShows p heads s steps begun shown) (Holds : H → List E → (List E → S) → Type 0)
     (holds : (header : H) (events : List E) → Holds header events (shown header)) (reports : LineStage G R → T → Type 0) where
   told_events : {next : LineStage G R} {left left' received received' : Option (List ℕ)} {result : Result T ReplayFault}
-      → Plays (line_answer heads s) (closing_lines heads s) (AtHeading p.start) next left left' received received' result
+      → PlaysInput (line_answer heads s) (closing_lines heads s) (AtHeading p.start) next left left' received received' result
       → TellsEvents p Holds left left' received received' [] result
   told_events {next = next} {left' = left'} {result = result} played =
       let it = tells p heads s steps begun shown shows Holds holds next left' played.taken played.sent result played.settled in
@@ -34,7 +34,7 @@ module _ {G H E S R T : Type 0} (p : EventPlayer G H E S) (heads : HeadStage G R
 
   module _ {player next : LineStage G R} {left left' received received' : Option (List ℕ)} {result : Result (Unit {0}) ReplayFault}
       (begins : player ≡ AtHeading p.start)
-      (played : Plays (line_answer heads s) (closing_lines heads s) player next left left' received received' result) where
+      (played : PlaysInput (line_answer heads s) (closing_lines heads s) player next left left' received received' result) where
     pub events_ok : (done : Unit {0}) → result ≡ Ok done → (report : T) → reports next report
         → PlaysEvents p Holds heads s reports left left' received received' (Ok report)
     events_ok done is report reported =
@@ -45,7 +45,7 @@ module _ {G H E S R T : Type 0} (p : EventPlayer G H E S) (heads : HeadStage G R
         → (let said : Result T ReplayFault = Err fault in PlaysEvents p Holds heads s reports left left' received received' said)
     events_err fault is =
         let plays : (let said : Result T ReplayFault = Err fault in
-        Plays (line_answer heads s) (closing_lines heads s) (AtHeading p.start) next left left' received received' said) =
+        PlaysInput (line_answer heads s) (closing_lines heads s) (AtHeading p.start) next left left' received received' said) =
         plays_err begins played fault is in
         record { next = next; plays = plays; tells = told_events plays; reported = tt }
 

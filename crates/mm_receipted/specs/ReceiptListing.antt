@@ -10,7 +10,7 @@ use Rattle.mm_receipted.specs.Table.{receipted_module}
 abbrev pub receipt_listing : Listing → Listing
 receipt_listing inner =
     listing_of (codes "receipt-" ++ inner.name) (receipted_module inner.meaning) inner.request
-    promises_nothing
+    PromisesNothing
 
 receipt_named : (name : List ℕ) → IsName name → IsName (codes "receipt-" ++ name)
 receipt_named name is = record { begins = refl; letters = is.letters; other = refl }

@@ -198,7 +198,7 @@ read_alone : (variant : Variant) (fates : ℕ → StepFate) (flag fresh : Bool) 
 read_alone variant fates flag fresh b e whole = grind (arith, read_then, e, whole)
 
 -- memory may be wanting besides
-lacking_or : (found : Result CallFinding Refusal) (lacks : Bool) (why : Refusal) → found_unless_wanting found lacks ≡ Err why
+lacking_or : (found : Result CallFinding Refusal) (lacks : Bool) (why : Refusal) → finding_unless_wanting found lacks ≡ Err why
     → (why ≡ Memory) ⊎ (found ≡ Err why)
 lacking_or found lacks why e = grind (arith, e)
 
@@ -206,10 +206,10 @@ lacking_or found lacks why e = grind (arith, e)
 module _ {S : Type 0} (level : Level S) (i : Instance) (s : S) (c : Course) (b : Batch) (offer : List ℕ) (why : Refusal)
     (e : result_of_ending (call_outcome i level s c offer b).ending ≡ Err why) (none : fault_of why ≡ None) where
   left_seen : ((call_outcome i level s c offer b).state ≡ state_seen i level s c)
-      × (found_unless_wanting (finding_at i level (state_seen i level s c) b offer) c.lacks ≡ Err why)
+      × (finding_unless_wanting (finding_at i level (state_seen i level s c) b offer) c.lacks ≡ Err why)
   left_seen =
       let seen : S = state_seen i level s c in
-      let found : Result CallFinding Refusal = found_unless_wanting (finding_at i level seen b offer) c.lacks in
+      let found : Result CallFinding Refusal = finding_unless_wanting (finding_at i level seen b offer) c.lacks in
       let flag : Bool = level.is_open s in
       let w : StepsWalk = walk c.fates 1 (ask_steps i.variant flag (is_fresh found) b) in
       let f = ended_found level seen (state_after_moves level s w.moves) b found w.moves w.broken why e none in
@@ -258,7 +258,7 @@ module _ (i : Instance) (s : History) (request : List ℕ) where
 
 module _ (i : Instance) (y : History) (c : Course) (request offer : List ℕ) where
   room_by : (w : StepsWalk) (found : Result CallFinding Refusal)
-      → found_unless_wanting (finding_at i (list_level i) (state_seen i (list_level i) y c) (One request) offer) c.lacks ≡ found
+      → finding_unless_wanting (finding_at i (list_level i) (state_seen i (list_level i) y c) (One request) offer) c.lacks ≡ found
       → Commits (One request) (is_fresh found) w
       → ((state_after_moves (list_level i) y w.moves).batches ≡ y.batches) ⊎ (total_of (state_after_moves (list_level i) y w.moves).batches
       ≤ last_position)
@@ -274,6 +274,6 @@ module _ (i : Instance) (y : History) (c : Course) (request offer : List ℕ) wh
       ⊎ (total_of (call_outcome i (list_level i) y c offer (One request)).state.batches ≤ last_position)
   has_room =
       let found : Result CallFinding Refusal =
-      found_unless_wanting (finding_at i (list_level i) (state_seen i (list_level i) y c) (One request) offer) c.lacks in
+      finding_unless_wanting (finding_at i (list_level i) (state_seen i (list_level i) y c) (One request) offer) c.lacks in
       room_by (walk c.fates 1 (ask_steps i.variant y.is_open (is_fresh found) (One request))) found refl
       (call_commits i.variant c.fates y.is_open (is_fresh found) (One request))

@@ -12,7 +12,7 @@ abbrev pub BlamesHostFault : {T : Type 0} → Result T HostFault → Standing �
 BlamesHostFault (Err Store) before after old new =
     (after.faults ≡ before.faults) × CountRose old.faults new.faults
 BlamesHostFault (Err (Refused why)) before after old new =
-    Blames (fault_of why) before.faults after.faults × (new.faults ≡ old.faults)
+    CountsHandedFault (fault_of why) before.faults after.faults × (new.faults ≡ old.faults)
 BlamesHostFault result before after old new = (after.faults ≡ before.faults)
     × (new.faults ≡ old.faults)
 

@@ -164,7 +164,7 @@ one_spelling s t rest is it e =
     (λ i. record { content = contents.0 i; tag = tags.0 i }, tags.1)
 
 -- equal bytes are of one snapshot
-pub same_snapshot : (bytes : List ℕ) (s t : Snapshot) → Spells bytes s → Spells bytes t → s ≡ t
+pub same_snapshot : (bytes : List ℕ) (s t : Snapshot) → SpellsSnapshot bytes s → SpellsSnapshot bytes t → s ≡ t
 same_snapshot bytes s t h k = (one_spelling s t [] h.0 k.0 (append-nil (snapshot_spelling s) ∙ sym h.1 ∙ k.1)).0
 
 -- taking apart has one answer
@@ -184,6 +184,6 @@ reads_parts-same bytes variant id (Err Kind) (Err Kind) h k = refl
 
 -- a sealed content is spelled, with its tag under the key
 pub sealed_snapshot_of-spells : (key : List ℕ) (content : Content) → IsContent content →
-    Spells (sealed_snapshot_of key content) (record { content = content; tag = tag_of key content })
+    SpellsSnapshot (sealed_snapshot_of key content) (record { content = content; tag = tag_of key content })
 unfolding sealed_snapshot_of
 sealed_snapshot_of-spells key content is = (record { content = is; tag = length-hmac_of key (snapshot_front content) }, refl)

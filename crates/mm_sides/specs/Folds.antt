@@ -52,7 +52,7 @@ abbrev pub outcome_by_role : {S A : Type 0} → Mover S A → Instance → Role 
     → Outcome S
 outcome_by_role mover i Live side event = event_outcome i (mover.level i) side.at side.issued event
 outcome_by_role mover i role side event =
-    event_in_vain (mover.level i) side.at side.issued (refusal_for_role role) event
+    vain_event_outcome (mover.level i) side.at side.issued (refusal_for_role role) event
 
 -- how many requests it commits: none where the module isn't
 abbrev pub commits_between : Role → (before after : ℕ) → ℕ

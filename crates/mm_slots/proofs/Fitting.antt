@@ -95,7 +95,7 @@ pub over_comes : (slot slot' : Parts) (flight : CodeFlight) (keys : Unit {0}) (t
     (from new : Standing) (event : Event) (it : CallReport)
     (said : SlotReply) → slot.flight ≡ None → slot.seat.committed < 2 ^ 63
     → (let s = slot_in (parts_with_flight slot flight) in
-    Came (instance_in slot) (outcome_in (instance_in slot) s event) s.digests.count s.issued from new it
+    CallComesTo (instance_in slot) (outcome_in (instance_in slot) s event) s.digests.count s.issued from new it
     → CallEndsIn it (left slot new keys tally bound) slot' said → SlotComesTo (parts_with_flight slot flight) slot'
     (event_turn (instance_in slot) s event) said)
 over_comes slot slot' flight keys tally bound from new event it said none few c e =

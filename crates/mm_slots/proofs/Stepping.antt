@@ -49,7 +49,7 @@ pub record ClosesStep (slot : Parts) (it : CheckpointInFlight) (new : Standing)
 asks_come : (slot : Parts) (it : AskInFlight) (new : Standing) (result : Result (FlightOutcome BatchAnswer) Memory)
     → (fits : PartsFit (parts_with_flight slot (code.Asks it))) → AsksStep slot it new result
     → (let h = slot.seat.header in let d = digests_in (parts_with_flight slot (code.Asks it)) in let p = next_plan slot.seat.platform in
-    SteppedTo (asks_so h.variant (meaning_of h.«module») it.bytes (One it.request)) (instance_in slot) d
+    StepComesTo (asks_so h.variant (meaning_of h.«module») it.bytes (One it.request)) (instance_in slot) d
     (call_of slot (code.Asks it) fits).from (outcome_of_stopped_ask (instance_in slot) d slot.seat.issued.items p.meddles it.offer
     (One it.request))
     slot.seat.issued.items p.meddles (p.at + 1) new result)
@@ -64,7 +64,7 @@ asks_come slot it new result fits s =
 closes_come : (slot : Parts) (it : CheckpointInFlight) (new : Standing) (result : Result (FlightOutcome Checkpointed) Memory)
     → (fits : PartsFit (parts_with_flight slot (code.Closes it))) → ClosesStep slot it new result
     → (let d = digests_in (parts_with_flight slot (code.Closes it)) in let p = next_plan slot.seat.platform in
-    SteppedTo checkpoint_kind (instance_in slot) d (call_of slot (code.Closes it) fits).from
+    StepComesTo checkpoint_kind (instance_in slot) d (call_of slot (code.Closes it) fits).from
     (outcome_of_stopped_closing (instance_in slot) d slot.seat.issued.items p.meddles) slot.seat.issued.items p.meddles
     (p.at + 1) new result)
 closes_come slot it new result fits s =

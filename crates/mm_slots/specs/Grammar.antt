@@ -15,7 +15,7 @@ use Rattle.mm_slots.specs.declared.event.SlotEvent.TheVariants.{Power, At}
 -- the number of slots that the first line names, 1 to 16
 unfoldable pub slot_count_at : List ℕ → Option ℕ
 slot_count_at line =
-    after_prefix (codes "memoir slots 1 ") line >>= λ word.
+    rest_after_prefix (codes "memoir slots 1 ") line >>= λ word.
     number_at word >>= λ count.
     if count == 0 || nat_lt 16 count then None else Some count
 
@@ -41,9 +41,9 @@ unfoldable pub action_at : List ℕ → Option SlotAction
 action_at line =
     if bytes_eq line (codes "close") then Some action.Close
     else if bytes_eq line (codes "step") then Some action.Step
-    else option_map_or begin_action_at (after_prefix (codes "begin ") line)
+    else option_map_or begin_action_at (rest_after_prefix (codes "begin ") line)
     (option_map_or (λ word. value_at word >>= λ value. Some
-    (action.Extend (record { bytes = value }))) (after_prefix (codes "extend ") line)
+    (action.Extend (record { bytes = value }))) (rest_after_prefix (codes "extend ") line)
     (break_at line >>= λ how. Some (action.Break how)))
 
 -- the event of a line, on a platform with so many slots

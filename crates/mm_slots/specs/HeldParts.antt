@@ -100,7 +100,7 @@ pub record FitsCall (header : Header) (number : ℕ) (d : Digests) (issued : Lis
 abbrev pub FitsFlight : Header → ℕ → Digests → List (List ℕ) → ℕ → Standing → Option CodeFlight
     → Type 0
 FitsFlight header number d issued capacity standing None =
-    Stands (tenant_instance header number) standing d × IsQuiet standing
+    HasDigests (tenant_instance header number) standing d × IsQuiet standing
 FitsFlight header number d issued capacity standing (Some flight) =
     FitsCall header number d issued capacity standing flight
 

@@ -190,7 +190,7 @@ no_effect false = refl
 abbrev failing : ℕ → Option ℕ → CallReport
 failing made commits =
     let stop = stop_behind made in
-    quiet_as (checkpoint_reply stop (has_closed_segment stop (Broken Failed commits)) (Err (closing_refusal.Device Failed)))
+    quiet_call (checkpoint_reply stop (has_closed_segment stop (Broken Failed commits)) (Err (closing_refusal.Device Failed)))
 
 closing_fails : (made : ℕ) (commits : Option ℕ) → is_nothing (failing made commits).reply ≡ true
 closing_fails made commits = ap (λ (x : Bool). is_nothing (stopped_reply way.Fault x)) (no_effect (is_some commits))
@@ -213,7 +213,7 @@ module _ (variant : Variant) (meaning : Meaning) (key barrier : List ℕ) (d : D
         (closes_came from new meddles stop variant meaning result w issued key barrier d s q);
     fails = λ made commits. (failing made commits, refl, closing_fails made commits);
     says = λ stop new it w whole.
-        let same : it ≡ quiet_as (checkpoint_reply stop (has_closed_segment stop w.ended) (result_of_end w.ended)) = cc in
+        let same : it ≡ quiet_call (checkpoint_reply stop (has_closed_segment stop w.ended) (result_of_end w.ended)) = cc in
         ap (λ (x : CallReport). is_nothing x.reply) same
         ∙ closing_something stop (has_closed_segment stop w.ended) (result_of_end w.ended)
         (closes_broken (standing_under (plan_by stop meddles) 0 from) w.middle w.ended w.ends ∙ whole);

@@ -24,16 +24,16 @@ take-longest bytes front n size e f g =
     g ∙ ap (λ m. take m bytes) f ∙ take-min n bytes ∙ ap (λ m. take m bytes) e
 
 -- a slot holds what was put there
-pub slot_in-with_slot : (slots : Slots) (n : ℕ) (bytes : List ℕ) → slot_in (with_slot slots n bytes) n ≡ bytes
+pub slot_in-with_slot : (slots : Slots) (n : ℕ) (bytes : List ℕ) → slot_in (slots_with slots n bytes) n ≡ bytes
 slot_in-with_slot slots n bytes = grind (arith, nat_tests)
 
 -- the later bytes stand
 pub with_slot-twice : (slots : Slots) (n : ℕ) (one other : List ℕ) →
-    with_slot (with_slot slots n one) n other ≡ with_slot slots n other
+    slots_with (slots_with slots n one) n other ≡ slots_with slots n other
 with_slot-twice slots n one other = grind (arith, nat_tests)
 
 -- a slot's own bytes change nothing
-pub with_slot-same : (slots : Slots) (n : ℕ) → with_slot slots n (slot_in slots n) ≡ slots
+pub with_slot-same : (slots : Slots) (n : ℕ) → slots_with slots n (slot_in slots n) ≡ slots
 with_slot-same slots n = grind (arith, nat_tests)
 
 pub putting-twice : (n : ℕ) (one other : List ℕ) (slots : Option Slots) →

@@ -67,11 +67,11 @@ module _ (variant : Variant) (meaning : Meaning) (offer request : List ℕ) wher
   -- that, it is broken off there.
   abbrev pub IsAskOnHost : Host → List MadeStep → StepsOutcome (Result Answer Refusal) → Type 0
   IsAskOnHost host steps (outcome.Ended given) =
-      AskedIn (ask_call variant) meaning (first_standing host steps)
+      AskPromise (ask_call variant) meaning (first_standing host steps)
       (bare_standing (host.stood 0)) offer
       (One request) (batch_result_of given)
   IsAskOnHost host steps (outcome.Next step) =
-      AskedIn (ask_call variant) meaning (first_standing host steps)
+      AskPromise (ask_call variant) meaning (first_standing host steps)
       (bare_standing (host.missed 0 (act_of step)))
       offer (One request) (Err (Device Off))
   IsAskOnHost host steps _ = Unit {0}

@@ -36,9 +36,9 @@ checkpoint_protocol = record {
 abbrev pub IsCheckpointOnHost : Host → List MadeStep
     → StepsOutcome (Result Checkpointed CheckpointRefusal) → Type 0
 IsCheckpointOnHost host steps (outcome.Ended given) =
-    ClosedInOpt (first_standing host steps) (bare_standing (host.stood 0)) given
+    CheckpointPromise (first_standing host steps) (bare_standing (host.stood 0)) given
 IsCheckpointOnHost host steps (outcome.Next step) =
-    ClosedInOpt (first_standing host steps) (bare_standing (host.missed 0 (act_of step)))
+    CheckpointPromise (first_standing host steps) (bare_standing (host.missed 0 (act_of step)))
     (Err (Device Off))
 IsCheckpointOnHost host steps outcome.Differs = Unit {0}
 IsCheckpointOnHost host steps outcome.Memory = ⊥

@@ -63,16 +63,16 @@ handed_entry pair i both d away again effect accepted g at = absurd g
 
 accepts_pair : (pair : Pair) (which : Which) (role : Role) (d : Digests) (bytes : List ℕ)
     → FitsCell (instance_on pair which) (link_of pair) role d → (let i = instance_on pair which in
-    Matches (GivesEntry i d) i role d (acceptance_in pair.meaning pair.variant (link_of pair) bytes (moved_cell_of (cell_of_role i role d)))
+    MatchesRole (GivesEntry i d) i role d (acceptance_in pair.meaning pair.variant (link_of pair) bytes (moved_cell_of (cell_of_role i role d)))
     (acceptance_on (digest_level i) role d (ticket_in pair bytes)))
 accepts_pair pair which role d bytes fit =
     let i = instance_on pair which in
     let v = variant_by pair.variant pair.meaning (key_of pair which) pair.barrier in
     let m = meaning_by pair.variant pair.meaning (key_of pair which) pair.barrier in
-    subst (λ variant. Matches (GivesEntry i d) i role d
+    subst (λ variant. MatchesRole (GivesEntry i d) i role d
     (acceptance_in pair.meaning variant (link_of pair) bytes (moved_cell_of (cell_of_role i role d)))
     (acceptance_on (digest_level i) role d (ticket_by pair.meaning pair.link (ticket_of variant pair.meaning.id bytes)))) v
-    (subst (λ (meaning : Meaning). Matches (GivesEntry i d) i role d
+    (subst (λ (meaning : Meaning). MatchesRole (GivesEntry i d) i role d
     (acceptance_in meaning i.variant (link_of pair) bytes (moved_cell_of (cell_of_role i role d)))
     (acceptance_on (digest_level i) role d (ticket_by meaning pair.link (ticket_of i.variant meaning.id bytes)))) m
     (accepts_match i (link_of pair) role d bytes fit))

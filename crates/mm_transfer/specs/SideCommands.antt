@@ -103,7 +103,7 @@ TriesMove finds stop meddles None old new (Ok None) = new ≡ old
 TriesMove finds stop meddles (Some bytes) old new (Ok None) = ⊥
 TriesMove finds stop meddles None old new (Ok (Some came)) = ⊥
 TriesMove finds stop meddles (Some bytes) old new (Ok (Some came)) =
-    MovesPlanned (finds bytes) stop meddles old new came
+    MovesByPlan (finds bytes) stop meddles old new came
 
 -- The side keeps the digest of its cell, where that has one; and nothing else changes.
 pub record KeepsDigest (old new : CodeSide) : Type 0 where

@@ -68,7 +68,7 @@ pub record SpellsCommand (command : CommandLine) (words : List (List ℕ)) : Typ
 -- the help, a line for each form, and what its capital words stand for
 abbrev pub help_text : List ℕ
 help_text =
-    lines_joined (codes "memoir init VARIANT MODULE"
+    joined_lines (codes "memoir init VARIANT MODULE"
     ∷ codes "memoir run"
     ∷ codes "memoir checkpoint"
     ∷ codes "memoir power"
