@@ -3,7 +3,7 @@ use Rattle.std.specs.Prelude.{◌≡◌, ℕ, ◌<◌, ◌≤◌, ◌++◌, List
 use Rattle.mm_base.specs.Limits.{last_position}
 use Rattle.mm_module.specs.Meaning.{IsLine}
 use Rattle.mm_model.specs.declared.refusal.Refusal.TheVariants as refusal
-use Rattle.mm_store.specs.PendingRecord.{PendingRecord, ReadsPending, pending_spelling}
+use Rattle.mm_store.specs.PendingRecord.{PendingRecord, ReadsPendingRecord, pending_spelling}
 use Rattle.memoir_c.specs.declared.said.ReturnStatus.{ReturnStatus}
 use Rattle.memoir_c.specs.declared.said.ReturnStatus.TheVariants as said
 use Rattle.memoir_c.specs.Numbers.{number_of}
@@ -47,14 +47,14 @@ pub record ReadsRecord (slot : ℕ) (bytes : List ℕ) (it : RoomState) (positio
     (says : ReturnStatus)
     : Type 0 where
   pub read : PendingRecord
-  pub reads : ReadsPending slot bytes (Some read)
+  pub reads : ReadsPendingRecord slot bytes (Some read)
   pub puts : PutsInFront read.request it says
   pub numbers : says ≡ said.Done → position ≡ read.position
 
 -- a slot's bytes are no valid record
 pub record ReadsNone (slot : ℕ) (bytes : List ℕ) (it : RoomState)
     (says : ReturnStatus) : Type 0 where
-  pub reads : ReadsPending slot bytes None
+  pub reads : ReadsPendingRecord slot bytes None
   pub told : says ≡ said.Refused refusal.Form
   pub kept : IsUnchanged it
 

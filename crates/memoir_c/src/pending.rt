@@ -2,7 +2,7 @@
 
 ghost use Rattle.std.specs.Prelude.{◌≡◌, ◌≢◌, IfErr, IfOk};
 ghost use Rattle.std.specs.Option.{option_map};
-ghost use Rattle.mm_store.specs.PendingRecord.{ReadsPending, pending_spelling};
+ghost use Rattle.mm_store.specs.PendingRecord.{ReadsPendingRecord, pending_spelling};
 ghost use Rattle.mm_store.specs.Records.{pending_of};
 ghost use Rattle.memoir_c.specs.Numbers.{number_of};
 ghost use Rattle.memoir_c.specs.Records.{HasNoRecord, PutsInFront, ReadsRecordOrNone, ReadsBack, RecordsRequest};

@@ -35,7 +35,7 @@ pub record SourceRefills (left left' : Option (List ℕ)) (held held' : List ℕ
   pub gives : SourceGives left' taken result
 
 -- bytes that may grow into a line
-pub record MayGrow (limit : ℕ) (bytes : List ℕ) : Type 0 where
+pub record IsLineFront (limit : ℕ) (bytes : List ℕ) : Type 0 where
   pub unbroken : IsUnbroken bytes
   pub short : length bytes ≤ limit
 
@@ -47,7 +47,7 @@ pub record IsLong (limit : ℕ) (bytes : List ℕ) : Type 0 where
 -- what a look at the bytes held tells: a line, none so far, or one that is too long
 abbrev pub SeesLine : ℕ → List ℕ → Result (Option ℕ) LineFault → Type 0
 SeesLine limit held (Ok (Some size)) = (size ≤ limit) × HasBreakAt held size
-SeesLine limit held (Ok None) = MayGrow limit held
+SeesLine limit held (Ok None) = IsLineFront limit held
 SeesLine limit held (Err LineLong) = IsLong limit held
 SeesLine limit held (Err ReadFault) = ⊥
 
@@ -65,9 +65,9 @@ pub record TakesHeldBytes (left left' : Option (List ℕ)) (held said held' : Li
 -- what is seen at the front of the bytes held
 abbrev pub FindsLine : ℕ → Option (List ℕ) → List ℕ → Result SeenLine LineFault → Type 0
 FindsLine limit left held (Ok (Line size)) = (size ≤ limit) × HasBreakAt held size
-FindsLine limit left held (Ok Tail) = MayGrow limit held × (0 < length held) × IsAtEnd left
+FindsLine limit left held (Ok Tail) = IsLineFront limit held × (0 < length held) × IsAtEnd left
 FindsLine limit left held (Ok End) = (held ≡ []) × IsAtEnd left
-FindsLine limit left held (Err ReadFault) = MayGrow limit held
+FindsLine limit left held (Err ReadFault) = IsLineFront limit held
 FindsLine limit left held (Err LineLong) = IsLong limit held
 
 pub record ReaderSees (limit : ℕ) (left left' : Option (List ℕ)) (held held' : List ℕ)

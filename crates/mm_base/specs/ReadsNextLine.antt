@@ -5,7 +5,7 @@ use Rattle.mm_base.specs.declared.lines.LineFault.{LineFault}
 use Rattle.mm_base.specs.declared.lines.LineFault.TheVariants.{ReadFault, LineLong}
 use Rattle.mm_base.specs.declared.lines.Read.{Read}
 use Rattle.mm_base.specs.declared.lines.Read.TheVariants.{Line, Tail, End}
-use Rattle.mm_base.specs.Lines.{IsLong, MayGrow, TakesHeldBytes}
+use Rattle.mm_base.specs.Lines.{IsLong, IsLineFront, TakesHeldBytes}
 
 -- the bytes that a call gives out: a line and its line feed
 abbrev pub said_bytes : Result Read LineFault → List ℕ
@@ -16,10 +16,10 @@ said_bytes (Err _) = []
 
 -- when each answer comes, by what is held then and whether the source is at its end
 abbrev pub NextAnswers : ℕ → Option (List ℕ) → Result Read LineFault → List ℕ → Type 0
-NextAnswers limit left (Ok (Line line)) held = MayGrow limit line.now
-NextAnswers limit left (Ok Tail) held = MayGrow limit held × (0 < length held) × IsAtEnd left
+NextAnswers limit left (Ok (Line line)) held = IsLineFront limit line.now
+NextAnswers limit left (Ok Tail) held = IsLineFront limit held × (0 < length held) × IsAtEnd left
 NextAnswers limit left (Ok End) held = (held ≡ []) × IsAtEnd left
-NextAnswers limit left (Err ReadFault) held = MayGrow limit held
+NextAnswers limit left (Err ReadFault) held = IsLineFront limit held
 NextAnswers limit left (Err LineLong) held = IsLong limit held
 
 -- one call: what it takes of the source, and what it answers

@@ -4,7 +4,7 @@ use Rattle.mm_basic.proofs.Below.{inr, Standing, ReadCell, StepGoes, Meaning, Is
 use Rattle.mm_basic.proofs.Below.{remaining_acts, is_extension_left, Deed, Writing, OpFinding, Repeat, Change, AskResult, goes_on}
 use Rattle.mm_basic.proofs.Below.{breaks_off, EndsByFinding, IsCallToEnd, IsWholeCall, result_of, fault_in, steps_give, each_call}
 use Rattle.mm_basic.proofs.Below.{ends_result, given_all, basic_call, Basic}
-use Rattle.mm_call.specs.Counts.{StepsAnswered, StepsAre, StepsBy, StepsRefused, WritesAtMostOnce}
+use Rattle.mm_call.specs.Counts.{StepsAnswered, StepsAre, StepsBy, StepsRefused, CellIsWrittenAtMostOnce}
 use Rattle.mm_call.specs.CallKind.{AreStepsToEnd}
 use Rattle.mm_base.specs.Faults.{next_count}
 use Rattle.mm_model.specs.declared.refusal.Refusal.TheVariants.{Device, Long}
@@ -64,23 +64,23 @@ module _ (meaning : Meaning) (old new : Standing) (offer : List ℕ) (b : Batch)
 
   -- the cell is to be written once, or never
 
-  once_answered : (again : Bool) → StepsAnswered Basic again old new → WritesAtMostOnce old new
+  once_answered : (again : Bool) → StepsAnswered Basic again old new → CellIsWrittenAtMostOnce old new
   once_answered true s = inl s.1
   once_answered false s = inr s.1
 
-  once_broken : (why : Refusal) → StepsRefused Basic why old new → WritesAtMostOnce old new
+  once_broken : (why : Refusal) → StepsRefused Basic why old new → CellIsWrittenAtMostOnce old new
   once_broken Long s = absurd s
   once_broken (Device fault) (inl s) = inl s.1
   once_broken (Device fault) (inr s) = inr s.1
   once_broken _ s = inl s.1
 
-  once : (result : Result BatchAnswer Refusal) → StepsBy Basic result old new → WritesAtMostOnce old new
+  once : (result : Result BatchAnswer Refusal) → StepsBy Basic result old new → CellIsWrittenAtMostOnce old new
   once (Ok answer) s = once_answered answer.again s
   once (Err why) s = once_broken why s
 
-  pub writes : (result : Result BatchAnswer Refusal) → IsWholeCall basic_call meaning old new offer b result → WritesAtMostOnce old new
+  pub writes : (result : Result BatchAnswer Refusal) → IsWholeCall basic_call meaning old new offer b result → CellIsWrittenAtMostOnce old new
   writes result c =
-      each_call basic_call meaning old new offer b (λ (s : Standing) (r : Result BatchAnswer Refusal). WritesAtMostOnce old s) result
+      each_call basic_call meaning old new offer b (λ (s : Standing) (r : Result BatchAnswer Refusal). CellIsWrittenAtMostOnce old s) result
       (inl refl) (λ (ended : AskResult) (a : IsCallToEnd basic_call meaning old new offer b ended). once (result_of ended)
       (ask_stepped ended a)) c
 

@@ -32,7 +32,7 @@ pub use Rattle.mm_model.specs.ChainsWords.{own_values}
 pub use Rattle.mm_model.specs.DigestLaws.{register-push, register_folds, summary-push}
 pub use Rattle.mm_model.specs.FormLaws.{reads_zero}
 pub use Rattle.mm_model.specs.History.{Close, Commit, history_after_commit, RegisterEntry, first_history, Foreign, History, items_of_all}
-pub use Rattle.mm_model.specs.History.{Move, history_after, Own, Placed, Placed as PlacedMove, Power, register_value_of, with_last_batch}
+pub use Rattle.mm_model.specs.History.{Move, history_after, Own, Placed, Placed as PlacedMove, Power, register_value_of, entries_with_last_batch}
 pub use Rattle.mm_model.specs.History.{requests_of, Reset, total_of, Value}
 pub use Rattle.mm_model.specs.HistoryLaws.{own_values-append, renamed-push, values_of-own, values_renamed}
 pub use Rattle.mm_model.specs.HistoryWords.{values_of as entry_values}
@@ -70,11 +70,11 @@ pub use Rattle.mm_call.specs.HistoryGrowth.{HistoryGrows, grown, kept}
 pub use Rattle.mm_call.specs.Courses.{walk_from_step, has_close, has_commit, Course, Done, End, Fails, StepFate, fate_by_plan, step_moves}
 pub use Rattle.mm_call.specs.Courses.{walk, StepsWalk}
 pub use Rattle.mm_call.specs.EndedCall.{EndsAsCall, end_by_fault, is_broken, KeepsPosition, kept_position, end_of_refusal, result_of}
-pub use Rattle.mm_call.specs.EndedCall.{StaysOn}
+pub use Rattle.mm_call.specs.EndedCall.{PlatformStaysOn}
 pub use Rattle.mm_call.specs.CallFinding.{CallFinding, finding_at, finding_by_verdict, right_content}
 pub use Rattle.mm_call.specs.CallFindingWords.{finding_unless_wanting, finding_with, is_fresh}
 pub use Rattle.mm_call.specs.Laws.{BasicCallsAgree, CallsAgree, IsSame, IsSameCall, OptCallsAgree}
-pub use Rattle.mm_call.specs.Untouched.{CountsHandedFault, IsUntouched, LeavesUntouched}
+pub use Rattle.mm_call.specs.Untouched.{CountsHandedFault, IsUntouched, CallLeavesUntouched}
 pub use Rattle.mm_call.specs.UntouchedLaws.{blamed, blamed_later, fault_handed}
 pub use Rattle.mm_call.specs.Levels.{DigestsAgree, state_after_moves, digest_level, list_level, Level, place_after_batch}
 pub use Rattle.mm_call.specs.MoveLaws.{agrees-made, batches-made, committed_batches, IsBasicMove, more_batches, plain-made, same_batches}

@@ -1,7 +1,7 @@
 -- The device steps that commit what a call found, one after another: their fates, and what is known of all of them.
 use Rattle.mm_call.proofs.Below.{◌≡◌, ℕ, Bool, true, false, List, [], ◌∷◌, ◌++◌, map, Option, None, Some, Err, refl, sym, ap, ◌∙◌, IsSome}
 use Rattle.mm_call.proofs.Below.{option_map, next_count, StepFault, Plan, Standing, plan_after, Act, StepGoes, is_on_at, is_on_by_plan}
-use Rattle.mm_call.proofs.Below.{Move, Foreign, Refusal, Device, fault_of, has_commit, result_of, end_by_fault, end_of_refusal, StaysOn}
+use Rattle.mm_call.proofs.Below.{Move, Foreign, Refusal, Device, fault_of, has_commit, result_of, end_by_fault, end_of_refusal, PlatformStaysOn}
 use Rattle.mm_call.proofs.Below.{IsAt, ◌+◌, suc, length, Result, Ok, subst, arith, ◌==◌, if◌then◌else◌, Instance, Commit, Digests}
 use Rattle.mm_call.proofs.Below.{DeviceStep, Reads, Changes, Writes, BatchAnswer, AskResult, Answered, Refused, Broken, CallKind}
 use Rattle.mm_call.proofs.Below.{committed_position, goes_on, breaks_off, AreStepsToEnd, EndsByFinding, position_if_committed, End, Done}
@@ -32,17 +32,17 @@ commits_then (v ∷ values) moves = commits_then values moves
 
 -- power after a call under a plan
 
-stays_done : (stop : Stop) (new : Standing) → new.is_on ≡ true → StaysOn stop false new
+stays_done : (stop : Stop) (new : Standing) → new.is_on ≡ true → PlatformStaysOn stop false new
 stays_done (Cut step) new e = e
 stays_done _ new e = e
 
-stays_broken : (stop : Stop) (n : ℕ) (new : Standing) → new.is_on ≡ is_on_at stop n → StaysOn stop true new
+stays_broken : (stop : Stop) (n : ℕ) (new : Standing) → new.is_on ≡ is_on_at stop n → PlatformStaysOn stop true new
 stays_broken (Cut step) n new e = tt
 stays_broken _ n new e = e
 
 -- after a step that fails, with room made behind it: power is on as the plan says, and the plan goes on to be told
 stays_failed : (act : Act) (old after new : Standing) (fault : StepFault) (plan : Plan) (at : ℕ) → IsAt old plan at
-    → StepGoes act old after (Some fault) → new ≡ record after { spare = new.spare } → StaysOn plan.stop true new × IsSome new.plan
+    → StepGoes act old after (Some fault) → new ≡ record after { spare = new.spare } → PlatformStaysOn plan.stop true new × IsSome new.plan
 stays_failed act old after new fault plan at p g room =
     let told = g.told (record plan { at = at }) p.planned in (
       stays_broken plan.stop (next_count at) new
@@ -74,7 +74,7 @@ ends_fates c (Ok found) old new ended e = steps_fates (c.acts found) (c.answer f
 -- These are the fates of steps that were made once so many steps of the plan were over: they met the plan, and power is on as it says.
 pub record Tale (fates : List StepFate) (at : ℕ) (old new : Standing) (ended : AskResult) : Type 0 where
   pub met_all : (plan : Plan) → IsAt old plan at → AreMet fates (at + 1) plan
-  pub stays : (plan : Plan) → IsAt old plan at → StaysOn plan.stop (is_broken ended) new × IsSome new.plan
+  pub stays : (plan : Plan) → IsAt old plan at → PlatformStaysOn plan.stop (is_broken ended) new × IsSome new.plan
 
 -- the counts stay below their greatest value
 counted_small : (n : ℕ) → n ≤ 100 → next_count n ≡ n + 1

@@ -6,7 +6,7 @@ use Rattle.mm_call.proofs.Below.{Refusal, Long, Memory, AskResult, Answered, Ref
 use Rattle.mm_call.proofs.Below.{result_of_ending, position_of, position_if_committed, CallKind, AreStepsToEnd, EndsByFinding, IsCallToEnd}
 use Rattle.mm_call.proofs.Below.{IsWholeCall, IsCallSoFar, CallGoesBy, IsCallOnCourse, Course, StepFate, StepsWalk, walk, has_commit}
 use Rattle.mm_call.proofs.Below.{result_of, end_by_fault, end_of_refusal, kept_position, KeepsPosition, EndsAsCall, CallFinding, is_fresh}
-use Rattle.mm_call.proofs.Below.{CallsAgree, IsUntouched, LeavesUntouched, CountsHandedFault, fault_handed, state_after_moves, digest_level}
+use Rattle.mm_call.proofs.Below.{CallsAgree, IsUntouched, CallLeavesUntouched, CountsHandedFault, fault_handed, state_after_moves, digest_level}
 use Rattle.mm_call.proofs.Below.{fault_of, fault_in, instance_by, StandsAt, fates_before_plan, told_by, begins_at, MakesStep}
 use Rattle.std.specs.Result.{result_err}
 use Rattle.mm_platform.specs.PlannedSteps.{next_plan}
@@ -252,7 +252,7 @@ module _ {F : Type 0} (c : CallKind F) (meaning : Meaning) (old new : Standing) 
 
 -- a refusal, or what was given
 given_untouched : (ended : AskResult) (answer : BatchAnswer) (old new : Standing) → Given answer ended
-    → LeavesUntouched (result_of ended) old new
+    → CallLeavesUntouched (result_of ended) old new
 given_untouched (Answered it) answer old new g = tt
 given_untouched (Refused why) answer old new g = absurd g
 given_untouched (Broken fault position) answer old new g = λ (h : Some fault ≡ None). absurd (cc)
@@ -277,9 +277,9 @@ module _ {F : Type 0} (c : CallKind F) where
 
   -- what a call leaves, where its reading steps leave all untouched
   pub ends_untouched : (found : Result F Refusal) (old middle new : Standing) (ended : AskResult) → EndsByFinding c found middle new ended
-      → ((why : Refusal) → found ≡ Err why → fault_of why ≡ None → IsUntouched old middle) → LeavesUntouched (result_of ended) old new
+      → ((why : Refusal) → found ≡ Err why → fault_of why ≡ None → IsUntouched old middle) → CallLeavesUntouched (result_of ended) old new
   ends_untouched (Err why) old middle new ended e h =
-      ends_result (λ (s : Standing) (r : Result BatchAnswer Refusal). LeavesUntouched r old s) why middle new ended e (h why refl)
+      ends_result (λ (s : Standing) (r : Result BatchAnswer Refusal). CallLeavesUntouched r old s) why middle new ended e (h why refl)
   ends_untouched (Ok found) old middle new ended e h =
       given_untouched ended (c.answer found) old new (steps_give (c.acts found) (c.answer found) middle new ended e)
 

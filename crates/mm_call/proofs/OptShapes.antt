@@ -9,7 +9,7 @@ use Rattle.mm_call.proofs.Below.{RegisterEntry, Own, Value, history_after, histo
 use Rattle.mm_call.proofs.Below.{messages_for_move, move_messages, Digests, digests_after, digests_after_commit, trail-append}
 use Rattle.mm_call.proofs.Below.{values_renamed, digest_level, finding_at, finding_unless_wanting, is_fresh, state_seen, items_after_moves}
 use Rattle.mm_call.proofs.Below.{items_after_move, messages_of_moves, foreign_move_values, foreign_items, MovesAreTied, shows}
-use Rattle.mm_call.proofs.Below.{OptMovesAreTied, shown-append, foreign_move_values-append, asks, each_self, with_last_batch}
+use Rattle.mm_call.proofs.Below.{OptMovesAreTied, shown-append, foreign_move_values-append, asks, each_self, entries_with_last_batch}
 use Rattle.mm_call.proofs.Below.{history_with_values}
 use Rattle.mm_model.specs.Chains.{register_of}
 use Rattle.mm_call.specs.ShownItems.{nothing}
@@ -200,7 +200,7 @@ module _ (meaning : Meaning) (key barrier : List ℕ) where
         messages = ap (λ g. messages_for_move Opt g I y (Commit b)) e;
         values = refl;
         shown_are = λ items. ap (λ g. items_after_move Opt g I (Commit b) items) f ∙ sym (append-nil items);
-        register = ap (register_value_of I) lists ∙ ap (λ v. register_of (entry_values barrier (with_last_batch v b))) p.1
+        register = ap (register_value_of I) lists ∙ ap (λ v. register_of (entry_values barrier (entries_with_last_batch v b))) p.1
             ∙ ap register_of (values_renamed barrier p.0 b) ∙ ap (λ v. register_of (entry_values barrier v)) (sym p.1);
         flag = ap (λ g. (digests_after_commit Opt g I d b).flag) f ∙ ap (λ (x : History). x.is_open) (sym lists);
       }

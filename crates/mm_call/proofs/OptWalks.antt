@@ -6,7 +6,7 @@ use Rattle.mm_call.proofs.Below.{checkpoint_steps, each_left, each_right, list_l
 use Rattle.mm_call.proofs.Below.{StepFate, StepsWalk, walk_from_step, walk, messages_of_moves, foreign_move_values, history_with_values}
 use Rattle.mm_call.proofs.Below.{taking_is, foreign_made, foreign_move_values-first, foreign_move_values-append}
 use Rattle.mm_call.proofs.Below.{foreign_move_values-foreign, append-nil, made-append, step_moves, EachMove, steps_of_change, asks, sym}
-use Rattle.mm_call.proofs.Below.{guard, RegisterEntry, Own, Value, Commit, PlacedMove, Reset, Close, with_last_batch, items_of_all}
+use Rattle.mm_call.proofs.Below.{guard, RegisterEntry, Own, Value, Commit, PlacedMove, Reset, Close, entries_with_last_batch, items_of_all}
 use Rattle.mm_call.proofs.Below.{is_empty, has_value, batches_in, IsOpening, IsAllowed, values_in, renamed-push, batch_messages, not}
 use Rattle.mm_call.proofs.Below.{zero_bytes, extended_digest_of, register_of, own_values, are_own, issued_place, register-push}
 use Rattle.mm_call.proofs.Below.{own_values-append, values_of-own, reads_zero, DigestsAgree, place_after_batch, arith, extended_message}
@@ -268,8 +268,8 @@ module _ (meaning : Meaning) (key barrier : List ℕ) where
         let values = map Value (fates 4).brings in
         let items : last.items ≡ values ++ Value (guard barrier b) ∷ [] = ap (λ v. (v ++ values) ++ Value (guard barrier b) ∷ []) bare in
         let opening : IsOpening I last b = record { clean = clean; front = values; items = items; others = no_batches (fates 4).brings } in
-        let named : values_in (with_last_batch last.items b) ≡ (fates 4).brings =
-        ap (λ v. values_in (with_last_batch v b)) items ∙ ap values_in (renamed-push values (Value (guard barrier b)) b)
+        let named : values_in (entries_with_last_batch last.items b) ≡ (fates 4).brings =
+        ap (λ v. values_in (entries_with_last_batch v b)) items ∙ ap values_in (renamed-push values (Value (guard barrier b)) b)
         ∙ values_then (fates 4).brings b in (
           record { may = rw shut tt; brings = tt; listed = tt; are_asked = tt },
           λ o. (

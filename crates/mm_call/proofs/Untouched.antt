@@ -1,7 +1,7 @@
 -- What a whole call leaves that the machine makes: where it is refused nothing has changed, and its faults are counted.
 use Rattle.mm_call.proofs.Below.{◌≡◌, ℕ, ◌++◌, Bool, true, false, List, None, Result, Ok, Err, refl, sym, ap, ◌∙◌, subst, arith, Standing}
 use Rattle.mm_call.proofs.Below.{StepGoes, Meaning, Batch, Variant, BatchAnswer, Refusal, Long, AskResult, IsCallToEnd, CallKind}
-use Rattle.mm_call.proofs.Below.{IsWholeCall, fault_of, fault_in, IsUntouched, LeavesUntouched, CountsHandedFault}
+use Rattle.mm_call.proofs.Below.{IsWholeCall, fault_of, fault_in, IsUntouched, CallLeavesUntouched, CountsHandedFault}
 use Rattle.mm_platform.specs.CallLaws.{beside-beside}
 use Rattle.mm_platform.specs.Steps.{ReadCell, ReadRegister, items_beside}
 use Rattle.mm_seal.specs.declared.cell.Cell.{Cell}
@@ -88,9 +88,9 @@ module _ (variant : Variant) (asked : Meaning → List ℕ → Batch → OpMeani
   abbrev c : CallKind (OpFinding BatchAnswer)
   c = call_kind variant asked
 
-  pub calls_untouched : LeavesUntouched result old new
+  pub calls_untouched : CallLeavesUntouched result old new
   calls_untouched =
-      each_call c meaning old new offer b (λ (s : Standing) (r : Result BatchAnswer Refusal). LeavesUntouched r old s) result
+      each_call c meaning old new offer b (λ (s : Standing) (r : Result BatchAnswer Refusal). CallLeavesUntouched r old s) result
       (λ (h : fault_of Long ≡ None). same_untouched old)
       (λ (ended : AskResult) (a : IsCallToEnd c meaning old new offer b ended).
       ends_untouched c a.found old a.middle new ended a.ends

@@ -7,7 +7,7 @@ use Rattle.mm_call.specs.CallKind.{CallKind, IsWholeCall}
 use Rattle.mm_call.specs.CallOnCourse.{IsCallOnCourse}
 use Rattle.mm_call.specs.Completeness.{IsComplete}
 use Rattle.mm_call.specs.Counts.{StepsBy, WritesBy}
-use Rattle.mm_call.specs.Untouched.{CountsHandedFault, LeavesUntouched}
+use Rattle.mm_call.specs.Untouched.{CountsHandedFault, CallLeavesUntouched}
 use Rattle.mm_call.specs.Refusals.{fault_in}
 
 -- One call over a platform, that offered these bytes and asked for the batch.
@@ -17,7 +17,7 @@ pub record AskPromise (c : CallKind (OpFinding BatchAnswer)) (meaning : Meaning)
   -- the steps that were made, and what each gave; none where the batch is too long
   pub calls : IsWholeCall c meaning old new offer b result
   -- a refusal that hands on no device's fault has changed nothing
-  pub untouched : LeavesUntouched result old new
+  pub untouched : CallLeavesUntouched result old new
   -- the count of faults rose exactly where a device's fault is handed on
   pub faults : CountsHandedFault (fault_in result) old.faults new.faults
   -- how many steps that were, and how many of them write the cell

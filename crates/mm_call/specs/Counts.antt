@@ -48,8 +48,8 @@ StepsBy variant (Ok answer) old new = StepsAnswered variant answer.again old new
 StepsBy variant (Err why) old new = StepsRefused variant why old new
 
 -- the cell was to be written once, or never
-abbrev pub WritesAtMostOnce : Standing → Standing → Type 0
-WritesAtMostOnce old new = (new.writes ≡ old.writes) ⊎ (new.writes ≡ next_count old.writes)
+abbrev pub CellIsWrittenAtMostOnce : Standing → Standing → Type 0
+CellIsWrittenAtMostOnce old new = (new.writes ≡ old.writes) ⊎ (new.writes ≡ next_count old.writes)
 
 -- the steps of an answer of Opt, by whether a segment was open, and by whether it is a repeat's
 abbrev pub StepsFrom : Bool → Bool → Standing → Standing → Type 0
@@ -65,7 +65,7 @@ AnswersFrom flag (Err why) old new = Unit {0}
 -- there is set, it never is: a new batch is committed by three steps; where the flag is clear, by
 -- five, of which the last writes the cell.
 pub record WritesByFlag (result : Result BatchAnswer Refusal) (old new : Standing) : Type 0 where
-  pub once : WritesAtMostOnce old new
+  pub once : CellIsWrittenAtMostOnce old new
   pub inside : (cell : Cell) → IsCell cell → old.cell ≡ Some (cell_spelling cell) → cell.flag ≡ true
       → new.writes ≡ old.writes
   pub answers : (cell : Cell) → IsCell cell → old.cell ≡ Some (cell_spelling cell)
@@ -73,5 +73,5 @@ pub record WritesByFlag (result : Result BatchAnswer Refusal) (old new : Standin
 
 -- How often a call is to write the cell: in Basic its steps say the rest.
 abbrev pub WritesBy : Variant → Result BatchAnswer Refusal → Standing → Standing → Type 0
-WritesBy Basic result old new = WritesAtMostOnce old new
+WritesBy Basic result old new = CellIsWrittenAtMostOnce old new
 WritesBy Opt result old new = WritesByFlag result old new

@@ -50,16 +50,16 @@ is_broken (Broken fault commits) = true
 is_broken _ = false
 
 -- The platform is on after a call under a plan, unless the call was cut.
-abbrev pub StaysOn : Stop → Bool → Standing → Type 0
-StaysOn (Cut step) true new = Unit {0}
-StaysOn _ _ new = new.is_on ≡ true
+abbrev pub PlatformStaysOn : Stop → Bool → Standing → Type 0
+PlatformStaysOn (Cut step) true new = Unit {0}
+PlatformStaysOn _ _ new = new.is_on ≡ true
 
 -- Where the platform is on and tells a plan of which no step is over, it stays on so, and goes on
 -- to tell one.
-abbrev pub StaysPlanned : Standing → Standing → Bool → Type 0
-StaysPlanned old new broken =
+abbrev pub PlatformStaysPlanned : Standing → Standing → Bool → Type 0
+PlatformStaysPlanned old new broken =
     (plan : Plan) → old.is_on ≡ true → old.plan ≡ Some plan → plan.at ≡ 0
-    → StaysOn plan.stop broken new × IsSome new.plan
+    → PlatformStaysOn plan.stop broken new × IsSome new.plan
 
 -- The call went on a course, and ended so.
 pub record EndsAsCall (variant : Variant) (meaning : Meaning) (old new : Standing) (offer : List ℕ)
@@ -71,4 +71,4 @@ pub record EndsAsCall (variant : Variant) (meaning : Meaning) (old new : Standin
       (call_outcome (instance_by variant meaning key barrier)
       (digest_level (instance_by variant meaning key barrier)) d calls.course offer
       (normal_batch b)) ended
-  pub plans : StaysPlanned old new (is_broken ended)
+  pub plans : PlatformStaysPlanned old new (is_broken ended)

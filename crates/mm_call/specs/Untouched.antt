@@ -21,9 +21,9 @@ CountsHandedFault None before now = now ≡ before
 CountsHandedFault (Some fault) before now = CountRose before now
 
 -- what a refused call leaves, unless it hands on a device's fault
-abbrev pub LeavesUntouched : Result BatchAnswer Refusal → Standing → Standing → Type 0
-LeavesUntouched (Ok answer) old new = Unit {0}
-LeavesUntouched (Err why) old new = fault_of why ≡ None → IsUntouched old new
+abbrev pub CallLeavesUntouched : Result BatchAnswer Refusal → Standing → Standing → Type 0
+CallLeavesUntouched (Ok answer) old new = Unit {0}
+CallLeavesUntouched (Err why) old new = fault_of why ≡ None → IsUntouched old new
 
 -- the answer to one request, as the answer to a batch of one
 abbrev pub batch_answer_of : Answer → BatchAnswer

@@ -5,7 +5,7 @@ use Rattle.mm_check.proofs.Below.{arith, inl, inr, ◌⊎◌, ◌||◌, append_a
 use Rattle.mm_check.proofs.Below.{option_map, bytes_eq, Contains-append_left, Contains-append_right, Contains-append_cases, Contains-push}
 use Rattle.mm_check.proofs.Below.{Contains-push_cases, nat_list_eq_equiv, bytes_eq-Decides, sha256, zero_bytes, start_message, guard}
 use Rattle.mm_check.proofs.Below.{own_values, Instance, History, Move, Close, history_after, first_history, IsClear, AreNoGuards}
-use Rattle.mm_check.proofs.Below.{move_messages, messages_of_moves, list_level, Event, event_outcome, first_issued, event_messages}
+use Rattle.mm_check.proofs.Below.{move_messages, messages_of_moves, list_level, Event, event_outcome, first_snapshots, event_messages}
 use Rattle.mm_check.proofs.Below.{moves_of, messages_from, event_foreign_values, foreign_values, asked_batches, run_messages, messages_if}
 use Rattle.mm_check.proofs.Below.{messages_where, numbered_event_messages, number_of_first, messages_with, message_digests}
 use Rattle.mm_check.proofs.Below.{shared_pair_with, shared_pair_in, is_zero, zero_number_in, numbered_messages_from, numbered_messages}
@@ -202,8 +202,8 @@ events_same i (event ∷ events) y issued m =
 pub run_same : (i : Instance) (events : List Event) → Same (numbered_messages i events) (run_messages i events)
 run_same i events m =
     let start = start_message i.variant i.meaning.id in
-    all_same (numbered_messages_from i first_history (first_issued i) events) (start ∷ []) m
-    ∙ ap (λ (b : Bool). bytes_eq m start || b) (events_same i events first_history (first_issued i) m)
+    all_same (numbered_messages_from i first_history (first_snapshots i) events) (start ∷ []) m
+    ∙ ap (λ (b : Bool). bytes_eq m start || b) (events_same i events first_history (first_snapshots i) m)
 
 -- the run is clear where the numbers tell nothing else
 pub clear_run : (i : Instance) (events : List Event) → shared_pair_in (message_digests (numbered_messages i events)) ≡ None
@@ -223,7 +223,7 @@ module _ (i : Instance) (events : List Event) (clear : IsClear (run_messages i e
   unfolding IsDistinct
   unshared =
       let start = start_message i.variant i.meaning.id in
-      clear_none (numbered_messages i events) (all_once (numbered_messages_from i first_history (first_issued i) events) (start ∷ [])
+      clear_none (numbered_messages i events) (all_once (numbered_messages_from i first_history (first_snapshots i) events) (start ∷ [])
       (tt, tt)) numbers_clear
 
   pub no_zero : zero_number_in (message_digests (numbered_messages i events)) ≡ None

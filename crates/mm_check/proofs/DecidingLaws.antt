@@ -2,7 +2,7 @@
 use Rattle.mm_check.proofs.Below.{◌≡◌, ◌∙◌, ℕ, ◌+◌, ◌≤◌, true, false, Bool, List, [], ◌∷◌, ◌++◌, length, Option, None, Some, refl, sym, ap}
 use Rattle.mm_check.proofs.Below.{subst, arith, append_assoc, append-nil, length-append, fold, Variant, Basic, Opt, start_message}
 use Rattle.mm_check.proofs.Below.{variant_byte, Meaning, meaning_of, Instance, History, first_history, total_of, Header, Event}
-use Rattle.mm_check.proofs.Below.{lines_of_reply, end_line, list_level, RunOutcome, outcome_of_events, event_outcome, first_issued}
+use Rattle.mm_check.proofs.Below.{lines_of_reply, end_line, list_level, RunOutcome, outcome_of_events, event_outcome, first_snapshots}
 use Rattle.mm_check.proofs.Below.{outcome_by_lists, world_of, world_key, world_barrier, IsGenuineEvent, AreGenuine, IsClearRun}
 use Rattle.mm_check.proofs.Below.{numbered_event_messages, messages_with, message_digests, shared_pair_in, zero_number_in, ListsMessages}
 use Rattle.mm_check.proofs.Below.{pair_of, numbered_messages_from, numbered_messages, secured_event_in, expected_lines, IsForgedAt}
@@ -48,8 +48,8 @@ pub numbered-push : (i : Instance) (es : List Event) (e : Event) → (let f : Ru
     numbered_messages i (es ++ e ∷ []) ≡ fold messages_with (numbered_messages i es) (numbered_event_messages i f.state f.issued e))
 numbered-push i es e =
     let start = start_message i.variant i.meaning.id ∷ [] in
-    ap (λ (l : List (List ℕ)). fold messages_with start l) (from_push i es e first_history (first_issued i))
-    ∙ fold-append messages_with start (numbered_messages_from i first_history (first_issued i) es)
+    ap (λ (l : List (List ℕ)). fold messages_with start l) (from_push i es e first_history (first_snapshots i))
+    ∙ fold-append messages_with start (numbered_messages_from i first_history (first_snapshots i) es)
     (numbered_event_messages i (outcome_by_lists i es).state (outcome_by_lists i es).issued e)
 
 genuine_push : (i : Instance) (es : List Event) (e : Event) (y : History) (issued : List (List ℕ))
@@ -80,7 +80,7 @@ looks_genuine it e number d = λ header es after h count.
     let i = world_of header in
     let here : IsGenuineEvent i (outcome_by_lists i es).state (outcome_by_lists i es).issued e =
     subst (λ (t : ExpectedState). IsGenuineEvent i t.history t.issued e) (stands_as header es it after) (d header es after) in
-    genuine_push i es e first_history (first_issued i) h here
+    genuine_push i es e first_history (first_snapshots i) h here
 
 pub looks_forged : (it : ExpectedState) (e : Event) (number : ℕ) → DecidesLater it e false → LooksAtEvent it None e number (Some number)
 looks_forged it e number d = λ header es after h count.
@@ -103,7 +103,7 @@ stands_next header es e old new heard h hears after few lists lines forged =
       lists = subst (λ (l : List (List ℕ)). ListsMessages l new.numbers)
           (ap (λ (l : List (List ℕ)). fold messages_with (numbered_messages i es) l) hears.messages ∙ sym (numbered-push i es e)) lists;
       lines = lines ∙ (λ j. h.lines j ++ lines_of_reply (hears.reply j))
-          ∙ sym (lines-push i (list_level i) first_history (first_issued i) es e);
+          ∙ sym (lines-push i (list_level i) first_history (first_snapshots i) es e);
       forged = forged header es h.after h.forged refl;
     }
 

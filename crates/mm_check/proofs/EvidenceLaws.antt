@@ -2,7 +2,7 @@
 use Rattle.mm_check.proofs.Below.{◌≡◌, ◌∙◌, ℕ, ◌+◌, Bool, true, false, cond, List, [], ◌∷◌, ◌++◌, length, Option, None, Some, refl, sym, ap}
 use Rattle.mm_check.proofs.Below.{subst, arith, inl, inr, append_assoc, list_any, option_map, Contains, Contains-append_left}
 use Rattle.mm_check.proofs.Below.{Contains-append_right, bytes_eq, bytes_eq-Decides, flat_map-append, sha256, zero_bytes, start_message}
-use Rattle.mm_check.proofs.Below.{guard, own_values, Opt, History, Instance, first_history, Event, outcome_by_lists, first_issued}
+use Rattle.mm_check.proofs.Below.{guard, own_values, Opt, History, Instance, first_history, Event, outcome_by_lists, first_snapshots}
 use Rattle.mm_check.proofs.Below.{event_foreign_values, foreign_values, asked_batches, run_messages, number_of_first, message_digests}
 use Rattle.mm_check.proofs.Below.{pair_plus_one, shared_pair_with, shared_pair_in, is_zero, zero_number_in, numbered_messages}
 use Rattle.mm_check.proofs.Below.{numbered_messages_from, is_secured, secured_event_in, secured_event_by, IsForgedAt, IsFirstForged}
@@ -139,7 +139,7 @@ apart_at (x ∷ before) one rest other once there same =
 module _ (i : Instance) (events : List Event) where
   numbered_once : IsDistinct bytes_eq (numbered_messages i events)
   unfolding IsDistinct
-  numbered_once = all_once (numbered_messages_from i first_history (first_issued i) events) (start_message i.variant i.meaning.id
+  numbered_once = all_once (numbered_messages_from i first_history (first_snapshots i) events) (start_message i.variant i.meaning.id
       ∷ []) (tt, tt)
 
   shared_at : (first second : ℕ) → shared_pair_in (message_digests (numbered_messages i events)) ≡ Some (first, second)
@@ -259,7 +259,7 @@ module _ (i : Instance) (named : (y : History) (content : Content) → IsDecided
 
   -- the first event that isn't genuine, if there is one
   first_forged : (events : List Event) → (first : Option ℕ) × IsFirstForged i events first
-  first_forged events = elim (genuine_or i named events first_history (first_issued i)) [
+  first_forged events = elim (genuine_or i named events first_history (first_snapshots i)) [
     | inl f ↦ (
       Some (length f.before + 1),
       record {

@@ -6,7 +6,7 @@ use Rattle.mm_check.proofs.Below.{Instance, History, Move, Commit, Foreign, Clos
 use Rattle.mm_check.proofs.Below.{form_messages, offer_messages, DeviceStep, Reads, Changes, Writes, ask_steps, checkpoint_steps}
 use Rattle.mm_check.proofs.Below.{right_messages, End, Done, Fails, StepFate, StepsWalk, step_moves, walk_from_step, walk, right_content}
 use Rattle.mm_check.proofs.Below.{list_level, CodeEvent, Event, Ask, Checkpoint, event_of, meddles_of, offered_bytes, course_of}
-use Rattle.mm_check.proofs.Below.{event_outcome, first_issued, moves_of, event_messages, ask_moves, asking_messages, messages_if}
+use Rattle.mm_check.proofs.Below.{event_outcome, first_snapshots, moves_of, event_messages, ask_moves, asking_messages, messages_if}
 use Rattle.mm_check.proofs.Below.{messages_where, numbered_event_messages, messages_with, numbered_messages_from, numbered_messages}
 use Rattle.mm_check.proofs.Below.{events_of, Many, One, ◌≡◌, ◌-◌, Result, Ok, Err, refl, length-drop, most_members, size_of, outputs_from}
 use Rattle.mm_check.proofs.Below.{requests_of, total_of, Course, has_commit, CallFinding, finding_at, state_after_moves, told_lines}
@@ -189,8 +189,8 @@ pub numbered_few : (i : Instance) (events : List CodeEvent) → length (numbered
 numbered_few i events =
     omega (
       arith,
-      listed_few (numbered_messages_from i first_history (first_issued i) (events_of events)) (start_message i.variant i.meaning.id ∷ []),
-      from_few i first_history (first_issued i) events,
+      listed_few (numbered_messages_from i first_history (first_snapshots i) (events_of events)) (start_message i.variant i.meaning.id ∷ []),
+      from_few i first_history (first_snapshots i) events,
     )
 
 -- the lines of its reply
@@ -261,7 +261,7 @@ pub expected_few : (i : Instance) (events : List Event) → length (expected_lin
 expected_few i events =
     omega (
       arith,
-      replies_few i events first_history (first_issued i),
+      replies_few i events first_history (first_snapshots i),
       length-append (lines_of_all (outcome_by_lists i events).replies)
           (end_line (total_of (outcome_by_lists i events).state.batches) (length (outcome_by_lists i events).issued) ∷ []),
     )

@@ -1,6 +1,6 @@
 -- One premise alone is told of a run.
 use Rattle.mm_check.proofs.Below.{◌≡◌, ◌∙◌, ℕ, List, [], ◌∷◌, ◌++◌, length, Option, None, Some, refl, sym, ap, subst, arith, Variant}
-use Rattle.mm_check.proofs.Below.{first_history, list_level, Event, RunOutcome, outcome_of_events, event_outcome, first_issued}
+use Rattle.mm_check.proofs.Below.{first_history, list_level, Event, RunOutcome, outcome_of_events, event_outcome, first_snapshots}
 use Rattle.mm_check.proofs.Below.{IsGenuineEvent, AreGenuine, IsGenuineRun, Instance, History, message_digests, shared_pair_in}
 use Rattle.mm_check.proofs.Below.{zero_number_in, numbered_messages, IsForgedAt, DecidesPremise, Premise, secured_event_by, IsFirstForged}
 use Rattle.mm_check.proofs.Below.{premise_by, IsClearRun}
@@ -38,8 +38,8 @@ module _ (i : Instance) where
       omega (arith, one_place b c e x a d o.state o.issued rest g.1 f genuine.1 forged)
 
   not_forged : (es : List Event) (n : ℕ) → IsGenuineRun i es → IsForgedAt i es n → ⊥
-  not_forged es n genuine h = not_genuine h.before h.event h.after first_history (first_issued i)
-      (subst (λ (l : List Event). AreGenuine i first_history (first_issued i) l) h.split genuine) h.forged
+  not_forged es n genuine h = not_genuine h.before h.event h.after first_history (first_snapshots i)
+      (subst (λ (l : List Event). AreGenuine i first_history (first_snapshots i) l) h.split genuine) h.forged
 
   first_same : (es : List Event) (f g : Option ℕ) → IsFirstForged i es f → IsFirstForged i es g → f ≡ g
   first_same es None None h k = refl
@@ -50,7 +50,7 @@ module _ (i : Instance) where
     h.place,
     k.place,
     one_place h.before k.before h.event k.event h.after k.after
-        first_history (first_issued i) (sym h.split ∙ k.split) h.genuine h.forged k.genuine k.forged,
+        first_history (first_snapshots i) (sym h.split ∙ k.split) h.genuine h.forged k.genuine k.forged,
   ))
 
 some_none : {A : Type 0} (o : Option A) (x : A) → o ≡ Some x → o ≡ None → ⊥

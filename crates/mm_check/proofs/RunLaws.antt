@@ -1,7 +1,7 @@
 -- The run of the events that are read.
 use Rattle.mm_check.proofs.Below.{◌≡◌, ◌∙◌, ℕ, false, List, [], ◌∷◌, ◌++◌, sym, ap, subst, arith, append-nil, length-append}
 use Rattle.mm_check.proofs.Below.{flat_map-append, map-append, Header, CodeEvent, Event, event_of, lines_of_reply, Reply, digest_level}
-use Rattle.mm_check.proofs.Below.{Outcome, RunOutcome, event_outcome, first_issued, first_digests, outcome_by_digests, world_of, goes_on}
+use Rattle.mm_check.proofs.Below.{Outcome, RunOutcome, event_outcome, first_snapshots, first_digests, outcome_by_digests, world_of, goes_on}
 use Rattle.mm_check.proofs.Below.{RunningReplay, is_too_much, replay_stage, replay_state_of, running_outcome, running_replay_after}
 use Rattle.mm_check.proofs.Below.{events_of, lines_of_all, RunsBehind, ◌<◌, length, expected_lines, outcome_of_events, Instance}
 use Rattle.mm_model.specs.Moves.{Digests}
@@ -40,14 +40,14 @@ is_run_next header {r} events {longer} {told} {more} line event h room said is g
     let e = event_of event in
     let o = event_outcome i (digest_level i) f.state f.issued e in
     let same = outcome_same header r f e h.same h.digests h.issued in
-    let on = goes_on i (digest_level i) (events_of events) (e ∷ []) (first_digests i) (first_issued i) in
+    let on = goes_on i (digest_level i) (events_of events) (e ∷ []) (first_digests i) (first_snapshots i) in
     let all : events_of longer ≡ events_of events ++ e ∷ [] = ap events_of grown ∙ map-append event_of events (event ∷ []) in
     let behind : RunsBehind header (running_replay_after r line e) (events_of events ++ e ∷ []) more = record {
       same = h.same;
       digests = ap (λ (x : Outcome Digests). x.state) same ∙ sym (ap (λ (g : RunOutcome Digests). g.state) on);
       issued = ap (λ (x : Outcome Digests). x.issued) same ∙ sym (ap (λ (g : RunOutcome Digests). g.issued) on);
       lines = lines ∙ (λ j. h.lines j ++ lines_of_reply ((said ∙ ap (λ (x : Outcome Digests). x.reply) same) j))
-          ∙ sym (lines-push i (digest_level i) (first_digests i) (first_issued i) (events_of events) e);
+          ∙ sym (lines-push i (digest_level i) (first_digests i) (first_snapshots i) (events_of events) e);
       count = omega (arith, h.count, length-append (events_of events) (e ∷ []));
       few = omega (arith, few_left replay_stage (play_state (replay_state_of r) r.read) line room);
     } in

@@ -26,7 +26,7 @@ pub use Rattle.mm_schedule.specs.declared.event.Event.{Event as CodeEvent}
 pub use Rattle.mm_schedule.specs.declared.event.Offer.{Offer}
 pub use Rattle.mm_schedule.specs.declared.header.Header.{Header}
 pub use Rattle.mm_schedule.specs.declared.reply.Reply.{Reply}
-pub use Rattle.mm_outcome.specs.Folds.{RunOutcome, event_outcome, outcome_by_lists, first_issued, outcome_by_digests}
+pub use Rattle.mm_outcome.specs.Folds.{RunOutcome, event_outcome, outcome_by_lists, first_snapshots, outcome_by_digests}
 pub use Rattle.mm_outcome.specs.WorldState.{world_of}
 pub use Rattle.mm_outcome.specs.EventOffers.{offered_bytes}
 pub use Rattle.mm_outcome.specs.Premises.{IsClearRun, IsGenuineEvent, IsGenuineRun, event_foreign_values, asked_batches, run_messages}

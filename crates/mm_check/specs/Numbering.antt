@@ -4,7 +4,7 @@ use Rattle.std.specs.Prelude.{◌≡◌, ℕ, ◌+◌, Bool, List, [], ◌∷◌
 use Rattle.std.specs.List.{flat_map, fold, list_any}
 use Rattle.std.specs.Str.{bytes_eq}
 use Rattle.mm_check.specs.Below.{start_message, Opt, own_values, History, first_history, total_of, Instance, IsClear, list_level, Event}
-use Rattle.mm_check.specs.Below.{lines_of_reply, end_line, Reply, RunOutcome, event_outcome, first_issued, outcome_by_lists}
+use Rattle.mm_check.specs.Below.{lines_of_reply, end_line, Reply, RunOutcome, event_outcome, first_snapshots, outcome_by_lists}
 use Rattle.mm_check.specs.Below.{event_foreign_values, IsClearRun, IsGenuineEvent, IsGenuineRun, asked_batches, run_messages}
 use Rattle.mm_check.specs.Below.{numbered_event_messages}
 use Rattle.mm_check.specs.Listing.{number_of_first, messages_with, message_digests, shared_pair_in, zero_number_in}
@@ -22,7 +22,7 @@ numbered_messages_from i y issued (event ∷ events) =
 abbrev pub numbered_messages : Instance → List Event → List (List ℕ)
 numbered_messages i events =
     fold messages_with (start_message i.variant i.meaning.id ∷ [])
-    (numbered_messages_from i first_history (first_issued i) events)
+    (numbered_messages_from i first_history (first_snapshots i) events)
 
 -- others extend the register by a value that is one of these guards
 abbrev pub is_secured : List (List ℕ) → Event → Bool

@@ -29,7 +29,7 @@ use std::alloc::Global;
 use std::collections::BTreeSet;
 
 /// The barrier of each world: the bytes 20 to 3f.
-#[tactic(auto, unfolding(mm_outcome::specs::WorldState::rising_from))]
+#[tactic(auto, unfolding(mm_outcome::specs::WorldState::rising_bytes_from))]
 fn barrier() -> [u8; 32]
     ensures { result ≡ world_barrier }
 {

@@ -35,7 +35,7 @@ pub use Rattle.mm_schedule.specs.Events.{Ask, Checkpoint, Event, Extend, Power}
 pub use Rattle.mm_schedule.specs.declared.event.Offer.{Offer}
 pub use Rattle.mm_schedule.specs.declared.event.Offer.TheVariants.{Flip, Last, Number, Raw}
 pub use Rattle.mm_history.specs.Naming.{BasicNamesAreDecided, is_named, IsDecided, OptNamesAreDecided}
-pub use Rattle.mm_outcome.specs.Folds.{event_outcome, outcome_by_lists, first_issued, outcome_of_events, RunOutcome}
+pub use Rattle.mm_outcome.specs.Folds.{event_outcome, outcome_by_lists, first_snapshots, outcome_of_events, RunOutcome}
 pub use Rattle.mm_outcome.specs.Laws.{IsIssued, IssuedNamePositions}
 pub use Rattle.mm_outcome.specs.EventOffers.{offered_bytes}
 pub use Rattle.mm_outcome.specs.OneRun.{FrontsAreOneRun}

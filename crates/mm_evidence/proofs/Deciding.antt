@@ -4,7 +4,7 @@ use Rattle.mm_evidence.proofs.Below.{inl, inr, refl, sym, subst, not, Decides, D
 use Rattle.mm_evidence.proofs.Below.{bytes_eq-Decides, sha256, zero_bytes, Variant, Basic, Opt, parts_of, Content, Batch, Meaning, guard}
 use Rattle.mm_evidence.proofs.Below.{first_history, History, Instance, AreNoGuards, NamesPosition, IsGenuine, IsRight, right_content}
 use Rattle.mm_evidence.proofs.Below.{list_level, one_content, right_of, instance_by, Ask, Checkpoint, Event, Extend, Power, is_named}
-use Rattle.mm_evidence.proofs.Below.{IsDecided, BasicNamesAreDecided, OptNamesAreDecided, event_outcome, outcome_by_lists, first_issued}
+use Rattle.mm_evidence.proofs.Below.{IsDecided, BasicNamesAreDecided, OptNamesAreDecided, event_outcome, outcome_by_lists, first_snapshots}
 use Rattle.mm_evidence.proofs.Below.{outcome_of_events, RunOutcome, AreApartIn, AreGenuine, asked_batches, foreign_values, IsClearRun}
 use Rattle.mm_evidence.proofs.Below.{IsGenuineEvent, IsGenuineOffer, IsGenuineRun, run_messages, clash, collision, forgery, guarded}
 use Rattle.mm_evidence.proofs.Below.{HasClash, HasEvidence, IsForged, offered_bytes, zero_digest, IsDecidedRun}
@@ -157,7 +157,7 @@ module _ (i : Instance) (named : (y : History) (content : Content) → IsDecided
   decided_or : (events : List Event) → (IsClearRun i events × IsGenuineRun i events) ⊎ HasEvidence i events
   decided_or events = elim (clear_or i events) [
     | inl e ↦ inr e
-    | inr clear ↦ elim (genuine_or events first_history (first_issued i)) [
+    | inr clear ↦ elim (genuine_or events first_history (first_snapshots i)) [
       | inl f ↦ inr (forgery_by i events f.before f.event f.later f.split f.forged)
       | inr genuine ↦ inl (clear, genuine)
     ]
@@ -189,8 +189,8 @@ module _ (i : Instance) where
   both_apart events clear genuine (clash c) =
       clash_apart i (run_messages i events) (foreign_values events) (asked_batches events) clear.clear clear.apart c
   both_apart events clear genuine (forgery before later meddles stop offer batch split forged) =
-      genuine_apart before (Ask meddles stop offer batch) later first_history (first_issued i)
-      (subst (λ (es : List Event). AreGenuine i first_history (first_issued i) es) split genuine) forged
+      genuine_apart before (Ask meddles stop offer batch) later first_history (first_snapshots i)
+      (subst (λ (es : List Event). AreGenuine i first_history (first_snapshots i) es) split genuine) forged
 
 -- names are decided in either variant
 pub names_by : BasicNamesAreDecided → OptNamesAreDecided → (variant : Variant) (meaning : Meaning) (key barrier : List ℕ)

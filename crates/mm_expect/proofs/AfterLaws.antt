@@ -1,7 +1,7 @@
 -- A schedule followed by lists goes on by its events.
 use Rattle.mm_expect.proofs.Below.{◌≡◌, ℕ, List, [], ◌∷◌, ◌++◌, refl, sym, ap, ◌∙◌, option_to_list, Variant, Basic, Opt, AnyModule}
 use Rattle.mm_expect.proofs.Below.{meaning_of, Instance, History, first_history, list_level, instance_by, Header, Event, Outcome}
-use Rattle.mm_expect.proofs.Below.{event_outcome, RunOutcome, outcome_by_lists, first_issued, world_of, world_key, world_barrier, goes_on}
+use Rattle.mm_expect.proofs.Below.{event_outcome, RunOutcome, outcome_by_lists, first_snapshots, world_of, world_key, world_barrier, goes_on}
 use Rattle.mm_expect.proofs.Below.{EventReply, ChronicleGoesByEvent, ChronicleView, instance_with, ExpectedState, expected_state_after}
 use Rattle.mm_expect.proofs.Below.{first_expected_state, IsAfter}
 
@@ -28,7 +28,7 @@ pub goes_after : (header : Header) (events : List Event) (event : Event) (old ne
 goes_after header events event old new at is =
     let i = world_of header in
     let run : RunOutcome History = outcome_by_lists i events in
-    let whole = goes_on i (list_level i) events (event ∷ []) first_history (first_issued i) in
+    let whole = goes_on i (list_level i) events (event ∷ []) first_history (first_snapshots i) in
     let stands : old ≡ record { header = header; history = run.state; issued = run.issued } =
     (λ j. record { header = at.header_is j; history = at.history_is j; issued = at.issued_is j }) in
     let later = is ∙ ap (λ (t : ExpectedState). expected_state_after t event) stands in

@@ -7,7 +7,7 @@ use Rattle.mm_expect.proofs.Below.{Course, StepsWalk, walk, has_commit, CallFind
 use Rattle.mm_expect.proofs.Below.{list_level, state_after_moves, unlacked, committed_batches, same_batches, more_batches, Commits, nothing}
 use Rattle.mm_expect.proofs.Below.{batch, call_commits, checkpoint_none, fresh_found, again_of, Event, IsPrintable, course_of, way_of}
 use Rattle.mm_expect.proofs.Below.{reply_of, moves_after_call, moves_after_checkpoint, told_reply, broken_reply, event_outcome}
-use Rattle.mm_expect.proofs.Below.{outcome_of_events, first_issued, outcome_by_lists, in_any_way, then_all, closing_all, short_outputs}
+use Rattle.mm_expect.proofs.Below.{outcome_of_events, first_snapshots, outcome_by_lists, in_any_way, then_all, closing_all, short_outputs}
 use Rattle.mm_expect.proofs.Below.{printed_closing, AdmitsBatch, sym, ◌∙◌, ◌-◌, size_of, length-drop, length-outputs_from}
 use Rattle.std.proofs.lemmas.List.Elements.{All-drop}
 use Rattle.mm_call.specs.Checkpoints.{CheckpointOutcome, checkpoint_outcome}
@@ -127,7 +127,7 @@ module _ (i : Instance) where
       let o = event_outcome i (list_level i) y issued event in few_followed o.state o.issued events (few_event y issued event few)
 
   pub few_expected : (events : List Event) → IsFew (outcome_by_lists i events).state
-  few_expected events = few_followed first_history (first_issued i) events (omega arith)
+  few_expected events = few_followed first_history (first_snapshots i) events (omega arith)
 
   pub printable : IsLawful i.meaning → (y : History) (issued : List (List ℕ)) (event : Event)
       → IsPrintable (event_outcome i (list_level i) y issued event).reply

@@ -39,7 +39,7 @@ pub use Rattle.mm_schedule.specs.declared.header.Header.{Header}
 pub use Rattle.mm_history.specs.Marks.{marks_of}
 pub use Rattle.mm_history.specs.Naming.{IsDecided}
 pub use Rattle.mm_history.specs.declared.marks.HistoryMarks.{HistoryMarks}
-pub use Rattle.mm_outcome.specs.Folds.{Outcome, course_of, event_outcome, outcome_by_lists, first_issued, moves_after_call, reply_of}
+pub use Rattle.mm_outcome.specs.Folds.{Outcome, course_of, event_outcome, outcome_by_lists, first_snapshots, moves_after_call, reply_of}
 pub use Rattle.mm_outcome.specs.Folds.{snapshots_of, way_of, plan_of}
 pub use Rattle.mm_outcome.specs.WorldState.{world_of, world_barrier, world_key}
 pub use Rattle.mm_outcome.specs.Laws.{IsIssued}

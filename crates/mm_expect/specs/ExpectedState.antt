@@ -1,6 +1,6 @@
 -- A schedule followed by lists, as contracts see it.
 use Rattle.std.specs.Prelude.{◌≡◌, ℕ, List, [], ◌∷◌, ◌++◌}
-use Rattle.mm_expect.specs.Below.{History, first_history, list_level, Event, Header, Outcome, event_outcome, outcome_by_lists, first_issued}
+use Rattle.mm_expect.specs.Below.{History, first_history, list_level, Event, Header, Outcome, event_outcome, outcome_by_lists, first_snapshots}
 use Rattle.mm_expect.specs.Below.{world_of}
 
 -- the header; the history; and the issued snapshots by their numbers
@@ -17,7 +17,7 @@ expected_outcome it event =
 -- It stands at the start.
 abbrev pub first_expected_state : Header → ExpectedState
 first_expected_state header =
-    record { header = header; history = first_history; issued = first_issued (world_of header) }
+    record { header = header; history = first_history; issued = first_snapshots (world_of header) }
 
 -- It went on by an event.
 abbrev pub expected_state_after : ExpectedState → Event → ExpectedState

@@ -11,7 +11,7 @@ use Rattle.mm_module.specs.Batch.{Batch, size_of}
 use Rattle.mm_model.specs.Chains.{link, guard, register_of, anchor_of, summary_of}
 use Rattle.mm_model.specs.ChainsWords.{own_values}
 use Rattle.mm_model.specs.Instance.{Instance}
-use Rattle.mm_model.specs.History.{RegisterEntry, Own, Value, History, items_of_all, with_last_batch, history_after_commit}
+use Rattle.mm_model.specs.History.{RegisterEntry, Own, Value, History, items_of_all, entries_with_last_batch, history_after_commit}
 use Rattle.mm_model.specs.HistoryWords.{values_of, cell_digest_of}
 use Rattle.mm_model.specs.Life.{is_empty, has_value, are_own, is_same_batch}
 use Rattle.mm_model.specs.PlacesWords.{digest_of}
@@ -69,19 +69,19 @@ own_grown (Own c ∷ d ∷ items) [] b = ap (λ x. is_same_batch c b && x) (own_
 own_grown (Own c ∷ items) (d ∷ current) b = ap (λ x. is_same_batch c d && x) (own_grown items current b)
 own_grown (Value d ∷ items) current b = refl
 
-still_some : (y z : RegisterEntry) (items : List RegisterEntry) (b : Batch) → is_empty (with_last_batch (y ∷ z ∷ items) b) ≡ false
+still_some : (y z : RegisterEntry) (items : List RegisterEntry) (b : Batch) → is_empty (entries_with_last_batch (y ∷ z ∷ items) b) ≡ false
 still_some y z items b = refl
 
 two_many : (n : ℕ) → nat_le (suc (suc n)) 1 ≡ false
 two_many n = grind (arith, nat_tests)
 
 -- the items of a batch that opens a segment are its own where it had at most one
-own_opened : (items : List RegisterEntry) (b : Batch) → are_own (with_last_batch items b) (b ∷ []) ≡ nat_le (length items) 1
+own_opened : (items : List RegisterEntry) (b : Batch) → are_own (entries_with_last_batch items b) (b ∷ []) ≡ nat_le (length items) 1
 own_opened [] b = and_true (is_same_batch b b) ∙ (is_same_batch-Decides b b).1 refl
 own_opened (x ∷ []) b = and_true (is_same_batch b b) ∙ (is_same_batch-Decides b b).1 refl
 own_opened (Own c ∷ y ∷ []) b = and_right (is_same_batch c b) false refl
 own_opened (Own c ∷ y ∷ z ∷ items) b =
-    ap (λ x. is_same_batch c b && x) (own_of_none (with_last_batch (y ∷ z ∷ items) b) ∙ still_some y z items b)
+    ap (λ x. is_same_batch c b && x) (own_of_none (entries_with_last_batch (y ∷ z ∷ items) b) ∙ still_some y z items b)
     ∙ and_right (is_same_batch c b) false refl
     ∙ sym (two_many (suc (length items)))
 own_opened (Value d ∷ y ∷ []) b = refl
@@ -149,12 +149,12 @@ marks_grown i y b e = λ j. record (marks_of i y) {
 }
 
 pub marks_opened : (i : Instance) (y : History) (b : Batch) → i.variant ≡ Opt → marks_of i (history_after_commit Opt false y b)
-    ≡ opened_marks (marks_of i y) (size_of b) (guard i.barrier b) (register_of (values_of i.barrier (with_last_batch y.items b)))
+    ≡ opened_marks (marks_of i y) (size_of b) (guard i.barrier b) (register_of (values_of i.barrier (entries_with_last_batch y.items b)))
     (nat_le (length y.items) 1)
 marks_opened i y b e = λ j. record (marks_of i y) {
   total = total-push y.batches b j;
   cell = digest_of (opt_cell i (history_after_commit Opt false y b) y e refl j);
   own = digest_of ((register-push [] (guard i.barrier b) ∙ ap (λ r. extended_digest_of r (guard i.barrier b)) reads_zero) j);
-  register = digest_of (register_of (values_of i.barrier (with_last_batch y.items b)));
+  register = digest_of (register_of (values_of i.barrier (entries_with_last_batch y.items b)));
   is_own = own_opened y.items b j;
 }

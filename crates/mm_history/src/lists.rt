@@ -1,7 +1,7 @@
 //! A history as lists.
 
 ghost use Rattle.std.specs.Prelude.{◌≡◌, ◌<◌, vec_len, vec_capacity};
-ghost use Rattle.mm_model.specs.History.{with_last_batch};
+ghost use Rattle.mm_model.specs.History.{entries_with_last_batch};
 ghost use Rattle.mm_model.specs.KeptHistory.{kept_batch, kept_entries};
 
 use crate::marks::register_of;
@@ -42,7 +42,7 @@ impl Model for HistoryLists {
 fn rename_last(items: &mut Vec<KeptEntry>, batch: KeptBatch)
     requires { vec_len items.old < vec_capacity items.old }
     ensures { kept_entries items.new.items
-        ≡ with_last_batch (kept_entries items.old.items) (kept_batch batch) }
+        ≡ entries_with_last_batch (kept_entries items.old.items) (kept_batch batch) }
 {
     let _ = items.pop();
     items.push_reserved(KeptEntry::Own(batch));

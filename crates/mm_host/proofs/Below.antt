@@ -12,7 +12,7 @@ pub use Rattle.std.proofs.lemmas.Result.{err_from_is_err_and}
 pub use Rattle.mm_base.specs.Input.{IsUnbroken, joined_lines, lines_of, lines_with_front, tail_with_front, tail_of}
 pub use Rattle.mm_base.specs.InputLaws.{lines_of-append, lines_of-joined, lines_of-line, tail_of-append, tail_of-joined, tail_of-unbroken}
 pub use Rattle.mm_base.specs.Limits.{last_position, longest_request}
-pub use Rattle.mm_base.specs.Lines.{IsLong, MayGrow}
+pub use Rattle.mm_base.specs.Lines.{IsLong, IsLineFront}
 pub use Rattle.mm_base.specs.declared.replay_fault.ReplayFault.TheVariants.{BadLine, LineLong, Memory, TooMuch, WriteFault}
 pub use Rattle.mm_digest.specs.Messages.{extended_message, zero_bytes}
 pub use Rattle.mm_digest.specs.declared.variant.Variant.{Variant}
@@ -64,7 +64,7 @@ pub use Rattle.mm_call.proofs.OptAlike.{still}
 pub use Rattle.mm_schedule.specs.Machine.{IsBatchStep}
 pub use Rattle.mm_store.specs.Calls.{slots_with_bytes, ReadsSlot, WritesSlot}
 pub use Rattle.mm_store.specs.StoreStanding.{StoreStanding}
-pub use Rattle.mm_store.specs.PendingRecord.{PendingRecord, pending_spelling, ReadsPending}
+pub use Rattle.mm_store.specs.PendingRecord.{PendingRecord, pending_spelling, ReadsPendingRecord}
 pub use Rattle.mm_store.specs.Slots.{longest_slot, slot_front, Slots, slots_with}
 pub use Rattle.mm_store.specs.declared.fault.StoreFault.{StoreFault}
 pub use Rattle.mm_store.proofs.Above.{longest_slot-is, one_reading}
@@ -72,9 +72,9 @@ pub use Rattle.mm_recovery.specs.HostCall.{IsCall}
 pub use Rattle.mm_recovery.specs.Faults.{refusal_fault, store_fault_as}
 pub use Rattle.mm_recovery.specs.SlotFit.{first_offer, FitsBy, FitsHistory, IsSnapshotAt, IsAwaited, offer_slot}
 pub use Rattle.mm_recovery.specs.LastAnswer.{IsSized, position_at, snapshot_at}
-pub use Rattle.mm_recovery.specs.NextRequest.{GoesAfterRecord, AsksNext, record_for}
-pub use Rattle.mm_recovery.specs.Recovery.{AnswersAt, AsksIdly, CanRecover, IsGrown, IsRefusedAs, MayHaveCommitted, RecoversTo}
-pub use Rattle.mm_recovery.specs.Resumption.{AsksAndKeeps, GoesAfterAsk, GoesAfterFinding, GoesAfterOffer, result_of_keep, HostResumes}
+pub use Rattle.mm_recovery.specs.NextRequest.{HostGoesAfterRecord, AsksNextRequest, record_for}
+pub use Rattle.mm_recovery.specs.Recovery.{AnswersAt, AsksIdly, CanRecover, IsGrown, IsRefusedAs, RequestMayBeCommitted, RecoversTo}
+pub use Rattle.mm_recovery.specs.Resumption.{AsksAndKeepsAnswer, HostGoesAfterAsk, HostGoesAfterFinding, HostGoesAfterOffer, result_of_keep, HostResumes}
 pub use Rattle.mm_recovery.specs.Resumption.{result_of_start}
 pub use Rattle.mm_recovery.specs.WaitingRequest.{IsWaiting, later_record}
 pub use Rattle.mm_recovery.specs.declared.fault.HostFault.{HostFault}
@@ -88,13 +88,13 @@ pub use Rattle.mm_recovery.proofs.Above.{rests, resumes_came, beyond_none, Enter
 pub use Rattle.mm_recovery.proofs.Above.{Told, waiting_most, was_powered}
 pub use Rattle.mm_host.specs.AnySlots.{history_after_answer, AreAmong, AreAskedInTurn, AsksNothingNew, EndsRun, MayStart, offer_after}
 pub use Rattle.mm_host.specs.AnySlots.{requests_with, RunsOnce, RunsOnceFrom, SessionRunsOnce}
-pub use Rattle.mm_host.specs.Continuation.{answer_reply, AreNewFrom, AreToldOnce, ContinuesTo, HasUntold, IsInHand}
-pub use Rattle.mm_host.specs.Continuation.{IsNotBeyond, MayBeUntold, RefusesAs, CallsRunOver, RunsTo, first_served_call, served_calls_in}
+pub use Rattle.mm_host.specs.Continuation.{answer_reply, AreNewFrom, AreToldOnce, ContinuesTo, HasUntoldRequest, IsInHand}
+pub use Rattle.mm_host.specs.Continuation.{IsNotBeyond, RequestMayBeUntold, RefusesAs, CallsRunOver, RunsTo, first_served_call, served_calls_in}
 pub use Rattle.mm_host.specs.HonestStore.{ContinuesFrom, MayGoOn, SessionContinues}
 pub use Rattle.mm_host.specs.Continuation.{waiting_position}
 pub use Rattle.mm_host.specs.Sessions.{session_result_of, refusal_text, reply_text, SendsReply, TellsReply, told_cause, served_lines}
-pub use Rattle.mm_host.specs.Sessions.{SessionPlace, replies_to, ServedCall, ServesCalls, GoesAfterResume, BeginsWith, turn_answer_of}
-pub use Rattle.mm_host.specs.Sessions.{IsAtRest, most_lines, IsSession, StopsAtOnce, StopsInLine, AsksAndTells, TurnGoes, ServesInput}
+pub use Rattle.mm_host.specs.Sessions.{SessionPlace, replies_to, ServedCall, ServesCalls, SessionGoesAfterResume, BytesBeginWith, turn_answer_of}
+pub use Rattle.mm_host.specs.Sessions.{IsAtRest, most_lines, IsSession, SessionStopsAtOnce, SessionStopsInLine, AsksAndTells, TurnGoes, ServesInput}
 pub use Rattle.mm_host.specs.Sessions.{ServesLine, ServesNext, TurnSends}
 pub use Rattle.mm_host.specs.declared.fault.SessionFault.{SessionFault}
 pub use Rattle.mm_host.specs.declared.fault.SessionFault.TheVariants.{Host, Lines}

@@ -4,8 +4,8 @@ use Rattle.mm_host.proofs.Below.{◌≡◌, ◌∙◌, ℕ, List, [], ◌∷◌,
 use Rattle.mm_host.proofs.Below.{append_assoc, lines_of, Variant, Standing, Meaning, Refusal, StoreFault, ReadsSlot, StoreStanding}
 use Rattle.mm_host.proofs.Below.{PendingRecord, Slots, slot_front, HostFault, SessionFault, Host, Resumed, Start, Answered, first_offer}
 use Rattle.mm_host.proofs.Below.{offer_slot, offer_after, IsCall, IsInHand, first_served_call, served_calls_in, store_fault_as}
-use Rattle.mm_host.proofs.Below.{GoesAfterFinding, GoesAfterOffer, result_of_start, SendsReply, reply_text, snapshot_at, SessionPlace}
-use Rattle.mm_host.proofs.Below.{ServedCall, ServesCalls, GoesAfterResume, BeginsWith, IsSession, StopsAtOnce, IsWaiting, Saw, one_waiting}
+use Rattle.mm_host.proofs.Below.{HostGoesAfterFinding, HostGoesAfterOffer, result_of_start, SendsReply, reply_text, snapshot_at, SessionPlace}
+use Rattle.mm_host.proofs.Below.{ServedCall, ServesCalls, SessionGoesAfterResume, BytesBeginWith, IsSession, SessionStopsAtOnce, IsWaiting, Saw, one_waiting}
 use Rattle.mm_host.proofs.Below.{saw_two, AreAmong, requests_with, served_lines, Answer}
 use Rattle.mm_recovery.specs.declared.fault.HostFault.TheVariants as host
 use Rattle.mm_host.specs.Sessions.{SessionGoesOn, ServesAllLines}
@@ -68,7 +68,7 @@ module _ {variant : Variant} {meaning : Meaning} {from : SessionPlace} {after : 
     {taken sent : List ℕ} {result : Result Unit SessionFault}
     (l : ServesAllLines variant meaning 1 from after new left taken sent result) where
   abbrev pub InHand : List ℕ → Type 0
-  InHand request = (held : List ℕ) × BeginsWith l.more request held
+  InHand request = (held : List ℕ) × BytesBeginWith l.more request held
 
   abbrev pub lines_chain : Chain variant meaning (snapshot_at from.last) from.platform after l.calls InHand result
   lines_chain = record {
@@ -92,7 +92,7 @@ module _ (variant : Variant) (meaning : Meaning) (before after : Standing) where
     begun_repeat : (offer : Result (List ℕ) StoreFault) (came : Result Resumed HostFault) (old middle new : StoreStanding)
         (p : PendingRecord)
         → old.slots ≡ Some slots → ReadsSlot (offer_slot p) old middle offer
-        → GoesAfterOffer variant meaning before after offer middle new p came
+        → HostGoesAfterOffer variant meaning before after offer middle new p came
         → Begun variant meaning before after (first_offer slots (Some p)) (Some p) came
     begun_repeat (Err why) came old middle new p told r g = failed g.0 why g.2
     begun_repeat (Ok bytes) came old middle new p told r g =
@@ -100,13 +100,13 @@ module _ (variant : Variant) (meaning : Meaning) (before after : Standing) where
 
     begun_found : (found : Result (Option PendingRecord) StoreFault) (came : Result Resumed HostFault) (waiting : Option PendingRecord)
         (first middle new : StoreStanding) → IsWaiting (slot_front slots 2) (slot_front slots 3) waiting → Saw slots first middle found
-        → GoesAfterFinding variant meaning before after found middle new came
+        → HostGoesAfterFinding variant meaning before after found middle new came
         → Begun variant meaning before after (first_offer slots waiting) waiting came
     begun_found (Err why) came waiting first middle new w s g = failed g.0 why g.2
     begun_found (Ok found) came waiting first middle new w s g =
         rw (one_waiting (slot_front slots 2) (slot_front slots 3) waiting found w (s.waiting found refl)) (by_found found g)
       where
-        by_found : (found : Option PendingRecord) → GoesAfterFinding variant meaning before after (Ok found) middle new came
+        by_found : (found : Option PendingRecord) → HostGoesAfterFinding variant meaning before after (Ok found) middle new came
             → Begun variant meaning before after (first_offer slots found) found came
         by_found None g = begun_start g.1.zero came middle new g.0 s.told g.1.reads g.1.gives
         by_found (Some p) g = begun_repeat g.offer came middle g.middle new p s.told g.reads g.goes
@@ -121,13 +121,13 @@ module _ (variant : Variant) (meaning : Meaning) (before after : Standing) where
   begun_by_zero (Err why) came same e = ([], None, failed same why e)
 
   begun_by_offer : (offer : Result (List ℕ) StoreFault) (came : Result Resumed HostFault) (middle new : StoreStanding) (p : PendingRecord)
-      → GoesAfterOffer variant meaning before after offer middle new p came → BegunSomehow came
+      → HostGoesAfterOffer variant meaning before after offer middle new p came → BegunSomehow came
   begun_by_offer (Err why) came middle new p g = ([], None, failed g.0 why g.2)
   begun_by_offer (Ok bytes) came middle new p g =
       (bytes, Some p, repeats p refl g.asked g.asks (tells_call g.asked middle new came g.goes))
 
   begun_somehow : (found : Result (Option PendingRecord) StoreFault) (came : Result Resumed HostFault) (middle new : StoreStanding)
-      → GoesAfterFinding variant meaning before after found middle new came → BegunSomehow came
+      → HostGoesAfterFinding variant meaning before after found middle new came → BegunSomehow came
   begun_somehow (Err why) came middle new g = ([], None, failed g.0 why g.2)
   begun_somehow (Ok None) came middle new g = begun_by_zero g.1.zero came g.0 g.1.gives
   begun_somehow (Ok (Some p)) came middle new g = begun_by_offer g.offer came g.middle new p g.goes
@@ -154,7 +154,7 @@ module _ (variant : Variant) (meaning : Meaning) (before after : Standing) (offe
 
   -- it stops at once
   at_once : (waiting : Option PendingRecord) (begun : Result Resumed HostFault) (taken sent : List ℕ) (result : Result Unit SessionFault)
-      → StopsAtOnce begun taken sent result → Begun variant meaning before after offer waiting begun
+      → SessionStopsAtOnce begun taken sent result → Begun variant meaning before after offer waiting begun
       → Ends variant meaning before after offer
       (λ (request : List ℕ). (p : PendingRecord) × (waiting ≡ Some p) × (p.request ≡ request)) result
   at_once waiting begun taken sent result s (failed same why e) =
@@ -178,7 +178,7 @@ module _ {variant : Variant} {meaning : Meaning} {before after : Standing} {old 
           first_calls variant meaning before s.platform offer waiting first
           (rw e at begun_by)
 
-      chain_by : (goes : GoesAfterResume variant meaning s.begun s.platform after s.store new left' s.taken s.sent result)
+      chain_by : (goes : SessionGoesAfterResume variant meaning s.begun s.platform after s.store new left' s.taken s.sent result)
           → Chain variant meaning offer before after (served_calls_in waiting goes) (IsInHand waiting goes) result
       chain_by (inl e) = record {
         at = before;
@@ -196,7 +196,7 @@ module _ {variant : Variant} {meaning : Meaning} {before after : Standing} {old 
           }
 
       among_by : (input : List ℕ) → IsRead input s.taken left'
-          → (goes : GoesAfterResume variant meaning s.begun s.platform after s.store new left' s.taken s.sent result)
+          → (goes : SessionGoesAfterResume variant meaning s.begun s.platform after s.store new left' s.taken s.sent result)
           → AreAmong (served_calls_in waiting goes) (IsInHand waiting goes) (requests_with waiting (lines_of input))
       among_by input read (inl e) = record {
         served = (requests_with waiting (lines_of input), refl);

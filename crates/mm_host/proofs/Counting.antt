@@ -2,8 +2,8 @@
 use Rattle.mm_host.proofs.Below.{ℕ, ◌≡◌, ◌≢◌, ◌+◌, ◌≤◌, List, [], ◌∷◌, length, Option, None, Some, Result, Ok, Err, refl, ap, ◌∙◌, subst}
 use Rattle.mm_host.proofs.Below.{inl, inr, arith, is_some, length-append, lines_of, lines_of-joined, lines_of-line, Variant, Basic, Opt}
 use Rattle.mm_host.proofs.Below.{Standing, StepFault, Meaning, Refusal, CountsHandedFault, fault_of, StoreStanding, HostFault, SessionFault}
-use Rattle.mm_host.proofs.Below.{Host, Resumed, Start, Answered, MayBeUntold, SendsReply, told_cause, refusal_text, reply_text}
-use Rattle.mm_host.proofs.Below.{SessionPlace, ServedCall, ServesCalls, served_lines, GoesAfterResume, BeginsWith, IsSession, Told}
+use Rattle.mm_host.proofs.Below.{Host, Resumed, Start, Answered, RequestMayBeUntold, SendsReply, told_cause, refusal_text, reply_text}
+use Rattle.mm_host.proofs.Below.{SessionPlace, ServedCall, ServesCalls, served_lines, SessionGoesAfterResume, BytesBeginWith, IsSession, Told}
 use Rattle.mm_host.proofs.Below.{next_told, resumes_told, AnsweredWrites, CameWrites, answered_writes, both_writes, next_came, new_most}
 use Rattle.mm_host.proofs.Below.{resumes_came, counted_most, joined, leads_rest, rests}
 use Rattle.std.specs.Prelude.{IsSome}
@@ -11,7 +11,7 @@ use Rattle.mm_model.specs.declared.refusal.Refusal.TheVariants.{Device}
 use Rattle.mm_play.specs.PlaysInput.{IsBlamed}
 use Rattle.mm_recovery.specs.declared.fault.HostFault.TheVariants as host
 use Rattle.mm_recovery.specs.Blame.{BlamesHostFault}
-use Rattle.mm_recovery.specs.CellWrites.{IsNewAt, WritesFor, new_requests_by, IsNewOf, new_requests_at}
+use Rattle.mm_recovery.specs.CellWrites.{IsNewAt, CellIsWrittenFor, new_requests_by, IsNewOf, new_requests_at}
 use Rattle.mm_host.specs.SessionBlame.{IsRefusalNamed, is_platform_fault, is_store_fault}
 use Rattle.mm_host.specs.SessionWrites.{SessionWrites, new_lines, new_told_requests}
 use Rattle.mm_host.specs.Sessions.{ServesAllLines}
@@ -51,7 +51,7 @@ pub record Says (requests : ℕ) (before after : Standing) (old new : StoreStand
   pub platform : IsBlamed (is_platform_fault result) before.faults after.faults
   pub store : IsBlamed (is_store_fault result) old.faults new.faults
   pub named : IsRefusalNamed result
-  pub untold : requests ≢ 0 → MayBeUntold result
+  pub untold : requests ≢ 0 → RequestMayBeUntold result
 
 -- What a session counts: of the new requests those that were told, and the one in hand.
 pub record Counted (variant : Variant) (told most : ℕ) (result : Result Unit SessionFault) (before after : Standing)
@@ -60,7 +60,7 @@ pub record Counted (variant : Variant) (told most : ℕ) (result : Result Unit S
   pub says : Says in_hand before after old new result
   pub one : in_hand ≤ 1
   pub few : told + in_hand ≤ most
-  pub writes : WritesFor variant (told + in_hand) before after
+  pub writes : CellIsWrittenFor variant (told + in_hand) before after
 
 -- the fault that came
 blames_by : (broken : Option StepFault) (before now : ℕ) → CountsHandedFault broken before now → IsBlamed (is_some broken) before now
@@ -100,12 +100,12 @@ came_most (Ok it) n h = let most = first_most it in omega (arith, h, most)
 came_most (Err (host.Refused why)) n h = (new_at (fault_of why) n h).0
 came_most _ n h = h
 
-untold_at : (fault : HostFault) (n : ℕ) → IsNewOf (Err fault) n → n ≢ 0 → MayBeUntold {T = Unit} (Err (Host fault))
+untold_at : (fault : HostFault) (n : ℕ) → IsNewOf (Err fault) n → n ≢ 0 → RequestMayBeUntold {T = Unit} (Err (Host fault))
 untold_at (host.Refused why) n h k = (new_at (fault_of why) n h).1 k
 untold_at _ n h k = tt
 
 counted_of : (variant : Variant) (requests most : ℕ) (result : Result Unit SessionFault) (before after : Standing) (old new : StoreStanding)
-    → Says requests before after old new result → requests ≤ 1 → requests ≤ most → WritesFor variant requests before after
+    → Says requests before after old new result → requests ≤ 1 → requests ≤ most → CellIsWrittenFor variant requests before after
     → Counted variant 0 most result before after old new
 counted_of variant requests most result before after old new s one few writes =
     let none : 0 + requests ≡ requests = omega arith in
@@ -150,7 +150,7 @@ rest_says result before after old new by q = record {
 module _ (variant : Variant) (meaning : Meaning) (from : SessionPlace) (after : Standing) (new : StoreStanding) (left : Option (List ℕ))
     (taken sent : List ℕ) (result : Result Unit SessionFault)
     (l : ServesAllLines variant meaning 1 from after new left taken sent result) where
-  has_line : (line held : List ℕ) → BeginsWith l.more line held → 1 ≤ length (lines_of l.more)
+  has_line : (line held : List ℕ) → BytesBeginWith l.more line held → 1 ≤ length (lines_of l.more)
   has_line line held b =
       let counted : length (lines_of l.more) ≡ length (line ∷ lines_of held) =
       ap (λ (bytes : List ℕ). length (lines_of bytes)) b.cut
@@ -182,7 +182,7 @@ lines_most (c ∷ calls) =
     let rest = lines_most calls in
     omega (arith, one, rest)
 
-for_most : (variant : Variant) (n : ℕ) (before after : Standing) → WritesFor variant n before after → after.writes ≤ before.writes + n
+for_most : (variant : Variant) (n : ℕ) (before after : Standing) → CellIsWrittenFor variant n before after → after.writes ≤ before.writes + n
 for_most Basic n before after w = let most = counted_most n before.writes in omega (arith, w, most)
 for_most Opt n before after w = w.each
 
@@ -190,7 +190,7 @@ for_most Opt n before after w = w.each
 module _ {variant : Variant} {meaning : Meaning} {before after : Standing} {old new : StoreStanding}
     {left left' received received' : Option (List ℕ)} {result : Result Unit SessionFault}
     (s : IsSession variant meaning before after old new left left' received received' result) where
-  counted_by : (goes : GoesAfterResume variant meaning s.begun s.platform after s.store new left' s.taken s.sent result)
+  counted_by : (goes : SessionGoesAfterResume variant meaning s.begun s.platform after s.store new left' s.taken s.sent result)
       → Counted variant (new_told_requests goes) (1 + length (lines_of s.taken)) result before after old new
   counted_by (inl e) =
       let most : ℕ = 1 + length (lines_of s.taken) in

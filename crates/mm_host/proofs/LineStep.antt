@@ -1,15 +1,15 @@
 -- What a line comes to by lists, from where a session stands.
 use Rattle.mm_host.proofs.Below.{◌≡◌, ◌≢◌, ◌∙◌, ◌+◌, ◌-◌, ◌%◌, ℕ, List, Option, None, Some, Result, Ok, Err, IfOk, refl, sym, ap, inl}
-use Rattle.mm_host.proofs.Below.{arith, ◌⊎◌, nat_eq, take_all, MayGrow, longest_request, Standing, Batch, One, Content, Instance, History}
+use Rattle.mm_host.proofs.Below.{arith, ◌⊎◌, nat_eq, take_all, IsLineFront, longest_request, Standing, Batch, One, Content, Instance, History}
 use Rattle.mm_host.proofs.Below.{requests_of, total_of, LostLife, life_of, IsRight, Answer, BatchAnswer, Refusal, batch_answer_of}
 use Rattle.mm_host.proofs.Below.{batch_result_of, StoreFault, WritesSlot, slots_with_bytes, StoreStanding, PendingRecord, pending_spelling}
 use Rattle.mm_host.proofs.Below.{Slots, longest_slot, slot_front, slots_with, longest_slot-is, HostFault, Resumed, Start, Answered}
 use Rattle.mm_host.proofs.Below.{IsNotBeyond, waiting_position, refusal_fault, store_fault_as, FitsHistory, FitsBy, IsSnapshotAt}
 use Rattle.mm_host.proofs.Below.{offer_slot, ◌∷◌, history_after_answer, AreAskedInTurn, RecoversTo, position_at, snapshot_at}
-use Rattle.mm_host.proofs.Below.{GoesAfterRecord, record_for, SessionPlace, length-pending_spelling, NoMore, left_by, ask_exit}
+use Rattle.mm_host.proofs.Below.{HostGoesAfterRecord, record_for, SessionPlace, length-pending_spelling, NoMore, left_by, ask_exit}
 use Rattle.mm_host.proofs.Below.{refusal_told, CallsRunOver, [], issued_bytes, inr, Met, sealed_snapshot_of, first_offer, requests_with}
 use Rattle.mm_host.proofs.Below.{IsCall, last_position, one_content, one_more, IsSame, subst, ◌≤◌, ◌<◌, false, take, nat_tests, StepFault}
-use Rattle.mm_host.proofs.Below.{fault_of, GoesAfterAsk, fits_on, found_full, grows, RefusesAs, Host}
+use Rattle.mm_host.proofs.Below.{fault_of, HostGoesAfterAsk, fits_on, found_full, grows, RefusesAs, Host}
 use Rattle.std.proofs.lemmas.Bool.{cases_lt}
 use Rattle.mm_call.specs.HistoryGrowth.{HistoryGrows}
 use Rattle.mm_call.specs.HistoryGrowth as coming
@@ -21,7 +21,7 @@ use Rattle.mm_host.proofs.Lines.{never_stored}
 use Rattle.mm_host.proofs.Leading.{Laws, Reaches}
 use Rattle.mm_host.proofs.Settling.{answers_of, broken_refused, came_by, CameTo, IsSettledAt, refused_in, refused_last, refused_with}
 use Rattle.mm_host.proofs.Settling.{settled_by, went_first}
-use Rattle.mm_host.proofs.Below.{GoesAfterRecord, Enters}
+use Rattle.mm_host.proofs.Below.{HostGoesAfterRecord, Enters}
 use Rattle.mm_host.proofs.Putting.{IsNext, IsPut, fits_next, fits_room, full_fits, put_next, torn_fits, waits_next}
 
 module _ {all others : List (List ℕ)} {asked : List Batch} {i : Instance} {final : Standing} (laws : Laws all others asked i final) where
@@ -109,7 +109,7 @@ module _ {all others : List (List ℕ)} {asked : List Batch} {i : Instance} {fin
       between_called y z old middle offer p answer rest s f may reaches c
   between_told y z old middle offer p (Err why) resumed rest s f may reaches c told = let clash = told why refl in absurd (cc)
 
-  module _ (at : SessionPlace) (line : List ℕ) (settled : IsSettledAt all others asked i at) (within : MayGrow longest_request line) where
+  module _ (at : SessionPlace) (line : List ℕ) (settled : IsSettledAt all others asked i at) (within : IsLineFront longest_request line) where
     abbrev y : History
     y = settled.after
 
@@ -180,7 +180,7 @@ module _ {all others : List (List ℕ)} {asked : List Batch} {i : Instance} {fin
     recovered : (room : position < last_position) (More : History → Type 0) (after : Standing) (middle new : StoreStanding)
         (came : Result Resumed HostFault) (it : Unit {0})
         → WritesSlot slot (pending_spelling next) at.store middle (Ok it)
-        → (g : GoesAfterRecord i.variant i.meaning at.platform after (Ok it) middle new at.last line came)
+        → (g : HostGoesAfterRecord i.variant i.meaning at.platform after (Ok it) middle new at.last line came)
         → (o : Met all others asked i y after offer next (batch_result_of g.asked)) × More o.after
         → (r : RecoversTo all others asked i y (put (pending_spelling next)) (Some next) after new came)
         × IfOk came (λ (resumed : Resumed). More r.after)
@@ -218,7 +218,7 @@ module _ {all others : List (List ℕ)} {asked : List Batch} {i : Instance} {fin
 
     pub line_unwritten : (why : StoreFault) (middle new : StoreStanding) (came : Result Resumed HostFault)
         → WritesSlot slot (pending_spelling next) at.store middle (Err why)
-        → GoesAfterRecord i.variant i.meaning at.platform final (Err why) middle new at.last line came
+        → HostGoesAfterRecord i.variant i.meaning at.platform final (Err why) middle new at.last line came
         → CameTo all others asked i y (Some next) final new came
     line_unwritten fault.Memory middle new came w g =
         unwritten fault.Memory middle new came settled.slots_after w.honest g (w.leaves settled.honest ∙ settled.told) (λ n. settled.fits)
@@ -291,7 +291,7 @@ module _ {all others : List (List ℕ)} {asked : List Batch} {i : Instance} {fin
     -- And a line that isn't is refused, and nothing changes: what waited goes on to wait.
     full_last : (full : position ≡ last_position) (middle new : StoreStanding) (came : Result Resumed HostFault)
         (call : Result Answer Refusal) (it : Unit {0}) → WritesSlot slot (pending_spelling next) at.store middle (Ok it)
-        → GoesAfterAsk call middle new came → Met all others asked i y final offer next (batch_result_of call)
+        → HostGoesAfterAsk call middle new came → Met all others asked i y final offer next (batch_result_of call)
         → CameTo all others asked i y (Some next) final new came
     full_last full middle new came (Ok answer) it w g m = absurd (never_answered full final answer m m.comes)
     full_last full middle new came (Err why) it w g m =
@@ -331,7 +331,7 @@ module _ {all others : List (List ℕ)} {asked : List Batch} {i : Instance} {fin
       -- the last line, where it is asked
       pub line_last : (it : Unit {0}) (middle new : StoreStanding) (came : Result Resumed HostFault)
           → WritesSlot slot (pending_spelling next) at.store middle (Ok it)
-          → GoesAfterRecord i.variant i.meaning at.platform final (Ok it) middle new at.last line came
+          → HostGoesAfterRecord i.variant i.meaning at.platform final (Ok it) middle new at.last line came
           → CameTo all others asked i y (Some next) final new came
       line_last it middle new came w g =
           let m = met_last laws y z at.platform offer next lines g.asked here s.follow s.between.0 g.asks in
@@ -355,7 +355,7 @@ module _ {all others : List (List ℕ)} {asked : List Batch} {i : Instance} {fin
 
       pub line_goes : (recorded : Result Unit StoreFault) (after : Standing) (middle new : StoreStanding) (answer : Answer)
           → Reaches i.variant i after final → WritesSlot slot (pending_spelling next) at.store middle recorded
-          → GoesAfterRecord i.variant i.meaning at.platform after recorded middle new at.last line (Ok (Answered answer))
+          → HostGoesAfterRecord i.variant i.meaning at.platform after recorded middle new at.last line (Ok (Answered answer))
           → LineGoes after new answer
       unfolding enters
       line_goes (Err why) after middle new answer reaches w g =

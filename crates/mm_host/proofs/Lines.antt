@@ -1,14 +1,14 @@
 -- What a session reads, asks and tells, line by line, and how it ends; and it doesn't blame lines that are within the limits.
 use Rattle.mm_host.proofs.Below.{◌≡◌, ◌≢◌, ◌+◌, ℕ, List, [], length, Option, Result, Ok, Err, refl, subst, inl, inr, Variant, Standing}
 use Rattle.mm_host.proofs.Below.{Meaning, StoreStanding, HostFault, SessionFault, Host, Lines, Memory, WriteFault, Resumed, SendsReply}
-use Rattle.mm_host.proofs.Below.{session_result_of, reply_text, SessionPlace, IsAtRest, StopsInLine, ◌∙◌, ap, ◌⊎◌, Answer, Refusal}
-use Rattle.mm_host.proofs.Below.{StoreFault, Answered, IsCall, store_fault_as, refusal_fault, GoesAfterAsk, result_of_keep, snapshot_at}
-use Rattle.mm_host.proofs.Below.{GoesAfterRecord, AsksNext, ◌∷◌, ◌++◌, None, Some, sym, append_assoc, suc, Consumes, IsAtEnd}
+use Rattle.mm_host.proofs.Below.{session_result_of, reply_text, SessionPlace, IsAtRest, SessionStopsInLine, ◌∙◌, ap, ◌⊎◌, Answer, Refusal}
+use Rattle.mm_host.proofs.Below.{StoreFault, Answered, IsCall, store_fault_as, refusal_fault, HostGoesAfterAsk, result_of_keep, snapshot_at}
+use Rattle.mm_host.proofs.Below.{HostGoesAfterRecord, AsksNextRequest, ◌∷◌, ◌++◌, None, Some, sym, append_assoc, suc, Consumes, IsAtEnd}
 use Rattle.mm_host.proofs.Below.{AllByRecursion, IsUnbroken, joined_lines, lines_of, lines_of-joined, lines_of-line, ServedCall}
-use Rattle.mm_host.proofs.Below.{ServesCalls, served_lines, BeginsWith, ◌<◌, ◌≤◌, take, drop, arith, length-append, length-take}
-use Rattle.mm_host.proofs.Below.{take-append-drop, tail_of, lines_with_front, tail_with_front, IsLong, MayGrow, lines_of-append}
+use Rattle.mm_host.proofs.Below.{ServesCalls, served_lines, BytesBeginWith, ◌<◌, ◌≤◌, take, drop, arith, length-append, length-take}
+use Rattle.mm_host.proofs.Below.{take-append-drop, tail_of, lines_with_front, tail_with_front, IsLong, IsLineFront, lines_of-append}
 use Rattle.mm_host.proofs.Below.{tail_of-append, tail_of-joined, tail_of-unbroken, longest_request, LineLong, BadLine, TooMuch}
-use Rattle.mm_host.proofs.Below.{GoesAfterResume, IsSession, most_lines}
+use Rattle.mm_host.proofs.Below.{SessionGoesAfterResume, IsSession, most_lines}
 use Rattle.mm_host.specs.Sessions.{ServesAllLines}
 use Rattle.std.proofs.Common.{append-nil}
 use Rattle.mm_model.specs.ListLaws.{each_right}
@@ -27,7 +27,7 @@ IsByInput _ = Unit {0}
 pub by_end : {variant : Variant} {meaning : Meaning} {from : SessionPlace} {after : Standing} {new : StoreStanding} {left : Option (List ℕ)}
     {taken sent : List ℕ} (P : Result Unit SessionFault → Type 0) (result : Result Unit SessionFault)
     (l : ServesAllLines variant meaning 1 from after new left taken sent result)
-    → ((fault : SessionFault) → StopsInLine variant meaning (length l.calls + 1) l.at after new l.more l.last fault → P (Err fault))
+    → ((fault : SessionFault) → SessionStopsInLine variant meaning (length l.calls + 1) l.at after new l.more l.last fault → P (Err fault))
     → (IsByInput result → IsAtRest l.at after new l.last → P result) → P result
 by_end P (Err (Host fault)) l line rest = line (Host fault) l.ends
 by_end P (Err (Lines WriteFault)) l line rest = line (Lines WriteFault) l.ends
@@ -67,14 +67,14 @@ kept_tells : (answer : Answer) (written : Result Unit StoreFault) (came : Result
 kept_tells answer (Ok it) came e = inl e
 kept_tells answer (Err why) came e = inr (why, e)
 
-pub tells_call : (call : Result Answer Refusal) (old new : StoreStanding) (came : Result Resumed HostFault) → GoesAfterAsk call old new came
+pub tells_call : (call : Result Answer Refusal) (old new : StoreStanding) (came : Result Resumed HostFault) → HostGoesAfterAsk call old new came
     → TellsCall call came
 tells_call (Err why) old new came g = g.1
 tells_call (Ok answer) old new came g = kept_tells answer g.written came g.gives
 
 module _ {variant : Variant} {meaning : Meaning} {before after : Standing} {old new : StoreStanding} {last : Resumed} {line : List ℕ}
-    {came : Result Resumed HostFault} (a : AsksNext variant meaning before after old new last line came) where
-  tries_by : (recorded : Result Unit StoreFault) → GoesAfterRecord variant meaning before after recorded a.middle new last line came
+    {came : Result Resumed HostFault} (a : AsksNextRequest variant meaning before after old new last line came) where
+  tries_by : (recorded : Result Unit StoreFault) → HostGoesAfterRecord variant meaning before after recorded a.middle new last line came
       → Tries variant meaning before after (snapshot_at last) line came
   tries_by (Err why) g = fails g.0 why g.2
   tries_by (Ok it) g = asks g.asked g.asks (tells_call g.asked a.middle new came g.goes)
@@ -160,7 +160,7 @@ module _ {variant : Variant} {meaning : Meaning} {from : SessionPlace} {after : 
       ∙ lines_of-joined (served_lines l.calls) (l.more ++ r.rest) (unbroken_served variant meaning from l.at l.calls l.serves)
 
 -- the next line, where one is in hand
-pub next_line : (more rest line held : List ℕ) → BeginsWith more line held → lines_of (more ++ rest) ≡ line ∷ lines_of (held ++ rest)
+pub next_line : (more rest line held : List ℕ) → BytesBeginWith more line held → lines_of (more ++ rest) ≡ line ∷ lines_of (held ++ rest)
 next_line more rest line held b =
     ap (λ (x : List ℕ). lines_of (x ++ rest)) b.cut ∙ ap lines_of (append_assoc line (10 ∷ held) rest)
     ∙ lines_of-line line (held ++ rest) b.within.unbroken
@@ -195,14 +195,14 @@ module _ (count : ℕ) (more rest : List ℕ) (r : IsRest count (more ++ rest)) 
       (subst AreShort (ap lines_of cut ∙ lines_of-append front back l.unbroken) r.short)
 
   -- none is without its LF
-  not_cut : rest ≡ [] → MayGrow longest_request more → 0 < length more → ⊥
+  not_cut : rest ≡ [] → IsLineFront longest_request more → 0 < length more → ⊥
   not_cut e w h =
       let all : more ++ rest ≡ more = ap (λ (x : List ℕ). more ++ x) e ∙ append-nil more in
       let none : more ≡ [] = sym (ap tail_of all ∙ tail_of-unbroken more w.unbroken) ∙ r.whole in
       absurd (omega (arith, h, ap (λ (x : List ℕ). length x) none))
 
   -- and none is one too many
-  not_many : (line held : List ℕ) → count + 1 ≡ most_lines + 1 → BeginsWith more line held → ⊥
+  not_many : (line held : List ℕ) → count + 1 ≡ most_lines + 1 → BytesBeginWith more line held → ⊥
   not_many line held e b =
       let next : length (lines_of (more ++ rest)) ≡ suc (length (lines_of (held ++ rest))) =
       ap (λ (ls : List (List ℕ)). length ls) (next_line more rest line held b) in
@@ -220,7 +220,7 @@ module _ {variant : Variant} {meaning : Meaning} {before after : Standing} {old 
     {left left' received received' : Option (List ℕ)} {result : Result Unit SessionFault}
     (s : IsSession variant meaning before after old new left left' received received' result) where
   spares_by : (input : List ℕ) → IsRead input s.taken left' → AreWithin input
-      → GoesAfterResume variant meaning s.begun s.platform after s.store new left' s.taken s.sent result → IsNoLines result
+      → SessionGoesAfterResume variant meaning s.begun s.platform after s.store new left' s.taken s.sent result → IsNoLines result
   spares_by input r w (inl e) = rw e.2.stops
       (by_told (λ (f : SessionFault). IsNoLines {T = Unit} (Err f)) s.begun s.sent e.2.fault e.2.says (λ why e. tt) (λ n. tt))
   spares_by input r w (inr g) =

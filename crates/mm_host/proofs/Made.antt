@@ -1,9 +1,9 @@
 -- What a session asked, by its steps: the first of some requests.
 use Rattle.mm_host.proofs.Below.{◌≡◌, ◌∙◌, ℕ, List, [], ◌∷◌, ◌++◌, Option, Some, Result, Err, inl, inr, Standing, StoreStanding}
 use Rattle.mm_host.proofs.Below.{PendingRecord, SessionFault, Host, SessionPlace, ServedCall, IsAtRest, Ok, served_lines, AreAmong}
-use Rattle.mm_host.proofs.Below.{first_served_call, IsSession, GoesAfterResume, sym, Variant, append_assoc, append_cancel_left}
+use Rattle.mm_host.proofs.Below.{first_served_call, IsSession, SessionGoesAfterResume, sym, Variant, append_assoc, append_cancel_left}
 use Rattle.mm_host.specs.Sessions.{ServesAllLines}
-use Rattle.mm_host.proofs.Below.{◌+◌, length, Meaning, BeginsWith, turn_answer_of, IsMade, Lines, Memory, TurnGoes, StopsInLine, StoreFault}
+use Rattle.mm_host.proofs.Below.{◌+◌, length, Meaning, BytesBeginWith, turn_answer_of, IsMade, Lines, Memory, TurnGoes, SessionStopsInLine, StoreFault}
 use Rattle.mm_host.proofs.Below.{WriteFault}
 use Rattle.mm_host.proofs.Lines.{IsByInput}
 
@@ -15,7 +15,7 @@ IsWritten (Err why) = ⊥
 
 abbrev pub IsFirstIn : {variant : Variant} {meaning : Meaning} {number : ℕ} {at : SessionPlace} {after : Standing} {new : StoreStanding}
     {more sent : List ℕ} (rest : List (List ℕ)) (fault : SessionFault)
-    → StopsInLine variant meaning number at after new more sent fault → Type 0
+    → SessionStopsInLine variant meaning number at after new more sent fault → Type 0
 IsFirstIn rest fault e = IsWritten e.asks.recorded → (next : List (List ℕ)) × (rest ≡ e.line ∷ next)
 
 abbrev pub IsLineAsked : (variant : Variant) (meaning : Meaning) (number : ℕ) (at : SessionPlace) (after : Standing) (new : StoreStanding)
@@ -35,7 +35,7 @@ module _ {variant : Variant} {meaning : Meaning} {before final : Standing} {old 
       IsMade variant meaning before s.platform s.resumes.waiting s.resumes.middle s.store s.begun s.resumes.goes
       → (p : PendingRecord) → waiting ≡ Some p → (rest : List (List ℕ)) × (requests ≡ p.request ∷ rest)
 
-  abbrev pub AreMade : GoesAfterResume variant meaning s.begun s.platform final s.store new left' s.taken s.sent result → Type 0
+  abbrev pub AreMade : SessionGoesAfterResume variant meaning s.begun s.platform final s.store new left' s.taken s.sent result → Type 0
   AreMade (inl stops) = IsFirstAsked
   AreMade (inr g) =
       (rest : List (List ℕ)) × (served_lines (first_served_call waiting g.first ++ g.lines.calls) ++ rest ≡ requests)
@@ -48,7 +48,7 @@ pub by_asked : {variant : Variant} {meaning : Meaning} {from : SessionPlace} {af
     {taken sent : List ℕ} (P : Result Unit SessionFault → Type 0) (rest : List (List ℕ)) (result : Result Unit SessionFault)
     (l : ServesAllLines variant meaning 1 from after new left taken sent result)
     → IsLineAsked variant meaning (length l.calls + 1) l.at after new left l.more l.last rest result l.ends
-    → ((fault : SessionFault) (e : StopsInLine variant meaning (length l.calls + 1) l.at after new l.more l.last fault)
+    → ((fault : SessionFault) (e : SessionStopsInLine variant meaning (length l.calls + 1) l.at after new l.more l.last fault)
     → IsFirstIn rest fault e → P (Err fault))
     → (IsByInput result → IsAtRest l.at after new l.last → P result) → P result
 by_asked P rest (Err (Host fault)) l a line still = line (Host fault) l.ends a
@@ -58,8 +58,8 @@ by_asked P rest _ l a line still = still tt l.ends.0
 
 -- the line behind those that were told
 pub among_next : (told : List ServedCall) (more : List ℕ) {requests : List (List ℕ)}
-    (a : AreAmong told (λ (request : List ℕ). (held : List ℕ) × BeginsWith more request held) requests) (line held : List ℕ)
-    → BeginsWith more line held → (next : List (List ℕ)) × (a.served.0 ≡ line ∷ next)
+    (a : AreAmong told (λ (request : List ℕ). (held : List ℕ) × BytesBeginWith more request held) requests) (line held : List ℕ)
+    → BytesBeginWith more line held → (next : List (List ℕ)) × (a.served.0 ≡ line ∷ next)
 among_next told more a line held b =
     let next = a.in_hand line (held, b) in (
       next.0,

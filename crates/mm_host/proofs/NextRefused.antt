@@ -8,8 +8,8 @@ use Rattle.mm_host.proofs.Below.{BadLine, TooMuch, IsCall, StoreFault, offer_aft
 use Rattle.mm_host.proofs.Below.{finding_at, digest_level, fault_of, by_refusal, IsInHand, parts_of, HostFault, Resumed, SendsReply}
 use Rattle.mm_host.proofs.Below.{reply_text, store_fault_as, refusal_fault, snapshot_at, PendingRecord, Slots, slot_front, IsWaiting}
 use Rattle.mm_host.proofs.Below.{first_offer, requests_with, served_lines, served_calls_in, first_served_call, lines_of, lines_of-append}
-use Rattle.mm_host.proofs.Below.{IsUnbroken, IsLong, longest_request, most_lines, GoesAfterResume, StopsAtOnce, StopsInLine}
-use Rattle.mm_host.proofs.Below.{lines_with_front, InBasic, InOpt, if◌then◌else◌, later_record, SessionPlace, ReadsPending}
+use Rattle.mm_host.proofs.Below.{IsUnbroken, IsLong, longest_request, most_lines, SessionGoesAfterResume, SessionStopsAtOnce, SessionStopsInLine}
+use Rattle.mm_host.proofs.Below.{lines_with_front, InBasic, InOpt, if◌then◌else◌, later_record, SessionPlace, ReadsPendingRecord}
 use Rattle.std.specs.Prelude.{◌<◌, IfSome, nat_le}
 use Rattle.mm_base.specs.InputLaws.{lines_of-unbroken}
 use Rattle.mm_base.specs.declared.replay_fault.ReplayFault.TheVariants.{ReadFault}
@@ -199,7 +199,7 @@ next_ends : {variant : Variant} {meaning : Meaning} {from : SessionPlace} {after
     (l : ServesAllLines variant meaning 1 from after new left taken sent result) (r : IsRead input taken left) (request : List ℕ)
     (lines : List (List ℕ)) → lines_of (l.more ++ r.rest) ≡ request ∷ lines → length request ≤ longest_request
     → length l.calls + 1 ≤ most_lines
-    → ((fault : SessionFault) → StopsInLine variant meaning (length l.calls + 1) l.at after new l.more l.last fault → EndsFor why fault)
+    → ((fault : SessionFault) → SessionStopsInLine variant meaning (length l.calls + 1) l.at after new l.more l.last fault → EndsFor why fault)
     → RefusesOrFails why result
 next_ends why (Ok done) l r request lines e short few stops =
     none_next l.more r.rest request lines (rw l.ends.1 (λ k d h. absurd (omega (arith, h)))) (r.at_end l.ends.2) e
@@ -218,7 +218,7 @@ requests_cancel None a b e = e
 requests_cancel (Some p) a b e = cc
 
 -- what waits is no longer than a line
-record_short : (slot : ℕ) (bytes : List ℕ) (found : Option PendingRecord) → ReadsPending slot bytes found → IfSome found IsShort
+record_short : (slot : ℕ) (bytes : List ℕ) (found : Option PendingRecord) → ReadsPendingRecord slot bytes found → IfSome found IsShort
 record_short slot bytes None r = tt
 record_short slot bytes (Some p) r = r.0.line.short
 
@@ -251,7 +251,7 @@ module _ {variant : Variant} {meaning : Meaning} {before after : Standing} {old 
     (slots_told : old.slots ≡ Some slots) (w : IsWaiting (slot_front slots 2) (slot_front slots 3) waiting) (input : List ℕ)
     (left_told : left ≡ Some input) where
   abbrev Goes : Type 0
-  Goes = GoesAfterResume variant meaning s.begun s.platform after s.store new left' s.taken s.sent result
+  Goes = SessionGoesAfterResume variant meaning s.begun s.platform after s.store new left' s.taken s.sent result
 
   abbrev first : List ℕ
   first = first_offer slots waiting
@@ -292,7 +292,7 @@ module _ {variant : Variant} {meaning : Meaning} {before after : Standing} {old 
     abbrev JudgedBehind : List ServedCall → Type 0
     JudgedBehind told = Judged variant meaning key barrier after there ends_at why (offer_after first told) request
 
-    at_once_ends : (stops : StopsAtOnce s.begun s.taken s.sent result) → Begun variant meaning before after first waiting s.begun
+    at_once_ends : (stops : SessionStopsAtOnce s.begun s.taken s.sent result) → Begun variant meaning before after first waiting s.begun
         → IsNext waiting input [] request → JudgedBehind [] → EndsFor why stops.fault
     at_once_ends stops (failed same f e) n judged = told_store why s.begun f e s.sent stops.fault stops.says
     at_once_ends stops (starts same none e) n judged =

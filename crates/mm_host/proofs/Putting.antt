@@ -1,7 +1,7 @@
 -- What waits, and what fits, once the record of a next request was written, whole or torn.
 use Rattle.mm_host.proofs.Below.{◌≡◌, ◌∙◌, ◌+◌, ◌-◌, ◌%◌, ◌<◌, ◌≤◌, ℕ, List, take, Option, None, Some, refl, sym, ap, inl, inr, arith}
-use Rattle.mm_host.proofs.Below.{◌⊎◌, nat_tests, MayGrow, last_position, longest_request, Instance, History, total_of}
-use Rattle.mm_host.proofs.Below.{PendingRecord, ReadsPending, pending_spelling, Slots, longest_slot, slot_front, slots_with, one_reading}
+use Rattle.mm_host.proofs.Below.{◌⊎◌, nat_tests, IsLineFront, last_position, longest_request, Instance, History, total_of}
+use Rattle.mm_host.proofs.Below.{PendingRecord, ReadsPendingRecord, pending_spelling, Slots, longest_slot, slot_front, slots_with, one_reading}
 use Rattle.mm_host.proofs.Below.{IsNotBeyond, waiting_position, FitsHistory, FitsBy, IsSnapshotAt, IsWaiting, later_record}
 use Rattle.std.proofs.lemmas.Bool.{cases_lt}
 use Rattle.mm_store.proofs.Above.{slot_in-with_slot}
@@ -56,8 +56,8 @@ later_only a b w l h = elim l.is [ inl e ↦ absurd (omega (arith, h, l.over_sec
 record Reads (slots : Slots) (kept other : ℕ) (w : Option PendingRecord) : Type 0 where
   here : Option PendingRecord
   there : Option PendingRecord
-  reads_here : ReadsPending kept (slot_front slots kept) here
-  reads_there : ReadsPending other (slot_front slots other) there
+  reads_here : ReadsPendingRecord kept (slot_front slots kept) here
+  reads_there : ReadsPendingRecord other (slot_front slots other) there
   later_of : IsLater here there w
 
 reads_of : (slots : Slots) (kept other : ℕ) (w : Option PendingRecord) → AreSides kept other
@@ -80,7 +80,7 @@ reads_of slots kept other w (inr s) a = rw (s.0, s.1) (record {
 })
 
 waits_of : (slots : Slots) (kept other : ℕ) (here : Option PendingRecord) (next : PendingRecord) → AreSides kept other
-    → ReadsPending kept (slot_front slots kept) here → ReadsPending other (slot_front slots other) (Some next)
+    → ReadsPendingRecord kept (slot_front slots kept) here → ReadsPendingRecord other (slot_front slots other) (Some next)
     → waiting_position here < next.position → IsWaiting (slot_front slots 2) (slot_front slots 3) (Some next)
 waits_of slots kept other here next (inl s) r t h = record {
   in_two = here;
@@ -103,7 +103,7 @@ waits_of slots kept other here next (inr s) r t h = record {
 pub record IsNext (position : ℕ) (next : PendingRecord) (bytes : List ℕ) : Type 0 where
   pub follows : next.position ≡ position + 1
   pub most : next.position ≤ last_position
-  pub line : MayGrow longest_request next.request
+  pub line : IsLineFront longest_request next.request
   pub spelled : take longest_slot bytes ≡ pending_spelling next
 
 pub waits_next : (slots other : Slots) (position : ℕ) (bytes : List ℕ) (w : Option PendingRecord) (next : PendingRecord)
@@ -125,7 +125,7 @@ waits_next slots other position bytes w next a h n p =
 -- a torn record
 
 -- what isn't in this slot is of the other parity
-elsewhere : (slot other position : ℕ) (xs ys : List ℕ) (a b w : Option PendingRecord) → ReadsPending slot xs a → ReadsPending other ys b
+elsewhere : (slot other position : ℕ) (xs ys : List ℕ) (a b w : Option PendingRecord) → ReadsPendingRecord slot xs a → ReadsPendingRecord other ys b
     → other ≡ 2 + (position + 1) % 2 → (w ≡ a) ⊎ (w ≡ b) → waiting_position a ≤ waiting_position w
     → (w ≡ a) ⊎ (waiting_position w % 2 ≡ (position + 1) % 2)
 elsewhere slot other position xs ys a b w v u n (inl e) h = inl e
@@ -204,7 +204,7 @@ later_none None = refl
 later_none (Some p) = refl
 
 waits_alone : (slots : Slots) (kept other : ℕ) (here : Option PendingRecord) → AreSides kept other
-    → ReadsPending kept (slot_front slots kept) here → ReadsPending other (slot_front slots other) None
+    → ReadsPendingRecord kept (slot_front slots kept) here → ReadsPendingRecord other (slot_front slots other) None
     → IsWaiting (slot_front slots 2) (slot_front slots 3) here
 waits_alone slots kept other here (inl s) r t = record {
   in_two = here;
@@ -224,7 +224,7 @@ waits_alone slots kept other here (inr s) r t = record {
 -- beside what waited
 waits_still : (slots other : Slots) (position : ℕ) (bytes : List ℕ) (w : Option PendingRecord)
     → IsWaiting (slot_front slots 2) (slot_front slots 3) w → waiting_position w ≡ position
-    → ReadsPending (2 + (position + 1) % 2) (slot_front other (2 + (position + 1) % 2)) None → IsPut slots other position bytes
+    → ReadsPendingRecord (2 + (position + 1) % 2) (slot_front other (2 + (position + 1) % 2)) None → IsPut slots other position bytes
     → IsWaiting (slot_front other 2) (slot_front other 3) w
 waits_still slots other position bytes w a at none p =
     let here : ℕ = 2 + position % 2 in

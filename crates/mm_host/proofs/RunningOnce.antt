@@ -5,7 +5,7 @@ use Rattle.mm_host.proofs.Below.{Batch, One, Meaning, Instance, opt_instance, Hi
 use Rattle.mm_host.proofs.Below.{Refusal, IsWithin, batch_result_of, fault_of, unless_idle, StoreFault, StoreStanding, PendingRecord, Slots}
 use Rattle.mm_host.proofs.Below.{slot_front, HostFault, SessionFault, Host, Resumed, AreAskedInTurn, AsksNothingNew, EndsRun, RunsOnce}
 use Rattle.mm_host.proofs.Below.{offer_after, first_offer, IsCall, IsInHand, CallsRunOver, served_calls_in, store_fault_as, refusal_fault}
-use Rattle.mm_host.proofs.Below.{MayHaveCommitted, ServedCall, IsSession, served_lines, grows, IsWaiting, Met, by_refusal, map}
+use Rattle.mm_host.proofs.Below.{RequestMayBeCommitted, ServedCall, IsSession, served_lines, grows, IsWaiting, Met, by_refusal, map}
 use Rattle.mm_host.proofs.Below.{AllByRecursion, Contains, fold, extended_message, Variant, Basic, Opt, Item, foreign_item, IsLawful}
 use Rattle.mm_host.proofs.Below.{digest_after, trail, RegisterEntry, Value, Foreign, history_after, register_value_of, are_own, has_value}
 use Rattle.mm_host.proofs.Below.{is_empty, AreMessagesIn, Digests, digests_of, opt_digests, messages_of_moves, state_after_moves}
@@ -39,15 +39,15 @@ by_fault why None e h = inr (h e)
 by_fault why (Some broken) e h = inl (rw e refl)
 
 -- a request is committed where it was answered, or a device failed
-store_may : (why : StoreFault) → MayHaveCommitted {T = Resumed} (Err (store_fault_as why))
+store_may : (why : StoreFault) → RequestMayBeCommitted {T = Resumed} (Err (store_fault_as why))
 store_may fault.Memory = tt
 store_may fault.Failed = tt
 
 pub only_by : {A : Type 0} (call : Result Answer Refusal) (came : Result Resumed HostFault) → TellsCall call came
-    → ((why : Refusal) → batch_result_of call ≡ Err why → fault_of why ≡ None → A) → A ⊎ MayHaveCommitted came
+    → ((why : Refusal) → batch_result_of call ≡ Err why → fault_of why ≡ None → A) → A ⊎ RequestMayBeCommitted came
 only_by (Err why) came t still = elim (by_fault why (fault_of why) refl (still why refl)) [
   | inl some ↦ inr (rw t
-      (by_refusal (λ (w : Refusal) (f : HostFault). IsSome (fault_of w) → MayHaveCommitted {T = Resumed} (Err f)) (λ e. tt) (λ w n e. e) why
+      (by_refusal (λ (w : Refusal) (f : HostFault). IsSome (fault_of w) → RequestMayBeCommitted {T = Resumed} (Err f)) (λ e. tt) (λ w n e. e) why
       some))
   | inr it ↦ inl it
 ]

@@ -1,15 +1,15 @@
 -- A session by lists, in either variant: from what waited, over the lines, to each of its ends.
 use Rattle.mm_host.proofs.Below.{◌≡◌, ◌≢◌, ◌∙◌, ℕ, List, [], ◌∷◌, ◌++◌, Option, None, Some, Result, Err, refl, ap, inl, inr, ◌⊎◌, Standing}
 use Rattle.mm_host.proofs.Below.{Batch, One, Instance, History, requests_of, LostLife, life_of, requests-push, StoreStanding, PendingRecord}
-use Rattle.mm_host.proofs.Below.{Refusal, HostFault, SessionFault, Host, Resumed, ContinuesTo, HasUntold, MayBeUntold, RefusesAs}
-use Rattle.mm_host.proofs.Below.{CallsRunOver, IsGrown, MayHaveCommitted, SendsReply, session_result_of, reply_text, SessionPlace}
+use Rattle.mm_host.proofs.Below.{Refusal, HostFault, SessionFault, Host, Resumed, ContinuesTo, HasUntoldRequest, RequestMayBeUntold, RefusesAs}
+use Rattle.mm_host.proofs.Below.{CallsRunOver, IsGrown, RequestMayBeCommitted, SendsReply, session_result_of, reply_text, SessionPlace}
 use Rattle.mm_host.proofs.Below.{ServedCall, IsAtRest, Ok, Slots, Answered, FitsBy, RecoversTo, record_for, ServesCalls, served_lines}
 use Rattle.mm_host.proofs.Below.{AreAmong, AreAskedInTurn, history_after_answer, snapshot_at, batch_result_of, slot_front, Answer, IsInHand}
 use Rattle.mm_host.proofs.Below.{first_served_call, served_calls_in, first_offer, requests_with, AreNewFrom, AreToldOnce, offer_slot}
-use Rattle.mm_host.proofs.Below.{HostResumes, IsSession, GoesAfterResume, StopsAtOnce, NoMore, left_by, IsCall, IsWaiting, recovers_by, Met}
+use Rattle.mm_host.proofs.Below.{HostResumes, IsSession, SessionGoesAfterResume, SessionStopsAtOnce, NoMore, left_by, IsCall, IsWaiting, recovers_by, Met}
 use Rattle.mm_host.proofs.Below.{IfOk, subst, sym, total_of, refusal_fault, RunsTo, StandsFor, IsWithin, Variant, true}
 use Rattle.mm_host.specs.Sessions.{SessionGoesOn}
-use Rattle.mm_host.proofs.Below.{◌+◌, ◌%◌, length, MayGrow, longest_request, GoesAfterRecord, BeginsWith, turn_answer_of, IsMade, Enters}
+use Rattle.mm_host.proofs.Below.{◌+◌, ◌%◌, length, IsLineFront, longest_request, HostGoesAfterRecord, BytesBeginWith, turn_answer_of, IsMade, Enters}
 use Rattle.mm_host.proofs.Below.{Lines, pending_spelling, position_at, TurnGoes, StoreFault, WriteFault, WritesSlot}
 use Rattle.mm_recovery.specs.declared.fault.HostFault.TheVariants as host
 use Rattle.mm_host.proofs.CallsMade.{first_told, InHand, lines_chain, served_calls}
@@ -41,15 +41,15 @@ store_came came sent fault (inl s) e = let told : Err fault ≡ Err (Host host.S
 store_came came sent fault (inr s) e = absurd (s.1 (ap reply_text e))
 
 pub line_committed : (z after : History) (line : List ℕ) (came : Result Resumed HostFault) (sent : List ℕ) (fault : SessionFault)
-    (hand : List ℕ → Type 0) → hand line → SendsReply came sent (Err fault) → (after.batches ≡ z.batches) ⊎ MayHaveCommitted came
+    (hand : List ℕ → Type 0) → hand line → SendsReply came sent (Err fault) → (after.batches ≡ z.batches) ⊎ RequestMayBeCommitted came
     → (after.batches ≡ z.batches) ⊎ (after.batches ≡ z.batches ++ One line ∷ [])
-    → (requests_of after.batches ≡ requests_of z.batches) ⊎ HasUntold hand (Err fault) (requests_of z.batches) (requests_of after.batches)
+    → (requests_of after.batches ≡ requests_of z.batches) ⊎ HasUntoldRequest hand (Err fault) (requests_of z.batches) (requests_of after.batches)
 line_committed z after line came sent fault hand h s (inl same) g = inl (ap requests_of same)
 line_committed z after line came sent fault hand h s (inr may) (inl same) = inl (ap requests_of same)
 line_committed z after line came sent fault hand h s (inr may) (inr more) = inr (record {
   request = line;
   in_hand = h;
-  untold = by_told (λ (f : SessionFault). MayBeUntold {T = Unit} (Err f)) came sent fault s
+  untold = by_told (λ (f : SessionFault). RequestMayBeUntold {T = Unit} (Err f)) came sent fault s
       (λ (why : HostFault) (e : came ≡ Err why). rw e at may) (λ n. refl);
   grown = ap requests_of more ∙ requests-push z.batches (One line);
 })
@@ -57,8 +57,8 @@ line_committed z after line came sent fault hand h s (inr may) (inr more) = inr 
 waiting_committed : (y after : History) (waiting : Option PendingRecord) (begun : Result Resumed HostFault) (sent : List ℕ)
     (fault : SessionFault)
     (hand : List ℕ → Type 0) → ((p : PendingRecord) → waiting ≡ Some p → hand p.request) → SendsReply begun sent (Err fault)
-    → (after.batches ≡ y.batches) ⊎ MayHaveCommitted begun → IsGrown y waiting after
-    → (requests_of after.batches ≡ requests_of y.batches) ⊎ HasUntold hand (Err fault) (requests_of y.batches) (requests_of after.batches)
+    → (after.batches ≡ y.batches) ⊎ RequestMayBeCommitted begun → IsGrown y waiting after
+    → (requests_of after.batches ≡ requests_of y.batches) ⊎ HasUntoldRequest hand (Err fault) (requests_of y.batches) (requests_of after.batches)
 waiting_committed y after None begun sent fault hand h s o g = inl (ap requests_of g)
 waiting_committed y after (Some p) begun sent fault hand h s o g = line_committed y after p.request begun sent fault hand (h p refl) s o g
 
@@ -67,7 +67,7 @@ module _ {all others : List (List ℕ)} {asked : List Batch} {i : Instance} (y :
     (hand : List ℕ → Type 0) where
   abbrev pub runs_to : {final : Standing} {result : Result Unit SessionFault} {requests : List (List ℕ)} (after : History)
       → StandsFor i final after → IsWithin all others asked i after → CallsRunOver i.meaning (requests_of y.batches) told requests
-      → (requests_of after.batches ≡ requests) ⊎ HasUntold hand result requests (requests_of after.batches)
+      → (requests_of after.batches ≡ requests) ⊎ HasUntoldRequest hand result requests (requests_of after.batches)
       → (life_of i.variant y ≢ LostLife → life_of i.variant after ≢ LostLife) → RunsTo all others asked i y final told hand result
   runs_to {requests = requests} after stands within run committed powered = record {
     after = after;
@@ -89,7 +89,7 @@ module _ {all others : List (List ℕ)} {asked : List Batch} {i : Instance} (y :
       (new : StoreStanding) (result : Result Unit SessionFault) (c : CameTo all others asked i u waiting final new came)
       → (came ≡ Err host.Store → result ≡ Err (Host host.Store)) → CallsRunOver i.meaning (requests_of y.batches) told requests
       → AreToldOnce (total_of y.batches) first told
-      → (requests_of c.after.batches ≡ requests) ⊎ HasUntold hand result requests (requests_of c.after.batches)
+      → (requests_of c.after.batches ≡ requests) ⊎ HasUntoldRequest hand result requests (requests_of c.after.batches)
       → RefusesAs result i.variant c.after → (life_of i.variant y ≢ LostLife → life_of i.variant c.after ≢ LostLife)
       → ContinuesTo all others asked i y first final new told hand result
   ends_at new result c stored run once committed refuses powered = record {
@@ -168,10 +168,10 @@ module _ {all others : List (List ℕ)} {asked : List Batch} {i : Instance} {fin
 module _ {all others : List (List ℕ)} {asked : List Batch} {i : Instance} {final : Standing} (laws : Laws all others asked i final)
     (at : SessionPlace) (settled : IsSettledAt all others asked i at) (z : History) (rest : List (List ℕ))
     (ready : IsReady laws settled z rest)
-    (line : List ℕ) (new : StoreStanding) (came : Result Resumed HostFault) (within : MayGrow longest_request line) where
+    (line : List ℕ) (new : StoreStanding) (came : Result Resumed HostFault) (within : IsLineFront longest_request line) where
   line_came : (recorded : Result Unit StoreFault) (middle : StoreStanding)
       → WritesSlot (2 + (position_at at.last + 1) % 2) (pending_spelling (record_for at.last line)) at.store middle recorded
-      → GoesAfterRecord i.variant i.meaning at.platform final recorded middle new at.last line came
+      → HostGoesAfterRecord i.variant i.meaning at.platform final recorded middle new at.last line came
       → (IsWritten recorded → (next : List (List ℕ)) × (rest ≡ line ∷ next))
       → CameTo all others asked i settled.after (Some (record_for at.last line)) final new came
   line_came (Err why) middle records g first = line_unwritten laws at line settled within why middle new came records g
@@ -277,7 +277,7 @@ module _ {all others : List (List ℕ)} {asked : List Batch} {i : Instance} {fin
     none_told (Some p) f = tt
 
     -- what waited ends it
-    at_once : new ≡ s.store → (e : StopsAtOnce s.begun s.taken s.sent result)
+    at_once : new ≡ s.store → (e : SessionStopsAtOnce s.begun s.taken s.sent result)
         → RecoversTo all others asked i y slots waiting final s.store s.begun
         → ContinuesTo all others asked i y waiting final new []
         (λ (request : List ℕ). (p : PendingRecord) × (waiting ≡ Some p) × (p.request ≡ request)) result
@@ -317,7 +317,7 @@ module _ {all others : List (List ℕ)} {asked : List Batch} {i : Instance} {fin
         (λ p k. rw (same_pending (record_for l.at.last e.line) p k) (e.held, e.begins)) e.says)
         (λ by x. rests_at y waiting told (InHand l) l.at new l.last result c.settled run once (λ p. c.powered (r.0.powered p)) x by)
 
-    ends_by : (goes : GoesAfterResume i.variant i.meaning s.begun s.platform final s.store new left' s.taken s.sent result)
+    ends_by : (goes : SessionGoesAfterResume i.variant i.meaning s.begun s.platform final s.store new left' s.taken s.sent result)
         → AreMade s waiting requests goes
         → ContinuesTo all others asked i y waiting final new (served_calls_in waiting goes) (IsInHand waiting goes) result
     ends_by (inl e) a = at_once e.1 e.2 (recovers_last e.0 a)
@@ -353,7 +353,7 @@ module _ {all others : List (List ℕ)} {asked : List Batch} {i : Instance} {fin
 
     -- where all that were told, and the one in hand, are the first of the requests
     line_among : (told : List ServedCall) (number : ℕ) (at : SessionPlace) (left : Option (List ℕ)) (more sent : List ℕ)
-        (a : AreAmong told (λ (request : List ℕ). (held : List ℕ) × BeginsWith more request held) requests)
+        (a : AreAmong told (λ (request : List ℕ). (held : List ℕ) × BytesBeginWith more request held) requests)
         → (result : Result Unit SessionFault)
         → (e : TurnGoes i.variant i.meaning number at final new left more [] sent (turn_answer_of result))
         → IsLineAsked i.variant i.meaning number at final new left more sent a.served.0 result e
@@ -361,7 +361,7 @@ module _ {all others : List (List ℕ)} {asked : List Batch} {i : Instance} {fin
     line_among told number at left more sent a (Err (Lines WriteFault)) e = λ written. among_next told more a e.line e.held e.begins
     line_among told number at left more sent a _ e = tt
 
-    made_among : (goes : GoesAfterResume i.variant i.meaning s.begun s.platform final s.store new left' s.taken s.sent result)
+    made_among : (goes : SessionGoesAfterResume i.variant i.meaning s.begun s.platform final s.store new left' s.taken s.sent result)
         → AreAmong (served_calls_in waiting goes) (IsInHand waiting goes) requests → AreMade s waiting requests goes
     made_among (inl e) a = λ made p k. let f = a.in_hand p.request (p, k, refl) in (f.0, sym f.1)
     made_among (inr g) a = (

@@ -3,7 +3,7 @@ use Rattle.mm_host.proofs.Below.{◌≡◌, ◌≢◌, ◌∙◌, ◌+◌, ℕ, 
 use Rattle.mm_host.proofs.Below.{nat_eq, Standing, Batch, One, Instance, History, requests_of, total_of, LostLife, life_of, StandsFor}
 use Rattle.mm_host.proofs.Below.{Answer, BatchAnswer, Refusal, answer_on, IsWithin, batch_answer_of, StoreStanding, PendingRecord, Slots}
 use Rattle.mm_host.proofs.Below.{HostFault, Resumed, Start, Answered, IsNotBeyond, waiting_position, refusal_fault, FitsHistory, FitsBy}
-use Rattle.mm_host.proofs.Below.{AnswersAt, IsGrown, MayHaveCommitted, RecoversTo, IsRefusedAs, position_at, SessionPlace, CallsRunOver}
+use Rattle.mm_host.proofs.Below.{AnswersAt, IsGrown, RequestMayBeCommitted, RecoversTo, IsRefusedAs, position_at, SessionPlace, CallsRunOver}
 use Rattle.mm_host.proofs.Below.{first_served_call, inr, last_position, subst, ◌≤◌, ◌++◌, Variant, Life, StepFault, fault_of, by_refusal}
 use Rattle.mm_host.proofs.Below.{AreNewFrom, AreToldOnce, RefusesAs, ServedCall, Host}
 use Rattle.mm_model.specs.declared.refusal.Refusal.TheVariants as refusal
@@ -34,7 +34,7 @@ pub record CameTo (all others : List (List ℕ)) (asked : List Batch) (i : Insta
   pub fits : IsNotBeyond slots_after (total_of after.batches + 1) → FitsHistory i slots_after after
   pub whole : came ≢ Err host.Store → FitsHistory i slots_after after
   pub grown : IsGrown y waiting after
-  pub only : (after.batches ≡ y.batches) ⊎ MayHaveCommitted came
+  pub only : (after.batches ≡ y.batches) ⊎ RequestMayBeCommitted came
   pub room : total_of after.batches ≤ last_position
   pub refuses : (why : Refusal) → came ≡ Err (host.Refused why) → RefusesAs {T = Unit} (Err (Host (host.Refused why))) i.variant after
   pub powered : life_of i.variant y ≢ LostLife → life_of i.variant after ≢ LostLife

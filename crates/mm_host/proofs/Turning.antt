@@ -2,8 +2,8 @@
 use Rattle.mm_host.proofs.Below.{◌≡◌, ℕ, List, [], ◌++◌, Option, Result, Ok, Err, refl, ap, inl, inr, Appends-nil, Appends-trans}
 use Rattle.mm_host.proofs.Below.{Consumes-nil, Variant, Standing, Meaning, StoreStanding, HostFault, SessionFault, Host, Resumed}
 use Rattle.mm_host.proofs.Below.{HostResumes, SendsReply, TellsReply, session_result_of, reply_text, IsSession, ServesInput, ◌∙◌, ◌+◌, ◌≤◌}
-use Rattle.mm_host.proofs.Below.{◌∷◌, sym, append_assoc, arith, longest_request, Lines, WriteFault, AsksNext, SessionPlace, BeginsWith}
-use Rattle.mm_host.proofs.Below.{StopsInLine, most_lines, ServesNext, TurnGoes, length, Some, Consumes-trans, joined_lines, Answered}
+use Rattle.mm_host.proofs.Below.{◌∷◌, sym, append_assoc, arith, longest_request, Lines, WriteFault, AsksNextRequest, SessionPlace, BytesBeginWith}
+use Rattle.mm_host.proofs.Below.{SessionStopsInLine, most_lines, ServesNext, TurnGoes, length, Some, Consumes-trans, joined_lines, Answered}
 use Rattle.mm_host.proofs.Below.{served_lines, replies_to, ServesLine, AsksAndTells, TurnSends, ServedCall, turn_answer_of}
 use Rattle.mm_base.specs.ReadsNextLine.{ReadsNextLine}
 use Rattle.mm_base.specs.declared.lines.LineFault.{LineFault}
@@ -90,16 +90,16 @@ goes_on_with (Err fault) = Err fault
 
 -- what a line comes to
 module _ {variant : Variant} {meaning : Meaning} {number : ℕ} {at : SessionPlace} {after : Standing} {new : StoreStanding}
-    {bytes line held : List ℕ} (b : BeginsWith bytes line held) (few : number ≤ most_lines) where
+    {bytes line held : List ℕ} (b : BytesBeginWith bytes line held) (few : number ≤ most_lines) where
   -- it stops the session
   in_line : (sent : List ℕ) (came : Result Resumed HostFault) (fault : SessionFault)
-      → AsksNext variant meaning at.platform after at.store new at.last line came → SendsReply came sent (Err fault)
-      → StopsInLine variant meaning number at after new bytes sent fault
+      → AsksNextRequest variant meaning at.platform after at.store new at.last line came → SendsReply came sent (Err fault)
+      → SessionStopsInLine variant meaning number at after new bytes sent fault
   in_line sent came fault a s = record { line = line; held = held; begins = b; few = few; came = came; asks = a; says = s }
 
   -- by what is told of it
   went : (left : Option (List ℕ)) (sent : List ℕ) (came : Result Resumed HostFault) (told : Result Resumed SessionFault)
-      → AsksNext variant meaning at.platform after at.store new at.last line came → SendsReply came sent told
+      → AsksNextRequest variant meaning at.platform after at.store new at.last line came → SendsReply came sent told
       → TurnGoes variant meaning number at after new left bytes held sent (goes_on_with told)
   unfolding in_line
   went left sent (Ok resumed) told a (inl s) =
@@ -127,7 +127,7 @@ pub turned_by_line : {variant : Variant} {meaning : Meaning} {number : ℕ} {at 
     {left left' : Option (List ℕ)} {held held' : List ℕ} {received received' : Option (List ℕ)}
     {result : Result (Option Resumed) SessionFault} (read : Result Read LineFault) (what : Read) (line : _)
     → number ≤ most_lines + 1 → ReadsNextLine longest_request left left' held read held' → read ≡ Ok what → what ≡ Line line
-    → ((left : Option (List ℕ)) (bytes held : List ℕ) → number ≤ most_lines + 1 → BeginsWith bytes line.now held
+    → ((left : Option (List ℕ)) (bytes held : List ℕ) → number ≤ most_lines + 1 → BytesBeginWith bytes line.now held
     → TurnSends variant meaning number at after new left bytes held received received' result)
     → ServesNext variant meaning number at after new left left' held held' received received' result
 turned_by_line {left' = left'} {held = held} {held' = held'} read what line few n is what_is t =

@@ -1,7 +1,7 @@
 -- The words that the definitions of this crate take from the crates below.
 pub use Rattle.mm_base.specs.Input.{joined_lines, lines_of, tail_of}
 pub use Rattle.mm_base.specs.Limits.{last_position, longest_request}
-pub use Rattle.mm_base.specs.Lines.{IsLong, MayGrow}
+pub use Rattle.mm_base.specs.Lines.{IsLong, IsLineFront}
 pub use Rattle.mm_base.specs.declared.replay_fault.ReplayFault.TheVariants.{BadLine, LineLong, ReadFault, TooMuch, WriteFault}
 pub use Rattle.mm_digest.specs.declared.variant.Variant.{Variant}
 pub use Rattle.mm_digest.specs.declared.variant.Variant.TheVariants.{Basic, Opt}
@@ -35,10 +35,10 @@ pub use Rattle.mm_store.specs.PendingRecord.{PendingRecord}
 pub use Rattle.mm_store.specs.Slots.{Slots, slot_front}
 pub use Rattle.mm_play.specs.PlaysInput.{IsUnrefused}
 pub use Rattle.mm_play.specs.Fronts.{IsFrontOf}
-pub use Rattle.mm_recovery.specs.CellWrites.{WritesFor, new_requests_by, new_requests_at}
+pub use Rattle.mm_recovery.specs.CellWrites.{CellIsWrittenFor, new_requests_by, new_requests_at}
 pub use Rattle.mm_recovery.specs.SlotFit.{FitsHistory, first_offer}
-pub use Rattle.mm_recovery.specs.NextRequest.{AsksNext}
-pub use Rattle.mm_recovery.specs.Recovery.{AsksIdly, CanRecover, IsRefusedAs, MayHaveCommitted}
+pub use Rattle.mm_recovery.specs.NextRequest.{AsksNextRequest}
+pub use Rattle.mm_recovery.specs.Recovery.{AsksIdly, CanRecover, IsRefusedAs, RequestMayBeCommitted}
 pub use Rattle.mm_recovery.specs.Resumption.{HostResumes}
 pub use Rattle.mm_recovery.specs.WaitingRequest.{IsWaiting}
 pub use Rattle.mm_recovery.specs.declared.fault.HostFault.{HostFault}

@@ -5,12 +5,12 @@ use Rattle.std.specs.Prelude.{◌⊎◌}
 use Rattle.std.proofs.Common.{inl, inr}
 use Rattle.mm_host.specs.Below.{last_position, WriteFault, Variant, Standing, Batch, One, Meaning, History, requests_of, total_of, Instance}
 use Rattle.mm_host.specs.Below.{Spoiled, LostLife, life_of, StandsFor, Answer, IsWithin, IsBatchStep, Reply, Told, StoreStanding}
-use Rattle.mm_host.specs.Below.{PendingRecord, Slots, slot_front, FitsHistory, IsRefusedAs, MayHaveCommitted, IsWaiting, HostFault, Store}
+use Rattle.mm_host.specs.Below.{PendingRecord, Slots, slot_front, FitsHistory, IsRefusedAs, RequestMayBeCommitted, IsWaiting, HostFault, Store}
 use Rattle.mm_host.specs.Below.{Refused, Resumed, Answered}
 use Rattle.mm_model.specs.declared.refusal.Refusal.TheVariants.{Full}
 use Rattle.mm_host.specs.declared.fault.SessionFault.{SessionFault}
 use Rattle.mm_host.specs.declared.fault.SessionFault.TheVariants.{Host, Lines}
-use Rattle.mm_host.specs.Sessions.{ServedCall, GoesAfterResume, BeginsWith}
+use Rattle.mm_host.specs.Sessions.{ServedCall, SessionGoesAfterResume, BytesBeginWith}
 
 -- the position of what waits, and 0 where nothing does
 abbrev pub waiting_position : Option PendingRecord → ℕ
@@ -45,7 +45,7 @@ module _ {variant : Variant} {meaning : Meaning} {begun : Result Resumed HostFau
     {platform after : Standing} {store new : StoreStanding} {left : Option (List ℕ)}
     {taken sent : List ℕ} {result : Result Unit SessionFault} (waiting : Option PendingRecord) where
   -- the requests that a session told, each with its answer
-  abbrev pub served_calls_in : GoesAfterResume variant meaning begun platform after store
+  abbrev pub served_calls_in : SessionGoesAfterResume variant meaning begun platform after store
       new left taken sent
       result → List ServedCall
   served_calls_in (inl stops) = []
@@ -53,17 +53,17 @@ module _ {variant : Variant} {meaning : Meaning} {begun : Result Resumed HostFau
 
   -- the request in hand where a session stopped: what waited, or the line after those that were
   -- told
-  abbrev pub IsInHand : GoesAfterResume variant meaning begun platform after store
+  abbrev pub IsInHand : SessionGoesAfterResume variant meaning begun platform after store
       new left taken sent
       result → List ℕ → Type 0
   IsInHand (inl stops) request = (p : PendingRecord) × (waiting ≡ Some p) × (p.request ≡ request)
-  IsInHand (inr goes) request = (held : List ℕ) × BeginsWith goes.lines.more request held
+  IsInHand (inr goes) request = (held : List ℕ) × BytesBeginWith goes.lines.more request held
 
 -- A request may be committed and not told where memory, the store, a device or the output failed.
-abbrev pub MayBeUntold : {T : Type 0} → Result T SessionFault → Type 0
-MayBeUntold (Ok it) = ⊥
-MayBeUntold {T} (Err (Host fault)) = MayHaveCommitted {T = T} (Err fault)
-MayBeUntold (Err (Lines fault)) = fault ≡ WriteFault
+abbrev pub RequestMayBeUntold : {T : Type 0} → Result T SessionFault → Type 0
+RequestMayBeUntold (Ok it) = ⊥
+RequestMayBeUntold {T} (Err (Host fault)) = RequestMayBeCommitted {T = T} (Err fault)
+RequestMayBeUntold (Err (Lines fault)) = fault ≡ WriteFault
 
 -- Each of these is new, at the next position, behind so many.
 abbrev pub AreNewFrom : ℕ → List ServedCall → Type 0
@@ -88,11 +88,11 @@ RefusesAs (Err (Host (Refused why))) variant after = IsRefusedAs why (life_of va
 RefusesAs _ variant after = Unit {0}
 
 -- one request more than those told is committed, the one in hand
-pub record HasUntold (hand : List ℕ → Type 0) (result : Result Unit SessionFault)
+pub record HasUntoldRequest (hand : List ℕ → Type 0) (result : Result Unit SessionFault)
     (requests after : List (List ℕ)) : Type 0 where
   pub request : List ℕ
   pub in_hand : hand request
-  pub untold : MayBeUntold result
+  pub untold : RequestMayBeUntold result
   pub grown : after ≡ requests ++ request ∷ []
 
 module _ (all others : List (List ℕ)) (asked : List Batch) (i : Instance) (y : History) where
@@ -107,7 +107,7 @@ module _ (all others : List (List ℕ)) (asked : List Batch) (i : Instance) (y :
     pub requests : List (List ℕ)
     pub run : CallsRunOver i.meaning (requests_of y.batches) told requests
     pub committed : (requests_of after.batches ≡ requests)
-        ⊎ HasUntold hand result requests (requests_of after.batches)
+        ⊎ HasUntoldRequest hand result requests (requests_of after.batches)
     pub unspoiled : others ≡ [] → life_of i.variant after ≢ Spoiled
     pub powered : life_of i.variant y ≢ LostLife → life_of i.variant after ≢ LostLife
 

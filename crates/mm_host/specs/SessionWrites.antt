@@ -1,11 +1,11 @@
 -- How often a session is to write the cell.
 use Rattle.std.specs.Prelude.{◌≢◌, ◌+◌, ◌≤◌, ℕ, List, [], ◌∷◌, length, Option, Result}
 use Rattle.std.proofs.Common.{inl, inr}
-use Rattle.mm_host.specs.Below.{lines_of, Variant, Standing, Meaning, StoreStanding, WritesFor, new_requests_by, new_requests_at, HostFault}
+use Rattle.mm_host.specs.Below.{lines_of, Variant, Standing, Meaning, StoreStanding, CellIsWrittenFor, new_requests_by, new_requests_at, HostFault}
 use Rattle.mm_host.specs.Below.{Resumed}
 use Rattle.mm_host.specs.declared.fault.SessionFault.{SessionFault}
-use Rattle.mm_host.specs.Continuation.{MayBeUntold}
-use Rattle.mm_host.specs.Sessions.{ServedCall, GoesAfterResume, IsSession}
+use Rattle.mm_host.specs.Continuation.{RequestMayBeUntold}
+use Rattle.mm_host.specs.Sessions.{ServedCall, SessionGoesAfterResume, IsSession}
 
 -- the new requests among the lines that were answered
 abbrev pub new_lines : List ServedCall → ℕ
@@ -17,7 +17,7 @@ abbrev pub new_told_requests : {variant : Variant} {meaning : Meaning}
     {platform after : Standing}
     {store new : StoreStanding} {left : Option (List ℕ)} {taken sent : List ℕ}
     {result : Result Unit SessionFault}
-    → GoesAfterResume variant meaning begun platform after store new left taken sent result → ℕ
+    → SessionGoesAfterResume variant meaning begun platform after store new left taken sent result → ℕ
 new_told_requests (inl stops) = 0
 new_told_requests (inr goes) = new_requests_at goes.first + new_lines goes.lines.calls
 
@@ -32,6 +32,6 @@ pub record SessionWrites (variant : Variant) (meaning : Meaning) (before after :
     pub ran : IsSession variant meaning before after old new left left' received received' result
     pub in_hand : ℕ
     pub one : in_hand ≤ 1
-    pub untold : in_hand ≢ 0 → MayBeUntold result
-    pub writes : WritesFor variant (new_told_requests ran.goes + in_hand) before after
+    pub untold : in_hand ≢ 0 → RequestMayBeUntold result
+    pub writes : CellIsWrittenFor variant (new_told_requests ran.goes + in_hand) before after
     pub by_lines : after.writes ≤ before.writes + (1 + length (lines_of ran.taken))

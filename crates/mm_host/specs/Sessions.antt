@@ -1,9 +1,9 @@
 -- A session, by its steps: what it writes, the lines that it serves, and each turn.
 use Rattle.std.specs.Prelude.{◌≡◌, ◌≢◌, ℕ, List, [], ◌∷◌, ◌++◌, codes, Option, None, Some, Result, Ok, Err, ◌⊎◌, ◌+◌, ◌<◌, ◌≤◌, length}
 use Rattle.std.specs.Io.KnownBytes.{Appends, Consumes, IsAtEnd}
-use Rattle.mm_host.specs.Below.{joined_lines, longest_request, MayGrow, IsLong, WriteFault, ReadFault, LineLong, BadLine, TooMuch}
+use Rattle.mm_host.specs.Below.{joined_lines, longest_request, IsLineFront, IsLong, WriteFault, ReadFault, LineLong, BadLine, TooMuch}
 use Rattle.mm_host.specs.Below.{Variant, Standing, Meaning, Answer, Refusal, cause_text, told_line, Cause, StoreStanding, IsFrontOf}
-use Rattle.mm_host.specs.Below.{AsksNext, HostResumes, HostFault, Memory, Refused, Resumed, Answered}
+use Rattle.mm_host.specs.Below.{AsksNextRequest, HostResumes, HostFault, Memory, Refused, Resumed, Answered}
 use Rattle.mm_host.specs.declared.fault.SessionFault.{SessionFault}
 use Rattle.mm_host.specs.declared.fault.SessionFault.TheVariants.{Host, Lines}
 use Rattle.mm_base.specs.declared.replay_fault.ReplayFault.TheVariants.{Memory}
@@ -87,9 +87,9 @@ pub record IsAtRest (at : SessionPlace) (after : Standing) (new : StoreStanding)
     pub nothing : sent ≡ []
 
 -- The bytes begin with a line, its LF and what is held behind.
-pub record BeginsWith (bytes line held : List ℕ) : Type 0 where
+pub record BytesBeginWith (bytes line held : List ℕ) : Type 0 where
   pub cut : bytes ≡ line ++ 10 ∷ held
-  pub within : MayGrow longest_request line
+  pub within : IsLineFront longest_request line
 
 -- a session's end, as a turn answers it
 abbrev pub turn_answer_of : Result Unit SessionFault → Result (Option Resumed) SessionFault
@@ -97,7 +97,7 @@ turn_answer_of (Ok _) = Ok None
 turn_answer_of (Err fault) = Err fault
 
 -- What waited came to a fault, or its reply isn't written whole; no line is read.
-pub record StopsAtOnce (begun : Result Resumed HostFault) (taken sent : List ℕ)
+pub record SessionStopsAtOnce (begun : Result Resumed HostFault) (taken sent : List ℕ)
     (result : Result Unit SessionFault) : Type 0 where
   pub fault : SessionFault
   pub says : SendsReply begun sent (Err fault)
@@ -106,12 +106,12 @@ pub record StopsAtOnce (begun : Result Resumed HostFault) (taken sent : List ℕ
 
 module _ (variant : Variant) (meaning : Meaning) where
   -- The line is asked and answered, and the session goes on.
-  pub record ServesFirst (from : SessionPlace) (c : ServedCall) (goes : SessionPlace
+  pub record ServesFirstCall (from : SessionPlace) (c : ServedCall) (goes : SessionPlace
       → Type 0) : Type 0 where
-    pub within : MayGrow longest_request c.line
+    pub within : IsLineFront longest_request c.line
     pub platform : Standing
     pub store : StoreStanding
-    pub asks : AsksNext variant meaning from.platform platform from.store store from.last c.line
+    pub asks : AsksNextRequest variant meaning from.platform platform from.store store from.last c.line
         (Ok (Answered c.answer))
     pub rest : goes (record { platform = platform; store = store; last = Answered c.answer })
 
@@ -119,14 +119,14 @@ module _ (variant : Variant) (meaning : Meaning) where
   -- answered so.
   abbrev pub ServesCalls : SessionPlace → List ServedCall → SessionPlace → Type 0
   ServesCalls from [] to = to ≡ from
-  ServesCalls from (c ∷ calls) to = ServesFirst from c (λ next. ServesCalls next calls to)
+  ServesCalls from (c ∷ calls) to = ServesFirstCall from c (λ next. ServesCalls next calls to)
 
   -- The line of this number is asked, and what comes is told.
   pub record AsksAndTells (at : SessionPlace) (after : Standing) (new : StoreStanding)
       (received received' : Option (List ℕ)) (line : List ℕ)
       (result : Result Resumed SessionFault) : Type 0 where
     pub came : Result Resumed HostFault
-    pub asks : AsksNext variant meaning at.platform after at.store new at.last line came
+    pub asks : AsksNextRequest variant meaning at.platform after at.store new at.last line came
     pub tells : TellsReply came received received' result
 
   -- One turn, where the line of this number would be next: it is read and served, or the session
@@ -136,20 +136,20 @@ module _ (variant : Variant) (meaning : Meaning) where
     pub record StopsInLine (more sent : List ℕ) (fault : SessionFault) : Type 0 where
       pub line : List ℕ
       pub held : List ℕ
-      pub begins : BeginsWith more line held
+      pub begins : BytesBeginWith more line held
       pub few : number ≤ most_lines
       pub came : Result Resumed HostFault
-      pub asks : AsksNext variant meaning at.platform after at.store new at.last line came
+      pub asks : AsksNextRequest variant meaning at.platform after at.store new at.last line came
       pub says : SendsReply came sent (Err fault)
 
     -- How the session stops; `more` was taken of the input behind the lines before this one.
     abbrev pub SessionStops : Option (List ℕ) → List ℕ → List ℕ → SessionFault → Type 0
     -- the source failed before the line's LF
     SessionStops left more sent (Lines ReadFault) =
-        IsAtRest at after new sent × MayGrow longest_request more
+        IsAtRest at after new sent × IsLineFront longest_request more
     -- the input ended within the line
     SessionStops left more sent (Lines (BadLine line)) =
-        IsAtRest at after new sent × (line ≡ number) × MayGrow longest_request more
+        IsAtRest at after new sent × (line ≡ number) × IsLineFront longest_request more
         × (0 < length more) × IsAtEnd left
     -- more bytes came than a line may have
     SessionStops left more sent (Lines (LineLong line)) =
@@ -157,7 +157,7 @@ module _ (variant : Variant) (meaning : Meaning) where
     -- the line is one too many
     SessionStops left more sent (Lines TooMuch) =
         IsAtRest at after new sent × (number ≡ most_lines + 1) × (line : List ℕ) × (held : List ℕ)
-        × BeginsWith more line held
+        × BytesBeginWith more line held
     -- the host alone wants memory
     SessionStops left more sent (Lines Memory) = ⊥
     -- the line was asked
@@ -166,11 +166,11 @@ module _ (variant : Variant) (meaning : Meaning) where
     -- The line was answered, and the answer told.
     pub record ServesLine (bytes held sent : List ℕ) (next : Resumed) : Type 0 where
       pub line : List ℕ
-      pub begins : BeginsWith bytes line held
+      pub begins : BytesBeginWith bytes line held
       pub few : number ≤ most_lines
       pub answer : Answer
       pub answered : next ≡ Answered answer
-      pub asks : AsksNext variant meaning at.platform after at.store new at.last line
+      pub asks : AsksNextRequest variant meaning at.platform after at.store new at.last line
           (Ok (Answered answer))
       pub told : sent ≡ reply_text (Ok (Answered answer))
 
@@ -238,10 +238,10 @@ module _ (variant : Variant) (meaning : Meaning) where
         new left taken replies result
 
   -- It stops at once, or it goes on, as what waited came to.
-  abbrev pub GoesAfterResume : Result Resumed HostFault → Standing → Standing → StoreStanding
+  abbrev pub SessionGoesAfterResume : Result Resumed HostFault → Standing → Standing → StoreStanding
       → StoreStanding → Option (List ℕ) → List ℕ → List ℕ → Result Unit SessionFault → Type 0
-  GoesAfterResume begun platform after store new left taken sent result =
-      ((after ≡ platform) × (new ≡ store) × StopsAtOnce begun taken sent result)
+  SessionGoesAfterResume begun platform after store new left taken sent result =
+      ((after ≡ platform) × (new ≡ store) × SessionStopsAtOnce begun taken sent result)
       ⊎ SessionGoesOn begun platform after store new left taken sent result
 
   -- A session: it goes on after a stop, and then answers each line of its input before it reads the
@@ -257,4 +257,4 @@ module _ (variant : Variant) (meaning : Meaning) where
     pub platform : Standing
     pub store : StoreStanding
     pub resumes : HostResumes variant meaning before platform old store begun
-    pub goes : GoesAfterResume begun platform after store new left' taken sent result
+    pub goes : SessionGoesAfterResume begun platform after store new left' taken sent result

@@ -1,7 +1,7 @@
 //! A session: the lines of an input, each asked and told, one after another.
 
 ghost use Rattle.std.specs.Prelude.{◌≡◌, ◌+◌, ◌≤◌, ℕ, false, List, [], Option, IfOk, IfSome};
-ghost use Rattle.mm_base.specs.Lines.{MayGrow};
+ghost use Rattle.mm_base.specs.Lines.{IsLineFront};
 ghost use Rattle.mm_base.specs.Limits.{longest_request};
 ghost use Rattle.mm_play.specs.PlaysInput.{IsBlamed};
 ghost use Rattle.mm_recovery.specs.LastAnswer.{IsSized};
@@ -10,7 +10,7 @@ ghost use Rattle.mm_host.specs.HonestStore.{SessionContinues};
 ghost use Rattle.mm_host.specs.SessionBlame.{IsRefusalNamed, is_platform_fault, is_read_fault, is_store_fault, is_write_fault};
 ghost use Rattle.mm_host.specs.SessionLines.{SparesLines};
 ghost use Rattle.mm_host.specs.SessionWrites.{SessionWrites};
-ghost use Rattle.mm_host.specs.Sessions.{IsSession, most_lines, AsksAndTells, BeginsWith, ServesInput, ServesNext, TurnSends};
+ghost use Rattle.mm_host.specs.Sessions.{IsSession, most_lines, AsksAndTells, BytesBeginWith, ServesInput, ServesNext, TurnSends};
 
 use crate::fault::SessionFault;
 use crate::telling::tell;
@@ -184,9 +184,9 @@ fn serve_line<M: Module, P: Platform, T: Store, K: Sink>(
     line: &[u8],
 ) -> Result<Option<Resumed>, SessionFault>
     requires sized { IsSized turn.now.last }
-    requires line { MayGrow longest_request line.now }
+    requires line { IsLineFront longest_request line.now }
     ensures turns { (left : Option (List ℕ)) (bytes held : List ℕ) →
-        turn.now.number ≤ most_lines + 1 → BeginsWith bytes line.now held →
+        turn.now.number ≤ most_lines + 1 → BytesBeginWith bytes line.now held →
         TurnSends hosted.now.variant (M.meaning hosted.now.«module».now) turn.now.number (record {
           platform = P.standing platform.old;
           store = T.kept store.old;
@@ -217,7 +217,7 @@ fn ask_and_tell<M: Module, P: Platform, T: Store, K: Sink>(
     line: &[u8],
 ) -> Result<Resumed, SessionFault>
     requires sized { IsSized last.now }
-    requires line { MayGrow longest_request line.now }
+    requires line { IsLineFront longest_request line.now }
     ensures asks { AsksAndTells hosted.now.variant (M.meaning hosted.now.«module».now)
         (record { platform = P.standing platform.old; store = T.kept store.old; last = last.now })
         (P.standing platform.new) (T.kept store.new) (K.received out.old) (K.received out.new)

@@ -15,7 +15,7 @@ use Rattle.mm_call.specs.Standing.{count_after_more}
 use Rattle.mm_store.specs.declared.fault.StoreFault.{StoreFault}
 use Rattle.mm_store.specs.declared.fault.StoreFault.TheVariants as store
 use Rattle.mm_recovery.specs.HostCall.{IsCall}
-use Rattle.mm_recovery.specs.CellWrites.{TellsFlag, WritesFor, is_open_after, new_requests_by, openings}
+use Rattle.mm_recovery.specs.CellWrites.{TellsFlag, CellIsWrittenFor, is_open_after, new_requests_by, openings}
 use Rattle.mm_recovery.specs.Faults.{refusal_fault, store_fault_as}
 use Rattle.mm_recovery.specs.declared.fault.HostFault.{HostFault}
 use Rattle.mm_recovery.specs.declared.resuming.Resumed.{Resumed}
@@ -25,7 +25,7 @@ use Rattle.mm_host.specs.declared.fault.SessionFault.{SessionFault}
 use Rattle.mm_host.specs.declared.fault.SessionFault.TheVariants.{Host, Lines}
 use Rattle.mm_host.proofs.Above.{CallsInTurn, TellsCall}
 use Rattle.mm_life.specs.Deeds.{LifeCall}
-use Rattle.mm_life.specs.IdleParts.{has_open}
+use Rattle.mm_life.specs.IdleParts.{has_open_segment}
 use Rattle.mm_life.specs.OneList.{call_replies, told_replies}
 use Rattle.mm_life.specs.LifeWrites.{call_stop, fault_stop, host_stop, new_replies, refusal_stop, session_stop, turns_between}
 use Rattle.mm_life.specs.LifeWrites.{turns_unless_stopped}
@@ -69,7 +69,7 @@ module _ (came : Result Resumed HostFault) (sent : List ℕ) (fault : SessionFau
 pub record LastWrites (variant : Variant) (at final : Standing) (stop : ℕ) : Type 0 where
   pub in_hand : ℕ
   pub few : in_hand ≤ stop
-  pub writes : WritesFor variant in_hand at final
+  pub writes : CellIsWrittenFor variant in_hand at final
   pub still : stop ≡ 0 → final.cell ≡ at.cell
 
 last_none : (variant : Variant) (at final : Standing) (stop : ℕ) → final ≡ at → LastWrites variant at final stop
@@ -131,9 +131,9 @@ module _ {variant : Variant} {meaning : Meaning} where
 call_answered : (variant : Variant) {meaning : Meaning} {old new : Standing} {offer request : List ℕ} {answer : Answer}
     → IsCall variant meaning old new offer request (Ok answer) → AnsweredWrites variant (new_requests_by answer.again) old new
 call_answered Basic {old = old} {new = new} c =
-    record { writes = subst (λ (n : ℕ). WritesFor Basic n old new) c.counts.new c.counts.writes; leads = tt }
+    record { writes = subst (λ (n : ℕ). CellIsWrittenFor Basic n old new) c.counts.new c.counts.writes; leads = tt }
 call_answered Opt {old = old} {new = new} c = record {
-  writes = subst (λ (n : ℕ). WritesFor Opt n old new) c.counts.new c.counts.writes;
+  writes = subst (λ (n : ℕ). CellIsWrittenFor Opt n old new) c.counts.new c.counts.writes;
   leads = inr (rw c.counts.new at c.counts.leaves);
 }
 
@@ -232,15 +232,15 @@ module _ (old new : Standing) (told stop : ℕ) (c : CallsWrite Opt old new told
       let f = flag_then in
       record { cell = f.cell; is_cell = f.is_cell; tells = c.last.still z ∙ f.tells; shows = f.shows }
 
-  opt_whole : stop ≡ 0 → openings flag n ≡ turns_between (has_open old) (has_open new)
+  opt_whole : stop ≡ 0 → openings flag n ≡ turns_between (has_open_segment old) (has_open_segment new)
   opt_whole z =
       let few = c.last.few in
       let none : n ≡ told = omega (arith, few, z) in
       ap (openings flag) none ∙ turned_by flag told
       ∙ ap (λ (x : Bool). turns_between x (is_open_after flag told)) (sym (open_told old flag t))
-      ∙ ap (λ (x : Bool). turns_between (has_open old) x) (sym (open_told new (is_open_after flag told) (flag_new z)))
+      ∙ ap (λ (x : Bool). turns_between (has_open_segment old) x) (sym (open_told new (is_open_after flag told) (flag_new z)))
 
-  pub opt_counts : Counts old new stop (turns_unless_stopped stop (has_open old) (has_open new))
+  pub opt_counts : Counts old new stop (turns_unless_stopped stop (has_open_segment old) (has_open_segment new))
   opt_counts =
       let w = joined Opt told c.last.in_hand old c.at new c.answered.leads c.answered.writes c.last.writes in
-      turning stop (has_open old) (has_open new) old new (openings flag n) (openings_most flag n) opt_whole (w.opens flag t)
+      turning stop (has_open_segment old) (has_open_segment new) old new (openings flag n) (openings_most flag n) opt_whole (w.opens flag t)

@@ -12,20 +12,20 @@ use Rattle.mm_store.specs.declared.fault.StoreFault.{StoreFault}
 use Rattle.mm_recovery.specs.HostCall.{IsCall}
 use Rattle.mm_recovery.specs.Faults.{refusal_fault, store_fault_as}
 use Rattle.mm_recovery.specs.LastAnswer.{snapshot_at}
-use Rattle.mm_recovery.specs.NextRequest.{GoesAfterRecord}
-use Rattle.mm_recovery.specs.Resumption.{GoesAfterFinding, GoesAfterOffer, result_of_start}
+use Rattle.mm_recovery.specs.NextRequest.{HostGoesAfterRecord}
+use Rattle.mm_recovery.specs.Resumption.{HostGoesAfterFinding, HostGoesAfterOffer, result_of_start}
 use Rattle.mm_recovery.specs.declared.fault.HostFault.{HostFault}
 use Rattle.mm_recovery.specs.declared.resuming.Resumed.{Resumed}
 use Rattle.mm_recovery.specs.declared.resuming.Resumed.TheVariants.{Answered, Start}
 use Rattle.mm_host.specs.AnySlots.{offer_after}
 use Rattle.mm_host.specs.Continuation.{IsInHand, first_served_call, served_calls_in}
-use Rattle.mm_host.specs.Sessions.{GoesAfterResume, BeginsWith, SessionPlace, SendsReply, ServedCall, TurnGoes, IsSession, StopsInLine}
+use Rattle.mm_host.specs.Sessions.{SessionGoesAfterResume, BytesBeginWith, SessionPlace, SendsReply, ServedCall, TurnGoes, IsSession, SessionStopsInLine}
 use Rattle.mm_host.specs.Sessions.{turn_answer_of}
 use Rattle.mm_host.specs.declared.fault.SessionFault.{SessionFault}
 use Rattle.mm_host.specs.declared.fault.SessionFault.TheVariants.{Host, Lines}
 use Rattle.mm_host.proofs.Above.{CallsInTurn, TellsCall, last_offer, served_calls, tells_call}
 use Rattle.mm_life.specs.Deeds.{LifeCall}
-use Rattle.mm_life.specs.SessionCalls.{IsInHandOf, bytes_of, first_bytes, first_calls, found_pending, last_calls, line_calls, offered_calls}
+use Rattle.mm_life.specs.SessionCalls.{IsInHandOf, bytes_of, first_bytes, first_calls, found_record, last_calls, line_calls, offered_calls}
 use Rattle.mm_life.specs.SessionCalls.{offer_after_finding, recorded_calls, served_calls_of, untold_calls}
 
 -- one call, by what was offered, asked and given
@@ -66,15 +66,15 @@ module _ (variant : Variant) (meaning : Meaning) (before after : Standing) where
   begun_start (Err why) came same e = failed same refl why e
 
   begun_repeat : (offer : Result (List ℕ) StoreFault) (old new : StoreStanding) (p : PendingRecord) (came : Result Resumed HostFault)
-      (g : GoesAfterOffer variant meaning before after offer old new p came)
+      (g : HostGoesAfterOffer variant meaning before after offer old new p came)
       → Begun variant meaning before after (Some p) (bytes_of variant meaning before after offer)
       (offered_calls variant meaning before after offer old new p came g) came
   begun_repeat (Ok bytes) old new p came g = repeats p refl g.asked g.asks refl (tells_call g.asked old new came g.goes)
   begun_repeat (Err why) old new p came g = failed g.0 refl why g.2
 
   begun_by : (waiting : Result (Option PendingRecord) StoreFault) (old new : StoreStanding) (came : Result Resumed HostFault)
-      (g : GoesAfterFinding variant meaning before after waiting old new came)
-      → Begun variant meaning before after (found_pending waiting)
+      (g : HostGoesAfterFinding variant meaning before after waiting old new came)
+      → Begun variant meaning before after (found_record waiting)
       (offer_after_finding variant meaning before after waiting old new came g)
       (first_calls variant meaning before after waiting old new came g) came
   begun_by (Ok (Some p)) old new came g = begun_repeat g.offer g.middle new p came g.goes
@@ -122,11 +122,11 @@ module _ (variant : Variant) (meaning : Meaning) (before after : Standing) where
 module _ (variant : Variant) (meaning : Meaning) (number : ℕ) (at : SessionPlace) (after : Standing) (new : StoreStanding)
     (left : Option (List ℕ)) (more sent : List ℕ) where
   abbrev InHand : List ℕ → Type 0
-  InHand request = (held : List ℕ) × BeginsWith more request held
+  InHand request = (held : List ℕ) × BytesBeginWith more request held
 
   line_ends : (recorded : Result Unit StoreFault) (middle : StoreStanding) (line : List ℕ)
       (came : Result Resumed HostFault) (fault : SessionFault)
-      (g : GoesAfterRecord variant meaning at.platform after recorded middle new at.last line came) → InHand line
+      (g : HostGoesAfterRecord variant meaning at.platform after recorded middle new at.last line came) → InHand line
       → SendsReply came sent (Err fault)
       → Ends variant meaning at.platform after (snapshot_at at.last) InHand
       (recorded_calls variant meaning at.platform after recorded middle new at.last line came g) (Err fault)
@@ -134,7 +134,7 @@ module _ (variant : Variant) (meaning : Meaning) (number : ℕ) (at : SessionPla
       stops line hand g.asked g.asks refl came (tells_call g.asked middle new came g.goes) sent fault says refl
   line_ends (Err why) middle line came fault g hand says = rests g.0 refl
 
-  in_line : (fault : SessionFault) (e : StopsInLine variant meaning number at after new more sent fault)
+  in_line : (fault : SessionFault) (e : SessionStopsInLine variant meaning number at after new more sent fault)
       → Ends variant meaning at.platform after (snapshot_at at.last) InHand
       (line_calls variant meaning at.platform after at.last e.line e.asks) (Err fault)
   in_line fault e = line_ends e.asks.recorded e.asks.middle e.line e.came fault e.asks.goes (e.held, e.begins) e.says
@@ -152,7 +152,7 @@ module _ {variant : Variant} {meaning : Meaning} {before after : Standing} {old 
     {left left' received received' : Option (List ℕ)} {result : Result Unit SessionFault}
     (s : IsSession variant meaning before after old new left left' received received' result) where
   abbrev waiting : Option PendingRecord
-  waiting = found_pending s.resumes.waiting
+  waiting = found_record s.resumes.waiting
 
   abbrev Began : Type 0
   Began =
@@ -162,7 +162,7 @@ module _ {variant : Variant} {meaning : Meaning} {before after : Standing} {old 
   began : Began
   began = begun_by variant meaning before s.platform s.resumes.waiting s.resumes.middle s.store s.begun s.resumes.goes
 
-  chain_by : (goes : GoesAfterResume variant meaning s.begun s.platform after s.store new left' s.taken s.sent result)
+  chain_by : (goes : SessionGoesAfterResume variant meaning s.begun s.platform after s.store new left' s.taken s.sent result)
       → Chain variant meaning (first_bytes s) before after (served_calls_in waiting goes) (IsInHand waiting goes)
       (untold_calls s goes) result
   chain_by (inl e) = record {

@@ -20,7 +20,7 @@ use Rattle.mm_opt.specs.CheckpointOnCourse.{IsCheckpointOnCourse, checkpoint_res
 use Rattle.mm_opt.specs.declared.segment.CheckpointRefusal.{CheckpointRefusal}
 use Rattle.mm_opt.specs.declared.segment.Checkpointed.{Checkpointed}
 use Rattle.mm_recovery.specs.CellWrites.{TellsFlag}
-use Rattle.mm_life.specs.IdleParts.{has_open}
+use Rattle.mm_life.specs.IdleParts.{has_open_segment}
 use Rattle.mm_life.specs.LifeWrites.{checkpoint_stop, turns_between, turns_unless_stopped}
 use Rattle.mm_life.proofs.Idling.{open_told}
 use Rattle.mm_life.proofs.CallCounts.{Counts, counts_by, turned_same, turning}
@@ -93,7 +93,7 @@ module _ (meaning : Meaning) (key barrier : List ℕ) (old new : Standing) (said
       counts_by old new (checkpoint_stop said) 0 0 _ (omega arith) (none ∙ omega arith) g.writes
 
   pub opt_checked : (d : Digests) → StandsAt (opt_instance meaning key barrier) old d
-      → Counts old new (checkpoint_stop said) (turns_unless_stopped (checkpoint_stop said) (has_open old) (has_open new))
+      → Counts old new (checkpoint_stop said) (turns_unless_stopped (checkpoint_stop said) (has_open_segment old) (has_open_segment new))
   opt_checked d s =
       let i : Instance = opt_instance meaning key barrier in
       let g = k.goes Opt meaning key barrier d s in
@@ -101,10 +101,10 @@ module _ (meaning : Meaning) (key barrier : List ℕ) (old new : Standing) (said
       let c = closing_walk i k.course.fates d.flag _ d refl in
       let before : TellsFlag old d.flag = record { cell = _; is_cell = s.spells; tells = s.cell; shows = refl } in
       let after : TellsFlag new o.state.flag = record { cell = _; is_cell = g.stands.spells; tells = g.stands.cell; shows = refl } in
-      turning (checkpoint_stop said) (has_open old) (has_open new) old new _ c.most
+      turning (checkpoint_stop said) (has_open_segment old) (has_open_segment new) old new _ c.most
       (λ z. elim (told_stop _ _ d.flag _ said g.gives) [
         | inl whole ↦
             c.whole whole ∙ ap (λ (x : Bool). turns_between x o.state.flag) (sym (open_told old d.flag before))
-            ∙ ap (λ (x : Bool). turns_between (has_open old) x) (sym (open_told new o.state.flag after))
+            ∙ ap (λ (x : Bool). turns_between (has_open_segment old) x) (sym (open_told new o.state.flag after))
         | inr stopped ↦ absurd (omega (arith, stopped, z))
       ]) g.writes

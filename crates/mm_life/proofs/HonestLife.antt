@@ -16,7 +16,7 @@ use Rattle.mm_store.specs.Slots.{Slots}
 use Rattle.mm_recovery.specs.SlotFit.{FitsBy, FitsHistory}
 use Rattle.mm_recovery.specs.declared.fault.HostFault.TheVariants.{Store}
 use Rattle.mm_recovery.proofs.Above.{fits_on}
-use Rattle.mm_host.specs.Continuation.{ContinuesTo, HasUntold, IsInHand, IsNotBeyond, CallsRunOver, served_calls_in}
+use Rattle.mm_host.specs.Continuation.{ContinuesTo, HasUntoldRequest, IsInHand, IsNotBeyond, CallsRunOver, served_calls_in}
 use Rattle.mm_host.specs.Sessions.{ServedCall}
 use Rattle.mm_host.specs.declared.fault.SessionFault.{SessionFault}
 use Rattle.mm_host.specs.declared.fault.SessionFault.TheVariants.{Host}
@@ -82,7 +82,7 @@ reached_most meaning (Some p) [] requests between (inr last) r = omega (arith, l
 reached_most meaning waiting (c ∷ calls) requests between w r = calls_reached meaning waiting c calls requests between r
 
 committed_most : (hand : List ℕ → Type 0) (result : Result Unit SessionFault) (between after : List (List ℕ))
-    → (after ≡ between) ⊎ HasUntold hand result between after → length between ≤ length after
+    → (after ≡ between) ⊎ HasUntoldRequest hand result between after → length between ≤ length after
 committed_most hand result between after (inl same) = omega (arith, ap (λ (xs : List (List ℕ)). length xs) same)
 committed_most hand result between after (inr u) =
     omega (arith, ap (λ (xs : List (List ℕ)). length xs) u.grown, length-append between (u.request ∷ []))

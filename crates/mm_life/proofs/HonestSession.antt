@@ -18,15 +18,15 @@ use Rattle.mm_store.specs.Slots.{Slots, slot_front}
 use Rattle.mm_store.specs.declared.fault.StoreFault.{StoreFault}
 use Rattle.mm_recovery.specs.Faults.{store_fault_as}
 use Rattle.mm_recovery.specs.SlotFit.{FitsBy, FitsHistory, first_offer, offer_slot}
-use Rattle.mm_recovery.specs.NextRequest.{GoesAfterRecord}
-use Rattle.mm_recovery.specs.Resumption.{GoesAfterFinding, GoesAfterOffer, result_of_start}
+use Rattle.mm_recovery.specs.NextRequest.{HostGoesAfterRecord}
+use Rattle.mm_recovery.specs.Resumption.{HostGoesAfterFinding, HostGoesAfterOffer, result_of_start}
 use Rattle.mm_recovery.specs.WaitingRequest.{IsWaiting}
 use Rattle.mm_recovery.specs.declared.fault.HostFault.{HostFault}
 use Rattle.mm_recovery.specs.declared.resuming.Resumed.{Resumed}
 use Rattle.mm_recovery.proofs.Above.{IsMade, MadeOf, Saw, one_waiting, saw_two}
 use Rattle.mm_host.specs.AnySlots.{AreAskedInTurn, history_after_answer, offer_after}
 use Rattle.mm_host.specs.Continuation.{ContinuesTo, IsInHand, served_calls_in}
-use Rattle.mm_host.specs.Sessions.{GoesAfterResume, SessionPlace, ServedCall, TurnGoes, IsSession, turn_answer_of, served_lines}
+use Rattle.mm_host.specs.Sessions.{SessionGoesAfterResume, SessionPlace, ServedCall, TurnGoes, IsSession, turn_answer_of, served_lines}
 use Rattle.mm_host.specs.declared.fault.SessionFault.{SessionFault}
 use Rattle.mm_host.specs.declared.fault.SessionFault.TheVariants.{Host, Lines}
 use Rattle.mm_host.proofs.Above.{AreMade, CallsInTurn, IsLineAsked, IsWritten, Laws, Shows, StandsIn, calls_reach, continues_by, May}
@@ -38,7 +38,7 @@ use Rattle.mm_host.specs.Continuation.{AreToldOnce, RefusesAs}
 use Rattle.mm_host.proofs.Above.{by_told, fits_room, unspoiled}
 use Rattle.mm_life.specs.OneList.{SessionSteps}
 use Rattle.mm_life.specs.Deeds.{LifeCall}
-use Rattle.mm_life.specs.SessionCalls.{bytes_of, first_bytes, first_calls, found_pending, IsInHandOf, last_calls, offered_calls}
+use Rattle.mm_life.specs.SessionCalls.{bytes_of, first_bytes, first_calls, found_record, IsInHandOf, last_calls, offered_calls}
 use Rattle.mm_life.specs.SessionCalls.{offer_after_finding, recorded_calls, session_calls, told_calls, untold_calls}
 use Rattle.mm_life.proofs.Chains.{Chain, Ends, call_of, rests, session_chain, stops}
 use Rattle.mm_life.proofs.OneCall.{AreListed, makes_call}
@@ -134,9 +134,9 @@ record Rests (before after : Standing) (slots : Slots) (honest : Bool) (new : St
 data Opens (variant : Variant) (meaning : Meaning) (before after : Standing) (slots : Slots) (honest : Bool)
     (waiting : Option PendingRecord)
     (found : Result (Option PendingRecord) StoreFault) (middle new : StoreStanding) (came : Result Resumed HostFault)
-    (g : GoesAfterFinding variant meaning before after found middle new came) : Type 0 where
+    (g : HostGoesAfterFinding variant meaning before after found middle new came) : Type 0 where
   unasked : Rests before after slots honest new came → Opens variant meaning before after slots honest waiting found middle new came g
-  offers : offer_after_finding variant meaning before after found middle new came g ≡ first_offer slots waiting → found_pending found
+  offers : offer_after_finding variant meaning before after found middle new came g ≡ first_offer slots waiting → found_record found
       ≡ waiting
       → Opens variant meaning before after slots honest waiting found middle new came g
 
@@ -149,7 +149,7 @@ module _ (variant : Variant) (meaning : Meaning) (before after : Standing) (slot
       inr (record { same = same; told = r.slots ∙ told; is_honest = r.honest; why = why; is = e })
 
   offer_shown : (offer : Result (List ℕ) StoreFault) (first old new : StoreStanding) (p : PendingRecord) (came : Result Resumed HostFault)
-      → GoesAfterOffer variant meaning before after offer old new p came → first.slots ≡ Some slots
+      → HostGoesAfterOffer variant meaning before after offer old new p came → first.slots ≡ Some slots
       → ReadsSlot (offer_slot p) first old offer
       → (bytes_of variant meaning before after offer ≡ slot_front slots (offer_slot p)) ⊎ Rests before after slots first.is_honest new came
   offer_shown (Ok bytes) first old new p came g told r = inl (r.gives slots told)
@@ -157,7 +157,7 @@ module _ (variant : Variant) (meaning : Meaning) (before after : Standing) (slot
       rw g.1 (inr (record { same = g.0; told = r.slots ∙ told; is_honest = r.honest; why = why; is = g.2 }))
 
   opens_found : (found : Option PendingRecord) (middle new : StoreStanding) (came : Result Resumed HostFault)
-      (g : GoesAfterFinding variant meaning before after (Ok found) middle new came) → middle.slots ≡ Some slots
+      (g : HostGoesAfterFinding variant meaning before after (Ok found) middle new came) → middle.slots ≡ Some slots
       → Opens variant meaning before after slots middle.is_honest found (Ok found) middle new came g
   opens_found None middle new came g told = elim (zero_shown g.1.zero middle new came g.0 told g.1.reads g.1.gives) [
     | inl is ↦ offers is refl
@@ -169,7 +169,7 @@ module _ (variant : Variant) (meaning : Meaning) (before after : Standing) (slot
   ]
 
   opens_by : (waiting : Option PendingRecord) (found : Result (Option PendingRecord) StoreFault) (first middle new : StoreStanding)
-      (came : Result Resumed HostFault) (g : GoesAfterFinding variant meaning before after found middle new came)
+      (came : Result Resumed HostFault) (g : HostGoesAfterFinding variant meaning before after found middle new came)
       → IsWaiting (slot_front slots 2) (slot_front slots 3) waiting → Saw slots first middle found
       → Opens variant meaning before after slots middle.is_honest waiting found middle new came g
   opens_by waiting (Err why) first middle new came g w s =
@@ -182,15 +182,15 @@ module _ (variant : Variant) (meaning : Meaning) (before after : Standing) (slot
 -- Where a call was made, it is the first or the last one.
 module _ (variant : Variant) (meaning : Meaning) (before after : Standing) where
   offer_made : (offer : Result (List ℕ) StoreFault) (old new : StoreStanding) (p : PendingRecord) (came : Result Resumed HostFault)
-      (g : GoesAfterOffer variant meaning before after offer old new p came) → MadeOf offer
+      (g : HostGoesAfterOffer variant meaning before after offer old new p came) → MadeOf offer
       → requests_in (offered_calls variant meaning before after offer old new p came g) ≡ p.request ∷ []
   offer_made (Ok bytes) old new p came g m = refl
   offer_made (Err why) old new p came g m = absurd m
 
   first_made : (found : Result (Option PendingRecord) StoreFault) (middle new : StoreStanding) (came : Result Resumed HostFault)
-      (g : GoesAfterFinding variant meaning before after found middle new came) → IsMade variant meaning before after found
+      (g : HostGoesAfterFinding variant meaning before after found middle new came) → IsMade variant meaning before after found
       middle new came g
-      → (p : PendingRecord) → found_pending found ≡ Some p
+      → (p : PendingRecord) → found_record found ≡ Some p
       → requests_in (first_calls variant meaning before after found middle new came g) ≡ p.request ∷ []
   first_made (Ok (Some q)) middle new came g m p e =
       let same : q ≡ p = cc in
@@ -202,7 +202,7 @@ module _ (variant : Variant) (meaning : Meaning) (before after : Standing) where
 
   record_made : (recorded : Result Unit StoreFault) (old new : StoreStanding) (last : Resumed) (line : List ℕ)
       (came : Result Resumed HostFault)
-      (g : GoesAfterRecord variant meaning before after recorded old new last line came) → IsWritten recorded
+      (g : HostGoesAfterRecord variant meaning before after recorded old new last line came) → IsWritten recorded
       → requests_in (recorded_calls variant meaning before after recorded old new last line came g) ≡ line ∷ []
   record_made (Ok it) old new last line came g m = refl
   record_made (Err why) old new last line came g m = absurd m
@@ -223,9 +223,9 @@ module _ {variant : Variant} {meaning : Meaning} {before after : Standing} {old 
     {left left' received received' : Option (List ℕ)} {result : Result Unit SessionFault}
     (s : IsSession variant meaning before after old new left left' received received' result) (waiting : Option PendingRecord) where
   abbrev Goes : Type 0
-  Goes = GoesAfterResume variant meaning s.begun s.platform after s.store new left' s.taken s.sent result
+  Goes = SessionGoesAfterResume variant meaning s.begun s.platform after s.store new left' s.taken s.sent result
 
-  all_made : (goes : Goes) → found_pending s.resumes.waiting ≡ waiting
+  all_made : (goes : Goes) → found_record s.resumes.waiting ≡ waiting
       → AreMade s waiting (served_lines (served_calls_in waiting goes) ++ requests_in (untold_calls s goes)) goes
   all_made (inl e) is = λ m p k. (
     [],
@@ -243,11 +243,11 @@ module _ {all others : List (List ℕ)} {asked : List Batch} {i : Instance} {fin
     (told : old.slots ≡ Some slots) (honest : old.is_honest ≡ true) (stands : StandsFor i before y)
     (within : IsWithin all others asked i y) (fits : FitsHistory i slots y)
     (seen : Shows i.variant all others i y before final ⊎ AreStill laws y before (session_calls s)) where
-  abbrev OnBy : GoesAfterResume i.variant i.meaning s.begun s.platform final s.store new left' s.taken s.sent result → Type 0
+  abbrev OnBy : SessionGoesAfterResume i.variant i.meaning s.begun s.platform final s.store new left' s.taken s.sent result → Type 0
   OnBy goes =
       (c : ContinuesTo all others asked i y fits.waiting final new (served_calls_in fits.waiting goes) (IsInHand fits.waiting goes) result)
-      × SessionSteps i.meaning (requests_of y.batches) (served_calls_in (found_pending s.resumes.waiting) goes)
-      (IsInHand (found_pending s.resumes.waiting) goes) result (requests_of c.runs.after.batches)
+      × SessionSteps i.meaning (requests_of y.batches) (served_calls_in (found_record s.resumes.waiting) goes)
+      (IsInHand (found_record s.resumes.waiting) goes) result (requests_of c.runs.after.batches)
 
   here : StandsIn all others asked i y y before (first_offer slots fits.waiting)
   here = record {
@@ -259,7 +259,7 @@ module _ {all others : List (List ℕ)} {asked : List Batch} {i : Instance} {fin
 
   -- what was asked goes on
   on_offers : AreListed all asked i (session_calls s) → first_bytes s ≡ first_offer slots fits.waiting
-      → found_pending s.resumes.waiting ≡ fits.waiting → OnBy s.goes
+      → found_record s.resumes.waiting ≡ fits.waiting → OnBy s.goes
   on_offers listed is found =
       let untold : List LifeCall = untold_calls s s.goes in
       let k = subst (λ (bytes : List ℕ). Chain i.variant i.meaning bytes before final (served_calls_in fits.waiting s.goes)
@@ -303,7 +303,7 @@ module _ {all others : List (List ℕ)} {asked : List Batch} {i : Instance} {fin
   none_told None f = tt
   none_told (Some p) f = tt
 
-  on_rests : (goes : GoesAfterResume i.variant i.meaning s.begun s.platform final s.store new left' s.taken s.sent result) → (kept : Bool)
+  on_rests : (goes : SessionGoesAfterResume i.variant i.meaning s.begun s.platform final s.store new left' s.taken s.sent result) → (kept : Bool)
       → kept ≡ true → Rests before s.platform slots kept s.store s.begun → OnBy goes
   on_rests (inr g) kept e r =
       let clash : Ok g.first ≡ Err (store_fault_as r.why) = sym g.begins ∙ r.is in absurd (cc)

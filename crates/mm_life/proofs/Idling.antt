@@ -19,7 +19,7 @@ use Rattle.mm_recovery.specs.CellWrites.{TellsFlag}
 use Rattle.mm_seal.specs.Cell.{cell_spelling, flag_byte}
 use Rattle.mm_seal.specs.declared.cell.Cell.{Cell}
 use Rattle.mm_seal.specs.Parts.{parts_of}
-use Rattle.mm_life.specs.IdleParts.{flag_in, has_open}
+use Rattle.mm_life.specs.IdleParts.{flag_in, has_open_segment}
 use Rattle.mm_model.specs.Moves.{Digests, digests_of}
 use Rattle.mm_model.specs.Standing.{StandsFor}
 use Rattle.mm_model.specs.Steps.{ask_steps}
@@ -153,7 +153,7 @@ flag_read : (flag : Bool) → bytes_eq (flag_byte flag ∷ []) (1 ∷ []) ≡ fl
 flag_read true = refl
 flag_read false = refl
 
-pub open_told : (standing : Standing) (flag : Bool) → TellsFlag standing flag → has_open standing ≡ flag
+pub open_told : (standing : Standing) (flag : Bool) → TellsFlag standing flag → has_open_segment standing ≡ flag
 open_told standing flag t =
     ap (λ (c : Option (List ℕ)). bytes_eq (option_map_or flag_in c []) (1 ∷ [])) t.tells
     ∙ ap (λ (bytes : List ℕ). bytes_eq bytes (1 ∷ [])) (flag_at t.cell) ∙ flag_read t.cell.flag ∙ t.shows

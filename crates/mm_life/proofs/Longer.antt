@@ -15,10 +15,10 @@ use Rattle.mm_schedule.specs.Machine.{IsBatchStep}
 use Rattle.mm_schedule.specs.declared.reply.Reply.{Reply}
 use Rattle.mm_schedule.specs.declared.reply.Reply.TheVariants.{Told}
 use Rattle.mm_recovery.specs.CellWrites.{new_requests_by}
-use Rattle.mm_recovery.specs.Recovery.{MayHaveCommitted}
+use Rattle.mm_recovery.specs.Recovery.{RequestMayBeCommitted}
 use Rattle.mm_recovery.specs.declared.fault.HostFault.{HostFault}
 use Rattle.mm_recovery.specs.declared.fault.HostFault.TheVariants.{Refused}
-use Rattle.mm_host.specs.Continuation.{MayBeUntold, CallsRunOver}
+use Rattle.mm_host.specs.Continuation.{RequestMayBeUntold, CallsRunOver}
 use Rattle.mm_host.specs.Sessions.{ServedCall}
 use Rattle.mm_host.specs.declared.fault.SessionFault.{SessionFault}
 use Rattle.mm_host.specs.declared.fault.SessionFault.TheVariants.{Host, Lines}
@@ -54,11 +54,11 @@ refused_untold : (broken : Option StepFault) → IsSome broken → fault_stop br
 refused_untold None u = absurd (cc)
 refused_untold (Some fault) u = refl
 
-host_untold : (fault : HostFault) → MayHaveCommitted {T = Unit} (Err fault) → host_stop fault ≡ 1
+host_untold : (fault : HostFault) → RequestMayBeCommitted {T = Unit} (Err fault) → host_stop fault ≡ 1
 host_untold (Refused why) u = refused_untold (fault_of why) u
 host_untold _ u = refl
 
-untold_stop : (result : Result Unit SessionFault) → MayBeUntold result → session_stop result ≡ 1
+untold_stop : (result : Result Unit SessionFault) → RequestMayBeUntold result → session_stop result ≡ 1
 untold_stop (Ok it) u = absurd u
 untold_stop (Err (Host fault)) u = host_untold fault u
 untold_stop (Err (Lines fault)) u = ap (λ (f : ReplayFault). session_stop (Err (Lines f))) u

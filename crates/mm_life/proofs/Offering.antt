@@ -10,18 +10,18 @@ use Rattle.mm_store.specs.Slots.{Slots, slot_front}
 use Rattle.mm_store.specs.declared.fault.StoreFault.{StoreFault}
 use Rattle.mm_recovery.specs.Faults.{store_fault_as}
 use Rattle.mm_recovery.specs.SlotFit.{first_offer, offer_slot}
-use Rattle.mm_recovery.specs.Resumption.{GoesAfterFinding, GoesAfterOffer, result_of_start}
+use Rattle.mm_recovery.specs.Resumption.{HostGoesAfterFinding, HostGoesAfterOffer, result_of_start}
 use Rattle.mm_recovery.specs.WaitingRequest.{IsWaiting}
 use Rattle.mm_recovery.specs.declared.fault.HostFault.{HostFault}
 use Rattle.mm_recovery.specs.declared.resuming.Resumed.{Resumed}
 use Rattle.mm_recovery.proofs.Above.{Saw, saw_two}
 use Rattle.mm_host.specs.AnySlots.{offer_after}
 use Rattle.mm_host.specs.Continuation.{served_calls_in}
-use Rattle.mm_host.specs.Sessions.{GoesAfterResume, ServedCall, IsSession}
+use Rattle.mm_host.specs.Sessions.{SessionGoesAfterResume, ServedCall, IsSession}
 use Rattle.mm_host.specs.declared.fault.SessionFault.{SessionFault}
 use Rattle.mm_life.specs.Deeds.{LifeCall}
 use Rattle.mm_life.specs.Laws.{OffersSlots, SessionsOfferSlots}
-use Rattle.mm_life.specs.SessionCalls.{IsFirstOffered, bytes_of, first_bytes, first_calls, found_pending, offered_calls}
+use Rattle.mm_life.specs.SessionCalls.{IsFirstOffered, bytes_of, first_bytes, first_calls, found_record, offered_calls}
 use Rattle.mm_life.specs.SessionCalls.{offer_after_finding, served_calls_of, told_calls, untold_calls}
 use Rattle.mm_life.proofs.Chains.{session_chain}
 use Rattle.mm_life.proofs.Sessions.{offered_by}
@@ -47,7 +47,7 @@ module _ (variant : Variant) (meaning : Meaning) (before after : Standing) (slot
   offers_start (Err why) old new came told r e w = offers_none why [] came e
 
   offers_repeat : (offer : Result (List ℕ) StoreFault) (first old new : StoreStanding) (p : PendingRecord) (came : Result Resumed HostFault)
-      (g : GoesAfterOffer variant meaning before after offer old new p came) → first.slots ≡ Some slots
+      (g : HostGoesAfterOffer variant meaning before after offer old new p came) → first.slots ≡ Some slots
       → ReadsSlot (offer_slot p) first old offer → IsWaiting (slot_front slots 2) (slot_front slots 3) (Some p)
       → Offers (bytes_of variant meaning before after offer) (offered_calls variant meaning before after offer old new p came g) came
   offers_repeat (Ok bytes) first old new p came g told r w =
@@ -55,7 +55,7 @@ module _ (variant : Variant) (meaning : Meaning) (before after : Standing) (slot
   offers_repeat (Err why) first old new p came g told r w = offers_none why [] came g.2
 
   offers_by : (found : Result (Option PendingRecord) StoreFault) (first middle new : StoreStanding)
-      (came : Result Resumed HostFault) (g : GoesAfterFinding variant meaning before after found middle new came)
+      (came : Result Resumed HostFault) (g : HostGoesAfterFinding variant meaning before after found middle new came)
       → Saw slots first middle found
       → Offers (offer_after_finding variant meaning before after found middle new came g)
       (first_calls variant meaning before after found middle new came g) came
@@ -73,10 +73,10 @@ first_told bytes (c ∷ told) untold h = refl
 module _ {variant : Variant} {meaning : Meaning} {before after : Standing} {old new : StoreStanding}
     {left left' received received' : Option (List ℕ)} {result : Result Unit SessionFault}
     (s : IsSession variant meaning before after old new left left' received received' result) (slots : Slots) where
-  abbrev calls_by : GoesAfterResume variant meaning s.begun s.platform after s.store new left' s.taken s.sent result → List LifeCall
-  calls_by goes = told_calls (first_bytes s) (served_calls_in (found_pending s.resumes.waiting) goes) ++ untold_calls s goes
+  abbrev calls_by : SessionGoesAfterResume variant meaning s.begun s.platform after s.store new left' s.taken s.sent result → List LifeCall
+  calls_by goes = told_calls (first_bytes s) (served_calls_in (found_record s.resumes.waiting) goes) ++ untold_calls s goes
 
-  by_offers : (goes : GoesAfterResume variant meaning s.begun s.platform after s.store new left' s.taken s.sent result)
+  by_offers : (goes : SessionGoesAfterResume variant meaning s.begun s.platform after s.store new left' s.taken s.sent result)
       → Offers variant meaning before s.platform slots (first_bytes s)
       (first_calls variant meaning before s.platform s.resumes.waiting s.resumes.middle s.store s.begun s.resumes.goes) s.begun
       → IsFirstOffered (first_bytes s) (calls_by goes) → (calls_by goes ≡ []) ⊎ OffersSlots slots (calls_by goes)

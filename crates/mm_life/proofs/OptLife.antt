@@ -43,7 +43,7 @@ use Rattle.mm_host.proofs.Above.{Reaches, ShowsAt, foreign_of, messages_looked, 
 use Rattle.mm_recovery.specs.FirstStart.{first_history_on}
 use Rattle.mm_life.specs.Below.{CheckpointRefusal, Checkpointed}
 use Rattle.mm_life.specs.Deeds.{LifeCall, Calls, Checkpoints, Deed, DeedLeads, Extends, LosesPower}
-use Rattle.mm_life.specs.IdleParts.{has_open, is_idle, is_old}
+use Rattle.mm_life.specs.IdleParts.{has_open_segment, is_idle, is_old}
 use Rattle.mm_life.specs.Laws.{OptLifeIsOne}
 use Rattle.mm_life.specs.Premises.{closing_messages, life_batches, life_messages, opt_messages, others_values}
 use Rattle.mm_life.specs.Premises.{register_messages, shown_messages, bytes_unless_idle}
@@ -214,7 +214,7 @@ idle_parts false b e = (refl, e)
 few_still : (old : Standing) (calls : List LifeCall) → IsStill old calls → (calls ≡ []) ⊎ ((c : LifeCall) × (calls ≡ c ∷ []))
 few_still old [] e = inl refl
 few_still old (c ∷ []) e = inr (c, refl)
-few_still old (c ∷ next ∷ calls) e = let clash : false ≡ true = (idle_parts (has_open old) false e).1 in absurd (cc)
+few_still old (c ∷ next ∷ calls) e = let clash : false ≡ true = (idle_parts (has_open_segment old) false e).1 in absurd (cc)
 
 -- an idle part asks nothing new
 old_not_new : (gives : Result Answer Refusal) → is_old gives ≡ true → IsNotNew (batch_result_of gives)
@@ -227,7 +227,7 @@ module _ (meaning : Meaning) (lawful : IsLawful meaning) (key barrier : List ℕ
   abbrev O : Instance
   O = opt_instance meaning key barrier
 
-  is_shut : (y : History) (old : Standing) → StandsFor O old y → has_open old ≡ false → y.is_open ≡ false
+  is_shut : (y : History) (old : Standing) → StandsFor O old y → has_open_segment old ≡ false → y.is_open ≡ false
   is_shut y old s shut =
       sym (open_told old y.is_open (record { cell = cell_of O y; is_cell = s.spells; tells = s.cell; shows = refl })) ∙ shut
 

@@ -29,7 +29,7 @@ use Rattle.mm_host.specs.declared.fault.SessionFault.TheVariants.{Host}
 use Rattle.mm_host.specs.Continuation.{RefusesAs}
 use Rattle.mm_life.specs.Below.{PendingRecord, ServedCall}
 use Rattle.mm_life.specs.HonestLife.{GoesOnOver}
-use Rattle.mm_life.specs.IdleParts.{flag_in, has_open}
+use Rattle.mm_life.specs.IdleParts.{flag_in, has_open_segment}
 use Rattle.mm_life.proofs.ClosingCounts.{flag_behind}
 use Rattle.mm_life.proofs.Idling.{open_told}
 
@@ -78,20 +78,20 @@ module _ (meaning : Meaning) (key barrier : List ℕ) where
   I = opt_instance meaning key barrier
 
   pub shut_behind : (old new : Standing) (said : Checkpointed) → IsCheckpointOnCourse old new (Ok said) → (d : Digests) → StandsAt I old d
-      → has_open new ≡ false
+      → has_open_segment new ≡ false
   shut_behind old new said k d s =
       let g = k.goes Opt meaning key barrier d s in
       let o = checkpoint_outcome I (digest_level I) d k.course in
       let after : TellsFlag new o.state.flag = record { cell = _; is_cell = g.stands.spells; tells = g.stands.cell; shows = refl } in
       open_told new o.state.flag after ∙ shut_walk I k.course.fates d.flag _ _ d refl _ refl said g.gives
 
-  pub still_open : (old new : Standing) → new.cell ≡ old.cell → has_open new ≡ has_open old
+  pub still_open : (old new : Standing) → new.cell ≡ old.cell → has_open_segment new ≡ has_open_segment old
   still_open old new same = ap (λ (c : Option (List ℕ)). bytes_eq (option_map_or flag_in c []) (1 ∷ [])) same
 
   pub unlost : (others : List (List ℕ)) (old new : Standing) (requests : List (List ℕ)) (waiting : Option PendingRecord)
       (told : List ServedCall)
       (hand : List ℕ → Type 0) (result : Result Unit SessionFault) (after : List (List ℕ))
-      → GoesOnOver others I old new requests waiting told hand result after → has_open old ≡ false
+      → GoesOnOver others I old new requests waiting told hand result after → has_open_segment old ≡ false
       → result ≢ Err (Host (Refused refusal.Lost))
   unlost others old new requests waiting told hand result after g shut is =
       let s = stands_at I old g.entered.history g.entered.stands in

@@ -13,7 +13,7 @@ use Rattle.mm_call.specs.Standing.{StandsAt}
 use Rattle.mm_call.proofs.Above.{stands_at}
 use Rattle.mm_recovery.specs.CellWrites.{TellsFlag}
 use Rattle.mm_life.specs.Deeds.{Calls, Checkpoints, Extends, LosesPower}
-use Rattle.mm_life.specs.IdleParts.{flag_in, has_open}
+use Rattle.mm_life.specs.IdleParts.{flag_in, has_open_segment}
 use Rattle.mm_life.specs.OneList.{life_replies, part_replies, told_replies}
 use Rattle.mm_life.specs.SessionCalls.{first_bytes, served_calls_of}
 use Rattle.mm_life.specs.Stages.{Does, Holds, IsLife, LifePart, PartLeads, Program, LifeStage}
@@ -88,14 +88,14 @@ module _ (meaning : Meaning) (key : List ℕ) where
       (basic_part start stage.part stage.after f.0 d s) (basic_lives stages stage.after f.1 n.digests n.stands)
 
 module _ (meaning : Meaning) (key barrier : List ℕ) where
-  unturned : (old new : Standing) → new.cell ≡ old.cell → turns_between (has_open old) (has_open new) ≡ 0
+  unturned : (old new : Standing) → new.cell ≡ old.cell → turns_between (has_open_segment old) (has_open_segment new) ≡ 0
   unturned old new same =
-      ap (λ (c : Option (List ℕ)). turns_between (has_open old) (bytes_eq (option_map_or flag_in c []) (1 ∷ []))) same
-      ∙ turned_same (has_open old)
+      ap (λ (c : Option (List ℕ)). turns_between (has_open_segment old) (bytes_eq (option_map_or flag_in c []) (1 ∷ []))) same
+      ∙ turned_same (has_open_segment old)
 
   opt_part : (old : Standing) (part : LifePart) (new : Standing) → PartLeads Opt meaning old part new → (d : Digests)
       → StandsAt (opt_instance meaning key barrier) old d
-      → PartCounts old part new (turns_unless_stopped (part_stop part) (has_open old) (has_open new))
+      → PartCounts old part new (turns_unless_stopped (part_stop part) (has_open_segment old) (has_open_segment new))
   opt_part old (Holds p) new f d s =
       let before : TellsFlag old d.flag = record { cell = _; is_cell = s.spells; tells = s.cell; shows = refl } in
       let c = opt_counts old new _ _ (session_writes Opt meaning old new p f) d.flag before in

@@ -9,8 +9,8 @@ use Rattle.mm_life.specs.Deeds.{LifeCall}
 abbrev pub flag_in : List ℕ → List ℕ
 flag_in cell = take 1 (drop 6 cell)
 
-abbrev pub has_open : Standing → Bool
-has_open standing = bytes_eq (option_map_or flag_in standing.cell []) (1 ∷ [])
+abbrev pub has_open_segment : Standing → Bool
+has_open_segment standing = bytes_eq (option_map_or flag_in standing.cell []) (1 ∷ [])
 
 -- whether a call was told as a repeat, or refused as its offer is: neither for a device's fault nor
 -- for want of memory
@@ -27,4 +27,4 @@ has_nothing_new (c ∷ next ∷ calls) = false
 
 -- No segment is open where a part begins, and nothing new is asked in it.
 abbrev pub is_idle : Standing → List LifeCall → Bool
-is_idle old calls = not (has_open old) && has_nothing_new calls
+is_idle old calls = not (has_open_segment old) && has_nothing_new calls

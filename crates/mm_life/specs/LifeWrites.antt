@@ -11,7 +11,7 @@ use Rattle.mm_recovery.specs.CellWrites.{new_requests_by}
 use Rattle.mm_life.specs.Below.{Basic, Opt, Standing, Meaning, History, StandsFor, basic_instance, opt_instance, Answer, Refusal, fault_of}
 use Rattle.mm_life.specs.Below.{CheckpointRefusal, Checkpointed, HostFault, Reply, SessionFault}
 use Rattle.mm_life.specs.Deeds.{Calls, Checkpoints, Extends, LosesPower}
-use Rattle.mm_life.specs.IdleParts.{has_open}
+use Rattle.mm_life.specs.IdleParts.{has_open_segment}
 use Rattle.mm_life.specs.OneList.{LifeFollows, life_replies}
 use Rattle.mm_life.specs.Stages.{Does, Holds, IsLife, LifePart, LifeStage}
 
@@ -87,7 +87,7 @@ turns_unless_stopped (suc stops) before after = 0
 abbrev pub segment_turns : Standing → List LifeStage → ℕ
 segment_turns start [] = 0
 segment_turns start (stage ∷ stages) =
-    turns_unless_stopped (part_stop stage.part) (has_open start) (has_open stage.after)
+    turns_unless_stopped (part_stop stage.part) (has_open_segment start) (has_open_segment stage.after)
     + segment_turns stage.after stages
 
 -- The cell was to be written once for each of so many that are due, and at most once for what was

@@ -3,7 +3,7 @@ use Rattle.std.specs.Prelude.{◌≡◌, ℕ, List, [], ◌∷◌, ◌++◌, Res
 use Rattle.std.specs.List.{AllByRecursion}
 use Rattle.mm_life.specs.Below.{Variant, Standing, Batch, One, Meaning, Answer, History, requests_of, Instance, IsGenuine, StandsFor}
 use Rattle.mm_life.specs.Below.{Refusal, Memory, IsWithin, finding_at, list_level, fault_of, IsBatchStep, Reply, answer_reply, ServedCall}
-use Rattle.mm_life.specs.Below.{HasUntold, CallsRunOver, SessionFault}
+use Rattle.mm_life.specs.Below.{HasUntoldRequest, CallsRunOver, SessionFault}
 use Rattle.mm_life.specs.Deeds.{LifeCall, Calls}
 use Rattle.mm_life.specs.SessionCalls.{IsInHandOf, served_calls_of}
 use Rattle.mm_life.specs.Stages.{Does, Holds, IsLife, LifePart, PartLeads, LifeStage, end_of, latest_calls}
@@ -24,7 +24,7 @@ pub record SessionSteps (meaning : Meaning) (requests : List (List ℕ)) (told :
     (after : List (List ℕ)) : Type 0 where
   pub between : List (List ℕ)
   pub run : CallsRunOver meaning requests told between
-  pub committed : (after ≡ between) ⊎ HasUntold hand result between after
+  pub committed : (after ≡ between) ⊎ HasUntoldRequest hand result between after
 
 -- the replies that are told of calls
 abbrev pub told_replies : List ServedCall → List Reply

@@ -2,8 +2,8 @@
 use Rattle.std.specs.Prelude.{◌≡◌, ℕ, List, [], ◌∷◌, ◌++◌, Option, None, Some, Result, Ok, Err}
 use Rattle.std.proofs.Common.{inl, inr}
 use Rattle.mm_base.specs.declared.replay_fault.ReplayFault.TheVariants.{WriteFault}
-use Rattle.mm_life.specs.Below.{Variant, Standing, Meaning, StoreFault, StoreStanding, PendingRecord, snapshot_at, GoesAfterRecord}
-use Rattle.mm_life.specs.Below.{AsksNext, GoesAfterFinding, GoesAfterOffer, AsksAndKeeps, HostFault, Resumed, GoesAfterResume, SessionPlace}
+use Rattle.mm_life.specs.Below.{Variant, Standing, Meaning, StoreFault, StoreStanding, PendingRecord, snapshot_at, HostGoesAfterRecord}
+use Rattle.mm_life.specs.Below.{AsksNextRequest, HostGoesAfterFinding, HostGoesAfterOffer, AsksAndKeepsAnswer, HostFault, Resumed, SessionGoesAfterResume, SessionPlace}
 use Rattle.mm_life.specs.Below.{ServedCall, TurnGoes, IsSession, IsInHand, turn_answer_of, served_calls_in, SessionFault}
 use Rattle.mm_host.specs.declared.fault.SessionFault.TheVariants.{Host, Lines}
 use Rattle.mm_life.specs.Deeds.{LifeCall}
@@ -18,7 +18,7 @@ told_calls offer (c ∷ calls) =
 -- a request is asked: one call
 abbrev pub one_call : (variant : Variant) (meaning : Meaning) (before after : Standing)
     {old new : StoreStanding} (offer request : List ℕ) {result : Result Resumed HostFault}
-    → AsksAndKeeps variant meaning before after old new offer request result → List LifeCall
+    → AsksAndKeepsAnswer variant meaning before after old new offer request result → List LifeCall
 one_call variant meaning before after offer request a =
     record { offer = offer; request = request; gives = a.asked } ∷ []
 
@@ -26,7 +26,7 @@ one_call variant meaning before after offer request a =
 abbrev pub offered_calls : (variant : Variant) (meaning : Meaning) (before after : Standing)
     (offer : Result (List ℕ) StoreFault) (old new : StoreStanding) (p : PendingRecord)
     (result : Result Resumed HostFault)
-    → GoesAfterOffer variant meaning before after offer old new p result → List LifeCall
+    → HostGoesAfterOffer variant meaning before after offer old new p result → List LifeCall
 offered_calls variant meaning before after (Ok offer) old new p result a =
     one_call variant meaning before after offer p.request a
 offered_calls variant meaning before after (Err why) old new p result a = []
@@ -34,7 +34,7 @@ offered_calls variant meaning before after (Err why) old new p result a = []
 abbrev pub first_calls : (variant : Variant) (meaning : Meaning) (before after : Standing)
     (waiting : Result (Option PendingRecord) StoreFault) (old new : StoreStanding)
     (result : Result Resumed HostFault)
-    → GoesAfterFinding variant meaning before after waiting old new result → List LifeCall
+    → HostGoesAfterFinding variant meaning before after waiting old new result → List LifeCall
 first_calls variant meaning before after (Ok (Some p)) old new result a =
     offered_calls variant meaning before after a.offer a.middle new p result a.goes
 first_calls variant meaning before after (Ok None) old new result a = []
@@ -49,7 +49,7 @@ bytes_of variant meaning before after (Err why) = []
 abbrev pub offer_after_finding : (variant : Variant) (meaning : Meaning) (before after : Standing)
     (waiting : Result (Option PendingRecord) StoreFault) (old new : StoreStanding)
     (result : Result Resumed HostFault)
-    → GoesAfterFinding variant meaning before after waiting old new result → List ℕ
+    → HostGoesAfterFinding variant meaning before after waiting old new result → List ℕ
 offer_after_finding variant meaning before after (Ok (Some p)) old new result a =
     bytes_of variant meaning before after a.offer
 offer_after_finding variant meaning before after (Ok None) old new result a =
@@ -60,7 +60,7 @@ offer_after_finding variant meaning before after (Err why) old new result a = []
 abbrev pub recorded_calls : (variant : Variant) (meaning : Meaning) (before after : Standing)
     (recorded : Result Unit StoreFault) (old new : StoreStanding) (last : Resumed)
     (line : List ℕ) (result : Result Resumed HostFault)
-    → GoesAfterRecord variant meaning before after recorded old new last line result → List LifeCall
+    → HostGoesAfterRecord variant meaning before after recorded old new last line result → List LifeCall
 recorded_calls variant meaning before after (Ok it) old new last line result a =
     one_call variant meaning before after (snapshot_at last) line a
 recorded_calls variant meaning before after (Err why) old new last line result a = []
@@ -68,7 +68,7 @@ recorded_calls variant meaning before after (Err why) old new last line result a
 abbrev pub line_calls : (variant : Variant) (meaning : Meaning) (before after : Standing)
     {old new : StoreStanding} (last : Resumed) (line : List ℕ)
     {result : Result Resumed HostFault}
-    → AsksNext variant meaning before after old new last line result → List LifeCall
+    → AsksNextRequest variant meaning before after old new last line result → List LifeCall
 line_calls variant meaning before after {old} {new} last line {result} a =
     recorded_calls variant meaning before after a.recorded a.middle new last line result
     a.goes
@@ -86,9 +86,9 @@ last_calls variant meaning number at after new left more sent (Err (Lines WriteF
 last_calls variant meaning number at after new left more sent _ e = []
 
 -- what waited, where the store told it
-abbrev pub found_pending : Result (Option PendingRecord) StoreFault → Option PendingRecord
-found_pending (Ok waiting) = waiting
-found_pending (Err why) = None
+abbrev pub found_record : Result (Option PendingRecord) StoreFault → Option PendingRecord
+found_record (Ok waiting) = waiting
+found_record (Err why) = None
 
 -- the requests that a session told, each with its answer; and whether one was in hand where it
 -- stopped
@@ -97,14 +97,14 @@ abbrev pub served_calls_of : {variant : Variant} {meaning : Meaning} {before aft
     {result : Result Unit SessionFault}
     (s : IsSession variant meaning before after old new left left' received received' result)
     → List ServedCall
-served_calls_of s = served_calls_in (found_pending s.resumes.waiting) s.goes
+served_calls_of s = served_calls_in (found_record s.resumes.waiting) s.goes
 
 abbrev pub IsInHandOf : {variant : Variant} {meaning : Meaning} {before after : Standing}
     {old new : StoreStanding} {left left' received received' : Option (List ℕ)}
     {result : Result Unit SessionFault}
     (s : IsSession variant meaning before after old new left left' received received' result)
     → List ℕ → Type 0
-IsInHandOf s request = IsInHand (found_pending s.resumes.waiting) s.goes request
+IsInHandOf s request = IsInHand (found_record s.resumes.waiting) s.goes request
 
 -- what it offered first
 abbrev pub first_bytes : {variant : Variant} {meaning : Meaning} {before after : Standing}
@@ -121,7 +121,7 @@ abbrev pub untold_calls : {variant : Variant} {meaning : Meaning} {before after 
     {old new : StoreStanding} {left left' received received' : Option (List ℕ)}
     {result : Result Unit SessionFault}
     (s : IsSession variant meaning before after old new left left' received received' result)
-    → GoesAfterResume variant meaning s.begun s.platform after s.store new left'
+    → SessionGoesAfterResume variant meaning s.begun s.platform after s.store new left'
     s.taken s.sent result
     → List LifeCall
 untold_calls {variant} {meaning} {before} s (inl stops) =

@@ -10,7 +10,7 @@ use Rattle.mm_listing.specs.Tellings.{AreSaid, Telling, WasSaid}
 use Rattle.mm_listing.specs.TellingLaws.{drop-next, slice_get-drop, some-same}
 use Rattle.mm_limiter.specs.Guesses.{is_wrong}
 use Rattle.mm_limiter.specs.GuessLaws.{guesses-limited}
-use Rattle.mm_limiter.specs.Promise.{tells_wrong, KeepsGuessesFew}
+use Rattle.mm_limiter.specs.Promise.{has_wrong_guess, KeepsGuessesFew}
 use Rattle.mm_limiter.specs.Table.{limiter}
 
 -- the output at this place is a wrong guess
@@ -23,10 +23,10 @@ told_first : (telling : Telling) (before : ℕ) (more : Bool) → ((telling.befo
 told_first telling before more is = grind (arith, nat_tests)
 
 told_wrong : (outputs : List (List ℕ)) (tellings : List Telling) (before : ℕ) → AllByRecursion (WasSaid outputs) tellings
-    → tells_wrong tellings before ≡ true → IsWrongAt outputs before
+    → has_wrong_guess tellings before ≡ true → IsWrongAt outputs before
 told_wrong outputs [] before said is = cc
 told_wrong outputs (telling ∷ tellings) before said is =
-    elim (told_first telling before (tells_wrong tellings before) is) [
+    elim (told_first telling before (has_wrong_guess tellings before) is) [
       | inl w ↦ (
         telling.output,
         subst (λ n. slice_get outputs n ≡ Some telling.output) w.0 said.0,
@@ -72,7 +72,7 @@ keeps-few requests tellings said = record {
   guesses = guesses-limited requests;
   told = λ from size none.
       let outputs = outputs_from limiter limiter.first requests in
-      let counted = places-count size from (tells_wrong tellings) outputs
+      let counted = places-count size from (has_wrong_guess tellings) outputs
       (λ before is. told_wrong outputs tellings before said is) in
       omega (arith, counted, guesses-limited requests from size none);
 }

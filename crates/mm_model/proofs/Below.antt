@@ -25,7 +25,7 @@ pub use Rattle.mm_model.specs.EndLaws.{ended}
 pub use Rattle.mm_model.specs.FormLaws.{again_tells, IsClearFromStart, fresh_tells, HasListedMessages, listed_segment, listed_value}
 pub use Rattle.mm_model.specs.FormLaws.{point_of, reads_zero, zero_register}
 pub use Rattle.mm_model.specs.History.{Close, Commit, history_after_commit, RegisterEntry, Foreign, History, items_of_all, Move}
-pub use Rattle.mm_model.specs.History.{history_after, Own, Placed, Power, register_value_of, with_last_batch, Reset, total_of, Value}
+pub use Rattle.mm_model.specs.History.{history_after, Own, Placed, Power, register_value_of, entries_with_last_batch, Reset, total_of, Value}
 pub use Rattle.mm_model.specs.History.{extension_value}
 pub use Rattle.mm_model.specs.HistoryLaws.{batches_in-append, has_value-append, joined-values, length-batches_in, meets, own_values-append}
 pub use Rattle.mm_model.specs.HistoryLaws.{register_more, renamed-push, sooner, values_of-append, values_of-clean, values_of-own}
@@ -33,7 +33,7 @@ pub use Rattle.mm_model.specs.HistoryLaws.{values_renamed}
 pub use Rattle.mm_model.specs.HistoryWords.{cell_digest_of, values_of}
 pub use Rattle.mm_model.specs.Instance.{Instance}
 pub use Rattle.mm_model.specs.InstanceWords.{basic_instance, opt_instance}
-pub use Rattle.mm_model.specs.Verdicts.{fits_again, fits_fresh, forms_of, is_last, verdict_on, verdict_by_tests, opt_verdict, Point}
+pub use Rattle.mm_model.specs.Verdicts.{is_repeat_form, is_fresh_form, forms_of, is_last, verdict_on, verdict_by_tests, opt_verdict, Point}
 pub use Rattle.mm_model.specs.Verdicts.{verdict_by, verdict_by_digests}
 pub use Rattle.mm_model.specs.KeptHistory.{kept_batch, kept_batches, kept_entries, kept_entry, kept_segments}
 pub use Rattle.mm_model.specs.Life.{are_own, has_value, is_empty, is_lost as is_lost_life, Life, life_by, life_of, Live, Lost}

@@ -4,7 +4,7 @@ use Rattle.mm_model.proofs.Below.{subst, arith, length-append, AllByRecursion, C
 use Rattle.mm_model.proofs.Below.{take-append-le, drop-append-le, take_all, take_at, drop_at, Opt, start_digest_of, extended_message}
 use Rattle.mm_model.proofs.Below.{anchored_message, Batch, Meaning, guard_message, closing_message, guard, own_values, Instance}
 use Rattle.mm_model.proofs.Below.{opt_instance, RegisterEntry, Own, Value, History, Move, Commit, Foreign, Placed, Close, items_of_all}
-use Rattle.mm_model.proofs.Below.{extension_value, with_last_batch, history_after, values_of, IsSound, IsClean, batches_in, AreMessagesIn}
+use Rattle.mm_model.proofs.Below.{extension_value, entries_with_last_batch, history_after, values_of, IsSound, IsClean, batches_in, AreMessagesIn}
 use Rattle.mm_model.proofs.Below.{register_trail, closed_runs, runs_of, messages_of, MayMove, batch_messages, each_append, trail_push}
 use Rattle.mm_model.proofs.Below.{nil_from_length, listed_value, own_values-append, values_of-append, length-batches_in, values_renamed}
 use Rattle.mm_model.specs.Chains.{register_of, anchor_of}
@@ -155,9 +155,9 @@ module _ (meaning : Meaning) (key barrier : List ℕ) where
       commit_listed I (flagged y true) (y.current ++ b ∷ []) true (y.items ++ Own b ∷ []) b all refl h
       (items_grow barrier all y.items (Own b) h.listed.last w.0) m
   listed_at y false (Commit b) all sound may h w m =
-      let z = flagged y false in let same : values_of barrier (with_last_batch y.items b) ≡ values_of barrier y.items =
+      let z = flagged y false in let same : values_of barrier (entries_with_last_batch y.items b) ≡ values_of barrier y.items =
       rw may.items (values_renamed barrier may.front b) in
-      commit_listed I z (b ∷ []) true (with_last_batch y.items b) b all
+      commit_listed I z (b ∷ []) true (entries_with_last_batch y.items b) b all
       (ap (λ (v : List Batch). v ++ b ∷ []) (sym (shut_current z sound refl))) h
       (rw same h.listed.last) m
   listed_at y true (Placed b) all sound may h w m = absurd may

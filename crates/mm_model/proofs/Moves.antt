@@ -2,7 +2,7 @@
 use Rattle.mm_model.proofs.Below.{ℕ, ◌≡◌, Bool, true, false, List, [], ◌∷◌, ◌++◌, refl, sym, ap, ◌∙◌, inl, inr, append_assoc, map}
 use Rattle.mm_model.proofs.Below.{append-nil, map-append, and_from, and_parts, Opt, Batch, Meaning, guard, register_of, anchor_of, Instance}
 use Rattle.mm_model.proofs.Below.{opt_instance, basic_instance, RegisterEntry, Own, Value, History, Move, Commit, Foreign, Placed, Reset}
-use Rattle.mm_model.proofs.Below.{Close, Power, items_of_all, with_last_batch, history_after, history_after_commit, is_empty, has_value}
+use Rattle.mm_model.proofs.Below.{Close, Power, items_of_all, entries_with_last_batch, history_after, history_after_commit, is_empty, has_value}
 use Rattle.mm_model.proofs.Below.{are_own, is_same_batch, IsSound, AreItems, batches_in, IsOpening, IsAllowed, MayMove, Digests, digests_of}
 use Rattle.mm_model.proofs.Below.{digests_after, digests_after_commit, IsOutside, MoveBrings, each_append, each_left, is_same_batch-Decides}
 use Rattle.mm_model.proofs.Below.{total-push, true_not_false, joined-push, has_value-append, batches_in-append, register_more}
@@ -42,7 +42,7 @@ longer_some : (bs : List Batch) (b : Batch) → is_empty (bs ++ b ∷ []) ≡ fa
 longer_some [] b = refl
 longer_some (c ∷ bs) b = refl
 
-renamed_items : (items : List RegisterEntry) (b : Batch) → batches_in items ≡ [] → AreItems (with_last_batch items b) (b ∷ [])
+renamed_items : (items : List RegisterEntry) (b : Batch) → batches_in items ≡ [] → AreItems (entries_with_last_batch items b) (b ∷ [])
 renamed_items (Own c ∷ y ∷ items) b none = absurd (true_not_false (sym (ap is_empty none)))
 renamed_items (Value d ∷ y ∷ items) b none = inr (inr refl)
 renamed_items _ b none = inl (and_from (is_same_batch b b) true ((is_same_batch-Decides b b).1 refl) refl)
@@ -138,7 +138,7 @@ sound_close y sound f some =
 
 module _ (i : Instance) where
   sound_opening : (y : History) (b : Batch) → IsSound y → y.is_open ≡ false → IsOpening i y b
-      → IsSound (record y { batches = y.batches ++ b ∷ []; current = b ∷ []; is_open = true; items = with_last_batch y.items b })
+      → IsSound (record y { batches = y.batches ++ b ∷ []; current = b ∷ []; is_open = true; items = entries_with_last_batch y.items b })
   sound_opening y b sound shut o = record {
     open_is = λ _. refl;
     shut_is = λ e. absurd (true_not_false (sym e));
@@ -195,7 +195,7 @@ module _ (meaning : Meaning) (key barrier : List ℕ) (y : History) where
       (opt_instance meaning key barrier) before b
   commit_digests b true may = λ j. record before { register = register_more barrier y.items (Own b) j; count = total-push y.batches b j }
   commit_digests b false may =
-      let items : register_of (values_of barrier (with_last_batch y.items b)) ≡ register_of (values_of barrier y.items) =
+      let items : register_of (values_of barrier (entries_with_last_batch y.items b)) ≡ register_of (values_of barrier y.items) =
       rw may.items (ap register_of (values_renamed barrier may.front b)) in
       λ j. record before { flag = true; register = items j; count = total-push y.batches b j }
 
@@ -247,7 +247,7 @@ module _ (meaning : Meaning) (key barrier : List ℕ) (others : List (List ℕ))
   outside_at y flag (Foreign d) h may b = outside_more others flag y.closed y.items (Value d) h (λ _. (b, tt))
   outside_at y true (Commit b) h may k = outside_more others true y.closed y.items (Own b) h (λ _. tt)
   outside_at y false (Commit b) h may k =
-      rw (values_in-append (items_of_all y.closed) (with_last_batch y.items b))
+      rw (values_in-append (items_of_all y.closed) (entries_with_last_batch y.items b))
       (each_append (Contains others) _ _ (rw (append-nil (items_of_all y.closed)) at h) k)
   outside_at y true Close h may k = rw (append-nil (items_of_all (y.closed ++ y.items ∷ [])), joined-push y.closed y.items) h
   outside_at y flag Power h may k = outside_less others flag y.closed y.items h

@@ -2,7 +2,7 @@
 use Rattle.mm_model.proofs.Below.{ℕ, ◌≡◌, ◌≤◌, Bool, true, false, List, [], ◌∷◌, ◌++◌, length, refl, sym, ap, ◌∙◌, ◌⊎◌, inl, inr, arith}
 use Rattle.mm_model.proofs.Below.{append_assoc, length-append, append-nil, append_cancel_right, Opt, Batch, Meaning, Place, InBasic, InOpt}
 use Rattle.mm_model.proofs.Below.{Content, guard, Instance, basic_instance, opt_instance, RegisterEntry, Own, Value, History, Move, Commit}
-use Rattle.mm_model.proofs.Below.{Foreign, Placed, Close, items_of_all, history_after, with_last_batch, has_value, IsSound, IsClean}
+use Rattle.mm_model.proofs.Below.{Foreign, Placed, Close, items_of_all, history_after, entries_with_last_batch, has_value, IsSound, IsClean}
 use Rattle.mm_model.proofs.Below.{batches_in, IsClosedPoint, IsCurrentPoint, IsPoint, at_anchor, in_closed, in_current, IsPlaceOf}
 use Rattle.mm_model.proofs.Below.{NamesPosition, content_of_issue, issued_place, MayMove, length-batches_in, anchor_after, basic_stands}
 use Rattle.mm_model.proofs.Paths.{clean_size, current_clean, live_clean, shut_current}
@@ -160,7 +160,7 @@ module _ (meaning : Meaning) (key barrier : List ℕ) where
       (y.items ++ Own b ∷ []) b refl p
   point_at y false (Commit b) named rest a e sound may first p =
       let z = flagged y false in
-      point_commit I z named rest a e (live_clean z sound may.clean) first (b ∷ []) true (with_last_batch y.items b) b
+      point_commit I z named rest a e (live_clean z sound may.clean) first (b ∷ []) true (entries_with_last_batch y.items b) b
       (ap (λ (v : List Batch). v ++ b ∷ []) (sym (shut_current z sound refl))) p
   point_at y flag (Foreign d) named rest a e sound may first p = point_items I (flagged y flag) (y.items ++ Value d ∷ []) named a e p
   point_at y flag (Placed b) named rest a e sound may first p =

@@ -1,7 +1,7 @@
 -- Opt: what the tests of the verdict by digests say of both forms of a place.
 use Rattle.mm_model.proofs.Below.{ℕ, ◌≡◌, Bool, true, false, ◌||◌, List, [], ◌∷◌, ◌++◌, refl, sym, ap, ◌∙◌, subst, ◌⊎◌, if◌then◌else◌}
 use Rattle.mm_model.proofs.Below.{Decides, bytes_eq, Contains, list_any, zero_bytes, anchored_message, anchored_digest_of, register_of}
-use Rattle.mm_model.proofs.Below.{anchor_of, is_empty, Point, forms_of, fits_fresh, fits_again, AreMessagesIn, IsClear, register_trail}
+use Rattle.mm_model.proofs.Below.{anchor_of, is_empty, Point, forms_of, is_fresh_form, is_repeat_form, AreMessagesIn, IsClear, register_trail}
 use Rattle.mm_model.proofs.Below.{form_messages, point_messages, anchor-push, same_tests, IsFreshPath, IsFreshSomehow, IsAgainPath}
 use Rattle.mm_model.proofs.Below.{IsAgainSomehow, true_not_false, HasListedMessages, IsClearFromStart, point_of, fresh_tells, again_tells}
 use Rattle.mm_model.proofs.Below.{zero_register, listed_segment, reads_zero}
@@ -50,10 +50,10 @@ module _ (id : ℕ) (all : List (List ℕ)) (clears : IsClearFromStart id all) (
     (before : List (List (List ℕ))) (rest : List (List ℕ)) (k : HasListedMessages id all closed items)
     (l : HasListedMessages id all before rest) where
   pub fresh_somehow : (is_empty rest ≡ false → Contains all (anchored_message (anchor_of id before) (register_of rest)))
-      → Decides (list_any (fits_fresh flag (anchor_of id closed) (register_of items)) (forms_of (anchor_of id before) (register_of rest)))
+      → Decides (list_any (is_fresh_form flag (anchor_of id closed) (register_of items)) (forms_of (anchor_of id before) (register_of rest)))
       (IsFreshSomehow flag closed items before rest)
   fresh_somehow closes =
-      let test = fits_fresh flag (anchor_of id closed) (register_of items) in
+      let test = is_fresh_form flag (anchor_of id closed) (register_of items) in
       on_forms (IsFreshPath flag closed items before rest) (IsFreshPath flag closed items (before ++ rest ∷ []) []) test
       (point_of id before rest)
       (closed_point id before rest) rest (bytes_eq (register_of rest) zero_bytes) (zero_tells all clears.clear rest l.last)
@@ -63,10 +63,10 @@ module _ (id : ℕ) (all : List (List ℕ)) (clears : IsClearFromStart id all) (
       (listed_segment id all before rest l.inner l.outer l.last (closes some))))
 
   pub again_somehow : (v : List ℕ) → AreMessagesIn (point_messages (anchor_of id before) (register_of rest) v) all
-      → Decides (list_any (fits_again flag (anchor_of id closed) (register_of items) v) (forms_of (anchor_of id before) (register_of rest)))
+      → Decides (list_any (is_repeat_form flag (anchor_of id closed) (register_of items) v) (forms_of (anchor_of id before) (register_of rest)))
       (IsAgainSomehow flag closed items v before rest)
   again_somehow v m =
-      let test = fits_again flag (anchor_of id closed) (register_of items) v in
+      let test = is_repeat_form flag (anchor_of id closed) (register_of items) v in
       on_forms (IsAgainPath flag closed items v before rest) (IsAgainPath flag closed items v (before ++ rest ∷ []) []) test
       (point_of id before rest)
       (closed_point id before rest) rest (bytes_eq (register_of rest) zero_bytes) (zero_tells all clears.clear rest l.last)

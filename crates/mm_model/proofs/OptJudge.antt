@@ -5,7 +5,7 @@ use Rattle.mm_model.proofs.Below.{Opt, zero_bytes, start_digest_of, anchored_mes
 use Rattle.mm_model.proofs.Below.{register_of, anchor_of, own_values, Meaning, Place, InBasic, InOpt, Content, Instance, opt_instance}
 use Rattle.mm_model.proofs.Below.{RegisterEntry, History, items_of_all, total_of, register_value_of, values_of, cell_digest_of, is_empty}
 use Rattle.mm_model.proofs.Below.{has_value, are_own, Life, Live, Spoiled, Lost, life_by, life_of, is_lost_life, verdict_by_digests}
-use Rattle.mm_model.proofs.Below.{forms_of, fits_fresh, fits_again, is_last, verdict_by, opt_verdict, verdict_on, verdict_by_tests, IsPoint}
+use Rattle.mm_model.proofs.Below.{forms_of, is_fresh_form, is_repeat_form, is_last, verdict_by, opt_verdict, verdict_on, verdict_by_tests, IsPoint}
 use Rattle.mm_model.proofs.Below.{IsPlaceOf, NamesPosition, anchor_after, AreMessagesIn, IsClear, IsClearFor, register_trail}
 use Rattle.mm_model.proofs.Below.{point_messages, messages_of, counted_entries, values_in, AreNoGuards, IsSound, IsClean, batches_in}
 use Rattle.mm_model.proofs.Below.{each_left, each_right, each_append, trail_front, same_own_values, same_tests, at_the_end, before_the_last}
@@ -202,7 +202,7 @@ module _ (i : Instance) (y : History) (named rest : List Batch) (a e : List ℕ)
   pub fresh_told : IsSound y → AreNoGuards i.barrier (values_in (counted_entries y)) y.batches
       → (is_empty q.taken ≡ false → Contains all (anchored_message (anchor_of i.meaning.id q.before) (register_of q.taken)))
       → is_lost_life (life_of Opt y) ≡ false
-      → list_any (fits_fresh y.is_open (anchor_of i.meaning.id closed_here) (register_of items_here)) (forms_of a e)
+      → list_any (is_fresh_form y.is_open (anchor_of i.meaning.id closed_here) (register_of items_here)) (forms_of a e)
       ≡ told (life_of Opt y) counts_here
   fresh_told sound foreign closes =
       rw (q.anchor_is, q.extension_is)
@@ -216,7 +216,7 @@ module _ (i : Instance) (y : History) (named rest : List Batch) (a e : List ℕ)
       → Contains all (guard_message i.barrier b)
       → AreMessagesIn (point_messages (anchor_of i.meaning.id q.before) (register_of q.taken) (guard i.barrier b)) all
       → is_lost_life (life_of Opt y) ≡ false
-      → list_any (fits_again y.is_open (anchor_of i.meaning.id closed_here) (register_of items_here) (guard i.barrier b)) (forms_of a e)
+      → list_any (is_repeat_form y.is_open (anchor_of i.meaning.id closed_here) (register_of items_here) (guard i.barrier b)) (forms_of a e)
       ≡ told (life_of Opt y) (repeats_here b)
   again_told sound b foreign called listed =
       let v = guard i.barrier b in

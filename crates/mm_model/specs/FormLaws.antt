@@ -7,7 +7,7 @@ use Rattle.std.specs.Str.{bytes_eq}
 use Rattle.mm_model.specs.Below.{zero_bytes, start_message, start_digest_of, extended_message, extended_digest_of, anchored_message}
 use Rattle.mm_model.specs.Below.{anchored_digest_of, Opt}
 use Rattle.mm_model.specs.Chains.{trail, closing_message, register_of, anchor_of}
-use Rattle.mm_model.specs.Verdicts.{Point, fits_fresh, fits_again}
+use Rattle.mm_model.specs.Verdicts.{Point, is_fresh_form, is_repeat_form}
 use Rattle.mm_model.specs.Messages.{AreMessagesIn, IsClear, register_trail, form_messages}
 use Rattle.mm_model.specs.ListLaws.{each_append}
 use Rattle.mm_model.specs.ChainLaws.{trail_push}
@@ -58,7 +58,7 @@ module _ (id : ℕ) (all : List (List ℕ)) where
   pub fresh_tells : IsClearFromStart id all → (flag : Bool) (closed : List (List (List ℕ))) (items : List (List ℕ))
       (before : List (List (List ℕ)))
       (rest : List (List ℕ)) → HasListedMessages id all closed items → HasListedMessages id all before rest
-      → Decides (fits_fresh flag (anchor_of id closed) (register_of items) (point_of id before rest))
+      → Decides (is_fresh_form flag (anchor_of id closed) (register_of items) (point_of id before rest))
       (IsFreshPath flag closed items before rest)
   fresh_tells clears true closed items before rest k l =
       Decides-and (bytes_eq (anchor_of id before) (anchor_of id closed)) (bytes_eq (register_of rest) (register_of items))
@@ -82,7 +82,7 @@ module _ (id : ℕ) (all : List (List ℕ)) where
   pub again_tells : IsClearFromStart id all → (flag : Bool) (closed : List (List (List ℕ))) (items : List (List ℕ)) (v : List ℕ)
       (before : List (List (List ℕ))) (rest : List (List ℕ)) → HasListedMessages id all closed items → HasListedMessages id all before rest
       → AreMessagesIn (form_messages (anchor_of id before) (register_of rest) v) all
-      → Decides (fits_again flag (anchor_of id closed) (register_of items) v (point_of id before rest))
+      → Decides (is_repeat_form flag (anchor_of id closed) (register_of items) v (point_of id before rest))
       (IsAgainPath flag closed items v before
       rest)
   again_tells clears true closed items v before rest k l m =

@@ -52,10 +52,10 @@ pub data Move : Type 0 where
   Power : Move
 
 -- the list, with b in place of its last item
-abbrev pub with_last_batch : List RegisterEntry → Batch → List RegisterEntry
-with_last_batch [] b = Own b ∷ []
-with_last_batch (x ∷ []) b = Own b ∷ []
-with_last_batch (x ∷ y ∷ xs) b = x ∷ with_last_batch (y ∷ xs) b
+abbrev pub entries_with_last_batch : List RegisterEntry → Batch → List RegisterEntry
+entries_with_last_batch [] b = Own b ∷ []
+entries_with_last_batch (x ∷ []) b = Own b ∷ []
+entries_with_last_batch (x ∷ y ∷ xs) b = x ∷ entries_with_last_batch (y ∷ xs) b
 
 -- in Opt a batch enters the register's items too. Where no segment is open it opens one, and the
 -- entry that was placed for it, the last, becomes its own
@@ -72,7 +72,7 @@ history_after_commit Opt false y b =
       batches = y.batches ++ b ∷ [];
       current = b ∷ [];
       is_open = true;
-      items = with_last_batch y.items b;
+      items = entries_with_last_batch y.items b;
     }
 
 abbrev pub history_after : Instance → History → Move → History

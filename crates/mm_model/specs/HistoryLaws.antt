@@ -8,7 +8,7 @@ use Rattle.std.specs.List.{Contains}
 use Rattle.mm_model.specs.Below.{extended_digest_of, Batch}
 use Rattle.mm_model.specs.Chains.{guard, register_of}
 use Rattle.mm_model.specs.ChainsWords.{own_values}
-use Rattle.mm_model.specs.History.{RegisterEntry, Own, Value, items_of_all, extension_value, with_last_batch}
+use Rattle.mm_model.specs.History.{RegisterEntry, Own, Value, items_of_all, extension_value, entries_with_last_batch}
 use Rattle.mm_model.specs.HistoryWords.{values_of}
 use Rattle.mm_model.specs.Life.{is_empty, has_value, are_own, is_same_batch}
 use Rattle.mm_model.specs.Messages.{values_in}
@@ -101,7 +101,7 @@ sooner before later front last e some = elim (ends later) [
   }
 ]
 
-pub renamed-push : (items : List RegisterEntry) (x : RegisterEntry) (b : Batch) → with_last_batch (items ++ x ∷ []) b ≡ items ++ Own b ∷ []
+pub renamed-push : (items : List RegisterEntry) (x : RegisterEntry) (b : Batch) → entries_with_last_batch (items ++ x ∷ []) b ≡ items ++ Own b ∷ []
 renamed-push (y ∷ z ∷ items) x b = ap (λ v. y ∷ v) (renamed-push (z ∷ items) x b)
 renamed-push _ x b = refl
 
@@ -112,7 +112,7 @@ register_more barrier items e =
     ap register_of (values_of-append barrier items (e ∷ [])) ∙ register-push (values_of barrier items) (extension_value barrier e)
 
 pub values_renamed : (barrier : List ℕ) (front : List RegisterEntry) (b : Batch)
-    → values_of barrier (with_last_batch (front ++ Value (guard barrier b) ∷ []) b) ≡ values_of barrier
+    → values_of barrier (entries_with_last_batch (front ++ Value (guard barrier b) ∷ []) b) ≡ values_of barrier
     (front ++ Value (guard barrier b) ∷ [])
 values_renamed barrier (x ∷ y ∷ front) b = ap (λ v. extension_value barrier x ∷ v) (values_renamed barrier (y ∷ front) b)
 values_renamed barrier _ b = refl

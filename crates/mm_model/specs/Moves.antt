@@ -6,7 +6,7 @@ use Rattle.mm_model.specs.Chains.{link, guard, guard_message, register_of}
 use Rattle.mm_model.specs.ChainsWords.{own_values}
 use Rattle.mm_model.specs.Instance.{Instance}
 use Rattle.mm_model.specs.History.{RegisterEntry, Value, History, Move, Commit, Foreign, Placed, Reset, Close, Power, items_of_all}
-use Rattle.mm_model.specs.History.{total_of, register_value_of, with_last_batch}
+use Rattle.mm_model.specs.History.{total_of, register_value_of, entries_with_last_batch}
 use Rattle.mm_model.specs.HistoryWords.{cell_digest_of}
 use Rattle.mm_model.specs.Life.{is_empty, has_value}
 use Rattle.mm_model.specs.Sound.{batches_in}
@@ -84,7 +84,7 @@ IsOutside others y = AllByRecursion (Contains others) (values_in (counted_entrie
 abbrev pub MoveBrings : Variant → Bool → List (List ℕ) → History → Move → Type 0
 MoveBrings variant is_open others y (Foreign d) = Contains others d
 MoveBrings Opt false others y (Commit b) =
-    AllByRecursion (Contains others) (values_in (with_last_batch y.items b))
+    AllByRecursion (Contains others) (values_in (entries_with_last_batch y.items b))
 MoveBrings _ _ others y _ = Unit {0}
 
 -- what the messages of a history gain by a batch, besides those of the move: its guard, and its

@@ -55,15 +55,15 @@ forms_of a e =
 
 -- A form fits as fresh: it is where the platform stands. By: a segment is open; the cell's anchor;
 -- the register's value.
-abbrev pub fits_fresh : Bool → List ℕ → List ℕ → Point → Bool
-fits_fresh true anchor register x = bytes_eq x.anchor anchor && bytes_eq x.extension register
-fits_fresh false anchor register x = bytes_eq x.anchor anchor && bytes_eq x.extension zero_bytes
+abbrev pub is_fresh_form : Bool → List ℕ → List ℕ → Point → Bool
+is_fresh_form true anchor register x = bytes_eq x.anchor anchor && bytes_eq x.extension register
+is_fresh_form false anchor register x = bytes_eq x.anchor anchor && bytes_eq x.extension zero_bytes
 
 -- a form fits as a repeat: the batch with the guard v leads from it to where the platform stands
-abbrev pub fits_again : Bool → List ℕ → List ℕ → List ℕ → Point → Bool
-fits_again true anchor register v x =
+abbrev pub is_repeat_form : Bool → List ℕ → List ℕ → List ℕ → Point → Bool
+is_repeat_form true anchor register v x =
     bytes_eq x.anchor anchor && bytes_eq (extended_digest_of x.extension v) register
-fits_again false anchor register v x =
+is_repeat_form false anchor register v x =
     bytes_eq (anchored_digest_of x.anchor (extended_digest_of x.extension v)) anchor
 
 -- Opt: by the cell's flag and anchor, the register's value, the forms offered, and the guard of the
@@ -71,8 +71,8 @@ fits_again false anchor register v x =
 abbrev pub opt_verdict : Bool → List ℕ → List ℕ → List Point → List ℕ → Verdict
 opt_verdict flag anchor register forms v =
     verdict_by (flag && bytes_eq register zero_bytes)
-    (list_any (fits_fresh flag anchor register) forms)
-    (list_any (fits_again flag anchor register v) forms)
+    (list_any (is_fresh_form flag anchor register) forms)
+    (list_any (is_repeat_form flag anchor register v) forms)
 
 -- the verdict from digests: by the barrier, the cell's flag and its summary or anchor, the
 -- register's value, the offered place and the batch. A place of the other variant is never offered.

@@ -19,7 +19,7 @@ use Rattle.mm_seal.specs.Parts.{parts_of}
 use Rattle.mm_seal.specs.PartsWords.{is_same_variant}
 use Rattle.mm_seal.specs.Snapshot.{Content, Snapshot, tag_of, sealed_snapshot_of}
 use Rattle.mm_model.specs.declared.refusal.Refusal.TheVariants as core
-use Rattle.mm_model.specs.Verdicts.{forms_of, fits_fresh}
+use Rattle.mm_model.specs.Verdicts.{forms_of, is_fresh_form}
 use Rattle.mm_move.specs.declared.accepting.Accepted.{Accepted}
 use Rattle.mm_move.specs.declared.cell.MovedCell.{MovedCell}
 use Rattle.mm_move.specs.declared.cell.MovedCell.TheVariants.{Live, Waiting as Waits, Retired as Left}
@@ -93,7 +93,7 @@ right_offer meaning variant key offer = offer_by meaning key (parts_of variant m
 abbrev pub is_place_at : Digest → Place → Bool
 is_place_at summary (Basic offered) = bytes_eq offered.bytes summary.bytes
 is_place_at summary (Opt anchor extension) =
-    list_any (fits_fresh false summary.bytes zero_bytes) (forms_of anchor.bytes extension.bytes)
+    list_any (is_fresh_form false summary.bytes zero_bytes) (forms_of anchor.bytes extension.bytes)
 
 -- what the ticket says: the offer's position and state, at the cell's summary or anchor
 abbrev pub ticket_for : Variant → List ℕ → Digest → Content → TicketContent

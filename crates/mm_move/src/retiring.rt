@@ -4,7 +4,7 @@ ghost use Rattle.std.specs.Prelude.{◌≡◌, ◌≤◌, IfOk, Ok, false, lengt
 ghost use Rattle.std.specs.List.{list_any};
 ghost use Rattle.mm_base.specs.Limits.{last_position, limit_of};
 ghost use Rattle.mm_digest.specs.Messages.{zero_bytes};
-ghost use Rattle.mm_model.specs.Verdicts.{forms_of, fits_fresh};
+ghost use Rattle.mm_model.specs.Verdicts.{forms_of, is_fresh_form};
 ghost use Rattle.mm_seal.specs.Body.{content_of};
 ghost use Rattle.mm_seal.specs.Snapshot.{variant_of};
 ghost use Rattle.mm_move.specs.Cells.{moved_cell_of};
@@ -237,7 +237,7 @@ fn stands_at(place: &Place, summary: &Digest) -> bool
 
 // Whether a form of the place with this anchor and extension is this anchor with a zero extension.
 fn closes_at(anchor: &Digest, extension: &Digest, summary: &Digest) -> bool
-    ensures { result ≡ list_any (fits_fresh false summary.now.bytes zero_bytes)
+    ensures { result ≡ list_any (is_fresh_form false summary.now.bytes zero_bytes)
         (forms_of anchor.now.bytes extension.now.bytes) }
 {
     if *extension == zero() {

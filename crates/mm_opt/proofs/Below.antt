@@ -55,7 +55,7 @@ pub use Rattle.mm_call.specs.CheckpointsWords.{checkpoint_ending_by}
 pub use Rattle.mm_call.specs.Courses.{has_close, Course, Done, End, StepFate, step_moves, walk, StepsWalk}
 pub use Rattle.mm_call.specs.Counts.{five_steps, four_steps, one_step, StepsAre, StepsBy, StepsRefused, three_steps, two_steps}
 pub use Rattle.mm_call.specs.Counts.{WritesByFlag}
-pub use Rattle.mm_call.specs.EndedCall.{EndsAsCall, end_of_refusal, result_of, StaysOn}
+pub use Rattle.mm_call.specs.EndedCall.{EndsAsCall, end_of_refusal, result_of, PlatformStaysOn}
 pub use Rattle.mm_call.specs.CallFinding.{CallFinding as Accepted, finding_at, finding_at as accepted_at, finding_by_verdict}
 pub use Rattle.mm_call.specs.CallFinding.{finding_by_verdict as accepted_from}
 pub use Rattle.mm_call.specs.CallFindingWords.{finding_unless_wanting, finding_unless_wanting as accepted_in, finding_with, is_fresh}

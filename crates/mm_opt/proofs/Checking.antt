@@ -4,7 +4,7 @@ use Rattle.mm_opt.proofs.Below.{subst, arith, ◌≤◌, ◌&&◌, is_some, IsSo
 use Rattle.mm_opt.proofs.Below.{extended_digest_of, length-anchored_digest_of, IsCell, cell_spelling, reads_cell-same, Cell, CellFault}
 use Rattle.mm_opt.proofs.Below.{Item, Standing, StepFault, Act, StepGoes, ReadCell, ReadRegister, WriteCell, Meaning, Long, Instance}
 use Rattle.mm_opt.proofs.Below.{opt_instance, Close, Foreign, Digests, digests_of, DeviceStep, Writes, checkpoint_steps, AskResult, Refused}
-use Rattle.mm_opt.proofs.Below.{Course, StepFate, walk, has_close, StaysOn, CheckpointEnding, checkpoint_ending, checkpoint_ending_by}
+use Rattle.mm_opt.proofs.Below.{Course, StepFate, walk, has_close, PlatformStaysOn, CheckpointEnding, checkpoint_ending, checkpoint_ending_by}
 use Rattle.mm_opt.proofs.Below.{checkpoint_outcome, CheckpointsAgree, basic_checkpoints_agree, opt_checkpoints_agree, state_after_moves}
 use Rattle.mm_opt.proofs.Below.{digest_level, list_level, instance_by, cell_at, items_after_move, StandsAt, stands_at, stands_for}
 use Rattle.mm_opt.proofs.Below.{agrees_is, is_agrees, with_register, IsWrite, IsTrail, leads, stepped, trail_on, trail_fails, trail_last}
@@ -266,7 +266,7 @@ checks_by old new fault result fates e t goes = record {
         within = same.within;
       };
   plans = λ plan is_on known at.
-      subst (λ (b : Bool). StaysOn plan.stop b new × IsSome new.plan) (broken_if fault ∙ ap is_some (sym e))
+      subst (λ (b : Bool). PlatformStaysOn plan.stop b new × IsSome new.plan) (broken_if fault ∙ ap is_some (sym e))
       (t.stays plan (begins_at old plan is_on known at));
 }
 

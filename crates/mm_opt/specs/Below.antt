@@ -31,7 +31,7 @@ pub use Rattle.mm_call.specs.CallKind.{CallKind}
 pub use Rattle.mm_call.specs.Checkpoints.{CheckpointOutcome, Closes, CheckpointEnding, HasNone, IsClosedWithin, LostPower, NoSegment, Stops}
 pub use Rattle.mm_call.specs.Checkpoints.{checkpoint_outcome}
 pub use Rattle.mm_call.specs.Courses.{AreTold, Course}
-pub use Rattle.mm_call.specs.EndedCall.{StaysPlanned}
+pub use Rattle.mm_call.specs.EndedCall.{PlatformStaysPlanned}
 pub use Rattle.mm_call.specs.Untouched.{CountsHandedFault, IsUntouched}
 pub use Rattle.mm_call.specs.Levels.{digest_level, list_level}
 pub use Rattle.mm_call.specs.Order.{check_of_offer}

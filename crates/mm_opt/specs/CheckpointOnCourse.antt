@@ -3,7 +3,7 @@ use Rattle.std.specs.Prelude.{◌≡◌, ℕ, List, Result, Ok, Err, is_some}
 use Rattle.std.specs.Option.{option_map}
 use Rattle.mm_opt.specs.Below.{Variant, Standing, Batch, Meaning, History, Instance, Digests, digests_of, StandsFor, IsWithin}
 use Rattle.mm_opt.specs.Below.{CheckpointEnding, Closes, HasNone, NoSegment, LostPower, Stops, CheckpointOutcome, checkpoint_outcome}
-use Rattle.mm_opt.specs.Below.{IsClosedWithin, Course, AreTold, StaysPlanned, list_level, digest_level, instance_by, StandsAt}
+use Rattle.mm_opt.specs.Below.{IsClosedWithin, Course, AreTold, PlatformStaysPlanned, list_level, digest_level, instance_by, StandsAt}
 use Rattle.mm_opt.specs.Below.{items_after_moves, count_after_more}
 use Rattle.mm_opt.specs.declared.segment.Checkpointed.{Checkpointed as Said}
 use Rattle.mm_opt.specs.declared.segment.Checkpointed.TheVariants as said
@@ -65,4 +65,4 @@ pub record IsCheckpointOnCourse (old new : Standing)
       (checkpoint_outcome (instance_by variant meaning key barrier)
       (list_level (instance_by variant meaning key barrier)) y course)
       new result
-  pub plans : StaysPlanned old new (is_some (closing_fault_in result))
+  pub plans : PlatformStaysPlanned old new (is_some (closing_fault_in result))

@@ -4,7 +4,7 @@ ghost use Rattle.std.specs.Prelude.{◌≡◌};
 ghost use Rattle.std.specs.List.{list_any};
 ghost use Rattle.std.specs.Str.{bytes_eq};
 ghost use Rattle.mm_digest.specs.Messages.{zero_bytes};
-ghost use Rattle.mm_model.specs.Verdicts.{forms_of, fits_fresh, fits_again, opt_verdict};
+ghost use Rattle.mm_model.specs.Verdicts.{forms_of, is_fresh_form, is_repeat_form, opt_verdict};
 ghost use Rattle.mm_opt.specs.Order.{point, has_lost_power};
 
 use mm_digest::{Digest, anchored, extended, zero};
@@ -51,7 +51,7 @@ pub fn is_zero(digest: &Digest) -> bool
 
 // Whether a form of the place fits as fresh.
 fn is_fresh(cell: &Cell, register: &Digest, anchor: &Digest, extension: &Digest) -> bool
-    ensures { result ≡ list_any (fits_fresh cell.now.flag cell.now.summary.bytes register.now.bytes)
+    ensures { result ≡ list_any (is_fresh_form cell.now.flag cell.now.summary.bytes register.now.bytes)
         (forms_of anchor.now.bytes extension.now.bytes) }
 {
     fits_fresh(cell, register, anchor, extension)
@@ -67,7 +67,7 @@ fn is_again(
     value: &Digest,
 ) -> bool
     ensures { result ≡ list_any
-        (fits_again cell.now.flag cell.now.summary.bytes register.now.bytes value.now.bytes)
+        (is_repeat_form cell.now.flag cell.now.summary.bytes register.now.bytes value.now.bytes)
         (forms_of anchor.now.bytes extension.now.bytes) }
 {
     fits_again(cell, register, anchor, extension, value)
@@ -77,7 +77,7 @@ fn is_again(
 
 // Whether this form is where the platform stands.
 fn fits_fresh(cell: &Cell, register: &Digest, anchor: &Digest, extension: &Digest) -> bool
-    ensures { result ≡ fits_fresh cell.now.flag cell.now.summary.bytes register.now.bytes
+    ensures { result ≡ is_fresh_form cell.now.flag cell.now.summary.bytes register.now.bytes
         (point anchor.now.bytes extension.now.bytes) }
 {
     if *anchor != cell.summary {
@@ -97,7 +97,7 @@ fn fits_again(
     extension: &Digest,
     value: &Digest,
 ) -> bool
-    ensures { result ≡ fits_again cell.now.flag cell.now.summary.bytes register.now.bytes
+    ensures { result ≡ is_repeat_form cell.now.flag cell.now.summary.bytes register.now.bytes
         value.now.bytes (point anchor.now.bytes extension.now.bytes) }
 {
     let end = extended(extension, value);

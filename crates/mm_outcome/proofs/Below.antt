@@ -84,7 +84,7 @@ pub use Rattle.mm_schedule.specs.declared.event.Offer.TheVariants.{Last}
 pub use Rattle.mm_schedule.specs.declared.reply.Reply.{Reply}
 pub use Rattle.mm_schedule.specs.declared.reply.Way.{Way}
 pub use Rattle.mm_outcome.specs.Folds.{moves_after_stop, ask_event_outcome, checkpoint_event_outcome, closing_reply, moves_after_checkpoint}
-pub use Rattle.mm_outcome.specs.Folds.{course_of, event_outcome, outcome_by_lists, first_digests, first_issued, outcome_of_events}
+pub use Rattle.mm_outcome.specs.Folds.{course_of, event_outcome, outcome_by_lists, first_digests, first_snapshots, outcome_of_events}
 pub use Rattle.mm_outcome.specs.Folds.{RunOutcome, moves_after_call, Outcome, outcome_by, outcome_by_digests, reply_of, snapshots_of}
 pub use Rattle.mm_outcome.specs.Folds.{outcome_without_call, way_of}
 pub use Rattle.mm_outcome.specs.WorldState.{world_barrier, world_key}

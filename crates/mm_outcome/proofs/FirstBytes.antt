@@ -7,7 +7,7 @@ use Rattle.mm_outcome.proofs.Below.{extended_message, anchored_message, guard_me
 use Rattle.sha2.specs.Sha256.{sha256, schedule, compress, hash_after, first_words, rounds, digest_bytes}
 use Rattle.mm_digest.specs.Messages.{zero_bytes, start_digest_of, extended_digest_of, anchored_digest_of}
 use Rattle.mm_model.specs.Chains.{guard}
-use Rattle.mm_outcome.specs.WorldState.{rising_from}
+use Rattle.mm_outcome.specs.WorldState.{rising_bytes_from}
 
 -- the first byte of a message's digest
 unfoldable pub first_byte : (List ℕ → List ℕ) → List ℕ → ℕ
@@ -153,13 +153,13 @@ pub segment_messages : List (List ℕ)
 segment_messages = messages_by sha256
 
 pub segments_clear : IsClear segment_messages
-unfolding segment_messages first_byte rising_from zero_bytes first_words rounds digest_bytes
+unfolding segment_messages first_byte rising_bytes_from zero_bytes first_words rounds digest_bytes
 segments_clear =
     clear_by_digests messages_by (refl, (refl, (refl, (refl, (refl, (refl, (refl, (refl, (refl, (refl, (refl, tt)))))))))))
 
 -- the guard begins with another byte than the value of others
 pub guard_first : slice_index five_guard 0 ≡ 152
-unfolding guard rising_from first_words rounds digest_bytes
+unfolding guard rising_bytes_from first_words rounds digest_bytes
 guard_first = ap (λ d. slice_index d 0) (sym (digest_is (guard_message world_barrier five))) ∙ refl
 
 pub segments_listed : AreListed 1 world_barrier five_guard ff_bytes segment_messages

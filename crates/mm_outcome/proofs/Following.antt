@@ -10,7 +10,7 @@ use Rattle.mm_outcome.proofs.Below.{checkpoint_event_outcome, event_outcome, out
 use Rattle.mm_outcome.proofs.Below.{event_foreign_values, batches_of, AreGenuine, foreign_values, asked_batches, IsGenuineOffer}
 use Rattle.mm_outcome.proofs.Below.{AgreesThroughout, KeepsHistory, IsSameOutcome}
 use Rattle.mm_outcome.proofs.Parts.{ask_moves, asking_messages}
-use Rattle.mm_outcome.proofs.Below.{start_message, first_history, first_digests, first_issued, run_messages, outcome_by_lists}
+use Rattle.mm_outcome.proofs.Below.{start_message, first_history, first_digests, first_snapshots, run_messages, outcome_by_lists}
 use Rattle.mm_outcome.proofs.Below.{outcome_by_digests, IsGenuineRun, each_self}
 use Rattle.mm_outcome.specs.OneEvent.{IsEventWithin}
 use Rattle.mm_outcome.proofs.Below.{Move}
@@ -164,4 +164,4 @@ pub expected_from : (i : Instance) (events : List Event)
 expected_from i events v genuine =
     let self = each_self [] (run_messages i events) in
     follow_same (run_messages i events) (foreign_values events) (asked_batches events) i v events first_history (first_digests i)
-    (first_issued i) (v.starts self.0) (each_self [] (foreign_values events)) (each_self [] (asked_batches events)) self.1 genuine
+    (first_snapshots i) (v.starts self.0) (each_self [] (foreign_values events)) (each_self [] (asked_batches events)) self.1 genuine

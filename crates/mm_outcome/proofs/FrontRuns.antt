@@ -4,7 +4,7 @@ use Rattle.mm_outcome.proofs.Below.{History, Event, Level, list_level, Outcome, 
 use Rattle.mm_outcome.proofs.Below.{messages_of_moves, event_messages, moves_of, messages_from, outcome_joined_to, subst}
 use Rattle.mm_outcome.proofs.Below.{Contains-append_left, Contains, flat_map, digest_level, start_message, Variant, instance_by, Meaning}
 use Rattle.mm_outcome.proofs.Below.{first_history, requests_of, IsClear, IsEventRun, Reply, outcome_by_lists, outcome_by_digests}
-use Rattle.mm_outcome.proofs.Below.{first_digests, first_issued, AreGenuine, IsClearRun, IsGenuineRun, batches_of, event_foreign_values}
+use Rattle.mm_outcome.proofs.Below.{first_digests, first_snapshots, AreGenuine, IsClearRun, IsGenuineRun, batches_of, event_foreign_values}
 use Rattle.mm_outcome.proofs.Below.{run_messages, each_left, each_self}
 use Rattle.std.proofs.lemmas.Grind.{flat_map-append}
 use Rattle.mm_outcome.proofs.FirstBytes.{clear_within}
@@ -64,7 +64,7 @@ pub fronts_run : (variant : Variant) (meaning : Meaning) (key barrier : List ℕ
     → FrontsAreOneRun (instance_by variant meaning key barrier) events
 fronts_run variant meaning key barrier events front rest is =
     let i : Instance = instance_by variant meaning key barrier in (
-      ap (λ (es : List Event). outcome_by_digests i es) is ∙ goes_on i (digest_level i) front rest (first_digests i) (first_issued i),
+      ap (λ (es : List Event). outcome_by_digests i es) is ∙ goes_on i (digest_level i) front rest (first_digests i) (first_snapshots i),
       λ clear genuine.
           let a = is_expected variant meaning key barrier front clear genuine in
           let requests = requests_of (outcome_by_lists i front).state.batches in
@@ -88,7 +88,7 @@ clear_fronts i front later c =
     let it : RunOutcome History = outcome_by_lists i front in
     let some : List (List ℕ) = run_messages i front in let more : List (List ℕ) = messages_from i it.state it.issued later in record {
       clear = clear_within (some ++ more) some (subst IsClear (ap (λ (ms : List (List ℕ)). start_message i.variant i.meaning.id ∷ ms)
-          (messages-append i front later first_history (first_issued i))) c.clear)
+          (messages-append i front later first_history (first_snapshots i))) c.clear)
           (each_left (Contains (some ++ more)) some more (each_self [] (some ++ more)));
       apart = λ is d b value batch. c.apart is d b (first_of_all event_foreign_values front later d value)
           (first_of_all batches_of front later b
@@ -102,4 +102,4 @@ genuine_from i (event ∷ front) later y issued g =
     let o = event_outcome i (list_level i) y issued event in (g.0, genuine_from i front later o.state o.issued g.1)
 
 pub genuine_fronts : (i : Instance) (front later : List Event) → IsGenuineRun i (front ++ later) → IsGenuineRun i front
-genuine_fronts i front later g = genuine_from i front later first_history (first_issued i) g
+genuine_fronts i front later g = genuine_from i front later first_history (first_snapshots i) g

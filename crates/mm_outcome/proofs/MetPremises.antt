@@ -12,7 +12,7 @@ use Rattle.mm_outcome.proofs.Below.{InOpt, sealed_parts, guard, Own, Value, Move
 use Rattle.mm_outcome.proofs.Below.{total_of, verdict_on, life_of, is_lost, form_messages, issued_place, digest_of, Fresh, first_sound}
 use Rattle.mm_outcome.proofs.Below.{reads_zero, opt_issued, CallOutcome, call_outcome, call_outcome_with, CallFinding, finding_by_verdict}
 use Rattle.mm_outcome.proofs.Below.{finding_with, check_by_tests, Outcome, outcome_of_events, event_outcome, outcome_by, outcome_by_lists}
-use Rattle.mm_outcome.proofs.Below.{first_issued, world_barrier, two_segments, after_two_segments, moves_of, event_messages, messages_from}
+use Rattle.mm_outcome.proofs.Below.{first_snapshots, world_barrier, two_segments, after_two_segments, moves_of, event_messages, messages_from}
 use Rattle.mm_outcome.proofs.Below.{IsGenuineEvent, AreGenuine, each_at, Option, Some, offered_bytes, ask_event_outcome, IsGenuineOffer}
 use Rattle.mm_outcome.proofs.Parts.{ask_moves, asking_messages}
 use Rattle.mm_digest.specs.Messages.{start_digest_of, zero_bytes, extended_digest_of}
@@ -270,9 +270,9 @@ module _ (meaning : Meaning) (lawful : IsLawful meaning) (key barrier d : List â
       (others_made, tt) last_met)
 
   -- the request inside the segment, and the one that opens it
-  first_met : Met all here first_history (first_issued here) (events_with d) after_two_segments
+  first_met : Met all here first_history (first_snapshots here) (events_with d) after_two_segments
   first_met =
-      asked_met first_history first_history after_two_segments (first_issued here) _ (omega arith) refl refl refl refl
+      asked_met first_history first_history after_two_segments (first_snapshots here) _ (omega arith) refl refl refl refl
       (opt_issued meaning key barrier first_history first_sound refl) first_offered (opening_made, tt)
       (asked_met asked_once asked_once after_two_segments _ _ (omega arith) refl refl refl refl
       (opt_issued meaning key barrier asked_once once_lasts.sound refl) second_offered (second_made, tt) closed_met)

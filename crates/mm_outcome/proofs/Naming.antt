@@ -11,7 +11,7 @@ use Rattle.mm_outcome.proofs.Below.{call_ending_by, call_outcome, CheckpointOutc
 use Rattle.mm_outcome.proofs.Below.{live_found, foreign_fine, power_fine, ready_closing, before, sight, sight_is, Ready, walk_fine, asks}
 use Rattle.mm_outcome.proofs.Below.{unlacked, opt_closes, closed_kept, AllMay, may_of, first_in, ask_may, each_self, each_append, Event}
 use Rattle.mm_outcome.proofs.Below.{Outcome, course_of, snapshots_of, moves_after_call, outcome_by, moves_after_checkpoint, event_outcome}
-use Rattle.mm_outcome.proofs.Below.{RunOutcome, outcome_of_events, first_issued, IsIssued, IssuedNamePositions, IsSoundIn, KeepsNames}
+use Rattle.mm_outcome.proofs.Below.{RunOutcome, outcome_of_events, first_snapshots, IsIssued, IssuedNamePositions, IsSoundIn, KeepsNames}
 use Rattle.mm_outcome.proofs.Below.{EventsKeepNames, AreOwn, instance_by, zero_bytes}
 use Rattle.mm_outcome.proofs.EachWay.{in_any_way, then_all, closing_all}
 
@@ -100,7 +100,7 @@ module _ (i : Instance) (v : Keeping i) where
       let k = event_keeps y issued event sound in follow_named events o.state o.issued k.sound (k.issued h)
 
   issued_named : IssuedNamePositions i
-  issued_named events = follow_named events first_history (first_issued i) v.sound
+  issued_named events = follow_named events first_history (first_snapshots i) v.sound
       (record { content = content_issued i first_history; sealed = refl; names = v.named }, tt)
 
 -- an answer hands out a snapshot of the history at its end

@@ -13,7 +13,7 @@ use Rattle.mm_outcome.proofs.Below.{seen_none, admitted_tells, weighed_tells, fo
 use Rattle.mm_outcome.proofs.Below.{again_of, fresh_of, unlacked, checkpoint_none, Event, Ask, Checkpoint, IsTold, IsBatchStep}
 use Rattle.mm_outcome.proofs.Below.{IsStepWithoutBatch, IsRunStep, IsEventRun, Way, Reply, offered_bytes, Outcome, way_of, course_of}
 use Rattle.mm_outcome.proofs.Below.{reply_of, outcome_by, closing_reply, checkpoint_event_outcome, event_outcome, RunOutcome}
-use Rattle.mm_outcome.proofs.Below.{outcome_of_events, first_issued, ExpectedRuns}
+use Rattle.mm_outcome.proofs.Below.{outcome_of_events, first_snapshots, ExpectedRuns}
 use Rattle.mm_model.specs.BatchLaws.{HasLastBatch, is_last_tells}
 use Rattle.mm_call.specs.Answers.{answer_on}
 use Rattle.mm_schedule.specs.declared.reply.Reply.TheVariants.{Told, Kept}
@@ -176,4 +176,4 @@ runs i (event ∷ events) y issued =
     (requests_of o.state.batches, event_steps i y issued event, runs i events o.state o.issued)
 
 pub expected_runs : ExpectedRuns
-expected_runs i events = runs i events first_history (first_issued i)
+expected_runs i events = runs i events first_history (first_snapshots i)

@@ -195,8 +195,8 @@ outcome_of_events i level s issued (event ∷ events) =
     }
 
 -- the first snapshot of an instance, and its first digests
-abbrev pub first_issued : Instance → List (List ℕ)
-first_issued i = sealed_snapshot_of i.key (issued i first_history) ∷ []
+abbrev pub first_snapshots : Instance → List (List ℕ)
+first_snapshots i = sealed_snapshot_of i.key (issued i first_history) ∷ []
 
 abbrev pub first_digests : Instance → Digests
 first_digests i =
@@ -209,8 +209,8 @@ first_digests i =
 
 -- a schedule from the start: by lists, which gives the expected replies; and by digests
 abbrev pub outcome_by_lists : Instance → List Event → RunOutcome History
-outcome_by_lists i events = outcome_of_events i (list_level i) first_history (first_issued i) events
+outcome_by_lists i events = outcome_of_events i (list_level i) first_history (first_snapshots i) events
 
 abbrev pub outcome_by_digests : Instance → List Event → RunOutcome Digests
 outcome_by_digests i events = outcome_of_events i (digest_level i) (first_digests i)
-    (first_issued i) events
+    (first_snapshots i) events

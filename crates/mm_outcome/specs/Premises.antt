@@ -6,7 +6,7 @@ use Rattle.mm_outcome.specs.Below.{start_message, Variant, Opt, Batch, normal_ba
 use Rattle.mm_outcome.specs.Below.{Instance, is_long, IsClear, AreNoGuards, IsGenuine, messages_of_moves, right_messages, call_outcome}
 use Rattle.mm_outcome.specs.Below.{checkpoint_outcome, right_content, list_level, Event, Ask, Checkpoint, Power, Extend}
 use Rattle.mm_outcome.specs.EventOffers.{offered_bytes}
-use Rattle.mm_outcome.specs.Folds.{course_of, event_outcome, first_issued}
+use Rattle.mm_outcome.specs.Folds.{course_of, event_outcome, first_snapshots}
 
 -- the moves of an event's call, by lists. The loss of power after one that was cut has no messages.
 abbrev pub moves_of : Instance → History → List (List ℕ) → Event → List Move
@@ -50,7 +50,7 @@ batches_of event = []
 -- the messages of a run
 abbrev pub run_messages : Instance → List Event → List (List ℕ)
 run_messages i events =
-    start_message i.variant i.meaning.id ∷ messages_from i first_history (first_issued i) events
+    start_message i.variant i.meaning.id ∷ messages_from i first_history (first_snapshots i) events
 
 -- the values by which others extend the register, and the batches asked
 abbrev pub foreign_values : List Event → List (List ℕ)
@@ -89,4 +89,4 @@ AreGenuine i y issued (event ∷ events) =
     IsGenuineEvent i y issued event × AreGenuine i o.state o.issued events
 
 abbrev pub IsGenuineRun : Instance → List Event → Type 0
-IsGenuineRun i events = AreGenuine i first_history (first_issued i) events
+IsGenuineRun i events = AreGenuine i first_history (first_snapshots i) events

@@ -3,18 +3,18 @@ use Rattle.std.specs.Prelude.{◌≡◌, ℕ, ◌-◌, ◌^◌, List, length, mi
 use Rattle.std.specs.List.{range_with_len}
 use Rattle.mm_outcome.specs.Below.{Meddle, Stop, meaning_of, Instance, Digests, state_seen, reading_steps, digest_level, instance_by}
 use Rattle.mm_outcome.specs.Below.{count_after_more, Event, Ask, Power, Header, Reply}
-use Rattle.mm_outcome.specs.Folds.{Outcome, course_of, event_outcome, first_issued, first_digests}
+use Rattle.mm_outcome.specs.Folds.{Outcome, course_of, event_outcome, first_snapshots, first_digests}
 
 -- 32 bytes in rising order, from this one on
-unfoldable pub rising_from : ℕ → List ℕ
-rising_from first = range_with_len first 32
+unfoldable pub rising_bytes_from : ℕ → List ℕ
+rising_bytes_from first = range_with_len first 32
 
 -- the key of each world, and its barrier
 abbrev pub world_key : List ℕ
-world_key = rising_from 0x00
+world_key = rising_bytes_from 0x00
 
 abbrev pub world_barrier : List ℕ
-world_barrier = rising_from 0x20
+world_barrier = rising_bytes_from 0x20
 
 -- the instance that a world with this header is
 abbrev pub world_of : Header → Instance
@@ -38,7 +38,7 @@ abbrev pub first_world_state : Header → WorldState
 first_world_state header = record {
   header = header;
   digests = first_digests (world_of header);
-  issued = first_issued (world_of header);
+  issued = first_snapshots (world_of header);
   steps = 0;
   writes = 0;
 }
@@ -73,8 +73,8 @@ world_after_reading stop meddles world = record world {
 
 -- Memory was wanting for this event: nothing has changed, but that a call may have made its reading
 -- steps.
-abbrev pub EventWantsMemory : Event → WorldState → WorldState → Type 0
-EventWantsMemory (Ask meddles stop offer b) old new =
+abbrev pub WorldLacksMemory : Event → WorldState → WorldState → Type 0
+WorldLacksMemory (Ask meddles stop offer b) old new =
     (new ≡ old) ⊎ (new ≡ world_after_reading stop meddles old)
-EventWantsMemory Power old new = ⊥
-EventWantsMemory event old new = new ≡ old
+WorldLacksMemory Power old new = ⊥
+WorldLacksMemory event old new = new ≡ old

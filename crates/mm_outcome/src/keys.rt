@@ -1,11 +1,11 @@
 //! The key and the barrier of each world in memory.
 
 ghost use Rattle.std.specs.Prelude.{◌≡◌, ◌≤◌};
-ghost use Rattle.mm_outcome.specs.WorldState.{rising_from};
+ghost use Rattle.mm_outcome.specs.WorldState.{rising_bytes_from};
 ghost use Rattle.mm_outcome.specs.WorldState.{world_key, world_barrier};
 
 /// The key: the bytes 00 to 1f.
-#[tactic(auto, unfolding(crate::specs::WorldState::rising_from))]
+#[tactic(auto, unfolding(crate::specs::WorldState::rising_bytes_from))]
 pub fn world_key() -> [u8; 32]
     ensures { result ≡ world_key }
 {
@@ -16,7 +16,7 @@ pub fn world_key() -> [u8; 32]
 }
 
 /// The barrier: the bytes 20 to 3f.
-#[tactic(auto, unfolding(crate::specs::WorldState::rising_from))]
+#[tactic(auto, unfolding(crate::specs::WorldState::rising_bytes_from))]
 pub fn world_barrier() -> [u8; 32]
     ensures { result ≡ world_barrier }
 {
@@ -29,7 +29,7 @@ pub fn world_barrier() -> [u8; 32]
 /// 32 bytes in rising order, from this one on.
 pub fn rising(first: u8) -> [u8; 32]
     requires { first ≤ 224 }
-    ensures { result ≡ rising_from first }
+    ensures { result ≡ rising_bytes_from first }
 {
     let mut bytes = [first; 32];
     for place in 0..32 {

@@ -17,7 +17,7 @@ pub use Rattle.mm_base.specs.declared.fault.Failed.{Failed}
 pub use Rattle.mm_digest.specs.declared.digest.Digest.{Digest}
 pub use Rattle.mm_store.specs.Calls.{slots_with_bytes}
 pub use Rattle.mm_store.specs.Slots.{longest_slot, slot_in, Slots, slots_with}
-pub use Rattle.mm_store.specs.UnsyncedSlots.{unsynced_with_mark}
+pub use Rattle.mm_store.specs.UnsyncedSlots.{unsynced_slots_with_mark}
 pub use Rattle.mm_store.proofs.Above.{longest_slot-is, marked_last, marks_alone, putting-twice, slot_in-with_slot, take-min, with_slot-same}
 pub use Rattle.mm_pages.specs.Bytes.{page_count, page_of, resized_bytes, bytes_with_page}
 pub use Rattle.mm_pages.specs.CachedDevice.{AreInStep, CachedDevice, KeepsStep}

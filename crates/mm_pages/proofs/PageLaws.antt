@@ -1,6 +1,6 @@
 -- One page of a write: it is there already, it is written, or a look-up failed.
 use Rattle.mm_pages.proofs.Below.{ℕ, ◌≡◌, Bool, true, false, Result, Option, Some, None, Ok, Err, List, [], length, get_or, refl, ap, sym}
-use Rattle.mm_pages.proofs.Below.{◌∙◌, subst, arith, ◌&&◌, bytes_eq, Failed, next_count, Digest, Slots, slot_in, unsynced_with_mark}
+use Rattle.mm_pages.proofs.Below.{◌∙◌, subst, arith, ◌&&◌, bytes_eq, Failed, next_count, Digest, Slots, slot_in, unsynced_slots_with_mark}
 use Rattle.mm_pages.proofs.Below.{slots_with_bytes, with_slot-same, marks_alone, page_of, bytes_with_page, PageStanding, WritesPage}
 use Rattle.mm_pages.proofs.Below.{slots_with_change, count_after_so_many, may_be_same, look_count, change_count, one_if, Rows, row_in}
 use Rattle.mm_pages.proofs.Below.{rows_with, kept_digest, page_digest, row_with_digest, DropsPage, IsInStep, HoldsPage, IsPutAt, WriteFails}
@@ -54,7 +54,7 @@ put_held {slot} {page} {part} {digest} {kept} {old} {new} {rows} h d k r = recor
   honest = ap (λ (x : PageStanding). x.is_honest) h.same;
   faults = h.counted_faults.kept;
   lengths = ap (λ (x : PageStanding). x.length_writes) h.same;
-  marks = ap (λ (x : PageStanding). unsynced_with_mark slot true x.unsynced) h.same;
+  marks = ap (λ (x : PageStanding). unsynced_slots_with_mark slot true x.unsynced) h.same;
   rows_are = r ∙ ap (λ (x : Digest). rows_with rows slot (row_with_digest page x (row_in rows slot))) d;
   looks = looked rows h d k;
   puts =
@@ -97,7 +97,7 @@ put_written {slot} {page} {part} {digest} {kept} {old} {mid} {new} {rows} {dropp
       lengths = ap (λ (x : PageStanding). x.length_writes) w.same ∙ ap (λ (x : PageStanding). x.length_writes) h.same;
       marks =
           marks_alone slot true old.unsynced new.unsynced
-          (ap (λ (x : PageStanding). x.unsynced) w.same ∙ ap (λ (x : PageStanding). unsynced_with_mark slot true x.unsynced) h.same);
+          (ap (λ (x : PageStanding). x.unsynced) w.same ∙ ap (λ (x : PageStanding). unsynced_slots_with_mark slot true x.unsynced) h.same);
       rows_are =
           s ∙ (λ j. rows_with (r.rows j) slot (alike j))
           ∙ with_row-twice rows slot r.row (row_with_digest page (page_digest part) (row_in rows slot));
@@ -123,7 +123,7 @@ look_failed {slot} {old = old} {new = new} rows h = record {
     honest = ap (λ (x : PageStanding). x.is_honest) h.same;
     faults = h.counted_faults.failed;
     leaves = λ honest. let stay = slots_stay slot old.slots in (stay.0, ap (λ (x : PageStanding). x.slots) h.same ∙ stay.1);
-    marks = ap (λ (x : PageStanding). unsynced_with_mark slot true x.unsynced) h.same;
+    marks = ap (λ (x : PageStanding). unsynced_slots_with_mark slot true x.unsynced) h.same;
   };
   row = row_in rows slot;
   rows_are = sym (with_row-same rows slot);

@@ -2,7 +2,7 @@
 use Rattle.mm_pages.proofs.Below.{ℕ, ◌≡◌, ◌+◌, ◌*◌, ◌<◌, ◌≤◌, suc, true, false, Option, Some, Result, Ok, Err, List, ◌++◌, length, get_or}
 use Rattle.mm_pages.proofs.Below.{take, drop, refl, ap, sym, ◌∙◌, subst, inl, inr, arith, ◌-◌, length-append, is_err, cases_lt, Failed}
 use Rattle.mm_pages.proofs.Below.{CountRose, Digest, Slots, slot_in, slots_with, slots_with_bytes, slot_in-with_slot, with_slot-same}
-use Rattle.mm_pages.proofs.Below.{putting-twice, marks_alone, marked_last, unsynced_with_mark, CachedDevice, resized_bytes, page_of}
+use Rattle.mm_pages.proofs.Below.{putting-twice, marks_alone, marked_last, unsynced_slots_with_mark, CachedDevice, resized_bytes, page_of}
 use Rattle.mm_pages.proofs.Below.{page_count, PageStanding, ReadsLength, SyncsPages, slots_with_change, count_after_so_many, may_be_same}
 use Rattle.mm_pages.proofs.Below.{look_count, total_of_looks, change_count, changes_of, one_if, Rows, row_in, rows_with, kept_digest}
 use Rattle.mm_pages.proofs.Below.{page_digest, row_with_digest, digests_of_pages, IsPutAt, SlotFails, WriteFails, ChangesSlot, PutsOnePage}
@@ -153,7 +153,7 @@ fits_already {slot} {size} {old = old} {new = new} r e = record {
   settled = λ told f l. ap (λ (x : PageStanding). x.length_writes) r.same;
   slots =
       λ honest. ap (λ (x : PageStanding). x.slots) r.same ∙ length_stays slot size old.slots (λ told f. sym (r.gives told f) ∙ e);
-  marks = ap (λ (x : PageStanding). unsynced_with_mark slot true x.unsynced) r.same;
+  marks = ap (λ (x : PageStanding). unsynced_slots_with_mark slot true x.unsynced) r.same;
 }
 
 pub length_failed : {slot : ℕ} {old new : PageStanding} {fault : Failed} → ReadsLength slot old new (Err fault) → SlotFails slot old new
@@ -161,7 +161,7 @@ length_failed {slot} {old} {new} r = record {
   honest = ap (λ (x : PageStanding). x.is_honest) r.same;
   faults = r.counted_faults.failed;
   leaves = λ honest. let stay = slots_stay slot old.slots in (stay.0, ap (λ (x : PageStanding). x.slots) r.same ∙ stay.1);
-  marks = ap (λ (x : PageStanding). unsynced_with_mark slot true x.unsynced) r.same;
+  marks = ap (λ (x : PageStanding). unsynced_slots_with_mark slot true x.unsynced) r.same;
 }
 
 -- a length that is fitted, and then synced or not

@@ -5,7 +5,7 @@ use Rattle.std.specs.Result.{is_err}
 use Rattle.mm_base.specs.declared.fault.Failed.{Failed}
 use Rattle.mm_base.specs.Faults.{next_count, CountsFaults}
 use Rattle.mm_store.specs.Slots.{Slots, slot_in, slots_with}
-use Rattle.mm_store.specs.UnsyncedSlots.{unsynced_with_mark}
+use Rattle.mm_store.specs.UnsyncedSlots.{unsynced_slots_with_mark}
 use Rattle.mm_store.specs.Calls.{slots_with_bytes}
 use Rattle.mm_pages.specs.Bytes.{resized_bytes, page_of, bytes_with_page}
 use Rattle.mm_pages.specs.PageStanding.{PageStanding}
@@ -44,7 +44,7 @@ pub record WritesPage (slot page : ℕ) (part : List ℕ) (old new : PageStandin
     slots = new.slots;
     faults = new.faults;
     page_writes = next_count old.page_writes;
-    unsynced = unsynced_with_mark slot true old.unsynced;
+    unsynced = unsynced_slots_with_mark slot true old.unsynced;
   }
   pub counted_faults : CountsFaults old.faults new.faults result
   pub leaves : old.is_honest ≡ true
@@ -57,7 +57,7 @@ pub record SetsLength (slot size : ℕ) (old new : PageStanding)
     slots = new.slots;
     faults = new.faults;
     length_writes = next_count old.length_writes;
-    unsynced = unsynced_with_mark slot true old.unsynced;
+    unsynced = unsynced_slots_with_mark slot true old.unsynced;
   }
   pub counted_faults : CountsFaults old.faults new.faults result
   pub leaves : old.is_honest ≡ true → LeavesSlot slot (resized_bytes size)
@@ -75,7 +75,7 @@ pub record SyncsPages (slot : ℕ) (old new : PageStanding)
   pub same : new ≡ record old {
     slots = new.slots;
     faults = new.faults;
-    unsynced = unsynced_with_mark slot (is_err result) old.unsynced;
+    unsynced = unsynced_slots_with_mark slot (is_err result) old.unsynced;
   }
   pub counted_faults : CountsFaults old.faults new.faults result
   pub leaves : old.is_honest ≡ true → KeepsSlot slot old.slots new.slots result

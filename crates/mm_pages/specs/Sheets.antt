@@ -3,7 +3,7 @@ use Rattle.std.specs.Prelude.{ℕ, ◌-◌, true, false, List, [], Some, Result,
 use Rattle.mm_base.specs.declared.fault.Failed.{Failed}
 use Rattle.mm_base.specs.Faults.{next_count}
 use Rattle.mm_store.specs.Slots.{Slots, slot_in, slots_with}
-use Rattle.mm_store.specs.UnsyncedSlots.{UnsyncedSlots, unsynced_with, synced_slots}
+use Rattle.mm_store.specs.UnsyncedSlots.{UnsyncedSlots, unsynced_slots_with, synced_slots}
 use Rattle.mm_pages.specs.PageStanding.{PageStanding}
 
 -- The slots, the counts of faults, of reads of pages, of writes of pages and of lengths, which
@@ -56,7 +56,7 @@ sheets_after_fault s = record (sheets_after_call s) { faults = next_count s.faul
 abbrev pub sheets_after_slot_fault : ℕ → Sheets → Sheets
 sheets_after_slot_fault slot s = record (sheets_after_fault s) {
   slots = slots_with s.slots slot s.leaves;
-  unsynced = unsynced_with s.unsynced slot true;
+  unsynced = unsynced_slots_with s.unsynced slot true;
 }
 
 -- after a call that reads
@@ -68,12 +68,12 @@ sheets_after_read s (Err _) = sheets_after_fault s
 abbrev pub sheets_after_change : ℕ → (List ℕ → List ℕ) → Sheets → Result Unit Failed → Sheets
 sheets_after_change slot change s (Ok _) = record (sheets_after_call s) {
   slots = slots_with s.slots slot (change (slot_in s.slots slot));
-  unsynced = unsynced_with s.unsynced slot true;
+  unsynced = unsynced_slots_with s.unsynced slot true;
 }
 sheets_after_change slot change s (Err _) = sheets_after_slot_fault slot s
 
 -- after a sync of a slot
 abbrev pub sheets_after_sync : ℕ → Sheets → Result Unit Failed → Sheets
 sheets_after_sync slot s (Ok _) =
-    record (sheets_after_call s) { unsynced = unsynced_with s.unsynced slot false }
+    record (sheets_after_call s) { unsynced = unsynced_slots_with s.unsynced slot false }
 sheets_after_sync slot s (Err _) = sheets_after_slot_fault slot s

@@ -6,7 +6,7 @@ use Rattle.mm_base.specs.declared.fault.Failed.{Failed}
 use Rattle.mm_base.specs.Faults.{next_count, CountRose, CountsFaults}
 use Rattle.mm_digest.specs.declared.digest.Digest.{Digest}
 use Rattle.mm_store.specs.Slots.{Slots, slot_in}
-use Rattle.mm_store.specs.UnsyncedSlots.{unsynced_with_mark, MarksAlone}
+use Rattle.mm_store.specs.UnsyncedSlots.{unsynced_slots_with_mark, MarksSlotAlone}
 use Rattle.mm_store.specs.Calls.{slots_with_bytes}
 use Rattle.mm_pages.specs.Bytes.{resized_bytes, page_of, page_count}
 use Rattle.mm_pages.specs.Calls.{slots_with_change, SyncsPages}
@@ -52,7 +52,7 @@ pub record SlotFails (slot : ℕ) (old new : PageStanding) : Type 0 where
   pub faults : CountRose old.faults new.faults
   pub leaves : old.is_honest ≡ true
       → (left : List ℕ) × (new.slots ≡ slots_with_bytes slot left old.slots)
-  pub marks : MarksAlone slot old.unsynced new.unsynced
+  pub marks : MarksSlotAlone slot old.unsynced new.unsynced
 
 -- a write that failed: of the digests, none but those of its slot changed
 pub record WriteFails (slot : ℕ) (old new : PageStanding) (rows after : Rows) : Type 0 where
@@ -79,7 +79,7 @@ pub record PutsOnePage (slot page : ℕ) (part : List ℕ) (old new : PageStandi
     pub honest : new.is_honest ≡ old.is_honest
     pub faults : new.faults ≡ old.faults
     pub lengths : new.length_writes ≡ old.length_writes
-    pub marks : MarksAlone slot old.unsynced new.unsynced
+    pub marks : MarksSlotAlone slot old.unsynced new.unsynced
     pub rows_are : after ≡ rows_with rows slot
         (row_with_digest page (page_digest part) (row_in rows slot))
     pub looks : new.page_reads ≡ count_after_so_many
@@ -105,7 +105,7 @@ pub record PutsFirstPages (slot count : ℕ) (bytes : List ℕ) (old new : PageS
   pub honest : new.is_honest ≡ old.is_honest
   pub faults : new.faults ≡ old.faults
   pub lengths : new.length_writes ≡ old.length_writes
-  pub marks : MarksAlone slot old.unsynced new.unsynced
+  pub marks : MarksSlotAlone slot old.unsynced new.unsynced
   pub rows_are : after ≡ rows_with rows slot
       (digests_of_pages bytes count ++ drop count (row_in rows slot))
   pub looks : new.page_reads ≡ count_after_so_many (total_of_looks (row_in rows slot) bytes count)
@@ -136,7 +136,7 @@ pub record FitsSlot (slot size : ℕ) (old new : PageStanding) : Type 0 where
       → new.length_writes ≡ old.length_writes
   pub slots : old.is_honest ≡ true → new.slots ≡ slots_with_change slot
       (resized_bytes size) old.slots
-  pub marks : MarksAlone slot old.unsynced new.unsynced
+  pub marks : MarksSlotAlone slot old.unsynced new.unsynced
 
 abbrev pub FitsLength : ℕ → ℕ → PageStanding → PageStanding → Result Unit Failed → Type 0
 FitsLength slot size old new (Ok _) = FitsSlot slot size old new
@@ -159,7 +159,7 @@ pub record PutsWholeSlot (slot : ℕ) (bytes : List ℕ) (old new : PageStanding
     pub honest : new.is_honest ≡ old.is_honest
     pub faults : new.faults ≡ old.faults
     pub lengths : IsOneMoreAtMost old.length_writes new.length_writes
-    pub synced : new.unsynced ≡ unsynced_with_mark slot false old.unsynced
+    pub synced : new.unsynced ≡ unsynced_slots_with_mark slot false old.unsynced
     pub rows_are : after ≡ rows_with rows slot (digests_of_pages bytes (page_count (length bytes)))
     pub looks : new.page_reads ≡ count_after_so_many
         (total_of_looks (row_in rows slot) bytes (page_count (length bytes))) old.page_reads

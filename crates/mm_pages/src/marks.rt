@@ -1,7 +1,7 @@
 //! Which slots have changes that were not synced.
 
 ghost use Rattle.std.specs.Prelude.{◌≡◌, ◌<◌};
-ghost use Rattle.mm_store.specs.UnsyncedSlots.{is_unsynced_in, unsynced_with, synced_slots};
+ghost use Rattle.mm_store.specs.UnsyncedSlots.{is_unsynced_in, unsynced_slots_with, synced_slots};
 
 use std::marker::Model;
 
@@ -51,7 +51,7 @@ impl SlotMarks {
     /// Keeps of a slot whether it has.
     pub fn set(&mut self, slot: u8, mark: bool)
         requires { slot < 4 }
-        ensures { self.new ≡ unsynced_with self.old slot mark }
+        ensures { self.new ≡ unsynced_slots_with self.old slot mark }
     {
         match slot {
             0 => self.zero = mark,

@@ -6,7 +6,7 @@ use Rattle.mm_play.proofs.Below.{TooMuch, longest_line, LineRefusal, refusal_at,
 use Rattle.mm_play.proofs.Below.{PlayerAnswers, TurnPlays, TurnAdvances, ◌≢◌, length, subst, append-nil, Appends-trans, Consumes-nil}
 use Rattle.mm_play.proofs.Below.{IsUnbroken, ReadFault, WriteFault, PlayOutcome, outcome_after_bytes, IsFrontOf, SendsDue, SendsAndAnswers}
 use Rattle.mm_play.proofs.Below.{IsSent, PlaysNext}
-use Rattle.mm_base.specs.Lines.{MayGrow}
+use Rattle.mm_base.specs.Lines.{IsLineFront}
 use Rattle.mm_base.specs.ReadsNextLine.{ReadsNextLine}
 use Rattle.mm_base.specs.declared.lines.LineFault.{LineFault}
 use Rattle.mm_base.specs.declared.lines.LineFault.TheVariants as fault
@@ -21,14 +21,14 @@ use Rattle.mm_play.proofs.Telling.{for_whole}
 module _ {P : Type 0} (answer : P → List ℕ → Result (List ℕ × P) LineRefusal) (closing : P → Option (List ℕ)) (number : ℕ) (player next : P)
     (left left' : Option (List ℕ)) (held held' pending pending' : List ℕ) where
   -- the line is refused, whatever follows it
-  refused_by : (bytes line : List ℕ) (why : LineRefusal) (fault : ReplayFault) → bytes ≡ line ++ 10 ∷ held' → MayGrow longest_line line
+  refused_by : (bytes line : List ℕ) (why : LineRefusal) (fault : ReplayFault) → bytes ≡ line ++ 10 ∷ held' → IsLineFront longest_line line
       → answer player line ≡ Err why → refusal_at number why ≡ fault
       → HoldsOfWhole left' bytes (λ input. outcome_of_rest answer closing number player input ≡ stopped_outcome fault)
   refused_by bytes line why fault cut within refused is =
       inl (λ rest. rw (cut, append_assoc line (10 ∷ held') rest, ← is)
       (outcome_of_rest-refused answer closing number player line (held' ++ rest) why within.unbroken within.short refused))
 
-  went_by_line : (bytes line : List ℕ) (result : Result Bool ReplayFault) → bytes ≡ line ++ 10 ∷ held' → MayGrow longest_line line
+  went_by_line : (bytes line : List ℕ) (result : Result Bool ReplayFault) → bytes ≡ line ++ 10 ∷ held' → IsLineFront longest_line line
       → PlayerAnswers number (answer player line) next pending pending' result
       → TurnPlays answer (outcome_of_rest answer closing number player) player next left' bytes held' pending pending' result
   went_by_line bytes line (Ok true) cut within a =

@@ -4,7 +4,7 @@ use Rattle.std.specs.Prelude.{◌≡◌, ℕ, ◌≤◌, List, [], ◌∷◌, �
 use Rattle.std.specs.Prelude.{◌⊎◌}
 use Rattle.std.specs.Io.KnownBytes.{Appends, Consumes, IsAtEnd}
 use Rattle.mm_base.specs.Input.{IsUnbroken}
-use Rattle.mm_base.specs.Lines.{MayGrow}
+use Rattle.mm_base.specs.Lines.{IsLineFront}
 use Rattle.mm_base.specs.declared.fault.WriteFault as write
 use Rattle.mm_base.specs.declared.replay_fault.ReplayFault.{ReplayFault}
 use Rattle.mm_base.specs.declared.replay_fault.ReplayFault.TheVariants.{Memory, ReadFault, WriteFault, BadLine, TooMuch}
@@ -82,7 +82,7 @@ module _ {P : Type 0} (answer : P → List ℕ → Result (List ℕ × P) LineRe
     TurnPlays (Ok false) = IsAtEnd left × (last : List ℕ)
         × (rest bytes ≡ play_outcome last (Ok next))
         × (said ≡ pending ++ last)
-    TurnPlays (Err ReadFault) = (said ≡ pending) × MayGrow longest_line bytes
+    TurnPlays (Err ReadFault) = (said ≡ pending) × IsLineFront longest_line bytes
     TurnPlays (Err WriteFault) =
         HoldsOfWhole left bytes (λ input. IsFrontOf said (pending ++ (rest input).written))
     TurnPlays (Err Memory) = said ≡ pending

@@ -3,7 +3,7 @@ use Rattle.mm_quota.proofs.Below.{◌≡◌, suc, ◌+◌, ◌^◌, ◌<◌, ◌
 use Rattle.mm_quota.proofs.Below.{Option, Some, None, option_map, option_and_then, refl, sym, ◌∙◌, ap, arith, subst, append_assoc}
 use Rattle.mm_quota.proofs.Below.{length-append, nat_tests, and-true, LedgerAccount, order_of, account_of_name, accounts_with, used_total}
 use Rattle.mm_quota.proofs.Below.{is_account, is_rising_from, account_bytes, body_of, account_at, accounts_from, count_of_bytes}
-use Rattle.mm_quota.proofs.Below.{holds_ledger, ledger_of, used_total-le, account_of_name-other, account_of_name-this}
+use Rattle.mm_quota.proofs.Below.{has_ledger, ledger_of, used_total-le, account_of_name-other, account_of_name-this}
 use Rattle.mm_quota.proofs.Below.{account_of_name-absent, bytes_eq-order, account_at-account_bytes, ReadsBody, accounts_from-reads}
 use Rattle.mm_quota.proofs.Below.{IsSpelled, has_rising_from}
 use Rattle.std.specs.Prelude.{ℕ, ◌-◌}
@@ -208,7 +208,7 @@ follow-next previous rest count number front going read formed later =
     ap (λ (b : Bool). b && has_rising_from front.0.name (accounts_from (count - (number + 1)) front.1)) (sym later)
 
 holds-follow : (most count : ℕ) (body : List ℕ) (accounts : Option (List LedgerAccount)) → ReadsBody count body accounts
-    → holds_ledger most accounts ≡ (nat_le count most && has_rising_from [] accounts)
+    → has_ledger most accounts ≡ (nat_le count most && has_rising_from [] accounts)
 unfolding is_ledger
 holds-follow most count body accounts reads = grind arith
 

@@ -15,7 +15,7 @@ use Rattle.mm_module.specs.Numbers.{number_of_eight_bytes}
 use Rattle.mm_module.specs.PartLaws.{take-front, drop-front, are_bytes-take, are_bytes-drop, are_bytes-append, are_bytes-visible}
 use Rattle.mm_module.specs.PartLaws.{get_or-small, length-eight, are_bytes-eight, number_of_eight_bytes-eight, eight-number_of_eight_bytes}
 use Rattle.mm_quota.specs.Table.{LedgerAccount, is_account, is_ledger, count_bytes, count_of_bytes, account_bytes, body_of, spelling_of}
-use Rattle.mm_quota.specs.Table.{account_after, account_at, accounts_from, accounts_of, holds_ledger, is_state, ledger_of}
+use Rattle.mm_quota.specs.Table.{account_after, account_at, accounts_from, accounts_of, has_ledger, is_state, ledger_of}
 use Rattle.mm_quota.specs.AccountLaws.{IsAccount-from}
 use Rattle.mm_quota.specs.IsLedger.{IsLedger, SpellsLedger}
 
@@ -169,7 +169,7 @@ unfolding accounts_of
 accounts_of-reads bytes is = reads-by bytes _ (accounts_from-reads _ (drop 2 bytes) (are_bytes-drop 2 bytes is))
 
 spells-by : (most : ℕ) (bytes : List ℕ) (accounts : Option (List LedgerAccount)) → are_bytes bytes ≡ true → Reads bytes accounts
-    → holds_ledger most accounts ≡ true → accounts_of bytes ≡ accounts → SpellsLedger most bytes
+    → has_ledger most accounts ≡ true → accounts_of bytes ≡ accounts → SpellsLedger most bytes
 unfolding spelling_of ledger_of
 spells-by most bytes None is reads holds read = cc
 spells-by most bytes (Some accounts) is reads holds read =
@@ -186,12 +186,12 @@ spells-by most bytes (Some accounts) is reads holds read =
 
 pub are_bytes-state : (most : ℕ) (bytes : List ℕ) → is_state most bytes ≡ true → are_bytes bytes ≡ true
 unfolding is_state
-are_bytes-state most bytes is = (and-true (are_bytes bytes) (holds_ledger most (accounts_of bytes)) is).0
+are_bytes-state most bytes is = (and-true (are_bytes bytes) (has_ledger most (accounts_of bytes)) is).0
 
 pub is_state-SpellsLedger : (most : ℕ) (bytes : List ℕ) → is_state most bytes ≡ true → SpellsLedger most bytes
 unfolding is_state
 is_state-SpellsLedger most bytes is =
-    let w = and-true (are_bytes bytes) (holds_ledger most (accounts_of bytes)) is in
+    let w = and-true (are_bytes bytes) (has_ledger most (accounts_of bytes)) is in
     spells-by most bytes _ w.0 (accounts_of-reads bytes w.0) w.1 refl
 
 -- the bytes of a ledger are bytes

@@ -223,13 +223,13 @@ accounts_of bytes =
     else None
 
 -- these are the accounts of a ledger
-abbrev pub holds_ledger : ℕ → Option (List LedgerAccount) → Bool
-holds_ledger most None = false
-holds_ledger most (Some accounts) = is_ledger most accounts
+abbrev pub has_ledger : ℕ → Option (List LedgerAccount) → Bool
+has_ledger most None = false
+has_ledger most (Some accounts) = is_ledger most accounts
 
 -- the bytes spell a ledger
 unfoldable pub is_state : ℕ → List ℕ → Bool
-is_state most bytes = are_bytes bytes && holds_ledger most (accounts_of bytes)
+is_state most bytes = are_bytes bytes && has_ledger most (accounts_of bytes)
 
 -- the accounts of a spelled ledger
 unfoldable pub ledger_of : List ℕ → List LedgerAccount

@@ -2,9 +2,9 @@
 use Rattle.mm_recovery.proofs.Below.{ℕ, ◌≡◌, ◌≢◌, false, List, length, refl, arith, nat_lt, list_any, nat_tests, longest_request, One}
 use Rattle.mm_recovery.proofs.Below.{is_long, ◌+◌, ◌≤◌, ap, length-append, length-sha256, PendingRecord, length-pending_front}
 use Rattle.std.proofs.lemmas.List.Folds.{list_any_none}
-use Rattle.mm_base.specs.Lines.{MayGrow}
+use Rattle.mm_base.specs.Lines.{IsLineFront}
 use Rattle.mm_model.specs.LongWords.{is_lf}
-use Rattle.mm_store.specs.PendingRecord.{pending_front, pending_spelling, record_word, ReadsPending}
+use Rattle.mm_store.specs.PendingRecord.{pending_front, pending_spelling, record_word, ReadsPendingRecord}
 use Rattle.mm_recovery.proofs.Below.{◌++◌, ◌<◌, ◌∙◌, sym, None, last_position}
 use Rattle.std.proofs.Common.{append_assoc}
 use Rattle.std.specs.Prelude.{◌^◌}
@@ -15,7 +15,7 @@ use Rattle.mm_base.specs.FieldLaws.{append-injective, eight_bytes-injective, len
 not_lf : (byte : ℕ) → byte ≢ 10 → is_lf byte ≡ false
 not_lf byte h = grind (arith, nat_tests, h)
 
-pub askable : (request : List ℕ) → MayGrow longest_request request → is_long (One request) ≡ false
+pub askable : (request : List ℕ) → IsLineFront longest_request request → is_long (One request) ≡ false
 askable request w =
     let short : nat_lt longest_request (length request) ≡ false = grind (arith, nat_tests, w.short) in
     let unbroken : list_any is_lf request ≡ false = list_any_none is_lf request (λ k d h. not_lf _ (w.unbroken k d h)) in
@@ -57,6 +57,6 @@ spelled_position p q hp hq e = front_position p q (sha256 (pending_front p)) (sh
 
 -- so a record behind the last position is none of a slot's
 pub beyond_none : (slot : ℕ) (bytes : List ℕ) (next : PendingRecord) → next.position ≡ last_position + 1 → bytes ≡ pending_spelling next
-    → ReadsPending slot bytes None
+    → ReadsPendingRecord slot bytes None
 beyond_none slot bytes next at is = λ p valid e.
     omega (arith, valid.most, at, spelled_position next p (omega (arith, at)) (omega (arith, valid.most)) (sym is ∙ e))

@@ -30,7 +30,7 @@ pub use Rattle.mm_model.specs.BatchLaws.{before_the_last, total-push}
 pub use Rattle.mm_model.specs.Chains.{guard, register_of}
 pub use Rattle.mm_model.specs.Fit.{IsFit}
 pub use Rattle.mm_model.specs.History.{Commit, history_after_commit, RegisterEntry, first_history, Foreign, History, items_of_all, Move}
-pub use Rattle.mm_model.specs.History.{history_after, with_last_batch, requests_of, Reset, total_of, Value}
+pub use Rattle.mm_model.specs.History.{history_after, entries_with_last_batch, requests_of, Reset, total_of, Value}
 pub use Rattle.mm_model.specs.Instance.{Instance}
 pub use Rattle.mm_model.specs.InstanceWords.{basic_instance, opt_instance}
 pub use Rattle.mm_model.specs.Life.{are_own, has_value, is_empty, is_lost, Life, life_by, life_of, Lost as LostLife}
@@ -51,7 +51,7 @@ pub use Rattle.mm_call.specs.CallOutcome.{call_outcome, call_ending_by, result_o
 pub use Rattle.mm_call.specs.CallKind.{breaks_off, EndsByFinding, goes_on}
 pub use Rattle.mm_call.specs.CallOnCourse.{CallContinues, IsCallOnCourse}
 pub use Rattle.mm_call.specs.HistoryGrowth.{HistoryGrows, grown, kept}
-pub use Rattle.mm_call.specs.Counts.{StepsAnswered, StepsBy, StepsFrom, StepsRefused, WritesAtMostOnce}
+pub use Rattle.mm_call.specs.Counts.{StepsAnswered, StepsBy, StepsFrom, StepsRefused, CellIsWrittenAtMostOnce}
 pub use Rattle.mm_call.specs.Courses.{walk_from_step, has_commit, Course, End, StepFate, moves_seen, walk, StepsWalk}
 pub use Rattle.mm_call.specs.EndedCall.{result_of}
 pub use Rattle.mm_call.specs.CallFinding.{CallFinding, finding_at, finding_by_verdict}
@@ -75,23 +75,23 @@ pub use Rattle.mm_opt.specs.OptCall.{opt_call}
 pub use Rattle.mm_ask.specs.WholeAsk.{ask_call}
 pub use Rattle.mm_store.specs.Calls.{CountsFailures, slots_with_bytes, ReadsSlot, WritesSlot}
 pub use Rattle.mm_store.specs.StoreStanding.{StoreStanding}
-pub use Rattle.mm_store.specs.PendingRecord.{PendingRecord, pending_front, ReadsPending}
+pub use Rattle.mm_store.specs.PendingRecord.{PendingRecord, pending_front, ReadsPendingRecord}
 pub use Rattle.mm_store.specs.Slots.{longest_slot, slot_front, Slots, slots_with}
 pub use Rattle.mm_store.specs.declared.fault.StoreFault.{StoreFault}
 pub use Rattle.mm_store.proofs.Above.{length-pending_front, longest_slot-is, one_reading, reads_none-short, slot_in-with_slot}
 pub use Rattle.mm_recovery.specs.HostCall.{IsCall}
 pub use Rattle.mm_recovery.specs.FirstStart.{InstanceBegins, BlamesDevice, first_history_on, first_slots, IsFirstStore, InitLeaves}
 pub use Rattle.mm_recovery.specs.FirstStart.{ShowsValues, TellsUse}
-pub use Rattle.mm_recovery.specs.CellWrites.{CallWrites, is_open_after, IsNewAt, IsNewOf, LeavesFlag, LeavesOpen, new_requests_by}
-pub use Rattle.mm_recovery.specs.CellWrites.{new_requests_at, openings, RequestWrites, TellsFlag, WritesByOpening, WritesFor}
+pub use Rattle.mm_recovery.specs.CellWrites.{CallWrites, is_open_after, IsNewAt, IsNewOf, LeavesFlag, AnswerLeavesFlag, new_requests_by}
+pub use Rattle.mm_recovery.specs.CellWrites.{new_requests_at, openings, RequestWrites, TellsFlag, CellIsWrittenByOpening, CellIsWrittenFor}
 pub use Rattle.mm_recovery.specs.Faults.{refusal_fault, store_fault_as}
 pub use Rattle.mm_recovery.specs.SlotFit.{first_offer, FitsBy, FitsHistory, IsSnapshotAt, IsAwaited, offer_slot}
 pub use Rattle.mm_recovery.specs.Init.{GoesAfterLooking, GoesAfterAllPuts, GoesAfterTaking, Devices, first_puts, InitGoes, instance_from}
 pub use Rattle.mm_recovery.specs.Init.{LooksAtCell, SlotPut, PutsAll, SetsUp, TakesBytes, result_of_write}
-pub use Rattle.mm_recovery.specs.NextRequest.{GoesAfterRecord, AsksNext}
+pub use Rattle.mm_recovery.specs.NextRequest.{HostGoesAfterRecord, AsksNextRequest}
 pub use Rattle.mm_recovery.specs.Recovery.{AnswersAt, AsksIdly, CanRecover, ResumeComesTo, IsAskedFor, IsGrown, IsRefusedAs}
-pub use Rattle.mm_recovery.specs.Recovery.{MayHaveCommitted, HostRecovers, RecoversTo}
-pub use Rattle.mm_recovery.specs.Resumption.{GoesAfterAsk, GoesAfterFinding, GoesAfterOffer, GoesAfterThree, GoesAfterTwo, result_of_keep}
+pub use Rattle.mm_recovery.specs.Recovery.{RequestMayBeCommitted, HostRecovers, RecoversTo}
+pub use Rattle.mm_recovery.specs.Resumption.{HostGoesAfterAsk, HostGoesAfterFinding, HostGoesAfterOffer, HostGoesAfterThree, HostGoesAfterTwo, result_of_keep}
 pub use Rattle.mm_recovery.specs.Resumption.{HostResumes, result_of_start}
 pub use Rattle.mm_recovery.specs.WaitingRequest.{IsWaiting, later_record}
 pub use Rattle.mm_recovery.specs.declared.fault.HostFault.{HostFault}

@@ -1,7 +1,7 @@
 -- How often calls are to write the cell, and what flag they leave: one of either core, and calls one after another.
 use Rattle.mm_recovery.proofs.Below.{◌≡◌, ◌∙◌, ◌+◌, ◌≤◌, ℕ, zero, suc, Bool, true, false, List, Some, Ok, refl, sym, ap, inl, inr, arith}
-use Rattle.mm_recovery.proofs.Below.{◌⊎◌, next_count, Variant, Basic, Opt, Standing, Answer, count_after_more, WritesAtMostOnce, LeavesOpen}
-use Rattle.mm_recovery.proofs.Below.{TellsFlag, WritesByOpening, WritesFor, is_open_after, openings, Option, None, Result, Err, StepFault}
+use Rattle.mm_recovery.proofs.Below.{◌⊎◌, next_count, Variant, Basic, Opt, Standing, Answer, count_after_more, CellIsWrittenAtMostOnce, AnswerLeavesFlag}
+use Rattle.mm_recovery.proofs.Below.{TellsFlag, CellIsWrittenByOpening, CellIsWrittenFor, is_open_after, openings, Option, None, Result, Err, StepFault}
 use Rattle.mm_recovery.proofs.Below.{cell_after, Meaning, Batch, PartsFault, IsCell, ReadsCell, SpellsCell, cell_spelling, Snapshot}
 use Rattle.mm_recovery.proofs.Below.{BatchAnswer, Refusal, Memory, Device, is_long, batch_answer_of, batch_result_of, AskResult, goes_on}
 use Rattle.mm_recovery.proofs.Below.{breaks_off, EndsByFinding, result_of, acts_for, answer_in, fault_of, IsOrMemory, refused_result}
@@ -49,14 +49,14 @@ once_by flag n before after e = grind (arith, e)
 opens_none : (flag : Bool) (before after : ℕ) → after ≡ before → after ≡ count_after_more (openings flag 0) before
 opens_none flag before after e = grind (arith, e)
 
-pub writes_none : (before after : Standing) → after.writes ≡ before.writes → WritesByOpening 0 before after
+pub writes_none : (before after : Standing) → after.writes ≡ before.writes → CellIsWrittenByOpening 0 before after
 writes_none before after e = record {
   each = omega (arith, e);
   once = λ bytes t. inl e;
   opens = λ flag t. opens_none flag before.writes after.writes e;
 }
 
-pub rests : (variant : Variant) (before after : Standing) → after ≡ before → WritesFor variant 0 before after
+pub rests : (variant : Variant) (before after : Standing) → after ≡ before → CellIsWrittenFor variant 0 before after
 rests variant before after e = grind (arith, writes_none, e)
 
 -- what answered calls leave of a flag: none was made, or the first found one
@@ -75,13 +75,13 @@ leaves_of n before after (inr l) flag t = l.leaves flag t
 pub leads_rest : (variant : Variant) (before after : Standing) → after ≡ before → LeadsOver variant 0 before after
 leads_rest variant before after e = grind (arith, e)
 
-pub leads_answer : (variant : Variant) (answer : Answer) (n : ℕ) (before after : Standing) → LeavesOpen variant (Ok answer) n before after
+pub leads_answer : (variant : Variant) (answer : Answer) (n : ℕ) (before after : Standing) → AnswerLeavesFlag variant (Ok answer) n before after
     → LeadsOver variant n before after
 leads_answer variant answer n before after l = grind (arith, l)
 
 -- calls, and those behind them
 pub joined : (variant : Variant) (n m : ℕ) (before middle after : Standing) → LeadsOver variant n before middle
-    → WritesFor variant n before middle → WritesFor variant m middle after → WritesFor variant (n + m) before after
+    → CellIsWrittenFor variant n before middle → CellIsWrittenFor variant m middle after → CellIsWrittenFor variant (n + m) before after
 joined Basic n m before middle after l w x = x ∙ ap (count_after_more m) w ∙ counted_sum n m before.writes
 joined Opt n m before middle after (inl e) w x = rw (e.0, zero-add m, sym e.1) x
 joined Opt n m before middle after (inr l) w x = record {
@@ -106,7 +106,7 @@ leads_joined Opt n m before middle after (inr l) k = inr (record {
 
 -- answered calls, and others behind them
 pub record AnsweredWrites (variant : Variant) (requests : ℕ) (before after : Standing) : Type 0 where
-  pub writes : WritesFor variant requests before after
+  pub writes : CellIsWrittenFor variant requests before after
   pub leads : LeadsOver variant requests before after
 
 pub both_writes : (variant : Variant) (n m : ℕ) (before middle after : Standing) → AnsweredWrites variant n before middle
@@ -237,8 +237,8 @@ module _ (meaning : Meaning) (offer : List ℕ) (b : Batch) (old new : Standing)
       let t = reads_told meaning offer b old middle (Ok found) r in leaves_seen t.cell t.middle middle found t.reads t.on e
 
 -- a new request
-writes_new : (old new : Standing) → WritesAtMostOnce old new
-    → ((flag : Bool) → TellsFlag old flag → new.writes ≡ count_after_more (openings flag 1) old.writes) → WritesByOpening 1 old new
+writes_new : (old new : Standing) → CellIsWrittenAtMostOnce old new
+    → ((flag : Bool) → TellsFlag old flag → new.writes ≡ count_after_more (openings flag 1) old.writes) → CellIsWrittenByOpening 1 old new
 writes_new old new once opens = record {
   each = elim once [ inl same ↦ omega (arith, same) | inr more ↦ omega (arith, more) ];
   once = λ bytes t. once;
@@ -248,8 +248,8 @@ writes_new old new once opens = record {
 opens_from : (flag : Bool) (old new : Standing) → StepsFrom flag false old new → new.writes ≡ count_after_more (openings flag 1) old.writes
 opens_from flag old new s = grind (arith, s)
 
-opt_answered : (again : Bool) (old new : Standing) → StepsAnswered Opt again old new → WritesAtMostOnce old new
-    → ((flag : Bool) → TellsFlag old flag → StepsFrom flag again old new) → WritesByOpening (new_requests_by again) old new
+opt_answered : (again : Bool) (old new : Standing) → StepsAnswered Opt again old new → CellIsWrittenAtMostOnce old new
+    → ((flag : Bool) → TellsFlag old flag → StepsFrom flag again old new) → CellIsWrittenByOpening (new_requests_by again) old new
 opt_answered true old new s once from = writes_none old new s.1
 opt_answered false old new s once from = writes_new old new once (λ flag t. opens_from flag old new (from flag t))
 

@@ -1,9 +1,9 @@
 -- What each exit of a recovery, and of one more request, is told as: whose fault it is, and how often the cell was to be written.
 use Rattle.mm_recovery.proofs.Below.{ℕ, ◌≡◌, ◌≢◌, ◌≤◌, Bool, List, Option, None, Some, Result, Ok, Err, refl, sym, ap, ◌∙◌, arith, Variant}
 use Rattle.mm_recovery.proofs.Below.{Standing, Meaning, Answer, Refusal, Long, CountsHandedFault, fault_of, StoreFault, CountsFailures}
-use Rattle.mm_recovery.proofs.Below.{StoreStanding, PendingRecord, HostFault, Resumed, store_fault_as, refusal_fault, GoesAfterRecord}
-use Rattle.mm_recovery.proofs.Below.{AsksNext, GoesAfterTwo, result_of_start, result_of_keep, GoesAfterAsk, GoesAfterOffer}
-use Rattle.mm_recovery.proofs.Below.{GoesAfterFinding, HostResumes, IsCall, CallWrites, WritesFor, new_requests_by, IsNewOf, RequestWrites}
+use Rattle.mm_recovery.proofs.Below.{StoreStanding, PendingRecord, HostFault, Resumed, store_fault_as, refusal_fault, HostGoesAfterRecord}
+use Rattle.mm_recovery.proofs.Below.{AsksNextRequest, HostGoesAfterTwo, result_of_start, result_of_keep, HostGoesAfterAsk, HostGoesAfterOffer}
+use Rattle.mm_recovery.proofs.Below.{HostGoesAfterFinding, HostResumes, IsCall, CallWrites, CellIsWrittenFor, new_requests_by, IsNewOf, RequestWrites}
 use Rattle.mm_recovery.proofs.Below.{new_requests_at}
 use Rattle.mm_recovery.specs.Blame.{BlamesHostFault, IsNamed}
 use Rattle.mm_recovery.proofs.CellWriting.{AnsweredWrites, LeadsOver, leads_answer, leads_rest, rests}
@@ -36,7 +36,7 @@ new_most again n e = grind (arith, e)
 
 -- a finding counts as its last read
 two_counted : (two : Result (List ℕ) StoreFault) (old middle new : StoreStanding) (result : Result (Option PendingRecord) StoreFault)
-    → CountsFailures old.faults middle.faults two → GoesAfterTwo two middle new result → CountsFailures old.faults new.faults result
+    → CountsFailures old.faults middle.faults two → HostGoesAfterTwo two middle new result → CountsFailures old.faults new.faults result
 two_counted two old middle new result c g = grind (arith, c, g)
 
 module _ (variant : Variant) (meaning : Meaning) (before after : Standing) where
@@ -45,7 +45,7 @@ module _ (variant : Variant) (meaning : Meaning) (before after : Standing) where
     came : CameWrites variant result before after
 
   exit_of : {old new : StoreStanding} {result : Result Resumed HostFault} → BlamesHostFault result before after old new → IsNamed result
-      → (requests : ℕ) → IsNewOf result requests → WritesFor variant requests before after → LeadsBy variant result requests before after
+      → (requests : ℕ) → IsNewOf result requests → CellIsWrittenFor variant requests before after → LeadsBy variant result requests before after
       → Exit old new result
   exit_of blamed named requests is_new writes leads = record {
     told = record { blamed = blamed; named = named };
@@ -54,7 +54,7 @@ module _ (variant : Variant) (meaning : Meaning) (before after : Standing) where
 
   -- a store's fault is told as such, by its count
   stored_exit : (T : Type 0) (why : StoreFault) (old new : StoreStanding) (requests : ℕ) → requests ≤ 1
-      → WritesFor variant requests before after → after.faults ≡ before.faults → CountsFailures {T = T} old.faults new.faults (Err why)
+      → CellIsWrittenFor variant requests before after → after.faults ≡ before.faults → CountsFailures {T = T} old.faults new.faults (Err why)
       → Exit old new (Err (store_fault_as why))
   stored_exit T why old new requests few w s c = grind (arith, few, w, s, c)
 
@@ -86,7 +86,7 @@ module _ (variant : Variant) (meaning : Meaning) (before after : Standing) where
       stored_exit Unit why old new c.requests (new_most answer.again c.requests c.new) c.writes s k
 
   asked_exit : (offer request : List ℕ) (asked : Result Answer Refusal) (first old new : StoreStanding) (result : Result Resumed HostFault)
-      → old.faults ≡ first.faults → IsCall variant meaning before after offer request asked → GoesAfterAsk asked old new result
+      → old.faults ≡ first.faults → IsCall variant meaning before after offer request asked → HostGoesAfterAsk asked old new result
       → Exit first new result
   asked_exit offer request (Err why) first old new result s a g =
       rw g.1 (refused_exit why first new a.faults (λ (e : why ≡ Long). a.short (ap (λ (w : Refusal). Err w) e)) a.counts
@@ -97,13 +97,13 @@ module _ (variant : Variant) (meaning : Meaning) (before after : Standing) where
   -- what waited
   offered_exit : (offer : Result (List ℕ) StoreFault) (old middle new : StoreStanding) (p : PendingRecord)
       (result : Result Resumed HostFault)
-      → CountsFailures old.faults middle.faults offer → GoesAfterOffer variant meaning before after offer middle new p result
+      → CountsFailures old.faults middle.faults offer → HostGoesAfterOffer variant meaning before after offer middle new p result
       → Exit old new result
   offered_exit (Err why) old middle new p result c g = failed_exit (List ℕ) why old middle new result c g
   offered_exit (Ok offer) old middle new p result c g = asked_exit offer p.request g.asked old middle new result c g.asks g.goes
 
   found_exit : (waiting : Result (Option PendingRecord) StoreFault) (old middle new : StoreStanding) (result : Result Resumed HostFault)
-      → CountsFailures old.faults middle.faults waiting → GoesAfterFinding variant meaning before after waiting middle new result
+      → CountsFailures old.faults middle.faults waiting → HostGoesAfterFinding variant meaning before after waiting middle new result
       → Exit old new result
   found_exit (Err why) old middle new result c g = failed_exit (Option PendingRecord) why old middle new result c g
   found_exit (Ok None) old middle new result c g = rw g.1.gives (started_exit g.1.zero old new g.0 (rw (sym c) g.1.reads.counted))
@@ -127,14 +127,14 @@ module _ (variant : Variant) (meaning : Meaning) (before after : Standing) where
   -- one more request
   module _ (old new : StoreStanding) (last : Resumed) (request : List ℕ) (came : Result Resumed HostFault) where
     recorded_exit : (recorded : Result Unit StoreFault) (middle : StoreStanding) → CountsFailures old.faults middle.faults recorded
-        → GoesAfterRecord variant meaning before after recorded middle new last request came → Exit old new came
+        → HostGoesAfterRecord variant meaning before after recorded middle new last request came → Exit old new came
     recorded_exit (Ok it) middle c g = asked_exit _ request g.asked old middle new came c g.asks g.goes
     recorded_exit (Err why) middle c g = failed_exit Unit why old middle new came c g
 
-    pub next_told : AsksNext variant meaning before after old new last request came → Told came before after old new
+    pub next_told : AsksNextRequest variant meaning before after old new last request came → Told came before after old new
     next_told a = (recorded_exit a.recorded a.middle a.records.counted a.goes).told
 
-    pub next_came : AsksNext variant meaning before after old new last request came → CameWrites variant came before after
+    pub next_came : AsksNextRequest variant meaning before after old new last request came → CameWrites variant came before after
     next_came a = (recorded_exit a.recorded a.middle a.records.counted a.goes).came
 
 -- answered calls

@@ -7,7 +7,7 @@ use Rattle.mm_recovery.proofs.Below.{result_of_ending, CallContinues, IsCallOnCo
 use Rattle.mm_recovery.proofs.Below.{AreAsked, AreShown, IsIdle, fault_of, stands_at, bare, asked_for, asked_idle, basic_asked, names_made}
 use Rattle.mm_recovery.proofs.Below.{basic_comes, comes, HistoryGrows, Alike, alike_call, names_after, answered_clean_as, PendingRecord}
 use Rattle.mm_recovery.proofs.Below.{IsRefusedAs, Bool, true, false, map, guard, RegisterEntry, Value, Move, Foreign, Reset}
-use Rattle.mm_recovery.proofs.Below.{history_after_commit, items_of_all, with_last_batch, are_own, has_value, is_empty, life_by, IsAllowed}
+use Rattle.mm_recovery.proofs.Below.{history_after_commit, items_of_all, entries_with_last_batch, are_own, has_value, is_empty, life_by, IsAllowed}
 use Rattle.mm_recovery.proofs.Below.{ask_steps, CallFinding, finding_unless_wanting, is_fresh, state_after_moves, before, AllMay, ask_may}
 use Rattle.mm_recovery.proofs.Below.{last_position, total_of, ◌≤◌}
 use Rattle.mm_call.specs.ShownItems.{standing_items}
@@ -24,7 +24,7 @@ pushed_items : (items : List RegisterEntry) (x : RegisterEntry) → is_empty (it
 pushed_items [] x = refl
 pushed_items (y ∷ items) x = refl
 
-renamed_items : (items : List RegisterEntry) (b : Batch) → is_empty (with_last_batch items b) ≡ false
+renamed_items : (items : List RegisterEntry) (b : Batch) → is_empty (entries_with_last_batch items b) ≡ false
 renamed_items [] b = refl
 renamed_items (x ∷ []) b = refl
 renamed_items (x ∷ y ∷ items) b = refl

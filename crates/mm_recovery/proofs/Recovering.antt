@@ -5,9 +5,9 @@ use Rattle.mm_recovery.proofs.Below.{basic_instance, opt_instance, inr, History,
 use Rattle.mm_recovery.proofs.Below.{batch_answer_of, batch_result_of, AreAsked, fault_of, StepFault, StoreFault, ReadsSlot, WritesSlot}
 use Rattle.mm_recovery.proofs.Below.{slots_with_bytes, StoreStanding, PendingRecord, Slots, slot_front, slots_with, last_position, IsFit}
 use Rattle.mm_recovery.proofs.Below.{HostFault, Resumed, Start, store_fault_as, refusal_fault, IsWaiting, result_of_start, result_of_keep}
-use Rattle.mm_recovery.proofs.Below.{GoesAfterAsk, GoesAfterOffer, GoesAfterFinding, HostResumes, IsCall, offer_slot, IsSnapshotAt, FitsBy}
-use Rattle.mm_recovery.proofs.Below.{IsAskedFor, AnswersAt, CanRecover, IsGrown, AsksIdly, ResumeComesTo, MayHaveCommitted, HostRecovers}
-use Rattle.mm_recovery.proofs.Below.{RecoversTo, one_reading, GoesAfterTwo, GoesAfterThree, FitsHistory, IsWithin}
+use Rattle.mm_recovery.proofs.Below.{HostGoesAfterAsk, HostGoesAfterOffer, HostGoesAfterFinding, HostResumes, IsCall, offer_slot, IsSnapshotAt, FitsBy}
+use Rattle.mm_recovery.proofs.Below.{IsAskedFor, AnswersAt, CanRecover, IsGrown, AsksIdly, ResumeComesTo, RequestMayBeCommitted, HostRecovers}
+use Rattle.mm_recovery.proofs.Below.{RecoversTo, one_reading, HostGoesAfterTwo, HostGoesAfterThree, FitsHistory, IsWithin}
 use Rattle.mm_recovery.specs.LastAnswer.{position_at, snapshot_at}
 use Rattle.mm_recovery.specs.declared.resuming.Resumed.TheVariants.{Answered}
 use Rattle.mm_recovery.proofs.Slots.{IsElsewhere, elsewhere_same, elsewhere_put, seen_put, holds_issued}
@@ -37,12 +37,12 @@ took two three result taken w is e f = grind (arith, is, e, f)
 
 saw_three : (slots : Slots) (two : List ℕ) (three : Result (List ℕ) StoreFault) (old new : StoreStanding)
     (result : Result (Option PendingRecord) StoreFault) → old.slots ≡ Some slots → two ≡ slot_front slots 2 → ReadsSlot 3 old new three
-    → GoesAfterThree two three result → Saw slots old new result
+    → HostGoesAfterThree two three result → Saw slots old new result
 saw_three slots two three old new result t e r g = grind (arith, took, t, e, r, g)
 
 pub saw_two : (slots : Slots) (two : Result (List ℕ) StoreFault) (old middle new : StoreStanding)
     (result : Result (Option PendingRecord) StoreFault) → old.slots ≡ Some slots → ReadsSlot 2 old middle two
-    → GoesAfterTwo two middle new result → Saw slots old new result
+    → HostGoesAfterTwo two middle new result → Saw slots old new result
 saw_two slots two old middle new result t r g = grind (arith, saw_three, t, r, g)
 
 grown_none : (y : History) (waiting : Option PendingRecord) → IsGrown y waiting y
@@ -58,9 +58,9 @@ refused_comes i y slots waiting after why may =
 
 -- a refusal that hands on no device's fault committed nothing
 pub may_commit : (why : Refusal) (broken : StepFault) → fault_of why ≡ Some broken
-    → MayHaveCommitted {T = Resumed} (Err (refusal_fault why))
+    → RequestMayBeCommitted {T = Resumed} (Err (refusal_fault why))
 may_commit why broken has =
-    by_refusal (λ (w : Refusal) (f : HostFault). fault_of w ≡ Some broken → MayHaveCommitted {T = Resumed} (Err f))
+    by_refusal (λ (w : Refusal) (f : HostFault). fault_of w ≡ Some broken → RequestMayBeCommitted {T = Resumed} (Err f))
     (λ e. tt) (λ w n e. rw e refl) why has
 
 -- what stands once the request that waits was asked
@@ -105,7 +105,7 @@ module _ (More : History → Type 0) (all others : List (List ℕ)) (asked : Lis
       (l : LeftBy gives) → IsElsewhere slots other p → kept.slots ≡ Some other → kept.is_honest ≡ true
       → IfOk result (λ resumed. slot_front other (position_at resumed % 2) ≡ snapshot_at resumed)
       → IfOk result (λ resumed. IsSnapshotAt i l.after (snapshot_at resumed) (position_at resumed))
-      → (l.after.batches ≡ y.batches) ⊎ MayHaveCommitted result → ResumeComesTo i y slots (Some p) l.after result
+      → (l.after.batches ≡ y.batches) ⊎ RequestMayBeCommitted result → ResumeComesTo i y slots (Some p) l.after result
       → IfOk result (λ (resumed : Resumed). More l.after) → Recovered More all others asked i y slots (Some p) standing kept result
   settle gives other kept result l e t h n g o c m = (
     record {
@@ -159,13 +159,13 @@ module _ (More : History → Type 0) (all others : List (List ℕ)) (asked : Lis
       (left.1 ∙ ap (slots_with_bytes (answer.position % 2) left.0) t) (w.honest ∙ h) tt tt (inr tt) tt tt
 
   only_by : (why : Refusal) (broken : Option StepFault) → fault_of why ≡ broken → (l : LeftBy (Err why))
-      → (l.after.batches ≡ y.batches) ⊎ MayHaveCommitted {T = Resumed} (Err (refusal_fault why))
+      → (l.after.batches ≡ y.batches) ⊎ RequestMayBeCommitted {T = Resumed} (Err (refusal_fault why))
   only_by why broken e l = grind (arith, may_commit, e, l)
 
   asked_exit : (call : Result Answer Refusal) (old new : StoreStanding) (result : Result Resumed HostFault)
       (l : LeftBy (batch_result_of call))
       → More l.after → IfOk call (λ answer. IsFit (One p.request) (batch_answer_of answer)) → old.is_honest ≡ true → old.slots ≡ Some slots
-      → GoesAfterAsk call old new result → Recovered More all others asked i y slots (Some p) standing new result
+      → HostGoesAfterAsk call old new result → Recovered More all others asked i y slots (Some p) standing new result
   asked_exit (Err why) old new result l m fit h t g =
       rw (g.0, g.1)
       (settle (Err why) slots old (Err (refusal_fault why)) l (elsewhere_same slots p) t h tt tt (only_by why (fault_of why) refl l)
@@ -179,12 +179,12 @@ module _ (More : History → Type 0) (all others : List (List ℕ)) (asked : Lis
   pub ask_exit : (call : Result Answer Refusal) (old new : StoreStanding) (result : Result Resumed HostFault)
       (l : LeftBy (batch_result_of call))
       → More l.after → IfOk call (λ answer. IsFit (One p.request) (batch_answer_of answer)) → old.is_honest ≡ true → old.slots ≡ Some slots
-      → GoesAfterAsk call old new result → Recovered More all others asked i y slots waiting standing new result
+      → HostGoesAfterAsk call old new result → Recovered More all others asked i y slots waiting standing new result
   ask_exit call old new result l m fit h t g =
       rw l.is (asked_exit call old new result l m fit h t g)
 
 pub refusal_told : (call : Result Answer Refusal) (old new : StoreStanding) (result : Result Resumed HostFault)
-    → GoesAfterAsk call old new result → (why : Refusal) → call ≡ Err why → result ≡ Err (refusal_fault why)
+    → HostGoesAfterAsk call old new result → (why : Refusal) → call ≡ Err why → result ≡ Err (refusal_fault why)
 refusal_told call old new result g why e = grind (arith, g, e)
 
 -- What is asked of a start, but for the request that waits: of that where it is asked.
@@ -241,7 +241,7 @@ MadeOf (Ok offer) = Unit {0}
 MadeOf (Err why) = ⊥
 
 abbrev pub IsMade : (variant : Variant) (meaning : Meaning) (before after : Standing) (waiting : Result (Option PendingRecord) StoreFault)
-    (old new : StoreStanding) (result : Result Resumed HostFault) → GoesAfterFinding variant meaning before after waiting old new result
+    (old new : StoreStanding) (result : Result Resumed HostFault) → HostGoesAfterFinding variant meaning before after waiting old new result
     → Type 0
 IsMade variant meaning before after (Ok (Some p)) old new result g = MadeOf g.offer
 IsMade variant meaning before after (Ok None) old new result g = ⊥
@@ -293,7 +293,7 @@ module _ (More : History → Type 0) (variant : Variant) (all others : List (Lis
   offer_exit : (offer : Result (List ℕ) StoreFault) (old middle new : StoreStanding) (p : PendingRecord) (result : Result Resumed HostFault)
       → (MadeOf offer → Made) → (Made → LeadsOn More all others asked variant i y slots can.fits.waiting before after result)
       → can.fits.waiting ≡ Some p → old.slots ≡ Some slots → old.is_honest ≡ true → ReadsSlot (offer_slot p) old middle offer
-      → GoesAfterOffer variant i.meaning before after offer middle new p result → Came new result
+      → HostGoesAfterOffer variant i.meaning before after offer middle new p result → Came new result
   offer_exit (Err why) old middle new p result made leads e t h r g = failed_exit why middle new result (r.slots ∙ t) (r.honest ∙ h) g
   offer_exit (Ok offer) old middle new p result made leads e t h r g =
       let l = leads (made tt) p g.asked e (refusal_told g.asked middle new result g.goes)
@@ -316,7 +316,7 @@ module _ (More : History → Type 0) (variant : Variant) (all others : List (Lis
 
   found_exit : (waiting : Result (Option PendingRecord) StoreFault) (middle new : StoreStanding) (result : Result Resumed HostFault)
       → (can.fits.waiting ≡ None → after ≡ before → More y) → Saw slots first middle waiting
-      → (g : GoesAfterFinding variant i.meaning before after waiting middle new result)
+      → (g : HostGoesAfterFinding variant i.meaning before after waiting middle new result)
       → (IsMade variant i.meaning before after waiting middle new result g → Made)
       → (Made → LeadsOn More all others asked variant i y slots can.fits.waiting before after result) → Came new result
   found_exit (Err why) middle new result m s g made leads = failed_exit why middle new result s.told (s.honest ∙ can.honest) g

@@ -8,7 +8,7 @@ use Rattle.mm_recovery.proofs.Below.{StandsFor, cell_of, issued_bytes, Instance,
 use Rattle.mm_recovery.proofs.Below.{CountsFailures, slots_with_bytes, InitFault, Devices, LooksAtCell, instance_from, SlotPut, first_puts}
 use Rattle.mm_recovery.proofs.Below.{PutsAll, result_of_write, GoesAfterAllPuts, SetsUp, GoesAfterTaking, GoesAfterLooking, InitGoes}
 use Rattle.mm_recovery.proofs.Below.{first_history_on, ShowsValues, InstanceBegins, InitLeaves, TellsUse, BlamesDevice, take-nil, take_all}
-use Rattle.mm_recovery.proofs.Below.{Contains, start_message, Batch, basic_instance, opt_instance, IsSound, IsWithin, ReadsPending}
+use Rattle.mm_recovery.proofs.Below.{Contains, start_message, Batch, basic_instance, opt_instance, IsSound, IsWithin, ReadsPendingRecord}
 use Rattle.mm_recovery.proofs.Below.{longest_slot, slot_front, reads_none-short, longest_slot-is, IsWaiting, first_slots, IsFirstStore}
 use Rattle.std.proofs.lemmas.List.{length-take}
 use Rattle.std.specs.List.{fold}
@@ -17,7 +17,7 @@ use Rattle.mm_base.specs.declared.fault.Failed.{Failed}
 use Rattle.mm_model.specs.HistoryWords.{values_of as entry_values}
 use Rattle.mm_model.specs.ChainLaws.{length-anchor_of, length-summary_of}
 use Rattle.mm_model.specs.DigestLaws.{register_folds}
-use Rattle.mm_store.specs.UnsyncedSlots.{UnsyncedSlots, unsynced_with, unsynced_with_mark}
+use Rattle.mm_store.specs.UnsyncedSlots.{UnsyncedSlots, unsynced_slots_with, unsynced_slots_with_mark}
 use Rattle.mm_recovery.specs.FirstStart.{CountRisesIf, is_platforms, is_sources, is_stores}
 use Rattle.mm_recovery.specs.InitFaults.{init_fault_as}
 use Rattle.mm_model.specs.FitLaws.{sealed_snapshot_of-most}
@@ -65,7 +65,7 @@ first_short variant meaning key barrier snapshot lawful e =
     (rw e (sealed_snapshot_of-most _ _ ((first_issued variant meaning key barrier [] lawful).formed (omega arith)))) refl
 
 -- nothing waits in empty slots
-empty_reads : (slot : ℕ) → ReadsPending slot (take longest_slot []) None
+empty_reads : (slot : ℕ) → ReadsPendingRecord slot (take longest_slot []) None
 empty_reads slot =
     rw (take-nil longest_slot) (reads_none-short slot [] (omega arith))
 
@@ -111,7 +111,7 @@ record ArePut (puts : List SlotPut) (old new : StoreStanding) (stored : Result U
   told : (slots : Slots) → stored ≡ Ok tt → old.is_honest ≡ true → old.slots ≡ Some slots
       → new.slots ≡ Some (fold (λ (s : Slots) (put : SlotPut). slots_with s put.0 put.1) slots puts)
   synced : (marks : UnsyncedSlots) → stored ≡ Ok tt → old.unsynced ≡ Some marks
-      → new.unsynced ≡ Some (fold (λ (m : UnsyncedSlots) (put : SlotPut). unsynced_with m put.0 false) marks puts)
+      → new.unsynced ≡ Some (fold (λ (m : UnsyncedSlots) (put : SlotPut). unsynced_slots_with m put.0 false) marks puts)
 
 are_put : (puts : List SlotPut) (old new : StoreStanding) (stored : Result Unit StoreFault) → PutsAll puts old new stored
     → ArePut puts old new stored
@@ -123,7 +123,7 @@ are_put (put ∷ puts) old new stored (middle, Ok it, w, p) =
       counted = rw (sym w.counted) r.counted;
       honest = r.honest ∙ w.honest;
       told = λ slots e h t. r.told (slots_with slots put.0 put.1) e (w.honest ∙ h) (w.leaves h ∙ ap (slots_with_bytes put.0 put.1) t);
-      synced = λ marks e t. r.synced (unsynced_with marks put.0 false) e (w.synced ∙ ap (unsynced_with_mark put.0 false) t);
+      synced = λ marks e t. r.synced (unsynced_slots_with marks put.0 false) e (w.synced ∙ ap (unsynced_slots_with_mark put.0 false) t);
     }
 are_put (put ∷ puts) old new stored (middle, Err why, w, p) =
     rw (p.0, p.1)

@@ -1,7 +1,7 @@
 -- The words that the definitions of this crate take from the crates below.
 pub use Rattle.mm_base.specs.Faults.{CountsFaults, CountRose}
 pub use Rattle.mm_base.specs.Limits.{last_position, longest_request}
-pub use Rattle.mm_base.specs.Lines.{MayGrow}
+pub use Rattle.mm_base.specs.Lines.{IsLineFront}
 pub use Rattle.mm_base.specs.declared.fault.Failed.{Failed}
 pub use Rattle.mm_digest.specs.Messages.{start_message}
 pub use Rattle.mm_digest.specs.declared.variant.Variant.{Variant}
@@ -31,17 +31,17 @@ pub use Rattle.mm_call.specs.Answers.{answer_on}
 pub use Rattle.mm_call.specs.CallPremises.{IsWithin, right_messages}
 pub use Rattle.mm_call.specs.CallOnCourse.{IsCallOnCourse}
 pub use Rattle.mm_call.specs.HistoryGrowth.{EndsWith}
-pub use Rattle.mm_call.specs.Counts.{WritesAtMostOnce}
+pub use Rattle.mm_call.specs.Counts.{CellIsWrittenAtMostOnce}
 pub use Rattle.mm_call.specs.Courses.{has_commit}
 pub use Rattle.mm_call.specs.CallFinding.{right_content}
-pub use Rattle.mm_call.specs.Untouched.{CountsHandedFault, LeavesUntouched, batch_answer_of, batch_result_of}
+pub use Rattle.mm_call.specs.Untouched.{CountsHandedFault, CallLeavesUntouched, batch_answer_of, batch_result_of}
 pub use Rattle.mm_call.specs.Premises.{AreShown, IsIdle}
 pub use Rattle.mm_call.specs.Refusals.{fault_in, fault_of}
 pub use Rattle.mm_call.specs.Standing.{count_after_more, instance_by}
 pub use Rattle.mm_call.specs.ShownItems.{standing_items}
 pub use Rattle.mm_store.specs.Calls.{ReadsSlot, WritesSlot}
 pub use Rattle.mm_store.specs.StoreStanding.{StoreStanding}
-pub use Rattle.mm_store.specs.PendingRecord.{PendingRecord, ReadsPending, pending_spelling}
+pub use Rattle.mm_store.specs.PendingRecord.{PendingRecord, ReadsPendingRecord, pending_spelling}
 pub use Rattle.mm_store.specs.Slots.{Slots, slot_front}
 pub use Rattle.mm_store.specs.UnsyncedSlots.{UnsyncedSlots, synced_slots}
 pub use Rattle.mm_store.specs.declared.fault.StoreFault.{StoreFault}

@@ -1,7 +1,7 @@
 -- How often the cell is to be written: by one call, and by calls that are made one after another.
 use Rattle.std.specs.Prelude.{◌≡◌, ◌+◌, ◌≤◌, ℕ, zero, suc, Bool, true, false, List, Option, None, Some, Result, Ok, Err}
 use Rattle.mm_recovery.specs.Below.{Variant, Basic, Opt, IsCell, cell_spelling, Cell, Standing, StepFault, Answer, Refusal, fault_of}
-use Rattle.mm_recovery.specs.Below.{count_after_more, WritesAtMostOnce}
+use Rattle.mm_recovery.specs.Below.{count_after_more, CellIsWrittenAtMostOnce}
 use Rattle.mm_recovery.specs.declared.fault.HostFault.{HostFault}
 use Rattle.mm_recovery.specs.declared.fault.HostFault.TheVariants.{Refused}
 use Rattle.mm_recovery.specs.declared.resuming.Resumed.{Resumed}
@@ -27,16 +27,16 @@ is_open_after flag requests = true
 -- In Opt, for so many new requests: over any platform the cell was to be written at most once for
 -- each. Over one that tells its cell, at most once in all; and by the cell's flag, exactly for the
 -- request that opened a segment.
-pub record WritesByOpening (requests : ℕ) (before after : Standing) : Type 0 where
+pub record CellIsWrittenByOpening (requests : ℕ) (before after : Standing) : Type 0 where
   pub each : after.writes ≤ before.writes + requests
-  pub once : (bytes : List ℕ) → before.cell ≡ Some bytes → WritesAtMostOnce before after
+  pub once : (bytes : List ℕ) → before.cell ≡ Some bytes → CellIsWrittenAtMostOnce before after
   pub opens : (flag : Bool) → TellsFlag before flag
       → after.writes ≡ count_after_more (openings flag requests) before.writes
 
 -- In Basic it was to be written once for each.
-abbrev pub WritesFor : Variant → ℕ → Standing → Standing → Type 0
-WritesFor Basic requests before after = after.writes ≡ count_after_more requests before.writes
-WritesFor Opt requests before after = WritesByOpening requests before after
+abbrev pub CellIsWrittenFor : Variant → ℕ → Standing → Standing → Type 0
+CellIsWrittenFor Basic requests before after = after.writes ≡ count_after_more requests before.writes
+CellIsWrittenFor Opt requests before after = CellIsWrittenByOpening requests before after
 
 -- a repeat is no new request
 abbrev pub new_requests_by : Bool → ℕ
@@ -58,17 +58,17 @@ pub record LeavesFlag (requests : ℕ) (before after : Standing) : Type 0 where
   pub finds : (bytes : List ℕ) → before.cell ≡ Some bytes → (flag : Bool) × TellsFlag before flag
   pub leaves : (flag : Bool) → TellsFlag before flag → TellsFlag after (is_open_after flag requests)
 
-abbrev pub LeavesOpen : Variant → Result Answer Refusal → ℕ → Standing → Standing → Type 0
-LeavesOpen Opt (Ok answer) requests before after = LeavesFlag requests before after
-LeavesOpen variant result requests before after = Unit {0}
+abbrev pub AnswerLeavesFlag : Variant → Result Answer Refusal → ℕ → Standing → Standing → Type 0
+AnswerLeavesFlag Opt (Ok answer) requests before after = LeavesFlag requests before after
+AnswerLeavesFlag variant result requests before after = Unit {0}
 
 -- One call, which commits a new request or none.
 pub record CallWrites (variant : Variant) (result : Result Answer Refusal)
     (before after : Standing) : Type 0 where
   pub requests : ℕ
   pub new : IsNewIn result requests
-  pub writes : WritesFor variant requests before after
-  pub leaves : LeavesOpen variant result requests before after
+  pub writes : CellIsWrittenFor variant requests before after
+  pub leaves : AnswerLeavesFlag variant result requests before after
 
 -- whether what was answered last is new
 abbrev pub new_requests_at : Resumed → ℕ
@@ -88,4 +88,4 @@ pub record RequestWrites (variant : Variant) (before after : Standing)
     (result : Result Resumed HostFault) : Type 0 where
   pub requests : ℕ
   pub new : IsNewOf result requests
-  pub writes : WritesFor variant requests before after
+  pub writes : CellIsWrittenFor variant requests before after

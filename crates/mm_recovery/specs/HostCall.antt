@@ -1,6 +1,6 @@
 -- One call of either variant.
 use Rattle.std.specs.Prelude.{◌≢◌, ℕ, List, Result, Err, IfOk}
-use Rattle.mm_recovery.specs.Below.{Variant, Standing, One, Meaning, IsFit, Answer, Refusal, Long, IsCallOnCourse, LeavesUntouched}
+use Rattle.mm_recovery.specs.Below.{Variant, Standing, One, Meaning, IsFit, Answer, Refusal, Long, IsCallOnCourse, CallLeavesUntouched}
 use Rattle.mm_recovery.specs.Below.{CountsHandedFault, batch_answer_of, batch_result_of, fault_in}
 use Rattle.mm_recovery.specs.CellWrites.{CallWrites}
 
@@ -11,7 +11,7 @@ pub record IsCall (variant : Variant) (meaning : Meaning) (old new : Standing)
     (offer request : List ℕ)
     (result : Result Answer Refusal) : Type 0 where
   pub goes : IsCallOnCourse variant meaning old new offer (One request) (batch_result_of result)
-  pub untouched : LeavesUntouched (batch_result_of result) old new
+  pub untouched : CallLeavesUntouched (batch_result_of result) old new
   pub faults : CountsHandedFault (fault_in result) old.faults new.faults
   pub short : result ≢ Err Long
   pub fits : IfOk result (λ answer. IsFit (One request) (batch_answer_of answer))

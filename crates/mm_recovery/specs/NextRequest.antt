@@ -6,22 +6,22 @@ use Rattle.mm_recovery.specs.declared.fault.HostFault.{HostFault}
 use Rattle.mm_recovery.specs.declared.resuming.Resumed.{Resumed}
 use Rattle.mm_recovery.specs.Faults.{store_fault_as}
 use Rattle.mm_recovery.specs.LastAnswer.{position_at, snapshot_at}
-use Rattle.mm_recovery.specs.Resumption.{AsksAndKeeps}
+use Rattle.mm_recovery.specs.Resumption.{AsksAndKeepsAnswer}
 
 -- the record of a request, which is to take the position after the last one
 abbrev pub record_for : Resumed → List ℕ → PendingRecord
 record_for last request = record { position = position_at last + 1; request = request }
 
 -- The request is asked with the last snapshot, and the answer's snapshot is kept.
-abbrev pub GoesAfterRecord : Variant → Meaning → Standing → Standing → Result Unit StoreFault
+abbrev pub HostGoesAfterRecord : Variant → Meaning → Standing → Standing → Result Unit StoreFault
     → StoreStanding → StoreStanding → Resumed → List ℕ
     → Result Resumed HostFault → Type 0
-GoesAfterRecord variant meaning before after (Err why) old new last request result =
+HostGoesAfterRecord variant meaning before after (Err why) old new last request result =
     (after ≡ before) × (new ≡ old) × (result ≡ Err (store_fault_as why))
-GoesAfterRecord variant meaning before after (Ok _) old new last request result =
-    AsksAndKeeps variant meaning before after old new (snapshot_at last) request result
+HostGoesAfterRecord variant meaning before after (Ok _) old new last request result =
+    AsksAndKeepsAnswer variant meaning before after old new (snapshot_at last) request result
 
-pub record AsksNext (variant : Variant) (meaning : Meaning) (before after : Standing)
+pub record AsksNextRequest (variant : Variant) (meaning : Meaning) (before after : Standing)
     (old new : StoreStanding) (last : Resumed)
     (request : List ℕ)
     (result : Result Resumed HostFault) : Type 0 where
@@ -29,4 +29,4 @@ pub record AsksNext (variant : Variant) (meaning : Meaning) (before after : Stan
   pub recorded : Result Unit StoreFault
   pub records : WritesSlot (2 + (position_at last + 1) % 2)
       (pending_spelling (record_for last request)) old middle recorded
-  pub goes : GoesAfterRecord variant meaning before after recorded middle new last request result
+  pub goes : HostGoesAfterRecord variant meaning before after recorded middle new last request result

@@ -79,9 +79,9 @@ ResumeComesTo i y slots waiting after result = Unit {0}
 
 -- A request may have been committed where it is answered, and where memory, the store or a device
 -- failed.
-abbrev pub MayHaveCommitted : {T : Type 0} → Result T HostFault → Type 0
-MayHaveCommitted (Err (Refused why)) = IsSome (fault_of why)
-MayHaveCommitted result = Unit {0}
+abbrev pub RequestMayBeCommitted : {T : Type 0} → Result T HostFault → Type 0
+RequestMayBeCommitted (Err (Refused why)) = IsSome (fault_of why)
+RequestMayBeCommitted result = Unit {0}
 
 -- Whatever it gives, the platform stands for a history that grew by the request that waits or by
 -- nothing, and the slots fit that one; so it may be called again. What was asked of the history
@@ -95,7 +95,7 @@ pub record RecoversTo (all others : List (List ℕ)) (asked : List Batch) (i : I
   pub stands : StandsFor i standing after
   pub within : IsWithin all others asked i after
   pub grown : IsGrown y waiting after
-  pub only : (after.batches ≡ y.batches) ⊎ MayHaveCommitted result
+  pub only : (after.batches ≡ y.batches) ⊎ RequestMayBeCommitted result
   pub slots_after : Slots
   pub told : kept.slots ≡ Some slots_after
   pub fits : FitsHistory i slots_after after

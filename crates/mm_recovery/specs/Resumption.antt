@@ -6,33 +6,33 @@ use Rattle.mm_recovery.specs.declared.fault.HostFault.{HostFault}
 use Rattle.mm_recovery.specs.declared.resuming.Resumed.{Resumed}
 use Rattle.mm_recovery.specs.declared.resuming.Resumed.TheVariants.{Start, Answered}
 use Rattle.mm_recovery.specs.Faults.{store_fault_as, refusal_fault}
-use Rattle.mm_recovery.specs.WaitingRequest.{TakesWaiting}
+use Rattle.mm_recovery.specs.WaitingRequest.{TakesWaitingRequest}
 use Rattle.mm_recovery.specs.HostCall.{IsCall}
 
 -- Slots 2 and 3 are read, and the later record's request is taken.
-abbrev pub GoesAfterThree : List ℕ → Result (List ℕ) StoreFault
+abbrev pub HostGoesAfterThree : List ℕ → Result (List ℕ) StoreFault
     → Result (Option PendingRecord) StoreFault
     → Type 0
-GoesAfterThree two (Err why) result = result ≡ Err why
-GoesAfterThree two (Ok three) result = TakesWaiting two three result
+HostGoesAfterThree two (Err why) result = result ≡ Err why
+HostGoesAfterThree two (Ok three) result = TakesWaitingRequest two three result
 
-pub record ReadsThree (two : List ℕ) (old new : StoreStanding)
+pub record ReadsSlotThree (two : List ℕ) (old new : StoreStanding)
     (result : Result (Option PendingRecord) StoreFault) : Type 0 where
   pub three : Result (List ℕ) StoreFault
   pub reads : ReadsSlot 3 old new three
-  pub goes : GoesAfterThree two three result
+  pub goes : HostGoesAfterThree two three result
 
-abbrev pub GoesAfterTwo : Result (List ℕ) StoreFault → StoreStanding → StoreStanding
+abbrev pub HostGoesAfterTwo : Result (List ℕ) StoreFault → StoreStanding → StoreStanding
     → Result (Option PendingRecord) StoreFault → Type 0
-GoesAfterTwo (Err why) old new result = (new ≡ old) × (result ≡ Err why)
-GoesAfterTwo (Ok two) old new result = ReadsThree two old new result
+HostGoesAfterTwo (Err why) old new result = (new ≡ old) × (result ≡ Err why)
+HostGoesAfterTwo (Ok two) old new result = ReadsSlotThree two old new result
 
-pub record FindsWaiting (old new : StoreStanding)
+pub record FindsWaitingRequest (old new : StoreStanding)
     (result : Result (Option PendingRecord) StoreFault) : Type 0 where
   pub middle : StoreStanding
   pub two : Result (List ℕ) StoreFault
   pub reads : ReadsSlot 2 old middle two
-  pub goes : GoesAfterTwo two middle new result
+  pub goes : HostGoesAfterTwo two middle new result
 
 -- Where nothing waits, slot 0 is read.
 abbrev pub result_of_start : Result (List ℕ) StoreFault → Result Resumed HostFault
@@ -57,50 +57,50 @@ pub record KeepsAnswer (answer : Answer) (old new : StoreStanding)
   pub gives : result ≡ result_of_keep answer written
 
 -- A request is asked, and the answer's snapshot is kept.
-abbrev pub GoesAfterAsk : Result Answer Refusal → StoreStanding → StoreStanding
+abbrev pub HostGoesAfterAsk : Result Answer Refusal → StoreStanding → StoreStanding
     → Result Resumed HostFault → Type 0
-GoesAfterAsk (Err why) old new result = (new ≡ old) × (result ≡ Err (refusal_fault why))
-GoesAfterAsk (Ok answer) old new result = KeepsAnswer answer old new result
+HostGoesAfterAsk (Err why) old new result = (new ≡ old) × (result ≡ Err (refusal_fault why))
+HostGoesAfterAsk (Ok answer) old new result = KeepsAnswer answer old new result
 
-pub record AsksAndKeeps (variant : Variant) (meaning : Meaning) (before after : Standing)
+pub record AsksAndKeepsAnswer (variant : Variant) (meaning : Meaning) (before after : Standing)
     (old new : StoreStanding) (offer request : List ℕ)
     (result : Result Resumed HostFault) : Type 0 where
   pub asked : Result Answer Refusal
   pub asks : IsCall variant meaning before after offer request asked
-  pub goes : GoesAfterAsk asked old new result
+  pub goes : HostGoesAfterAsk asked old new result
 
 -- The request that waits is asked with the snapshot before its position.
-abbrev pub GoesAfterOffer : Variant → Meaning → Standing → Standing → Result (List ℕ) StoreFault
+abbrev pub HostGoesAfterOffer : Variant → Meaning → Standing → Standing → Result (List ℕ) StoreFault
     → StoreStanding → StoreStanding → PendingRecord
     → Result Resumed HostFault → Type 0
-GoesAfterOffer variant meaning before after (Err why) old new p result =
+HostGoesAfterOffer variant meaning before after (Err why) old new p result =
     (after ≡ before) × (new ≡ old) × (result ≡ Err (store_fault_as why))
-GoesAfterOffer variant meaning before after (Ok offer) old new p result =
-    AsksAndKeeps variant meaning before after old new offer p.request result
+HostGoesAfterOffer variant meaning before after (Ok offer) old new p result =
+    AsksAndKeepsAnswer variant meaning before after old new offer p.request result
 
-pub record RepeatsPending (variant : Variant) (meaning : Meaning) (before after : Standing)
+pub record RepeatsPendingRecord (variant : Variant) (meaning : Meaning) (before after : Standing)
     (old new : StoreStanding) (p : PendingRecord)
     (result : Result Resumed HostFault) : Type 0 where
   pub middle : StoreStanding
   pub offer : Result (List ℕ) StoreFault
   pub reads : ReadsSlot ((p.position - 1) % 2) old middle offer
-  pub goes : GoesAfterOffer variant meaning before after offer middle new p result
+  pub goes : HostGoesAfterOffer variant meaning before after offer middle new p result
 
 -- The call: it finds what waits, and begins with the first snapshot or repeats the request.
-abbrev pub GoesAfterFinding : Variant → Meaning → Standing → Standing
+abbrev pub HostGoesAfterFinding : Variant → Meaning → Standing → Standing
     → Result (Option PendingRecord) StoreFault → StoreStanding → StoreStanding
     → Result Resumed HostFault → Type 0
-GoesAfterFinding variant meaning before after (Err why) old new result =
+HostGoesAfterFinding variant meaning before after (Err why) old new result =
     (after ≡ before) × (new ≡ old) × (result ≡ Err (store_fault_as why))
-GoesAfterFinding variant meaning before after (Ok None) old new result =
+HostGoesAfterFinding variant meaning before after (Ok None) old new result =
     (after ≡ before) × StartsFromSlot old new result
-GoesAfterFinding variant meaning before after (Ok (Some p)) old new result =
-    RepeatsPending variant meaning before after old new p result
+HostGoesAfterFinding variant meaning before after (Ok (Some p)) old new result =
+    RepeatsPendingRecord variant meaning before after old new p result
 
 pub record HostResumes (variant : Variant) (meaning : Meaning) (before after : Standing)
     (old new : StoreStanding)
     (result : Result Resumed HostFault) : Type 0 where
   pub middle : StoreStanding
   pub waiting : Result (Option PendingRecord) StoreFault
-  pub finds : FindsWaiting old middle waiting
-  pub goes : GoesAfterFinding variant meaning before after waiting middle new result
+  pub finds : FindsWaitingRequest old middle waiting
+  pub goes : HostGoesAfterFinding variant meaning before after waiting middle new result

@@ -1,14 +1,14 @@
 //! Asking the next request, with its records in the store.
 
 ghost use Rattle.std.specs.Prelude.{◌≡◌, ◌+◌, ◌≤◌, ◌%◌, IfOk};
-ghost use Rattle.mm_base.specs.Lines.{MayGrow};
+ghost use Rattle.mm_base.specs.Lines.{IsLineFront};
 ghost use Rattle.mm_base.specs.Limits.{last_position, longest_request};
 ghost use Rattle.mm_store.specs.Calls.{WritesSlot};
 ghost use Rattle.mm_store.specs.PendingRecord.{pending_spelling};
 ghost use Rattle.mm_recovery.specs.Blame.{BlamesHostFault, IsNamed};
 ghost use Rattle.mm_recovery.specs.CellWrites.{RequestWrites};
 ghost use Rattle.mm_recovery.specs.LastAnswer.{IsSized};
-ghost use Rattle.mm_recovery.specs.NextRequest.{AsksNext};
+ghost use Rattle.mm_recovery.specs.NextRequest.{AsksNextRequest};
 
 use crate::fault::HostFault;
 use crate::hosted::HostedModule;
@@ -32,8 +32,8 @@ pub fn ask_next<M: Module, P: Platform, T: Store>(
     request: &[u8],
 ) -> Result<Resumed, HostFault>
     requires sized { IsSized last.now }
-    requires line { MayGrow longest_request request.now }
-    ensures asks { AsksNext hosted.now.variant (M.meaning hosted.now.«module».now)
+    requires line { IsLineFront longest_request request.now }
+    ensures asks { AsksNextRequest hosted.now.variant (M.meaning hosted.now.«module».now)
         (P.standing platform.old) (P.standing platform.new) (T.kept store.old) (T.kept store.new)
         last.now request.now result }
     ensures faults { BlamesHostFault result (P.standing platform.old) (P.standing platform.new)
@@ -56,8 +56,8 @@ fn record_and_ask<M: Module, P: Platform, T: Store>(
     request: &[u8],
 ) -> Result<Resumed, HostFault>
     requires sized { IsSized last.now }
-    requires line { MayGrow longest_request request.now }
-    ensures asks { AsksNext hosted.now.variant (M.meaning hosted.now.«module».now)
+    requires line { IsLineFront longest_request request.now }
+    ensures asks { AsksNextRequest hosted.now.variant (M.meaning hosted.now.«module».now)
         (P.standing platform.old) (P.standing platform.new) (T.kept store.old) (T.kept store.new)
         last.now request.now result }
     ensures sized { IfOk result IsSized }
@@ -77,7 +77,7 @@ fn write_record<T: Store>(
 ) -> Result<(), StoreFault>
     requires least { 1 ≤ position }
     requires most { position ≤ last_position + 1 }
-    requires line { MayGrow longest_request request.now }
+    requires line { IsLineFront longest_request request.now }
     ensures { WritesSlot (2 + position % 2)
         (pending_spelling (record { position = position; request = request.now }))
         (T.kept store.old) (T.kept store.new) result }

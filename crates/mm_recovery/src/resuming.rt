@@ -7,7 +7,7 @@ ghost use Rattle.mm_store.specs.declared.store.TheConstants.{LONGEST_SLOT};
 ghost use Rattle.mm_recovery.specs.WaitingRequest.{IsAskable};
 ghost use Rattle.mm_recovery.specs.Blame.{BlamesHostFault, IsNamed};
 ghost use Rattle.mm_recovery.specs.Recovery.{HostRecovers};
-ghost use Rattle.mm_recovery.specs.Resumption.{StartsFromSlot, RepeatsPending, AsksAndKeeps, KeepsAnswer, HostResumes};
+ghost use Rattle.mm_recovery.specs.Resumption.{StartsFromSlot, RepeatsPendingRecord, AsksAndKeepsAnswer, KeepsAnswer, HostResumes};
 ghost use Rattle.mm_recovery.specs.LastAnswer.{IsSized};
 ghost use Rattle.mm_recovery.specs.CellWrites.{RequestWrites};
 
@@ -121,7 +121,7 @@ fn repeat<M: Module, P: Platform, T: Store>(
     waiting: &WaitingRequest,
 ) -> Result<Resumed, HostFault>
     requires { IsAskable waiting.now }
-    ensures { RepeatsPending hosted.now.variant (M.meaning hosted.now.«module».now)
+    ensures { RepeatsPendingRecord hosted.now.variant (M.meaning hosted.now.«module».now)
         (P.standing platform.old) (P.standing platform.new) (T.kept store.old) (T.kept store.new)
         waiting.now result }
 {
@@ -147,7 +147,7 @@ pub fn ask_and_keep<M: Module, P: Platform, T: Store>(
     request: &[u8],
 ) -> Result<Resumed, HostFault>
     requires { is_long (One request.now) ≡ false }
-    ensures asks { AsksAndKeeps hosted.now.variant (M.meaning hosted.now.«module».now)
+    ensures asks { AsksAndKeepsAnswer hosted.now.variant (M.meaning hosted.now.«module».now)
         (P.standing platform.old) (P.standing platform.new) (T.kept store.old) (T.kept store.new)
         offer.now request.now result }
 {

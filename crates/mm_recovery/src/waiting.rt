@@ -4,8 +4,8 @@ ghost use Rattle.std.specs.Prelude.{◌≡◌, ◌+◌, ◌^◌, IfOk, IfSome};
 ghost use Rattle.std.specs.Option.{option_map};
 ghost use Rattle.mm_store.specs.StoreStanding.{StoreStanding};
 ghost use Rattle.mm_store.specs.Records.{pending_of};
-ghost use Rattle.mm_recovery.specs.WaitingRequest.{IsAskable, TakesWaiting, later_record};
-ghost use Rattle.mm_recovery.specs.Resumption.{FindsWaiting};
+ghost use Rattle.mm_recovery.specs.WaitingRequest.{IsAskable, TakesWaitingRequest, later_record};
+ghost use Rattle.mm_recovery.specs.Resumption.{FindsWaitingRequest};
 
 use mm_base::Bytes;
 use mm_store::{PendingRequest, Store, StoreFault, read_pending};
@@ -33,7 +33,7 @@ pub fn find_waiting<T: Store>(
     alloc: Global,
     store: &mut T,
 ) -> Result<Option<WaitingRequest>, StoreFault>
-    ensures finds { FindsWaiting (T.kept store.old) (T.kept store.new) result }
+    ensures finds { FindsWaitingRequest (T.kept store.old) (T.kept store.new) result }
     ensures askable { IfOk result (λ waiting. IfSome waiting IsAskable) }
 {
     let two = store.read(alloc, 2)?;
@@ -43,7 +43,7 @@ pub fn find_waiting<T: Store>(
 
 // The request of the later valid record in these bytes of slots 2 and 3.
 fn take_later(alloc: Global, two: &[u8], three: &[u8]) -> Result<Option<WaitingRequest>, StoreFault>
-    ensures takes { TakesWaiting two.now three.now result }
+    ensures takes { TakesWaitingRequest two.now three.now result }
     ensures askable { IfOk result (λ waiting. IfSome waiting IsAskable) }
 {
     let Some(pending) = later(read_pending(2, two), read_pending(3, three)) else {

@@ -14,7 +14,7 @@ pub use Rattle.mm_schedule.specs.declared.header.Header.{Header}
 pub use Rattle.mm_schedule.specs.declared.reply.Reply.{Reply}
 pub use Rattle.mm_schedule.proofs.Above.{promises-kept}
 pub use Rattle.mm_outcome.specs.Folds.{course_of, RunOutcome, outcome_of_events, outcome_by_digests}
-pub use Rattle.mm_outcome.specs.WorldState.{WorldFollows, world_after_reading, WorldState, instance_of, EventWantsMemory, world_of}
+pub use Rattle.mm_outcome.specs.WorldState.{WorldFollows, world_after_reading, WorldState, instance_of, WorldLacksMemory, world_of}
 pub use Rattle.mm_outcome.proofs.Above.{meaning_by}
 pub use Rattle.mm_world.proofs.Above.{count_none}
 pub use Rattle.mm_play.proofs.Above.{events_err, events_ok, plays_err, unrefused}

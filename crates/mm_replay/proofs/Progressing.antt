@@ -1,7 +1,7 @@
 -- What an event leaves of a replay.
 use Rattle.mm_replay.proofs.Below.{◌≡◌, ◌∙◌, ◌+◌, ◌-◌, ◌^◌, ◌≤◌, ◌<◌, ℕ, List, length, Some, inl, inr, refl, ap, subst, arith, Meddle, Stop}
 use Rattle.mm_replay.proofs.Below.{reading_steps, course_of, count_none, Event, Ask, Power, Reply, Digests, WorldState, instance_of}
-use Rattle.mm_replay.proofs.Below.{world_after_reading, WorldFollows, EventWantsMemory}
+use Rattle.mm_replay.proofs.Below.{world_after_reading, WorldFollows, WorldLacksMemory}
 use Rattle.mm_replay.specs.ReplayEvents.{replay_state_in, KeepsWorld, ReplayLacksMemory}
 use Rattle.mm_replay.specs.Schedule.{replay_state_after, ReplayState, replay_steps}
 use Rattle.mm_schedule.specs.Grammar.{event_at}
@@ -35,7 +35,7 @@ read_stays old new meddles stop e =
           ∙ count_none i (moves_seen fates (reading_steps i.variant) 1) old.digests (seen_none fates (reading_steps i.variant) 1);
     }
 
-pub stays : (event : Event) (old new : WorldState) → EventWantsMemory event old new → Stays old new
+pub stays : (event : Event) (old new : WorldState) → WorldLacksMemory event old new → Stays old new
 stays (Ask meddles stop offer b) old new w = elim w [ inl e ↦ same_stays old new e | inr e ↦ read_stays old new meddles stop e ]
 stays Power old new e = absurd e
 stays event old new e = same_stays old new e
@@ -55,7 +55,7 @@ module _ (old new : WorldState) (event : Event) (said : Reply) (events : ℕ) (f
   stands_after = λ j. record { header = f.header j; digests = same j; issued = f.issued j; events = events + 1 }
 
 -- where memory was wanting nothing is issued or committed
-pub keeps_still : (event : Event) (old new : WorldState) (events : ℕ) → KeepsWorld old events → EventWantsMemory event old new
+pub keeps_still : (event : Event) (old new : WorldState) (events : ℕ) → KeepsWorld old events → WorldLacksMemory event old new
     → KeepsWorld new events
 keeps_still event old new events k w =
     let s = stays event old new w in
@@ -66,7 +66,7 @@ keeps_still event old new events k w =
     }
 
 pub event_wants : (old : ReplayState) (event : Event) (was now : WorldState) (events : ℕ) → replay_state_in was events ≡ old
-    → EventWantsMemory event was now
+    → WorldLacksMemory event was now
     → ReplayLacksMemory old event (replay_state_in now events)
 event_wants old event was now events view w =
     subst (λ (r : ReplayState). ReplayLacksMemory r event (replay_state_in now events)) view (was, now, refl, w, refl)

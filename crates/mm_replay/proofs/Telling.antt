@@ -16,7 +16,7 @@ use Rattle.mm_play.specs.HeadingStep.{HeadingStep, Begins}
 use Rattle.mm_play.specs.StageShows.{state_behind_events, heading_step_by, replies, StageShows}
 use Rattle.mm_schedule.specs.Headers.{header_at}
 use Rattle.mm_schedule.specs.Machine.{IsEventRun}
-use Rattle.mm_outcome.specs.Folds.{event_outcome, first_digests, first_issued}
+use Rattle.mm_outcome.specs.Folds.{event_outcome, first_digests, first_snapshots}
 use Rattle.mm_outcome.specs.WorldState.{world_key, world_barrier}
 use Rattle.mm_outcome.specs.Laws.{SchedulesGoOn}
 use Rattle.mm_outcome.specs.OneRun.{IsOneRun, FrontsAreOneRun}
@@ -70,14 +70,14 @@ by_digests_so law decided header events = record {
   exact = λ front. refl;
   headline = record {
     each = one_each (world_of header) (digest_level (world_of header)) events (first_digests (world_of header))
-        (first_issued (world_of header));
+        (first_snapshots (world_of header));
     first = λ front later is.
         let i = world_of header in
         let it : RunOutcome Digests = outcome_by_digests i front in
         let own = law header.variant (meaning_of header.«module») world_key world_barrier events front later is in
         first_replies front (outcome_by_digests i events).replies it.replies
         (outcome_of_events i (digest_level i) it.state it.issued later).replies (ap (λ (f : RunOutcome Digests). f.replies) own.0)
-        (one_each i (digest_level i) front (first_digests i) (first_issued i));
+        (one_each i (digest_level i) front (first_digests i) (first_snapshots i));
     none = promised_run header.variant header.«module» world_key world_barrier [] (run_result_by_digests header [])
         (none_is_one (world_of header) known);
     unless_evidence = λ front later is. elim (known front).decided [
@@ -110,7 +110,7 @@ until_evidence decided header events shown one =
 pub replays_go_on : SchedulesGoOn → ReplaysGoOn
 replays_go_on law header events shown exact front rest is =
     let i = world_of header in
-    let go = law i front rest first_history (first_digests i) (first_issued i) in
+    let go = law i front rest first_history (first_digests i) (first_snapshots i) in
     (exact.exact front, exact.exact events ∙ ap (λ (es : List Event). run_result_by_digests header es) is ∙ ap run_result_of go.1)
 
 -- what stands behind events, and what was written

@@ -1,7 +1,7 @@
 -- A replay among its events, as contracts see it.
 use Rattle.std.specs.Prelude.{◌≡◌, ◌≤◌, ◌+◌, ◌*◌, ℕ, length}
 use Rattle.mm_base.specs.Limits.{most_events, most_members}
-use Rattle.mm_outcome.specs.WorldState.{WorldState, EventWantsMemory}
+use Rattle.mm_outcome.specs.WorldState.{WorldState, WorldLacksMemory}
 use Rattle.mm_schedule.specs.Events.{Event}
 use Rattle.mm_replay.specs.Schedule.{ReplayState}
 
@@ -17,7 +17,7 @@ replay_state_in world events = record {
 abbrev pub ReplayLacksMemory : ReplayState → Event → ReplayState → Type 0
 ReplayLacksMemory old event new =
     (was : WorldState) × (now : WorldState) × (replay_state_in was old.events ≡ old)
-    × EventWantsMemory event was now
+    × WorldLacksMemory event was now
     × (replay_state_in now old.events ≡ new)
 
 -- The world has issued no more snapshots, and committed no more requests, than so many events can.

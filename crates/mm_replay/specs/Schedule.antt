@@ -9,7 +9,7 @@ use Rattle.mm_schedule.specs.Headers.{header_at}
 use Rattle.mm_schedule.specs.Replies.{end_line}
 use Rattle.mm_model.specs.Moves.{Digests}
 use Rattle.mm_call.specs.Levels.{digest_level}
-use Rattle.mm_outcome.specs.Folds.{Outcome, event_outcome, first_issued, first_digests}
+use Rattle.mm_outcome.specs.Folds.{Outcome, event_outcome, first_snapshots, first_digests}
 use Rattle.mm_outcome.specs.WorldState.{world_of}
 use Rattle.mm_play.specs.HeadingStep.{Begins}
 use Rattle.mm_play.specs.Stage.{EventStage, EventSteps, HeadStage, LineStage, AtHeading, InEvents, answer_to, is_over, line_answer}
@@ -30,7 +30,7 @@ abbrev pub first_replay_state : Header → ReplayState
 first_replay_state header = record {
   header = header;
   digests = first_digests (world_of header);
-  issued = first_issued (world_of header);
+  issued = first_snapshots (world_of header);
   events = 0;
 }
 

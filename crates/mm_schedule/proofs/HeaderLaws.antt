@@ -5,7 +5,7 @@ use Rattle.mm_digest.specs.declared.variant.Variant.{Variant}
 use Rattle.mm_digest.specs.declared.variant.Variant.TheVariants.{Basic, Opt}
 use Rattle.mm_modules.specs.declared.any.AnyModule.{AnyModule}
 use Rattle.mm_schedule.specs.declared.header.Header.{Header}
-use Rattle.mm_schedule.specs.Headers.{head_at, head_text, header_at, header_text, variant_text}
+use Rattle.mm_schedule.specs.Headers.{header_of_words, head_text, header_at, header_text, variant_text}
 use Rattle.mm_schedule.specs.HeadersWords.{variant_at}
 use Rattle.mm_schedule.specs.Words.{rest_after_prefix}
 use Rattle.mm_schedule.proofs.Fronts.{after-front, bind-some, chosen, some-same, text_is, word-front}
@@ -20,8 +20,8 @@ variant-spelled word variant is = elim (chosen (bytes_eq word (codes "basic")) (
   ]
 ]
 
-pub head-spelled : (words : List ℕ) (head : Header) → head_at words ≡ Some head → words ≡ head_text head
-unfolding head_at
+pub head-spelled : (words : List ℕ) (head : Header) → header_of_words words ≡ Some head → words ≡ head_text head
+unfolding header_of_words
 head-spelled words head is =
     let b = bind-some (word_at words) _ head is in let c = bind-some (variant_at b.0.0) _ head b.2 in
     let d = bind-some (module_of_name b.0.1) _ head c.2 in
@@ -44,22 +44,22 @@ variant-spaceless Opt = letters (codes "opt") refl
 
 -- each spelling is read as its header
 head-again : (variant : Variant) (it : AnyModule)
-    → head_at (head_text (record { variant = variant; «module» = it })) ≡ Some (record { variant = variant; «module» = it })
-unfolding head_at
+    → header_of_words (head_text (record { variant = variant; «module» = it })) ≡ Some (record { variant = variant; «module» = it })
+unfolding header_of_words
 head-again variant it =
     rw (word-again (variant_text variant) (name_of it) (variant-spaceless variant), variant-again variant, (any_is_found it).by_name) refl
 
-pub head-read : (words : List ℕ) (head : Header) → words ≡ head_text head → head_at words ≡ Some head
-head-read words head is = ap head_at is ∙ head-again head.variant head.module
+pub head-read : (words : List ℕ) (head : Header) → words ≡ head_text head → header_of_words words ≡ Some head
+head-read words head is = ap header_of_words is ∙ head-again head.variant head.module
 
-behind_prefix : (words : List ℕ) → header_at (codes "memoir 1 " ++ words) ≡ head_at words
+behind_prefix : (words : List ℕ) → header_at (codes "memoir 1 " ++ words) ≡ header_of_words words
 unfolding header_at rest_after_prefix
 behind_prefix words = refl
 
 pub header-read : (line : List ℕ) (header : Header) → line ≡ header_text header → header_at line ≡ Some header
 header-read line header is = ap header_at is ∙ behind_prefix (head_text header) ∙ head-again header.variant header.module
 
-pub if-head-spelled : (words : List ℕ) (read : Option Header) → read ≡ head_at words → IfSome read (λ head. words ≡ head_text head)
+pub if-head-spelled : (words : List ℕ) (read : Option Header) → read ≡ header_of_words words → IfSome read (λ head. words ≡ head_text head)
 if-head-spelled words None is = tt
 if-head-spelled words (Some head) is = head-spelled words head (sym is)
 

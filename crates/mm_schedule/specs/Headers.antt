@@ -20,8 +20,8 @@ abbrev pub header_text : Header → List ℕ
 header_text header = codes "memoir 1 " ++ head_text header
 
 -- the header that two words are read as
-unfoldable pub head_at : List ℕ → Option Header
-head_at words =
+unfoldable pub header_of_words : List ℕ → Option Header
+header_of_words words =
     word_at words >>= λ variant_word.
     (if bytes_eq variant_word.0 (codes "basic") then Some Basic
     else (if bytes_eq variant_word.0 (codes "opt") then Some Opt else None)) >>= λ variant.
@@ -30,4 +30,4 @@ head_at words =
 
 -- the header that a line is read as
 unfoldable pub header_at : List ℕ → Option Header
-header_at line = rest_after_prefix (codes "memoir 1 ") line >>= head_at
+header_at line = rest_after_prefix (codes "memoir 1 ") line >>= header_of_words

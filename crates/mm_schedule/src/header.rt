@@ -1,7 +1,7 @@
 //! The first line of a schedule.
 
 ghost use Rattle.std.specs.Prelude.{◌≡◌, ◌++◌, Some, IfSome, OnOk};
-ghost use Rattle.mm_schedule.specs.Headers.{head_at, head_text, header_at, header_text, variant_text};
+ghost use Rattle.mm_schedule.specs.Headers.{header_of_words, head_text, header_at, header_text, variant_text};
 ghost use Rattle.mm_schedule.specs.HeadersWords.{variant_at};
 
 use crate::words::{after, is_text, word_in};
@@ -38,16 +38,16 @@ fn header_in(line: &[u8]) -> Option<Header>
 /// The variant and the module of two words, as `basic counter`, behind which nothing follows. None
 /// where they name none.
 pub fn read_head(words: &[u8]) -> Option<Header>
-    ensures read { result ≡ head_at words.now }
+    ensures read { result ≡ header_of_words words.now }
     ensures spelled { IfSome result (λ head. words.now ≡ head_text head) }
     ensures only { (head : Header) → words.now ≡ head_text head → result ≡ Some head }
 {
     head_in(words)
 }
 
-#[tactic(auto, unfolding(crate::specs::Headers::head_at))]
+#[tactic(auto, unfolding(crate::specs::Headers::header_of_words))]
 fn head_in(words: &[u8]) -> Option<Header>
-    ensures { result ≡ head_at words.now }
+    ensures { result ≡ header_of_words words.now }
 {
     let (variant, name) = word_in(words)?;
     let variant = read_variant(variant)?;

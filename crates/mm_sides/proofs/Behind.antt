@@ -3,7 +3,7 @@ use Rattle.mm_sides.proofs.Below.{ℕ, ◌≡◌, ◌∙◌, ◌++◌, ◌∷◌
 use Rattle.mm_sides.proofs.Below.{Opt, Batch, Meaning, History, RegisterEntry, Move, history_after, Instance, items_of_all, has_value}
 use Rattle.mm_sides.proofs.Below.{life_of, LiveHistory, list_level, state_after_moves, instance_by, Event, event_outcome, IsSoundIn, Role}
 use Rattle.mm_sides.proofs.Below.{Foreign, PowerMove, lives, Content, NamesPosition, total_of, nat_eq, requests_of, state_after, Digests}
-use Rattle.mm_sides.proofs.Below.{AreMessagesIn, IsClear, place_messages, IsWithin, DigestsAgree, digest_level, stands_here, Retired}
+use Rattle.mm_sides.proofs.Below.{AreMessagesIn, IsClear, place_messages, IsWithin, DigestsAgree, digest_level, is_offer_here, Retired}
 use Rattle.mm_sides.proofs.Below.{is_new, One, zero_bytes, sound_shut, if◌then◌else◌}
 use Rattle.std.proofs.Common.{append_assoc}
 use Rattle.mm_model.specs.Chains.{guard}
@@ -166,7 +166,7 @@ pub there_same : (variant : Variant) (meaning : Meaning) (key barrier : List ℕ
     → (let i = instance_by variant meaning key barrier in
     IsClear all → (y z : History) (d : Digests) (c : Content) → WentOn y z → RestsIn i.variant y → IsWithin all others asked i z
     → DigestsAgree i y d → y.is_open ≡ false → AreMessagesIn (place_messages c.place) all → NamesPosition i z c
-    → stands_here (digest_level i) d c ≡ stands_here (list_level i) y c)
+    → is_offer_here (digest_level i) d c ≡ is_offer_here (list_level i) y c)
 there_same Basic meaning key barrier all others asked clear y z d c on rests w a shut listed names =
     ap (λ f. is_new (verdict_by_digests zero_bytes f d.digest d.register c.place (One []))) a.flag
     ∙ ap (λ x. is_new (verdict_by_digests zero_bytes false x d.register c.place (One []))) a.digest

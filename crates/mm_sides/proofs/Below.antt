@@ -56,24 +56,24 @@ pub use Rattle.mm_outcome.specs.OneEvent.{EventsAgree, EventsKeepNames, IsSoundI
 pub use Rattle.mm_outcome.specs.Premises.{batches_of, event_messages, event_foreign_values, moves_of, AreApartIn, run_messages}
 pub use Rattle.mm_outcome.proofs.Above.{basic_begins, opt_begins, anchor_nil, basic_events_agree, basic_events_keep_names, clear_within}
 pub use Rattle.mm_outcome.proofs.Above.{event_steps, opt_events_agree, opt_events_keep_names}
-pub use Rattle.mm_sides.specs.Both.{Both, digests_move, First, first_both, first_lists, instance_on, key_of, lists_move, Mover, Pair}
-pub use Rattle.mm_sides.specs.Both.{Second, SideState, sides_swapped, Which, history_at, history_now}
+pub use Rattle.mm_sides.specs.BothSides.{BothSides, digest_mover, First, first_both_by_digests, first_both_by_lists, instance_on, key_of, list_mover, Mover, Pair}
+pub use Rattle.mm_sides.specs.BothSides.{Second, SideState, sides_swapped, SideName, history_at, history_now}
 pub use Rattle.mm_sides.specs.Folds.{found_acceptance, BothAct, sides_after_effect_if, both_outcome_by_lists, both_outcome_of_events}
 pub use Rattle.mm_sides.specs.Folds.{both_outcome, BothEvent, BothRunOutcome, BothOutcome, BothReply, state_after_steps, effect_if}
 pub use Rattle.mm_sides.specs.Folds.{effect_of, Entered, found_command, sides_after_issue, Invited, is_moved, Left, move_end_outcome}
 pub use Rattle.mm_sides.specs.Folds.{move_steps, outcome_of_found_move, outcome_if_found, Moves, notes_with_effect_if, outcome_here, Plain}
 pub use Rattle.mm_sides.specs.Folds.{plain_outcome, refusal_for_role, found_retirement, Said, stopped_moves, effect_reply, unissued_reply}
-pub use Rattle.mm_sides.specs.Laws.{both_outcome_joined, counters, EntersAlone, IsOneFrom, MovesOnce, one_move}
+pub use Rattle.mm_sides.specs.Laws.{both_outcome_joined, counters, ModuleEntersAlone, IsOneLiveFrom, MovesOnce, one_move}
 pub use Rattle.mm_sides.specs.Laws.{OneIsLive, PairsAgree, PairsAgreeThroughout, PairsGoOn, plain_events, plain_events_in, plain_replies}
 pub use Rattle.mm_sides.specs.Laws.{plain_reply, SidesIssueNames, SidesRunAsOne, SnapshotsName}
 pub use Rattle.mm_sides.specs.Moves.{Accept, acceptance_on, Already, MoveCommand, repeated_entry, entry_by_ticket, FoundMove, Gone, Invite}
 pub use Rattle.mm_sides.specs.Moves.{invitation_on, found_retirement_by, DenialCause, Nonce, retirement_with, Open, Refused, Retire}
-pub use Rattle.mm_sides.specs.Moves.{retirement_on, stands_here, ticket_in, verdict_here}
-pub use Rattle.mm_sides.specs.Order.{AreInOrder, AtMostOne, away, EntersLast, here, IsAwaited, IsFreshEffect, IsLastTicket, IsSomewhere}
+pub use Rattle.mm_sides.specs.Moves.{retirement_on, is_offer_here, ticket_in, verdict_here}
+pub use Rattle.mm_sides.specs.Order.{AreInOrder, AreNotBothLive, away, ModuleEntersByLast, here, IsAwaited, IsFreshEffect, IsLastTicket, IsSomewhere}
 pub use Rattle.mm_sides.specs.Order.{MayTake, nonces_of, RolesAreOne, RolesBegin, RolesEnterLast, RolesGoOn, RolesSwap, there, WaitApart}
 pub use Rattle.mm_sides.specs.Order.{WaitsElse}
 pub use Rattle.mm_sides.specs.Premises.{AreFreshFrom, AreGenuineFrom, batches_in, both_batches, both_event_messages, both_messages}
-pub use Rattle.mm_sides.specs.Premises.{both_messages_from, both_others, messages_of_closing, command_messages, found_moves}
+pub use Rattle.mm_sides.specs.Premises.{both_messages_from, both_foreign_values, messages_of_closing, command_messages, found_moves}
 pub use Rattle.mm_sides.specs.Premises.{IsGenuineCommand, IsGenuineHere, IsGenuineIn, IsGenuineTo, IsNew, IsOurs, IsOursFor, IsOursIn}
 pub use Rattle.mm_sides.specs.Premises.{IsOursOffered, messages_here, offer_closing_messages, others_values_in, plain_messages, read_moves}
 pub use Rattle.mm_sides.specs.Premises.{vain_ask_moves, vain_moves}

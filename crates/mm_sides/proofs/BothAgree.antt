@@ -1,11 +1,11 @@
 -- Whole schedules of both sides agree, by digests and by lists; and they go on from what stands after their first events.
 use Rattle.mm_sides.proofs.Below.{ℕ, ◌≡◌, List, [], ◌∷◌, ◌++◌, refl, sym, ap, subst, AllByRecursion, Contains, start_message, Variant}
 use Rattle.mm_sides.proofs.Below.{Basic, Opt, Batch, Meaning, Instance, History, first_history, AreMessagesIn, IsClear, Digests, each_left}
-use Rattle.mm_sides.proofs.Below.{each_right, each_self, instance_by, first_digests, KeepsHistory, AreApartIn, MoveNotes, no_notes, Which}
-use Rattle.mm_sides.proofs.Below.{First, Second, Pair, instance_on, Both, sides_swapped, Mover, lists_move, digests_move, first_lists}
-use Rattle.mm_sides.proofs.Below.{first_both, BothAct, BothEvent, BothReply, BothOutcome, outcome_here, both_outcome, BothRunOutcome}
+use Rattle.mm_sides.proofs.Below.{each_right, each_self, instance_by, first_digests, KeepsHistory, AreApartIn, MoveNotes, no_notes, SideName}
+use Rattle.mm_sides.proofs.Below.{First, Second, Pair, instance_on, BothSides, sides_swapped, Mover, list_mover, digest_mover, first_both_by_lists}
+use Rattle.mm_sides.proofs.Below.{first_both_by_digests, BothAct, BothEvent, BothReply, BothOutcome, outcome_here, both_outcome, BothRunOutcome}
 use Rattle.mm_sides.proofs.Below.{both_outcome_of_events, notes_with_effect_if, both_event_messages, both_messages_from, both_messages}
-use Rattle.mm_sides.proofs.Below.{others_values_in, both_others, batches_in, both_batches, IsGenuineIn, AreGenuineFrom, IsNew, IsOursIn}
+use Rattle.mm_sides.proofs.Below.{others_values_in, both_foreign_values, batches_in, both_batches, IsGenuineIn, AreGenuineFrom, IsNew, IsOursIn}
 use Rattle.mm_sides.proofs.Below.{AreFreshFrom, PairsAgree, PairsAgreeThroughout, both_outcome_joined, PairsGoOn, basic_begins, opt_begins}
 use Rattle.mm_sides.proofs.InOrder.{roles_begin}
 use Rattle.mm_sides.proofs.OneLive.{here_ordered}
@@ -27,21 +27,21 @@ starts_by Opt meaning key key' barrier all others asked h = opt_begins meaning k
 
 module _ (pair : Pair) (all others : List (List ℕ)) (asked : List Batch) (clear : IsClear all)
     (apart : AreApartIn (instance_on pair First).variant (instance_on pair First) others asked) where
-  event_goes : (l : Both History History) (x : Twin) (notes : MoveNotes) (which : Which) (act : BothAct)
+  event_goes : (l : BothSides History History) (x : Twin) (notes : MoveNotes) (which : SideName) (act : BothAct)
       → Kept all others asked (instance_on pair First) (instance_on pair Second) l x notes
       → (let event : BothEvent = record { which = which; act = act } in
-      IsNew notes (both_outcome lists_move pair l event).effect → IsOursIn pair l.tickets notes act
+      IsNew notes (both_outcome list_mover pair l event).effect → IsOursIn pair l.tickets notes act
       → AllByRecursion (Contains others) (others_values_in act) → AllByRecursion (Contains asked) (batches_in act)
       → AreMessagesIn (both_event_messages pair l event) all → IsGenuineIn pair l event
-      → Goes all others asked (instance_on pair First) (instance_on pair Second) notes (both_outcome lists_move pair l event)
-      (both_outcome digests_move pair (twin l x) event))
+      → Goes all others asked (instance_on pair First) (instance_on pair Second) notes (both_outcome list_mover pair l event)
+      (both_outcome digest_mover pair (twin l x) event))
   event_goes l x notes First act k new ours outside batches listed genuine =
       here_goes pair.variant pair.meaning pair.first_key pair.second_key pair.barrier all others asked clear apart pair l x notes act k
       (here_ordered pair (instance_on pair First) l notes act k.order new ours) outside batches listed genuine ours
   event_goes l x notes Second act k new ours outside batches listed genuine =
       let i : Instance = instance_on pair Second in
       let back = turned_kept pair.variant pair.meaning pair.first_key pair.second_key pair.barrier all others asked l x notes k in
-      let o : BothOutcome History History = outcome_here lists_move pair i (sides_swapped l) act in
+      let o : BothOutcome History History = outcome_here list_mover pair i (sides_swapped l) act in
       let g = here_goes pair.variant pair.meaning pair.second_key pair.first_key pair.barrier all others asked clear
       (apart_cross pair.variant pair.meaning pair.first_key pair.second_key pair.barrier others asked apart) pair (sides_swapped l)
       (turned_twin x) notes act back (here_ordered pair i (sides_swapped l) notes act back.order new ours) outside batches
@@ -53,11 +53,11 @@ module _ (pair : Pair) (all others : List (List ℕ)) (asked : List Batch) (clea
             (notes_with_effect_if o.effect notes) g.kept;
       }
 
-  agree_from : (events : List BothEvent) (l : Both History History) (x : Twin) (notes : MoveNotes)
+  agree_from : (events : List BothEvent) (l : BothSides History History) (x : Twin) (notes : MoveNotes)
       → Kept all others asked (instance_on pair First) (instance_on pair Second) l x notes
-      → AllByRecursion (Contains others) (both_others events) → AllByRecursion (Contains asked) (both_batches events)
+      → AllByRecursion (Contains others) (both_foreign_values events) → AllByRecursion (Contains asked) (both_batches events)
       → AreMessagesIn (both_messages_from pair l events) all → AreGenuineFrom pair l events → AreFreshFrom pair l notes events
-      → PairsAgree pair (both_outcome_of_events lists_move pair l events) (both_outcome_of_events digests_move pair (twin l x) events)
+      → PairsAgree pair (both_outcome_of_events list_mover pair l events) (both_outcome_of_events digest_mover pair (twin l x) events)
   agree_from [] l x notes k outside batches listed genuine fresh = record {
     replies = refl;
     first = record { role = refl; at = k.this.keeps.agrees; issued = refl };
@@ -66,19 +66,19 @@ module _ (pair : Pair) (all others : List (List ℕ)) (asked : List Batch) (clea
     committed = refl;
   }
   agree_from (event ∷ events) l x notes k outside batches listed genuine fresh =
-      let o : BothOutcome History History = both_outcome lists_move pair l event in
+      let o : BothOutcome History History = both_outcome list_mover pair l event in
       let g = event_goes l x notes event.which event.act k fresh.0 fresh.1
-      (each_left (Contains others) (others_values_in event.act) (both_others events) outside)
+      (each_left (Contains others) (others_values_in event.act) (both_foreign_values events) outside)
       (each_left (Contains asked) (batches_in event.act) (both_batches events) batches)
       (each_left (Contains all) (both_event_messages pair l event) (both_messages_from pair o.both events) listed) genuine.0 in
       let rest = agree_from events o.both g.at (notes_with_effect_if o.effect notes) g.kept
-      (each_right (Contains others) (others_values_in event.act) (both_others events) outside)
+      (each_right (Contains others) (others_values_in event.act) (both_foreign_values events) outside)
       (each_right (Contains asked) (batches_in event.act) (both_batches events) batches)
       (each_right (Contains all) (both_event_messages pair l event) (both_messages_from pair o.both events) listed) genuine.1 fresh.2 in
-      let f : BothRunOutcome History History = both_outcome_of_events lists_move pair o.both events in
+      let f : BothRunOutcome History History = both_outcome_of_events list_mover pair o.both events in
       let Q : BothOutcome Digests ℕ → Type 0 = λ w. PairsAgree pair (record { both = f.both; replies = o.reply ∷ f.replies }) (record {
-        both = (both_outcome_of_events digests_move pair w.both events).both;
-        replies = w.reply ∷ (both_outcome_of_events digests_move pair w.both events).replies;
+        both = (both_outcome_of_events digest_mover pair w.both events).both;
+        replies = w.reply ∷ (both_outcome_of_events digest_mover pair w.both events).replies;
       }) in
       subst Q (sym g.same) (record {
         replies = ap (λ (r : List BothReply). o.reply ∷ r) rest.replies;
@@ -91,7 +91,7 @@ module _ (pair : Pair) (all others : List (List ℕ)) (asked : List Batch) (clea
 pub pairs_agree : PairsAgreeThroughout
 pairs_agree pair events clear genuine fresh =
     let all : List (List ℕ) = both_messages pair events in
-    let others : List (List ℕ) = both_others events in
+    let others : List (List ℕ) = both_foreign_values events in
     let asked : List Batch = both_batches events in
     let i : Instance = instance_on pair First in
     let j : Instance = instance_on pair Second in
@@ -99,7 +99,7 @@ pairs_agree pair events clear genuine fresh =
     let here = starts_by pair.variant pair.meaning pair.first_key pair.first_key pair.barrier all others asked self.0 in
     let there = starts_by pair.variant pair.meaning pair.first_key pair.second_key pair.barrier all others asked self.0 in
     let x : Twin = record { first = first_digests i; second = first_digests j; away = 0 } in
-    agree_from pair all others asked clear.clear clear.apart events (first_lists pair) x no_notes (record {
+    agree_from pair all others asked clear.clear clear.apart events (first_both_by_lists pair) x no_notes (record {
       this = record { keeps = here; shut = tt };
       other = record { keeps = there; shut = tt };
       left = record { count_is = refl; shut = refl; within = here.within };
@@ -110,7 +110,7 @@ pairs_agree pair events clear genuine fresh =
       other_behind = tt;
     }) (each_self [] others) (each_self [] asked) self.1 genuine fresh
 
-follow_on : {S A : Type 0} (mover : Mover S A) (pair : Pair) (es fs : List BothEvent) (both : Both S A)
+follow_on : {S A : Type 0} (mover : Mover S A) (pair : Pair) (es fs : List BothEvent) (both : BothSides S A)
     → both_outcome_of_events mover pair both (es ++ fs) ≡ both_outcome_joined (both_outcome_of_events mover pair both es)
     (both_outcome_of_events mover pair (both_outcome_of_events mover pair both es).both fs)
 follow_on mover pair [] fs both = refl
@@ -119,4 +119,4 @@ follow_on {S} {A} mover pair (event ∷ es) fs both =
     ap (λ (rest : BothRunOutcome S A). record { both = rest.both; replies = o.reply ∷ rest.replies }) (follow_on mover pair es fs o.both)
 
 pub pairs_go_on : PairsGoOn
-pairs_go_on pair es fs = (follow_on lists_move pair es fs (first_lists pair), follow_on digests_move pair es fs (first_both pair))
+pairs_go_on pair es fs = (follow_on list_mover pair es fs (first_both_by_lists pair), follow_on digest_mover pair es fs (first_both_by_digests pair))

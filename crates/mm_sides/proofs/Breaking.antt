@@ -2,10 +2,10 @@
 use Rattle.mm_sides.proofs.Below.{ℕ, ◌≡◌, ◌&&◌, ◌++◌, ◌∷◌, Bool, false, List, [], Option, None, Some, Result, Ok, Err, inl, inr, refl, sym}
 use Rattle.mm_sides.proofs.Below.{ap, subst, Contains, bytes_eq, bytes_eq-Decides, nat_eq, Content, History, Instance, Refusal}
 use Rattle.mm_sides.proofs.Below.{TicketContent, Event, offered_bytes, Role, Live, Retired, Waiting, Blank, Effect, Invites, Leaves, Enters}
-use Rattle.mm_sides.proofs.Below.{MoveNotes, no_notes, First, Which, key_of, Pair, instance_on, Both, lists_move, first_lists, history_now}
+use Rattle.mm_sides.proofs.Below.{MoveNotes, no_notes, First, SideName, key_of, Pair, instance_on, BothSides, list_mover, first_both_by_lists, history_now}
 use Rattle.mm_sides.proofs.Below.{Invite, Retire, Accept, ticket_in, BothAct, Plain, Moves, BothEvent, both_outcome, both_outcome_of_events}
 use Rattle.mm_sides.proofs.Below.{notes_with_effect_if, IsGenuineTo, IsGenuineHere, IsGenuineIn, AreGenuineFrom, IsNew, IsOurs}
-use Rattle.mm_sides.proofs.Below.{IsOursOffered, IsOursIn, AreFreshFrom, both_messages, both_others, both_batches}
+use Rattle.mm_sides.proofs.Below.{IsOursOffered, IsOursIn, AreFreshFrom, both_messages, both_foreign_values, both_batches}
 use Rattle.std.proofs.Common.{◌⊎◌}
 use Rattle.std.specs.Bool.{Decides}
 use Rattle.std.proofs.lemmas.Bool.Decides.{Decides-and, Decides-eqb}
@@ -21,7 +21,7 @@ use Rattle.mm_schedule.specs.declared.event.Offer.{Offer}
 use Rattle.mm_outcome.specs.Premises.{IsGenuineOffer}
 use Rattle.mm_evidence.specs.Evidence.{IsForged}
 use Rattle.mm_evidence.proofs.Above.{clash_apart, clash_or, found_or_none, names_by, offer_apart, offer_or}
-use Rattle.mm_sides.specs.Both.{sides_seen_from}
+use Rattle.mm_sides.specs.BothSides.{sides_seen_from}
 use Rattle.mm_sides.specs.Evidence.{accepted, asked, breach, clash, HasPairEvidence, invited, IsBreach, notes_after, PairsAreDecided}
 use Rattle.mm_sides.specs.Evidence.{retired}
 use Rattle.mm_sides.specs.Premises.{IsClearPair, IsFreshPair, IsGenuinePair, IsGenuinePlain}
@@ -87,8 +87,8 @@ contains_or same decides xs x = elim (found_or_none (same x) xs) [
 
 -- what an event breaks, or that it breaks nothing
 
-module _ (pair : Pair) (both : Both History History) (notes : MoveNotes) (event : BothEvent) where
-  abbrev here : Both History History
+module _ (pair : Pair) (both : BothSides History History) (notes : MoveNotes) (event : BothEvent) where
+  abbrev here : BothSides History History
   here = sides_seen_from event.which both
 
   abbrev at_side : Instance
@@ -97,7 +97,7 @@ module _ (pair : Pair) (both : Both History History) (notes : MoveNotes) (event 
   abbrev Breach : Type 0
   Breach = IsBreach pair both notes event
 
-  new_or : (effect : Option Effect) → (both_outcome lists_move pair both event).effect ≡ effect → Breach ⊎ IsNew notes effect
+  new_or : (effect : Option Effect) → (both_outcome list_mover pair both event).effect ≡ effect → Breach ⊎ IsNew notes effect
   new_or (Some (Invites nonce)) is = elim (contains_or bytes_eq bytes_eq-Decides notes.invited nonce) [
     | inl again ↦ inl (invited nonce is again)
     | inr new ↦ inr new
@@ -172,7 +172,7 @@ module _ (pair : Pair) (both : Both History History) (notes : MoveNotes) (event 
   stood_apart offered (inr (left, at)) f genuine = offer_apart at_side (history_now here) offered f
       (subst (λ (r : Role). IsGenuineTo r at_side (history_now here) offered) at genuine)
 
-  breach_apart : Breach → IsGenuineIn pair both event → IsNew notes (both_outcome lists_move pair both event).effect
+  breach_apart : Breach → IsGenuineIn pair both event → IsNew notes (both_outcome list_mover pair both event).effect
       → IsOursIn pair both.tickets notes event.act → ⊥
   breach_apart (asked meddles stop offer b is at f) genuine new ours =
       let here_is = subst (IsGenuineHere at_side here) is genuine in
@@ -188,24 +188,24 @@ module _ (pair : Pair) (both : Both History History) (notes : MoveNotes) (event 
 -- a schedule of both sides
 
 module _ (pair : Pair) where
-  record Breaks (both : Both History History) (notes : MoveNotes) (events : List BothEvent) : Type 0 where
+  record Breaks (both : BothSides History History) (notes : MoveNotes) (events : List BothEvent) : Type 0 where
     before : List BothEvent
     event : BothEvent
     later : List BothEvent
     split : events ≡ before ++ event ∷ later
-    broken : IsBreach pair (both_outcome_of_events lists_move pair both before).both (notes_after pair both notes before) event
+    broken : IsBreach pair (both_outcome_of_events list_mover pair both before).both (notes_after pair both notes before) event
 
-  breach_first : (both : Both History History) (notes : MoveNotes) (event : BothEvent) (events : List BothEvent)
+  breach_first : (both : BothSides History History) (notes : MoveNotes) (event : BothEvent) (events : List BothEvent)
       → IsBreach pair both notes event → Breaks both notes (event ∷ events)
   breach_first both notes event events b = record { before = []; event = event; later = events; split = refl; broken = b }
 
-  module _ (named : (which : Which) (y : History) (content : Content)
+  module _ (named : (which : SideName) (y : History) (content : Content)
       → (let i = instance_on pair which in IsDecided (is_named i y content) (NamesPosition i y content))) where
-    breach_or : (events : List BothEvent) (both : Both History History) (notes : MoveNotes)
+    breach_or : (events : List BothEvent) (both : BothSides History History) (notes : MoveNotes)
         → Breaks both notes events ⊎ (AreGenuineFrom pair both events × AreFreshFrom pair both notes events)
     breach_or [] both notes = inr (tt, tt)
     breach_or (event ∷ events) both notes =
-        let o = both_outcome lists_move pair both event in
+        let o = both_outcome list_mover pair both event in
         elim (genuine_here pair both notes event (named event.which) event.act refl) [
           | inl b ↦ inl (breach_first both notes event events b)
           | inr genuine ↦ elim (new_or pair both notes event o.effect refl) [
@@ -226,26 +226,26 @@ module _ (pair : Pair) where
           ]
         ]
 
-  breaks_apart : (before : List BothEvent) (event : BothEvent) (later : List BothEvent) (both : Both History History) (notes : MoveNotes)
+  breaks_apart : (before : List BothEvent) (event : BothEvent) (later : List BothEvent) (both : BothSides History History) (notes : MoveNotes)
       → AreGenuineFrom pair both (before ++ event ∷ later) → AreFreshFrom pair both notes (before ++ event ∷ later)
-      → IsBreach pair (both_outcome_of_events lists_move pair both before).both (notes_after pair both notes before) event → ⊥
+      → IsBreach pair (both_outcome_of_events list_mover pair both before).both (notes_after pair both notes before) event → ⊥
   breaks_apart [] event later both notes genuine fresh b = breach_apart pair both notes event b genuine.0 fresh.0 fresh.1
   breaks_apart (x ∷ before) event later both notes genuine fresh b =
-      let o = both_outcome lists_move pair both x in
+      let o = both_outcome list_mover pair both x in
       breaks_apart before event later o.both (notes_with_effect_if o.effect notes) genuine.1 fresh.2 b
 
   pair_apart : (events : List BothEvent) → IsClearPair pair events → IsGenuinePair pair events → IsFreshPair pair events
       → HasPairEvidence pair events → ⊥
   pair_apart events clear genuine fresh (clash c) =
-      clash_apart (instance_on pair First) (both_messages pair events) (both_others events) (both_batches events) clear.clear clear.apart c
-  pair_apart events clear genuine fresh (breach before event later split b) = breaks_apart before event later (first_lists pair) no_notes
-      (subst (AreGenuineFrom pair (first_lists pair)) split genuine) (subst (AreFreshFrom pair (first_lists pair) no_notes) split fresh) b
+      clash_apart (instance_on pair First) (both_messages pair events) (both_foreign_values events) (both_batches events) clear.clear clear.apart c
+  pair_apart events clear genuine fresh (breach before event later split b) = breaks_apart before event later (first_both_by_lists pair) no_notes
+      (subst (AreGenuineFrom pair (first_both_by_lists pair)) split genuine) (subst (AreFreshFrom pair (first_both_by_lists pair) no_notes) split fresh) b
 
 pub pairs_decided : BasicNamesAreDecided → OptNamesAreDecided → PairsAreDecided
 pairs_decided basic opt pair events = record {
-  decided = elim (clash_or (instance_on pair First) (both_messages pair events) (both_others events) (both_batches events)) [
+  decided = elim (clash_or (instance_on pair First) (both_messages pair events) (both_foreign_values events) (both_batches events)) [
     | inl c ↦ inr (clash c)
-    | inr clear ↦ elim (breach_or pair named events (first_lists pair) no_notes) [
+    | inr clear ↦ elim (breach_or pair named events (first_both_by_lists pair) no_notes) [
       | inl b ↦ inr (breach b.before b.event b.later b.split b.broken)
       | inr fine ↦ inl (record { clear = clear.0; apart = clear.1 }, fine.0, fine.1)
     ]
@@ -253,6 +253,6 @@ pairs_decided basic opt pair events = record {
   apart = pair_apart pair events;
 }
   where
-    named : (which : Which) (y : History) (content : Content)
+    named : (which : SideName) (y : History) (content : Content)
         → IsDecided (is_named (instance_on pair which) y content) (NamesPosition (instance_on pair which) y content)
     named which = names_by basic opt pair.variant pair.meaning (key_of pair which) pair.barrier

@@ -3,9 +3,9 @@ use Rattle.mm_sides.proofs.Below.{ℕ, ◌≡◌, Bool, true, false, List, Optio
 use Rattle.mm_sides.proofs.Below.{if◌then◌else◌, Contains, bytes_eq, bytes_eq-Decides, PartsFault, Form, Kind, parts_of, Content, Snapshot}
 use Rattle.mm_sides.proofs.Below.{tag_of, Refusal, Instance, check_by_tests, weighed_only, accepting_verdict, StepFate, End, Done, Fails}
 use Rattle.mm_sides.proofs.Below.{walk, walk_from_step, TicketContent, offered_bytes, Role, Live, Waiting, Retired, Effect, Invites, Leaves}
-use Rattle.mm_sides.proofs.Below.{Enters, MoveNotes, is_live, MayTake, IsFreshEffect, IsLastTicket, AreInOrder, EntersLast, Pair, Both}
+use Rattle.mm_sides.proofs.Below.{Enters, MoveNotes, is_live, MayTake, IsFreshEffect, IsLastTicket, AreInOrder, ModuleEntersByLast, Pair, BothSides}
 use Rattle.mm_sides.proofs.Below.{Mover, MoveCommand, Invite, Retire, Accept, DenialCause, Open, Gone, Nonce, Already, FoundMove}
-use Rattle.mm_sides.proofs.Below.{stands_here, verdict_here, invitation_on, found_retirement_by, retirement_with, retirement_on, ticket_in}
+use Rattle.mm_sides.proofs.Below.{is_offer_here, verdict_here, invitation_on, found_retirement_by, retirement_with, retirement_on, ticket_in}
 use Rattle.mm_sides.proofs.Below.{entry_by_ticket, repeated_entry, acceptance_on, is_moved, effect_if, effect_of, found_retirement}
 use Rattle.mm_sides.proofs.Below.{found_acceptance, found_command, BothOutcome, sides_after_effect_if, sides_after_issue, effect_reply}
 use Rattle.mm_sides.proofs.Below.{move_end_outcome, notes_with_effect_if, IsNew, IsOurs, IsOursOffered, IsOursFor, Reads, StepFault, Stop}
@@ -53,14 +53,14 @@ found_is f g e = cc
 pub record LeavesBy {S A : Type 0} (mover : Mover S A) (i : Instance) (at : S) (ticket : TicketContent) : Type 0 where
   pub shut : (mover.level i).is_open at ≡ false
   pub offered : Content
-  pub here : stands_here (mover.level i) at offered ≡ true
+  pub here : is_offer_here (mover.level i) at offered ≡ true
   pub says : ticket.content ≡ mover.says i at offered
 
 -- It entered before where it is, by a ticket that stands there.
 pub record EnteredHere {S A : Type 0} (mover : Mover S A) (i : Instance) (at : S) (role : Role) (ticket : TicketContent) : Type 0 where
   pub live : is_live role ≡ true
   pub shut : (mover.level i).is_open at ≡ false
-  pub here : stands_here (mover.level i) at ticket.content ≡ true
+  pub here : is_offer_here (mover.level i) at ticket.content ≡ true
 
 -- What a found effect tells, by whether it was made before: a new one may be taken by the role of its side, and a ticket is one
 -- that the module left by.
@@ -101,7 +101,7 @@ module _ {S A : Type 0} (mover : Mover S A) (i : Instance) (at : S) (notes : Mov
 
   left_fits : (role : Role) (again : Bool) (nonce : List ℕ) (c : Content) (result : Result Bool Refusal)
       → (again ≡ false → ((ticket : TicketContent) → MayTake role (Leaves ticket)) × ((mover.level i).is_open at ≡ false))
-      → ((fresh : Bool) → result ≡ Ok fresh → stands_here (mover.level i) at c ≡ true)
+      → ((fresh : Bool) → result ≡ Ok fresh → is_offer_here (mover.level i) at c ≡ true)
       → F role (found_retirement_by mover i at again nonce c result)
   left_fits role again nonce c (Err why) may here = tt
   left_fits role again nonce c (Ok fresh) may here = λ e. (
@@ -116,7 +116,7 @@ module _ {S A : Type 0} (mover : Mover S A) (i : Instance) (at : S) (notes : Mov
       let c : Content = snapshot.content in
       let s : Bool = i.meaning.is_spelled c.state in
       let t : Bool = bytes_eq snapshot.tag (tag_of i.key c) in
-      let here : Bool = stands_here (mover.level i) at c in
+      let here : Bool = is_offer_here (mover.level i) at c in
       left_fits role again nonce c (check_by_tests s t (verdict_here here) true) may
       (λ fresh e. stands_by here fresh (weighed_only s t (verdict_here here) true fresh e).verdict)
   offered_fits role again nonce (Err Form) may = tt
@@ -138,7 +138,7 @@ module _ {S A : Type 0} (mover : Mover S A) (i : Instance) (at : S) (notes : Mov
   again_fits : (read : Result TicketContent Refusal) → IsOurs notes read → F Live (repeated_entry (mover.level i) at read)
   again_fits (Err why) ours = tt
   again_fits (Ok ticket) ours = if_either (F Live) ((mover.level i).is_open at) _ _ (λ t. tt)
-      (λ shut. if_either (F Live) (stands_here (mover.level i) at ticket.content) _ _
+      (λ shut. if_either (F Live) (is_offer_here (mover.level i) at ticket.content) _ _
       (λ here. ((λ e. not_dead e), (λ e. record { live = refl; shut = shut; here = here }), ours)) (λ g. tt))
 
   accepted_fits : (role : Role) (read : Result TicketContent Refusal) → IsOurs notes read
@@ -157,7 +157,7 @@ module _ {S A : Type 0} (mover : Mover S A) (i : Instance) (at : S) (notes : Mov
   by_ticket pair role issued None ours = tt
   by_ticket pair role issued (Some bytes) ours = accepted_fits role (ticket_in pair bytes) ours
 
-pub finding_fits : {S A : Type 0} (mover : Mover S A) (pair : Pair) (i : Instance) (notes : MoveNotes) (both : Both S A)
+pub finding_fits : {S A : Type 0} (mover : Mover S A) (pair : Pair) (i : Instance) (notes : MoveNotes) (both : BothSides S A)
     (command : MoveCommand)
     → IsOursFor pair both.tickets notes command → FitsIn mover i both.first.at notes both.first.role
     (found_command mover pair i both command)
@@ -190,7 +190,7 @@ module _ {S A : Type 0} (mover : Mover S A) (i : Instance) (at : S) (notes : Mov
 -- What a move leaves as it was, and what its effect makes of the roles.
 
 -- telling hands out a ticket or a snapshot, and changes nothing else
-pub record IsTold {S A : Type 0} (both after : Both S A) : Type 0 where
+pub record IsTold {S A : Type 0} (both after : BothSides S A) : Type 0 where
   pub role : after.first.role ≡ both.first.role
   pub at : after.first.at ≡ both.first.at
   pub second : after.second ≡ both.second
@@ -198,21 +198,21 @@ pub record IsTold {S A : Type 0} (both after : Both S A) : Type 0 where
   pub committed : after.committed ≡ both.committed
 
 module _ {S A : Type 0} (mover : Mover S A) (pair : Pair) (i : Instance) where
-  handed_told : (both : Both S A) (effect : Effect) → IsTold both (sides_after_issue mover pair i both effect)
+  handed_told : (both : BothSides S A) (effect : Effect) → IsTold both (sides_after_issue mover pair i both effect)
   handed_told both (Invites nonce) = record { role = refl; at = refl; second = refl; away = refl; committed = refl }
   handed_told both _ = record { role = refl; at = refl; second = refl; away = refl; committed = refl }
 
-  told_none : (both : Both S A) (effect : Effect) → plain_reply (effect_reply mover i both effect) ≡ []
+  told_none : (both : BothSides S A) (effect : Effect) → plain_reply (effect_reply mover i both effect) ≡ []
   told_none both (Invites nonce) = refl
   told_none both _ = refl
 
   -- how a move ends
-  pub record IsEnded (both : Both S A) (effect : Option Effect) (o : BothOutcome S A) : Type 0 where
+  pub record IsEnded (both : BothSides S A) (effect : Option Effect) (o : BothOutcome S A) : Type 0 where
     pub tells : IsTold both o.both
     pub none : plain_reply o.reply ≡ []
     pub effect_is : o.effect ≡ effect
 
-  pub ended_told : (both : Both S A) (stop : Stop) (broken : Option StepFault) (found : Result FoundMove DenialCause)
+  pub ended_told : (both : BothSides S A) (stop : Stop) (broken : Option StepFault) (found : Result FoundMove DenialCause)
       (effect : Option Effect)
       → IsEnded both effect (move_end_outcome mover pair i both stop broken found effect)
   ended_told both stop (Some fault) found effect = record {
@@ -229,9 +229,9 @@ module _ {S A : Type 0} (mover : Mover S A) (pair : Pair) (i : Instance) where
       record { tells = handed_told both found.effect; none = told_none both found.effect; effect_is = refl }
 
 -- what an effect makes of the roles
-pub affected_order : {S A : Type 0} (mover : Mover S A) (both : Both S A) (notes : MoveNotes) (effect : Option Effect)
+pub affected_order : {S A : Type 0} (mover : Mover S A) (both : BothSides S A) (notes : MoveNotes) (effect : Option Effect)
     → AreInOrder both.first.role both.second.role notes → IsFine both.first.role notes effect
-    → (let after : Both S A = sides_after_effect_if mover both effect in AreInOrder after.first.role after.second.role
+    → (let after : BothSides S A = sides_after_effect_if mover both effect in AreInOrder after.first.role after.second.role
     (notes_with_effect_if effect notes))
 affected_order mover both notes None h fine = h
 affected_order mover both notes (Some (Invites nonce)) h fine =
@@ -241,7 +241,7 @@ affected_order mover both notes (Some effect) h fine =
 
 -- the module enters alone
 abbrev pub EntersSo : Role → Role → MoveNotes → Option Effect → Type 0
-EntersSo this other notes (Some (Enters ticket)) = EntersLast this other notes ticket
+EntersSo this other notes (Some (Enters ticket)) = ModuleEntersByLast this other notes ticket
 EntersSo this other notes effect = Unit {0}
 
 pub enters_so : (this other : Role) (notes : MoveNotes) (effect : Option Effect) → AreInOrder this other notes → IsFine this notes effect

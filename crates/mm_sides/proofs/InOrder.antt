@@ -4,7 +4,7 @@ use Rattle.mm_sides.proofs.Below.{Contains, map-append, All-from_recursion, All-
 use Rattle.mm_sides.proofs.Below.{Contains-push_cases, each_append, each_self, TicketContent, Role, Blank, Live, Waiting, Retired, Invites}
 use Rattle.mm_sides.proofs.Below.{Leaves, Enters, is_live, MoveNotes, notes_with_effect, nonces_of, IsAwaited, WaitsElse, WaitApart}
 use Rattle.mm_sides.proofs.Below.{IsSomewhere, here, there, away, AreInOrder, MayTake, RolesBegin, RolesSwap, RolesGoOn, RolesEnterLast}
-use Rattle.mm_sides.proofs.Below.{AtMostOne, RolesAreOne}
+use Rattle.mm_sides.proofs.Below.{AreNotBothLive, RolesAreOne}
 
 -- an item of a list of which each is one of another is one of that other
 among : {A : Type 0} (P : A → Type 0) (xs : List A) (x : A) → AllByRecursion P xs → Contains xs x → P x
@@ -67,7 +67,7 @@ roles_swap this other notes h = record {
 }
 
 one_live : (this other : Role) (retired : List TicketContent) (spent : List (List ℕ)) → IsSomewhere this other retired spent
-    → AtMostOne this other
+    → AreNotBothLive this other
 one_live this other retired spent (here l n e) is = n
 one_live this other retired spent (there n l e) is = absurd (not_both (is_live this) is n)
 one_live this other retired spent (away m n front last e f) is = n

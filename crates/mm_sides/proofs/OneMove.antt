@@ -6,8 +6,8 @@ use Rattle.mm_sides.proofs.Below.{basic_instance, opt_instance, History, first_h
 use Rattle.mm_sides.proofs.Below.{place_messages, Reads, Refusal, messages_of_moves, list_level, instance_by, place_at, summary_in}
 use Rattle.mm_sides.proofs.Below.{TicketContent, IsTicket, TaggedTicket, ticket_tag, ticket_of, bytes_are, tickets_are_read, anchor_nil}
 use Rattle.mm_sides.proofs.Below.{clear_within, one_ask, run_messages, AreApartIn, Live, Waiting, Retired, Leaves, Enters, Invites}
-use Rattle.mm_sides.proofs.Below.{MoveNotes, no_notes, notes_with_effect, First, Second, Pair, Both, lists_move, first_lists, sides_swapped}
-use Rattle.mm_sides.proofs.Below.{Invite, Retire, Accept, FoundMove, DenialCause, stands_here, ticket_in, BothEvent, BothOutcome, Moves}
+use Rattle.mm_sides.proofs.Below.{MoveNotes, no_notes, notes_with_effect, First, Second, Pair, BothSides, list_mover, first_both_by_lists, sides_swapped}
+use Rattle.mm_sides.proofs.Below.{Invite, Retire, Accept, FoundMove, DenialCause, is_offer_here, ticket_in, BothEvent, BothOutcome, Moves}
 use Rattle.mm_sides.proofs.Below.{Invited, Left, Entered, found_command, both_outcome, both_outcome_of_events, both_outcome_by_lists}
 use Rattle.mm_sides.proofs.Below.{notes_with_effect_if, read_moves, found_moves, offer_closing_messages, both_event_messages, both_messages}
 use Rattle.mm_sides.proofs.Below.{both_messages_from, AreFreshFrom, IsNew, IsOurs, IsOursIn, one_move, counters, MovesOnce}
@@ -71,7 +71,7 @@ at_anchor Basic key barrier = refl
 at_anchor Opt key barrier = refl
 
 stands : (variant : Variant) (key barrier : List ℕ)
-    → stands_here (list_level (instance_by variant counter key barrier)) first_history (said variant key barrier) ≡ true
+    → is_offer_here (list_level (instance_by variant counter key barrier)) first_history (said variant key barrier) ≡ true
 stands Basic key barrier = refl
 stands Opt key barrier = refl
 
@@ -179,31 +179,31 @@ module _ (variant : Variant) (first_key second_key barrier link nonce : List ℕ
   abbrev accepted : BothEvent
   accepted = record { which = Second; act = Moves [] Quiet (Accept Last) }
 
-  abbrev waiting : Both History History
-  waiting = record (first_lists pair) { second = record { role = Waiting nonce; at = first_history; issued = [] } }
+  abbrev waiting : BothSides History History
+  waiting = record (first_both_by_lists pair) { second = record { role = Waiting nonce; at = first_history; issued = [] } }
 
-  abbrev gone : Both History History
+  abbrev gone : BothSides History History
   gone = record waiting { first = record waiting.first { role = Retired nonce }; away = first_history; tickets = paper ∷ [] }
 
-  abbrev arrived : Both History History
+  abbrev arrived : BothSides History History
   arrived = record gone {
     second = record { role = Live; at = first_history; issued = sealed_snapshot_of there.key (content_of_issue there first_history) ∷ [] };
   }
 
-  invites : both_outcome lists_move pair (first_lists pair)
+  invites : both_outcome list_mover pair (first_both_by_lists pair)
       invited ≡ record { both = waiting; reply = Invited; effect = Some (Invites nonce) }
   invites = refl
 
-  leaves : both_outcome lists_move pair waiting retired ≡ record { both = gone; reply = Left 0; effect = Some (Leaves ticket) }
+  leaves : both_outcome list_mover pair waiting retired ≡ record { both = gone; reply = Left 0; effect = Some (Leaves ticket) }
   leaves = rw (parts, spelled variant first_key barrier, tagged, stands variant first_key barrier) refl
 
-  comes : both_outcome lists_move pair gone
+  comes : both_outcome list_mover pair gone
       accepted ≡ record { both = arrived; reply = Entered (content_of_issue there first_history).position; effect = Some (Enters ticket) }
   comes = rw (read_back, spelled_there variant first_key barrier, same_tag, bytes_are nonce nonce refl) refl
 
   -- the run
   runs : (both_outcome_by_lists pair (one_move nonce)).both ≡ arrived
-  runs = ap (λ (o : BothOutcome History History). (both_outcome_of_events lists_move pair o.both (accepted ∷ [])).both) leaves
+  runs = ap (λ (o : BothOutcome History History). (both_outcome_of_events list_mover pair o.both (accepted ∷ [])).both) leaves
       ∙ ap (λ (o : BothOutcome History History). o.both) comes
 
   -- no message but the start message is listed
@@ -212,15 +212,15 @@ module _ (variant : Variant) (first_key second_key barrier link nonce : List ℕ
 
   none_by_retiring : both_event_messages pair waiting retired ≡ []
   none_by_retiring = ap (λ (m : List (List ℕ)). m
-      ++ messages_of_moves here first_history (found_moves [] Quiet (found_command lists_move pair here waiting (Retire nonce Last))))
+      ++ messages_of_moves here first_history (found_moves [] Quiet (found_command list_mover pair here waiting (Retire nonce Last))))
       closed_by
-      ∙ quiet here first_history (found_command lists_move pair here waiting (Retire nonce Last))
+      ∙ quiet here first_history (found_command list_mover pair here waiting (Retire nonce Last))
 
   none_by_accepting : both_event_messages pair gone accepted ≡ []
-  none_by_accepting = quiet there first_history (found_command lists_move pair there (sides_swapped gone) (Accept Last))
+  none_by_accepting = quiet there first_history (found_command list_mover pair there (sides_swapped gone) (Accept Last))
 
   none_behind : both_messages_from pair waiting (retired ∷ accepted ∷ []) ≡ []
-  none_behind = ap (λ (m : List (List ℕ)). m ++ both_messages_from pair (both_outcome lists_move pair waiting retired).both (accepted ∷ []))
+  none_behind = ap (λ (m : List (List ℕ)). m ++ both_messages_from pair (both_outcome list_mover pair waiting retired).both (accepted ∷ []))
       none_by_retiring ∙ ap (λ (o : BothOutcome History History). both_messages_from pair o.both (accepted ∷ [])) leaves
       ∙ ap (λ (m : List (List ℕ)). m ++ []) none_by_accepting
 
@@ -257,6 +257,6 @@ module _ (variant : Variant) (first_key second_key barrier link nonce : List ℕ
     };
     genuine = (tt, (genuine, (tt, tt)));
     fresh = (none_of nonce, tt, fresh_here);
-    left = ap (λ (both : Both History History). both.first.role) runs;
-    entered = ap (λ (both : Both History History). both.second.role) runs;
+    left = ap (λ (both : BothSides History History). both.first.role) runs;
+    entered = ap (λ (both : BothSides History History). both.second.role) runs;
   }

@@ -3,8 +3,8 @@ use Rattle.mm_sides.proofs.Below.{ℕ, ◌≡◌, ◌≤◌, ◌+◌, true, fals
 use Rattle.mm_sides.proofs.Below.{◌∙◌, subst, arith, length-append, Batch, members_of, Meaning, Meddle, Stop, Variant, Basic, Opt, Instance}
 use Rattle.mm_sides.proofs.Below.{History, requests_of, Refusal, StepFate, walk, list_level, instance_by, Outcome, refusal_for_role}
 use Rattle.mm_sides.proofs.Below.{course_of, event_outcome, vain_event_outcome, event_steps, Role, Live, Effect, Invites, Enters, is_live}
-use Rattle.mm_sides.proofs.Below.{MoveNotes, no_notes, AreInOrder, Which, First, Second, Pair, key_of, instance_on, Both, sides_swapped}
-use Rattle.mm_sides.proofs.Below.{lists_move, first_lists, MoveCommand, Accept, DenialCause, FoundMove, BothAct, Plain, Moves, BothEvent}
+use Rattle.mm_sides.proofs.Below.{MoveNotes, no_notes, AreInOrder, SideName, First, Second, Pair, key_of, instance_on, BothSides, sides_swapped}
+use Rattle.mm_sides.proofs.Below.{list_mover, first_both_by_lists, MoveCommand, Accept, DenialCause, FoundMove, BothAct, Plain, Moves, BothEvent}
 use Rattle.mm_sides.proofs.Below.{BothOutcome, plain_outcome, sides_after_effect_if, state_after_steps, effect_of, move_steps}
 use Rattle.mm_sides.proofs.Below.{found_command, outcome_of_found_move, outcome_if_found, unissued_reply, outcome_here, both_outcome}
 use Rattle.mm_sides.proofs.Below.{BothRunOutcome, both_outcome_of_events, notes_with_effect_if, IsNew, IsOursIn, AreFreshFrom}
@@ -48,11 +48,11 @@ runs_on meaning (e ∷ es) fs (r ∷ rs) ss a b c h k = (h.0, h.1, runs_on meani
 
 -- one event
 
-abbrev requests_now : Both History History → List (List ℕ)
+abbrev requests_now : BothSides History History → List (List ℕ)
 requests_now both = requests_of (history_now both).batches
 
 -- The event and its reply are a run, of one event of a schedule or of none; and the count of requests goes along.
-record IsRunHere (meaning : Meaning) (both : Both History History) (act : BothAct) (o : BothOutcome History History) : Type 0 where
+record IsRunHere (meaning : Meaning) (both : BothSides History History) (act : BothAct) (o : BothOutcome History History) : Type 0 where
   runs : IsEventRun meaning (requests_now both) (plain_events_in act) (plain_reply o.reply) (requests_now o.both)
   count : both.committed ≡ length (requests_now both) → o.both.committed ≡ length (requests_now o.both)
 
@@ -60,8 +60,8 @@ still : (n m : ℕ) → n ≡ m → n + 0 ≡ m
 still n m e = omega (arith, e)
 
 -- an event of a schedule
-module _ (i : Instance) (l : Both History History) where
-  abbrev standing : Role → Both History History
+module _ (i : Instance) (l : BothSides History History) where
+  abbrev standing : Role → BothSides History History
   standing role = record l { first = record l.first { role = role } }
 
   vain_run : (role : Role) (why : Refusal) (event : events.Event)
@@ -79,7 +79,7 @@ module _ (i : Instance) (l : Both History History) where
       ((r, v.steps r, same), same)
 
   plain_run : (role : Role) (event : events.Event)
-      → IsRunHere i.meaning (standing role) (Plain event) (plain_outcome lists_move i (standing role) event)
+      → IsRunHere i.meaning (standing role) (Plain event) (plain_outcome list_mover i (standing role) event)
   plain_run Live event =
       let o : Outcome History = event_outcome i (list_level i) l.first.at l.first.issued event in
       let steps = event_steps i l.first.at l.first.issued event in
@@ -91,17 +91,17 @@ module _ (i : Instance) (l : Both History History) where
 
 -- a move changes nothing of the history
 
-then_requests : (both : Both History History) (notes : MoveNotes) (effect : Option Effect)
+then_requests : (both : BothSides History History) (notes : MoveNotes) (effect : Option Effect)
     → EntersSo both.first.role both.second.role notes effect → requests_of (then_history both effect).batches ≡ requests_now both
 then_requests both notes (Some (Enters ticket)) alone =
     ap (λ (y : History). requests_of y.batches) (sym (away_history both alone.not_here alone.not_there))
 then_requests both notes _ alone = refl
 
-told_now : (both after : Both History History) → IsTold both after → requests_now after ≡ requests_now both
+told_now : (both after : BothSides History History) → IsTold both after → requests_now after ≡ requests_now both
 told_now both after t = λ j.
     requests_of (history_at (is_live (t.role j)) (is_live (t.second j).role) (t.at j) (t.second j).at (t.away j)).batches
 
-affected_count : (both : Both History History) (effect : Option Effect) → (sides_after_effect_if lists_move both effect).committed
+affected_count : (both : BothSides History History) (effect : Option Effect) → (sides_after_effect_if list_mover both effect).committed
     ≡ both.committed
 affected_count both (Some (Invites nonce)) = refl
 affected_count both _ = refl
@@ -115,10 +115,10 @@ silent : (meaning : Meaning) (replies : List Reply) (r s : List (List ℕ)) → 
 silent meaning [] r s n e = e
 silent meaning (reply ∷ replies) r s n e = cc
 
-moved_run : (pair : Pair) (i : Instance) (both : Both History History) (notes : MoveNotes) (meddles : List Meddle) (stop : Stop)
+moved_run : (pair : Pair) (i : Instance) (both : BothSides History History) (notes : MoveNotes) (meddles : List Meddle) (stop : Stop)
     (command : MoveCommand) (found : Option (Result FoundMove DenialCause)) → AreInOrder both.first.role both.second.role notes
-    → IsOrdered both.first.role both.second.role notes (outcome_if_found lists_move pair i both meddles stop command found)
-    → IsRunHere i.meaning both (Moves meddles stop command) (outcome_if_found lists_move pair i both meddles stop command found)
+    → IsOrdered both.first.role both.second.role notes (outcome_if_found list_mover pair i both meddles stop command found)
+    → IsRunHere i.meaning both (Moves meddles stop command) (outcome_if_found list_mover pair i both meddles stop command found)
 moved_run pair i both notes meddles stop command None h s = record {
   runs = silent i.meaning (plain_reply (unissued_reply command)) (requests_now both) (requests_now both) (unissued_none command) refl;
   count = λ e. e;
@@ -126,16 +126,16 @@ moved_run pair i both notes meddles stop command None h s = record {
 moved_run pair i both notes meddles stop command (Some found) h s =
     let fates : ℕ → StepFate = (course_of stop meddles).fates in
     let effect : Option Effect = effect_of fates found in
-    let at : History = state_after_steps lists_move i both.first.at meddles stop (move_steps found) in
-    let here : Both History History = record both { first = record both.first { at = at } } in
-    let o : BothOutcome History History = outcome_of_found_move lists_move pair i both meddles stop found in
-    let ended : IsEnded lists_move pair i (sides_after_effect_if lists_move here effect) effect o =
-    ended_told lists_move pair i (sides_after_effect_if lists_move here effect) stop (walk fates 1 (move_steps found)).broken found
+    let at : History = state_after_steps list_mover i both.first.at meddles stop (move_steps found) in
+    let here : BothSides History History = record both { first = record both.first { at = at } } in
+    let o : BothOutcome History History = outcome_of_found_move list_mover pair i both meddles stop found in
+    let ended : IsEnded list_mover pair i (sides_after_effect_if list_mover here effect) effect o =
+    ended_told list_mover pair i (sides_after_effect_if list_mover here effect) stop (walk fates 1 (move_steps found)).broken found
     effect in
     let alike : IsAlike (history_now both) (history_now here) = alike_at (is_live both.first.role)
     (is_live both.second.role) both.first.at at
     both.second.at both.away (brought_alike i both.first.at meddles stop found) in
-    let same : requests_now o.both ≡ requests_now both = told_now (sides_after_effect_if lists_move here effect) o.both ended.tells
+    let same : requests_now o.both ≡ requests_now both = told_now (sides_after_effect_if list_mover here effect) o.both ended.tells
     ∙ ap (λ (y : History). requests_of y.batches)
     (affected_history here notes effect h (subst (IsFine both.first.role notes) ended.effect_is s.fine))
     ∙ then_requests here notes effect (subst (EntersSo both.first.role both.second.role notes) ended.effect_is s.alone)
@@ -145,18 +145,18 @@ moved_run pair i both notes meddles stop command (Some found) h s =
       count = λ e. ended.tells.committed ∙ affected_count here effect ∙ e ∙ ap length (sym same);
     }
 
-here_run : (pair : Pair) (i : Instance) (both : Both History History) (notes : MoveNotes) (act : BothAct)
+here_run : (pair : Pair) (i : Instance) (both : BothSides History History) (notes : MoveNotes) (act : BothAct)
     → AreInOrder both.first.role both.second.role notes
-    → IsOrdered both.first.role both.second.role notes (outcome_here lists_move pair i both act)
-    → IsRunHere i.meaning both act (outcome_here lists_move pair i both act)
+    → IsOrdered both.first.role both.second.role notes (outcome_here list_mover pair i both act)
+    → IsRunHere i.meaning both act (outcome_here list_mover pair i both act)
 here_run pair i both notes (Plain event) h s =
     plain_run i both both.first.role event
 here_run pair i both notes (Moves meddles stop command) h s =
-    moved_run pair i both notes meddles stop command (found_command lists_move pair i both command) h s
+    moved_run pair i both notes meddles stop command (found_command list_mover pair i both command) h s
 
 -- turned
 
-turned_now : (both : Both History History) (notes : MoveNotes) → AreInOrder both.first.role both.second.role notes
+turned_now : (both : BothSides History History) (notes : MoveNotes) → AreInOrder both.first.role both.second.role notes
     → requests_now (sides_swapped both) ≡ requests_now both
 turned_now both notes h = ap (λ (y : History). requests_of y.batches) (turned_history both notes h)
 
@@ -165,22 +165,22 @@ pub same_meaning : (variant : Variant) (meaning : Meaning) (key barrier : List �
 same_meaning Basic meaning key barrier = refl
 same_meaning Opt meaning key barrier = refl
 
-meaning_on : (pair : Pair) (which : Which) → (instance_on pair which).meaning ≡ pair.meaning
+meaning_on : (pair : Pair) (which : SideName) → (instance_on pair which).meaning ≡ pair.meaning
 meaning_on pair which = same_meaning pair.variant pair.meaning (key_of pair which) pair.barrier
 
-event_run : (pair : Pair) (both : Both History History) (notes : MoveNotes) (which : Which) (act : BothAct)
+event_run : (pair : Pair) (both : BothSides History History) (notes : MoveNotes) (which : SideName) (act : BothAct)
     → AreInOrder both.first.role both.second.role notes
-    → (let o : BothOutcome History History = both_outcome lists_move pair both (record { which = which; act = act }) in
+    → (let o : BothOutcome History History = both_outcome list_mover pair both (record { which = which; act = act }) in
     IsNew notes o.effect → IsOursIn pair both.tickets notes act → IsRunHere pair.meaning both act o)
 event_run pair both notes First act h new ours =
     let i : Instance = instance_on pair First in
     let s = here_ordered pair i both notes act h new ours in
-    subst (λ m. IsRunHere m both act (outcome_here lists_move pair i both act)) (meaning_on pair First) (here_run pair i both notes act h s)
+    subst (λ m. IsRunHere m both act (outcome_here list_mover pair i both act)) (meaning_on pair First) (here_run pair i both notes act h s)
 event_run pair both notes Second act h new ours =
     let i : Instance = instance_on pair Second in
     let k = roles_swap both.first.role both.second.role notes h in
     let s = here_ordered pair i (sides_swapped both) notes act k new ours in
-    let o : BothOutcome History History = outcome_here lists_move pair i (sides_swapped both) act in
+    let o : BothOutcome History History = outcome_here list_mover pair i (sides_swapped both) act in
     let r : IsRunHere pair.meaning (sides_swapped both) act o =
     subst (λ m. IsRunHere m (sides_swapped both) act o) (meaning_on pair Second) (here_run pair i (sides_swapped both) notes act k s) in
     let before : requests_now (sides_swapped both) ≡ requests_now both = turned_now both notes h in
@@ -192,14 +192,14 @@ event_run pair both notes Second act h new ours =
       count = λ e. r.count (e ∙ ap length (sym before)) ∙ ap length (sym after);
     }
 
-run_from : (pair : Pair) (events : List BothEvent) (both : Both History History) (notes : MoveNotes)
+run_from : (pair : Pair) (events : List BothEvent) (both : BothSides History History) (notes : MoveNotes)
     → AreInOrder both.first.role both.second.role notes → AreFreshFrom pair both notes events → both.committed ≡ length (requests_now both)
-    → (let f : BothRunOutcome History History = both_outcome_of_events lists_move pair both events in
+    → (let f : BothRunOutcome History History = both_outcome_of_events list_mover pair both events in
     IsEventRun pair.meaning (requests_now both) (plain_events events) (plain_replies f.replies) (requests_now f.both)
     × (f.both.committed ≡ length (requests_now f.both)))
 run_from pair [] both notes h fresh e = (refl, e)
 run_from pair (event ∷ events) both notes h fresh e =
-    let o : BothOutcome History History = both_outcome lists_move pair both event in
+    let o : BothOutcome History History = both_outcome list_mover pair both event in
     let next = event_ordered pair both notes event.which event.act h fresh.0 fresh.1 in
     let r = event_run pair both notes event.which event.act h fresh.0 fresh.1 in
     let rest = run_from pair events o.both (notes_with_effect_if o.effect notes) next.order fresh.2 (r.count e) in (
@@ -210,4 +210,4 @@ run_from pair (event ∷ events) both notes h fresh e =
 
 pub sides_run : SidesRunAsOne
 sides_run pair events fresh =
-    let r = run_from pair events (first_lists pair) no_notes roles_begin fresh refl in record { runs = r.0; count = r.1 }
+    let r = run_from pair events (first_both_by_lists pair) no_notes roles_begin fresh refl in record { runs = r.0; count = r.1 }

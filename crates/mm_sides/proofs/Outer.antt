@@ -5,7 +5,7 @@ use Rattle.mm_sides.proofs.Below.{Stop, Cut, Instance, History, Move, Foreign, P
 use Rattle.mm_sides.proofs.Below.{each_right, End, Done, Fails, StepFate, StepsWalk, walk, walk_from_step, has_commit, list_level}
 use Rattle.mm_sides.proofs.Below.{state_after_moves, digest_level, moves_after_stop, course_of, Outcome, outcome_by, outcome_without_call}
 use Rattle.mm_sides.proofs.Below.{read_only_outcome, vain_ask_outcome, vain_event_outcome, DenialCause, FoundMove, move_steps}
-use Rattle.mm_sides.proofs.Below.{stopped_moves, state_after_steps, lists_move, Variant, Basic, Opt, Batch, One, Meaning, is_long}
+use Rattle.mm_sides.proofs.Below.{stopped_moves, state_after_steps, list_mover, Variant, Basic, Opt, Batch, One, Meaning, is_long}
 use Rattle.mm_sides.proofs.Below.{AreMessagesIn, IsClear, messages_for_move, Digests, digests_after, Refusal, messages_of_moves}
 use Rattle.mm_sides.proofs.Below.{call_outcome_by, instance_by, Event, Ask, Checkpoint, Power, Extend, offered_bytes, KeepsHistory}
 use Rattle.mm_sides.proofs.Below.{EventsAgree, IsSoundIn, EventsKeepNames, event_foreign_values, AreApartIn, basic_events_agree}
@@ -100,13 +100,13 @@ pub same_open : (y z : History) → IsAlike y z → z.is_open ≡ y.is_open
 same_open y z a = ap (λ (w : History). w.is_open) a.is
 
 pub brought_alike : (i : Instance) (y : History) (meddles : List Meddle) (stop : Stop) (found : Result FoundMove DenialCause)
-    → IsAlike y (state_after_steps lists_move i y meddles stop (move_steps found))
+    → IsAlike y (state_after_steps list_mover i y meddles stop (move_steps found))
 brought_alike i y meddles stop found =
     let P : List ℕ → Type 0 = λ v. Unit {0} in
     let fates : ℕ → StepFate = (course_of stop meddles).fates in
     let walked : StepsWalk = walk fates 1 (move_steps found) in
     let z : History = state_after_moves (list_level i) y walked.moves in
-    alike_on y z (state_after_steps lists_move i y meddles stop (move_steps found))
+    alike_on y z (state_after_steps list_mover i y meddles stop (move_steps found))
     (outer_alike P i walked.moves y (found_outer P fates found (λ n. any_value (fates n).brings)))
     (outer_alike P i (stopped_moves stop walked.broken) z (stopped_outer P stop walked.broken))
 

@@ -9,7 +9,7 @@ use Rattle.mm_sides.proofs.Below.{AreNoGuards, history_messages, values_in, coun
 use Rattle.mm_sides.proofs.Below.{anchor_after, issued_place, content_of_issue, is_new, place_messages, flag_of, basic_issued, opt_issued}
 use Rattle.mm_sides.proofs.Below.{point_kept, basic_stands_here, opt_stands_here, IsLedTo, IsWithin, list_level, digest_level, DigestsAgree}
 use Rattle.mm_sides.proofs.Below.{instance_by, plain_outside, lives, within_items, summary_in, place_at, IsSoundIn, AreApartIn}
-use Rattle.mm_sides.proofs.Below.{digests_move, stands_here}
+use Rattle.mm_sides.proofs.Below.{digest_mover, is_offer_here}
 use Rattle.mm_seal.specs.declared.snapshot.Place.{Place}
 use Rattle.mm_seal.specs.declared.snapshot.Place.TheVariants.{Basic as InBasic, Opt as InOpt}
 use Rattle.mm_model.specs.HistoryWords.{cell_digest_of}
@@ -130,7 +130,7 @@ digest_rests Opt meaning key barrier y shut = ap (λ (p : Place). (summary_in p)
 pub says_again : (variant : Variant) (meaning : Meaning) (key barrier : List ℕ) (y : History) (d : Digests) (c : Content)
     → y.is_open ≡ false → (let i = instance_by variant meaning key barrier in
     d.digest ≡ cell_digest_of i i.variant y → c.position ≡ total_of y.batches → c.state ≡ state_after i.meaning (requests_of y.batches)
-    → digests_move.says i d c ≡ content_of_issue i y)
+    → digest_mover.says i d c ≡ content_of_issue i y)
 says_again Basic meaning key barrier y d c shut e p s = λ j. record {
   id = meaning.id;
   place = InBasic (digest_of (e j));
@@ -166,7 +166,7 @@ new_live Live true repeat e = (refl, refl)
 new_live Live false true e = cc
 new_live _ at repeat e = cc
 
-pub here_tells : (i : Instance) (y : History) (c : Content) → stands_here (list_level i) y c ≡ true → IsHere i.variant y c.position
+pub here_tells : (i : Instance) (y : History) (c : Content) → is_offer_here (list_level i) y c ≡ true → IsHere i.variant y c.position
 here_tells i y c e =
     let t = new_live (life_of i.variant y) (nat_eq c.position (total_of y.batches))
     (nat_eq (c.position + size_of (One [])) (total_of y.batches) && is_last y.batches (One [])) e in
@@ -243,7 +243,7 @@ opt_here : (meaning : Meaning) (key barrier : List ℕ) (all others : List (List
     (c : Content) → IsClear all → AreNoGuards barrier others asked → IsWithin all others asked (opt_instance meaning key barrier) y
     → DigestsAgree (opt_instance meaning key barrier) y d → y.is_open ≡ false → AreMessagesIn (place_messages c.place) all
     → NamesPosition (opt_instance meaning key barrier) y c
-    → stands_here (digest_level (opt_instance meaning key barrier)) d c ≡ stands_here (list_level (opt_instance meaning key barrier)) y c
+    → is_offer_here (digest_level (opt_instance meaning key barrier)) d c ≡ is_offer_here (list_level (opt_instance meaning key barrier)) y c
 opt_here meaning key barrier all others asked y d c clear apart w a shut listed names =
     let i = opt_instance meaning key barrier in
     let z : History = holding y [] in
@@ -259,7 +259,7 @@ opt_here meaning key barrier all others asked y d c clear apart w a shut listed 
 basic_here : (meaning : Meaning) (key : List ℕ) (all others : List (List ℕ)) (asked : List Batch) (y : History) (d : Digests) (c : Content)
     → IsClear all → IsWithin all others asked (basic_instance meaning key) y → DigestsAgree (basic_instance meaning key) y d
     → NamesPosition (basic_instance meaning key) y c
-    → stands_here (digest_level (basic_instance meaning key)) d c ≡ stands_here (list_level (basic_instance meaning key)) y c
+    → is_offer_here (digest_level (basic_instance meaning key)) d c ≡ is_offer_here (list_level (basic_instance meaning key)) y c
 basic_here meaning key all others asked y d c clear w a names =
     ap (λ f. is_new (verdict_by_digests zero_bytes f d.digest d.register c.place (One []))) a.flag
     ∙ ap (λ x. is_new (verdict_by_digests zero_bytes false x d.register c.place (One []))) a.digest
@@ -269,7 +269,7 @@ pub here_same : (variant : Variant) (meaning : Meaning) (key barrier : List ℕ)
     → (let i = instance_by variant meaning key barrier in
     IsClear all → AreApartIn i.variant i others asked → (y : History) (d : Digests) (c : Content) → IsWithin all others asked i y
     → DigestsAgree i y d → y.is_open ≡ false → AreMessagesIn (place_messages c.place) all → NamesPosition i y c
-    → stands_here (digest_level i) d c ≡ stands_here (list_level i) y c)
+    → is_offer_here (digest_level i) d c ≡ is_offer_here (list_level i) y c)
 here_same Basic meaning key barrier all others asked clear apart y d c w a shut listed names =
     basic_here meaning key all others asked y d c clear w a names
 here_same Opt meaning key barrier all others asked clear apart y d c w a shut listed names =

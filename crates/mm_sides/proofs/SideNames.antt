@@ -3,7 +3,7 @@ use Rattle.mm_sides.proofs.Below.{ℕ, ◌≡◌, Bool, true, false, List, [], �
 use Rattle.mm_sides.proofs.Below.{Meaning, Content, sealed_snapshot_of, Instance, History, RegisterEntry, items_of_all, first_history, Life}
 use Rattle.mm_sides.proofs.Below.{LiveHistory, life_by, is_empty, are_own, has_value, life_of, NamesPosition, Refusal, list_level}
 use Rattle.mm_sides.proofs.Below.{instance_by, sound_shut, Event, Outcome, event_outcome, vain_event_outcome, IsIssued, IsSoundIn, Role}
-use Rattle.mm_sides.proofs.Below.{Live, MoveNotes, is_live, AreInOrder, Both, sides_swapped, lists_move, plain_outcome, history_at}
+use Rattle.mm_sides.proofs.Below.{Live, MoveNotes, is_live, AreInOrder, BothSides, sides_swapped, list_mover, plain_outcome, history_at}
 use Rattle.mm_sides.proofs.Below.{history_now, refusal_for_role}
 use Rattle.mm_model.specs.EndLaws.{first_sound}
 use Rattle.mm_sides.proofs.InOrder.{not_dead, roles_swap}
@@ -76,11 +76,11 @@ pub record IssuesAt (i j : Instance) (role role' : Role) (y z away now : History
   pub other_now : AllByRecursion (IsIssued j now) issued'
   pub rests : is_live role ≡ false → is_live role' ≡ false → (away.is_open ≡ false) × (life_of i.variant away ≡ LiveHistory)
 
-abbrev pub Issues : Instance → Instance → Both History History → MoveNotes → Type 0
+abbrev pub Issues : Instance → Instance → BothSides History History → MoveNotes → Type 0
 Issues i j l notes =
     IssuesAt i j l.first.role l.second.role l.first.at l.second.at l.away (history_now l) l.first.issued l.second.issued notes
 
-pub turned_issues : (variant : Variant) (meaning : Meaning) (key key' barrier : List ℕ) (l : Both History History) (notes : MoveNotes)
+pub turned_issues : (variant : Variant) (meaning : Meaning) (key key' barrier : List ℕ) (l : BothSides History History) (notes : MoveNotes)
     → Issues (instance_by variant meaning key barrier) (instance_by variant meaning key' barrier) l notes
     → Issues (instance_by variant meaning key' barrier) (instance_by variant meaning key barrier) (sides_swapped l) notes
 turned_issues variant meaning key key' barrier l notes k =
@@ -113,7 +113,7 @@ module _ (variant : Variant) (meaning : Meaning) (key key' barrier : List ℕ) w
   sound_at false false y z second away h s = s
 
   -- the first side stands elsewhere, and issued no snapshot
-  pub brought_issues : (l : Both History History) (notes : MoveNotes) (z : History) → Issues me them l notes → IsAlike l.first.at z
+  pub brought_issues : (l : BothSides History History) (notes : MoveNotes) (z : History) → Issues me them l notes → IsAlike l.first.at z
       → (is_live l.first.role ≡ true → IsSoundIn me.variant l.first.at → IsSoundIn me.variant z)
       → Issues me them (record l { first = record l.first { at = z } }) notes
   brought_issues l notes z k alike sound =
@@ -132,8 +132,8 @@ module _ (variant : Variant) (meaning : Meaning) (key key' barrier : List ℕ) w
 
   -- an event of a schedule
 
-  module _ (l : Both History History) (notes : MoveNotes) where
-    abbrev standing : Role → Both History History
+  module _ (l : BothSides History History) (notes : MoveNotes) where
+    abbrev standing : Role → BothSides History History
     standing role = record l { first = record l.first { role = role } }
 
     live_issues : (event : Event) → Issues me them (standing Live) notes
@@ -165,6 +165,6 @@ module _ (variant : Variant) (meaning : Meaning) (key key' barrier : List ℕ) w
         (sym v.issued_is) (brought_issues (standing role) notes o.state k v.alike (λ live. not_dead (sym live ∙ dead)))
 
     pub plain_issues : (role : Role) (event : Event) → Issues me them (standing role) notes
-        → Issues me them (plain_outcome lists_move me (standing role) event).both notes
+        → Issues me them (plain_outcome list_mover me (standing role) event).both notes
     plain_issues Live event k = live_issues event k
     plain_issues role event k = vain_issues role (refusal_for_role role) event refl k

@@ -1,9 +1,9 @@
--- Both sides by digests beside both sides by lists: what holds of them before and after each event.
+-- BothSides sides by digests beside both sides by lists: what holds of them before and after each event.
 use Rattle.mm_sides.proofs.Below.{Basic, Bool, Opt, true, ℕ, ◌≡◌, false, List, [], ◌∷◌, sym, ◌∙◌, subst, ◌+◌, ◌-◌, None, AllByRecursion}
 use Rattle.mm_sides.proofs.Below.{Contains, Variant, Batch, Meaning, Instance, History, total_of, AreMessagesIn, IsClear, Digests}
 use Rattle.mm_sides.proofs.Below.{NamesPosition, content_of_issue, place_messages, IsWithin, messages_of_moves, instance_by, TicketContent}
-use Rattle.mm_sides.proofs.Below.{KeepsHistory, Role, Live, Retired, MoveNotes, is_live, AreInOrder, IsLastTicket, Both, sides_swapped}
-use Rattle.mm_sides.proofs.Below.{lists_move, digests_move, BothOutcome, notes_with_effect_if, Plain, Said, plain_outcome, history_at}
+use Rattle.mm_sides.proofs.Below.{KeepsHistory, Role, Live, Retired, MoveNotes, is_live, AreInOrder, IsLastTicket, BothSides, sides_swapped}
+use Rattle.mm_sides.proofs.Below.{list_mover, digest_mover, BothOutcome, notes_with_effect_if, Plain, Said, plain_outcome, history_at}
 use Rattle.mm_sides.proofs.Below.{history_now, Refusal, each_left, each_right, list_level, digest_level, Event, Outcome, event_outcome}
 use Rattle.mm_sides.proofs.Below.{vain_event_outcome, event_foreign_values, batches_of, event_messages, moves_of, AreApartIn}
 use Rattle.mm_sides.proofs.Below.{refusal_for_role, vain_moves, plain_messages, IsGenuineHere}
@@ -22,7 +22,7 @@ pub record Twin : Type 0 where
 abbrev pub turned_twin : Twin → Twin
 turned_twin x = record { first = x.second; second = x.first; away = x.away }
 
-abbrev pub twin : Both History History → Twin → Both Digests ℕ
+abbrev pub twin : BothSides History History → Twin → BothSides Digests ℕ
 twin l x = record {
   first = record { role = l.first.role; at = x.first; issued = l.first.issued };
   second = record { role = l.second.role; at = x.second; issued = l.second.issued };
@@ -64,7 +64,7 @@ pub record KeptAt (all others : List (List ℕ)) (asked : List Batch) (i j : Ins
   pub other_behind : IsBehind role' j.variant z (history_at (is_live role) (is_live role') y z away)
 
 -- what holds of both sides, whatever they issued
-abbrev pub Kept : List (List ℕ) → List (List ℕ) → List Batch → Instance → Instance → Both History History → Twin → MoveNotes → Type 0
+abbrev pub Kept : List (List ℕ) → List (List ℕ) → List Batch → Instance → Instance → BothSides History History → Twin → MoveNotes → Type 0
 Kept all others asked i j l x notes = KeptAt all others asked i j l.first.role l.second.role l.first.at l.second.at l.away x notes
 
 -- An event comes by digests to what it comes to by lists.
@@ -80,7 +80,7 @@ each_goes P Q f (x ∷ xs) h = (f x h.0, each_goes P Q f xs h.1)
 
 -- the same with the sides exchanged
 pub turned_kept : (variant : Variant) (meaning : Meaning) (key key' barrier : List ℕ) (all others : List (List ℕ)) (asked : List Batch)
-    (l : Both History History) (x : Twin) (notes : MoveNotes)
+    (l : BothSides History History) (x : Twin) (notes : MoveNotes)
     → Kept all others asked (instance_by variant meaning key barrier) (instance_by variant meaning key' barrier) l x notes
     → Kept all others asked (instance_by variant meaning key' barrier) (instance_by variant meaning key barrier) (sides_swapped l)
     (turned_twin x) notes
@@ -130,7 +130,7 @@ module _ (variant : Variant) (meaning : Meaning) (key key' barrier : List ℕ) (
   shut_alike role y z e h = tt
 
   -- the first side stands elsewhere, as others extended its register
-  pub brought_kept : (l : Both History History) (x : Twin) (notes : MoveNotes) (z : History) (d : Digests)
+  pub brought_kept : (l : BothSides History History) (x : Twin) (notes : MoveNotes) (z : History) (d : Digests)
       → Kept all others asked me them l x notes → KeepsHistory all others asked me z d → IsAlike l.first.at z
       → Kept all others asked me them (record l { first = record l.first { at = z } }) (record x { first = d }) notes
   brought_kept l x notes z d k keeps alike =
@@ -156,16 +156,16 @@ module _ (variant : Variant) (meaning : Meaning) (key key' barrier : List ℕ) (
 
   -- an event of a schedule, by the role of its side
 
-  module _ (l : Both History History) (x : Twin) (notes : MoveNotes) where
-    abbrev standing : Role → Both History History
+  module _ (l : BothSides History History) (x : Twin) (notes : MoveNotes) where
+    abbrev standing : Role → BothSides History History
     standing role = record l { first = record l.first { role = role } }
 
     live_goes : (event : Event) → Kept all others asked me them (standing Live) x notes
         → AllByRecursion (Contains others) (event_foreign_values event)
         → AllByRecursion (Contains asked) (batches_of event) → AreMessagesIn (plain_messages me Live (standing Live).first event) all
         → IsGenuineHere me (standing Live) (Plain event)
-        → Goes all others asked me them notes (plain_outcome lists_move me (standing Live) event)
-        (plain_outcome digests_move me (twin (standing Live) x) event)
+        → Goes all others asked me them notes (plain_outcome list_mover me (standing Live) event)
+        (plain_outcome digest_mover me (twin (standing Live) x) event)
     live_goes event k outside batches listed genuine =
         let ol : Outcome History = event_outcome me (list_level me) l.first.at l.first.issued event in
         let od : Outcome Digests = event_outcome me (digest_level me) x.first l.first.issued event in
@@ -244,13 +244,13 @@ module _ (variant : Variant) (meaning : Meaning) (key key' barrier : List ℕ) (
         → AllByRecursion (Contains others) (event_foreign_values event)
         → AllByRecursion (Contains asked) (batches_of event) → AreMessagesIn (plain_messages me role (standing role).first event) all
         → IsGenuineHere me (standing role) (Plain event)
-        → Goes all others asked me them notes (plain_outcome lists_move me (standing role) event)
-        (plain_outcome digests_move me (twin (standing role) x) event)
+        → Goes all others asked me them notes (plain_outcome list_mover me (standing role) event)
+        (plain_outcome digest_mover me (twin (standing role) x) event)
     plain_goes Live event k outside batches listed genuine = live_goes event k outside batches listed genuine
     plain_goes role event k outside batches listed genuine = vain_goes role (refusal_for_role role) event k outside listed
 
   -- the history now is within the lists
-  pub now_within : (l : Both History History) (x : Twin) (notes : MoveNotes) → Kept all others asked me them l x notes
+  pub now_within : (l : BothSides History History) (x : Twin) (notes : MoveNotes) → Kept all others asked me them l x notes
       → IsWithin all others asked me (history_now l)
   now_within l x notes k = within_at (is_live l.first.role) (is_live l.second.role) k.this.keeps.within
       (within_other variant meaning key key' barrier all others asked l.second.at k.other.keeps.within) k.left.within

@@ -26,7 +26,7 @@ use Rattle.mm_model.specs.FormLaws.{HasListedMessages, listed_segment}
 use Rattle.mm_model.specs.History.{extension_value}
 use Rattle.mm_model.specs.HistoryLaws.{batches_in-append, has_value-append, length-batches_in, own_values-append, sooner, values_of-clean}
 use Rattle.mm_model.specs.HistoryWords.{cell_digest_of, values_of}
-use Rattle.mm_model.specs.Verdicts.{fits_again, fits_fresh, forms_of, is_last, verdict_on, verdict_by_tests, Point, verdict_by}
+use Rattle.mm_model.specs.Verdicts.{is_repeat_form, is_fresh_form, forms_of, is_last, verdict_on, verdict_by_tests, Point, verdict_by}
 use Rattle.mm_model.specs.Verdicts.{verdict_by_digests}
 use Rattle.mm_model.specs.Life.{Live}
 use Rattle.mm_model.specs.ListLaws.{ends}
@@ -95,7 +95,7 @@ Stands anchor a e = ((a ≡ anchor) × (e ≡ zero_bytes)) ⊎ ((e ≡ zero_byte
 forms_told : (anchor register a e : List ℕ) (none : Bool) → bytes_eq e zero_bytes ≡ none
     → (let forms : List Point = record { anchor = a; extension = e }
     ∷ (if none then [] else record { anchor = anchored_digest_of a e; extension = zero_bytes } ∷ []) in
-    Decides (list_any (fits_fresh false anchor register) forms) (Stands anchor a e))
+    Decides (list_any (is_fresh_form false anchor register) forms) (Stands anchor a e))
 forms_told anchor register a e true is =
     Decides-or (bytes_eq a anchor && bytes_eq e zero_bytes) false
     (Decides-and (bytes_eq a anchor) (bytes_eq e zero_bytes) (bytes_eq-Decides a anchor) (bytes_eq-Decides e zero_bytes))
@@ -565,12 +565,12 @@ opt_went_on meaning key barrier register y z offered b all w r sound clear histo
     on (InBasic s) p c = absurd p
     on (InOpt a e) p c =
         let anchor : List ℕ = anchor_of meaning.id (map (values_of barrier) y.closed) in
-        let fresh : Bool = list_any (fits_fresh false anchor register) (forms_of a.bytes e.bytes) in
+        let fresh : Bool = list_any (is_fresh_form false anchor register) (forms_of a.bytes e.bytes) in
         let told = forms_told anchor register a.bytes e.bytes (bytes_eq e.bytes zero_bytes) refl in
         let listed = listed_by (opt_instance meaning key barrier) z all history in
         let so = so_point (opt_instance meaning key barrier) y z all w r sound clear listed n.named n.rest n.first a.bytes e.bytes p c in
         let counts = counts_same y z n.named n.rest w n.first in
-        new_by fresh (list_any (fits_again false anchor register (guard barrier b)) (forms_of a.bytes e.bytes))
+        new_by fresh (list_any (is_repeat_form false anchor register (guard barrier b)) (forms_of a.bytes e.bytes))
         ∙ same_tests fresh (nat_eq (total_of n.named) (total_of y.batches)) (λ t. counts.1 (so.0 (told.0 t)))
         (λ t. told.1 (so.1 (counts.0 t)))
         ∙ ap (λ (p : ℕ). nat_eq p (total_of y.batches)) (sym n.position)

@@ -6,8 +6,8 @@ use Rattle.mm_sides.specs.Below.{End, Done, Fails, StepFate, walk, sealed_ticket
 use Rattle.mm_sides.specs.Below.{course_of, event_outcome, vain_event_outcome, offered_bytes}
 use Rattle.mm_model.specs.declared.refusal.Refusal.TheVariants as refusal
 use Rattle.mm_sides.specs.Roles.{Role, Blank, Live, Waiting, Retired, Effect, Invites, Leaves, Enters, MoveNotes, notes_with_effect}
-use Rattle.mm_sides.specs.Both.{Which, First, Second, Pair, instance_on, SideState, Both, sides_swapped, sides_seen_from, Mover, lists_move}
-use Rattle.mm_sides.specs.Both.{digests_move, first_lists, first_both}
+use Rattle.mm_sides.specs.BothSides.{SideName, First, Second, Pair, instance_on, SideState, BothSides, sides_swapped, sides_seen_from, Mover, list_mover}
+use Rattle.mm_sides.specs.BothSides.{digest_mover, first_both_by_lists, first_both_by_digests}
 use Rattle.mm_sides.specs.Moves.{MoveCommand, Invite, Retire, Accept, DenialCause, FoundMove, invitation_on, retirement_on, acceptance_on}
 use Rattle.mm_sides.specs.Moves.{ticket_in}
 
@@ -19,7 +19,7 @@ pub data BothAct : Type 0 where
 
 -- an event: a side, and what happens there
 pub record BothEvent : Type 0 where
-  pub which : Which
+  pub which : SideName
   pub act : BothAct
 
 -- The reply to an event: one of a schedule. To a command: invited, left by the ticket of this
@@ -37,7 +37,7 @@ pub data BothReply : Type 0 where
 
 -- what stands after an event, its reply, and the effect of a move, where it had one
 pub record BothOutcome (S A : Type 0) : Type 0 where
-  pub both : Both S A
+  pub both : BothSides S A
   pub reply : BothReply
   pub effect : Option Effect
 
@@ -63,7 +63,7 @@ commits_between role before after = 0
 -- sides.
 
 -- an event of a schedule
-abbrev pub plain_outcome : {S A : Type 0} → Mover S A → Instance → Both S A → Event
+abbrev pub plain_outcome : {S A : Type 0} → Mover S A → Instance → BothSides S A → Event
     → BothOutcome S A
 plain_outcome mover i both event =
     let side = both.first in
@@ -120,7 +120,7 @@ state_after_steps mover i at meddles stop steps =
     (stopped_moves stop walked.broken)
 
 -- what an effect makes of both sides
-abbrev pub sides_after_effect : {S A : Type 0} → Mover S A → Both S A → Effect → Both S A
+abbrev pub sides_after_effect : {S A : Type 0} → Mover S A → BothSides S A → Effect → BothSides S A
 sides_after_effect mover both (Invites nonce) =
     record both { first = record both.first { role = Waiting nonce } }
 sides_after_effect mover both (Leaves ticket) =
@@ -135,14 +135,14 @@ sides_after_effect mover both (Enters ticket) =
           { role = Live; at = mover.enters both.first.at both.away ticket.content };
     }
 
-abbrev pub sides_after_effect_if : {S A : Type 0} → Mover S A → Both S A → Option Effect → Both S A
+abbrev pub sides_after_effect_if : {S A : Type 0} → Mover S A → BothSides S A → Option Effect → BothSides S A
 sides_after_effect_if mover both None = both
 sides_after_effect_if mover both (Some effect) = sides_after_effect mover both effect
 
 -- what stands after a move is told, and its reply: a retirement hands out its ticket, and an
 -- acceptance a snapshot
-abbrev pub sides_after_issue : {S A : Type 0} → Mover S A → Pair → Instance → Both S A → Effect
-    → Both S A
+abbrev pub sides_after_issue : {S A : Type 0} → Mover S A → Pair → Instance → BothSides S A → Effect
+    → BothSides S A
 sides_after_issue mover pair i both (Invites nonce) = both
 sides_after_issue mover pair i both (Leaves ticket) =
     record both { tickets = both.tickets ++ sealed_ticket pair.link ticket ∷ [] }
@@ -150,7 +150,7 @@ sides_after_issue mover pair i both (Enters ticket) =
     let answer = sealed_snapshot_of i.key (mover.says i both.first.at ticket.content) in
     record both { first = record both.first { issued = both.first.issued ++ answer ∷ [] } }
 
-abbrev pub effect_reply : {S A : Type 0} → Mover S A → Instance → Both S A → Effect → BothReply
+abbrev pub effect_reply : {S A : Type 0} → Mover S A → Instance → BothSides S A → Effect → BothReply
 effect_reply mover i both (Invites nonce) = Invited
 effect_reply mover i both (Leaves ticket) = Left (length both.tickets)
 effect_reply mover i both (Enters ticket) =
@@ -161,7 +161,7 @@ is_some None = false
 is_some (Some x) = true
 
 -- how a move ends: broken off, with its effect or without; or refused; or told
-abbrev pub move_end_outcome : {S A : Type 0} → Mover S A → Pair → Instance → Both S A → Stop
+abbrev pub move_end_outcome : {S A : Type 0} → Mover S A → Pair → Instance → BothSides S A → Stop
     → Option StepFault → Result FoundMove DenialCause
     → Option Effect → BothOutcome S A
 move_end_outcome mover pair i both stop (Some fault) found effect =
@@ -175,7 +175,7 @@ move_end_outcome mover pair i both stop None (Ok found) effect = record {
 }
 
 -- a move, by what it finds
-abbrev pub outcome_of_found_move : {S A : Type 0} → Mover S A → Pair → Instance → Both S A
+abbrev pub outcome_of_found_move : {S A : Type 0} → Mover S A → Pair → Instance → BothSides S A
     → List Meddle → Stop
     → Result FoundMove DenialCause
     → BothOutcome S A
@@ -204,7 +204,7 @@ found_acceptance mover pair i side None = None
 found_acceptance mover pair i side (Some bytes) =
     Some (acceptance_on (mover.level i) side.role side.at (ticket_in pair bytes))
 
-abbrev pub found_command : {S A : Type 0} → Mover S A → Pair → Instance → Both S A → MoveCommand
+abbrev pub found_command : {S A : Type 0} → Mover S A → Pair → Instance → BothSides S A → MoveCommand
     → Option (Result FoundMove DenialCause)
 found_command mover pair i both (Invite nonce) = Some (invitation_on both.first.role nonce)
 found_command mover pair i both (Retire nonce offer) =
@@ -217,7 +217,7 @@ unissued_reply (Accept offer) = NoTicket
 unissued_reply command = NoSnapshot
 
 -- a command: where its number isn't issued nothing is called
-abbrev pub outcome_if_found : {S A : Type 0} → Mover S A → Pair → Instance → Both S A → List Meddle
+abbrev pub outcome_if_found : {S A : Type 0} → Mover S A → Pair → Instance → BothSides S A → List Meddle
     → Stop
     → MoveCommand
     → Option (Result FoundMove DenialCause) → BothOutcome S A
@@ -226,25 +226,25 @@ outcome_if_found mover pair i both meddles stop command None =
 outcome_if_found mover pair i both meddles stop command (Some found) =
     outcome_of_found_move mover pair i both meddles stop found
 
-abbrev pub move_outcome : {S A : Type 0} → Mover S A → Pair → Instance → Both S A → List Meddle
+abbrev pub move_outcome : {S A : Type 0} → Mover S A → Pair → Instance → BothSides S A → List Meddle
     → Stop → MoveCommand → BothOutcome S A
 move_outcome mover pair i both meddles stop command =
     outcome_if_found mover pair i both meddles stop command
     (found_command mover pair i both command)
 
 -- an event on the first side, by its instance
-abbrev pub outcome_here : {S A : Type 0} → Mover S A → Pair → Instance → Both S A → BothAct
+abbrev pub outcome_here : {S A : Type 0} → Mover S A → Pair → Instance → BothSides S A → BothAct
     → BothOutcome S A
 outcome_here mover pair i both (Plain event) = plain_outcome mover i both event
 outcome_here mover pair i both (Moves meddles stop command) =
     move_outcome mover pair i both meddles stop command
 
-abbrev pub outcome_swapped : {S A : Type 0} → Which → BothOutcome S A → BothOutcome S A
+abbrev pub outcome_swapped : {S A : Type 0} → SideName → BothOutcome S A → BothOutcome S A
 outcome_swapped First o = o
 outcome_swapped Second o = record o { both = sides_swapped o.both }
 
 -- one event
-abbrev pub both_outcome : {S A : Type 0} → Mover S A → Pair → Both S A → BothEvent → BothOutcome S A
+abbrev pub both_outcome : {S A : Type 0} → Mover S A → Pair → BothSides S A → BothEvent → BothOutcome S A
 both_outcome mover pair both event =
     outcome_swapped event.which
     (outcome_here mover pair (instance_on pair event.which)
@@ -252,10 +252,10 @@ both_outcome mover pair both event =
 
 -- what stands after some events, and the replies
 pub record BothRunOutcome (S A : Type 0) : Type 0 where
-  pub both : Both S A
+  pub both : BothSides S A
   pub replies : List BothReply
 
-abbrev pub both_outcome_of_events : {S A : Type 0} → Mover S A → Pair → Both S A → List BothEvent
+abbrev pub both_outcome_of_events : {S A : Type 0} → Mover S A → Pair → BothSides S A → List BothEvent
     → BothRunOutcome S A
 both_outcome_of_events mover pair both [] = record { both = both; replies = [] }
 both_outcome_of_events mover pair both (event ∷ events) =
@@ -265,11 +265,11 @@ both_outcome_of_events mover pair both (event ∷ events) =
 
 -- a schedule from the start: by lists, and by digests
 abbrev pub both_outcome_by_lists : Pair → List BothEvent → BothRunOutcome History History
-both_outcome_by_lists pair events = both_outcome_of_events lists_move pair (first_lists pair) events
+both_outcome_by_lists pair events = both_outcome_of_events list_mover pair (first_both_by_lists pair) events
 
 abbrev pub both_outcome_by_digests : Pair → List BothEvent → BothRunOutcome Digests ℕ
-both_outcome_by_digests pair events = both_outcome_of_events digests_move pair
-    (first_both pair) events
+both_outcome_by_digests pair events = both_outcome_of_events digest_mover pair
+    (first_both_by_digests pair) events
 
 -- the notes of what an event has moved
 abbrev pub notes_with_effect_if : Option Effect → MoveNotes → MoveNotes

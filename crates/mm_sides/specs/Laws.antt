@@ -4,9 +4,9 @@ use Rattle.std.specs.List.{AllByRecursion}
 use Rattle.mm_sides.specs.Below.{Variant, Quiet, counter, History, requests_of, Digests, DigestsAgree, Event, IsEventRun, Last, Reply}
 use Rattle.mm_sides.specs.Below.{IsIssued}
 use Rattle.mm_sides.specs.Roles.{Live, Retired, Effect, Enters, MoveNotes, no_notes}
-use Rattle.mm_sides.specs.Order.{EntersLast, AtMostOne}
-use Rattle.mm_sides.specs.Both.{Which, First, Second, Pair, instance_on, SideState, Both, history_now, lists_move, digests_move}
-use Rattle.mm_sides.specs.Both.{first_lists}
+use Rattle.mm_sides.specs.Order.{ModuleEntersByLast, AreNotBothLive}
+use Rattle.mm_sides.specs.BothSides.{SideName, First, Second, Pair, instance_on, SideState, BothSides, history_now, list_mover, digest_mover}
+use Rattle.mm_sides.specs.BothSides.{first_both_by_lists}
 use Rattle.mm_sides.specs.Moves.{Invite, Retire, Accept}
 use Rattle.mm_sides.specs.Folds.{BothAct, Plain, Moves, BothEvent, BothReply, Said, both_outcome, BothRunOutcome, both_outcome_of_events}
 use Rattle.mm_sides.specs.Folds.{both_outcome_by_lists, both_outcome_by_digests, notes_with_effect_if}
@@ -14,13 +14,13 @@ use Rattle.mm_sides.specs.Premises.{IsClearPair, IsGenuinePair, IsFreshPair}
 
 -- Two ways to follow a side agree: its role, its snapshots, and the digests are those of the
 -- history.
-pub record SidesAgree (pair : Pair) (which : Which) (lists : SideState History)
+pub record SidesAgree (pair : Pair) (which : SideName) (lists : SideState History)
     (digests : SideState Digests) : Type 0 where
   pub role : digests.role ≡ lists.role
   pub at : DigestsAgree (instance_on pair which) lists.at digests.at
   pub issued : digests.issued ≡ lists.issued
 
--- Both followings give the same replies, the same tickets and the same count of requests, and agree
+-- BothSides followings give the same replies, the same tickets and the same count of requests, and agree
 -- on either side.
 pub record PairsAgree (pair : Pair) (lists : BothRunOutcome History History)
     (digests : BothRunOutcome Digests ℕ) : Type 0 where
@@ -38,25 +38,25 @@ PairsAgreeThroughout = (pair : Pair) (events : List BothEvent) →
     → PairsAgree pair (both_outcome_by_lists pair events) (both_outcome_by_digests pair events)
 
 -- where the effect of an event is that the module enters a side
-abbrev pub EntersAlone : MoveNotes → Both History History → Option Effect → Type 0
-EntersAlone notes both (Some (Enters ticket)) =
-    EntersLast both.first.role both.second.role notes ticket
-EntersAlone notes both effect = Unit {0}
+abbrev pub ModuleEntersAlone : MoveNotes → BothSides History History → Option Effect → Type 0
+ModuleEntersAlone notes both (Some (Enters ticket)) =
+    ModuleEntersByLast both.first.role both.second.role notes ticket
+ModuleEntersAlone notes both effect = Unit {0}
 
 -- At each moment at most one side is live; and the module enters a side only where none is, by the
 -- ticket that it left by last.
-abbrev pub IsOneFrom : Pair → Both History History → MoveNotes → List BothEvent → Type 0
-IsOneFrom pair both notes [] = AtMostOne both.first.role both.second.role
-IsOneFrom pair both notes (event ∷ events) =
-    let o = both_outcome lists_move pair both event in
-    AtMostOne both.first.role both.second.role × EntersAlone notes both o.effect
-    × IsOneFrom pair o.both (notes_with_effect_if o.effect notes) events
+abbrev pub IsOneLiveFrom : Pair → BothSides History History → MoveNotes → List BothEvent → Type 0
+IsOneLiveFrom pair both notes [] = AreNotBothLive both.first.role both.second.role
+IsOneLiveFrom pair both notes (event ∷ events) =
+    let o = both_outcome list_mover pair both event in
+    AreNotBothLive both.first.role both.second.role × ModuleEntersAlone notes both o.effect
+    × IsOneLiveFrom pair o.both (notes_with_effect_if o.effect notes) events
 
 -- It takes no premise but that nonces and tickets are fresh.
 abbrev pub OneIsLive : Type 0
 OneIsLive =
     (pair : Pair) (events : List BothEvent) → IsFreshPair pair events
-    → IsOneFrom pair (first_lists pair) no_notes events
+    → IsOneLiveFrom pair (first_both_by_lists pair) no_notes events
 
 -- the events of a schedule alone, and the replies to them
 abbrev pub plain_events_in : BothAct → List Event
@@ -99,12 +99,12 @@ PairsGoOn = (pair : Pair) (es fs : List BothEvent) →
     let lists : BothRunOutcome History History = both_outcome_by_lists pair es in
     let digests : BothRunOutcome Digests ℕ = both_outcome_by_digests pair es in
     (both_outcome_by_lists pair (es ++ fs) ≡ both_outcome_joined lists
-    (both_outcome_of_events lists_move pair lists.both fs))
+    (both_outcome_of_events list_mover pair lists.both fs))
     × (both_outcome_by_digests pair (es ++ fs) ≡ both_outcome_joined digests
-    (both_outcome_of_events digests_move pair digests.both fs))
+    (both_outcome_of_events digest_mover pair digests.both fs))
 
 -- Each snapshot that a side issued names a position of where it stands, and of the one history.
-pub record SnapshotsName (pair : Pair) (which : Which) (side : SideState History)
+pub record SnapshotsName (pair : Pair) (which : SideName) (side : SideState History)
     (history : History) : Type 0 where
   pub here : AllByRecursion (IsIssued (instance_on pair which) side.at) side.issued
   pub now : AllByRecursion (IsIssued (instance_on pair which) history) side.issued

@@ -1,7 +1,7 @@
 pub mod Below
 pub mod Roles
 pub mod Order
-pub mod Both
+pub mod BothSides
 pub mod Moves
 pub mod Folds
 pub mod Premises

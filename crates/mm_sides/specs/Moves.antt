@@ -5,7 +5,7 @@ use Rattle.mm_sides.specs.Below.{parts_of, Content, Snapshot, tag_of, PartsFault
 use Rattle.mm_sides.specs.Below.{Verdict, Fresh, Stale, Level, check_by_tests, TicketContent, TaggedTicket, ticket_tag, ticket_of, Offer}
 use Rattle.mm_model.specs.declared.refusal.Refusal.TheVariants as refusal
 use Rattle.mm_sides.specs.Roles.{Role, Blank, Live, Waiting, Retired, Effect, Invites, Leaves, Enters}
-use Rattle.mm_sides.specs.Both.{Mover, Pair}
+use Rattle.mm_sides.specs.BothSides.{Mover, Pair}
 
 -- invite the module to a side, under a nonce; let it leave a side for whoever was invited under a
 -- nonce, with one of the side's snapshots; let it enter a side, with one of the tickets
@@ -30,8 +30,8 @@ pub record FoundMove : Type 0 where
 
 -- an offer stands where the module stands: a batch asked with it would be a new one, whichever it
 -- is
-abbrev pub stands_here : {S : Type 0} → Level S → S → Content → Bool
-stands_here level at content = is_new (level.verdict at content (One []))
+abbrev pub is_offer_here : {S : Type 0} → Level S → S → Content → Bool
+is_offer_here level at content = is_new (level.verdict at content (One []))
 
 abbrev pub verdict_here : Bool → Verdict
 verdict_here true = Fresh
@@ -65,7 +65,7 @@ retirement_with mover i at again nonce (Ok snapshot) =
     found_retirement_by mover i at again nonce snapshot.content
     (check_by_tests (i.meaning.is_spelled snapshot.content.state)
     (bytes_eq snapshot.tag (tag_of i.key snapshot.content))
-    (verdict_here (stands_here (mover.level i) at snapshot.content)) true)
+    (verdict_here (is_offer_here (mover.level i) at snapshot.content)) true)
 retirement_with mover i at again nonce (Err Form) = Err (Refused refusal.Form)
 retirement_with mover i at again nonce (Err Kind) = Err (Refused refusal.Kind)
 
@@ -110,7 +110,7 @@ abbrev pub repeated_entry : {S : Type 0} → Level S → S → Result TicketCont
     → Result FoundMove DenialCause
 repeated_entry level at (Ok ticket) =
     if level.is_open at then Err (Refused refusal.Stale)
-    else (if stands_here level at ticket.content then Ok
+    else (if is_offer_here level at ticket.content then Ok
     (record { again = true; effect = Enters ticket }) else Err (Refused refusal.Stale))
 repeated_entry level at (Err why) = Err (Refused why)
 

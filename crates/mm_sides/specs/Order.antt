@@ -67,7 +67,7 @@ pub record IsLastTicket (retired : List TicketContent) (ticket : TicketContent) 
   pub is : retired ≡ front ++ ticket ∷ []
 
 -- The module enters a side only where it is on none, and only by the ticket that it left by last.
-pub record EntersLast (this other : Role) (notes : MoveNotes)
+pub record ModuleEntersByLast (this other : Role) (notes : MoveNotes)
     (ticket : TicketContent) : Type 0 where
   pub not_here : is_live this ≡ false
   pub not_there : is_live other ≡ false
@@ -94,12 +94,12 @@ abbrev pub RolesEnterLast : Type 0
 RolesEnterLast =
     (this other : Role) (notes : MoveNotes) (ticket : TicketContent) → AreInOrder this other notes
     → MayTake this (Enters ticket)
-    → IsFreshEffect notes (Enters ticket) → EntersLast this other notes ticket
+    → IsFreshEffect notes (Enters ticket) → ModuleEntersByLast this other notes ticket
 
 -- at most one of two sides is live
-abbrev pub AtMostOne : Role → Role → Type 0
-AtMostOne this other = is_live this ≡ true → is_live other ≡ false
+abbrev pub AreNotBothLive : Role → Role → Type 0
+AreNotBothLive this other = is_live this ≡ true → is_live other ≡ false
 
 abbrev pub RolesAreOne : Type 0
 RolesAreOne =
-    (this other : Role) (notes : MoveNotes) → AreInOrder this other notes → AtMostOne this other
+    (this other : Role) (notes : MoveNotes) → AreInOrder this other notes → AreNotBothLive this other

@@ -7,7 +7,7 @@ use Rattle.mm_sides.specs.Below.{place_messages, DeviceStep, Reads, Refusal, mes
 use Rattle.mm_sides.specs.Below.{Ask, Checkpoint, Power, Extend, course_of, offered_bytes, moves_of, event_messages, event_foreign_values}
 use Rattle.mm_sides.specs.Below.{batches_of, IsGenuineEvent, AreApartIn, IsGenuineOffer}
 use Rattle.mm_sides.specs.Roles.{Role, Live, Retired, Effect, Invites, MoveNotes, no_notes}
-use Rattle.mm_sides.specs.Both.{First, Pair, instance_on, SideState, Both, sides_seen_from, history_now, lists_move, first_lists}
+use Rattle.mm_sides.specs.BothSides.{First, Pair, instance_on, SideState, BothSides, sides_seen_from, history_now, list_mover, first_both_by_lists}
 use Rattle.mm_sides.specs.Moves.{MoveCommand, Retire, Accept, FoundMove, DenialCause, ticket_in}
 use Rattle.mm_sides.specs.Folds.{BothAct, Plain, Moves, BothEvent, move_steps, found_command, both_outcome, notes_with_effect_if}
 
@@ -55,28 +55,28 @@ command_messages i side (Retire nonce offer) =
     offer_closing_messages i (offered_bytes side.issued offer)
 command_messages i side command = []
 
-abbrev pub messages_here : Pair → Instance → Both History History → BothAct → List (List ℕ)
+abbrev pub messages_here : Pair → Instance → BothSides History History → BothAct → List (List ℕ)
 messages_here pair i both (Plain event) = plain_messages i both.first.role both.first event
 messages_here pair i both (Moves meddles stop command) =
     command_messages i both.first command
     ++ messages_of_moves i both.first.at
-    (found_moves meddles stop (found_command lists_move pair i both command))
+    (found_moves meddles stop (found_command list_mover pair i both command))
 
-abbrev pub both_event_messages : Pair → Both History History → BothEvent → List (List ℕ)
+abbrev pub both_event_messages : Pair → BothSides History History → BothEvent → List (List ℕ)
 both_event_messages pair both event =
     messages_here pair (instance_on pair event.which) (sides_seen_from event.which both) event.act
 
-abbrev pub both_messages_from : Pair → Both History History → List BothEvent → List (List ℕ)
+abbrev pub both_messages_from : Pair → BothSides History History → List BothEvent → List (List ℕ)
 both_messages_from pair both [] = []
 both_messages_from pair both (event ∷ events) =
     both_event_messages pair both event ++ both_messages_from pair
-    (both_outcome lists_move pair both event).both events
+    (both_outcome list_mover pair both event).both events
 
 -- the messages of a run: the start message, and then those of each event
 abbrev pub both_messages : Pair → List BothEvent → List (List ℕ)
 both_messages pair events =
     start_message (instance_on pair First).variant (instance_on pair First).meaning.id
-    ∷ both_messages_from pair (first_lists pair) events
+    ∷ both_messages_from pair (first_both_by_lists pair) events
 
 -- the values by which others extend the register of either side, whether the step is reached or
 -- not; and the batches asked
@@ -84,9 +84,9 @@ abbrev pub others_values_in : BothAct → List (List ℕ)
 others_values_in (Plain event) = event_foreign_values event
 others_values_in (Moves meddles stop command) = map (λ m. m.value.bytes) meddles
 
-abbrev pub both_others : List BothEvent → List (List ℕ)
-both_others [] = []
-both_others (event ∷ events) = others_values_in event.act ++ both_others events
+abbrev pub both_foreign_values : List BothEvent → List (List ℕ)
+both_foreign_values [] = []
+both_foreign_values (event ∷ events) = others_values_in event.act ++ both_foreign_values events
 
 abbrev pub batches_in : BothAct → List Batch
 batches_in (Plain event) = batches_of event
@@ -101,7 +101,7 @@ both_batches (event ∷ events) = batches_in event.act ++ both_batches events
 pub record IsClearPair (pair : Pair) (events : List BothEvent) : Type 0 where
   pub clear : IsClear (both_messages pair events)
   pub apart : AreApartIn (instance_on pair First).variant (instance_on pair First)
-      (both_others events) (both_batches events)
+      (both_foreign_values events) (both_batches events)
 
 -- What is asked of an offer: where the module is, and where it has left, a right one names a
 -- position of the one history. So nobody else sealed it.
@@ -114,23 +114,23 @@ abbrev pub IsGenuinePlain : Role → Instance → SideState History → Event �
 IsGenuinePlain Live i side event = IsGenuineEvent i side.at side.issued event
 IsGenuinePlain role i side event = Unit {0}
 
-abbrev pub IsGenuineCommand : Instance → Both History History → MoveCommand → Type 0
+abbrev pub IsGenuineCommand : Instance → BothSides History History → MoveCommand → Type 0
 IsGenuineCommand i both (Retire nonce offer) =
     IsGenuineTo both.first.role i (history_now both) (offered_bytes both.first.issued offer)
 IsGenuineCommand i both command = Unit {0}
 
-abbrev pub IsGenuineHere : Instance → Both History History → BothAct → Type 0
+abbrev pub IsGenuineHere : Instance → BothSides History History → BothAct → Type 0
 IsGenuineHere i both (Plain event) = IsGenuinePlain both.first.role i both.first event
 IsGenuineHere i both (Moves meddles stop command) = IsGenuineCommand i both command
 
-abbrev pub IsGenuineIn : Pair → Both History History → BothEvent → Type 0
+abbrev pub IsGenuineIn : Pair → BothSides History History → BothEvent → Type 0
 IsGenuineIn pair both event =
     IsGenuineHere (instance_on pair event.which) (sides_seen_from event.which both) event.act
 
-abbrev pub AreGenuineFrom : Pair → Both History History → List BothEvent → Type 0
+abbrev pub AreGenuineFrom : Pair → BothSides History History → List BothEvent → Type 0
 AreGenuineFrom pair both [] = Unit {0}
 AreGenuineFrom pair both (event ∷ events) =
-    IsGenuineIn pair both event × AreGenuineFrom pair (both_outcome lists_move pair both event).both
+    IsGenuineIn pair both event × AreGenuineFrom pair (both_outcome list_mover pair both event).both
     events
 
 -- What is asked of nonces and tickets: an invitation that has its effect is under a nonce that
@@ -156,15 +156,15 @@ abbrev pub IsOursIn : Pair → List (List ℕ) → MoveNotes → BothAct → Typ
 IsOursIn pair tickets notes (Plain event) = Unit {0}
 IsOursIn pair tickets notes (Moves meddles stop command) = IsOursFor pair tickets notes command
 
-abbrev pub AreFreshFrom : Pair → Both History History → MoveNotes → List BothEvent → Type 0
+abbrev pub AreFreshFrom : Pair → BothSides History History → MoveNotes → List BothEvent → Type 0
 AreFreshFrom pair both notes [] = Unit {0}
 AreFreshFrom pair both notes (event ∷ events) =
-    let o = both_outcome lists_move pair both event in
+    let o = both_outcome list_mover pair both event in
     IsNew notes o.effect × IsOursIn pair both.tickets notes event.act
     × AreFreshFrom pair o.both (notes_with_effect_if o.effect notes) events
 
 abbrev pub IsGenuinePair : Pair → List BothEvent → Type 0
-IsGenuinePair pair events = AreGenuineFrom pair (first_lists pair) events
+IsGenuinePair pair events = AreGenuineFrom pair (first_both_by_lists pair) events
 
 abbrev pub IsFreshPair : Pair → List BothEvent → Type 0
-IsFreshPair pair events = AreFreshFrom pair (first_lists pair) no_notes events
+IsFreshPair pair events = AreFreshFrom pair (first_both_by_lists pair) no_notes events

@@ -2,7 +2,7 @@
 use Rattle.mm_slots.proofs.Below.{◌≡◌, ◌∙◌, ◌+◌, ◌==◌, ℕ, zero, suc, Bool, true, false, cond, List, [], ◌∷◌, ◌++◌, map, Option, Some, refl}
 use Rattle.mm_slots.proofs.Below.{sym, ap, arith, append-nil, slice_get, option_map, option_map_or, eqb-true, append_assoc, Instance}
 use Rattle.mm_slots.proofs.Below.{SlotAction, SlotEvent, Power, At, SlotReply, Tenant, SlotTurn, Meeting, Acts, Loses, turn_by_met}
-use Rattle.mm_slots.proofs.Below.{turn_by_action, turn_over_all, Row, instance_of, row_after, items_by_place, rows_after_event, cuts_all}
+use Rattle.mm_slots.proofs.Below.{turn_by_action, turn_over_all, Row, instance_of, row_after, items_by_place, rows_after_event, is_cut_for_all}
 use Rattle.mm_slots.proofs.Below.{event_meetings, slot_meetings, SlotAnswer, PowerLost, Says, slot_replies_at, answers_to, answers}
 use Rattle.mm_slots.proofs.Below.{slot_replies_for, SlotsAreAlone, length, None, ◌>>=◌, flat_map-append, answer_text, answers_text}
 use Rattle.mm_slots.proofs.Below.{event_at, SlotsState, slots_steps, rows_after_all}
@@ -80,7 +80,7 @@ said_here rows n other what row false false is own = said_others n other (slot_r
 said_one : (rows : List Row) (event : SlotEvent) (n : ℕ) (row : Row) → slice_get rows n ≡ Some row
     → slot_replies_for n (answers_to rows event) ≡ (turn_over_all (instance_of row) row.slot (event_meetings n rows event)).said
 said_one rows Power n row is = refl
-said_one rows (At other what) n row is = said_here rows n other what row (n == other) (cuts_all rows other what) is refl
+said_one rows (At other what) n row is = said_here rows n other what row (n == other) (is_cut_for_all rows other what) is refl
 
 pub alone : SlotsAreAlone
 alone rows [] n row is = record { stands = is; said = refl }

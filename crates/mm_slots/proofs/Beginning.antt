@@ -2,11 +2,11 @@
 use Rattle.mm_slots.proofs.Below.{◌≡◌, ◌∙◌, ◌+◌, ◌<◌, ℕ, true, false, List, [], length, Option, None, Some, IsSome, refl, sym, ap, subst}
 use Rattle.mm_slots.proofs.Below.{arith, vec_capacity, option_map, One, meaning_of, Meddle, Quiet, Item, Plan, Standing, next_step}
 use Rattle.mm_slots.proofs.Below.{item_values, register_after, next_plan, quiet_plan, plan_with_meddle, standing_after_cycle, Foreign}
-use Rattle.mm_slots.proofs.Below.{PowerMove, is_long, Digests, digests_after, register_reading, Extend, rising_from, offered_bytes, plan_by}
+use Rattle.mm_slots.proofs.Below.{PowerMove, is_long, Digests, digests_after, register_reading, Extend, rising_bytes_from, offered_bytes, plan_by}
 use Rattle.mm_slots.proofs.Below.{meddled, digest_in, flag_in, HasDigests, IsQuiet, extended_standing, stands_extended, stands_settled}
 use Rattle.mm_slots.proofs.Below.{asks_begun, closes_begun, may_take_in, SlotAction, AskInFlight, CodeFlight, SlotReply, Begun, Replied}
-use Rattle.mm_slots.proofs.Below.{Parts, SlotTurn, Asks, event_turn, turn_saying, with_flight, first_flight, begin_turn, turn_by_action}
-use Rattle.mm_slots.proofs.Below.{turn_in_flight, with_meddle, digests_in, slot_in, flight_in, call_in, instance_in, PartsFit, SlotComesTo}
+use Rattle.mm_slots.proofs.Below.{Parts, SlotTurn, Asks, event_turn, turn_saying, tenant_with_flight, first_flight, begin_turn, turn_by_action}
+use Rattle.mm_slots.proofs.Below.{turn_in_flight, flight_with_meddle, digests_in, slot_in, flight_in, call_in, instance_in, PartsFit, SlotComesTo}
 use Rattle.mm_slots.proofs.Below.{SlotLosesPower, parts_with_flight, HasRegister, SeatStaysOn}
 use Rattle.mm_digest.specs.declared.digest.Digest.{Digest}
 use Rattle.mm_schedule.specs.declared.reply.Reply.TheVariants as reply
@@ -46,14 +46,14 @@ quiet_next standing q = plan_is standing quiet_plan q.plan
 flight_begins : (slot : Parts) (flight : CodeFlight) (what : SlotAction) → IsQuiet slot.seat.platform
     → SlotCallFlies slot.seat.header (instance_in slot) (digests_in slot) slot.seat.platform flight slot.seat.platform [] 1
     → MayGoOn slot.seat.issued.items (vec_capacity slot.seat.issued) flight
-    → turn_saying (with_flight (slot_in slot) (first_flight (call_in flight))) Begun ≡ turn_by_action (instance_in slot) (slot_in slot) what
+    → turn_saying (tenant_with_flight (slot_in slot) (first_flight (call_in flight))) Begun ≡ turn_by_action (instance_in slot) (slot_in slot) what
     → SlotComesTo slot (parts_with_flight slot flight) (turn_by_action (instance_in slot) (slot_in slot) what) Begun
 flight_begins slot flight what q begins may opens =
     let standing = slot.seat.platform in
     let next = quiet_next standing q in
     let flies = subst (λ (p : Plan). SlotCallFlies slot.seat.header (instance_in slot) (digests_in slot) standing flight standing p.meddles
     (p.at + 1)) (sym next) begins in
-    comes_by slot (parts_with_flight slot flight) (turn_saying (with_flight (slot_in slot) (first_flight (call_in flight))) Begun)
+    comes_by slot (parts_with_flight slot flight) (turn_saying (tenant_with_flight (slot_in slot) (first_flight (call_in flight))) Begun)
     (turn_by_action (instance_in slot) (slot_in slot) what) Begun opens
     (record {
       goes = record { fits = record { from = standing; flies = flies; may = may }; header = refl; number = refl };
@@ -75,10 +75,10 @@ ask_begins slot asking fits none some short is room =
     let s = slot_in slot in
     let i = instance_in slot in
     let at = idle slot none fits in
-    let on : SlotTurn = turn_saying (with_flight s (first_flight (Asks asking.offer (One asking.request)))) Begun in
+    let on : SlotTurn = turn_saying (tenant_with_flight s (first_flight (Asks asking.offer (One asking.request)))) Begun in
     let opens : begin_turn i s asking.offer (One asking.request) (offered_bytes s.issued asking.offer) ≡ on = rw (some, short) refl in
-    let begins = asks_begun slot.seat.header.variant (meaning_of slot.seat.header.«module») (rising_from slot.number)
-    (rising_from (128 + slot.number)) (digests_in slot) slot.seat.platform at.0 at.1 asking.bytes (One asking.request) in
+    let begins = asks_begun slot.seat.header.variant (meaning_of slot.seat.header.«module») (rising_bytes_from slot.number)
+    (rising_bytes_from (128 + slot.number)) (digests_in slot) slot.seat.platform at.0 at.1 asking.bytes (One asking.request) in
     flight_begins slot (code.Asks asking) (action.Begin asking.offer asking.request) at.1
     (subst (λ (call : OpStage BatchAnswer). IsInFlight (asks_so slot.seat.header.variant (meaning_of slot.seat.header.«module») asking.bytes
     (One asking.request)) i (digests_in slot) slot.seat.platform call slot.seat.platform [] 1) (sym is) begins)
@@ -91,8 +91,8 @@ pub close_begins : (slot : Parts) → PartsFit slot → slot.flight ≡ None
 close_begins slot fits none =
     let at = idle slot none fits in
     flight_begins slot (code.Closes (record { call = stage.Begun })) action.Close at.1
-    (closes_begun slot.seat.header.variant (meaning_of slot.seat.header.«module») (rising_from slot.number)
-    (rising_from (128 + slot.number)) (digests_in slot) slot.seat.platform at.0 at.1) tt (sym (acts_idle slot action.Close none))
+    (closes_begun slot.seat.header.variant (meaning_of slot.seat.header.«module») (rising_bytes_from slot.number)
+    (rising_bytes_from (128 + slot.number)) (digests_in slot) slot.seat.platform at.0 at.1) tt (sym (acts_idle slot action.Close none))
 
 -- others extend the register
 
@@ -161,8 +161,8 @@ joins_comes : (slot : Parts) (new : Standing) (tally : Counted slot) (bound : Bo
 joins_comes slot new tally bound flight value some m fits =
     let s = slot_in slot in
     let old = slot.seat.platform in
-    let on : SlotTurn = turn_saying (with_flight s (with_meddle (flight_of old flight) value.bytes)) (Replied reply.Extended) in
-    let flies : flight_in (next_plan new) slot.flight ≡ Some (with_meddle (flight_of old flight) value.bytes) =
+    let on : SlotTurn = turn_saying (tenant_with_flight s (flight_with_meddle (flight_of old flight) value.bytes)) (Replied reply.Extended) in
+    let flies : flight_in (next_plan new) slot.flight ≡ Some (flight_with_meddle (flight_of old flight) value.bytes) =
     ap (flight_in (next_plan new)) some
     ∙ (λ j. Some (record { call = call_in flight; meddles = (m.plan j).meddles; next = (m.plan j).at + 1 })) in
     comes_by slot (over slot new tally bound) on (turn_by_action (instance_in slot) s (action.Extend value)) (Replied reply.Extended)

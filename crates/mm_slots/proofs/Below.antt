@@ -41,7 +41,7 @@ pub use Rattle.mm_flight.specs.Flight.{plan_by}
 pub use Rattle.mm_flight.proofs.Above.{meddled}
 pub use Rattle.mm_outcome.specs.Folds.{course_of, outcome_by_lists, first_digests, RunOutcome, outcome_of_events, Outcome}
 pub use Rattle.mm_outcome.specs.Folds.{outcome_by_digests}
-pub use Rattle.mm_outcome.specs.WorldState.{rising_from}
+pub use Rattle.mm_outcome.specs.WorldState.{rising_bytes_from}
 pub use Rattle.mm_outcome.specs.EventOffers.{offered_bytes}
 pub use Rattle.mm_outcome.proofs.Above.{few_committed, issues_one, printable}
 pub use Rattle.mm_world.specs.OwnCalls.{CallComesTo, quiet_call}
@@ -65,12 +65,12 @@ pub use Rattle.mm_slots.specs.Rows.{RowActs, SlotActsAt, CanCount, IsCounted, Is
 pub use Rattle.mm_slots.specs.Rows.{meetings_at, losses_of_others, EventTells, rows_after_meetings}
 pub use Rattle.mm_world.specs.Seat.{extended_standing, IsFirst, SeatStaysOn}
 pub use Rattle.mm_slots.specs.Tenant.{turn_by_action, turn_in_flight, Acts, Asks, first_flight, begin_turn, SlotCall, Closes, event_by}
-pub use Rattle.mm_slots.specs.Tenant.{first_tenant, Flight, with_flight, turn_over_all, with_meddle, Loses, turn_saying, Meeting}
+pub use Rattle.mm_slots.specs.Tenant.{first_tenant, Flight, tenant_with_flight, turn_over_all, flight_with_meddle, Loses, turn_saying, Meeting}
 pub use Rattle.mm_slots.specs.Tenant.{outcome_in, event_turn, Tenant, tenant_instance, event_so_far, step_turn, stop_at, SlotTurn}
 pub use Rattle.mm_slots.specs.Tenant.{turn_by_met, power_turn, ActionLacksMemory}
 pub use Rattle.mm_slots.specs.Slots.{slots_after_cycle, selected_standing, Slots}
 pub use Rattle.mm_slots.specs.Stage.{kept_bytes_in, slots_steps, SlotsState}
-pub use Rattle.mm_slots.specs.Table.{rows_after_event, rows_after_all, SlotAnswer, answers, answers_to, items_by_place, cuts_all, first_row}
+pub use Rattle.mm_slots.specs.Table.{rows_after_event, rows_after_all, SlotAnswer, answers, answers_to, items_by_place, is_cut_for_all, first_row}
 pub use Rattle.mm_slots.specs.Table.{first_rows, RowsLackMemory, instance_of, is_cut, slot_meetings, event_meetings, PowerLost, Row}
 pub use Rattle.mm_slots.specs.Table.{row_after, slot_replies_at, slot_replies_for, Says, OneRowLacksMemory}
 pub use Rattle.mm_slots.specs.declared.event.SlotAction.{SlotAction}

@@ -2,13 +2,13 @@
 use Rattle.mm_slots.proofs.Below.{◌≡◌, ◌∙◌, ◌+◌, ◌^◌, ◌≤◌, ◌<◌, ℕ, List, [], ◌∷◌, Option, None, Some, refl, sym, ap, subst}
 use Rattle.std.specs.List.{sum_by}
 use Rattle.mm_slots.proofs.Below.{◌-◌, length, arith, vec_capacity, most_members, Variant, Basic, Opt, Meaning, IsLawful, meaning_of}
-use Rattle.mm_slots.proofs.Below.{Standing, Instance, Digests, instance_by, Event, Header, Reply, rising_from, Outcome, few_committed}
+use Rattle.mm_slots.proofs.Below.{Standing, Instance, Digests, instance_by, Event, Header, Reply, rising_bytes_from, Outcome, few_committed}
 use Rattle.mm_slots.proofs.Below.{printable, CallReport, CallComesTo, digest_in, flag_in, value_in, HasDigests, IsQuiet, digests_are}
 use Rattle.mm_slots.proofs.Below.{counting, CodeFlight, SlotReply, Replied, Parts, IsSayable, Tenant, tenant_instance, outcome_in}
 use Rattle.mm_slots.proofs.Below.{event_turn, digests_in, slot_in, flight_in, instance_in, FitsFlight, PartsFit, SlotComesTo}
 use Rattle.mm_slots.proofs.Below.{parts_with_flight, HasRegister, within_64, CallEndsIn, next_plan, Bool, true, cond, option_map_or, Meddle}
 use Rattle.mm_slots.proofs.Below.{Quiet, Plan, quiet_plan, digests_after, plan_by, is_nothing, Going, Flight, SlotTurn, turn_saying}
-use Rattle.mm_slots.proofs.Below.{with_flight, event_so_far, step_turn, call_in, FitsCall, SlotGoesOn}
+use Rattle.mm_slots.proofs.Below.{tenant_with_flight, event_so_far, step_turn, call_in, FitsCall, SlotGoesOn}
 use Rattle.mm_modules.specs.ModulesLaws.{any_is_lawful}
 use Rattle.mm_slots.proofs.Below.{flight_takes_in, meddled, plan_with_meddle, option_map, One}
 use Rattle.mm_digest.specs.declared.digest.Digest.{Digest}
@@ -71,8 +71,8 @@ meaning_by Opt meaning key barrier = refl
 
 pub printable_in : (slot : Parts) (s : Tenant) (event : Event) → IsPrintable (outcome_in (instance_in slot) s event).reply
 printable_in slot s event =
-    let key = rising_from slot.number in
-    let barrier = rising_from (128 + slot.number) in
+    let key = rising_bytes_from slot.number in
+    let barrier = rising_bytes_from (128 + slot.number) in
     let lawful = subst IsLawful (sym (meaning_by slot.seat.header.variant (meaning_of slot.seat.header.«module») key barrier))
     (any_is_lawful slot.seat.header.«module») in
     printable (instance_in slot) lawful s.digests s.issued event
@@ -176,7 +176,7 @@ goes_comes slot before after keys tally bound new step same planned fits number 
     let s = slot_in (parts_with_flight slot before) in
     let f = flight_of slot.seat.platform before in
     let i = instance_in slot in
-    let on : SlotTurn = turn_saying (with_flight s (record f { next = f.next + 1 })) (Going (f.next + 1)) in
+    let on : SlotTurn = turn_saying (tenant_with_flight s (record f { next = f.next + 1 })) (Going (f.next + 1)) in
     let slot' = parts_with_flight (left slot new keys tally bound) after in
     let P : Bool → Type 0 = λ b. SlotComesTo (parts_with_flight slot before) slot' (cond b on (event_turn i s (event_so_far f)))
     (Going step) in

@@ -1,7 +1,7 @@
 -- All slots lose their power, and what an event leaves of them.
 use Rattle.mm_slots.proofs.Below.{◌≡◌, ◌∙◌, ◌≤◌, ◌<◌, ◌==◌, ℕ, Bool, true, false, cond, List, [], ◌∷◌, ◌++◌, length, get_or, Option, refl}
 use Rattle.mm_slots.proofs.Below.{sym, ap, arith, option_map_or, slice_get-get_or, ne_eqb, if◌then◌else◌, SlotAction, Power, At, SlotReply}
-use Rattle.mm_slots.proofs.Below.{Meeting, Acts, Loses, Row, rows_after_event, is_cut, cuts_all, event_meetings, SlotActsAt, EventTells}
+use Rattle.mm_slots.proofs.Below.{Meeting, Acts, Loses, Row, rows_after_event, is_cut, is_cut_for_all, event_meetings, SlotActsAt, EventTells}
 use Rattle.mm_slots.proofs.Below.{losses_of_others, meetings_at, rows_after_meetings}
 use Rattle.mm_slots.proofs.Rowing.{touched_more, touched_none, touched_same}
 
@@ -33,7 +33,7 @@ acts_then number k what false true own = rw own refl
 acts_then number k what false false own = rw own refl
 
 pub tells : (number : ℕ) (what : SlotAction) (cuts : Bool) (first second last : List Row) (said : SlotReply)
-    → cuts ≡ cuts_all first number what
+    → cuts ≡ is_cut_for_all first number what
     → SlotActsAt number what first second said → last ≡ rows_after_meetings (λ k. if cuts then losses_of_others number k else []) second
     → EventTells number what first last said
 tells number what cuts first second last said is a l =
@@ -50,7 +50,7 @@ tells number what cuts first second last said is a l =
 
 -- whether it is a cut is told by the slot
 pub cuts_at : (number : ℕ) (what : SlotAction) (rows : List Row) (d : Row) (cuts : Bool) → number < length rows
-    → cuts ≡ is_cut (get_or rows number d).slot.flight what → cuts ≡ cuts_all rows number what
+    → cuts ≡ is_cut (get_or rows number d).slot.flight what → cuts ≡ is_cut_for_all rows number what
 cuts_at number what rows d cuts few is =
     is ∙ sym (ap (λ (found : Option Row). option_map_or (λ (r : Row). is_cut r.slot.flight what) found false)
     (slice_get-get_or rows number d few))

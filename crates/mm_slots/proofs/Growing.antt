@@ -4,9 +4,9 @@ use Rattle.mm_slots.proofs.Below.{length, Option, None, Some, Result, Ok, Err, O
 use Rattle.mm_slots.proofs.Below.{slice_set, most_events, most_members, Batch, One, Quiet, Instance, digest_level, state_after_moves}
 use Rattle.mm_slots.proofs.Below.{course_of, few_committed, issues_one, count_none, stop_behind, offered_bytes, is_long, Offer, Event, Ask}
 use Rattle.mm_slots.proofs.Below.{Extend, Header, SlotEvent, Power, At, SlotAction, IsWithin, KeepsAll, Row, row_after, items_by_place}
-use Rattle.mm_slots.proofs.Below.{first_row, first_rows, rows_after_event, event_meetings, cuts_all, RowsLackMemory, OneRowLacksMemory}
+use Rattle.mm_slots.proofs.Below.{first_row, first_rows, rows_after_event, event_meetings, is_cut_for_all, RowsLackMemory, OneRowLacksMemory}
 use Rattle.mm_slots.proofs.Below.{Tenant, Flight, SlotTurn, Meeting, Acts, Loses, instance_of, ActionLacksMemory, turn_in_flight}
-use Rattle.mm_slots.proofs.Below.{begin_turn, event_by, with_flight, with_meddle, first_flight, turn_saying, event_turn, event_so_far}
+use Rattle.mm_slots.proofs.Below.{begin_turn, event_by, tenant_with_flight, flight_with_meddle, first_flight, turn_saying, event_turn, event_so_far}
 use Rattle.mm_slots.proofs.Below.{Going, is_nothing, outcome_in, stop_at, turn_by_met, Begun, SlotCall, Asks, Closes}
 use Rattle.std.specs.List.{All}
 use Rattle.std.specs.Prelude.{take, drop, ◌++◌}
@@ -42,7 +42,7 @@ begun_grows : (i : Instance) (slot : Tenant) (offer : Offer) (batch : Batch) (fo
 begun_grows i slot offer batch None = plays_grows i slot (Ask [] Quiet offer batch)
 begun_grows i slot offer batch (Some bytes) =
     either_grows slot (is_long batch) (event_turn i slot (Ask [] Quiet offer batch))
-    (turn_saying (with_flight slot (first_flight (Asks offer batch))) Begun)
+    (turn_saying (tenant_with_flight slot (first_flight (Asks offer batch))) Begun)
     (plays_grows i slot (Ask [] Quiet offer batch)) (flying_grows slot (Some (first_flight (Asks offer batch))))
 
 acted_grows : (i : Instance) (slot : Tenant) (flight : Option Flight) (what : SlotAction)
@@ -57,11 +57,11 @@ acted_grows i slot (Some flight) action.Close = flying_grows slot slot.flight
 acted_grows i slot (Some flight) action.Step =
     let on = record flight { next = flight.next + 1 } in
     either_grows slot (is_nothing (outcome_in i slot (event_so_far flight)).reply)
-    (turn_saying (with_flight slot on) (Going (flight.next + 1)))
+    (turn_saying (tenant_with_flight slot on) (Going (flight.next + 1)))
     (event_turn i slot (event_so_far flight)) (flying_grows slot (Some on)) (plays_grows i slot (event_so_far flight))
 acted_grows i slot (Some flight) (action.Break how) =
     plays_grows i slot (event_by flight.call flight.meddles (stop_at how flight.next))
-acted_grows i slot (Some flight) (action.Extend value) = flying_grows slot (Some (with_meddle flight value.bytes))
+acted_grows i slot (Some flight) (action.Extend value) = flying_grows slot (Some (flight_with_meddle flight value.bytes))
 
 turned_grows : (i : Instance) (slot : Tenant) (met : Meeting) → Grows slot (turn_by_met i slot met).slot
 turned_grows i slot (Acts what) = acted_grows i slot slot.flight what
@@ -117,7 +117,7 @@ one_met what false false = omega arith
 
 met_few : (rows : List Row) (event : SlotEvent) (k : ℕ) → length (event_meetings k rows event) ≤ 1
 met_few rows Power k = omega arith
-met_few rows (At other what) k = one_met what (k == other) (cuts_all rows other what)
+met_few rows (At other what) k = one_met what (k == other) (is_cut_for_all rows other what)
 
 after_within : (events : ℕ) (rows : List Row) (event : SlotEvent) → All (IsWithin events) rows
     → All (IsWithin (events + 1)) (rows_after_event rows event)

@@ -6,7 +6,7 @@ use Rattle.mm_slots.proofs.Below.{outcome_by_digests, offered_bytes, is_nothing,
 use Rattle.mm_slots.proofs.Below.{turn_by_met, turn_in_flight, begin_turn, step_turn, outcome_in, event_so_far, turn_over_all, first_tenant}
 use Rattle.mm_slots.proofs.Below.{SlotIsOneRun, SlotsRun, ◌+◌, ap₂, if◌then◌else◌}
 use Rattle.mm_slots.proofs.Alone.{followed_by}
-use Rattle.mm_slots.proofs.Below.{flat_map, flat_map-append, Ask, Reply, Begun, Going, Asks, first_flight, with_flight, turn_saying}
+use Rattle.mm_slots.proofs.Below.{flat_map, flat_map-append, Ask, Reply, Begun, Going, Asks, first_flight, tenant_with_flight, turn_saying}
 use Rattle.mm_slots.proofs.Below.{event_turn}
 use Rattle.mm_slots.specs.declared.event.SlotAction.TheVariants as action
 use Rattle.mm_platform.specs.declared.plan.Stop.TheVariants as stop
@@ -28,21 +28,21 @@ by_test P true one other first second = first
 by_test P false one other first second = second
 
 begun_by : (P : SlotTurn → Type 0) (i : Instance) (slot : Tenant) (offer : Offer) (batch : Batch) (bytes : Option (List ℕ))
-    → P (event_turn i slot (Ask [] stop.Quiet offer batch)) → P (turn_saying (with_flight slot (first_flight (Asks offer batch))) Begun)
+    → P (event_turn i slot (Ask [] stop.Quiet offer batch)) → P (turn_saying (tenant_with_flight slot (first_flight (Asks offer batch))) Begun)
     → P (begin_turn i slot offer batch bytes)
 begun_by P i slot offer batch None refuses begins = refuses
 begun_by P i slot offer batch (Some bytes) refuses begins =
     by_test P (is_long batch) (event_turn i slot (Ask [] stop.Quiet offer batch))
-    (turn_saying (with_flight slot (first_flight (Asks offer batch))) Begun)
+    (turn_saying (tenant_with_flight slot (first_flight (Asks offer batch))) Begun)
     refuses begins
 
 stepped_by : (P : SlotTurn → Type 0) (i : Instance) (slot : Tenant) (flight : Flight)
-    → P (turn_saying (with_flight slot (record flight { next = flight.next + 1 })) (Going (flight.next + 1)))
+    → P (turn_saying (tenant_with_flight slot (record flight { next = flight.next + 1 })) (Going (flight.next + 1)))
     → P (event_turn i slot (event_so_far flight))
     → P (step_turn i slot flight)
 stepped_by P i slot flight =
     by_test P (is_nothing (outcome_in i slot (event_so_far flight)).reply)
-    (turn_saying (with_flight slot (record flight { next = flight.next + 1 })) (Going (flight.next + 1)))
+    (turn_saying (tenant_with_flight slot (record flight { next = flight.next + 1 })) (Going (flight.next + 1)))
     (event_turn i slot (event_so_far flight))
 
 action_completes : (i : Instance) (slot : Tenant) (flight : Option Flight) (what : SlotAction)

@@ -1,10 +1,10 @@
 -- The call in flight of a slot: its next step, and a step that breaks it off.
 use Rattle.mm_slots.proofs.Below.{◌≡◌, ◌∙◌, ◌+◌, ◌^◌, ◌<◌, ℕ, Bool, true, false, cond, List, Option, None, Some, Result, Ok, Err, IsSome}
 use Rattle.mm_slots.proofs.Below.{refl, sym, ap, subst, arith, eq-eqb, One, meaning_of, Stop, Quiet, Plan, Standing, next_step, next_plan}
-use Rattle.mm_slots.proofs.Below.{Digests, digest_level, state_after_moves, course_of, rising_from, plan_by, CallReport, is_nothing}
+use Rattle.mm_slots.proofs.Below.{Digests, digest_level, state_after_moves, course_of, rising_bytes_from, plan_by, CallReport, is_nothing}
 use Rattle.mm_slots.proofs.Below.{stop_behind, FlightStepsAs, FlightBreaksAs, MayStepOn, asks_stepped, asks_broken_off, closes_stepped}
 use Rattle.mm_slots.proofs.Below.{closes_broken_off, AskInFlight, CheckpointInFlight, CodeFlight, SlotReply, Going, Parts, SlotTurn}
-use Rattle.mm_slots.proofs.Below.{outcome_in, event_turn, turn_saying, with_flight, event_so_far, step_turn, event_by, stop_at, digests_in}
+use Rattle.mm_slots.proofs.Below.{outcome_in, event_turn, turn_saying, tenant_with_flight, event_so_far, step_turn, event_by, stop_at, digests_in}
 use Rattle.mm_slots.proofs.Below.{slot_in, call_in, instance_in, PartsFit, SlotLacksMemory, SlotComesTo, parts_with_flight, flight_in}
 use Rattle.mm_slots.proofs.Below.{HasRegister, CallEndsIn, count_none, vec_capacity}
 use Rattle.mm_base.specs.declared.fault.Memory.{Memory}
@@ -58,7 +58,7 @@ asks_come slot it new result fits s =
     let f = call_of slot (code.Asks it) fits in
     let p = next_plan slot.seat.platform in
     asks_stepped h.variant (meaning_of h.«module») it.bytes (One it.request) f.may.short it.call slot.seat.platform new result s.steps
-    s.room (rising_from slot.number) (rising_from (128 + slot.number)) (digests_in (parts_with_flight slot (code.Asks it))) f.from
+    s.room (rising_bytes_from slot.number) (rising_bytes_from (128 + slot.number)) (digests_in (parts_with_flight slot (code.Asks it))) f.from
     slot.seat.issued.items p.meddles (p.at + 1) it.offer f.flies f.may.offered
 
 closes_come : (slot : Parts) (it : CheckpointInFlight) (new : Standing) (result : Result (FlightOutcome Checkpointed) Memory)
@@ -71,8 +71,8 @@ closes_come slot it new result fits s =
     let h = slot.seat.header in
     let f = call_of slot (code.Closes it) fits in
     let p = next_plan slot.seat.platform in
-    closes_stepped it.call slot.seat.platform new result s.steps s.room h.variant (meaning_of h.«module») (rising_from slot.number)
-    (rising_from (128 + slot.number)) (digests_in (parts_with_flight slot (code.Closes it))) f.from slot.seat.issued.items p.meddles
+    closes_stepped it.call slot.seat.platform new result s.steps s.room h.variant (meaning_of h.«module») (rising_bytes_from slot.number)
+    (rising_bytes_from (128 + slot.number)) (digests_in (parts_with_flight slot (code.Closes it))) f.from slot.seat.issued.items p.meddles
     (p.at + 1) f.flies
 
 -- a checkpoint wants no memory
@@ -177,7 +177,7 @@ stepped_over slot slot' flight said something c =
     let i = instance_in slot in
     let s = slot_in (parts_with_flight slot flight) in
     let f = flight_of slot.seat.platform flight in
-    let on : SlotTurn = turn_saying (with_flight s (record f { next = f.next + 1 })) (Going (f.next + 1)) in
+    let on : SlotTurn = turn_saying (tenant_with_flight s (record f { next = f.next + 1 })) (Going (f.next + 1)) in
     let P : Bool → Type 0 = λ b. SlotComesTo (parts_with_flight slot flight) slot' (cond b on (event_turn i s (event_so_far f))) said in
     subst P (sym something) c
 
@@ -269,7 +269,7 @@ ask_broken how slot slot' it keys tally bound new n called said none few fits is
     let there = subst (λ (k : ℕ). FlightBreaksAs (ask_operation h.variant (meaning_of h.«module») it.bytes (One it.request))
     (TellsAsk (One it.request)) it.call slot.seat.platform new (stop_at how k) called) (ask_next slot it n fits is) breaks in
     let t = asks_broken_off h.variant (meaning_of h.«module») it.bytes (One it.request) f.may.short it.call slot.seat.platform new
-    (stop_at how (p.at + 1)) called there (rising_from slot.number) (rising_from (128 + slot.number))
+    (stop_at how (p.at + 1)) called there (rising_bytes_from slot.number) (rising_bytes_from (128 + slot.number))
     (digests_in (parts_with_flight slot (code.Asks it))) f.from slot.seat.issued.items p.meddles (p.at + 1) it.offer f.flies f.may.offered
     (stopped_at how (p.at + 1)) in
     over_comes slot slot' (code.Asks it) keys tally bound f.from new (event_by (call_in (code.Asks it)) p.meddles (stop_at how (p.at + 1)))
@@ -292,7 +292,7 @@ close_broken how slot slot' it keys tally bound new n called said none few fits 
     let there = subst (λ (k : ℕ). FlightBreaksAs checkpoint TellsCheckpoint it.call slot.seat.platform new (stop_at how k) called)
     (close_next slot it n fits is) breaks in
     let t = closes_broken_off it.call slot.seat.platform new (stop_at how (p.at + 1)) called there h.variant (meaning_of h.«module»)
-    (rising_from slot.number) (rising_from (128 + slot.number)) (digests_in (parts_with_flight slot (code.Closes it))) f.from
+    (rising_bytes_from slot.number) (rising_bytes_from (128 + slot.number)) (digests_in (parts_with_flight slot (code.Closes it))) f.from
     slot.seat.issued.items
     p.meddles (p.at + 1) f.flies (stopped_at how (p.at + 1)) in
     over_comes slot slot' (code.Closes it) keys tally bound f.from new

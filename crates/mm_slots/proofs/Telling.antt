@@ -1,7 +1,7 @@
 -- Slots show of events what is told of whole slots.
 use Rattle.mm_slots.proofs.Below.{◌≡◌, ◌∙◌, ◌≤◌, ◌<◌, ℕ, Bool, true, false, cond, ◌||◌, ◌==◌, List, [], ◌∷◌, ◌++◌, nat_lt, Option, None}
 use Rattle.mm_slots.proofs.Below.{Some, refl, sym, ap, subst, arith, codes, slice_get, option_map, nat_tests, Header, rest_after_prefix}
-use Rattle.mm_slots.proofs.Below.{number_at, rising_from, SlotEvent, end_lines, event_at, SlotsRun, slots_steps, kept_bytes_in, Row}
+use Rattle.mm_slots.proofs.Below.{number_at, rising_bytes_from, SlotEvent, end_lines, event_at, SlotsRun, slots_steps, kept_bytes_in, Row}
 use Rattle.mm_slots.proofs.Below.{first_row, first_rows, answers, slot_meetings, rows_after_all, meaning_of}
 use Rattle.mm_play.specs.StageShows.{StageShows}
 use Rattle.mm_replay.proofs.Above.{promised_run}
@@ -43,8 +43,8 @@ slot_run : SlotsRun → (headers : List Header) (events : List SlotEvent) (numbe
     IsClearRun (tenant_instance header number) it.events → IsGenuineRun (tenant_instance header number) it.events
     → IsRunOfSlot number header it)
 slot_run law headers events number header clear genuine =
-    let key = rising_from number in
-    let barrier = rising_from (128 + number) in
+    let key = rising_bytes_from number in
+    let barrier = rising_bytes_from (128 + number) in
     let it = tenant_turn header number (slot_meetings number (first_rows headers) events) in
     promised_run header.variant header.«module» key barrier it.events
     (record { replies = it.replies; committed = it.slot.digests.count; issued = it.slot.issued })
@@ -59,7 +59,7 @@ slot_told law decided headers events number header is = record {
   own = (alone (first_rows headers) events number (first_row number header) (first_at_place headers number header is)).said;
   unless_evidence =
       let it = tenant_turn header number (slot_meetings number (first_rows headers) events) in
-      let d = decided header.variant (meaning_of header.«module») (rising_from number) (rising_from (128 + number)) it.events in
+      let d = decided header.variant (meaning_of header.«module») (rising_bytes_from number) (rising_bytes_from (128 + number)) it.events in
       elim d.decided [ inl p ↦ inl (slot_run law headers events number header p.0 p.1) | inr e ↦ inr e ];
 }
 
@@ -74,7 +74,7 @@ are_slot_runs law decided headers events front later split =
 pub premises_give : RunsAreDecided → PremisesGiveSlotRuns
 premises_give decided headers events shown runs front later is number header at clear genuine =
     let it = tenant_turn header number (slot_meetings number (first_rows headers) front) in
-    let d = decided header.variant (meaning_of header.«module») (rising_from number) (rising_from (128 + number)) it.events in
+    let d = decided header.variant (meaning_of header.«module») (rising_bytes_from number) (rising_bytes_from (128 + number)) it.events in
     elim (((runs front later is).1 number header at).unless_evidence) [
       | inl run ↦ run
       | inr evidence ↦ absurd (d.apart clear genuine evidence)

@@ -3,7 +3,7 @@ use Rattle.std.specs.Prelude.{◌≡◌, ℕ, ◌+◌, ◌-◌, Bool, nat_lt, mi
 use Rattle.std.specs.List.{sum_by}
 use Rattle.std.specs.Option.{option_map}
 use Rattle.mm_schedule.specs.declared.header.Header.{Header}
-use Rattle.mm_schedule.specs.Headers.{head_at}
+use Rattle.mm_schedule.specs.Headers.{header_of_words}
 use Rattle.mm_play.specs.HeadingStep.{HeadingStep, More, Begins}
 use Rattle.mm_play.specs.StageShows.{heading_step_by}
 use Rattle.mm_play.specs.Stage.{EventStage, EventSteps, HeadStage, LineStage, AtHeading, answer_to, line_answer, closing_lines}
@@ -61,7 +61,7 @@ slots_head AtFirst line = option_map (λ count. More (AtHeads count [])) (slot_c
 slots_head (AtHeads count headers) line = option_map (λ header.
     if nat_lt (length (headers ++ header ∷ [])) (min count 16)
     then More (AtHeads count (headers ++ header ∷ []))
-    else Begins (headers ++ header ∷ [])) (head_at line)
+    else Begins (headers ++ header ∷ [])) (header_of_words line)
 
 -- behind one more header line others are to come, of 16 at most
 abbrev pub are_to_come : ℕ → List Header → Bool

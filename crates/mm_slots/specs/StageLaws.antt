@@ -5,7 +5,7 @@ use Rattle.std.specs.Option.{option_map}
 use Rattle.std.proofs.Common.{refl, sym, ap, subst, arith, length-append}
 use Rattle.std.proofs.lemmas.Bool.Decides.{nat_tests}
 use Rattle.mm_schedule.specs.declared.header.Header.{Header}
-use Rattle.mm_schedule.specs.Headers.{head_at}
+use Rattle.mm_schedule.specs.Headers.{header_of_words}
 use Rattle.mm_play.specs.HeadingStep.{HeadingStep, More, Begins}
 use Rattle.mm_play.specs.StageShows.{heading_step_by}
 use Rattle.mm_play.specs.Stage.{answer_by}
@@ -55,7 +55,7 @@ pub openings_fall : (it next : OpeningStage) (line : List ℕ)
     → slots_heads.behind it line ≡ Some (More next)
     → slots_heads.left next < slots_heads.left it
 openings_fall AtFirst next line h = first_left (slot_count_at line) next h
-openings_fall (AtHeads count headers) next line h = heads_by count headers (head_at line) next h
+openings_fall (AtHeads count headers) next line h = heads_by count headers (header_of_words line) next h
 
 pub openings_few : (it : OpeningStage) → slots_heads.left it < 2 ^ 30
 openings_few AtFirst = omega arith

@@ -28,8 +28,8 @@ abbrev pub is_cut : Option Flight → SlotAction → Bool
 is_cut (Some flight) (action.Break breaking.Cut) = true
 is_cut flight what = false
 
-abbrev pub cuts_all : List Row → ℕ → SlotAction → Bool
-cuts_all rows number what =
+abbrev pub is_cut_for_all : List Row → ℕ → SlotAction → Bool
+is_cut_for_all rows number what =
     option_map_or (λ (row : Row). is_cut row.slot.flight what) (slice_get rows number) false
 
 -- what an event has in it for the slot with this number
@@ -37,7 +37,7 @@ abbrev pub event_meetings : ℕ → List Row → SlotEvent → List Meeting
 event_meetings number rows Power = Loses ∷ []
 event_meetings number rows (At other what) =
     if number == other then Acts what ∷ []
-    else if cuts_all rows other what then Loses ∷ [] else []
+    else if is_cut_for_all rows other what then Loses ∷ [] else []
 
 abbrev pub row_after : Row → List Meeting → Row
 row_after row mets = record row { slot = (turn_over_all (instance_of row) row.slot mets).slot }

@@ -17,8 +17,8 @@ use Rattle.mm_schedule.specs.declared.event.Offer.{Offer}
 use Rattle.mm_schedule.specs.declared.header.Header.{Header}
 use Rattle.mm_schedule.specs.declared.reply.Reply.{Reply}
 use Rattle.mm_schedule.specs.declared.reply.Reply.TheVariants as reply
-use Rattle.mm_outcome.specs.Folds.{Outcome, course_of, event_outcome, first_issued, first_digests}
-use Rattle.mm_outcome.specs.WorldState.{rising_from}
+use Rattle.mm_outcome.specs.Folds.{Outcome, course_of, event_outcome, first_snapshots, first_digests}
+use Rattle.mm_outcome.specs.WorldState.{rising_bytes_from}
 use Rattle.mm_outcome.specs.EventOffers.{offered_bytes}
 use Rattle.mm_steps.specs.FlightStop.{is_nothing, stop_behind}
 use Rattle.mm_slots.specs.declared.event.SlotAction.{SlotAction}
@@ -84,15 +84,15 @@ event_turn i slot event = record {
 abbrev pub first_flight : SlotCall → Flight
 first_flight call = record { call = call; meddles = []; next = 1 }
 
-abbrev pub with_flight : Tenant → Flight → Tenant
-with_flight slot flight = record slot { flight = Some flight }
+abbrev pub tenant_with_flight : Tenant → Flight → Tenant
+tenant_with_flight slot flight = record slot { flight = Some flight }
 
 -- a request is asked of these bytes, if any are offered; a call that can't begin is refused
 abbrev pub begin_turn : Instance → Tenant → Offer → Batch → Option (List ℕ) → SlotTurn
 begin_turn i slot offer batch None = event_turn i slot (Ask [] stop.Quiet offer batch)
 begin_turn i slot offer batch (Some bytes) =
     if is_long batch then event_turn i slot (Ask [] stop.Quiet offer batch)
-    else turn_saying (with_flight slot (first_flight (Asks offer batch))) Begun
+    else turn_saying (tenant_with_flight slot (first_flight (Asks offer batch))) Begun
 
 -- the call as it was made up to its next step, which it makes, and is stopped at the one behind it
 -- without effect
@@ -103,7 +103,7 @@ event_so_far flight = event_by flight.call flight.meddles (stop_behind flight.ne
 abbrev pub step_turn : Instance → Tenant → Flight → SlotTurn
 step_turn i slot flight =
     if is_nothing (outcome_in i slot (event_so_far flight)).reply
-    then turn_saying (with_flight slot (record flight { next = flight.next + 1 }))
+    then turn_saying (tenant_with_flight slot (record flight { next = flight.next + 1 }))
     (Going (flight.next + 1))
     else event_turn i slot (event_so_far flight)
 
@@ -113,8 +113,8 @@ stop_at breaking.Drop step = stop.Drop step
 stop_at (breaking.Fail done) step = stop.Fail step done
 
 -- others bring a value just before the call's next step
-abbrev pub with_meddle : Flight → List ℕ → Flight
-with_meddle flight value = record flight {
+abbrev pub flight_with_meddle : Flight → List ℕ → Flight
+flight_with_meddle flight value = record flight {
   meddles = flight.meddles ++ record { step = flight.next; value = record { bytes = value } } ∷ [];
 }
 
@@ -122,7 +122,7 @@ with_meddle flight value = record flight {
 abbrev pub turn_in_flight : Instance → Tenant → Option Flight → SlotAction → SlotTurn
 turn_in_flight i slot None (action.Begin offer request) =
     begin_turn i slot offer (One request) (offered_bytes slot.issued offer)
-turn_in_flight i slot None action.Close = turn_saying (with_flight slot (first_flight Closes)) Begun
+turn_in_flight i slot None action.Close = turn_saying (tenant_with_flight slot (first_flight Closes)) Begun
 turn_in_flight i slot None action.Step = turn_saying slot Idle
 turn_in_flight i slot None (action.Break how) = turn_saying slot Idle
 turn_in_flight i slot None (action.Extend value) = event_turn i slot (Extend value.bytes)
@@ -132,7 +132,7 @@ turn_in_flight i slot (Some flight) action.Step = step_turn i slot flight
 turn_in_flight i slot (Some flight) (action.Break how) =
     event_turn i slot (event_by flight.call flight.meddles (stop_at how flight.next))
 turn_in_flight i slot (Some flight) (action.Extend value) =
-    turn_saying (with_flight slot (with_meddle flight value.bytes)) (Replied reply.Extended)
+    turn_saying (tenant_with_flight slot (flight_with_meddle flight value.bytes)) (Replied reply.Extended)
 
 abbrev pub turn_by_action : Instance → Tenant → SlotAction → SlotTurn
 turn_by_action i slot what = turn_in_flight i slot slot.flight what
@@ -193,11 +193,11 @@ turn_over_all i slot (met ∷ more) =
 -- bytes higher
 abbrev pub tenant_instance : Header → ℕ → Instance
 tenant_instance header number =
-    instance_by header.variant (meaning_of header.«module») (rising_from number)
-    (rising_from (128 + number))
+    instance_by header.variant (meaning_of header.«module») (rising_bytes_from number)
+    (rising_bytes_from (128 + number))
 
 abbrev pub first_tenant : Instance → Tenant
-first_tenant i = record { digests = first_digests i; issued = first_issued i; flight = None }
+first_tenant i = record { digests = first_digests i; issued = first_snapshots i; flight = None }
 
 -- What the slot with this header and number comes to that meets these from the start. It knows no
 -- other slot.

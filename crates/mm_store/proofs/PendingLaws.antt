@@ -5,7 +5,7 @@ use Rattle.std.proofs.lemmas.List.{append-nil}
 use Rattle.sha2.specs.Sha256.{sha256}
 use Rattle.mm_store.proofs.Below.{length-sha256}
 use Rattle.mm_base.specs.Fields.{eight_bytes, four_bytes}
-use Rattle.mm_store.specs.PendingRecord.{PendingRecord, IsPending, record_word, pending_front, pending_spelling, ReadsPending}
+use Rattle.mm_store.specs.PendingRecord.{PendingRecord, IsPending, record_word, pending_front, pending_spelling, ReadsPendingRecord}
 use Rattle.mm_store.specs.PendingRecord.{HasOneReading, SpellsRecord, SpellsNoRecord}
 use Rattle.mm_base.specs.FieldLaws.{joined, append-injective, eight_bytes-injective, four_bytes-injective, length-eight_bytes}
 use Rattle.mm_base.specs.FieldLaws.{length-four_bytes}
@@ -118,19 +118,19 @@ split_record bytes front digest p s e =
     append-injective front (pending_front p) digest (sha256 (pending_front p)) sizes (sym whole ∙ e)
 
 -- too few bytes for a digest, or a front that is no record's, are no record's bytes
-pub reads_none-short : (slot : ℕ) (bytes : List ℕ) → length bytes < 32 → ReadsPending slot bytes None
+pub reads_none-short : (slot : ℕ) (bytes : List ℕ) → length bytes < 32 → ReadsPendingRecord slot bytes None
 unfolding pending_spelling
 reads_none-short slot bytes h p is e =
     omega (arith, ap length e, length-append (pending_front p) (sha256 (pending_front p)), length-sha256 (pending_front p))
 
 pub reads_none-front : (slot : ℕ) (bytes front digest : List ℕ) → IsSplit bytes front digest → SpellsNoRecord front →
-    ReadsPending slot bytes None
+    ReadsPendingRecord slot bytes None
 reads_none-front slot bytes front digest s none p is e =
     none p (omega (arith, is.line.short)) (split_record bytes front digest p s e).0
 
 -- so are those of a record that stands in no such slot, or whose digest is wrong
 pub reads_none-invalid : (slot : ℕ) (bytes front digest : List ℕ) (q : PendingRecord) → IsSplit bytes front digest →
-    SpellsRecord front q → (IsPending slot q → digest ≡ sha256 front → ⊥) → ReadsPending slot bytes None
+    SpellsRecord front q → (IsPending slot q → digest ≡ sha256 front → ⊥) → ReadsPendingRecord slot bytes None
 reads_none-invalid slot bytes front digest q s f wrong p is e =
     let parts = split_record bytes front digest p s e in
     let fronts : pending_front q ++ [] ≡ pending_front p ++ [] =
@@ -140,7 +140,7 @@ reads_none-invalid slot bytes front digest q s f wrong p is e =
     wrong (subst (λ (x : PendingRecord). IsPending slot x) same is) (parts.1 ∙ ap sha256 (sym parts.0))
 
 pub reads_some : (slot : ℕ) (bytes front digest : List ℕ) (q : PendingRecord) → IsSplit bytes front digest →
-    SpellsRecord front q → IsPending slot q → digest ≡ sha256 front → ReadsPending slot bytes (Some q)
+    SpellsRecord front q → IsPending slot q → digest ≡ sha256 front → ReadsPendingRecord slot bytes (Some q)
 unfolding pending_spelling
 reads_some slot bytes front digest q s f is e = (
   is,

@@ -6,7 +6,7 @@ use Rattle.mm_store.specs.declared.fault.StoreFault.{StoreFault}
 use Rattle.mm_store.specs.declared.fault.StoreFault.TheVariants.{Memory, Failed}
 use Rattle.mm_store.specs.declared.store.TheConstants.{LONGEST_SLOT}
 use Rattle.mm_store.specs.Slots.{Slots, slots_with, slot_front}
-use Rattle.mm_store.specs.UnsyncedSlots.{UnsyncedSlots, unsynced_with_mark, MarksAlone}
+use Rattle.mm_store.specs.UnsyncedSlots.{UnsyncedSlots, unsynced_slots_with_mark, MarksSlotAlone}
 use Rattle.mm_store.specs.StoreStanding.{StoreStanding}
 
 -- the count of faults rose by exactly one where the call failed, and is as before after Ok and
@@ -43,9 +43,9 @@ LeavesInSlot slot bytes old new (Err Failed) =
 -- where memory is wanting, and of the other slots what waited before
 abbrev pub SyncsSlot : ℕ → Option UnsyncedSlots → Option UnsyncedSlots → Result Unit StoreFault
     → Type 0
-SyncsSlot slot old new (Ok _) = new ≡ unsynced_with_mark slot false old
+SyncsSlot slot old new (Ok _) = new ≡ unsynced_slots_with_mark slot false old
 SyncsSlot slot old new (Err Memory) = new ≡ old
-SyncsSlot slot old new (Err Failed) = MarksAlone slot old new
+SyncsSlot slot old new (Err Failed) = MarksSlotAlone slot old new
 
 -- a write changes no other slot of an honest store, and none of any store where memory is wanting
 pub record WritesSlot (slot : ℕ) (bytes : List ℕ) (old new : StoreStanding)

@@ -1,7 +1,7 @@
 -- The record of a request that is pending, and its bytes.
 use Rattle.std.specs.Prelude.{◌≡◌, ◌≢◌, ◌+◌, ◌<◌, ◌≤◌, ◌%◌, ◌^◌, ℕ, List, [], ◌∷◌, ◌++◌, length, Option, None, Some}
 use Rattle.sha2.specs.Sha256.{sha256}
-use Rattle.mm_base.specs.Lines.{MayGrow}
+use Rattle.mm_base.specs.Lines.{IsLineFront}
 use Rattle.mm_base.specs.Fields.{eight_bytes, four_bytes}
 use Rattle.mm_base.specs.Limits.{last_position, longest_request}
 
@@ -14,7 +14,7 @@ pub record PendingRecord : Type 0 where
 pub record IsPending (slot : ℕ) (p : PendingRecord) : Type 0 where
   pub least : 1 ≤ p.position
   pub most : p.position ≤ last_position
-  pub line : MayGrow longest_request p.request
+  pub line : IsLineFront longest_request p.request
   pub parity : slot ≡ 2 + p.position % 2
 
 -- `MMP1`
@@ -33,15 +33,15 @@ pending_spelling p = pending_front p ++ sha256 (pending_front p)
 
 -- what reading a slot's bytes as a record gives: there is one answer for each slot and list of
 -- bytes
-abbrev pub ReadsPending : ℕ → List ℕ → Option PendingRecord → Type 0
-ReadsPending slot bytes None = (p : PendingRecord) → IsPending slot p → bytes ≢ pending_spelling p
-ReadsPending slot bytes (Some p) = IsPending slot p × (bytes ≡ pending_spelling p)
+abbrev pub ReadsPendingRecord : ℕ → List ℕ → Option PendingRecord → Type 0
+ReadsPendingRecord slot bytes None = (p : PendingRecord) → IsPending slot p → bytes ≢ pending_spelling p
+ReadsPendingRecord slot bytes (Some p) = IsPending slot p × (bytes ≡ pending_spelling p)
 
 -- the law of the format: a slot's bytes have one reading
 abbrev pub HasOneReading : Type 0
-HasOneReading = (slot : ℕ) (bytes : List ℕ) (p q : Option PendingRecord) → ReadsPending slot bytes p
+HasOneReading = (slot : ℕ) (bytes : List ℕ) (p q : Option PendingRecord) → ReadsPendingRecord slot bytes p
     →
-    ReadsPending slot bytes q → p ≡ q
+    ReadsPendingRecord slot bytes q → p ≡ q
 
 -- the bytes are what is hashed of this record, whose numbers fit their fields
 pub record SpellsRecord (front : List ℕ) (p : PendingRecord) : Type 0 where

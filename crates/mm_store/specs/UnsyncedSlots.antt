@@ -16,18 +16,18 @@ is_unsynced_in marks n =
     else marks.three
 
 -- what is known of the slots, with this in place of what was known of one
-abbrev pub unsynced_with : UnsyncedSlots → ℕ → Bool → UnsyncedSlots
-unsynced_with marks n mark =
+abbrev pub unsynced_slots_with : UnsyncedSlots → ℕ → Bool → UnsyncedSlots
+unsynced_slots_with marks n mark =
     if n == 0 then record marks { zero = mark } else if n == 1 then record marks { one = mark }
     else if n == 2 then record marks { two = mark } else record marks { three = mark }
 
 -- the same where it is told
-abbrev pub unsynced_with_mark : ℕ → Bool → Option UnsyncedSlots → Option UnsyncedSlots
-unsynced_with_mark slot mark marks = option_map (λ told. unsynced_with told slot mark) marks
+abbrev pub unsynced_slots_with_mark : ℕ → Bool → Option UnsyncedSlots → Option UnsyncedSlots
+unsynced_slots_with_mark slot mark marks = option_map (λ told. unsynced_slots_with told slot mark) marks
 
 -- of the other slots the same is told as before
-abbrev pub MarksAlone : ℕ → Option UnsyncedSlots → Option UnsyncedSlots → Type 0
-MarksAlone slot old new = unsynced_with_mark slot true new ≡ unsynced_with_mark slot true old
+abbrev pub MarksSlotAlone : ℕ → Option UnsyncedSlots → Option UnsyncedSlots → Type 0
+MarksSlotAlone slot old new = unsynced_slots_with_mark slot true new ≡ unsynced_slots_with_mark slot true old
 
 -- no slot has such changes
 abbrev pub synced_slots : UnsyncedSlots

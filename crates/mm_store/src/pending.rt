@@ -3,9 +3,9 @@
 ghost use Rattle.std.specs.Prelude.{◌≡◌, ◌≤◌, ◌+◌, ◌++◌, ◌↔◌, IsTrue, IfOk, OnOk, MatchOption, length};
 ghost use Rattle.std.specs.Option.{option_map};
 ghost use Rattle.sha2.specs.Sha256.{sha256};
-ghost use Rattle.mm_base.specs.Lines.{MayGrow};
+ghost use Rattle.mm_base.specs.Lines.{IsLineFront};
 ghost use Rattle.mm_base.specs.Limits.{last_position, longest_request};
-ghost use Rattle.mm_store.specs.PendingRecord.{IsPending, record_word, pending_front, pending_spelling, ReadsPending, HasOneReading, SpellsRecord, SpellsNoRecord};
+ghost use Rattle.mm_store.specs.PendingRecord.{IsPending, record_word, pending_front, pending_spelling, ReadsPendingRecord, HasOneReading, SpellsRecord, SpellsNoRecord};
 ghost use Rattle.mm_store.specs.Records.{pending_of};
 
 use mm_base::{
@@ -27,7 +27,7 @@ pub struct PendingRequest<'a> {
 pub fn pending_bytes(alloc: Global, position: u64, request: &[u8]) -> Result<Bytes, Memory>
     requires least { 1 ≤ position }
     requires most { position ≤ last_position + 1 }
-    requires line { MayGrow longest_request request.now }
+    requires line { IsLineFront longest_request request.now }
     ensures { IfOk result (λ bytes. bytes
         ≡ pending_spelling (record { position = position; request = request.now })) }
 {
@@ -55,7 +55,7 @@ fn put_front(bytes: &mut Bytes, position: u64, request: &[u8]) -> Result<(), Mem
 /// in that slot. Takes no memory.
 #[tactic(auto, using(crate::proofs::PendingLaws::one_reading))]
 pub fn read_pending(slot: u8, bytes: &[u8]) -> Option<PendingRequest<'_>>
-    ensures reads { ReadsPending slot bytes.now (option_map pending_of result) }
+    ensures reads { ReadsPendingRecord slot bytes.now (option_map pending_of result) }
     ensures one_reading { HasOneReading }
 {
     let (front, digest) = bytes.split_last_chunk::<32>()?;
@@ -108,7 +108,7 @@ fn stands_in(pending: &PendingRequest<'_>, slot: u8) -> bool
 
 // Whether a request has at most 4,096 bytes and no LF.
 fn is_line(request: &[u8]) -> bool
-    ensures { IsTrue result ↔ MayGrow longest_request request.now }
+    ensures { IsTrue result ↔ IsLineFront longest_request request.now }
 {
     request.len() <= LONGEST_REQUEST && !request.contains(&b'\n')
 }

@@ -5,12 +5,12 @@ use Rattle.mm_transfer.proofs.Below.{PartsFault, Form, Kind, Place, InBasic, InO
 use Rattle.mm_transfer.proofs.Below.{digest_level, cell_at, Link, MoveRefusal, moved_cell_of, is_barred, is_other, is_place_at}
 use Rattle.mm_transfer.proofs.Below.{acceptance_of, acceptance_by, acceptance_again_by, acceptance_in, refusal_if, TicketContent}
 use Rattle.mm_transfer.proofs.Below.{TaggedTicket, IsTicket, SpellsTicket, summary_in, place_at, ticket_of, bytes_are, bytes_tell}
-use Rattle.mm_transfer.proofs.Below.{tickets_are_read, Blank, Live, Waits, Left, Enters, Refused, stands_here, ticket_by, entry_by_ticket}
+use Rattle.mm_transfer.proofs.Below.{tickets_are_read, Blank, Live, Waits, Left, Enters, Refused, is_offer_here, ticket_by, entry_by_ticket}
 use Rattle.mm_transfer.proofs.Below.{repeated_entry, acceptance_on, waiting_cell_at, cell_of_role, GivesEntry, IsSaid, MatchesRole}
 use Rattle.mm_transfer.proofs.Below.{FitsCell, IsPlace, Role}
 use Rattle.mm_digest.specs.declared.digest.Digest.{Digest}
 use Rattle.mm_digest.specs.declared.variant.Variant.TheVariants as variants
-use Rattle.mm_model.specs.Verdicts.{fits_fresh}
+use Rattle.mm_model.specs.Verdicts.{is_fresh_form}
 use Rattle.mm_model.specs.declared.refusal.Refusal.TheVariants as core
 use Rattle.mm_move.specs.declared.refusal.MoveRefusal.TheVariants as refusal
 use Rattle.mm_move.specs.Orders as orders
@@ -106,7 +106,7 @@ and_or true = refl
 and_or false = refl
 
 one_form : (anchor extension digest : List ℕ) (closed : Bool) → closed ≡ true → bytes_eq extension zero_bytes ≡ true
-    → list_any (fits_fresh false digest zero_bytes) (record { anchor = anchor; extension = extension }
+    → list_any (is_fresh_form false digest zero_bytes) (record { anchor = anchor; extension = extension }
     ∷ (if closed then [] else record { anchor = anchored_digest_of anchor extension; extension = zero_bytes } ∷ []))
     ≡ bytes_eq anchor digest
 one_form anchor extension digest false e z = cc
@@ -120,7 +120,7 @@ anchor_stands variants.Opt summary digest =
     (bytes_are zero_bytes zero_bytes refl)
 
 ticket_stands : (i : Instance) (d : Digests) (ticket : TicketContent) → IsFor i ticket → d.flag ≡ false
-    → bytes_eq (summary_in ticket.content.place).bytes d.digest ≡ stands_here (digest_level i) d ticket.content
+    → bytes_eq (summary_in ticket.content.place).bytes d.digest ≡ is_offer_here (digest_level i) d ticket.content
 ticket_stands i d ticket is clear =
     sym (stands_alike i d ticket.content clear ∙ ap (is_place_at (digest_of d.digest)) is.is.place
     ∙ anchor_stands (variant_of ticket.content.place) (summary_in ticket.content.place) d.digest)
@@ -148,7 +148,7 @@ again_match : (i : Instance) (d : Digests) (read : Result TicketContent Refusal)
 again_match i d (Err why) is = (refl, is)
 again_match i d (Ok ticket) is =
     again_by i d ticket is d.flag (bytes_eq (summary_in ticket.content.place).bytes d.digest)
-    (stands_here (digest_level i) d ticket.content)
+    (is_offer_here (digest_level i) d ticket.content)
     refl refl (ticket_stands i d ticket is)
 
 accepts : (i : Instance) (link : Link) (role : Role) (d : Digests) (bytes : List ℕ) → FitsCell i link role d

@@ -3,8 +3,8 @@ use Rattle.mm_transfer.proofs.Below.{◌≡◌, ◌&&◌, ℕ, Bool, true, false
 use Rattle.mm_transfer.proofs.Below.{inr, refl, sym, ap, ◌∙◌, subst, arith, length-append, MatchResult, if◌then◌else◌, Memory, Meaning}
 use Rattle.mm_transfer.proofs.Below.{Meddle, Stop, Standing, Instance, Digests, walk, digest_level, course_of, offered_bytes, Offer}
 use Rattle.mm_transfer.proofs.Below.{MoveRefusal, moved_cell_of, acceptance_in, TicketContent, ticket_of, place_at, Content}
-use Rattle.mm_transfer.proofs.Below.{sealed_snapshot_of, digest_of, Role, Effect, Enters, is_live, role_after, Which, Pair, key_of}
-use Rattle.mm_transfer.proofs.Below.{instance_on, Both, digests_move, DenialCause, FoundMove, Accept, acceptance_on, ticket_by, ticket_in}
+use Rattle.mm_transfer.proofs.Below.{sealed_snapshot_of, digest_of, Role, Effect, Enters, is_live, role_after, SideName, Pair, key_of}
+use Rattle.mm_transfer.proofs.Below.{instance_on, BothSides, digest_mover, DenialCause, FoundMove, Accept, acceptance_on, ticket_by, ticket_in}
 use Rattle.mm_transfer.proofs.Below.{move_steps, effect_of, sides_after_issue, effect_reply, found_acceptance, IssuedTickets, MoveReply}
 use Rattle.mm_transfer.proofs.Below.{CodeSide, TellsEntry, both_with, outcome_of_command, FitsIssuedTickets, CommandDone, CommandLacks}
 use Rattle.mm_transfer.proofs.Below.{has_moved, link_of, role_in, at_in, FitsSide, move_reply_of, cell_of_role, digests_after_move}
@@ -32,7 +32,7 @@ is_entered i role d x away kept again effect accepted g live = absurd g
 
 -- what a side says of a content depends on its digest alone
 said_as : (i : Instance) (x y : Digests) (content : Content) → x.digest ≡ y.digest
-    → digests_move.says i x content ≡ digests_move.says i y content
+    → digest_mover.says i x content ≡ digest_mover.says i y content
 said_as i x y content e = λ j. record {
   id = i.meaning.id;
   place = place_at i.variant (digest_of (e j));
@@ -46,11 +46,11 @@ stood_digest : (d : Digests) (away : ℕ) (again : Bool) (ticket : TicketContent
 stood_digest d away true ticket = refl
 stood_digest d away false ticket = refl
 
-handed_entry : (pair : Pair) (i : Instance) (both : Both Digests ℕ) (d : Digests) (away : ℕ) (again : Bool) (effect : Effect)
+handed_entry : (pair : Pair) (i : Instance) (both : BothSides Digests ℕ) (d : Digests) (away : ℕ) (again : Bool) (effect : Effect)
     (accepted : Accepted) → GivesEntryBy i (digests_after_move d (record { again = again; effect = effect })) effect accepted
     → both.first.at.digest ≡ (at_then away d (if again then None else Some effect)).digest
-    → (reply.Entered accepted.position ≡ move_reply_of (effect_reply digests_move i both effect))
-    × (sides_after_issue digests_move pair i both effect
+    → (reply.Entered accepted.position ≡ move_reply_of (effect_reply digest_mover i both effect))
+    × (sides_after_issue digest_mover pair i both effect
     ≡ record both { first = record both.first { issued = both.first.issued ++ accepted.snapshot ∷ [] } })
 handed_entry pair i both d away again (Enters ticket) accepted g at =
     let same = said_as i both.first.at (digests_after_move d (record { again = again; effect = Enters ticket })) ticket.content
@@ -61,7 +61,7 @@ handed_entry pair i both d away again (Enters ticket) accepted g at =
     )
 handed_entry pair i both d away again effect accepted g at = absurd g
 
-accepts_pair : (pair : Pair) (which : Which) (role : Role) (d : Digests) (bytes : List ℕ)
+accepts_pair : (pair : Pair) (which : SideName) (role : Role) (d : Digests) (bytes : List ℕ)
     → FitsCell (instance_on pair which) (link_of pair) role d → (let i = instance_on pair which in
     MatchesRole (GivesEntry i d) i role d (acceptance_in pair.meaning pair.variant (link_of pair) bytes (moved_cell_of (cell_of_role i role d)))
     (acceptance_on (digest_level i) role d (ticket_in pair bytes)))
@@ -85,7 +85,7 @@ entered_over live away stop (Ok accepted) mid new result e = (e.platform, e.dige
 entered_over live away stop (Err why) mid new result e = (e.platform, e.digest)
 
 -- with what the offer named
-pub accepted_done : (pair : Pair) (which : Which) (offer : Offer) (stop : Stop) (meddles : List Meddle) (old mid new : CodeSide)
+pub accepted_done : (pair : Pair) (which : SideName) (offer : Offer) (stop : Stop) (meddles : List Meddle) (old mid new : CodeSide)
     (between : IssuedTickets) (live : Bool) (cell : List ℕ) (came : Result Accepted MoveRefusal) (result : Result MoveReply Memory)
     → Named (λ bytes (cell : List ℕ). acceptance_in pair.meaning pair.variant (link_of pair) bytes (moved_cell_of cell)) stop meddles
     (offered_bytes between.tickets.items offer) old.seat.platform mid.seat.platform came → live ≡ is_live (role_in (Some cell))
@@ -149,7 +149,7 @@ accepted_done pair which offer stop meddles old mid new between live cell came r
           }) in
           move_done gives pair which stop meddles (Accept offer) found old new between between came result fits c t keeps
           (λ it k. (enters it k).keeps)
-          (λ other committed. ap (found_acceptance digests_move pair i (both_with old between other committed).first)
+          (λ other committed. ap (found_acceptance digest_mover pair i (both_with old between other committed).first)
           named.names)
       | inr w ↦
           let t = subst (λ (c : Result Accepted MoveRefusal). TellsEntry live away stop c mid new result) w.says entered in
@@ -167,7 +167,7 @@ accepted_done pair which offer stop meddles old mid new between live cell came r
     never false position away = refl
 
 -- a ticket that isn't issued
-pub accepted_unissued : (pair : Pair) (which : Which) (offer : Offer) (stop : Stop) (meddles : List Meddle) (old new : CodeSide)
+pub accepted_unissued : (pair : Pair) (which : SideName) (offer : Offer) (stop : Stop) (meddles : List Meddle) (old new : CodeSide)
     (between : IssuedTickets) → (offered_bytes between.tickets.items offer ≡ None) × (new.seat.platform ≡ old.seat.platform)
     → SameSide old new
     → FitsSide pair which old → FitsIssuedTickets between
@@ -175,5 +175,5 @@ pub accepted_unissued : (pair : Pair) (which : Which) (offer : Offer) (stop : St
 accepted_unissued pair which offer stop meddles old new between none s fits counted =
     unissued_done pair which stop meddles (Accept offer) reply.NoTicket old new between between fits counted none.1 s
     (record { tickets = refl; kept = refl; away = refl }) refl
-    (λ other committed. ap (found_acceptance digests_move pair (instance_on pair which) (both_with old between other committed).first)
+    (λ other committed. ap (found_acceptance digest_mover pair (instance_on pair which) (both_with old between other committed).first)
     none.0)

@@ -1,8 +1,8 @@
 -- What happens on a side is what happens on both.
 use Rattle.mm_transfer.proofs.Below.{◌≡◌, ◌∙◌, ◌^◌, ◌<◌, ℕ, List, length, Option, None, Some, Result, Ok, Err, refl, sym, ap, subst, arith}
 use Rattle.mm_transfer.proofs.Below.{MatchResult, IfOk, OnOk, OnErr, sum_by, Memory, StepFault, Meddle, Stop, Instance, Digests, walk}
-use Rattle.mm_transfer.proofs.Below.{course_of, meddles_of, Header, Which, First, Second, Pair, instance_on, Both, sides_swapped}
-use Rattle.mm_transfer.proofs.Below.{digests_move, Moves, BothEvent, sides_after_effect_if, state_after_steps, effect_of, found_command}
+use Rattle.mm_transfer.proofs.Below.{course_of, meddles_of, Header, SideName, First, Second, Pair, instance_on, BothSides, sides_swapped}
+use Rattle.mm_transfer.proofs.Below.{digest_mover, Moves, BothEvent, sides_after_effect_if, state_after_steps, effect_of, found_command}
 use Rattle.mm_transfer.proofs.Below.{move_end_outcome, move_outcome, move_steps, outcome_if_found, MoveCommand, Accept, FoundMove}
 use Rattle.mm_transfer.proofs.Below.{DenialCause, Effect, Invites, IssuedTickets, MoveReply, CodeSide, Inside, both_with}
 use Rattle.mm_transfer.proofs.Below.{outcome_of_command, FitsIssuedTickets, CommandDone, CommandLacks, CommandGoes, act_of, command_of}
@@ -13,44 +13,44 @@ use Rattle.mm_transfer.specs.declared.event.SideAct.{SideAct as CodeAct}
 use Rattle.mm_transfer.specs.declared.event.SideAct.TheVariants as code
 use Rattle.mm_transfer.specs.declared.event.Command.{Command as CodeCommand}
 use Rattle.mm_transfer.specs.declared.event.SideEvent.{SideEvent}
-use Rattle.mm_transfer.specs.declared.event.Which.{Which as CodeWhich}
-use Rattle.mm_transfer.specs.declared.event.Which.TheVariants as which
+use Rattle.mm_transfer.specs.declared.event.SideChoice.{SideChoice as CodeWhich}
+use Rattle.mm_transfer.specs.declared.event.SideChoice.TheVariants as which
 use Rattle.mm_transfer.specs.ActOutcome.{outcome_of_act, AreWithin, ActDone, ActLacks, ActGoes}
 use Rattle.mm_transfer.specs.Sides.{TransferSides, transfer_sides_in, outcome_in}
-use Rattle.mm_transfer.specs.MemoryWant.{BothEventWants}
+use Rattle.mm_transfer.specs.MemoryWant.{BothEventLacksMemory}
 
 -- no move is answered as an event of a schedule is
-told_sayable : (pair : Pair) (i : Instance) (both : Both Digests ℕ) (stop : Stop) (found : FoundMove) (effect : Effect)
+told_sayable : (pair : Pair) (i : Instance) (both : BothSides Digests ℕ) (stop : Stop) (found : FoundMove) (effect : Effect)
     (had : Option Effect)
-    → IsSayable (move_reply_of (move_end_outcome digests_move pair i both stop None (Ok (record found { effect = effect })) had).reply)
+    → IsSayable (move_reply_of (move_end_outcome digest_mover pair i both stop None (Ok (record found { effect = effect })) had).reply)
 told_sayable pair i both stop found (Invites nonce) had = tt
 told_sayable pair i both stop found _ had = tt
 
-ended_sayable : (pair : Pair) (i : Instance) (both : Both Digests ℕ) (stop : Stop) (fault : Option StepFault)
+ended_sayable : (pair : Pair) (i : Instance) (both : BothSides Digests ℕ) (stop : Stop) (fault : Option StepFault)
     (found : Result FoundMove DenialCause) (effect : Option Effect)
-    → IsSayable (move_reply_of (move_end_outcome digests_move pair i both stop fault found effect).reply)
+    → IsSayable (move_reply_of (move_end_outcome digest_mover pair i both stop fault found effect).reply)
 ended_sayable pair i both stop (Some fault) found effect = tt
 ended_sayable pair i both stop None (Err cause) effect = tt
 ended_sayable pair i both stop None (Ok found) effect = told_sayable pair i both stop found found.effect effect
 
-found_sayable : (pair : Pair) (i : Instance) (both : Both Digests ℕ) (meddles : List Meddle) (stop : Stop) (command : MoveCommand)
+found_sayable : (pair : Pair) (i : Instance) (both : BothSides Digests ℕ) (meddles : List Meddle) (stop : Stop) (command : MoveCommand)
     (found : Option (Result FoundMove DenialCause))
-    → IsSayable (move_reply_of (outcome_if_found digests_move pair i both meddles stop command found).reply)
+    → IsSayable (move_reply_of (outcome_if_found digest_mover pair i both meddles stop command found).reply)
 found_sayable pair i both meddles stop (Accept offer) None = tt
 found_sayable pair i both meddles stop command None = tt
 found_sayable pair i both meddles stop command (Some found) =
     let fates = (course_of stop meddles).fates in
     let effect = effect_of fates found in
     let here = record both
-    { first = record both.first { at = state_after_steps digests_move i both.first.at meddles stop (move_steps found) } } in
-    ended_sayable pair i (sides_after_effect_if digests_move here effect) stop (walk fates 1 (move_steps found)).broken found effect
+    { first = record both.first { at = state_after_steps digest_mover i both.first.at meddles stop (move_steps found) } } in
+    ended_sayable pair i (sides_after_effect_if digest_mover here effect) stop (walk fates 1 (move_steps found)).broken found effect
 
-move_sayable : (pair : Pair) (i : Instance) (both : Both Digests ℕ) (meddles : List Meddle) (stop : Stop) (command : MoveCommand)
-    → IsSayable (move_reply_of (move_outcome digests_move pair i both meddles stop command).reply)
+move_sayable : (pair : Pair) (i : Instance) (both : BothSides Digests ℕ) (meddles : List Meddle) (stop : Stop) (command : MoveCommand)
+    → IsSayable (move_reply_of (move_outcome digest_mover pair i both meddles stop command).reply)
 move_sayable pair i both meddles stop command = found_sayable pair i both meddles stop command
-    (found_command digests_move pair i both command)
+    (found_command digest_mover pair i both command)
 
-done_acts : (pair : Pair) (which : Which) (meddles : List Meddle) (stop : Stop) (command : MoveCommand) (old new : CodeSide)
+done_acts : (pair : Pair) (which : SideName) (meddles : List Meddle) (stop : Stop) (command : MoveCommand) (old new : CodeSide)
     (was now : IssuedTickets)
     (committed : ℕ) (said : MoveReply) → AreWithin old was committed
     → CommandDone pair which old new was now (outcome_of_command pair which old was meddles stop command) said
@@ -71,7 +71,7 @@ done_acts pair which meddles stop command old new was now committed said w d =
       tickets = d.tickets;
     }
 
-lacks_acts : (pair : Pair) (which : Which) (meddles : List Meddle) (stop : Stop) (command : MoveCommand) (old new : CodeSide)
+lacks_acts : (pair : Pair) (which : SideName) (meddles : List Meddle) (stop : Stop) (command : MoveCommand) (old new : CodeSide)
     (was now : IssuedTickets) (committed : ℕ) → FitsIssuedTickets was → AreWithin old was committed
     → CommandLacks pair which meddles stop old new was now
     → ActLacks pair which (Moves meddles stop command) old new was now committed committed
@@ -91,7 +91,7 @@ lacks_acts pair which meddles stop command old new was now committed f w l =
       same = refl;
     }
 
-command_acts : (pair : Pair) (which : Which) (meddles : List Meddle) (stop : Stop) (command : MoveCommand) (old new : CodeSide)
+command_acts : (pair : Pair) (which : SideName) (meddles : List Meddle) (stop : Stop) (command : MoveCommand) (old new : CodeSide)
     (was now : IssuedTickets) (committed : ℕ) (result : Result MoveReply Memory) → CommandGoes pair which meddles stop command old
     new was now result
     → ActGoes pair which (Moves meddles stop command) old new was now committed committed result
@@ -100,7 +100,7 @@ command_acts pair which meddles stop command old new was now committed (Ok said)
 command_acts pair which meddles stop command old new was now committed (Err fault) c =
     λ f b w few. lacks_acts pair which meddles stop command old new was now committed b w (c f b)
 
-pub moves_acts : (pair : Pair) (which : Which) (act : CodeAct) (meddles : Meddles) (listed : List Meddle) (stop : Stop)
+pub moves_acts : (pair : Pair) (which : SideName) (act : CodeAct) (meddles : Meddles) (listed : List Meddle) (stop : Stop)
     (command : CodeCommand) (old new : CodeSide) (was now : IssuedTickets) (committed : ℕ) (result : Result MoveReply Memory)
     → act ≡ code.Moves meddles stop command
     → listed ≡ meddles_of meddles → CommandGoes pair which listed stop (command_of command) old new was now result
@@ -112,10 +112,10 @@ moves_acts pair which act meddles listed stop command old new was now committed 
     subst (λ (a : CodeAct). ActGoes pair which (act_of a) old new was now committed committed result) (sym is) listing
 
 -- An event has come to what it comes to on both sides, and was answered so.
-pub record Comes (held : TransferSides) (event : BothEvent) (new : Both Digests ℕ) (result : Result MoveReply Memory) : Type 0 where
+pub record Comes (held : TransferSides) (event : BothEvent) (new : BothSides Digests ℕ) (result : Result MoveReply Memory) : Type 0 where
   pub reply : IfOk result (λ reply. reply ≡ move_reply_of (outcome_in held event).reply)
   pub after : OnOk result (new ≡ (outcome_in held event).both)
-  pub wants : OnErr result (BothEventWants (pair_of held.header) event held.both new)
+  pub wants : OnErr result (BothEventLacksMemory (pair_of held.header) event held.both new)
 
 first_comes : (header : Header) (first first' second : CodeSide) (between between' : IssuedTickets)
     (committed committed' : ℕ) (act : BothAct)
@@ -152,7 +152,7 @@ second_comes : (header : Header) (first second second' : CodeSide) (between betw
     (both_with first between' (side_in second') committed') result
 second_comes header first second second' between between' committed committed' act (Ok said) d = record {
   reply = d.says (side_in first);
-  after = ap (λ (both : Both Digests ℕ). sides_swapped both) (d.both (side_in first));
+  after = ap (λ (both : BothSides Digests ℕ). sides_swapped both) (d.both (side_in first));
   wants = tt;
 }
 second_comes header first second second' between between' committed committed' act (Err fault) d = record {
@@ -171,7 +171,7 @@ second_comes header first second second' between between' committed committed' a
 }
 
 -- an event on either side, as the code has followed it
-pub event_first : (old : Inside) (held : TransferSides) (event : SideEvent) (new : Both Digests ℕ) (here : CodeSide)
+pub event_first : (old : Inside) (held : TransferSides) (event : SideEvent) (new : BothSides Digests ℕ) (here : CodeSide)
     (between : IssuedTickets)
     (committed : ℕ) (result came : Result MoveReply Memory) → transfer_sides_in old.header old.first old.second old.between old.committed
     ≡ held
@@ -188,11 +188,11 @@ event_first old held event new here between committed result came view few is ca
     (here_acts old.first_fits old.between_fits within room) in
     let event : BothEvent = record { which = First; act = act } in
     let held_comes = subst (λ (h : TransferSides). Comes h event (both_with here between (side_in old.second) committed) came) view comes in
-    let new_comes = subst (λ (both : Both Digests ℕ). Comes held event both came) (sym now) held_comes in
+    let new_comes = subst (λ (both : BothSides Digests ℕ). Comes held event both came) (sym now) held_comes in
     let result_comes = subst (λ (r : Result MoveReply Memory). Comes held event new r) (sym came_is) new_comes in
     subst (λ (w : CodeWhich). Comes held (record { which = which_of w; act = act }) new result) (sym is) result_comes
 
-pub event_second : (old : Inside) (held : TransferSides) (event : SideEvent) (new : Both Digests ℕ) (here : CodeSide)
+pub event_second : (old : Inside) (held : TransferSides) (event : SideEvent) (new : BothSides Digests ℕ) (here : CodeSide)
     (between : IssuedTickets)
     (committed : ℕ) (result came : Result MoveReply Memory) → transfer_sides_in old.header old.first old.second old.between old.committed
     ≡ held
@@ -209,6 +209,6 @@ event_second old held event new here between committed result came view few is c
     (here_acts old.second_fits old.between_fits within room) in
     let event : BothEvent = record { which = Second; act = act } in
     let held_comes = subst (λ (h : TransferSides). Comes h event (both_with old.first between (side_in here) committed) came) view comes in
-    let new_comes = subst (λ (both : Both Digests ℕ). Comes held event both came) (sym now) held_comes in
+    let new_comes = subst (λ (both : BothSides Digests ℕ). Comes held event both came) (sym now) held_comes in
     let result_comes = subst (λ (r : Result MoveReply Memory). Comes held event new r) (sym came_is) new_comes in
     subst (λ (w : CodeWhich). Comes held (record { which = which_of w; act = act }) new result) (sym is) result_comes

@@ -66,19 +66,19 @@ pub use Rattle.mm_outcome.proofs.Above.{broken_reply}
 pub use Rattle.mm_outcome.specs.WorldState.{world_barrier, world_key}
 pub use Rattle.mm_outcome.specs.EventOffers.{offered_bytes}
 pub use Rattle.mm_outcome.proofs.Above.{few_committed, issues_one, printable}
-pub use Rattle.mm_sides.specs.Both.{Both, digests_move, First, first_both, first_lists, instance_on, key_of, lists_move, Pair, Second}
-pub use Rattle.mm_sides.specs.Both.{SideState, sides_swapped, Which}
+pub use Rattle.mm_sides.specs.BothSides.{BothSides, digest_mover, First, first_both_by_digests, first_both_by_lists, instance_on, key_of, list_mover, Pair, Second}
+pub use Rattle.mm_sides.specs.BothSides.{SideState, sides_swapped, SideName}
 pub use Rattle.mm_sides.specs.Folds.{found_acceptance, sides_after_effect_if, both_outcome_by_digests, both_outcome_by_lists}
 pub use Rattle.mm_sides.specs.Folds.{both_outcome_of_events, both_outcome, BothEvent, BothRunOutcome, BothReply, state_after_steps, Denied}
 pub use Rattle.mm_sides.specs.Folds.{effect_if, effect_of, found_command, commits_between, is_moved, is_written, move_end_outcome}
 pub use Rattle.mm_sides.specs.Folds.{move_outcome, move_steps, outcome_if_found, Moves, notes_with_effect_if, outcome_by_role}
 pub use Rattle.mm_sides.specs.Folds.{sides_after_issue, refusal_for_role, found_retirement, stopped_moves, effect_reply, unissued_reply}
-pub use Rattle.mm_sides.specs.Both.{history_now}
-pub use Rattle.mm_sides.specs.Laws.{IsOneFrom, OneIsLive, PairsAgreeThroughout, plain_events, plain_replies}
+pub use Rattle.mm_sides.specs.BothSides.{history_now}
+pub use Rattle.mm_sides.specs.Laws.{IsOneLiveFrom, OneIsLive, PairsAgreeThroughout, plain_events, plain_replies}
 pub use Rattle.mm_sides.specs.Laws.{SidesRunAsOne}
 pub use Rattle.mm_sides.specs.Moves.{Accept, acceptance_on, MoveCommand, repeated_entry, entry_by_ticket, FoundMove, Gone, Invite}
 pub use Rattle.mm_sides.specs.Moves.{invitation_on, found_retirement_by, DenialCause, retirement_with, Open, Refused, Retire, retirement_on}
-pub use Rattle.mm_sides.specs.Moves.{stands_here, ticket_by, ticket_in, verdict_here}
+pub use Rattle.mm_sides.specs.Moves.{is_offer_here, ticket_by, ticket_in, verdict_here}
 pub use Rattle.mm_sides.specs.Roles.{Blank, Effect, Enters, Invites, is_live, Leaves, Live, no_notes, MoveNotes, Retired, Retired as Left}
 pub use Rattle.mm_sides.specs.Roles.{Role, role_after, Waiting, Waiting as Waits}
 pub use Rattle.mm_sides.proofs.Above.{any_value, AreOuter, foreign_outer, found_outer, IsOuter, stop_outer, stopped_outer}

@@ -2,7 +2,7 @@
 use Rattle.mm_transfer.proofs.Below.{◌≡◌, ◌≤◌, ◌+◌, ◌&&◌, ℕ, Bool, true, false, not, List, length, Option, None, Some, Result, Ok, Err}
 use Rattle.mm_transfer.proofs.Below.{refl, sym, ap, ◌∙◌, subst, arith, MatchResult, if◌then◌else◌, is_some, sum_by, Memory, StepFault}
 use Rattle.mm_transfer.proofs.Below.{Meddle, Stop, Standing, Instance, Digests, walk, course_of, way_of, offered_bytes, Offer, Link}
-use Rattle.mm_transfer.proofs.Below.{ReadyMove, MoveRefusal, Role, Effect, Which, Pair, instance_on, SideState, Both, digests_move}
+use Rattle.mm_transfer.proofs.Below.{ReadyMove, MoveRefusal, Role, Effect, SideName, Pair, instance_on, SideState, BothSides, digest_mover}
 use Rattle.mm_transfer.proofs.Below.{DenialCause, FoundMove, MoveCommand, Denied, move_steps, effect_if, effect_of, state_after_steps}
 use Rattle.mm_transfer.proofs.Below.{sides_after_effect_if, found_command, outcome_if_found, move_end_outcome, role_after, IssuedTickets}
 use Rattle.mm_transfer.proofs.Below.{MoveReply, CodeSide, TellsRefusalAs, TriesMove, both_with, outcome_of_command, FitsIssuedTickets}
@@ -76,8 +76,8 @@ pub record Refuses (pair : Pair) (i : Instance) (stop : Stop) (broken : Option S
     (effect : Option Effect) (why : MoveRefusal) : Type 0 where
   pub said : MoveReply
   pub is : (result : Result MoveReply Memory) → TellsRefusalAs stop why result → result ≡ Ok said
-  pub says : (both : Both Digests ℕ) → said ≡ move_reply_of (move_end_outcome digests_move pair i both stop broken found effect).reply
-  pub both : (both : Both Digests ℕ) → (move_end_outcome digests_move pair i both stop broken found effect).both ≡ both
+  pub says : (both : BothSides Digests ℕ) → said ≡ move_reply_of (move_end_outcome digest_mover pair i both stop broken found effect).reply
+  pub both : (both : BothSides Digests ℕ) → (move_end_outcome digest_mover pair i both stop broken found effect).both ≡ both
   pub made : effect ≡ made_if (has_moved stop why) found
   pub idle : IsIdle (has_moved stop why) found
 
@@ -119,8 +119,8 @@ pub record Told (pair : Pair) (i : Instance) (stop : Stop) (broken : Option Step
     (effect : Option Effect) (result : Result MoveReply Memory) (old new : CodeSide) (was now : IssuedTickets) (d : Digests) : Type 0 where
   pub said : MoveReply
   pub is : result ≡ Ok said
-  pub ends : (both : Both Digests ℕ) → both.first.at.digest ≡ (at_then was.away d effect).digest → both.first.issued ≡ old.seat.issued.items
-      → both.tickets ≡ was.tickets.items → (let o = move_end_outcome digests_move pair i both stop broken found effect in
+  pub ends : (both : BothSides Digests ℕ) → both.first.at.digest ≡ (at_then was.away d effect).digest → both.first.issued ≡ old.seat.issued.items
+      → both.tickets ≡ was.tickets.items → (let o = move_end_outcome digest_mover pair i both stop broken found effect in
       (said ≡ move_reply_of o.reply)
       × (o.both ≡ record both { first = record both.first { issued = new.seat.issued.items }; tickets = now.tickets.items }))
   pub position : new.seat.committed ≡ (at_then was.away d effect).count
@@ -156,7 +156,7 @@ told_still pair i stop broken found effect why result old new was now d r told i
 }
 
 -- a command with its move made
-pub move_done : {A : Type 0} (gives : FoundMove → A → Type 0) (pair : Pair) (which : Which) (stop : Stop) (meddles : List Meddle)
+pub move_done : {A : Type 0} (gives : FoundMove → A → Type 0) (pair : Pair) (which : SideName) (stop : Stop) (meddles : List Meddle)
     (command : MoveCommand) (found : Result FoundMove DenialCause) (old new : CodeSide) (was now : IssuedTickets)
     (came : Result A MoveRefusal)
     (result : Result MoveReply Memory) → FitsSide pair which old → (let i = instance_on pair which in
@@ -167,7 +167,7 @@ pub move_done : {A : Type 0} (gives : FoundMove → A → Type 0) (pair : Pair) 
     → Told pair i stop (walk fates 1 (move_steps found)).broken found (effect_of fates found) result old new was now d
     → KeepsFor role new.digest.bytes d
     → ((it : FoundMove) → Knows gives role d it → KeepsFor (role_after it.effect) new.digest.bytes (at_then was.away d (Some it.effect)))
-    → ((other : SideState Digests) (committed : ℕ) → found_command digests_move pair i (both_with old was other committed) command
+    → ((other : SideState Digests) (committed : ℕ) → found_command digest_mover pair i (both_with old was other committed) command
     ≡ Some found)
     → MatchResult result (CommandDone pair which old new was now (outcome_of_command pair which old was meddles stop command))
     (λ _. CommandLacks pair which meddles stop old new was now))
@@ -181,27 +181,27 @@ move_done gives pair which stop meddles command found old new was now came resul
     let K : Option Effect → Type 0 = λ e. KeepsFor (role_then role e) new.digest.bytes (at_then was.away d e) in
     let then_keeps = subst K (sym m.is) (by_known gives role d K m.moved found c.knows keeps next) in
     let s = side_then gives pair which role d stop meddles found new came was.away c fits.stands.fits then_fits t.position then_keeps in
-    let brought = state_after_steps digests_move i d meddles stop (move_steps found) in
+    let brought = state_after_steps digest_mover i d meddles stop (move_steps found) in
     let b = brought_then i d stop meddles found was.away effect in
     let gone = t.away ∙ b.away_is in
     let is = λ (other : SideState Digests) (committed : ℕ).
     affected_is role brought old.seat.issued.items was.tickets.items other was.away committed effect in
     let ends = λ (other : SideState Digests) (committed : ℕ).
-    t.ends (sides_after_effect_if digests_move (both_of role brought old.seat.issued.items was.tickets.items other was.away committed)
+    t.ends (sides_after_effect_if digest_mover (both_of role brought old.seat.issued.items was.tickets.items other was.away committed)
     effect)
-    (ap (λ (x : Both Digests ℕ). x.first.at.digest) (is other committed) ∙ b.digest)
-    (ap (λ (x : Both Digests ℕ). x.first.issued) (is other committed)) (ap (λ (x : Both Digests ℕ). x.tickets) (is other committed)) in
+    (ap (λ (x : BothSides Digests ℕ). x.first.at.digest) (is other committed) ∙ b.digest)
+    (ap (λ (x : BothSides Digests ℕ). x.first.issued) (is other committed)) (ap (λ (x : BothSides Digests ℕ). x.tickets) (is other committed)) in
     ok_match _ _ result t.said t.is (record {
       fits = s.fits;
       between = t.between;
       both = λ other committed.
           (λ j. both_of (s.role_is j) (s.at_is j) new.seat.issued.items now.tickets.items other (gone j) committed)
-          ∙ ap (λ (x : Both Digests ℕ). record x { first = record x.first { issued = new.seat.issued.items }; tickets = now.tickets.items })
+          ∙ ap (λ (x : BothSides Digests ℕ). record x { first = record x.first { issued = new.seat.issued.items }; tickets = now.tickets.items })
           (sym (is other committed)) ∙ sym (ends other committed).1
-          ∙ sym (ap (λ x. (outcome_if_found digests_move pair i (both_with old was other committed) meddles stop command x).both)
+          ∙ sym (ap (λ x. (outcome_if_found digest_mover pair i (both_with old was other committed) meddles stop command x).both)
           (finds other committed));
       says = λ other committed. (ends other committed).0
-          ∙ sym (ap (λ x. move_reply_of (outcome_if_found digests_move pair i (both_with old was other committed) meddles stop
+          ∙ sym (ap (λ x. move_reply_of (outcome_if_found digest_mover pair i (both_with old was other committed) meddles stop
           command x).reply)
           (finds other committed));
       issued = t.issued;

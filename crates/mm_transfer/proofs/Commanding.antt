@@ -1,12 +1,12 @@
 -- What a move that was found makes of a side's cell, and what it gives; where the side stands then.
 use Rattle.mm_transfer.proofs.Below.{◌≡◌, ℕ, Bool, true, false, List, Option, None, Some, Result, Ok, Err, refl, sym, ap, ◌∙◌, subst}
 use Rattle.mm_transfer.proofs.Below.{StepFault, Meddle, Stop, Standing, Instance, Digests, register_reading, walk, course_of, IsQuiet}
-use Rattle.mm_transfer.proofs.Below.{ReadyMove, MoveRefusal, Role, Effect, digests_move, DenialCause, FoundMove, move_steps, is_moved}
+use Rattle.mm_transfer.proofs.Below.{ReadyMove, MoveRefusal, Role, Effect, digest_mover, DenialCause, FoundMove, move_steps, is_moved}
 use Rattle.mm_transfer.proofs.Below.{effect_if, effect_of, state_after_steps, bytes_if_written, move_answer_of, MakesMove, cell_of_role}
 use Rattle.mm_transfer.proofs.Below.{refusal_of, next_cell_if, MatchesRole, Memory, MoveReply, Denied, Refused, move_reply_of}
 use Rattle.mm_transfer.proofs.Below.{TellsRefusalAs, has_moved, FitsEffect, FitsLive, IsSaid, digest_level, state_after_moves, Invites}
-use Rattle.mm_transfer.proofs.Below.{Leaves, Enters, role_after, Which, Pair, instance_on, SideState, stopped_moves, sides_after_effect_if}
-use Rattle.mm_transfer.proofs.Below.{any_value, found_outer, stopped_outer, CodeSide, link_of, FitsRole, FitsCell, ◌≤◌, Both}
+use Rattle.mm_transfer.proofs.Below.{Leaves, Enters, role_after, SideName, Pair, instance_on, SideState, stopped_moves, sides_after_effect_if}
+use Rattle.mm_transfer.proofs.Below.{any_value, found_outer, stopped_outer, CodeSide, link_of, FitsRole, FitsCell, ◌≤◌, BothSides}
 use Rattle.mm_model.specs.declared.refusal.Refusal.TheVariants as core
 use Rattle.mm_move.specs.declared.refusal.MoveRefusal.TheVariants as refusal
 use Rattle.mm_transfer.specs.RoleCells.{cell_after}
@@ -42,7 +42,7 @@ pub record Came {A : Type 0} (gives : FoundMove → A → Type 0) (i : Instance)
     (meddles : List Meddle)
     (found : Result FoundMove DenialCause) (new : Standing) (came : Result A MoveRefusal) : Type 0 where
   pub cell : new.cell ≡ Some (cell_if i role d (effect_of (course_of stop meddles).fates found))
-  pub register : register_reading new ≡ Some (state_after_steps digests_move i d meddles stop (move_steps found)).register
+  pub register : register_reading new ≡ Some (state_after_steps digest_mover i d meddles stop (move_steps found)).register
   pub quiet : IsQuiet new
   pub says : CameAs gives (walk (course_of stop meddles).fates 1 (move_steps found)).broken found came
   pub knows : KnowsOf gives role d found
@@ -125,8 +125,8 @@ never_moved stop _ is = refl
 -- others change the register alone
 
 pub brought_digests : (i : Instance) (d : Digests) (stop : Stop) (meddles : List Meddle) (found : Result FoundMove DenialCause)
-    → state_after_steps digests_move i d meddles stop (move_steps found)
-    ≡ record d { register = (state_after_steps digests_move i d meddles stop (move_steps found)).register }
+    → state_after_steps digest_mover i d meddles stop (move_steps found)
+    ≡ record d { register = (state_after_steps digest_mover i d meddles stop (move_steps found)).register }
 brought_digests i d stop meddles found =
     let P : List ℕ → Type 0 = λ v. Unit {0} in
     let fates = (course_of stop meddles).fates in
@@ -144,7 +144,7 @@ role_then role None = role
 role_then role (Some effect) = role_after effect
 
 abbrev pub at_then : ℕ → Digests → Option Effect → Digests
-at_then away d (Some (Enters ticket)) = digests_move.enters d away ticket.content
+at_then away d (Some (Enters ticket)) = digest_mover.enters d away ticket.content
 at_then away d effect = d
 
 abbrev pub away_then : ℕ → Digests → Option Effect → ℕ
@@ -153,7 +153,7 @@ away_then away d effect = away
 
 -- both sides, of which the first is so
 abbrev pub both_of : (role : Role) (at : Digests) (issued tickets : List (List ℕ)) (other : SideState Digests) (away committed : ℕ)
-    → Both Digests ℕ
+    → BothSides Digests ℕ
 both_of role at issued tickets other away committed = record {
   first = record { role = role; at = at; issued = issued };
   second = other;
@@ -163,7 +163,7 @@ both_of role at issued tickets other away committed = record {
 }
 
 pub affected_is : (role : Role) (at : Digests) (issued tickets : List (List ℕ)) (other : SideState Digests) (away committed : ℕ)
-    (effect : Option Effect) → sides_after_effect_if digests_move (both_of role at issued tickets other away committed) effect
+    (effect : Option Effect) → sides_after_effect_if digest_mover (both_of role at issued tickets other away committed) effect
     ≡ both_of (role_then role effect) (at_then away at effect) issued tickets other (away_then away at effect) committed
 affected_is role at issued tickets other away committed (Some (Invites nonce)) = refl
 affected_is role at issued tickets other away committed _ = refl
@@ -189,7 +189,7 @@ abbrev pub FitsThen : Digests → Option Effect → Type 0
 FitsThen d None = Unit {0}
 FitsThen d (Some effect) = FitsEffect d effect
 
-fits_then : (pair : Pair) (which : Which) (role : Role) (d : Digests) (register : List ℕ) (away : ℕ) (effect : Option Effect)
+fits_then : (pair : Pair) (which : SideName) (role : Role) (d : Digests) (register : List ℕ) (away : ℕ) (effect : Option Effect)
     → FitsCell (instance_on pair which) (link_of pair) role d → FitsThen d effect
     → FitsRole (instance_on pair which) (role_then role effect) (at_then away (reading d register) effect)
 fits_then pair which role d register away None fit is = fits_reading (instance_on pair which) role d register fit.fits
@@ -213,24 +213,24 @@ same_then away d register (Some (Invites nonce)) = record { digest = refl; count
 same_then away d register _ = record { digest = refl; count = refl; away_is = refl }
 
 pub brought_then : (i : Instance) (d : Digests) (stop : Stop) (meddles : List Meddle) (found : Result FoundMove DenialCause) (away : ℕ)
-    (effect : Option Effect) → SameThen away d (state_after_steps digests_move i d meddles stop (move_steps found)) effect
+    (effect : Option Effect) → SameThen away d (state_after_steps digest_mover i d meddles stop (move_steps found)) effect
 brought_then i d stop meddles found away effect =
-    let brought : Digests = state_after_steps digests_move i d meddles stop (move_steps found) in
+    let brought : Digests = state_after_steps digest_mover i d meddles stop (move_steps found) in
     subst (λ (x : Digests). SameThen away d x effect) (sym (brought_digests i d stop meddles found))
     (same_then away d brought.register effect)
 
 -- a side whose move came to its effect
-pub side_then : {A : Type 0} (gives : FoundMove → A → Type 0) (pair : Pair) (which : Which) (role : Role) (d : Digests) (stop : Stop)
+pub side_then : {A : Type 0} (gives : FoundMove → A → Type 0) (pair : Pair) (which : SideName) (role : Role) (d : Digests) (stop : Stop)
     (meddles : List Meddle) (found : Result FoundMove DenialCause) (new : CodeSide) (came : Result A MoveRefusal) (away : ℕ)
     → (let effect = effect_of (course_of stop meddles).fates found in
     Came gives (instance_on pair which) role d stop meddles found new.seat.platform came
     → FitsCell (instance_on pair which) (link_of pair) role d → FitsThen d effect → new.seat.committed ≡ (at_then away d effect).count
     → KeepsFor (role_then role effect) new.digest.bytes (at_then away d effect) → IsSide pair which (role_then role effect)
-    (at_then away (state_after_steps digests_move (instance_on pair which) d meddles stop (move_steps found)) effect) new)
+    (at_then away (state_after_steps digest_mover (instance_on pair which) d meddles stop (move_steps found)) effect) new)
 side_then gives pair which role d stop meddles found new came away c fit fits count keeps =
     let i = instance_on pair which in
     let effect = effect_of (course_of stop meddles).fates found in
-    let brought : Digests = state_after_steps digests_move i d meddles stop (move_steps found) in
+    let brought : Digests = state_after_steps digest_mover i d meddles stop (move_steps found) in
     let register : List ℕ = brought.register in
     let to : reading d register ≡ brought = sym (brought_digests i d stop meddles found) in
     let here : IsSide pair which (role_then role effect) (at_then away (reading d register) effect) new =

@@ -1,7 +1,7 @@
 -- A command for which memory was wanting, or whose offer names nothing.
 use Rattle.mm_transfer.proofs.Below.{◌≡◌, ℕ, List, length, None, Some, Result, Ok, Err, IsErr, inl, inr, refl, sym, ap, ◌∙◌, subst, arith}
 use Rattle.mm_transfer.proofs.Below.{MatchResult, sum_by, Memory, Meddle, Stop, Standing, Instance, Digests, register_reading, course_of}
-use Rattle.mm_transfer.proofs.Below.{IsQuiet, MoveRefusal, Which, Pair, instance_on, SideState, digests_move, MoveCommand, found_command}
+use Rattle.mm_transfer.proofs.Below.{IsQuiet, MoveRefusal, SideName, Pair, instance_on, SideState, digest_mover, MoveCommand, found_command}
 use Rattle.mm_transfer.proofs.Below.{outcome_if_found, unissued_reply, IssuedTickets, MoveReply, CodeSide, both_with, outcome_of_command}
 use Rattle.mm_transfer.proofs.Below.{FitsIssuedTickets, CommandDone, CommandLacks, role_in, at_by, at_in, side_in, Reads, [], ◌∷◌, ◌⊎◌}
 use Rattle.mm_transfer.proofs.Below.{moves_seen, state_after_moves, digest_level, within_64, FitsSide, WantsMemory, move_reply_of}
@@ -21,7 +21,7 @@ IsReached i d meddles stop value =
     ⊎ (value ≡ (state_after_moves (digest_level i) d (moves_seen (course_of stop meddles).fates (Reads ∷ []) 1)).register)
 
 -- a side whose cell is as it was
-lacks_side : (pair : Pair) (which : Which) (stop : Stop) (meddles : List Meddle) (old new : CodeSide)
+lacks_side : (pair : Pair) (which : SideName) (stop : Stop) (meddles : List Meddle) (old new : CodeSide)
     (was now : IssuedTickets) (value : List ℕ)
     → IsReached (instance_on pair which) (at_in old) meddles stop value → FitsSide pair which old
     → new.seat.platform.cell ≡ old.seat.platform.cell → register_reading new.seat.platform ≡ Some value → IsQuiet new.seat.platform
@@ -51,7 +51,7 @@ lacks_side pair which stop meddles old new was now value reached fits cell regis
       away = away;
     }
 
-pub lacks_done : {A : Type 0} (pair : Pair) (which : Which) (stop : Stop) (meddles : List Meddle) (old new : CodeSide)
+pub lacks_done : {A : Type 0} (pair : Pair) (which : SideName) (stop : Stop) (meddles : List Meddle) (old new : CodeSide)
     (was now : IssuedTickets)
     (from to : Standing) (came : Result A MoveRefusal) → FitsSide pair which old
     → WantsMemory (instance_on pair which) (at_in old) stop meddles from to came → from.cell ≡ old.seat.platform.cell
@@ -80,7 +80,7 @@ pub record SameBetween (was now : IssuedTickets) : Type 0 where
   pub kept : now.kept ≡ was.kept
   pub away : now.away ≡ was.away
 
-pub still_lacks : (pair : Pair) (which : Which) (stop : Stop) (meddles : List Meddle) (old new : CodeSide) (was now : IssuedTickets)
+pub still_lacks : (pair : Pair) (which : SideName) (stop : Stop) (meddles : List Meddle) (old new : CodeSide) (was now : IssuedTickets)
     → FitsSide pair which old → new.seat.platform ≡ old.seat.platform → SameSide old new → SameBetween was now
     → CommandLacks pair which meddles stop old new was now
 still_lacks pair which stop meddles old new was now fits platform s b =
@@ -90,10 +90,10 @@ still_lacks pair which stop meddles old new was now fits platform s b =
     s.issued b.tickets b.kept b.away
 
 -- a number that isn't issued: nothing is called
-pub unissued_done : (pair : Pair) (which : Which) (stop : Stop) (meddles : List Meddle) (command : MoveCommand) (said : MoveReply)
+pub unissued_done : (pair : Pair) (which : SideName) (stop : Stop) (meddles : List Meddle) (command : MoveCommand) (said : MoveReply)
     (old new : CodeSide) (was now : IssuedTickets) → FitsSide pair which old → FitsIssuedTickets was → new.seat.platform ≡ old.seat.platform
     → SameSide old new → SameBetween was now → said ≡ move_reply_of (unissued_reply command)
-    → ((other : SideState Digests) (committed : ℕ) → found_command digests_move pair (instance_on pair which)
+    → ((other : SideState Digests) (committed : ℕ) → found_command digest_mover pair (instance_on pair which)
     (both_with old was other committed) command ≡ None)
     → CommandDone pair which old new was now (outcome_of_command pair which old was meddles stop command) said
 unissued_done pair which stop meddles command said old new was now fits counted platform s b says none =
@@ -108,10 +108,10 @@ unissued_done pair which stop meddles command said old new was now fits counted 
       between = subst (λ (x : List (List ℕ)). now.kept ≡ within_64 (sum_by length x)) (sym b.tickets) (b.kept ∙ counted);
       both = λ other committed.
           (λ j. record { first = same j; second = other; away = b.away j; tickets = b.tickets j; committed = committed })
-          ∙ sym (ap (λ x. (outcome_if_found digests_move pair i (both_with old was other committed) meddles stop command x).both)
+          ∙ sym (ap (λ x. (outcome_if_found digest_mover pair i (both_with old was other committed) meddles stop command x).both)
           (none other committed));
       says = λ other committed.
-          says ∙ sym (ap (λ x. move_reply_of (outcome_if_found digests_move pair i (both_with old was other committed) meddles stop
+          says ∙ sym (ap (λ x. move_reply_of (outcome_if_found digest_mover pair i (both_with old was other committed) meddles stop
           command x).reply)
           (none other committed));
       issued = omega (arith, ap length s.issued);

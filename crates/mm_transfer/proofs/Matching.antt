@@ -5,7 +5,7 @@ use Rattle.mm_transfer.proofs.Below.{Snapshot, tag_of, Instance, Digests, digest
 use Rattle.mm_transfer.proofs.Below.{IsWaiting, moved_cell_of, waiting_spelling, retired_spelling, barrier_of, is_barred, is_other}
 use Rattle.mm_transfer.proofs.Below.{waiting_for, is_same_waiting, invitation_in, is_place_at, ticket_for, offer_by, retirement_by}
 use Rattle.mm_transfer.proofs.Below.{retirement_in, refusal_if, place_at, sealed_ticket, bytes_are, bytes_tell, moved_back, Blank, Live}
-use Rattle.mm_transfer.proofs.Below.{Waits, Left, digests_move, Refused, Open, Gone, stands_here, verdict_here, invitation_on}
+use Rattle.mm_transfer.proofs.Below.{Waits, Left, digest_mover, Refused, Open, Gone, is_offer_here, verdict_here, invitation_on}
 use Rattle.mm_transfer.proofs.Below.{found_retirement_by, retirement_with, retirement_on, waiting_cell_at, retired_cell_at, cell_of_role}
 use Rattle.mm_transfer.proofs.Below.{next_cell_if, GivesInvited, GivesTicket, MatchesRole, FitsCell, is_live, Role}
 use Rattle.mm_seal.specs.ReadingLaws.{spells_read}
@@ -79,7 +79,7 @@ new_at barrier digest register (InBasic s) b = new_by _ _
 new_at barrier digest register (InOpt a e) b = new_by _ _
 
 pub stands_alike : (i : Instance) (d : Digests) (content : Content) → d.flag ≡ false
-    → stands_here (digest_level i) d content ≡ is_place_at (digest_of d.digest) content.place
+    → is_offer_here (digest_level i) d content ≡ is_place_at (digest_of d.digest) content.place
 stands_alike i d content e =
     ap (λ f. is_new (verdict_by_digests i.barrier f d.digest d.register content.place (One []))) e
     ∙ new_at i.barrier d.digest d.register content.place (One [])
@@ -88,7 +88,7 @@ stands_alike i d content e =
 
 -- what a side says of an offer is the ticket's content
 left_content : (i : Instance) (d : Digests) (nonce : List ℕ) (content : Content) → content.id ≡ i.meaning.id
-    → ticket_for i.variant nonce (digest_of d.digest) content ≡ record { nonce = nonce; content = digests_move.says i d content }
+    → ticket_for i.variant nonce (digest_of d.digest) content ≡ record { nonce = nonce; content = digest_mover.says i d content }
 left_content i d nonce content e = λ j. record {
   nonce = nonce;
   content = record {
@@ -105,7 +105,7 @@ module _ (i : Instance) (link : Link) (role : Role) (d : Digests) (again : Bool)
       → content.id ≡ i.meaning.id → fresh ≡ is_place_at (digest_of d.digest) content.place → MatchesRole (GivesTicket link.key) i role d
       (retirement_by i.variant link nonce (digest_of d.digest) next
       (refusal_if (not spelled) (refusal.Core core.State) (refusal_if (not tagged) (refusal.Core core.Tag) (Ok content))))
-      (found_retirement_by digests_move i d again nonce content (check_by_tests spelled tagged (verdict_here fresh) true))
+      (found_retirement_by digest_mover i d again nonce content (check_by_tests spelled tagged (verdict_here fresh) true))
   left_match content false tagged fresh n e s = (refl, tt)
   left_match content true false fresh n e s = (refl, tt)
   left_match content true true true n e s =
@@ -120,16 +120,16 @@ module _ (i : Instance) (link : Link) (role : Role) (d : Digests) (again : Bool)
       → next ≡ next_cell_if again (retired_spelling (retired_cell_at i d nonce))
       → MatchesRole (GivesTicket link.key) i role d (retirement_by i.variant link nonce (digest_of d.digest) next
       (offer_by i.meaning i.key parts))
-      (retirement_with digests_move i d again nonce parts)
+      (retirement_with digest_mover i d again nonce parts)
   offer_match (Err Form) id n = (refl, tt)
   offer_match (Err Kind) id n = (refl, tt)
   offer_match (Ok snapshot) id n =
       left_match snapshot.content (i.meaning.is_spelled snapshot.content.state) (bytes_eq snapshot.tag (tag_of i.key snapshot.content))
-      (stands_here (digest_level i) d snapshot.content) n (id snapshot refl) (stands_alike i d snapshot.content fits.0)
+      (is_offer_here (digest_level i) d snapshot.content) n (id snapshot refl) (stands_alike i d snapshot.content fits.0)
 
 retires : (i : Instance) (link : Link) (role : Role) (d : Digests) (nonce bytes : List ℕ) → FitsCell i link role d → length nonce ≡ 32
     → MatchesRole (GivesTicket link.key) i role d (retirement_in i.meaning i.variant link nonce bytes (read_as i role d))
-    (retirement_on digests_move i role d nonce bytes)
+    (retirement_on digest_mover i role d nonce bytes)
 retires i link Blank d nonce bytes fit size = (refl, tt)
 retires i link (Waits awaited) d nonce bytes fit size = (refl, tt)
 retires i link Live d nonce bytes fit size =
@@ -150,7 +150,7 @@ pub retires_match : (i : Instance) (link : Link) (role : Role) (d : Digests) (no
     → length nonce ≡ 32
     → MatchesRole (GivesTicket link.key) i role d
     (retirement_in i.meaning i.variant link nonce bytes (moved_cell_of (cell_of_role i role d)))
-    (retirement_on digests_move i role d nonce bytes)
+    (retirement_on digest_mover i role d nonce bytes)
 retires_match i link role d nonce bytes fit size =
     subst (λ r. MatchesRole (GivesTicket link.key) i role d (retirement_in i.meaning i.variant link nonce bytes r)
-    (retirement_on digests_move i role d nonce bytes)) (sym (role_read i link role d fit)) (retires i link role d nonce bytes fit size)
+    (retirement_on digest_mover i role d nonce bytes)) (sym (role_read i link role d fit)) (retires i link role d nonce bytes fit size)

@@ -12,7 +12,7 @@ use Rattle.mm_base.specs.Faults.{next_count}
 use Rattle.mm_platform.specs.declared.fault.StepFault.TheVariants.{Failed}
 use Rattle.mm_platform.specs.declared.plan.Stop.TheVariants.{Quiet, Cut, Drop, Fail}
 use Rattle.mm_platform.specs.StandingWords.{due_values}
-use Rattle.mm_call.specs.EndedCall.{StaysOn}
+use Rattle.mm_call.specs.EndedCall.{PlatformStaysOn}
 
 -- what the register reads after values of others
 
@@ -34,18 +34,18 @@ reads_on i d values (Some xs) after e is =
 
 -- the platform after a step under a plan
 
-stays_off : (stop : Stop) (n : ℕ) (new : Standing) → new.is_on ≡ is_on_at stop n → StaysOn stop true new
+stays_off : (stop : Stop) (n : ℕ) (new : Standing) → new.is_on ≡ is_on_at stop n → PlatformStaysOn stop true new
 stays_off Quiet n new e = e
 stays_off (Cut at) n new e = tt
 stays_off (Drop at) n new e = e
 stays_off (Fail at done) n new e = e
 
-stays_done : (stop : Stop) (new : Standing) → new.is_on ≡ true → StaysOn stop false new
+stays_done : (stop : Stop) (new : Standing) → new.is_on ≡ true → PlatformStaysOn stop false new
 stays_done (Cut at) new e = e
 stays_done _ new e = e
 
 ends_on : (stop : Stop) (n : ℕ) (fault : Option StepFault) (old new : Standing) (is_made : Bool) → DeviceStepEnds fault old new is_made
-    → new.is_on ≡ is_on_at stop n → StaysOn stop (is_some fault) new
+    → new.is_on ≡ is_on_at stop n → PlatformStaysOn stop (is_some fault) new
 ends_on stop n None old new is_made ends on = stays_done stop new ends.is_on
 ends_on stop n (Some fault) old new is_made ends on = stays_off stop n new on
 
@@ -55,7 +55,7 @@ pub record StepsBy (i : Instance) (d : Digests) (stop : Stop) (meddles : List Me
   pub fault_is : fault ≡ fault_at stop n
   pub cell : new.cell ≡ cell_after act (is_made_at stop n) old.cell
   pub register : register_reading new ≡ Some (state_after_moves (digest_level i) d (map Foreign (due_values n meddles))).register
-  pub stays : StaysOn stop (is_some fault) new
+  pub stays : PlatformStaysOn stop (is_some fault) new
   pub plan : new.plan ≡ Some (record { stop = stop; meddles = meddles; at = n })
 
 module _ (i : Instance) (d : Digests) (stop : Stop) (meddles : List Meddle) where
@@ -93,7 +93,7 @@ settled_by i s stop (Some fault) mid new e settles =
     cut_by true items = ap (λ x. option_map (λ xs. register_after (item_values xs)) x) items ∙ reads_none mid.items s.register e
     cut_by false items = ap (λ x. option_map (λ xs. register_after (item_values xs)) x) items ∙ e
 
-pub quiet_by : (stop : Stop) (fault : Option StepFault) (mid new : Standing) → StaysOn stop (is_some fault) mid
+pub quiet_by : (stop : Stop) (fault : Option StepFault) (mid new : Standing) → PlatformStaysOn stop (is_some fault) mid
     → SettlesPlan stop (is_some fault) mid new → IsQuiet new
 quiet_by stop fault mid new stays settles =
     record { is_on = on_settled stop (is_some fault) mid new stays settles.is_on; plan = settles.plan }

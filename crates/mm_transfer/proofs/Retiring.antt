@@ -3,7 +3,7 @@ use Rattle.mm_transfer.proofs.Below.{◌≡◌, ◌+◌, ◌&&◌, ℕ, Bool, tr
 use Rattle.mm_transfer.proofs.Below.{refl, sym, ap, ◌∙◌, subst, arith, length-append, MatchResult, if◌then◌else◌, Memory, Meaning, Meddle}
 use Rattle.mm_transfer.proofs.Below.{Stop, Standing, Digests, register_reading, walk, course_of, offered_bytes, Offer, IsQuiet, Link}
 use Rattle.mm_transfer.proofs.Below.{MoveRefusal, moved_cell_of, waiting_for, invitation_in, retirement_in, Invited, Role, Effect, Invites}
-use Rattle.mm_transfer.proofs.Below.{Leaves, is_live, Which, Pair, key_of, instance_on, Both, digests_move, FoundMove, DenialCause, Invite}
+use Rattle.mm_transfer.proofs.Below.{Leaves, is_live, SideName, Pair, key_of, instance_on, BothSides, digest_mover, FoundMove, DenialCause, Invite}
 use Rattle.mm_transfer.proofs.Below.{Retire, invitation_on, retirement_on, move_steps, effect_of, sides_after_issue, effect_reply}
 use Rattle.mm_transfer.proofs.Below.{found_retirement, role_after, IssuedTickets, MoveReply, CodeSide, TellsInvitation, KeepsDigest}
 use Rattle.mm_transfer.proofs.Below.{TellsRetirement, both_with, outcome_of_command, FitsIssuedTickets, CommandDone, CommandLacks}
@@ -40,13 +40,13 @@ same_counts role d away kept e moved found k = (
 )
 
 -- nor is anything handed out
-handed_none : (pair : Pair) (i : Instance) (both : Both Digests ℕ) (effect : Effect) → GivesInvitedBy effect
-    → (reply.Invited ≡ move_reply_of (effect_reply digests_move i both effect)) × (sides_after_issue digests_move pair i both effect ≡ both)
+handed_none : (pair : Pair) (i : Instance) (both : BothSides Digests ℕ) (effect : Effect) → GivesInvitedBy effect
+    → (reply.Invited ≡ move_reply_of (effect_reply digest_mover i both effect)) × (sides_after_issue digest_mover pair i both effect ≡ both)
 handed_none pair i both (Invites nonce) g = (refl, refl)
 handed_none pair i both effect g = absurd g
 
 -- the call of the code, in terms of the side's instance
-pub invites_planned : (pair : Pair) (which : Which) (nonce : List ℕ) (stop : Stop) (meddles : List Meddle) (link : Link) (id : ℕ)
+pub invites_planned : (pair : Pair) (which : SideName) (nonce : List ℕ) (stop : Stop) (meddles : List Meddle) (link : Link) (id : ℕ)
     (key : List ℕ) (old new : Standing)
     (came : Result Invited MoveRefusal) → link ≡ link_of pair → id ≡ pair.meaning.id → key ≡ key_of pair which
     → MovesByPlan (λ (bytes : List ℕ). invitation_in (waiting_for link pair.variant id nonce key) (moved_cell_of bytes)) stop
@@ -63,7 +63,7 @@ invites_planned pair which nonce stop meddles link id key old new came el ei ek 
     λ j. waiting_for (el j) (sym v j) ((ei ∙ sym (ap (λ (x : Meaning). x.id) m)) j) nonce ((ek ∙ sym k) j) in
     subst (λ w. MovesByPlan (λ (bytes : List ℕ). invitation_in w (moved_cell_of bytes)) stop meddles old new came) same planned
 
-pub invited_done : (pair : Pair) (which : Which) (nonce : List ℕ) (stop : Stop) (meddles : List Meddle) (old mid new : CodeSide)
+pub invited_done : (pair : Pair) (which : SideName) (nonce : List ℕ) (stop : Stop) (meddles : List Meddle) (old mid new : CodeSide)
     (between : IssuedTickets) (came : Result Invited MoveRefusal) (result : Result MoveReply Memory) → length nonce ≡ 32
     → KeepsDigest old mid → MovesByPlan (λ (bytes : List ℕ). invitation_in
     (waiting_for (link_of pair) (instance_on pair which).variant (instance_on pair which).meaning.id nonce (instance_on pair which).key)
@@ -133,13 +133,13 @@ is_left : (link : List ℕ) (role : Role) (d : Digests) (away : ℕ) (kept : Lis
 is_left link role d away kept again (Leaves ticket) bytes g live = record { live = live; count = refl; away_is = refl; keeps = tt }
 is_left link role d away kept again effect bytes g live = absurd g
 
-handed_ticket : (pair : Pair) (i : Instance) (both : Both Digests ℕ) (effect : Effect) (bytes : List ℕ)
-    → GivesTicketBy pair.link effect bytes → (reply.Left (length both.tickets) ≡ move_reply_of (effect_reply digests_move i both effect))
-    × (sides_after_issue digests_move pair i both effect ≡ record both { tickets = both.tickets ++ bytes ∷ [] })
+handed_ticket : (pair : Pair) (i : Instance) (both : BothSides Digests ℕ) (effect : Effect) (bytes : List ℕ)
+    → GivesTicketBy pair.link effect bytes → (reply.Left (length both.tickets) ≡ move_reply_of (effect_reply digest_mover i both effect))
+    × (sides_after_issue digest_mover pair i both effect ≡ record both { tickets = both.tickets ++ bytes ∷ [] })
 handed_ticket pair i both (Leaves ticket) bytes g = (refl, λ j. record both { tickets = both.tickets ++ sym g j ∷ [] })
 handed_ticket pair i both effect bytes g = absurd g
 
-retires_planned : (pair : Pair) (which : Which) (nonce bytes : List ℕ) (stop : Stop) (meddles : List Meddle) (old new : Standing)
+retires_planned : (pair : Pair) (which : SideName) (nonce bytes : List ℕ) (stop : Stop) (meddles : List Meddle) (old new : Standing)
     (came : Result (List ℕ) MoveRefusal)
     → MovesByPlan (λ (cell : List ℕ). retirement_in pair.meaning pair.variant (link_of pair) nonce bytes (moved_cell_of cell))
     stop meddles old new
@@ -157,7 +157,7 @@ retires_planned pair which nonce bytes stop meddles old new came planned =
     planned)
 
 -- with what the offer named, over a list with room for the ticket
-pub retired_done : (pair : Pair) (which : Which) (nonce : List ℕ) (offer : Offer) (stop : Stop) (meddles : List Meddle) (old new : CodeSide)
+pub retired_done : (pair : Pair) (which : SideName) (nonce : List ℕ) (offer : Offer) (stop : Stop) (meddles : List Meddle) (old new : CodeSide)
     (was mid now : IssuedTickets) (live : Bool) (cell : List ℕ) (came : Result (List ℕ) MoveRefusal) (result : Result MoveReply Memory)
     → length nonce ≡ 32
     → Named (λ bytes (cell : List ℕ). retirement_in pair.meaning pair.variant (link_of pair) nonce bytes (moved_cell_of cell)) stop meddles
@@ -177,7 +177,7 @@ retired_done pair which nonce offer stop meddles old new was mid now live cell c
     elim (retires_planned pair which nonce named.bytes stop meddles old.seat.platform new.seat.platform came named.planned i d
     (cell_of_role i role d) fits.stands.cell fits.stands.register fits.quiet) [
       | inl made ↦
-          let found = retirement_on digests_move i role d nonce named.bytes in
+          let found = retirement_on digest_mover i role d nonce named.bytes in
           let fates = (course_of stop meddles).fates in
           let effect = effect_of fates found in
           let c = came_by gives i role d stop meddles new.seat.platform came _ found
@@ -218,7 +218,7 @@ retired_done pair which nonce offer stop meddles old new was mid now live cell c
           }) in
           move_done gives pair which stop meddles (Retire nonce offer) found old new was now came result fits c t keeps
           (λ it k. (leaves it k).keeps)
-          (λ other committed. ap (found_retirement digests_move i (both_with old was other committed).first nonce)
+          (λ other committed. ap (found_retirement digest_mover i (both_with old was other committed).first nonce)
           named.names)
       | inr w ↦
           let t = subst (λ (c : Result (List ℕ) MoveRefusal). TellsRetirement live old.seat.committed stop c mid now result) w.says left in
@@ -233,11 +233,11 @@ retired_done pair which nonce offer stop meddles old new was mid now live cell c
     never false position away = refl
 
 -- a snapshot that isn't issued
-pub retired_unissued : (pair : Pair) (which : Which) (nonce : List ℕ) (offer : Offer) (stop : Stop) (meddles : List Meddle)
+pub retired_unissued : (pair : Pair) (which : SideName) (nonce : List ℕ) (offer : Offer) (stop : Stop) (meddles : List Meddle)
     (old new : CodeSide) (was now : IssuedTickets) → (offered_bytes old.seat.issued.items offer ≡ None)
     × (new.seat.platform ≡ old.seat.platform)
     → SameSide old new → SameBetween was now → FitsSide pair which old → FitsIssuedTickets was
     → CommandDone pair which old new was now (outcome_of_command pair which old was meddles stop (Retire nonce offer)) reply.NoSnapshot
 retired_unissued pair which nonce offer stop meddles old new was now none s b fits counted =
     unissued_done pair which stop meddles (Retire nonce offer) reply.NoSnapshot old new was now fits counted none.1 s b refl
-    (λ other committed. ap (found_retirement digests_move (instance_on pair which) (both_with old was other committed).first nonce) none.0)
+    (λ other committed. ap (found_retirement digest_mover (instance_on pair which) (both_with old was other committed).first nonce) none.0)

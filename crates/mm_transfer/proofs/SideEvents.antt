@@ -3,7 +3,7 @@ use Rattle.mm_transfer.proofs.Below.{◌≡◌, ◌∙◌, ◌+◌, ◌^◌, ◌
 use Rattle.mm_transfer.proofs.Below.{arith, Memory, IsLawful, meaning_of, Meddle, Stop, Standing, cell_spelling, Instance, Digests}
 use Rattle.mm_transfer.proofs.Below.{moves_seen, reading_steps, digest_level, state_after_moves, cell_at, Event, Ask, Checkpoint, Power}
 use Rattle.mm_transfer.proofs.Below.{Extend, IsPrintable, Offer, Reply, Outcome, Batch, course_of, event_outcome, few_committed, printable}
-use Rattle.mm_transfer.proofs.Below.{issues_one, Role, Live, Which, Pair, key_of, instance_on, digests_move, outcome_by_role}
+use Rattle.mm_transfer.proofs.Below.{issues_one, Role, Live, SideName, Pair, key_of, instance_on, digest_mover, outcome_by_role}
 use Rattle.mm_transfer.proofs.Below.{commits_between, CodeSide, pair_of, role_in, at_in, side_in, refusal_for_role, IsQuiet, StandsAs}
 use Rattle.mm_transfer.proofs.Below.{FitsSide, SideComes, SideLacks}
 use Rattle.mm_base.specs.Limits.{most_members}
@@ -22,7 +22,7 @@ record IsFew (committed : ℕ) (issued : List (List ℕ)) (o : Outcome Digests) 
   pub one : length o.issued ≤ length issued + 1
   pub printable : IsPrintable o.reply
 
-few_live : (side : CodeSide) (which : Which) (event : Event) → (let i = instance_on (pair_of side.seat.header) which in
+few_live : (side : CodeSide) (which : SideName) (event : Event) → (let i = instance_on (pair_of side.seat.header) which in
     IsFew side.seat.committed side.seat.issued.items (event_outcome i (digest_level i) (at_in side) side.seat.issued.items event))
 few_live side which event =
     let header = side.seat.header in
@@ -36,7 +36,7 @@ few_live side which event =
 
 -- an event was followed
 
-live_comes : (pair : Pair) (which : Which) (old new : CodeSide) (o : Outcome Digests) (said : Reply)
+live_comes : (pair : Pair) (which : SideName) (old new : CodeSide) (o : Outcome Digests) (said : Reply)
     → role_in old.seat.platform.cell ≡ Live → old.seat.committed < 2 ^ 63 → IsFew old.seat.committed old.seat.issued.items o
     → seat.EventComesTo (instance_on pair which) o old.seat new.seat said → SideComes pair which old new o said
 live_comes pair which old new o said live bound few c =
@@ -66,7 +66,7 @@ none_grown : (role : Role) (n m : ℕ) → m ≡ n → commits_between role n m 
 none_grown Live n m e = omega (arith, e)
 none_grown _ n m e = refl
 
-vain_comes : (pair : Pair) (which : Which) (old new : CodeSide) (o : Outcome Digests) (said : Reply) → FitsSide pair which old
+vain_comes : (pair : Pair) (which : SideName) (old new : CodeSide) (o : Outcome Digests) (said : Reply) → FitsSide pair which old
     → new.digest ≡ old.digest → IsVain (at_in old) old.seat.issued.items o → seat.EventComesInVain o old.seat new.seat said
     → SideComes pair which old new o said
 vain_comes pair which old new o said f digest v c =
@@ -91,10 +91,10 @@ vain_comes pair which old new o said f digest v c =
     }
 
 -- by the role of the side
-comes_by : (which : Which) (role : Role) (event : Event) (old new : CodeSide) (said : Reply) → (let pair = pair_of old.seat.header in
+comes_by : (which : SideName) (role : Role) (event : Event) (old new : CodeSide) (said : Reply) → (let pair = pair_of old.seat.header in
     role_in old.seat.platform.cell ≡ role → FitsSide pair which old → StandsAs pair which role old.seat.platform (at_in old)
     → old.seat.committed < 2 ^ 63 → new.digest ≡ old.digest → seat.SeatTakesEvent event old.seat new.seat (Ok said)
-    → SideComes pair which old new (outcome_by_role digests_move (instance_on pair which) role (side_in old) event) said)
+    → SideComes pair which old new (outcome_by_role digest_mover (instance_on pair which) role (side_in old) event) said)
 comes_by which Live event old new said is fits s bound digest f =
     let pair = pair_of old.seat.header in
     live_comes pair which old new _ said is bound (few_live old which event)
@@ -108,11 +108,11 @@ comes_by which role event old new said is fits s bound digest f =
 -- want of memory
 
 -- the side goes on, and nothing has changed but its register's value
-abbrev GoesReading : Pair → Which → CodeSide → CodeSide → List ℕ → Type 0
+abbrev GoesReading : Pair → SideName → CodeSide → CodeSide → List ℕ → Type 0
 GoesReading pair which old new value =
     SideGoesOn pair which old new × (side_in new ≡ record (side_in old) { at = record (at_in old) { register = value } })
 
-goes_reading : (pair : Pair) (which : Which) (old new : CodeSide) (value : List ℕ) → FitsSide pair which old → new.digest ≡ old.digest
+goes_reading : (pair : Pair) (which : SideName) (old new : CodeSide) (value : List ℕ) → FitsSide pair which old → new.digest ≡ old.digest
     → SeatStaysOn new.seat.platform old.seat new.seat → Stays old.seat.platform new.seat.platform value
     → GoesReading pair which old new value
 goes_reading pair which old new value f digest stays s =
@@ -132,7 +132,7 @@ abbrev WantsBy : Instance → Role → Digests → Event → Standing → Standi
 WantsBy i Live d event old new = seat.SeatLacksMemory i d event old new
 WantsBy i role d event old new = SeatLacksMemoryInVain event old new
 
-wanting_by : (which : Which) (role : Role) (event : Event) (old new : CodeSide) (memory : Memory) → (let pair = pair_of old.seat.header in
+wanting_by : (which : SideName) (role : Role) (event : Event) (old new : CodeSide) (memory : Memory) → (let pair = pair_of old.seat.header in
     StandsAs pair which role old.seat.platform (at_in old) → IsQuiet old.seat.platform
     → seat.SeatTakesEvent event old.seat new.seat (Err memory) → SeatStaysOn new.seat.platform old.seat new.seat
     × WantsBy (instance_on pair which) role (at_in old) event old.seat.platform new.seat.platform)
@@ -144,7 +144,7 @@ wanting_by which role event old new memory s quiet f =
     f.vain (instance_on pair which) (at_in old) (fault_where role)
     (vain_reads pair which role old.seat.platform (at_in old) refl s quiet)
 
-module _ (pair : Pair) (which : Which) (old new : CodeSide) (fits : FitsSide pair which old)
+module _ (pair : Pair) (which : SideName) (old new : CodeSide) (fits : FitsSide pair which old)
     (goes : (value : List ℕ) → Stays old.seat.platform new.seat.platform value → GoesReading pair which old new value) where
   abbrev i : Instance
   i = instance_on pair which
@@ -196,7 +196,7 @@ module _ (pair : Pair) (which : Which) (old new : CodeSide) (fits : FitsSide pai
   plain_wants (Checkpoint meddles stop) w = same_platform (checkpoint_wants (role_in old.seat.platform.cell) meddles stop w)
   plain_wants (Extend value) w = same_platform (extend_wants (role_in old.seat.platform.cell) value w)
 
-lacks_by : (which : Which) (event : Event) (old new : CodeSide) (memory : Memory) → FitsSide (pair_of old.seat.header) which old
+lacks_by : (which : SideName) (event : Event) (old new : CodeSide) (memory : Memory) → FitsSide (pair_of old.seat.header) which old
     → new.digest ≡ old.digest → seat.SeatTakesEvent event old.seat new.seat (Err memory) → SideLacks (pair_of old.seat.header)
     which event old new
 lacks_by which event old new memory fits digest f =

@@ -2,11 +2,11 @@
 use Rattle.mm_transfer.proofs.Below.{◌≡◌, ◌∙◌, ℕ, List, [], ◌∷◌, length, refl, sym, ap, subst, Variant, Basic, Opt, start_digest_of}
 use Rattle.mm_transfer.proofs.Below.{Meaning, meaning_of, Standing, first_history, register_reading, cell_of, issued_bytes, instance_by}
 use Rattle.mm_transfer.proofs.Below.{Header, first_digests, world_key, world_barrier, HasDigests, stands_new, blank_cell, length-zero_bytes}
-use Rattle.mm_transfer.proofs.Below.{Blank, Live, First, Second, first_both, key_of, instance_on, CodeSide, pair_of, StandsAs, IsNew}
+use Rattle.mm_transfer.proofs.Below.{Blank, Live, First, Second, first_both_by_digests, key_of, instance_on, CodeSide, pair_of, StandsAs, IsNew}
 use Rattle.mm_transfer.proofs.Below.{Instance, Digests, IsQuiet}
 use Rattle.mm_platform.specs.Memory.{new_platform}
 use Rattle.mm_seal.specs.Cell.{cell_spelling}
-use Rattle.mm_outcome.specs.WorldState.{rising_from}
+use Rattle.mm_outcome.specs.WorldState.{rising_bytes_from}
 use Rattle.mm_world.specs.Seat.{instance_at, IsBare, IsFirst}
 use Rattle.mm_transfer.proofs.SideStands.{key_by, linked_by, live_stands, side_is}
 
@@ -23,19 +23,19 @@ start_on Basic meaning key barrier = refl
 start_on Opt meaning key barrier = refl
 
 length-first_key : length world_key ≡ 32
-unfolding rising_from
+unfolding rising_bytes_from
 length-first_key = refl
 
-length-second_key : length (rising_from 0x40) ≡ 32
-unfolding rising_from
+length-second_key : length (rising_bytes_from 0x40) ≡ 32
+unfolding rising_bytes_from
 length-second_key = refl
 
 length-barrier : length world_barrier ≡ 32
-unfolding rising_from
+unfolding rising_bytes_from
 length-barrier = refl
 
 pub live_new : (header : Header) (key barrier : List ℕ) (new : CodeSide) → key ≡ world_key → barrier ≡ world_barrier
-    → IsFirst header key barrier new.seat → IsNew header First (first_both (pair_of header)).first new
+    → IsFirst header key barrier new.seat → IsNew header First (first_both_by_digests (pair_of header)).first new
 live_new header key barrier new same_key same_barrier is =
     let pair = pair_of header in
     let i = instance_on pair First in
@@ -59,7 +59,7 @@ live_new header key barrier new same_key same_barrier is =
 
 pub blank_new : (header : Header) (cell : List ℕ) (new : CodeSide) → cell ≡ blank_cell → IsBare header cell new.seat
     → new.digest.bytes ≡ start_digest_of header.variant (meaning_of header.«module»).id
-    → IsNew header Second (first_both (pair_of header)).second new
+    → IsNew header Second (first_both_by_digests (pair_of header)).second new
 blank_new header cell new is bare starts =
     let pair = pair_of header in
     let i = instance_on pair Second in

@@ -2,7 +2,7 @@
 use Rattle.mm_transfer.proofs.Below.{◌≡◌, ◌∙◌, ◌<◌, ℕ, false, List, length, get_or, Some, Err, refl, sym, ap, subst, arith, ◌≢◌, Variant}
 use Rattle.mm_transfer.proofs.Below.{Basic, Opt, Meaning, Standing, IsNoCell, Instance, Digests, register_reading, instance_by, IsRead}
 use Rattle.mm_transfer.proofs.Below.{CellFault, value_in, digest_in, HasDigests, IsQuiet, register_at, digests_are, WaitingCell, barrier_of}
-use Rattle.mm_transfer.proofs.Below.{three, Role, Blank, Live, Waiting, Retired, is_live, Which, Pair, key_of, instance_on, CodeSide}
+use Rattle.mm_transfer.proofs.Below.{three, Role, Blank, Live, Waiting, Retired, is_live, SideName, Pair, key_of, instance_on, CodeSide}
 use Rattle.mm_transfer.proofs.Below.{link_of, role_in, role_of, at_by, at_in, StandsAs, FitsSide, waiting_cell_at, retired_cell_at}
 use Rattle.mm_transfer.proofs.Below.{cell_of_role}
 use Rattle.mm_seal.specs.declared.cell.Cell.{Cell}
@@ -36,7 +36,7 @@ key_by Opt meaning key barrier = refl
 
 -- a live side stands as its platform does
 
-module _ (pair : Pair) (which : Which) (standing : Standing) (d : Digests) where
+module _ (pair : Pair) (which : SideName) (standing : Standing) (d : Digests) where
   pub live_stands : HasDigests (instance_on pair which) standing d → StandsAs pair which Live standing d
   live_stands s = record {
     fits = record {
@@ -92,7 +92,7 @@ left_digest : (i : Instance) (d : Digests) (nonce : List ℕ) → length d.diges
 unfolding retired_spelling
 left_digest i d nonce a b c = (three d.digest i.key nonce a b c).first
 
-at_back : (pair : Pair) (which : Which) (role : Role) (standing : Standing) (kept : List ℕ) (position : ℕ) (d : Digests)
+at_back : (pair : Pair) (which : SideName) (role : Role) (standing : Standing) (kept : List ℕ) (position : ℕ) (d : Digests)
     → StandsAs pair which role standing d → position ≡ d.count → KeepsFor role kept d → at_by role standing kept position ≡ d
 at_back pair which Blank standing kept position d s count keeps = λ j. record {
   digest = keeps j;
@@ -121,12 +121,12 @@ role_back : (i : Instance) (role : Role) (d : Digests) → role_of (read_as i ro
 role_back i (Waiting nonce) d = refl
 role_back i _ d = refl
 
-pub record IsSide (pair : Pair) (which : Which) (role : Role) (d : Digests) (side : CodeSide) : Type 0 where
+pub record IsSide (pair : Pair) (which : SideName) (role : Role) (d : Digests) (side : CodeSide) : Type 0 where
   pub fits : FitsSide pair which side
   pub role_is : role_in side.seat.platform.cell ≡ role
   pub at_is : at_in side ≡ d
 
-pub side_is : (pair : Pair) (which : Which) (role : Role) (d : Digests) (side : CodeSide) → StandsAs pair which role side.seat.platform d
+pub side_is : (pair : Pair) (which : SideName) (role : Role) (d : Digests) (side : CodeSide) → StandsAs pair which role side.seat.platform d
     → IsQuiet side.seat.platform → side.seat.committed ≡ d.count → KeepsFor role side.digest.bytes d → IsSide pair which role d side
 side_is pair which role d side s quiet count keeps =
     let i = instance_on pair which in
@@ -148,7 +148,7 @@ side_is pair which role d side s quiet count keeps =
 
 -- a side goes on: its cell is as it was, and the register has this value
 
-pub side_stays : (pair : Pair) (which : Which) (old new : CodeSide) (value : List ℕ) → FitsSide pair which old
+pub side_stays : (pair : Pair) (which : SideName) (old new : CodeSide) (value : List ℕ) → FitsSide pair which old
     → new.seat.platform.cell ≡ old.seat.platform.cell → register_reading new.seat.platform ≡ Some value → IsQuiet new.seat.platform
     → new.seat.committed ≡ old.seat.committed → KeepsFor (role_in old.seat.platform.cell) new.digest.bytes (at_in old)
     → IsSide pair which (role_in old.seat.platform.cell) (record (at_in old) { register = value }) new
@@ -225,7 +225,7 @@ unspelled i Live d dead = absurd (cc)
 unspelled i (Waiting nonce) d dead = waiting_unspelled (waiting_cell_at i nonce)
 unspelled i (Retired nonce) d dead = retired_unspelled (retired_cell_at i d nonce)
 
-pub vain_reads : (pair : Pair) (which : Which) (role : Role) (standing : Standing) (d : Digests) → is_live role ≡ false
+pub vain_reads : (pair : Pair) (which : SideName) (role : Role) (standing : Standing) (d : Digests) → is_live role ≡ false
     → StandsAs pair which role standing d → IsQuiet standing → IsRead (Err (fault_where role)) d standing
 vain_reads pair which role standing d dead s q = record {
   bytes = cell_of_role (instance_on pair which) role d;

@@ -1,8 +1,8 @@
--- Both sides show of events what is told of a whole transfer.
+-- BothSides sides show of events what is told of a whole transfer.
 use Rattle.mm_transfer.proofs.Below.{◌≡◌, ◌∙◌, ℕ, List, [], ◌∷◌, ◌++◌, refl, sym, ap, subst, History, requests_of, Digests, Header}
-use Rattle.mm_transfer.proofs.Below.{promises-kept, Role, MoveNotes, no_notes, Pair, Both, digests_move, lists_move, first_lists, BothEvent}
+use Rattle.mm_transfer.proofs.Below.{promises-kept, Role, MoveNotes, no_notes, Pair, BothSides, digest_mover, list_mover, first_both_by_lists, BothEvent}
 use Rattle.mm_transfer.proofs.Below.{BothReply, BothRunOutcome, both_outcome, both_outcome_of_events, both_outcome_by_lists}
-use Rattle.mm_transfer.proofs.Below.{both_outcome_by_digests, notes_with_effect_if, IsOneFrom, PairsAgreeThroughout, OneIsLive}
+use Rattle.mm_transfer.proofs.Below.{both_outcome_by_digests, notes_with_effect_if, IsOneLiveFrom, PairsAgreeThroughout, OneIsLive}
 use Rattle.mm_transfer.proofs.Below.{SidesRunAsOne, plain_events, plain_replies, history_now, pair_of, TransferState, first_transfer}
 use Rattle.mm_transfer.proofs.Below.{transfer_steps, kept_size_of, transfer_text, both_end_line, IsOneTransfer}
 use Rattle.std.proofs.Common.{inl, inr}
@@ -11,7 +11,7 @@ use Rattle.mm_play.specs.StageShows.{state_behind_events, replies, StageShows}
 use Rattle.mm_schedule.specs.Machine.{IsEventRun}
 use Rattle.mm_sides.specs.Evidence.{PairsAreDecided}
 use Rattle.mm_sides.specs.Laws.{both_outcome_joined, PairsGoOn}
-use Rattle.mm_sides.specs.Order.{AtMostOne}
+use Rattle.mm_sides.specs.Order.{AreNotBothLive}
 use Rattle.mm_sides.specs.Premises.{IsClearPair, IsGenuinePair, IsFreshPair}
 use Rattle.mm_transfer.specs.Answers.{answers_text}
 use Rattle.mm_transfer.specs.Headline.{AreOneTransfer, transfer_player}
@@ -26,12 +26,12 @@ pub record SideLaws : Type 0 where
   pub decided : PairsAreDecided
 
 -- at the end of the events too at most one side is live
-at_the_end : (pair : Pair) (both : Both History History) (notes : MoveNotes) (events : List BothEvent) → IsOneFrom pair both notes events
-    → AtMostOne (both_outcome_of_events lists_move pair both events).both.first.role
-    (both_outcome_of_events lists_move pair both events).both.second.role
+at_the_end : (pair : Pair) (both : BothSides History History) (notes : MoveNotes) (events : List BothEvent) → IsOneLiveFrom pair both notes events
+    → AreNotBothLive (both_outcome_of_events list_mover pair both events).both.first.role
+    (both_outcome_of_events list_mover pair both events).both.second.role
 at_the_end pair both notes [] h = h
 at_the_end pair both notes (event ∷ events) h =
-    let o = both_outcome lists_move pair both event in at_the_end pair o.both (notes_with_effect_if o.effect notes) events h.2
+    let o = both_outcome list_mover pair both event in at_the_end pair o.both (notes_with_effect_if o.effect notes) events h.2
 
 -- the laws give what is promised of the events
 one_transfer : SideLaws → (header : Header) (events : List BothEvent) → IsClearPair (pair_of header) events
@@ -47,14 +47,14 @@ one_transfer laws header events clear genuine fresh =
     let one = laws.live pair events fresh in
     let ran = subst (λ (rs : List BothReply). IsEventRun pair.meaning [] (plain_events events) (plain_replies rs) requests)
     (sym a.replies) r.runs in
-    let end = at_the_end pair (first_lists pair) no_notes events one in
+    let end = at_the_end pair (first_both_by_lists pair) no_notes events one in
     record {
       requests = requests;
       runs = ran;
       judged = a.replies;
       count = a.committed ∙ r.count;
-      live = subst (λ (x : Role). AtMostOne it.both.first.role x) (sym a.second.role)
-          (subst (λ (x : Role). AtMostOne x lists.both.second.role) (sym a.first.role) end);
+      live = subst (λ (x : Role). AreNotBothLive it.both.first.role x) (sym a.second.role)
+          (subst (λ (x : Role). AreNotBothLive x lists.both.second.role) (sym a.first.role) end);
       entered = one;
       promised = promises-kept header.«module» (plain_events events) (plain_replies it.replies) requests ran;
     }
@@ -82,12 +82,12 @@ pub transfers_go_on : PairsGoOn → TransfersGoOn
 transfers_go_on law header events shown one front rest is =
     let pair = pair_of header in
     (one events [] (sym (append-nil events))).0 ∙ ap (λ (es : List BothEvent). both_outcome_by_digests pair es) is ∙ (law pair front rest).1
-    ∙ ap (λ (it : BothRunOutcome Digests ℕ). both_outcome_joined it (both_outcome_of_events digests_move pair it.both rest))
+    ∙ ap (λ (it : BothRunOutcome Digests ℕ). both_outcome_joined it (both_outcome_of_events digest_mover pair it.both rest))
     (sym (one front rest is).0)
 
 -- what stands behind events, and what was written
 abbrev followed_in : TransferState → List BothEvent → BothRunOutcome Digests ℕ
-followed_in r events = both_outcome_of_events digests_move (pair_of r.header) r.both events
+followed_in r events = both_outcome_of_events digest_mover (pair_of r.header) r.both events
 
 both_behind : (events : List BothEvent) (r : TransferState) → (state_behind_events transfer_steps r events).both
     ≡ (followed_in r events).both
@@ -107,6 +107,6 @@ shows = record {
   reads = λ header. refl;
   first = λ header. refl;
   text = λ header events. texts_behind events (first_transfer header);
-  last = λ header events. ap (λ (both : Both Digests ℕ). both_end_line both) (sym (both_behind events (first_transfer header)));
-  kept = λ header events. ap (λ (both : Both Digests ℕ). kept_size_of both) (sym (both_behind events (first_transfer header)));
+  last = λ header events. ap (λ (both : BothSides Digests ℕ). both_end_line both) (sym (both_behind events (first_transfer header)));
+  kept = λ header events. ap (λ (both : BothSides Digests ℕ). kept_size_of both) (sym (both_behind events (first_transfer header)));
 }

@@ -1,16 +1,16 @@
 -- What an event leaves as it was for which memory was wanting.
 use Rattle.mm_transfer.proofs.Below.{◌≡◌, ℕ, List, [], ◌∷◌, Result, Ok, Err, OnErr, inl, inr, ap, Memory, Meddle, Stop, Instance, Digests}
-use Rattle.mm_transfer.proofs.Below.{Reads, DeviceStep, Event, Ask, Power, Header, Role, Live, Which, First, Second, Pair, instance_on}
-use Rattle.mm_transfer.proofs.Below.{SideState, Both, BothEvent, Moves, MoveReply, pair_of}
-use Rattle.mm_sides.specs.Both.{sides_seen_from}
+use Rattle.mm_transfer.proofs.Below.{Reads, DeviceStep, Event, Ask, Power, Header, Role, Live, SideName, First, Second, Pair, instance_on}
+use Rattle.mm_transfer.proofs.Below.{SideState, BothSides, BothEvent, Moves, MoveReply, pair_of}
+use Rattle.mm_sides.specs.BothSides.{sides_seen_from}
 use Rattle.mm_sides.specs.Folds.{BothAct, Plain}
-use Rattle.mm_transfer.specs.Sides.{TransferSides, TransferSidesWant}
-use Rattle.mm_transfer.specs.MemoryWant.{MayHaveRead, AskWants, PlainWants, ActWants, BothEventWants}
+use Rattle.mm_transfer.specs.Sides.{TransferSides, TransferSidesLackMemory}
+use Rattle.mm_transfer.specs.MemoryWant.{MayHaveRead, AskWants, PlainWants, ActWants, BothEventLacksMemory}
 
 -- by what both are
-pub held_wants : (old : TransferSides) (event : BothEvent) (header : Header) (new : Both Digests ℕ) (result : Result MoveReply Memory)
-    → header ≡ old.header → OnErr result (BothEventWants (pair_of old.header) event old.both new)
-    → OnErr result (TransferSidesWant event old (record { header = header; both = new }))
+pub held_wants : (old : TransferSides) (event : BothEvent) (header : Header) (new : BothSides Digests ℕ) (result : Result MoveReply Memory)
+    → header ≡ old.header → OnErr result (BothEventLacksMemory (pair_of old.header) event old.both new)
+    → OnErr result (TransferSidesLackMemory event old (record { header = header; both = new }))
 held_wants old event header new (Ok reply) is w = tt
 held_wants old event header new (Err memory) is w = record { header = is; both = w }
 
@@ -36,27 +36,27 @@ act_issues i (Plain event) old new w = plain_issues i event old new w
 act_issues i (Moves meddles stop command) old new w = read_issues i (Reads ∷ []) meddles stop old new w
 
 -- what counts against the limits is as it was
-pub record CountsSame (old new : Both Digests ℕ) : Type 0 where
+pub record CountsSame (old new : BothSides Digests ℕ) : Type 0 where
   pub first : new.first.issued ≡ old.first.issued
   pub second : new.second.issued ≡ old.second.issued
   pub tickets : new.tickets ≡ old.tickets
   pub committed : new.committed ≡ old.committed
 
-counts_by : (i : Instance) (which : Which) (act : BothAct) (old new : Both Digests ℕ)
+counts_by : (i : Instance) (which : SideName) (act : BothAct) (old new : BothSides Digests ℕ)
     → ActWants i act (sides_seen_from which old).first (sides_seen_from which new).first
     → sides_seen_from which new ≡ record (sides_seen_from which old) { first = (sides_seen_from which new).first } → CountsSame old new
 counts_by i First act old new w e = record {
   first = act_issues i act old.first new.first w;
-  second = ap (λ (b : Both Digests ℕ). b.second.issued) e;
-  tickets = ap (λ (b : Both Digests ℕ). b.tickets) e;
-  committed = ap (λ (b : Both Digests ℕ). b.committed) e;
+  second = ap (λ (b : BothSides Digests ℕ). b.second.issued) e;
+  tickets = ap (λ (b : BothSides Digests ℕ). b.tickets) e;
+  committed = ap (λ (b : BothSides Digests ℕ). b.committed) e;
 }
 counts_by i Second act old new w e = record {
-  first = ap (λ (b : Both Digests ℕ). b.second.issued) e;
+  first = ap (λ (b : BothSides Digests ℕ). b.second.issued) e;
   second = act_issues i act old.second new.second w;
-  tickets = ap (λ (b : Both Digests ℕ). b.tickets) e;
-  committed = ap (λ (b : Both Digests ℕ). b.committed) e;
+  tickets = ap (λ (b : BothSides Digests ℕ). b.tickets) e;
+  committed = ap (λ (b : BothSides Digests ℕ). b.committed) e;
 }
 
-pub counts_same : (pair : Pair) (event : BothEvent) (old new : Both Digests ℕ) → BothEventWants pair event old new → CountsSame old new
+pub counts_same : (pair : Pair) (event : BothEvent) (old new : BothSides Digests ℕ) → BothEventLacksMemory pair event old new → CountsSame old new
 counts_same pair event old new w = counts_by (instance_on pair event.which) event.which event.act old new w.here w.rest

@@ -1,6 +1,6 @@
 -- What happens on one side in code, whichever it is: an event of a schedule, or a command.
 use Rattle.std.specs.Prelude.{◌≡◌, ◌≤◌, ◌<◌, ◌+◌, ◌^◌, ℕ, length, Result, MatchResult}
-use Rattle.mm_transfer.specs.Below.{most_members, Memory, Digests, Which, Pair, instance_on, SideState, digests_move, BothAct, BothOutcome}
+use Rattle.mm_transfer.specs.Below.{most_members, Memory, Digests, SideName, Pair, instance_on, SideState, digest_mover, BothAct, BothOutcome}
 use Rattle.mm_transfer.specs.Below.{outcome_here}
 use Rattle.mm_transfer.specs.declared.between.IssuedTickets.{IssuedTickets}
 use Rattle.mm_transfer.specs.declared.reply.MoveReply.{MoveReply}
@@ -11,11 +11,11 @@ use Rattle.mm_transfer.specs.Replies.{move_reply_of, IsSayable}
 use Rattle.mm_transfer.specs.MemoryWant.{ActWants}
 
 -- what happens on a side comes to this, whatever the other is
-abbrev pub outcome_of_act : Pair → Which → CodeSide → IssuedTickets → ℕ → BothAct
+abbrev pub outcome_of_act : Pair → SideName → CodeSide → IssuedTickets → ℕ → BothAct
     → SideState Digests
     → BothOutcome Digests ℕ
 outcome_of_act pair which here between committed act other =
-    outcome_here digests_move pair (instance_on pair which) (both_with here between other committed)
+    outcome_here digest_mover pair (instance_on pair which) (both_with here between other committed)
     act
 
 -- no count is greater than that of the requests committed, on either side
@@ -25,7 +25,7 @@ pub record AreWithin (here : CodeSide) (between : IssuedTickets) (committed : �
 
 -- A side with what passes between both, and with how many requests were committed, has come to this
 -- outcome, and answers so. No more came than one event may bring.
-pub record ActDone (pair : Pair) (which : Which) (old new : CodeSide) (was now : IssuedTickets)
+pub record ActDone (pair : Pair) (which : SideName) (old new : CodeSide) (was now : IssuedTickets)
     (before after : ℕ)
     (o : SideState Digests → BothOutcome Digests ℕ) (said : MoveReply) : Type 0 where
   pub fits : FitsSide pair which new
@@ -40,7 +40,7 @@ pub record ActDone (pair : Pair) (which : Which) (old new : CodeSide) (was now :
   pub tickets : length now.tickets.items ≤ length was.tickets.items + 1
 
 -- Memory was wanting for what happened on the side, and nothing beside it has changed.
-pub record ActLacks (pair : Pair) (which : Which) (act : BothAct) (old new : CodeSide)
+pub record ActLacks (pair : Pair) (which : SideName) (act : BothAct) (old new : CodeSide)
     (was now : IssuedTickets) (before after : ℕ) : Type 0 where
   pub fits : FitsSide pair which new
   pub between : FitsIssuedTickets now
@@ -51,7 +51,7 @@ pub record ActLacks (pair : Pair) (which : Which) (act : BothAct) (old new : Cod
   pub same : after ≡ before
 
 -- something happened on a side
-abbrev pub ActGoes : Pair → Which → BothAct → CodeSide → CodeSide → IssuedTickets → IssuedTickets
+abbrev pub ActGoes : Pair → SideName → BothAct → CodeSide → CodeSide → IssuedTickets → IssuedTickets
     → ℕ → ℕ
     → Result MoveReply Memory → Type 0
 ActGoes pair which act old new was now before after result =

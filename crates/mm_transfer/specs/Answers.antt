@@ -1,7 +1,7 @@
 -- The lines that answer events of two sides.
 use Rattle.std.specs.Prelude.{ℕ, Bool, true, false, List, [], ◌∷◌, ◌++◌, codes}
 use Rattle.std.specs.Fmt.{decimal}
-use Rattle.mm_transfer.specs.Below.{cause_text, way_text, Which, First, Second, BothEvent, BothReply, text_of_replies}
+use Rattle.mm_transfer.specs.Below.{cause_text, way_text, SideName, First, Second, BothEvent, BothReply, text_of_replies}
 use Rattle.mm_transfer.specs.declared.reply.MoveCause.{MoveCause}
 use Rattle.mm_transfer.specs.declared.reply.MoveCause.TheVariants.{Refused, Already, Open, Gone, Nonce, Barrier}
 use Rattle.mm_transfer.specs.declared.reply.MoveReply.{MoveReply}
@@ -34,12 +34,12 @@ move_text NoTicket = codes "no ticket" ++ 10 ∷ []
 move_text (Broken way moved) = way_text way ++ effect_text moved ++ 10 ∷ []
 
 -- the number of a side
-abbrev pub side_text : Which → List ℕ
+abbrev pub side_text : SideName → List ℕ
 side_text First = codes "0"
 side_text Second = codes "1"
 
 -- the line of a reply stands behind its side's number and a space
-abbrev pub answer_text : Which → MoveReply → List ℕ
+abbrev pub answer_text : SideName → MoveReply → List ℕ
 answer_text which reply = side_text which ++ 32 ∷ move_text reply
 
 -- the lines of the replies to these events

@@ -37,7 +37,7 @@ pub use Rattle.mm_move.specs.declared.refusal.MoveRefusal.{MoveRefusal}
 pub use Rattle.mm_move.specs.declared.refusal.MoveRefusal.TheVariants.{Core}
 pub use Rattle.mm_schedule.specs.Events.{Ask, Checkpoint, Event, Extend, Power, event_of, meddles_of}
 pub use Rattle.mm_schedule.specs.Grammar.{meddles_at, offer_at, stop_at}
-pub use Rattle.mm_schedule.specs.Headers.{head_at}
+pub use Rattle.mm_schedule.specs.Headers.{header_of_words}
 pub use Rattle.mm_schedule.specs.Machine.{IsEventRun}
 pub use Rattle.mm_schedule.specs.Promises.{ModulePromises}
 pub use Rattle.mm_schedule.specs.Replies.{IsPrintable, cause_text, way_text}
@@ -48,15 +48,15 @@ pub use Rattle.mm_schedule.specs.declared.event.Offer.TheVariants.{Flip, Last, N
 pub use Rattle.mm_schedule.specs.declared.header.Header.{Header}
 pub use Rattle.mm_schedule.specs.declared.reply.Reply.{Reply}
 pub use Rattle.mm_outcome.specs.Folds.{Outcome, cause_of, course_of, way_of}
-pub use Rattle.mm_outcome.specs.WorldState.{rising_from, world_barrier, world_key}
-pub use Rattle.mm_sides.specs.Both.{Both, First, Pair, Second, SideState, Which, digests_move, sides_seen_from, first_both, first_lists}
-pub use Rattle.mm_sides.specs.Both.{instance_on}
+pub use Rattle.mm_outcome.specs.WorldState.{rising_bytes_from, world_barrier, world_key}
+pub use Rattle.mm_sides.specs.BothSides.{BothSides, First, Pair, Second, SideState, SideName, digest_mover, sides_seen_from, first_both_by_digests, first_both_by_lists}
+pub use Rattle.mm_sides.specs.BothSides.{instance_on}
 pub use Rattle.mm_sides.specs.Folds.{BothAct, BothEvent, BothRunOutcome, BothOutcome, BothReply, Moves, Plain, both_outcome_by_digests}
 pub use Rattle.mm_sides.specs.Folds.{both_outcome_by_lists, both_outcome_of_events, both_outcome, commits_between, is_moved, move_outcome}
 pub use Rattle.mm_sides.specs.Folds.{outcome_here, outcome_by_role, stopped_moves}
-pub use Rattle.mm_sides.specs.Laws.{IsOneFrom, both_outcome_joined, plain_events, plain_replies}
+pub use Rattle.mm_sides.specs.Laws.{IsOneLiveFrom, both_outcome_joined, plain_events, plain_replies}
 pub use Rattle.mm_sides.specs.Moves.{Accept, Already, MoveCommand, FoundMove, Gone, Invite, DenialCause, Nonce, Open, Retire}
-pub use Rattle.mm_sides.specs.Order.{AtMostOne}
+pub use Rattle.mm_sides.specs.Order.{AreNotBothLive}
 pub use Rattle.mm_sides.specs.Premises.{IsClearPair, IsFreshPair, IsGenuinePair}
 pub use Rattle.mm_sides.specs.Roles.{Blank, Effect, Enters, Invites, Leaves, Live, Retired, Retired as Left, Role, Waiting}
 pub use Rattle.mm_sides.specs.Roles.{Waiting as Waits, is_live, no_notes}

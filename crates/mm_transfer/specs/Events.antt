@@ -1,6 +1,6 @@
 -- Events of two sides as contracts see them.
 use Rattle.mm_transfer.specs.Below.{event_of, meddles_of}
-use Rattle.mm_sides.specs.Both as both
+use Rattle.mm_sides.specs.BothSides as both
 use Rattle.mm_sides.specs.Folds as folds
 use Rattle.mm_sides.specs.Moves as moves
 use Rattle.mm_transfer.specs.declared.event.SideAct.{SideAct}
@@ -8,11 +8,11 @@ use Rattle.mm_transfer.specs.declared.event.SideAct.TheVariants.{Plain, Moves}
 use Rattle.mm_transfer.specs.declared.event.Command.{Command}
 use Rattle.mm_transfer.specs.declared.event.Command.TheVariants.{Invite, Retire, Accept}
 use Rattle.mm_transfer.specs.declared.event.SideEvent.{SideEvent}
-use Rattle.mm_transfer.specs.declared.event.Which.{Which}
-use Rattle.mm_transfer.specs.declared.event.Which.TheVariants.{First, Second}
+use Rattle.mm_transfer.specs.declared.event.SideChoice.{SideChoice}
+use Rattle.mm_transfer.specs.declared.event.SideChoice.TheVariants.{First, Second}
 
 -- the side that a value of the code stands for, its command, what happens, and its event
-abbrev pub which_of : Which → both.Which
+abbrev pub which_of : SideChoice → both.SideName
 which_of First = both.First
 which_of Second = both.Second
 

@@ -2,16 +2,16 @@
 use Rattle.std.specs.Prelude.{ℕ, List, Option, Some, None, if◌then◌else◌, codes}
 use Rattle.std.specs.Option.{option_map_or}
 use Rattle.std.specs.Str.{bytes_eq}
-use Rattle.mm_transfer.specs.Below.{Meddle, Stop, One, value_at, Ask, Checkpoint, Power, Extend, meddles_at, stop_at, offer_at, head_at}
-use Rattle.mm_transfer.specs.Below.{◌>>=◌, rest_after_prefix, bytes_at, number_at, word_at, Offer, Number, Last, Flip, Raw, Header, Which}
+use Rattle.mm_transfer.specs.Below.{Meddle, Stop, One, value_at, Ask, Checkpoint, Power, Extend, meddles_at, stop_at, offer_at, header_of_words}
+use Rattle.mm_transfer.specs.Below.{◌>>=◌, rest_after_prefix, bytes_at, number_at, word_at, Offer, Number, Last, Flip, Raw, Header, SideName}
 use Rattle.mm_transfer.specs.Below.{First, Second, BothAct, Plain, Moves, BothEvent, MoveCommand, Invite, Retire, Accept}
 
 -- the header that the first line names, as `memoir transfer 1 basic counter`
 unfoldable pub first_header_at : List ℕ → Option Header
-first_header_at line = rest_after_prefix (codes "memoir transfer 1 ") line >>= head_at
+first_header_at line = rest_after_prefix (codes "memoir transfer 1 ") line >>= header_of_words
 
 -- a side, 0 or 1
-unfoldable pub side_at : List ℕ → Option Which
+unfoldable pub side_at : List ℕ → Option SideName
 side_at word =
     if bytes_eq word (codes "0") then Some First
     else if bytes_eq word (codes "1") then Some Second

@@ -1,7 +1,7 @@
 -- What follows of what is told of a whole transfer.
 use Rattle.std.specs.Prelude.{◌≡◌, ℕ, List, ◌++◌}
 use Rattle.mm_transfer.specs.Below.{Digests, Header, BothEvent, BothRunOutcome, IsClearPair, IsGenuinePair, IsFreshPair}
-use Rattle.mm_transfer.specs.Below.{both_outcome_joined, both_outcome_of_events, digests_move}
+use Rattle.mm_transfer.specs.Below.{both_outcome_joined, both_outcome_of_events, digest_mover}
 use Rattle.mm_transfer.specs.Pairs.{pair_of}
 use Rattle.mm_transfer.specs.Headline.{AreOneTransfer, IsOneTransfer}
 
@@ -20,4 +20,4 @@ TransfersGoOn =
     (header : Header) (events : List BothEvent) (shown : List BothEvent → BothRunOutcome Digests ℕ)
     → AreOneTransfer header events shown → (front rest : List BothEvent) → events ≡ front ++ rest →
     let it : BothRunOutcome Digests ℕ = shown front in
-    shown events ≡ both_outcome_joined it (both_outcome_of_events digests_move (pair_of header) it.both rest)
+    shown events ≡ both_outcome_joined it (both_outcome_of_events digest_mover (pair_of header) it.both rest)

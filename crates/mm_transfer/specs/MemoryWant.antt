@@ -2,7 +2,7 @@
 -- may have been made.
 use Rattle.std.specs.Prelude.{◌≡◌, ℕ, List, [], ◌∷◌, ◌⊎◌}
 use Rattle.mm_transfer.specs.Below.{Meddle, Stop, Instance, Digests, Reads, DeviceStep, state_after_moves, digest_level, reading_steps}
-use Rattle.mm_transfer.specs.Below.{moves_seen, course_of, Ask, Event, Power, BothAct, BothEvent, Moves, Plain, Both, Pair, SideState}
+use Rattle.mm_transfer.specs.Below.{moves_seen, course_of, Ask, Event, Power, BothAct, BothEvent, Moves, Plain, BothSides, Pair, SideState}
 use Rattle.mm_transfer.specs.Below.{sides_seen_from, instance_on, Live, Role}
 
 -- a side on which a call or a move has made these steps, which read, and nothing else
@@ -37,8 +37,8 @@ ActWants i (Plain event) old new = PlainWants i event old new
 ActWants i (Moves meddles stop command) old new = MayHaveRead i (Reads ∷ []) meddles stop old new
 
 -- Memory was wanting for an event: so it was on its side, and nothing else has changed.
-pub record BothEventWants (pair : Pair) (event : BothEvent)
-    (old new : Both Digests ℕ) : Type 0 where
+pub record BothEventLacksMemory (pair : Pair) (event : BothEvent)
+    (old new : BothSides Digests ℕ) : Type 0 where
   pub here : ActWants (instance_on pair event.which) event.act
       (sides_seen_from event.which old).first
       (sides_seen_from event.which new).first

@@ -1,7 +1,7 @@
 -- What a side in code keeps has one proof at most, so that it may be said of a field.
 use Rattle.std.specs.Prelude.{ℕ, Bool, List}
 use Rattle.std.proofs.Props.{props}
-use Rattle.mm_transfer.specs.Below.{Variant, Basic, Opt, FitsVariant, Instance, Digests, Which, Pair, Role, Live}
+use Rattle.mm_transfer.specs.Below.{Variant, Basic, Opt, FitsVariant, Instance, Digests, SideName, Pair, Role, Live}
 use Rattle.mm_transfer.specs.declared.side.Side.{Side as CodeSide}
 use Rattle.mm_transfer.specs.OneSide.{FitsSide}
 use Rattle.mm_transfer.specs.RoleCells.{FitsRole}
@@ -15,5 +15,5 @@ pub role_prop : (i : Instance) (role : Role) (d : Digests) → IsProp (FitsRole 
 role_prop i Live d = Prim.hlevel (props, variant_prop)
 role_prop i role d = Prim.hlevel props
 
-pub fits_prop : (pair : Pair) (which : Which) (side : CodeSide) → IsProp (FitsSide pair which side)
+pub fits_prop : (pair : Pair) (which : SideName) (side : CodeSide) → IsProp (FitsSide pair which side)
 fits_prop pair which side = Prim.hlevel (props, role_prop)

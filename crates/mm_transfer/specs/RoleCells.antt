@@ -2,7 +2,7 @@
 use Rattle.std.specs.Prelude.{◌≡◌, ℕ, Bool, true, false, not, List, length, Option, None, Some, Result, Ok, Err, if◌then◌else◌}
 use Rattle.mm_transfer.specs.Below.{FitsVariant, cell_spelling, blank_cell, Instance, Digests, digest_of, cell_at, waiting_spelling}
 use Rattle.mm_transfer.specs.Below.{retired_spelling, barrier_of, acceptance_of, sealed_ticket, summary_in, Accepted, Invited, Link}
-use Rattle.mm_transfer.specs.Below.{ReadyMove, MoveRefusal, digests_move, DenialCause, Already, Open, Gone, Nonce, FoundMove, Role, Blank}
+use Rattle.mm_transfer.specs.Below.{ReadyMove, MoveRefusal, digest_mover, DenialCause, Already, Open, Gone, Nonce, FoundMove, Role, Blank}
 use Rattle.mm_transfer.specs.Below.{Live, Waits, Left, is_live, Effect, Invites, Leaves, Enters}
 use Rattle.mm_model.specs.declared.refusal.Refusal.TheVariants as core
 use Rattle.mm_move.specs.declared.cell.RetiredCell.{RetiredCell}
@@ -40,7 +40,7 @@ cell_of_role i (Left nonce) d = retired_spelling (retired_cell_at i d nonce)
 
 -- where a side stands after an effect, as far as its cell goes
 abbrev pub digests_after_effect : Digests → Effect → Digests
-digests_after_effect d (Enters ticket) = digests_move.enters d d.count ticket.content
+digests_after_effect d (Enters ticket) = digest_mover.enters d d.count ticket.content
 digests_after_effect d effect = d
 
 abbrev pub cell_after : Instance → Digests → Effect → List ℕ
@@ -83,7 +83,7 @@ GivesTicket link found bytes = GivesTicketBy link found.effect bytes
 
 abbrev pub GivesEntryBy : Instance → Digests → Effect → Accepted → Type 0
 GivesEntryBy i d (Enters ticket) accepted =
-    accepted ≡ acceptance_of i.key (digests_move.says i d ticket.content)
+    accepted ≡ acceptance_of i.key (digest_mover.says i d ticket.content)
 GivesEntryBy i d effect accepted = ⊥
 
 abbrev pub GivesEntry : Instance → Digests → FoundMove → Accepted → Type 0

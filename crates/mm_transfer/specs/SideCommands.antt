@@ -3,7 +3,7 @@ use Rattle.std.specs.Prelude.{◌≡◌, ◌≤◌, ◌+◌, ◌&&◌, ℕ, Bool
 use Rattle.std.specs.Prelude.{MatchResult, is_some, if◌then◌else◌}
 use Rattle.std.specs.List.{sum_by}
 use Rattle.mm_transfer.specs.Below.{Memory, Standing, Meddle, Stop, Digests, Reads, Refusal, move_fault_of, Accepted, ReadyMove}
-use Rattle.mm_transfer.specs.Below.{MoveRefusal, cause_of, way_of, Which, Pair, instance_on, SideState, Both, digests_move, BothOutcome}
+use Rattle.mm_transfer.specs.Below.{MoveRefusal, cause_of, way_of, SideName, Pair, instance_on, SideState, BothSides, digest_mover, BothOutcome}
 use Rattle.mm_transfer.specs.Below.{move_outcome, MoveCommand}
 use Rattle.mm_model.specs.declared.refusal.Refusal.TheVariants as core
 use Rattle.mm_move.specs.declared.refusal.MoveRefusal.TheVariants as refusal
@@ -111,7 +111,7 @@ pub record KeepsDigest (old new : CodeSide) : Type 0 where
   pub digest : new.digest.bytes ≡ (at_in old).digest
 
 -- both sides, of which this is the first
-abbrev pub both_with : CodeSide → IssuedTickets → SideState Digests → ℕ → Both Digests ℕ
+abbrev pub both_with : CodeSide → IssuedTickets → SideState Digests → ℕ → BothSides Digests ℕ
 both_with here between other committed = record {
   first = side_in here;
   second = other;
@@ -121,11 +121,11 @@ both_with here between other committed = record {
 }
 
 -- what a command on this side comes to, whatever the other is
-abbrev pub outcome_of_command : Pair → Which → CodeSide → IssuedTickets → List Meddle → Stop
+abbrev pub outcome_of_command : Pair → SideName → CodeSide → IssuedTickets → List Meddle → Stop
     → MoveCommand
     → SideState Digests → ℕ → BothOutcome Digests ℕ
 outcome_of_command pair which here between meddles stop command other committed =
-    move_outcome digests_move pair (instance_on pair which) (both_with here between other committed)
+    move_outcome digest_mover pair (instance_on pair which) (both_with here between other committed)
     meddles stop command
 
 -- the bytes of the tickets are counted
@@ -134,7 +134,7 @@ FitsIssuedTickets between = between.kept ≡ within_64 (sum_by length between.ti
 
 -- A side with what passes between both has come to this outcome, and answers so. At most one
 -- snapshot and one ticket came, and no count is greater than the greater of both was.
-pub record CommandDone (pair : Pair) (which : Which) (old new : CodeSide) (was now : IssuedTickets)
+pub record CommandDone (pair : Pair) (which : SideName) (old new : CodeSide) (was now : IssuedTickets)
     (o : SideState Digests → ℕ → BothOutcome Digests ℕ)
     (said : MoveReply) : Type 0 where
   pub fits : FitsSide pair which new
@@ -149,7 +149,7 @@ pub record CommandDone (pair : Pair) (which : Which) (old new : CodeSide) (was n
       → (new.seat.committed ≤ most) × (now.away ≤ most)
 
 -- Memory was wanting: nothing has changed, but that the first step may have been made.
-pub record CommandLacks (pair : Pair) (which : Which) (meddles : List Meddle) (stop : Stop)
+pub record CommandLacks (pair : Pair) (which : SideName) (meddles : List Meddle) (stop : Stop)
     (old new : CodeSide) (was now : IssuedTickets) : Type 0 where
   pub fits : FitsSide pair which new
   pub side : MayHaveRead (instance_on pair which) (Reads ∷ []) meddles stop (side_in old)
@@ -160,7 +160,7 @@ pub record CommandLacks (pair : Pair) (which : Which) (meddles : List Meddle) (s
   pub away : now.away ≡ was.away
 
 -- a command on a side
-abbrev pub CommandGoes : Pair → Which → List Meddle → Stop → MoveCommand → CodeSide → CodeSide
+abbrev pub CommandGoes : Pair → SideName → List Meddle → Stop → MoveCommand → CodeSide → CodeSide
     → IssuedTickets
     → IssuedTickets → Result MoveReply Memory → Type 0
 CommandGoes pair which meddles stop command old new was now result =

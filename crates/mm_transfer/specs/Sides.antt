@@ -1,24 +1,24 @@
--- Both sides in code, as contracts see them.
+-- BothSides sides in code, as contracts see them.
 use Rattle.std.specs.Prelude.{◌≡◌, ◌≤◌, ◌<◌, ◌+◌, ◌-◌, ◌^◌, ℕ, length}
-use Rattle.mm_transfer.specs.Below.{most_members, Digests, Header, Both, digests_move, first_both, BothEvent, BothOutcome, both_outcome}
+use Rattle.mm_transfer.specs.Below.{most_members, Digests, Header, BothSides, digest_mover, first_both_by_digests, BothEvent, BothOutcome, both_outcome}
 use Rattle.mm_transfer.specs.declared.between.IssuedTickets.{IssuedTickets}
 use Rattle.mm_transfer.specs.declared.side.Side.{Side as CodeSide}
 use Rattle.mm_transfer.specs.SideCommands.{both_with}
 use Rattle.mm_transfer.specs.OneSide.{side_in}
 use Rattle.mm_transfer.specs.Pairs.{pair_of}
-use Rattle.mm_transfer.specs.MemoryWant.{BothEventWants}
+use Rattle.mm_transfer.specs.MemoryWant.{BothEventLacksMemory}
 
 -- the header, and what stands on both sides by digests
 pub record TransferSides : Type 0 where
   pub header : Header
-  pub both : Both Digests ℕ
+  pub both : BothSides Digests ℕ
 
 abbrev pub first_transfer_sides : Header → TransferSides
-first_transfer_sides header = record { header = header; both = first_both (pair_of header) }
+first_transfer_sides header = record { header = header; both = first_both_by_digests (pair_of header) }
 
 -- what an event comes to
 abbrev pub outcome_in : TransferSides → BothEvent → BothOutcome Digests ℕ
-outcome_in held event = both_outcome digests_move (pair_of held.header) held.both event
+outcome_in held event = both_outcome digest_mover (pair_of held.header) held.both event
 
 -- so few requests, snapshots and tickets that one event more can be counted in 64 bits, and
 -- numbered in 32
@@ -37,9 +37,9 @@ pub record GrowsByOne (old new : TransferSides) : Type 0 where
   pub tickets : length new.both.tickets ≤ length old.both.tickets + 1
 
 -- memory was wanting for an event
-pub record TransferSidesWant (event : BothEvent) (old new : TransferSides) : Type 0 where
+pub record TransferSidesLackMemory (event : BothEvent) (old new : TransferSides) : Type 0 where
   pub header : new.header ≡ old.header
-  pub both : BothEventWants (pair_of old.header) event old.both new.both
+  pub both : BothEventLacksMemory (pair_of old.header) event old.both new.both
 
 -- both sides in code, with what passes between them, and how many requests were committed
 abbrev pub transfer_sides_in : Header → CodeSide → CodeSide → IssuedTickets → ℕ → TransferSides

@@ -5,41 +5,41 @@ use Rattle.std.specs.Option.{option_map}
 use Rattle.mm_play.specs.HeadingStep.{HeadingStep, Begins}
 use Rattle.mm_play.specs.StageShows.{heading_step_by}
 use Rattle.mm_play.specs.Stage.{EventStage, EventSteps, HeadStage, LineStage, AtHeading, answer_to, line_answer, closing_lines}
-use Rattle.mm_transfer.specs.Below.{most_events, most_members, Digests, Header, Both, digests_move, first_both, BothEvent, BothOutcome}
+use Rattle.mm_transfer.specs.Below.{most_events, most_members, Digests, Header, BothSides, digest_mover, first_both_by_digests, BothEvent, BothOutcome}
 use Rattle.mm_transfer.specs.Below.{both_outcome, LineRefusal}
 use Rattle.mm_transfer.specs.Answers.{answer_text, end_line}
 use Rattle.mm_transfer.specs.Grammar.{first_header_at, event_at}
 use Rattle.mm_transfer.specs.Pairs.{pair_of}
 use Rattle.mm_transfer.specs.Replies.{move_reply_of}
-use Rattle.mm_transfer.specs.MemoryWant.{BothEventWants}
+use Rattle.mm_transfer.specs.MemoryWant.{BothEventLacksMemory}
 use Rattle.mm_transfer.specs.declared.opening.FirstLine.{FirstLine}
 
 -- what stands between two events, by digests: the header, both sides, and how many events were
 -- followed
 pub record TransferState : Type 0 where
   pub header : Header
-  pub both : Both Digests ℕ
+  pub both : BothSides Digests ℕ
   pub events : ℕ
 
 abbrev pub first_transfer : Header → TransferState
-first_transfer header = record { header = header; both = first_both (pair_of header); events = 0 }
+first_transfer header = record { header = header; both = first_both_by_digests (pair_of header); events = 0 }
 
 -- the bytes of the snapshots issued on both sides, and of the tickets
-abbrev pub kept_size_of : {S A : Type 0} → Both S A → ℕ
+abbrev pub kept_size_of : {S A : Type 0} → BothSides S A → ℕ
 kept_size_of both =
     sum_by length both.first.issued + sum_by length both.second.issued + sum_by length both.tickets
 
 -- what an event comes to
 abbrev pub transfer_outcome : TransferState → BothEvent → BothOutcome Digests ℕ
-transfer_outcome r event = both_outcome digests_move (pair_of r.header) r.both event
+transfer_outcome r event = both_outcome digest_mover (pair_of r.header) r.both event
 
 abbrev pub transfer_after : TransferState → BothEvent → TransferState
 transfer_after r event = record r { both = (transfer_outcome r event).both; events = r.events + 1 }
 
 -- Memory was wanting for an event, which isn't counted.
-abbrev pub WantsEvent : TransferState → BothEvent → TransferState → Type 0
-WantsEvent old event new =
-    (new.header ≡ old.header) × BothEventWants (pair_of old.header) event old.both new.both
+abbrev pub TransferLacksMemory : TransferState → BothEvent → TransferState → Type 0
+TransferLacksMemory old event new =
+    (new.header ≡ old.header) × BothEventLacksMemory (pair_of old.header) event old.both new.both
     × (new.events ≡ old.events)
 
 -- the line that answers an event
@@ -47,7 +47,7 @@ abbrev pub transfer_text : TransferState → BothEvent → List ℕ
 transfer_text r event = answer_text event.which (move_reply_of (transfer_outcome r event).reply)
 
 -- the last line
-abbrev pub both_end_line : {S A : Type 0} → Both S A → List ℕ
+abbrev pub both_end_line : {S A : Type 0} → BothSides S A → List ℕ
 both_end_line both =
     end_line both.committed (length both.first.issued) (length both.second.issued)
     (length both.tickets)
@@ -90,7 +90,7 @@ transfer_closing at = closing_lines transfer_heads transfer_stage at
 
 -- what the fields of sides among their events keep: no more was committed and issued, and no more
 -- tickets were handed out, than so many events can
-pub record KeepsSides (both : Both Digests ℕ) (events : ℕ) : Type 0 where
+pub record KeepsSides (both : BothSides Digests ℕ) (events : ℕ) : Type 0 where
   pub few : events ≤ most_events
   pub committed : both.committed ≤ most_members * events
   pub first : length both.first.issued ≤ events + 1

@@ -7,8 +7,8 @@ ghost use Rattle.mm_modules.specs.Modules.{meaning_of};
 ghost use Rattle.mm_outcome.specs.EventOffers.{offered_bytes};
 ghost use Rattle.mm_schedule.specs.declared.header.Header.{Header};
 ghost use Rattle.mm_move.specs.declared.link.Link.{Link};
-ghost use Rattle.mm_sides.specs.Both.{key_of};
-ghost use Rattle.mm_sides.specs.Both as both;
+ghost use Rattle.mm_sides.specs.BothSides.{key_of};
+ghost use Rattle.mm_sides.specs.BothSides as both;
 ghost use Rattle.mm_sides.specs.Moves.{Invite, Retire, Accept};
 ghost use Rattle.mm_sides.specs.Roles.{is_live};
 ghost use Rattle.mm_transfer.specs.declared.between.IssuedTickets.{IssuedTickets};
@@ -18,7 +18,7 @@ ghost use Rattle.mm_transfer.specs.OneSide.{link_of, role_in, digest_by};
 ghost use Rattle.mm_transfer.specs.Pairs.{pair_of};
 
 use crate::between::{IssuedTickets, either};
-use crate::event::{Command, Which};
+use crate::event::{Command, SideChoice};
 use crate::moving::{Mover, has_moved, planned_accept, planned_invite, planned_retire, refused};
 use crate::reply::MoveReply;
 use crate::side::Side;
@@ -31,12 +31,12 @@ use mm_schedule::Offer;
 use std::alloc::Global;
 
 // The key that the snapshots of a side are sealed under.
-fn key_on(which: Which) -> [u8; 32]
+fn key_on(which: SideChoice) -> [u8; 32]
     ensures { (header : Header) → result ≡ key_of (pair_of header) (which_of which) }
 {
     match which {
-        Which::First => world_key(),
-        Which::Second => rising(0x40),
+        SideChoice::First => world_key(),
+        SideChoice::Second => rising(0x40),
     }
 }
 
@@ -97,7 +97,7 @@ fn invited(stop: Stop, came: Result<Invited, MoveRefusal>) -> Result<MoveReply, 
 
 // The module is invited to the side.
 fn invite(
-    which: Which,
+    which: SideChoice,
     here: &mut Side,
     nonce: &[u8; 32],
     course: &CallPlan<'_>,
@@ -159,7 +159,7 @@ fn retire(
     course: &CallPlan<'_>,
 ) -> Result<MoveReply, Memory>
     requires { vec_len between.old.tickets < 2 ^ 32 }
-    ensures made { (which : both.Which) → CommandGoes (pair_of here.old.seat.header) which
+    ensures made { (which : both.SideName) → CommandGoes (pair_of here.old.seat.header) which
         course.now.meddles.now course.now.stop (Retire nonce.now offer.now) here.old here.new
         between.old between.new result }
     ensures headed { here.new.seat.header ≡ here.old.seat.header }
@@ -247,7 +247,7 @@ fn accept(
     offer: &Offer,
     course: &CallPlan<'_>,
 ) -> Result<MoveReply, Memory>
-    ensures made { (which : both.Which) → CommandGoes (pair_of here.old.seat.header) which
+    ensures made { (which : both.SideName) → CommandGoes (pair_of here.old.seat.header) which
         course.now.meddles.now course.now.stop (Accept offer.now) here.old here.new
         between.now between.now result }
     ensures headed { here.new.seat.header ≡ here.old.seat.header }
@@ -275,7 +275,7 @@ fn accept(
 /// the command may have made its first step.
 pub fn command(
     alloc: Global,
-    which: Which,
+    which: SideChoice,
     here: &mut Side,
     between: &mut IssuedTickets,
     course: &CallPlan<'_>,

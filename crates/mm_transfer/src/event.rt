@@ -5,7 +5,7 @@ use mm_schedule::{Event, Meddles, Offer};
 
 /// The first side or the second, whose numbers are 0 and 1.
 #[derive(Clone, Copy, Debug, PartialEq, Eq)]
-pub enum Which {
+pub enum SideChoice {
     First,
     Second,
 }
@@ -39,6 +39,6 @@ pub enum SideAct {
 /// One event of two sides.
 #[derive(Debug, Drop)]
 pub struct SideEvent {
-    pub which: Which,
+    pub which: SideChoice,
     pub act: SideAct,
 }

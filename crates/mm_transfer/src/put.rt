@@ -6,7 +6,7 @@ ghost use Rattle.mm_transfer.specs.Answers.{answer_text, end_line, move_cause_te
 ghost use Rattle.mm_transfer.specs.Events.{which_of};
 ghost use Rattle.mm_transfer.specs.Replies.{IsSayable};
 
-use crate::event::Which;
+use crate::event::SideChoice;
 use crate::reply::{MoveCause, MoveReply};
 use mm_base::{Bytes, Memory, put_decimal};
 use mm_replay::put_reply;
@@ -27,14 +27,14 @@ impl MoveCause {
     }
 }
 
-impl Which {
+impl SideChoice {
     /// The number of a side.
     pub fn text(self) -> &'static [u8]
         ensures { result.now ≡ side_text (which_of self) }
     {
         match self {
-            Which::First => b"0",
-            Which::Second => b"1",
+            SideChoice::First => b"0",
+            SideChoice::Second => b"1",
         }
     }
 }
@@ -82,7 +82,7 @@ fn put_move(reply: &MoveReply, into: &mut Bytes) -> Result<(), Memory>
 }
 
 /// Puts the number of a side and a space, and the reply to its event, at the end.
-pub fn put_answer(which: Which, reply: &MoveReply, into: &mut Bytes) -> Result<(), Memory>
+pub fn put_answer(which: SideChoice, reply: &MoveReply, into: &mut Bytes) -> Result<(), Memory>
     requires { IsSayable reply.now }
     ensures { OnOk result (into.new ≡ into.old ++ answer_text (which_of which) reply.now) }
 {

@@ -4,13 +4,13 @@ ghost use Rattle.std.specs.Prelude.{◌≡◌, ◌↔◌, Some, None, IfOk, IsEr
 ghost use Rattle.std.specs.Option.{option_map};
 ghost use Rattle.mm_module.specs.Values.{value_at};
 ghost use Rattle.mm_schedule.specs.Events.{meddles_of};
-ghost use Rattle.mm_schedule.specs.Headers.{head_at};
+ghost use Rattle.mm_schedule.specs.Headers.{header_of_words};
 ghost use Rattle.mm_schedule.specs.Texts.{offer_of};
 ghost use Rattle.mm_transfer.specs.Events.{which_of, side_event_of};
 ghost use Rattle.mm_transfer.specs.Grammar.{first_header_at, side_at, named_offer_at, raw_offer_at, flipped_offer_at, whole_offer_at, retirement_at, command_at, ask_at, call_at, prefixed_act_at, act_at, event_at};
 ghost use Rattle.mm_transfer.specs.Texts as texts;
 
-use crate::event::{SideEvent, Which};
+use crate::event::{SideEvent, SideChoice};
 use crate::text::{ActText, CommandText, SideEventText, owned};
 use mm_platform::Stop;
 use mm_schedule::{
@@ -31,7 +31,7 @@ pub fn read_first(line: &[u8]) -> Option<Header>
 
 // A variant and a module.
 fn head_in(words: &[u8]) -> Option<Header>
-    ensures { result ≡ head_at words.now }
+    ensures { result ≡ header_of_words words.now }
 {
     read_head(words)
 }
@@ -61,14 +61,14 @@ fn event_in(line: &[u8]) -> Option<SideEventText<'_>>
 
 // A side, by its number.
 #[tactic(auto, unfolding(crate::specs::Grammar::side_at))]
-fn which_in(word: &[u8]) -> Option<Which>
+fn which_in(word: &[u8]) -> Option<SideChoice>
     ensures { option_map which_of result ≡ side_at word.now }
 {
     if is_text(word, b"0") {
-        return Some(Which::First);
+        return Some(SideChoice::First);
     }
     if is_text(word, b"1") {
-        return Some(Which::Second);
+        return Some(SideChoice::Second);
     }
     None
 }

@@ -2,8 +2,8 @@
 
 ghost use Rattle.std.specs.Prelude.{◌≡◌, ◌+◌, ◌-◌, ◌<◌, ◌≤◌, ◌^◌, min, length, vec_len};
 ghost use Rattle.mm_schedule.specs.Events.{event_of};
-ghost use Rattle.mm_sides.specs.Both.{First, Second};
-ghost use Rattle.mm_sides.specs.Both as both;
+ghost use Rattle.mm_sides.specs.BothSides.{First, Second};
+ghost use Rattle.mm_sides.specs.BothSides as both;
 ghost use Rattle.mm_sides.specs.Folds as folds;
 ghost use Rattle.mm_transfer.specs.declared.between.IssuedTickets.{IssuedTickets};
 ghost use Rattle.mm_transfer.specs.ActOutcome.{ActGoes};
@@ -15,7 +15,7 @@ ghost use Rattle.mm_transfer.specs.Pairs.{pair_of};
 
 use crate::between::IssuedTickets;
 use crate::commands;
-use crate::event::{SideAct, SideEvent, Which};
+use crate::event::{SideAct, SideEvent, SideChoice};
 use crate::reply::MoveReply;
 use crate::side::Side;
 use mm_base::Memory;
@@ -58,7 +58,7 @@ impl Model for Sides {
 // Follows an event of a schedule on a side, and counts what it committed.
 fn play(here: &mut Side, committed: &mut u64, event: &Event) -> Result<MoveReply, Memory>
     requires { here.old.seat.committed < 2 ^ 63 }
-    ensures acts { (which : both.Which) (between : IssuedTickets)
+    ensures acts { (which : both.SideName) (between : IssuedTickets)
         → ActGoes (pair_of here.old.seat.header) which (folds.Plain (event_of event.now))
         here.old here.new between between committed.old committed.new result }
     ensures headed { here.new.seat.header ≡ here.old.seat.header }
@@ -76,7 +76,7 @@ fn play(here: &mut Side, committed: &mut u64, event: &Event) -> Result<MoveReply
 // Follows what happens on a side, and answers it.
 fn act(
     alloc: Global,
-    which: Which,
+    which: SideChoice,
     here: &mut Side,
     between: &mut IssuedTickets,
     committed: &mut u64,
@@ -109,9 +109,9 @@ impl Sides {
     ghost use Rattle.std.specs.Prelude.{IfOk, OnErr, OnOk};
     ghost use Rattle.mm_transfer.specs.Events.{side_event_of};
     ghost use Rattle.mm_transfer.specs.Replies.{move_reply_of, IsSayable};
-    ghost use Rattle.mm_transfer.specs.Sides.{first_transfer_sides, outcome_in, HasRoom, GrowsByOne, TransferSidesWant};
+    ghost use Rattle.mm_transfer.specs.Sides.{first_transfer_sides, outcome_in, HasRoom, GrowsByOne, TransferSidesLackMemory};
     ghost use Rattle.mm_transfer.specs.Stage.{kept_size_of};
-    ghost use Rattle.mm_sides.specs.Both.{sides_seen_from};
+    ghost use Rattle.mm_sides.specs.BothSides.{sides_seen_from};
 
     /// New sides: the first is provisioned for the header's module, and its first snapshot has
     /// number 0; the second is blank.
@@ -138,7 +138,7 @@ impl Sides {
             (self.new.both ≡ (outcome_in self.old (side_event_of event.now)).both) }
         ensures grows { OnOk result (GrowsByOne self.old self.new) }
         ensures wants { OnErr result
-            (TransferSidesWant (side_event_of event.now) self.old self.new) }
+            (TransferSidesLackMemory (side_event_of event.now) self.old self.new) }
     {
         let Sides {
             header: _,
@@ -148,8 +148,8 @@ impl Sides {
             committed,
         } = self;
         match event.which {
-            Which::First => act(alloc, Which::First, first, between, committed, &event.act),
-            Which::Second => act(alloc, Which::Second, second, between, committed, &event.act),
+            SideChoice::First => act(alloc, SideChoice::First, first, between, committed, &event.act),
+            SideChoice::Second => act(alloc, SideChoice::Second, second, between, committed, &event.act),
         }
     }
 
@@ -172,12 +172,12 @@ impl Sides {
     }
 
     /// How many snapshots were issued on a side.
-    pub fn issued(&self, which: Which) -> u32
+    pub fn issued(&self, which: SideChoice) -> u32
         ensures { result ≡ length (sides_seen_from (which_of which) self.now.both).first.issued }
     {
         match which {
-            Which::First => self.first.seat.issued.len() as u32,
-            Which::Second => self.second.seat.issued.len() as u32,
+            SideChoice::First => self.first.seat.issued.len() as u32,
+            SideChoice::Second => self.second.seat.issued.len() as u32,
         }
     }
 

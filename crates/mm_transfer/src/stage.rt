@@ -3,7 +3,7 @@
 ghost use Rattle.std.specs.Prelude.{◌≡◌, ◌≤◌, ◌<◌, ◌+◌, ◌++◌, ◌∷◌, [], length, IfOk, OnErr, OnOk};
 ghost use Rattle.mm_base.specs.Limits.{longest_line, most_events};
 
-use crate::event::{SideEvent, Which};
+use crate::event::{SideEvent, SideChoice};
 use crate::put::{put_answer, put_end};
 use crate::read::read_side_event;
 use crate::reply::MoveReply;
@@ -36,7 +36,7 @@ impl Model for TransferStage {
 impl TransferStage {
     ghost use Rattle.mm_transfer.specs.Events.{side_event_of};
     ghost use Rattle.mm_transfer.specs.Replies.{move_reply_of, IsSayable};
-    ghost use Rattle.mm_transfer.specs.Stage.{WantsEvent, transfer_after, first_transfer, both_end_line, transfer_outcome};
+    ghost use Rattle.mm_transfer.specs.Stage.{TransferLacksMemory, transfer_after, first_transfer, both_end_line, transfer_outcome};
 
     /// Both sides at their first event.
     pub fn new(alloc: Global, header: &Header) -> Result<TransferStage, Memory>
@@ -53,7 +53,7 @@ impl TransferStage {
             ≡ move_reply_of (transfer_outcome self.old (side_event_of event.now)).reply) }
         ensures sayable { IfOk result IsSayable }
         ensures after { OnOk result (self.new ≡ transfer_after self.old (side_event_of event.now)) }
-        ensures wants { OnErr result (WantsEvent self.old (side_event_of event.now) self.new) }
+        ensures wants { OnErr result (TransferLacksMemory self.old (side_event_of event.now) self.new) }
     {
         let reply = self.sides.event(alloc, event)?;
         self.events += 1;
@@ -66,8 +66,8 @@ impl TransferStage {
     {
         put_end(
             self.sides.committed(),
-            self.sides.issued(Which::First),
-            self.sides.issued(Which::Second),
+            self.sides.issued(SideChoice::First),
+            self.sides.issued(SideChoice::Second),
             self.sides.tickets(),
             into,
         )
@@ -83,8 +83,8 @@ impl TransferStage {
         TransferReport {
             committed: self.sides.committed(),
             issued: [
-                self.sides.issued(Which::First),
-                self.sides.issued(Which::Second),
+                self.sides.issued(SideChoice::First),
+                self.sides.issued(SideChoice::Second),
             ],
             tickets: self.sides.tickets(),
         }
@@ -93,12 +93,12 @@ impl TransferStage {
 
 impl PlayStage for TransferStage {
     ghost use Rattle.mm_play.specs.Stage.{EventLacksMemory};
-    ghost use Rattle.mm_transfer.specs.Stage.{WantsEvent, transfer_steps, transfer_stage};
+    ghost use Rattle.mm_transfer.specs.Stage.{TransferLacksMemory, transfer_steps, transfer_stage};
     ghost use Rattle.mm_transfer.specs.StageLaws.{counts_on};
 
     ghost plays = { transfer_stage };
 
-    ghost wants = { EventLacksMemory transfer_steps WantsEvent };
+    ghost wants = { EventLacksMemory transfer_steps TransferLacksMemory };
 
     fn events(&self) -> u32 {
         self.events

@@ -4,7 +4,7 @@ ghost use Rattle.std.specs.Prelude.{◌≡◌, IfOk};
 ghost use Rattle.mm_transfer.specs.Events.{command_of, act_of, side_event_of};
 ghost use Rattle.mm_transfer.specs.Texts as texts;
 
-use crate::event::{Command, SideAct, SideEvent, Which};
+use crate::event::{Command, SideAct, SideEvent, SideChoice};
 use mm_base::{Bytes, Memory};
 use mm_digest::Digest;
 use mm_platform::Stop;
@@ -50,7 +50,7 @@ pub enum ActText<'a> {
 
 /// An event as it lies in its line.
 pub struct SideEventText<'a> {
-    pub which: Which,
+    pub which: SideChoice,
     pub act: ActText<'a>,
 }
 

@@ -10,7 +10,7 @@ use Rattle.mm_world.proofs.Below.{commits_batch, size_if, count-made, sizes_of, 
 use Rattle.mm_world.proofs.Below.{is_made_at, Fails, end_of, stopped_step, takes_effect, ◌&&◌, subst, option_to_list, append-nil, Standing}
 use Rattle.mm_world.proofs.Below.{items_after_cycle, Power, register_reading, DeviceStep, Reads, Writes, ask_steps, finding_at}
 use Rattle.mm_world.proofs.Below.{finding_unless_wanting, End, Done, StepFate, walk, walk_from_step, moves_seen, CallOutcome, call_outcome}
-use Rattle.mm_world.proofs.Below.{call_outcome_by, result_of_ending, reading_steps, RegisterStandsAt, StaysOn, fault_of, steps_of_change}
+use Rattle.mm_world.proofs.Below.{call_outcome_by, result_of_ending, reading_steps, RegisterStandsAt, PlatformStaysOn, fault_of, steps_of_change}
 use Rattle.mm_world.proofs.Below.{reading_none, way_of, moves_after_stop, reply_of, snapshots_of, moves_after_call, HasDigests, is_cut}
 use Rattle.mm_world.proofs.Below.{register_of_items}
 use Rattle.std.proofs.lemmas.List.Sums.{fold-append}
@@ -361,7 +361,7 @@ pub stands_settled : (i : Instance) (d : Digests) (mid new : Standing) (lost : B
 stands_settled i d mid new false s cell items = stands_read i d mid new _ s cell (settled_reads i d mid new false s.register items)
 stands_settled i d mid new true s cell items = stands_read i d mid new _ s cell (settled_reads i d mid new true s.register items)
 
-pub on_settled : (stop : Stop) (broken : Bool) (mid new : Standing) → StaysOn stop broken mid
+pub on_settled : (stop : Stop) (broken : Bool) (mid new : Standing) → PlatformStaysOn stop broken mid
     → new.is_on ≡ (if broken && is_cut stop then true else mid.is_on) → new.is_on ≡ true
 on_settled (Cut n) true mid new stays e = e
 on_settled _ true mid new stays e = e ∙ stays

@@ -39,7 +39,7 @@ pub use Rattle.mm_call.specs.CallOutcomeWords.{position_if_committed}
 pub use Rattle.mm_call.specs.Courses.{walk_from_step, has_close, has_commit, Course, Done, End, Fails, StepFate, fate_by_plan, moves_seen}
 pub use Rattle.mm_call.specs.Courses.{walk, StepsWalk}
 pub use Rattle.mm_call.specs.CoursesWords.{end_of, made_move}
-pub use Rattle.mm_call.specs.EndedCall.{EndsAsCall, end_by_fault, is_broken, KeepsPosition, kept_position, result_of, StaysOn}
+pub use Rattle.mm_call.specs.EndedCall.{EndsAsCall, end_by_fault, is_broken, KeepsPosition, kept_position, result_of, PlatformStaysOn}
 pub use Rattle.mm_call.specs.CallFinding.{CallFinding, finding_at}
 pub use Rattle.mm_call.specs.CallFindingWords.{finding_unless_wanting, is_fresh}
 pub use Rattle.mm_call.specs.Levels.{state_after_moves, digest_level}
@@ -63,7 +63,7 @@ pub use Rattle.mm_outcome.specs.Folds.{course_of, first_digests, moves_after_cal
 pub use Rattle.mm_outcome.specs.Folds.{snapshots_of, outcome_without_call, way_of}
 pub use Rattle.mm_outcome.proofs.Above.{broken_reply, stopped_reply}
 pub use Rattle.mm_outcome.specs.Folds.{plan_of}
-pub use Rattle.mm_outcome.specs.WorldState.{first_world_state, WorldFollows, WorldState, outcome_in, EventWantsMemory, world_of}
+pub use Rattle.mm_outcome.specs.WorldState.{first_world_state, WorldFollows, WorldState, outcome_in, WorldLacksMemory, world_of}
 pub use Rattle.mm_outcome.proofs.Above.{count-made, grown, printed, sizes_of, world_few}
 pub use Rattle.mm_world.specs.OwnCalls.{AsksOwnCell, CallComesTo, ChecksOwnCell, HasRead, CallLacksMemory, quiet_call}
 pub use Rattle.mm_world.specs.Calls.{answered_call, broken_call, IsCallResult, is_cut, refused_call, IsRefusalResult, SettlesPlan, size_if}

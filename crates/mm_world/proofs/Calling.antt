@@ -6,7 +6,7 @@ use Rattle.mm_world.proofs.Below.{AskResult, Answered, Refused, Broken, digest_l
 use Rattle.mm_world.proofs.Below.{finding_unless_wanting, is_fresh, End, Done, Fails, StepFate, Course, walk, fate_by_plan, moves_seen}
 use Rattle.mm_world.proofs.Below.{CallEnding, Answers, Refuses, Breaks, CallOutcome, call_outcome, call_ending_by, state_seen}
 use Rattle.mm_world.proofs.Below.{reading_steps, instance_by, StandsAt, count_after_more, result_of, kept_position, KeepsPosition}
-use Rattle.mm_world.proofs.Below.{is_broken, StaysOn, EndsAsCall, way_of, course_of, cause_of, outcome_by, outcome_without_call, plan_of}
+use Rattle.mm_world.proofs.Below.{is_broken, PlatformStaysOn, EndsAsCall, way_of, course_of, cause_of, outcome_by, outcome_without_call, plan_of}
 use Rattle.mm_world.proofs.Below.{broken_reply, HasDigests, IsQuiet, refused_call, answered_call, broken_call, takes_effect, size_if}
 use Rattle.mm_world.proofs.Below.{IsRefusalResult, IsCallResult, SettlesPlan, CallComesTo, HasRead, AsksOwnCell, call_commits, ◌&&◌, ◌++◌}
 use Rattle.mm_world.proofs.Below.{reply_of, snapshots_of, moves_after_call, is_cut, [], ◌∷◌, map, append-nil, ◌==◌, Basic, Opt, fault_at}
@@ -40,7 +40,7 @@ pub record Over (i : Instance) (d : Digests) (stop : Stop) (meddles : List Meddl
   pub keeps : KeepsPosition course.fates (call_outcome i (digest_level i) d course bytes b) ended
   pub register : register_reading old ≡ Some d.register
   pub settles : SettlesPlan stop (is_broken ended) mid new
-  pub stays : StaysOn stop (is_broken ended) mid
+  pub stays : PlatformStaysOn stop (is_broken ended) mid
 
 -- with memory at hand a course with the planned fates is the planned one
 course_told : (fates : ℕ → StepFate) (stop : Stop) (meddles : List Meddle) → ((n : ℕ) → fates n ≡ fate_by_plan (plan_of stop meddles) n)
@@ -136,7 +136,7 @@ module _ (i : Instance) (d : Digests) (stop : Stop) (meddles : List Meddle) (byt
       let found = finding_unless_wanting (finding_at i (digest_level i) seen b bytes) c.lacks in
       let h = refused_read i d seen b c.fates found refusal.Memory e in
       let settles = subst (λ x. SettlesPlan stop x mid new) unbroken r.settles in
-      let stays = subst (λ x. StaysOn stop x mid) unbroken r.stays in
+      let stays = subst (λ x. PlatformStaysOn stop x mid) unbroken r.stays in
       let read = came_register i d o (record old { plan = Some (plan_of stop meddles) }) mid r.goes.items refl r.register in
       let stands : HasDigests i new o.state = stands_settled i o.state mid new false (record { at = r.goes.stands; register = read })
       settles.cell settles.items in
@@ -284,7 +284,7 @@ closed_came : (i : Instance) (d : Digests) (stop : Stop) (meddles : List Meddle)
     → CheckpointGoesBy i d (checkpoint_outcome i (digest_level i) d (course_of stop meddles))
     (record old { plan = Some (plan_of stop meddles) }) mid result
     → register_reading old ≡ Some d.register → SettlesPlan stop (has_closing_fault result) mid new
-    → StaysOn stop (has_closing_fault result) mid
+    → PlatformStaysOn stop (has_closing_fault result) mid
     → CallComesTo i (checkpoint_event_outcome (digest_level i) stop issued
     (checkpoint_outcome i (digest_level i) d (course_of stop meddles))) d.count issued old new
     (quiet_call (checkpoint_reply stop (closes_at stop) result))

@@ -4,7 +4,7 @@ use Rattle.mm_world.proofs.Below.{Err, IfOk, OnErr, inl, inr, refl, sym, ap, ◌
 use Rattle.mm_world.proofs.Below.{Opt, Meaning, Cell, flag_byte, Standing, Instance, first_history, Digests, cell_of, issued_bytes}
 use Rattle.mm_world.proofs.Below.{register_reading, digest_level, moves_seen, state_seen, reading_steps, instance_by, cell_at, anchor-nil}
 use Rattle.mm_world.proofs.Below.{summary-nil, seen_none, meaning_of, Reply, Ask, Checkpoint, course_of, first_digests, WorldState}
-use Rattle.mm_world.proofs.Below.{world_of, first_world_state, outcome_in, WorldFollows, EventWantsMemory, HasDigests, IsQuiet, Event}
+use Rattle.mm_world.proofs.Below.{world_of, first_world_state, outcome_in, WorldFollows, WorldLacksMemory, HasDigests, IsQuiet, Event}
 use Rattle.mm_world.proofs.Below.{printed, grown}
 use Rattle.mm_digest.specs.LengthLaws.{length-zero_bytes, length-start_digest_of}
 use Rattle.mm_seal.specs.Cell.{cell_spelling}
@@ -13,7 +13,7 @@ use Rattle.mm_platform.specs.Memory.{new_platform}
 use Rattle.mm_schedule.specs.declared.header.Header.{Header}
 use Rattle.mm_schedule.specs.Events.{Power, Extend}
 use Rattle.mm_schedule.specs.Replies.{IsPrintable}
-use Rattle.mm_outcome.specs.WorldState.{world_after_reading, rising_from, world_key, world_barrier}
+use Rattle.mm_outcome.specs.WorldState.{world_after_reading, rising_bytes_from, world_key, world_barrier}
 use Rattle.mm_world.specs.declared.seat.Seat.{Seat}
 use Rattle.mm_world.specs.HeldWorld.{digest_in, flag_in, value_in, digests_in, world_in, KeepsWorld}
 use Rattle.mm_world.specs.Seat.{instance_at, IsFirst, SeatStaysOn, SeatTakesEvent as SeatFollows, SeatLacksMemory as SeatWants}
@@ -124,7 +124,7 @@ module _ (old new : Seat) (world : WorldState) (is : world_in old ≡ world) (k 
       there ∙ is
 
   wanting : (event : Event) → SeatStaysOn new.platform old new → SeatWants i d event old.platform new.platform
-      → EventWantsMemory event world (world_in new)
+      → WorldLacksMemory event world (world_in new)
   wanting (Ask meddles stop offer b) s w = elim w [
     | inl e ↦ inl (same_world s e)
     | inr e ↦
@@ -153,7 +153,7 @@ module _ (old new : Seat) (world : WorldState) (is : world_in old ≡ world) (k 
   wanting (Extend value) s w = same_world s w
 
   pub wants_world : (event : Event) (result : Result Reply Memory) → SeatFollows event old new result
-      → OnErr result (EventWantsMemory event world (world_in new))
+      → OnErr result (WorldLacksMemory event world (world_in new))
   wants_world event (Ok said) f = tt
   wants_world event (Err memory) f =
       let w = f.own world_key world_barrier d k.stands k.quiet refl in wanting event w.0 w.1
@@ -179,11 +179,11 @@ module _ (old new : Seat) (world : WorldState) (is : world_in old ≡ world) (k 
 -- a new world
 
 length-world_key : length world_key ≡ 32
-unfolding rising_from
+unfolding rising_bytes_from
 length-world_key = refl
 
 length-world_barrier : length world_barrier ≡ 32
-unfolding rising_from
+unfolding rising_bytes_from
 length-world_barrier = refl
 
 pub stands_new : (variant : Variant) (meaning : Meaning) (key barrier cell : List ℕ) → length key ≡ 32 → length barrier ≡ 32

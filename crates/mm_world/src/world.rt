@@ -34,7 +34,7 @@ impl World {
     ghost use Rattle.mm_schedule.specs.Events.{event_of, meddles_of};
     ghost use Rattle.mm_schedule.specs.Texts as texts;
     ghost use Rattle.mm_schedule.specs.Replies.{IsPrintable};
-    ghost use Rattle.mm_outcome.specs.WorldState.{first_world_state, outcome_in, WorldFollows, EventWantsMemory};
+    ghost use Rattle.mm_outcome.specs.WorldState.{first_world_state, outcome_in, WorldFollows, WorldLacksMemory};
     ghost use Rattle.mm_world.specs.HeldWorld.{HoldsWorld};
     ghost use Rattle.mm_world.specs.Lengths.{within_64};
     ghost use Rattle.mm_world.specs.Views.{event_of_view};
@@ -56,7 +56,7 @@ impl World {
         requires { length self.old.issued < 2 ^ 32 - 1 }
         ensures ok { IfOk result
             (WorldFollows (outcome_in self.old (event_of event.now)) self.old self.new) }
-        ensures wants { OnErr result (EventWantsMemory (event_of event.now) self.old self.new) }
+        ensures wants { OnErr result (WorldLacksMemory (event_of event.now) self.old self.new) }
 
         // The reply can be printed; at most one snapshot is issued, and at most 64 requests are
         // committed.
@@ -75,7 +75,7 @@ impl World {
             (outcome_in self.old (texts.event_in (meddles_of meddles.now) text.entry))
             self.old self.new) }
         ensures wants { OnErr result
-            (EventWantsMemory (texts.event_in (meddles_of meddles.now) text.entry)
+            (WorldLacksMemory (texts.event_in (meddles_of meddles.now) text.entry)
             self.old self.new) }
         ensures printable { IfOk result IsPrintable }
         ensures grows { length self.new.issued ≤ length self.old.issued + 1 }
@@ -93,7 +93,7 @@ impl World {
         ensures ok { IfOk result
             (WorldFollows (outcome_in self.old (event_of_view event.entry)) self.old self.new) }
         ensures wants { OnErr result
-            (EventWantsMemory (event_of_view event.entry) self.old self.new) }
+            (WorldLacksMemory (event_of_view event.entry) self.old self.new) }
         ensures printable { IfOk result IsPrintable }
         ensures grows { length self.new.issued ≤ length self.old.issued + 1 }
         ensures few { (outcome_in self.old (event_of_view event.entry)).state.count

@@ -1,6 +1,6 @@
 use Rattle.mm_history.proofs.Below.{ℕ, ◌≡◌, ◌+◌, List, [], ◌∷◌, ◌++◌, length, refl, sym, ap, ◌∙◌, arith, map-append, MatchOption}
 use Rattle.mm_history.proofs.Below.{option_to_list, KeptBatch, KeptEntry, kept_batch, kept_entry, kept_entries, RegisterEntry}
-use Rattle.mm_history.proofs.Below.{with_last_batch, renamed-push}
+use Rattle.mm_history.proofs.Below.{entries_with_last_batch, renamed-push}
 use Rattle.std.specs.Prelude.{Option, None, Some}
 use Rattle.std.proofs.Common.{vec_len}
 use Rattle.mm_model.specs.declared.kept.KeptEntry.TheVariants as kept
@@ -13,15 +13,15 @@ length-zero (x ∷ xs) e = absurd (omega (arith, e))
 -- the last entry gives way
 renamed_in : (old front new : List KeptEntry) (last : Option KeptEntry) (batch : KeptBatch) → old ≡ front ++ option_to_list last
     → new ≡ front ++ kept.Own batch ∷ [] → (n m : ℕ) → MatchOption last ((n ≡ 0) × (m ≡ 0)) (λ x. m + 1 ≡ n) → m ≡ length front
-    → kept_entries new ≡ with_last_batch (kept_entries old) (kept_batch batch)
+    → kept_entries new ≡ entries_with_last_batch (kept_entries old) (kept_batch batch)
 renamed_in old front new None batch was is n m none sized =
     let empty : front ≡ [] = length-zero front (sym sized ∙ none.1) in
     ap kept_entries (is ∙ ap (λ (v : List KeptEntry). v ++ kept.Own batch ∷ []) empty)
-    ∙ ap (λ (v : List KeptEntry). with_last_batch (kept_entries v) (kept_batch batch))
+    ∙ ap (λ (v : List KeptEntry). entries_with_last_batch (kept_entries v) (kept_batch batch))
     (sym (was ∙ ap (λ (v : List KeptEntry). v ++ []) empty))
 renamed_in old front new (Some x) batch was is n m some sized = ap kept_entries is ∙ map-append kept_entry front (kept.Own batch ∷ [])
     ∙ sym (renamed-push (kept_entries front) (kept_entry x) (kept_batch batch))
-    ∙ sym (ap (λ (v : List RegisterEntry). with_last_batch v (kept_batch batch))
+    ∙ sym (ap (λ (v : List RegisterEntry). entries_with_last_batch v (kept_batch batch))
     (ap kept_entries was ∙ map-append kept_entry front (x ∷ [])))
 
 pub returns : goal.returns

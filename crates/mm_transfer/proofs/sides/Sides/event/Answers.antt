@@ -1,4 +1,4 @@
-use Rattle.mm_transfer.proofs.Below.{◌≡◌, ◌∙◌, ℕ, ap, Digests, Both, Inside, both_with, side_event_of, side_in}
+use Rattle.mm_transfer.proofs.Below.{◌≡◌, ◌∙◌, ℕ, ap, Digests, BothSides, Inside, both_with, side_event_of, side_in}
 use Rattle.mm_transfer.proofs.Acting.{Comes, event_first, event_second}
 use Rattle.mm_transfer.proofs.Wanting.{held_wants}
 use Rattle.mm_transfer.specs.Sides.{TransferSides}
@@ -6,7 +6,7 @@ use Rattle.mm_transfer.proofs.sides.Sides.event.Goals as goal
 use Rattle.mm_transfer.proofs.sides.Sides.event.Goals.{in-First, in-Second}
 
 -- both sides, as the fields have them
-abbrev both_in : Inside → Both Digests ℕ
+abbrev both_in : Inside → BothSides Digests ℕ
 both_in s = both_with s.first s.between (side_in s.second) s.committed
 
 comes : (c : goal.Joined-event)

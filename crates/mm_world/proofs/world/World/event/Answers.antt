@@ -1,4 +1,4 @@
-use Rattle.mm_world.proofs.Below.{IfOk, OnErr, subst, Event, event_of, WorldFollows, outcome_in, EventWantsMemory, world_few}
+use Rattle.mm_world.proofs.Below.{IfOk, OnErr, subst, Event, event_of, WorldFollows, outcome_in, WorldLacksMemory, world_few}
 use Rattle.mm_world.proofs.world.World.event.Goals as goal
 
 pub returns-clause-ok : goal.returns-clause-ok
@@ -8,7 +8,7 @@ returns-clause-ok c =
 
 pub returns-clause-wants : goal.returns-clause-wants
 returns-clause-wants c =
-    subst (λ (e : Event). OnErr c.follow.result (EventWantsMemory e c.args.self.now c.follow.new.self)) c.owned_view.ensures
+    subst (λ (e : Event). OnErr c.follow.result (WorldLacksMemory e c.args.self.now c.follow.new.self)) c.owned_view.ensures
     c.follow.ensures.wants
 
 pub returns-clause-few : goal.returns-clause-few

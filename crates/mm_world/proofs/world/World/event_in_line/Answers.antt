@@ -1,4 +1,4 @@
-use Rattle.mm_world.proofs.Below.{IfOk, OnErr, subst, Event, WorldFollows, outcome_in, meddles_of, EventWantsMemory, world_few}
+use Rattle.mm_world.proofs.Below.{IfOk, OnErr, subst, Event, WorldFollows, outcome_in, meddles_of, WorldLacksMemory, world_few}
 use Rattle.mm_schedule.specs.Texts.{event_in}
 use Rattle.mm_world.proofs.world.World.event_in_line.Goals as goal
 
@@ -9,7 +9,7 @@ returns-clause-ok c =
 
 pub returns-clause-wants : goal.returns-clause-wants
 returns-clause-wants c =
-    subst (λ (e : Event). OnErr c.follow.result (EventWantsMemory e c.args.self.now c.follow.new.self)) c.line_view.ensures
+    subst (λ (e : Event). OnErr c.follow.result (WorldLacksMemory e c.args.self.now c.follow.new.self)) c.line_view.ensures
     c.follow.ensures.wants
 
 pub returns-clause-few : goal.returns-clause-few

@@ -2,13 +2,13 @@
 -- digests.
 use Rattle.std.specs.Prelude.{ℕ, Bool, true, false, List, []}
 use Rattle.mm_sides.specs.Below.{Variant, Content, Meaning, History, first_history, Instance, Digests, content_of_issue, digest_of, Level}
-use Rattle.mm_sides.specs.Below.{list_level, digest_level, instance_by, summary_in, place_at, first_issued, first_digests}
+use Rattle.mm_sides.specs.Below.{list_level, digest_level, instance_by, summary_in, place_at, first_snapshots, first_digests}
 use Rattle.mm_sides.specs.Roles.{Role, Blank, Live, is_live}
 
 -- the first side or the second
-pub data Which : Type 0 where
-  First : Which
-  Second : Which
+pub data SideName : Type 0 where
+  First : SideName
+  Second : SideName
 
 -- What two sides are set up with: the variant and the module; a key for each side; and the key and
 -- the barrier of the link that they share.
@@ -20,12 +20,12 @@ pub record Pair : Type 0 where
   pub barrier : List ℕ
   pub link : List ℕ
 
-abbrev pub key_of : Pair → Which → List ℕ
+abbrev pub key_of : Pair → SideName → List ℕ
 key_of pair First = pair.first_key
 key_of pair Second = pair.second_key
 
 -- the instance that the module is on a side
-abbrev pub instance_on : Pair → Which → Instance
+abbrev pub instance_on : Pair → SideName → Instance
 instance_on pair which = instance_by pair.variant pair.meaning (key_of pair which) pair.barrier
 
 -- One side: its role; where it stands, for the sake of its register from the start; and the
@@ -35,9 +35,9 @@ pub record SideState (S : Type 0) : Type 0 where
   pub at : S
   pub issued : List (List ℕ)
 
--- Both sides; what is kept of where the module stood when it left last; the tickets handed out; and
+-- BothSides sides; what is kept of where the module stood when it left last; the tickets handed out; and
 -- how many requests were committed, on either side.
-pub record Both (S A : Type 0) : Type 0 where
+pub record BothSides (S A : Type 0) : Type 0 where
   pub first : SideState S
   pub second : SideState S
   pub away : A
@@ -45,7 +45,7 @@ pub record Both (S A : Type 0) : Type 0 where
   pub committed : ℕ
 
 -- the same with the sides exchanged
-abbrev pub sides_swapped : {S A : Type 0} → Both S A → Both S A
+abbrev pub sides_swapped : {S A : Type 0} → BothSides S A → BothSides S A
 sides_swapped both = record both { first = both.second; second = both.first }
 
 -- the one history: that of the live side, or where the module left
@@ -54,13 +54,13 @@ history_at true second_lives first second away = first
 history_at false true first second away = second
 history_at false false first second away = away
 
-abbrev pub history_now : Both History History → History
+abbrev pub history_now : BothSides History History → History
 history_now both =
     history_at (is_live both.first.role) (is_live both.second.role) both.first.at both.second.at
     both.away
 
 -- with this side as the first
-abbrev pub sides_seen_from : {S A : Type 0} → Which → Both S A → Both S A
+abbrev pub sides_seen_from : {S A : Type 0} → SideName → BothSides S A → BothSides S A
 sides_seen_from First both = both
 sides_seen_from Second both = sides_swapped both
 
@@ -75,8 +75,8 @@ pub record Mover (S A : Type 0) : Type 0 where
   pub enters : S → A → Content → S
 
 -- By lists: the module has its one history, and the register has what it had.
-abbrev pub lists_move : Mover History History
-lists_move = record {
+abbrev pub list_mover : Mover History History
+list_mover = record {
   level = list_level;
   says = λ i y offered. issued i y;
   leaves = λ y. y;
@@ -85,8 +85,8 @@ lists_move = record {
 
 -- By digests: of where the module left only the number of its requests is kept; all else comes by
 -- the ticket.
-abbrev pub digests_move : Mover Digests ℕ
-digests_move = record {
+abbrev pub digest_mover : Mover Digests ℕ
+digest_mover = record {
   level = digest_level;
   says = λ i d offered. record {
     id = i.meaning.id;
@@ -101,19 +101,19 @@ digests_move = record {
 }
 
 -- At first the module is on the first side, and the second is blank.
-abbrev pub sides_at_start : {S A : Type 0} → Pair → S → S → A → Both S A
+abbrev pub sides_at_start : {S A : Type 0} → Pair → S → S → A → BothSides S A
 sides_at_start pair here there away = record {
-  first = record { role = Live; at = here; issued = first_issued (instance_on pair First) };
+  first = record { role = Live; at = here; issued = first_snapshots (instance_on pair First) };
   second = record { role = Blank; at = there; issued = [] };
   away = away;
   tickets = [];
   committed = 0;
 }
 
-abbrev pub first_lists : Pair → Both History History
-first_lists pair = sides_at_start pair first_history first_history first_history
+abbrev pub first_both_by_lists : Pair → BothSides History History
+first_both_by_lists pair = sides_at_start pair first_history first_history first_history
 
-abbrev pub first_both : Pair → Both Digests ℕ
-first_both pair =
+abbrev pub first_both_by_digests : Pair → BothSides Digests ℕ
+first_both_by_digests pair =
     sides_at_start pair (first_digests (instance_on pair First))
     (first_digests (instance_on pair Second)) 0
