@@ -78,7 +78,8 @@ module _ (meaning : Meaning) (old new : Standing) (offer : List ℕ) (b : Batch)
   once (Ok answer) s = once_answered answer.again s
   once (Err why) s = once_broken why s
 
-  pub writes : (result : Result BatchAnswer Refusal) → IsWholeCall basic_call meaning old new offer b result → CellIsWrittenAtMostOnce old new
+  pub writes : (result : Result BatchAnswer Refusal) → IsWholeCall basic_call meaning old new offer b result
+      → CellIsWrittenAtMostOnce old new
   writes result c =
       each_call basic_call meaning old new offer b (λ (s : Standing) (r : Result BatchAnswer Refusal). CellIsWrittenAtMostOnce old s) result
       (inl refl) (λ (ended : AskResult) (a : IsCallToEnd basic_call meaning old new offer b ended). once (result_of ended)

@@ -58,7 +58,8 @@ answered_by None false (Ok it) i seen s b moves old new is blames = inl refl
 answered_by None true (Ok it) i seen s b moves old new is blames = inr (inl refl)
 
 pub complete : (meaning : Meaning) (old new : Standing) (offer : List ℕ) (batch : Batch) (result : Result BatchAnswer Refusal)
-    → (is_long batch ≡ false → IsCallOnCourse Basic meaning old new offer batch result) → CountsHandedFault (fault_in result) old.faults new.faults
+    → (is_long batch ≡ false → IsCallOnCourse Basic meaning old new offer batch result) → CountsHandedFault (fault_in result)
+    old.faults new.faults
     → IsComplete Basic meaning old new offer batch result
 complete meaning old new offer batch result goes blames short key y all content s right names clear accepts fits =
     let i : Instance = basic_instance meaning key in

@@ -32,8 +32,8 @@ pub use Rattle.mm_model.specs.ChainsWords.{own_values}
 pub use Rattle.mm_model.specs.DigestLaws.{register-push, register_folds, summary-push}
 pub use Rattle.mm_model.specs.FormLaws.{reads_zero}
 pub use Rattle.mm_model.specs.History.{Close, Commit, history_after_commit, RegisterEntry, first_history, Foreign, History, items_of_all}
-pub use Rattle.mm_model.specs.History.{Move, history_after, Own, Placed, Placed as PlacedMove, Power, register_value_of, entries_with_last_batch}
-pub use Rattle.mm_model.specs.History.{requests_of, Reset, total_of, Value}
+pub use Rattle.mm_model.specs.History.{Move, history_after, Own, Placed, Placed as PlacedMove, Power, register_value_of}
+pub use Rattle.mm_model.specs.History.{entries_with_last_batch, requests_of, Reset, total_of, Value}
 pub use Rattle.mm_model.specs.HistoryLaws.{own_values-append, renamed-push, values_of-own, values_renamed}
 pub use Rattle.mm_model.specs.HistoryWords.{values_of as entry_values}
 pub use Rattle.mm_model.specs.Instance.{Instance}

@@ -1,9 +1,9 @@
 -- The device steps that commit what a call found, one after another: their fates, and what is known of all of them.
 use Rattle.mm_call.proofs.Below.{◌≡◌, ℕ, Bool, true, false, List, [], ◌∷◌, ◌++◌, map, Option, None, Some, Err, refl, sym, ap, ◌∙◌, IsSome}
 use Rattle.mm_call.proofs.Below.{option_map, next_count, StepFault, Plan, Standing, plan_after, Act, StepGoes, is_on_at, is_on_by_plan}
-use Rattle.mm_call.proofs.Below.{Move, Foreign, Refusal, Device, fault_of, has_commit, result_of, end_by_fault, end_of_refusal, PlatformStaysOn}
-use Rattle.mm_call.proofs.Below.{IsAt, ◌+◌, suc, length, Result, Ok, subst, arith, ◌==◌, if◌then◌else◌, Instance, Commit, Digests}
-use Rattle.mm_call.proofs.Below.{DeviceStep, Reads, Changes, Writes, BatchAnswer, AskResult, Answered, Refused, Broken, CallKind}
+use Rattle.mm_call.proofs.Below.{Move, Foreign, Refusal, Device, fault_of, has_commit, result_of, end_by_fault, end_of_refusal}
+use Rattle.mm_call.proofs.Below.{PlatformStaysOn, IsAt, ◌+◌, suc, length, Result, Ok, subst, arith, ◌==◌, if◌then◌else◌, Instance, Commit}
+use Rattle.mm_call.proofs.Below.{Digests, DeviceStep, Reads, Changes, Writes, BatchAnswer, AskResult, Answered, Refused, Broken, CallKind}
 use Rattle.mm_call.proofs.Below.{committed_position, goes_on, breaks_off, AreStepsToEnd, EndsByFinding, position_if_committed, End, Done}
 use Rattle.mm_call.proofs.Below.{Fails, StepFate, StepsWalk, walk, walk_from_step, step_moves, fate_by_plan, kept_position, is_broken}
 use Rattle.mm_call.proofs.Below.{CountsHandedFault, blamed, blamed_later, state_after_moves, digest_level, fault_in, fates_before_plan}

@@ -6,8 +6,8 @@ use Rattle.mm_call.proofs.Below.{Refusal, Long, Memory, AskResult, Answered, Ref
 use Rattle.mm_call.proofs.Below.{result_of_ending, position_of, position_if_committed, CallKind, AreStepsToEnd, EndsByFinding, IsCallToEnd}
 use Rattle.mm_call.proofs.Below.{IsWholeCall, IsCallSoFar, CallGoesBy, IsCallOnCourse, Course, StepFate, StepsWalk, walk, has_commit}
 use Rattle.mm_call.proofs.Below.{result_of, end_by_fault, end_of_refusal, kept_position, KeepsPosition, EndsAsCall, CallFinding, is_fresh}
-use Rattle.mm_call.proofs.Below.{CallsAgree, IsUntouched, CallLeavesUntouched, CountsHandedFault, fault_handed, state_after_moves, digest_level}
-use Rattle.mm_call.proofs.Below.{fault_of, fault_in, instance_by, StandsAt, fates_before_plan, told_by, begins_at, MakesStep}
+use Rattle.mm_call.proofs.Below.{CallsAgree, IsUntouched, CallLeavesUntouched, CountsHandedFault, fault_handed, state_after_moves}
+use Rattle.mm_call.proofs.Below.{digest_level, fault_of, fault_in, instance_by, StandsAt, fates_before_plan, told_by, begins_at, MakesStep}
 use Rattle.std.specs.Result.{result_err}
 use Rattle.mm_platform.specs.PlannedSteps.{next_plan}
 use Rattle.mm_model.specs.Long.{is_long}

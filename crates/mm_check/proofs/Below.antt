@@ -42,8 +42,8 @@ pub use Rattle.mm_schedule.specs.Replies.{end_line, lines_of_reply, told_lines}
 pub use Rattle.mm_schedule.specs.declared.event.Event.{Event as CodeEvent}
 pub use Rattle.mm_schedule.specs.declared.header.Header.{Header}
 pub use Rattle.mm_schedule.specs.declared.reply.Reply.{Reply}
-pub use Rattle.mm_outcome.specs.Folds.{event_outcome, outcome_by_lists, first_digests, first_snapshots, RunOutcome, outcome_of_events, Outcome}
-pub use Rattle.mm_outcome.specs.Folds.{outcome_by_digests, closing_reply, course_of, reply_of, way_of}
+pub use Rattle.mm_outcome.specs.Folds.{event_outcome, outcome_by_lists, first_digests, first_snapshots, RunOutcome, outcome_of_events}
+pub use Rattle.mm_outcome.specs.Folds.{Outcome, outcome_by_digests, closing_reply, course_of, reply_of, way_of}
 pub use Rattle.mm_outcome.specs.WorldState.{world_of, world_barrier, world_key}
 pub use Rattle.mm_outcome.specs.Premises.{AreGenuine, batches_of, event_messages, event_foreign_values, IsClearRun, IsGenuineEvent}
 pub use Rattle.mm_outcome.specs.Premises.{IsGenuineRun, messages_from, moves_of, AreApart, asked_batches, foreign_values, run_messages}

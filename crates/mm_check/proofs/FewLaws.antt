@@ -189,7 +189,8 @@ pub numbered_few : (i : Instance) (events : List CodeEvent) → length (numbered
 numbered_few i events =
     omega (
       arith,
-      listed_few (numbered_messages_from i first_history (first_snapshots i) (events_of events)) (start_message i.variant i.meaning.id ∷ []),
+      listed_few (numbered_messages_from i first_history (first_snapshots i) (events_of events)) (start_message i.variant i.meaning.id
+      ∷ []),
       from_few i first_history (first_snapshots i) events,
     )
 

@@ -1,9 +1,9 @@
 -- A schedule followed by lists goes on by its events.
 use Rattle.mm_expect.proofs.Below.{◌≡◌, ℕ, List, [], ◌∷◌, ◌++◌, refl, sym, ap, ◌∙◌, option_to_list, Variant, Basic, Opt, AnyModule}
 use Rattle.mm_expect.proofs.Below.{meaning_of, Instance, History, first_history, list_level, instance_by, Header, Event, Outcome}
-use Rattle.mm_expect.proofs.Below.{event_outcome, RunOutcome, outcome_by_lists, first_snapshots, world_of, world_key, world_barrier, goes_on}
-use Rattle.mm_expect.proofs.Below.{EventReply, ChronicleGoesByEvent, ChronicleView, instance_with, ExpectedState, expected_state_after}
-use Rattle.mm_expect.proofs.Below.{first_expected_state, IsAfter}
+use Rattle.mm_expect.proofs.Below.{event_outcome, RunOutcome, outcome_by_lists, first_snapshots, world_of, world_key, world_barrier}
+use Rattle.mm_expect.proofs.Below.{goes_on, EventReply, ChronicleGoesByEvent, ChronicleView, instance_with, ExpectedState}
+use Rattle.mm_expect.proofs.Below.{expected_state_after, first_expected_state, IsAfter}
 
 world_is : (variant : Variant) («module» : AnyModule)
     → instance_with variant «module» ≡ instance_by variant (meaning_of «module») world_key world_barrier

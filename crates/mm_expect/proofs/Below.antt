@@ -71,8 +71,9 @@ pub use Rattle.mm_schedule.specs.declared.header.Header.{Header}
 pub use Rattle.mm_history.specs.Marks.{closed_marks, emptied_marks, grown_marks, linked_marks, marks_of, opened_marks, with_value}
 pub use Rattle.mm_history.specs.Naming.{IsDecided}
 pub use Rattle.mm_history.specs.declared.marks.HistoryMarks.{HistoryMarks}
-pub use Rattle.mm_outcome.specs.Folds.{moves_after_stop, moves_after_checkpoint, course_of, event_outcome, outcome_by_lists, first_snapshots}
-pub use Rattle.mm_outcome.specs.Folds.{RunOutcome, outcome_of_events, moves_after_call, Outcome, reply_of, snapshots_of, way_of, plan_of}
+pub use Rattle.mm_outcome.specs.Folds.{moves_after_stop, moves_after_checkpoint, course_of, event_outcome, outcome_by_lists}
+pub use Rattle.mm_outcome.specs.Folds.{first_snapshots, RunOutcome, outcome_of_events, moves_after_call, Outcome, reply_of, snapshots_of}
+pub use Rattle.mm_outcome.specs.Folds.{way_of, plan_of}
 pub use Rattle.mm_outcome.specs.WorldState.{world_of, world_barrier, world_key}
 pub use Rattle.mm_outcome.specs.Laws.{IsIssued}
 pub use Rattle.mm_outcome.specs.EventOffers.{offered_bytes}

@@ -1,7 +1,7 @@
 -- A schedule followed by lists, as contracts see it.
 use Rattle.std.specs.Prelude.{◌≡◌, ℕ, List, [], ◌∷◌, ◌++◌}
-use Rattle.mm_expect.specs.Below.{History, first_history, list_level, Event, Header, Outcome, event_outcome, outcome_by_lists, first_snapshots}
-use Rattle.mm_expect.specs.Below.{world_of}
+use Rattle.mm_expect.specs.Below.{History, first_history, list_level, Event, Header, Outcome, event_outcome, outcome_by_lists}
+use Rattle.mm_expect.specs.Below.{first_snapshots, world_of}
 
 -- the header; the history; and the issued snapshots by their numbers
 pub record ExpectedState : Type 0 where

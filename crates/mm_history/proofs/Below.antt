@@ -26,7 +26,8 @@ pub use Rattle.mm_model.specs.BatchLaws.{is_same_batch-Decides, total-cons}
 pub use Rattle.mm_model.specs.Chains.{guard, link, register_of, summary_of}
 pub use Rattle.mm_model.specs.ChainsWords.{own_values}
 pub use Rattle.mm_model.specs.FormLaws.{reads_zero}
-pub use Rattle.mm_model.specs.History.{RegisterEntry, History, items_of_all, entries_with_last_batch, requests_of, total_of, extension_value}
+pub use Rattle.mm_model.specs.History.{RegisterEntry, History, items_of_all, entries_with_last_batch, requests_of, total_of}
+pub use Rattle.mm_model.specs.History.{extension_value}
 pub use Rattle.mm_model.specs.HistoryLaws.{has_value-append, renamed-push}
 pub use Rattle.mm_model.specs.HistoryWords.{values_of}
 pub use Rattle.mm_model.specs.Instance.{Instance}

@@ -74,8 +74,8 @@ pub use Rattle.mm_recovery.specs.SlotFit.{first_offer, FitsBy, FitsHistory, IsSn
 pub use Rattle.mm_recovery.specs.LastAnswer.{IsSized, position_at, snapshot_at}
 pub use Rattle.mm_recovery.specs.NextRequest.{HostGoesAfterRecord, AsksNextRequest, record_for}
 pub use Rattle.mm_recovery.specs.Recovery.{AnswersAt, AsksIdly, CanRecover, IsGrown, IsRefusedAs, RequestMayBeCommitted, RecoversTo}
-pub use Rattle.mm_recovery.specs.Resumption.{AsksAndKeepsAnswer, HostGoesAfterAsk, HostGoesAfterFinding, HostGoesAfterOffer, result_of_keep, HostResumes}
-pub use Rattle.mm_recovery.specs.Resumption.{result_of_start}
+pub use Rattle.mm_recovery.specs.Resumption.{AsksAndKeepsAnswer, HostGoesAfterAsk, HostGoesAfterFinding, HostGoesAfterOffer, result_of_keep}
+pub use Rattle.mm_recovery.specs.Resumption.{HostResumes, result_of_start}
 pub use Rattle.mm_recovery.specs.WaitingRequest.{IsWaiting, later_record}
 pub use Rattle.mm_recovery.specs.declared.fault.HostFault.{HostFault}
 pub use Rattle.mm_recovery.specs.declared.resuming.Resumed.{Resumed}
@@ -89,12 +89,13 @@ pub use Rattle.mm_recovery.proofs.Above.{Told, waiting_most, was_powered}
 pub use Rattle.mm_host.specs.AnySlots.{history_after_answer, AreAmong, AreAskedInTurn, AsksNothingNew, EndsRun, MayStart, offer_after}
 pub use Rattle.mm_host.specs.AnySlots.{requests_with, RunsOnce, RunsOnceFrom, SessionRunsOnce}
 pub use Rattle.mm_host.specs.Continuation.{answer_reply, AreNewFrom, AreToldOnce, ContinuesTo, HasUntoldRequest, IsInHand}
-pub use Rattle.mm_host.specs.Continuation.{IsNotBeyond, RequestMayBeUntold, RefusesAs, CallsRunOver, RunsTo, first_served_call, served_calls_in}
+pub use Rattle.mm_host.specs.Continuation.{IsNotBeyond, RequestMayBeUntold, RefusesAs, CallsRunOver, RunsTo, first_served_call}
+pub use Rattle.mm_host.specs.Continuation.{served_calls_in}
 pub use Rattle.mm_host.specs.HonestStore.{ContinuesFrom, MayGoOn, SessionContinues}
 pub use Rattle.mm_host.specs.Continuation.{waiting_position}
 pub use Rattle.mm_host.specs.Sessions.{session_result_of, refusal_text, reply_text, SendsReply, TellsReply, told_cause, served_lines}
-pub use Rattle.mm_host.specs.Sessions.{SessionPlace, replies_to, ServedCall, ServesCalls, SessionGoesAfterResume, BytesBeginWith, turn_answer_of}
-pub use Rattle.mm_host.specs.Sessions.{IsAtRest, most_lines, IsSession, SessionStopsAtOnce, SessionStopsInLine, AsksAndTells, TurnGoes, ServesInput}
-pub use Rattle.mm_host.specs.Sessions.{ServesLine, ServesNext, TurnSends}
+pub use Rattle.mm_host.specs.Sessions.{SessionPlace, replies_to, ServedCall, ServesCalls, SessionGoesAfterResume, BytesBeginWith}
+pub use Rattle.mm_host.specs.Sessions.{turn_answer_of, IsAtRest, most_lines, IsSession, SessionStopsAtOnce, SessionStopsInLine}
+pub use Rattle.mm_host.specs.Sessions.{AsksAndTells, TurnGoes, ServesInput, ServesLine, ServesNext, TurnSends}
 pub use Rattle.mm_host.specs.declared.fault.SessionFault.{SessionFault}
 pub use Rattle.mm_host.specs.declared.fault.SessionFault.TheVariants.{Host, Lines}

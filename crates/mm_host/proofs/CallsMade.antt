@@ -4,9 +4,9 @@ use Rattle.mm_host.proofs.Below.{◌≡◌, ◌∙◌, ℕ, List, [], ◌∷◌,
 use Rattle.mm_host.proofs.Below.{append_assoc, lines_of, Variant, Standing, Meaning, Refusal, StoreFault, ReadsSlot, StoreStanding}
 use Rattle.mm_host.proofs.Below.{PendingRecord, Slots, slot_front, HostFault, SessionFault, Host, Resumed, Start, Answered, first_offer}
 use Rattle.mm_host.proofs.Below.{offer_slot, offer_after, IsCall, IsInHand, first_served_call, served_calls_in, store_fault_as}
-use Rattle.mm_host.proofs.Below.{HostGoesAfterFinding, HostGoesAfterOffer, result_of_start, SendsReply, reply_text, snapshot_at, SessionPlace}
-use Rattle.mm_host.proofs.Below.{ServedCall, ServesCalls, SessionGoesAfterResume, BytesBeginWith, IsSession, SessionStopsAtOnce, IsWaiting, Saw, one_waiting}
-use Rattle.mm_host.proofs.Below.{saw_two, AreAmong, requests_with, served_lines, Answer}
+use Rattle.mm_host.proofs.Below.{HostGoesAfterFinding, HostGoesAfterOffer, result_of_start, SendsReply, reply_text, snapshot_at}
+use Rattle.mm_host.proofs.Below.{SessionPlace, ServedCall, ServesCalls, SessionGoesAfterResume, BytesBeginWith, IsSession}
+use Rattle.mm_host.proofs.Below.{SessionStopsAtOnce, IsWaiting, Saw, one_waiting, saw_two, AreAmong, requests_with, served_lines, Answer}
 use Rattle.mm_recovery.specs.declared.fault.HostFault.TheVariants as host
 use Rattle.mm_host.specs.Sessions.{SessionGoesOn, ServesAllLines}
 use Rattle.mm_host.proofs.Lines.{answered_call, asks, by_end, by_told, IsRead, line_tries, lines_in, never_refused, TellsCall}

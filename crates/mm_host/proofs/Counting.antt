@@ -3,9 +3,9 @@ use Rattle.mm_host.proofs.Below.{ℕ, ◌≡◌, ◌≢◌, ◌+◌, ◌≤◌, 
 use Rattle.mm_host.proofs.Below.{inl, inr, arith, is_some, length-append, lines_of, lines_of-joined, lines_of-line, Variant, Basic, Opt}
 use Rattle.mm_host.proofs.Below.{Standing, StepFault, Meaning, Refusal, CountsHandedFault, fault_of, StoreStanding, HostFault, SessionFault}
 use Rattle.mm_host.proofs.Below.{Host, Resumed, Start, Answered, RequestMayBeUntold, SendsReply, told_cause, refusal_text, reply_text}
-use Rattle.mm_host.proofs.Below.{SessionPlace, ServedCall, ServesCalls, served_lines, SessionGoesAfterResume, BytesBeginWith, IsSession, Told}
-use Rattle.mm_host.proofs.Below.{next_told, resumes_told, AnsweredWrites, CameWrites, answered_writes, both_writes, next_came, new_most}
-use Rattle.mm_host.proofs.Below.{resumes_came, counted_most, joined, leads_rest, rests}
+use Rattle.mm_host.proofs.Below.{SessionPlace, ServedCall, ServesCalls, served_lines, SessionGoesAfterResume, BytesBeginWith, IsSession}
+use Rattle.mm_host.proofs.Below.{Told, next_told, resumes_told, AnsweredWrites, CameWrites, answered_writes, both_writes, next_came}
+use Rattle.mm_host.proofs.Below.{new_most, resumes_came, counted_most, joined, leads_rest, rests}
 use Rattle.std.specs.Prelude.{IsSome}
 use Rattle.mm_model.specs.declared.refusal.Refusal.TheVariants.{Device}
 use Rattle.mm_play.specs.PlaysInput.{IsBlamed}
@@ -182,7 +182,8 @@ lines_most (c ∷ calls) =
     let rest = lines_most calls in
     omega (arith, one, rest)
 
-for_most : (variant : Variant) (n : ℕ) (before after : Standing) → CellIsWrittenFor variant n before after → after.writes ≤ before.writes + n
+for_most : (variant : Variant) (n : ℕ) (before after : Standing) → CellIsWrittenFor variant n before after → after.writes ≤ before.writes
+    + n
 for_most Basic n before after w = let most = counted_most n before.writes in omega (arith, w, most)
 for_most Opt n before after w = w.each
 

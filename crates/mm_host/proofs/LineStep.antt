@@ -1,7 +1,7 @@
 -- What a line comes to by lists, from where a session stands.
 use Rattle.mm_host.proofs.Below.{◌≡◌, ◌≢◌, ◌∙◌, ◌+◌, ◌-◌, ◌%◌, ℕ, List, Option, None, Some, Result, Ok, Err, IfOk, refl, sym, ap, inl}
-use Rattle.mm_host.proofs.Below.{arith, ◌⊎◌, nat_eq, take_all, IsLineFront, longest_request, Standing, Batch, One, Content, Instance, History}
-use Rattle.mm_host.proofs.Below.{requests_of, total_of, LostLife, life_of, IsRight, Answer, BatchAnswer, Refusal, batch_answer_of}
+use Rattle.mm_host.proofs.Below.{arith, ◌⊎◌, nat_eq, take_all, IsLineFront, longest_request, Standing, Batch, One, Content, Instance}
+use Rattle.mm_host.proofs.Below.{History, requests_of, total_of, LostLife, life_of, IsRight, Answer, BatchAnswer, Refusal, batch_answer_of}
 use Rattle.mm_host.proofs.Below.{batch_result_of, StoreFault, WritesSlot, slots_with_bytes, StoreStanding, PendingRecord, pending_spelling}
 use Rattle.mm_host.proofs.Below.{Slots, longest_slot, slot_front, slots_with, longest_slot-is, HostFault, Resumed, Start, Answered}
 use Rattle.mm_host.proofs.Below.{IsNotBeyond, waiting_position, refusal_fault, store_fault_as, FitsHistory, FitsBy, IsSnapshotAt}
@@ -109,7 +109,8 @@ module _ {all others : List (List ℕ)} {asked : List Batch} {i : Instance} {fin
       between_called y z old middle offer p answer rest s f may reaches c
   between_told y z old middle offer p (Err why) resumed rest s f may reaches c told = let clash = told why refl in absurd (cc)
 
-  module _ (at : SessionPlace) (line : List ℕ) (settled : IsSettledAt all others asked i at) (within : IsLineFront longest_request line) where
+  module _ (at : SessionPlace) (line : List ℕ) (settled : IsSettledAt all others asked i at)
+      (within : IsLineFront longest_request line) where
     abbrev y : History
     y = settled.after
 

@@ -67,7 +67,8 @@ kept_tells : (answer : Answer) (written : Result Unit StoreFault) (came : Result
 kept_tells answer (Ok it) came e = inl e
 kept_tells answer (Err why) came e = inr (why, e)
 
-pub tells_call : (call : Result Answer Refusal) (old new : StoreStanding) (came : Result Resumed HostFault) → HostGoesAfterAsk call old new came
+pub tells_call : (call : Result Answer Refusal) (old new : StoreStanding) (came : Result Resumed HostFault)
+    → HostGoesAfterAsk call old new came
     → TellsCall call came
 tells_call (Err why) old new came g = g.1
 tells_call (Ok answer) old new came g = kept_tells answer g.written came g.gives

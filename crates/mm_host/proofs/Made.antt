@@ -3,8 +3,8 @@ use Rattle.mm_host.proofs.Below.{◌≡◌, ◌∙◌, ℕ, List, [], ◌∷◌,
 use Rattle.mm_host.proofs.Below.{PendingRecord, SessionFault, Host, SessionPlace, ServedCall, IsAtRest, Ok, served_lines, AreAmong}
 use Rattle.mm_host.proofs.Below.{first_served_call, IsSession, SessionGoesAfterResume, sym, Variant, append_assoc, append_cancel_left}
 use Rattle.mm_host.specs.Sessions.{ServesAllLines}
-use Rattle.mm_host.proofs.Below.{◌+◌, length, Meaning, BytesBeginWith, turn_answer_of, IsMade, Lines, Memory, TurnGoes, SessionStopsInLine, StoreFault}
-use Rattle.mm_host.proofs.Below.{WriteFault}
+use Rattle.mm_host.proofs.Below.{◌+◌, length, Meaning, BytesBeginWith, turn_answer_of, IsMade, Lines, Memory, TurnGoes, SessionStopsInLine}
+use Rattle.mm_host.proofs.Below.{StoreFault, WriteFault}
 use Rattle.mm_host.proofs.Lines.{IsByInput}
 
 -- A line in hand is one of the requests, where it was asked.

@@ -8,8 +8,9 @@ use Rattle.mm_host.proofs.Below.{BadLine, TooMuch, IsCall, StoreFault, offer_aft
 use Rattle.mm_host.proofs.Below.{finding_at, digest_level, fault_of, by_refusal, IsInHand, parts_of, HostFault, Resumed, SendsReply}
 use Rattle.mm_host.proofs.Below.{reply_text, store_fault_as, refusal_fault, snapshot_at, PendingRecord, Slots, slot_front, IsWaiting}
 use Rattle.mm_host.proofs.Below.{first_offer, requests_with, served_lines, served_calls_in, first_served_call, lines_of, lines_of-append}
-use Rattle.mm_host.proofs.Below.{IsUnbroken, IsLong, longest_request, most_lines, SessionGoesAfterResume, SessionStopsAtOnce, SessionStopsInLine}
-use Rattle.mm_host.proofs.Below.{lines_with_front, InBasic, InOpt, if◌then◌else◌, later_record, SessionPlace, ReadsPendingRecord}
+use Rattle.mm_host.proofs.Below.{IsUnbroken, IsLong, longest_request, most_lines, SessionGoesAfterResume, SessionStopsAtOnce}
+use Rattle.mm_host.proofs.Below.{SessionStopsInLine, lines_with_front, InBasic, InOpt, if◌then◌else◌, later_record, SessionPlace}
+use Rattle.mm_host.proofs.Below.{ReadsPendingRecord}
 use Rattle.std.specs.Prelude.{◌<◌, IfSome, nat_le}
 use Rattle.mm_base.specs.InputLaws.{lines_of-unbroken}
 use Rattle.mm_base.specs.declared.replay_fault.ReplayFault.TheVariants.{ReadFault}
@@ -199,7 +200,8 @@ next_ends : {variant : Variant} {meaning : Meaning} {from : SessionPlace} {after
     (l : ServesAllLines variant meaning 1 from after new left taken sent result) (r : IsRead input taken left) (request : List ℕ)
     (lines : List (List ℕ)) → lines_of (l.more ++ r.rest) ≡ request ∷ lines → length request ≤ longest_request
     → length l.calls + 1 ≤ most_lines
-    → ((fault : SessionFault) → SessionStopsInLine variant meaning (length l.calls + 1) l.at after new l.more l.last fault → EndsFor why fault)
+    → ((fault : SessionFault) → SessionStopsInLine variant meaning (length l.calls + 1) l.at after new l.more l.last fault
+    → EndsFor why fault)
     → RefusesOrFails why result
 next_ends why (Ok done) l r request lines e short few stops =
     none_next l.more r.rest request lines (rw l.ends.1 (λ k d h. absurd (omega (arith, h)))) (r.at_end l.ends.2) e

@@ -1,7 +1,7 @@
 -- What waits, and what fits, once the record of a next request was written, whole or torn.
-use Rattle.mm_host.proofs.Below.{◌≡◌, ◌∙◌, ◌+◌, ◌-◌, ◌%◌, ◌<◌, ◌≤◌, ℕ, List, take, Option, None, Some, refl, sym, ap, inl, inr, arith}
-use Rattle.mm_host.proofs.Below.{◌⊎◌, nat_tests, IsLineFront, last_position, longest_request, Instance, History, total_of}
-use Rattle.mm_host.proofs.Below.{PendingRecord, ReadsPendingRecord, pending_spelling, Slots, longest_slot, slot_front, slots_with, one_reading}
+use Rattle.mm_host.proofs.Below.{◌≡◌, ◌∙◌, ◌+◌, ◌-◌, ◌%◌, ◌<◌, ◌≤◌, ℕ, List, take, Option, None, Some, refl, sym, ap, inl, inr, arith, ◌⊎◌}
+use Rattle.mm_host.proofs.Below.{nat_tests, IsLineFront, last_position, longest_request, Instance, History, total_of, PendingRecord}
+use Rattle.mm_host.proofs.Below.{ReadsPendingRecord, pending_spelling, Slots, longest_slot, slot_front, slots_with, one_reading}
 use Rattle.mm_host.proofs.Below.{IsNotBeyond, waiting_position, FitsHistory, FitsBy, IsSnapshotAt, IsWaiting, later_record}
 use Rattle.std.proofs.lemmas.Bool.{cases_lt}
 use Rattle.mm_store.proofs.Above.{slot_in-with_slot}
@@ -125,7 +125,8 @@ waits_next slots other position bytes w next a h n p =
 -- a torn record
 
 -- what isn't in this slot is of the other parity
-elsewhere : (slot other position : ℕ) (xs ys : List ℕ) (a b w : Option PendingRecord) → ReadsPendingRecord slot xs a → ReadsPendingRecord other ys b
+elsewhere : (slot other position : ℕ) (xs ys : List ℕ) (a b w : Option PendingRecord) → ReadsPendingRecord slot xs a
+    → ReadsPendingRecord other ys b
     → other ≡ 2 + (position + 1) % 2 → (w ≡ a) ⊎ (w ≡ b) → waiting_position a ≤ waiting_position w
     → (w ≡ a) ⊎ (waiting_position w % 2 ≡ (position + 1) % 2)
 elsewhere slot other position xs ys a b w v u n (inl e) h = inl e

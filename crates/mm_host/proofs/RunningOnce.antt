@@ -47,7 +47,8 @@ pub only_by : {A : Type 0} (call : Result Answer Refusal) (came : Result Resumed
     → ((why : Refusal) → batch_result_of call ≡ Err why → fault_of why ≡ None → A) → A ⊎ RequestMayBeCommitted came
 only_by (Err why) came t still = elim (by_fault why (fault_of why) refl (still why refl)) [
   | inl some ↦ inr (rw t
-      (by_refusal (λ (w : Refusal) (f : HostFault). IsSome (fault_of w) → RequestMayBeCommitted {T = Resumed} (Err f)) (λ e. tt) (λ w n e. e) why
+      (by_refusal (λ (w : Refusal) (f : HostFault). IsSome (fault_of w) → RequestMayBeCommitted {T = Resumed} (Err f))
+      (λ e. tt) (λ w n e. e) why
       some))
   | inr it ↦ inl it
 ]

@@ -1,16 +1,17 @@
 -- A session by lists, in either variant: from what waited, over the lines, to each of its ends.
 use Rattle.mm_host.proofs.Below.{◌≡◌, ◌≢◌, ◌∙◌, ℕ, List, [], ◌∷◌, ◌++◌, Option, None, Some, Result, Err, refl, ap, inl, inr, ◌⊎◌, Standing}
 use Rattle.mm_host.proofs.Below.{Batch, One, Instance, History, requests_of, LostLife, life_of, requests-push, StoreStanding, PendingRecord}
-use Rattle.mm_host.proofs.Below.{Refusal, HostFault, SessionFault, Host, Resumed, ContinuesTo, HasUntoldRequest, RequestMayBeUntold, RefusesAs}
-use Rattle.mm_host.proofs.Below.{CallsRunOver, IsGrown, RequestMayBeCommitted, SendsReply, session_result_of, reply_text, SessionPlace}
-use Rattle.mm_host.proofs.Below.{ServedCall, IsAtRest, Ok, Slots, Answered, FitsBy, RecoversTo, record_for, ServesCalls, served_lines}
-use Rattle.mm_host.proofs.Below.{AreAmong, AreAskedInTurn, history_after_answer, snapshot_at, batch_result_of, slot_front, Answer, IsInHand}
-use Rattle.mm_host.proofs.Below.{first_served_call, served_calls_in, first_offer, requests_with, AreNewFrom, AreToldOnce, offer_slot}
-use Rattle.mm_host.proofs.Below.{HostResumes, IsSession, SessionGoesAfterResume, SessionStopsAtOnce, NoMore, left_by, IsCall, IsWaiting, recovers_by, Met}
-use Rattle.mm_host.proofs.Below.{IfOk, subst, sym, total_of, refusal_fault, RunsTo, StandsFor, IsWithin, Variant, true}
+use Rattle.mm_host.proofs.Below.{Refusal, HostFault, SessionFault, Host, Resumed, ContinuesTo, HasUntoldRequest, RequestMayBeUntold}
+use Rattle.mm_host.proofs.Below.{RefusesAs, CallsRunOver, IsGrown, RequestMayBeCommitted, SendsReply, session_result_of, reply_text}
+use Rattle.mm_host.proofs.Below.{SessionPlace, ServedCall, IsAtRest, Ok, Slots, Answered, FitsBy, RecoversTo, record_for, ServesCalls}
+use Rattle.mm_host.proofs.Below.{served_lines, AreAmong, AreAskedInTurn, history_after_answer, snapshot_at, batch_result_of, slot_front}
+use Rattle.mm_host.proofs.Below.{Answer, IsInHand, first_served_call, served_calls_in, first_offer, requests_with, AreNewFrom, AreToldOnce}
+use Rattle.mm_host.proofs.Below.{offer_slot, HostResumes, IsSession, SessionGoesAfterResume, SessionStopsAtOnce, NoMore, left_by, IsCall}
+use Rattle.mm_host.proofs.Below.{IsWaiting, recovers_by, Met, IfOk, subst, sym, total_of, refusal_fault, RunsTo, StandsFor, IsWithin}
+use Rattle.mm_host.proofs.Below.{Variant, true}
 use Rattle.mm_host.specs.Sessions.{SessionGoesOn}
-use Rattle.mm_host.proofs.Below.{◌+◌, ◌%◌, length, IsLineFront, longest_request, HostGoesAfterRecord, BytesBeginWith, turn_answer_of, IsMade, Enters}
-use Rattle.mm_host.proofs.Below.{Lines, pending_spelling, position_at, TurnGoes, StoreFault, WriteFault, WritesSlot}
+use Rattle.mm_host.proofs.Below.{◌+◌, ◌%◌, length, IsLineFront, longest_request, HostGoesAfterRecord, BytesBeginWith, turn_answer_of}
+use Rattle.mm_host.proofs.Below.{IsMade, Enters, Lines, pending_spelling, position_at, TurnGoes, StoreFault, WriteFault, WritesSlot}
 use Rattle.mm_recovery.specs.declared.fault.HostFault.TheVariants as host
 use Rattle.mm_host.proofs.CallsMade.{first_told, InHand, lines_chain, served_calls}
 use Rattle.mm_host.proofs.InTurn.{calls_reach, chain_reaches, ends_reach, May, met_last, StandsIn}
@@ -43,7 +44,8 @@ store_came came sent fault (inr s) e = absurd (s.1 (ap reply_text e))
 pub line_committed : (z after : History) (line : List ℕ) (came : Result Resumed HostFault) (sent : List ℕ) (fault : SessionFault)
     (hand : List ℕ → Type 0) → hand line → SendsReply came sent (Err fault) → (after.batches ≡ z.batches) ⊎ RequestMayBeCommitted came
     → (after.batches ≡ z.batches) ⊎ (after.batches ≡ z.batches ++ One line ∷ [])
-    → (requests_of after.batches ≡ requests_of z.batches) ⊎ HasUntoldRequest hand (Err fault) (requests_of z.batches) (requests_of after.batches)
+    → (requests_of after.batches ≡ requests_of z.batches) ⊎ HasUntoldRequest hand (Err fault) (requests_of z.batches)
+    (requests_of after.batches)
 line_committed z after line came sent fault hand h s (inl same) g = inl (ap requests_of same)
 line_committed z after line came sent fault hand h s (inr may) (inl same) = inl (ap requests_of same)
 line_committed z after line came sent fault hand h s (inr may) (inr more) = inr (record {
@@ -58,7 +60,8 @@ waiting_committed : (y after : History) (waiting : Option PendingRecord) (begun 
     (fault : SessionFault)
     (hand : List ℕ → Type 0) → ((p : PendingRecord) → waiting ≡ Some p → hand p.request) → SendsReply begun sent (Err fault)
     → (after.batches ≡ y.batches) ⊎ RequestMayBeCommitted begun → IsGrown y waiting after
-    → (requests_of after.batches ≡ requests_of y.batches) ⊎ HasUntoldRequest hand (Err fault) (requests_of y.batches) (requests_of after.batches)
+    → (requests_of after.batches ≡ requests_of y.batches) ⊎ HasUntoldRequest hand (Err fault) (requests_of y.batches)
+    (requests_of after.batches)
 waiting_committed y after None begun sent fault hand h s o g = inl (ap requests_of g)
 waiting_committed y after (Some p) begun sent fault hand h s o g = line_committed y after p.request begun sent fault hand (h p refl) s o g
 

@@ -3,9 +3,9 @@ use Rattle.mm_host.proofs.Below.{◌≡◌, ◌≢◌, ◌∙◌, ◌+◌, ℕ, 
 use Rattle.mm_host.proofs.Below.{nat_eq, Standing, Batch, One, Instance, History, requests_of, total_of, LostLife, life_of, StandsFor}
 use Rattle.mm_host.proofs.Below.{Answer, BatchAnswer, Refusal, answer_on, IsWithin, batch_answer_of, StoreStanding, PendingRecord, Slots}
 use Rattle.mm_host.proofs.Below.{HostFault, Resumed, Start, Answered, IsNotBeyond, waiting_position, refusal_fault, FitsHistory, FitsBy}
-use Rattle.mm_host.proofs.Below.{AnswersAt, IsGrown, RequestMayBeCommitted, RecoversTo, IsRefusedAs, position_at, SessionPlace, CallsRunOver}
-use Rattle.mm_host.proofs.Below.{first_served_call, inr, last_position, subst, ◌≤◌, ◌++◌, Variant, Life, StepFault, fault_of, by_refusal}
-use Rattle.mm_host.proofs.Below.{AreNewFrom, AreToldOnce, RefusesAs, ServedCall, Host}
+use Rattle.mm_host.proofs.Below.{AnswersAt, IsGrown, RequestMayBeCommitted, RecoversTo, IsRefusedAs, position_at, SessionPlace}
+use Rattle.mm_host.proofs.Below.{CallsRunOver, first_served_call, inr, last_position, subst, ◌≤◌, ◌++◌, Variant, Life, StepFault, fault_of}
+use Rattle.mm_host.proofs.Below.{by_refusal, AreNewFrom, AreToldOnce, RefusesAs, ServedCall, Host}
 use Rattle.mm_model.specs.declared.refusal.Refusal.TheVariants as refusal
 use Rattle.mm_recovery.specs.declared.fault.HostFault.TheVariants as host
 use Rattle.mm_host.proofs.Leading.{answered_first, same_pending}

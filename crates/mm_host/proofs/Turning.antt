@@ -2,9 +2,10 @@
 use Rattle.mm_host.proofs.Below.{◌≡◌, ℕ, List, [], ◌++◌, Option, Result, Ok, Err, refl, ap, inl, inr, Appends-nil, Appends-trans}
 use Rattle.mm_host.proofs.Below.{Consumes-nil, Variant, Standing, Meaning, StoreStanding, HostFault, SessionFault, Host, Resumed}
 use Rattle.mm_host.proofs.Below.{HostResumes, SendsReply, TellsReply, session_result_of, reply_text, IsSession, ServesInput, ◌∙◌, ◌+◌, ◌≤◌}
-use Rattle.mm_host.proofs.Below.{◌∷◌, sym, append_assoc, arith, longest_request, Lines, WriteFault, AsksNextRequest, SessionPlace, BytesBeginWith}
-use Rattle.mm_host.proofs.Below.{SessionStopsInLine, most_lines, ServesNext, TurnGoes, length, Some, Consumes-trans, joined_lines, Answered}
-use Rattle.mm_host.proofs.Below.{served_lines, replies_to, ServesLine, AsksAndTells, TurnSends, ServedCall, turn_answer_of}
+use Rattle.mm_host.proofs.Below.{◌∷◌, sym, append_assoc, arith, longest_request, Lines, WriteFault, AsksNextRequest, SessionPlace}
+use Rattle.mm_host.proofs.Below.{BytesBeginWith, SessionStopsInLine, most_lines, ServesNext, TurnGoes, length, Some, Consumes-trans}
+use Rattle.mm_host.proofs.Below.{joined_lines, Answered, served_lines, replies_to, ServesLine, AsksAndTells, TurnSends, ServedCall}
+use Rattle.mm_host.proofs.Below.{turn_answer_of}
 use Rattle.mm_base.specs.ReadsNextLine.{ReadsNextLine}
 use Rattle.mm_base.specs.declared.lines.LineFault.{LineFault}
 use Rattle.mm_base.specs.declared.lines.Read.{Read}

@@ -5,8 +5,8 @@ use Rattle.std.specs.Prelude.{◌⊎◌}
 use Rattle.std.proofs.Common.{inl, inr}
 use Rattle.mm_host.specs.Below.{last_position, WriteFault, Variant, Standing, Batch, One, Meaning, History, requests_of, total_of, Instance}
 use Rattle.mm_host.specs.Below.{Spoiled, LostLife, life_of, StandsFor, Answer, IsWithin, IsBatchStep, Reply, Told, StoreStanding}
-use Rattle.mm_host.specs.Below.{PendingRecord, Slots, slot_front, FitsHistory, IsRefusedAs, RequestMayBeCommitted, IsWaiting, HostFault, Store}
-use Rattle.mm_host.specs.Below.{Refused, Resumed, Answered}
+use Rattle.mm_host.specs.Below.{PendingRecord, Slots, slot_front, FitsHistory, IsRefusedAs, RequestMayBeCommitted, IsWaiting, HostFault}
+use Rattle.mm_host.specs.Below.{Store, Refused, Resumed, Answered}
 use Rattle.mm_model.specs.declared.refusal.Refusal.TheVariants.{Full}
 use Rattle.mm_host.specs.declared.fault.SessionFault.{SessionFault}
 use Rattle.mm_host.specs.declared.fault.SessionFault.TheVariants.{Host, Lines}

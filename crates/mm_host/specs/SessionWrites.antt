@@ -1,8 +1,8 @@
 -- How often a session is to write the cell.
 use Rattle.std.specs.Prelude.{◌≢◌, ◌+◌, ◌≤◌, ℕ, List, [], ◌∷◌, length, Option, Result}
 use Rattle.std.proofs.Common.{inl, inr}
-use Rattle.mm_host.specs.Below.{lines_of, Variant, Standing, Meaning, StoreStanding, CellIsWrittenFor, new_requests_by, new_requests_at, HostFault}
-use Rattle.mm_host.specs.Below.{Resumed}
+use Rattle.mm_host.specs.Below.{lines_of, Variant, Standing, Meaning, StoreStanding, CellIsWrittenFor, new_requests_by, new_requests_at}
+use Rattle.mm_host.specs.Below.{HostFault, Resumed}
 use Rattle.mm_host.specs.declared.fault.SessionFault.{SessionFault}
 use Rattle.mm_host.specs.Continuation.{RequestMayBeUntold}
 use Rattle.mm_host.specs.Sessions.{ServedCall, SessionGoesAfterResume, IsSession}
@@ -17,7 +17,8 @@ abbrev pub new_told_requests : {variant : Variant} {meaning : Meaning}
     {platform after : Standing}
     {store new : StoreStanding} {left : Option (List ℕ)} {taken sent : List ℕ}
     {result : Result Unit SessionFault}
-    → SessionGoesAfterResume variant meaning begun platform after store new left taken sent result → ℕ
+    → SessionGoesAfterResume variant meaning begun platform after store new left taken sent result
+    → ℕ
 new_told_requests (inl stops) = 0
 new_told_requests (inr goes) = new_requests_at goes.first + new_lines goes.lines.calls
 

@@ -111,7 +111,8 @@ module _ (variant : Variant) (meaning : Meaning) where
     pub within : IsLineFront longest_request c.line
     pub platform : Standing
     pub store : StoreStanding
-    pub asks : AsksNextRequest variant meaning from.platform platform from.store store from.last c.line
+    pub asks : AsksNextRequest variant meaning from.platform platform from.store
+        store from.last c.line
         (Ok (Answered c.answer))
     pub rest : goes (record { platform = platform; store = store; last = Answered c.answer })
 

@@ -19,8 +19,8 @@ use Rattle.mm_recovery.specs.declared.resuming.Resumed.{Resumed}
 use Rattle.mm_recovery.specs.declared.resuming.Resumed.TheVariants.{Answered, Start}
 use Rattle.mm_host.specs.AnySlots.{offer_after}
 use Rattle.mm_host.specs.Continuation.{IsInHand, first_served_call, served_calls_in}
-use Rattle.mm_host.specs.Sessions.{SessionGoesAfterResume, BytesBeginWith, SessionPlace, SendsReply, ServedCall, TurnGoes, IsSession, SessionStopsInLine}
-use Rattle.mm_host.specs.Sessions.{turn_answer_of}
+use Rattle.mm_host.specs.Sessions.{SessionGoesAfterResume, BytesBeginWith, SessionPlace, SendsReply, ServedCall, TurnGoes, IsSession}
+use Rattle.mm_host.specs.Sessions.{SessionStopsInLine, turn_answer_of}
 use Rattle.mm_host.specs.declared.fault.SessionFault.{SessionFault}
 use Rattle.mm_host.specs.declared.fault.SessionFault.TheVariants.{Host, Lines}
 use Rattle.mm_host.proofs.Above.{CallsInTurn, TellsCall, last_offer, served_calls, tells_call}

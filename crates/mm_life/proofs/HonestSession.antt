@@ -303,7 +303,8 @@ module _ {all others : List (List ℕ)} {asked : List Batch} {i : Instance} {fin
   none_told None f = tt
   none_told (Some p) f = tt
 
-  on_rests : (goes : SessionGoesAfterResume i.variant i.meaning s.begun s.platform final s.store new left' s.taken s.sent result) → (kept : Bool)
+  on_rests : (goes : SessionGoesAfterResume i.variant i.meaning s.begun s.platform final s.store new left' s.taken s.sent result)
+      → (kept : Bool)
       → kept ≡ true → Rests before s.platform slots kept s.store s.begun → OnBy goes
   on_rests (inr g) kept e r =
       let clash : Ok g.first ≡ Err (store_fault_as r.why) = sym g.begins ∙ r.is in absurd (cc)

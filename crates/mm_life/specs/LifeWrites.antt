@@ -87,7 +87,8 @@ turns_unless_stopped (suc stops) before after = 0
 abbrev pub segment_turns : Standing → List LifeStage → ℕ
 segment_turns start [] = 0
 segment_turns start (stage ∷ stages) =
-    turns_unless_stopped (part_stop stage.part) (has_open_segment start) (has_open_segment stage.after)
+    turns_unless_stopped (part_stop stage.part) (has_open_segment start)
+    (has_open_segment stage.after)
     + segment_turns stage.after stages
 
 -- The cell was to be written once for each of so many that are due, and at most once for what was

@@ -3,8 +3,9 @@ use Rattle.std.specs.Prelude.{◌≡◌, ℕ, List, [], ◌∷◌, ◌++◌, Opt
 use Rattle.std.proofs.Common.{inl, inr}
 use Rattle.mm_base.specs.declared.replay_fault.ReplayFault.TheVariants.{WriteFault}
 use Rattle.mm_life.specs.Below.{Variant, Standing, Meaning, StoreFault, StoreStanding, PendingRecord, snapshot_at, HostGoesAfterRecord}
-use Rattle.mm_life.specs.Below.{AsksNextRequest, HostGoesAfterFinding, HostGoesAfterOffer, AsksAndKeepsAnswer, HostFault, Resumed, SessionGoesAfterResume, SessionPlace}
-use Rattle.mm_life.specs.Below.{ServedCall, TurnGoes, IsSession, IsInHand, turn_answer_of, served_calls_in, SessionFault}
+use Rattle.mm_life.specs.Below.{AsksNextRequest, HostGoesAfterFinding, HostGoesAfterOffer, AsksAndKeepsAnswer, HostFault, Resumed}
+use Rattle.mm_life.specs.Below.{SessionGoesAfterResume, SessionPlace, ServedCall, TurnGoes, IsSession, IsInHand, turn_answer_of}
+use Rattle.mm_life.specs.Below.{served_calls_in, SessionFault}
 use Rattle.mm_host.specs.declared.fault.SessionFault.TheVariants.{Host, Lines}
 use Rattle.mm_life.specs.Deeds.{LifeCall}
 
@@ -60,7 +61,8 @@ offer_after_finding variant meaning before after (Err why) old new result a = []
 abbrev pub recorded_calls : (variant : Variant) (meaning : Meaning) (before after : Standing)
     (recorded : Result Unit StoreFault) (old new : StoreStanding) (last : Resumed)
     (line : List ℕ) (result : Result Resumed HostFault)
-    → HostGoesAfterRecord variant meaning before after recorded old new last line result → List LifeCall
+    → HostGoesAfterRecord variant meaning before after recorded old new last line result
+    → List LifeCall
 recorded_calls variant meaning before after (Ok it) old new last line result a =
     one_call variant meaning before after (snapshot_at last) line a
 recorded_calls variant meaning before after (Err why) old new last line result a = []

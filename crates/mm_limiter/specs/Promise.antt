@@ -17,7 +17,8 @@ abbrev pub TellsFewWrong : List (List ℕ) → List Telling → Type 0
 TellsFewWrong requests tellings =
     let outputs = outputs_from limiter limiter.first requests in
     (from size : ℕ) → list_any is_renewal (stretch from size outputs) ≡ false
-    → count_by (has_wrong_guess tellings) (range_with_len from size) ≤ allowed_guesses requests outputs
+    → count_by (has_wrong_guess tellings) (range_with_len from size)
+    ≤ allowed_guesses requests outputs
 
 -- What a limiter promises: between two outputs `set` or `open`, and after the last, wrong guesses
 -- run out, whether they were told or not; and so do those that were told, however often.

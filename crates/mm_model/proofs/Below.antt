@@ -25,8 +25,8 @@ pub use Rattle.mm_model.specs.EndLaws.{ended}
 pub use Rattle.mm_model.specs.FormLaws.{again_tells, IsClearFromStart, fresh_tells, HasListedMessages, listed_segment, listed_value}
 pub use Rattle.mm_model.specs.FormLaws.{point_of, reads_zero, zero_register}
 pub use Rattle.mm_model.specs.History.{Close, Commit, history_after_commit, RegisterEntry, Foreign, History, items_of_all, Move}
-pub use Rattle.mm_model.specs.History.{history_after, Own, Placed, Power, register_value_of, entries_with_last_batch, Reset, total_of, Value}
-pub use Rattle.mm_model.specs.History.{extension_value}
+pub use Rattle.mm_model.specs.History.{history_after, Own, Placed, Power, register_value_of, entries_with_last_batch, Reset, total_of}
+pub use Rattle.mm_model.specs.History.{Value, extension_value}
 pub use Rattle.mm_model.specs.HistoryLaws.{batches_in-append, has_value-append, joined-values, length-batches_in, meets, own_values-append}
 pub use Rattle.mm_model.specs.HistoryLaws.{register_more, renamed-push, sooner, values_of-append, values_of-clean, values_of-own}
 pub use Rattle.mm_model.specs.HistoryLaws.{values_renamed}

@@ -4,9 +4,10 @@ use Rattle.mm_model.proofs.Below.{subst, arith, length-append, AllByRecursion, C
 use Rattle.mm_model.proofs.Below.{take-append-le, drop-append-le, take_all, take_at, drop_at, Opt, start_digest_of, extended_message}
 use Rattle.mm_model.proofs.Below.{anchored_message, Batch, Meaning, guard_message, closing_message, guard, own_values, Instance}
 use Rattle.mm_model.proofs.Below.{opt_instance, RegisterEntry, Own, Value, History, Move, Commit, Foreign, Placed, Close, items_of_all}
-use Rattle.mm_model.proofs.Below.{extension_value, entries_with_last_batch, history_after, values_of, IsSound, IsClean, batches_in, AreMessagesIn}
-use Rattle.mm_model.proofs.Below.{register_trail, closed_runs, runs_of, messages_of, MayMove, batch_messages, each_append, trail_push}
-use Rattle.mm_model.proofs.Below.{nil_from_length, listed_value, own_values-append, values_of-append, length-batches_in, values_renamed}
+use Rattle.mm_model.proofs.Below.{extension_value, entries_with_last_batch, history_after, values_of, IsSound, IsClean, batches_in}
+use Rattle.mm_model.proofs.Below.{AreMessagesIn, register_trail, closed_runs, runs_of, messages_of, MayMove, batch_messages, each_append}
+use Rattle.mm_model.proofs.Below.{trail_push, nil_from_length, listed_value, own_values-append, values_of-append, length-batches_in}
+use Rattle.mm_model.proofs.Below.{values_renamed}
 use Rattle.mm_model.specs.Chains.{register_of, anchor_of}
 use Rattle.mm_model.specs.MessagesWords.{move_messages}
 use Rattle.mm_model.proofs.Paths.{RunsListed, current_clean, shut_current, runs_parts}

@@ -2,12 +2,12 @@
 use Rattle.mm_model.proofs.Below.{ℕ, ◌≡◌, Bool, true, false, List, [], ◌∷◌, ◌++◌, refl, sym, ap, ◌∙◌, inl, inr, append_assoc, map}
 use Rattle.mm_model.proofs.Below.{append-nil, map-append, and_from, and_parts, Opt, Batch, Meaning, guard, register_of, anchor_of, Instance}
 use Rattle.mm_model.proofs.Below.{opt_instance, basic_instance, RegisterEntry, Own, Value, History, Move, Commit, Foreign, Placed, Reset}
-use Rattle.mm_model.proofs.Below.{Close, Power, items_of_all, entries_with_last_batch, history_after, history_after_commit, is_empty, has_value}
-use Rattle.mm_model.proofs.Below.{are_own, is_same_batch, IsSound, AreItems, batches_in, IsOpening, IsAllowed, MayMove, Digests, digests_of}
-use Rattle.mm_model.proofs.Below.{digests_after, digests_after_commit, IsOutside, MoveBrings, each_append, each_left, is_same_batch-Decides}
-use Rattle.mm_model.proofs.Below.{total-push, true_not_false, joined-push, has_value-append, batches_in-append, register_more}
-use Rattle.mm_model.proofs.Below.{values_renamed, renamed-push, if◌then◌else◌, AllByRecursion, Contains, zero_bytes, anchored_digest_of}
-use Rattle.mm_model.proofs.Below.{values_of, values_in, summary-push, anchor-push, reads_zero}
+use Rattle.mm_model.proofs.Below.{Close, Power, items_of_all, entries_with_last_batch, history_after, history_after_commit, is_empty}
+use Rattle.mm_model.proofs.Below.{has_value, are_own, is_same_batch, IsSound, AreItems, batches_in, IsOpening, IsAllowed, MayMove, Digests}
+use Rattle.mm_model.proofs.Below.{digests_of, digests_after, digests_after_commit, IsOutside, MoveBrings, each_append, each_left}
+use Rattle.mm_model.proofs.Below.{is_same_batch-Decides, total-push, true_not_false, joined-push, has_value-append, batches_in-append}
+use Rattle.mm_model.proofs.Below.{register_more, values_renamed, renamed-push, if◌then◌else◌, AllByRecursion, Contains, zero_bytes}
+use Rattle.mm_model.proofs.Below.{anchored_digest_of, values_of, values_in, summary-push, anchor-push, reads_zero}
 use Rattle.std.proofs.lemmas.Bool.{or_left, or_right}
 use Rattle.mm_model.proofs.Paths.{current_clean, empty_cases, marred_has, shut_current}
 use Rattle.mm_model.specs.CommitMoves.{commit_moves, history_after_moves, with_batch}

@@ -1,10 +1,10 @@
 -- Opt: what the tests of the verdict by digests say of both forms of a place.
 use Rattle.mm_model.proofs.Below.{ℕ, ◌≡◌, Bool, true, false, ◌||◌, List, [], ◌∷◌, ◌++◌, refl, sym, ap, ◌∙◌, subst, ◌⊎◌, if◌then◌else◌}
 use Rattle.mm_model.proofs.Below.{Decides, bytes_eq, Contains, list_any, zero_bytes, anchored_message, anchored_digest_of, register_of}
-use Rattle.mm_model.proofs.Below.{anchor_of, is_empty, Point, forms_of, is_fresh_form, is_repeat_form, AreMessagesIn, IsClear, register_trail}
-use Rattle.mm_model.proofs.Below.{form_messages, point_messages, anchor-push, same_tests, IsFreshPath, IsFreshSomehow, IsAgainPath}
-use Rattle.mm_model.proofs.Below.{IsAgainSomehow, true_not_false, HasListedMessages, IsClearFromStart, point_of, fresh_tells, again_tells}
-use Rattle.mm_model.proofs.Below.{zero_register, listed_segment, reads_zero}
+use Rattle.mm_model.proofs.Below.{anchor_of, is_empty, Point, forms_of, is_fresh_form, is_repeat_form, AreMessagesIn, IsClear}
+use Rattle.mm_model.proofs.Below.{register_trail, form_messages, point_messages, anchor-push, same_tests, IsFreshPath, IsFreshSomehow}
+use Rattle.mm_model.proofs.Below.{IsAgainPath, IsAgainSomehow, true_not_false, HasListedMessages, IsClearFromStart, point_of, fresh_tells}
+use Rattle.mm_model.proofs.Below.{again_tells, zero_register, listed_segment, reads_zero}
 use Rattle.std.proofs.lemmas.Bool.Decides.{Decides-or}
 
 or_nothing : (x : Bool) → x ≡ (x || false)
@@ -50,7 +50,8 @@ module _ (id : ℕ) (all : List (List ℕ)) (clears : IsClearFromStart id all) (
     (before : List (List (List ℕ))) (rest : List (List ℕ)) (k : HasListedMessages id all closed items)
     (l : HasListedMessages id all before rest) where
   pub fresh_somehow : (is_empty rest ≡ false → Contains all (anchored_message (anchor_of id before) (register_of rest)))
-      → Decides (list_any (is_fresh_form flag (anchor_of id closed) (register_of items)) (forms_of (anchor_of id before) (register_of rest)))
+      → Decides (list_any (is_fresh_form flag (anchor_of id closed) (register_of items))
+      (forms_of (anchor_of id before) (register_of rest)))
       (IsFreshSomehow flag closed items before rest)
   fresh_somehow closes =
       let test = is_fresh_form flag (anchor_of id closed) (register_of items) in
@@ -63,7 +64,8 @@ module _ (id : ℕ) (all : List (List ℕ)) (clears : IsClearFromStart id all) (
       (listed_segment id all before rest l.inner l.outer l.last (closes some))))
 
   pub again_somehow : (v : List ℕ) → AreMessagesIn (point_messages (anchor_of id before) (register_of rest) v) all
-      → Decides (list_any (is_repeat_form flag (anchor_of id closed) (register_of items) v) (forms_of (anchor_of id before) (register_of rest)))
+      → Decides (list_any (is_repeat_form flag (anchor_of id closed) (register_of items) v)
+      (forms_of (anchor_of id before) (register_of rest)))
       (IsAgainSomehow flag closed items v before rest)
   again_somehow v m =
       let test = is_repeat_form flag (anchor_of id closed) (register_of items) v in

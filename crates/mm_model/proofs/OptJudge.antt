@@ -5,8 +5,8 @@ use Rattle.mm_model.proofs.Below.{Opt, zero_bytes, start_digest_of, anchored_mes
 use Rattle.mm_model.proofs.Below.{register_of, anchor_of, own_values, Meaning, Place, InBasic, InOpt, Content, Instance, opt_instance}
 use Rattle.mm_model.proofs.Below.{RegisterEntry, History, items_of_all, total_of, register_value_of, values_of, cell_digest_of, is_empty}
 use Rattle.mm_model.proofs.Below.{has_value, are_own, Life, Live, Spoiled, Lost, life_by, life_of, is_lost_life, verdict_by_digests}
-use Rattle.mm_model.proofs.Below.{forms_of, is_fresh_form, is_repeat_form, is_last, verdict_by, opt_verdict, verdict_on, verdict_by_tests, IsPoint}
-use Rattle.mm_model.proofs.Below.{IsPlaceOf, NamesPosition, anchor_after, AreMessagesIn, IsClear, IsClearFor, register_trail}
+use Rattle.mm_model.proofs.Below.{forms_of, is_fresh_form, is_repeat_form, is_last, verdict_by, opt_verdict, verdict_on, verdict_by_tests}
+use Rattle.mm_model.proofs.Below.{IsPoint, IsPlaceOf, NamesPosition, anchor_after, AreMessagesIn, IsClear, IsClearFor, register_trail}
 use Rattle.mm_model.proofs.Below.{point_messages, messages_of, counted_entries, values_in, AreNoGuards, IsSound, IsClean, batches_in}
 use Rattle.mm_model.proofs.Below.{each_left, each_right, each_append, trail_front, same_own_values, same_tests, at_the_end, before_the_last}
 use Rattle.mm_model.proofs.Below.{verdicts, true_not_false, items_taken_in, IsFreshSomehow, IsAgainSomehow, fresh_joins, again_joins}

@@ -101,7 +101,8 @@ sooner before later front last e some = elim (ends later) [
   }
 ]
 
-pub renamed-push : (items : List RegisterEntry) (x : RegisterEntry) (b : Batch) → entries_with_last_batch (items ++ x ∷ []) b ≡ items ++ Own b ∷ []
+pub renamed-push : (items : List RegisterEntry) (x : RegisterEntry) (b : Batch) → entries_with_last_batch (items ++ x ∷ []) b ≡ items
+    ++ Own b ∷ []
 renamed-push (y ∷ z ∷ items) x b = ap (λ v. y ∷ v) (renamed-push (z ∷ items) x b)
 renamed-push _ x b = refl
 

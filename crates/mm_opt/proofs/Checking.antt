@@ -4,14 +4,14 @@ use Rattle.mm_opt.proofs.Below.{subst, arith, ◌≤◌, ◌&&◌, is_some, IsSo
 use Rattle.mm_opt.proofs.Below.{extended_digest_of, length-anchored_digest_of, IsCell, cell_spelling, reads_cell-same, Cell, CellFault}
 use Rattle.mm_opt.proofs.Below.{Item, Standing, StepFault, Act, StepGoes, ReadCell, ReadRegister, WriteCell, Meaning, Long, Instance}
 use Rattle.mm_opt.proofs.Below.{opt_instance, Close, Foreign, Digests, digests_of, DeviceStep, Writes, checkpoint_steps, AskResult, Refused}
-use Rattle.mm_opt.proofs.Below.{Course, StepFate, walk, has_close, PlatformStaysOn, CheckpointEnding, checkpoint_ending, checkpoint_ending_by}
-use Rattle.mm_opt.proofs.Below.{checkpoint_outcome, CheckpointsAgree, basic_checkpoints_agree, opt_checkpoints_agree, state_after_moves}
-use Rattle.mm_opt.proofs.Below.{digest_level, list_level, instance_by, cell_at, items_after_move, StandsAt, stands_at, stands_for}
-use Rattle.mm_opt.proofs.Below.{agrees_is, is_agrees, with_register, IsWrite, IsTrail, leads, stepped, trail_on, trail_fails, trail_last}
-use Rattle.mm_opt.proofs.Below.{told_by, begins_at, course_by, fate_of, Tale, tale_on, reading_tale, Checkpointed, CheckpointRefusal}
-use Rattle.mm_opt.proofs.Below.{Segment, Open, Shut, closing_fault_of, closing_fault_in, segment_by, segment_in, closed_cell, FindsSegment}
-use Rattle.mm_opt.proofs.Below.{LooksAtSegment, WeighsRegister, ClosesSegment, CheckpointGoesBy, IsCheckpointOnCourse, checkpoint_result}
-use Rattle.mm_opt.proofs.Below.{opt_call}
+use Rattle.mm_opt.proofs.Below.{Course, StepFate, walk, has_close, PlatformStaysOn, CheckpointEnding, checkpoint_ending}
+use Rattle.mm_opt.proofs.Below.{checkpoint_ending_by, checkpoint_outcome, CheckpointsAgree, basic_checkpoints_agree, opt_checkpoints_agree}
+use Rattle.mm_opt.proofs.Below.{state_after_moves, digest_level, list_level, instance_by, cell_at, items_after_move, StandsAt, stands_at}
+use Rattle.mm_opt.proofs.Below.{stands_for, agrees_is, is_agrees, with_register, IsWrite, IsTrail, leads, stepped, trail_on, trail_fails}
+use Rattle.mm_opt.proofs.Below.{trail_last, told_by, begins_at, course_by, fate_of, Tale, tale_on, reading_tale, Checkpointed}
+use Rattle.mm_opt.proofs.Below.{CheckpointRefusal, Segment, Open, Shut, closing_fault_of, closing_fault_in, segment_by, segment_in}
+use Rattle.mm_opt.proofs.Below.{closed_cell, FindsSegment, LooksAtSegment, WeighsRegister, ClosesSegment, CheckpointGoesBy}
+use Rattle.mm_opt.proofs.Below.{IsCheckpointOnCourse, checkpoint_result, opt_call}
 use Rattle.mm_model.specs.Steps.{Reads}
 use Rattle.mm_model.specs.declared.refusal.Refusal.TheVariants.{Device as Faulted}
 use Rattle.mm_call.specs.CallOutcome.{state_seen}

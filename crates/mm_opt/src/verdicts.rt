@@ -51,7 +51,8 @@ pub fn is_zero(digest: &Digest) -> bool
 
 // Whether a form of the place fits as fresh.
 fn is_fresh(cell: &Cell, register: &Digest, anchor: &Digest, extension: &Digest) -> bool
-    ensures { result ≡ list_any (is_fresh_form cell.now.flag cell.now.summary.bytes register.now.bytes)
+    ensures { result ≡ list_any
+        (is_fresh_form cell.now.flag cell.now.summary.bytes register.now.bytes)
         (forms_of anchor.now.bytes extension.now.bytes) }
 {
     fits_fresh(cell, register, anchor, extension)

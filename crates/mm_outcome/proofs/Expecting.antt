@@ -139,9 +139,11 @@ module _ (meaning : Meaning) (key barrier : List ℕ) (all others : List (List �
       (subst W (messages-made I (map Foreign values) (Reset ∷ rest) y) listed.0) in
       let after : AreMessagesIn (messages_of_moves I (bare y) rest) all =
       each_right (Contains all) (move_messages I (history_with_values y values) Reset)
-      (messages_of_moves I (bare y) rest) (subst (λ z. AreMessagesIn (messages_of_moves I z (Reset ∷ rest)) all) (taking_is I values y) back) in
+      (messages_of_moves I (bare y) rest) (subst (λ z. AreMessagesIn (messages_of_moves I z (Reset ∷ rest)) all)
+      (taking_is I values y) back) in
       subst (AreListed (bare y)) (sym (moves_from_reset-foreign values (Reset ∷ rest))) (
-        subst (λ w. AreMessagesIn (w ++ messages_of_moves I (bare y) rest) all) (sym (reset_messages meaning key barrier (bare y) y.is_open))
+        subst (λ w. AreMessagesIn (w ++ messages_of_moves I (bare y) rest) all)
+        (sym (reset_messages meaning key barrier (bare y) y.is_open))
             after,
         each_right (Contains others) values (foreign_move_values rest)
             (subst (AllByRecursion (Contains others)) (foreign_move_values-first values (Reset ∷ rest)) listed.1),

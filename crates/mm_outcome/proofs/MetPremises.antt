@@ -12,8 +12,9 @@ use Rattle.mm_outcome.proofs.Below.{InOpt, sealed_parts, guard, Own, Value, Move
 use Rattle.mm_outcome.proofs.Below.{total_of, verdict_on, life_of, is_lost, form_messages, issued_place, digest_of, Fresh, first_sound}
 use Rattle.mm_outcome.proofs.Below.{reads_zero, opt_issued, CallOutcome, call_outcome, call_outcome_with, CallFinding, finding_by_verdict}
 use Rattle.mm_outcome.proofs.Below.{finding_with, check_by_tests, Outcome, outcome_of_events, event_outcome, outcome_by, outcome_by_lists}
-use Rattle.mm_outcome.proofs.Below.{first_snapshots, world_barrier, two_segments, after_two_segments, moves_of, event_messages, messages_from}
-use Rattle.mm_outcome.proofs.Below.{IsGenuineEvent, AreGenuine, each_at, Option, Some, offered_bytes, ask_event_outcome, IsGenuineOffer}
+use Rattle.mm_outcome.proofs.Below.{first_snapshots, world_barrier, two_segments, after_two_segments, moves_of, event_messages}
+use Rattle.mm_outcome.proofs.Below.{messages_from, IsGenuineEvent, AreGenuine, each_at, Option, Some, offered_bytes, ask_event_outcome}
+use Rattle.mm_outcome.proofs.Below.{IsGenuineOffer}
 use Rattle.mm_outcome.proofs.Parts.{ask_moves, asking_messages}
 use Rattle.mm_digest.specs.Messages.{start_digest_of, zero_bytes, extended_digest_of}
 use Rattle.mm_model.specs.Chains.{anchor_of, register_of}
@@ -27,9 +28,11 @@ use Rattle.mm_model.specs.declared.refusal.Refusal.TheVariants as refusal
 
 -- what is asked of the snapshot of a history
 right_within : (i : Instance) (y : History) (b : Batch) (all : List (List ℕ)) → IsContent (content_of_issue i y)
-    → AreMessagesIn (offer_messages i (content_of_issue i y).place b) all → AreMessagesIn (right_messages i b (right_content i (issued_bytes i y))) all
+    → AreMessagesIn (offer_messages i (content_of_issue i y).place b) all
+    → AreMessagesIn (right_messages i b (right_content i (issued_bytes i y))) all
 right_within i y b all formed h = listed_by i y b all (right_content i (issued_bytes i y))
-    (λ content seen. subst (λ (x : Content). AreMessagesIn (offer_messages i x.place b) all) (issued_once i (issued_bytes i y) y content formed
+    (λ content seen. subst (λ (x : Content). AreMessagesIn (offer_messages i x.place b) all)
+    (issued_once i (issued_bytes i y) y content formed
     refl
     (right_of i (issued_bytes i y) (parts_of i.variant i.meaning.id (issued_bytes i y)) refl content seen)) h)
 
@@ -42,7 +45,8 @@ is_genuine i y later formed names content right =
 -- Basic
 
 basic_moves : (key : List ℕ) (all : List (List ℕ)) (fresh : Bool)
-    → AreMessagesIn (messages_of_moves (basic_instance counter key) first_history (walk (course_of Quiet []).fates 1 (ask_steps Basic false fresh
+    → AreMessagesIn (messages_of_moves (basic_instance counter key) first_history
+    (walk (course_of Quiet []).fates 1 (ask_steps Basic false fresh
     five)).moves) all
 basic_moves key all false = tt
 basic_moves key all true = tt
@@ -236,7 +240,8 @@ module _ (meaning : Meaning) (lawful : IsLawful meaning) (key barrier d : List �
   asked_met : (offered y last : History) (issued_before : List (List ℕ)) (events : List Event) → total_of offered.batches ≤ last_position
       → is_lost (life_of Opt y) ≡ false → verdict_on Opt y (total_of offered.batches) five ≡ Fresh
       → nat_le (total_of offered.batches + 1) last_position ≡ true → offered_bytes issued_before Last ≡ Some (issued_bytes here offered)
-      → NamesPosition here y (content_of_issue here offered) → AreMessagesIn (offer_messages here (content_of_issue here offered).place five) all
+      → NamesPosition here y (content_of_issue here offered)
+      → AreMessagesIn (offer_messages here (content_of_issue here offered).place five) all
       → (let o : Outcome History = outcome_by (list_level here) Quiet issued_before (call offered y) in
       AreMessagesIn (messages_of_moves here y (call offered y).moves) all → Met all here o.state o.issued events last
       → Met all here y issued_before (five_asked ∷ events) last)
@@ -250,7 +255,8 @@ module _ (meaning : Meaning) (lawful : IsLawful meaning) (key barrier d : List �
       (ap (λ bytes. ask_moves i y [] Quiet bytes five) newest ∙ ap (λ (c : CallOutcome History). c.moves) same)
       (subst (λ bytes. IsGenuineOffer i y bytes) (sym newest) (is_genuine here offered y (opt_content meaning lawful key barrier offered
       few) names))
-      (subst (λ bytes. AreMessagesIn (asking_messages i bytes five) all) (sym newest) (right_within here offered five all (opt_content meaning
+      (subst (λ bytes. AreMessagesIn (asking_messages i bytes five) all) (sym newest)
+      (right_within here offered five all (opt_content meaning
       lawful key barrier offered few) offers))
       made met
 

@@ -209,7 +209,8 @@ first_digests i =
 
 -- a schedule from the start: by lists, which gives the expected replies; and by digests
 abbrev pub outcome_by_lists : Instance → List Event → RunOutcome History
-outcome_by_lists i events = outcome_of_events i (list_level i) first_history (first_snapshots i) events
+outcome_by_lists i events = outcome_of_events i (list_level i) first_history
+    (first_snapshots i) events
 
 abbrev pub outcome_by_digests : Instance → List Event → RunOutcome Digests
 outcome_by_digests i events = outcome_of_events i (digest_level i) (first_digests i)

@@ -91,8 +91,8 @@ pub use Rattle.mm_recovery.specs.Init.{LooksAtCell, SlotPut, PutsAll, SetsUp, Ta
 pub use Rattle.mm_recovery.specs.NextRequest.{HostGoesAfterRecord, AsksNextRequest}
 pub use Rattle.mm_recovery.specs.Recovery.{AnswersAt, AsksIdly, CanRecover, ResumeComesTo, IsAskedFor, IsGrown, IsRefusedAs}
 pub use Rattle.mm_recovery.specs.Recovery.{RequestMayBeCommitted, HostRecovers, RecoversTo}
-pub use Rattle.mm_recovery.specs.Resumption.{HostGoesAfterAsk, HostGoesAfterFinding, HostGoesAfterOffer, HostGoesAfterThree, HostGoesAfterTwo, result_of_keep}
-pub use Rattle.mm_recovery.specs.Resumption.{HostResumes, result_of_start}
+pub use Rattle.mm_recovery.specs.Resumption.{HostGoesAfterAsk, HostGoesAfterFinding, HostGoesAfterOffer, HostGoesAfterThree}
+pub use Rattle.mm_recovery.specs.Resumption.{HostGoesAfterTwo, result_of_keep, HostResumes, result_of_start}
 pub use Rattle.mm_recovery.specs.WaitingRequest.{IsWaiting, later_record}
 pub use Rattle.mm_recovery.specs.declared.fault.HostFault.{HostFault}
 pub use Rattle.mm_recovery.specs.declared.init_fault.InitFault.{InitFault}

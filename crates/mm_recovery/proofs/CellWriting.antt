@@ -1,12 +1,12 @@
 -- How often calls are to write the cell, and what flag they leave: one of either core, and calls one after another.
 use Rattle.mm_recovery.proofs.Below.{◌≡◌, ◌∙◌, ◌+◌, ◌≤◌, ℕ, zero, suc, Bool, true, false, List, Some, Ok, refl, sym, ap, inl, inr, arith}
-use Rattle.mm_recovery.proofs.Below.{◌⊎◌, next_count, Variant, Basic, Opt, Standing, Answer, count_after_more, CellIsWrittenAtMostOnce, AnswerLeavesFlag}
-use Rattle.mm_recovery.proofs.Below.{TellsFlag, CellIsWrittenByOpening, CellIsWrittenFor, is_open_after, openings, Option, None, Result, Err, StepFault}
-use Rattle.mm_recovery.proofs.Below.{cell_after, Meaning, Batch, PartsFault, IsCell, ReadsCell, SpellsCell, cell_spelling, Snapshot}
-use Rattle.mm_recovery.proofs.Below.{BatchAnswer, Refusal, Memory, Device, is_long, batch_answer_of, batch_result_of, AskResult, goes_on}
-use Rattle.mm_recovery.proofs.Below.{breaks_off, EndsByFinding, result_of, acts_for, answer_in, fault_of, IsOrMemory, refused_result}
-use Rattle.mm_recovery.proofs.Below.{CallReads, Long, StepsRefused, StepsBy, opt_call, StepsAnswered, StepsFrom, CallWrites, IsNewAt}
-use Rattle.mm_recovery.proofs.Below.{LeavesFlag, new_requests_by, [], ◌∷◌}
+use Rattle.mm_recovery.proofs.Below.{◌⊎◌, next_count, Variant, Basic, Opt, Standing, Answer, count_after_more, CellIsWrittenAtMostOnce}
+use Rattle.mm_recovery.proofs.Below.{AnswerLeavesFlag, TellsFlag, CellIsWrittenByOpening, CellIsWrittenFor, is_open_after, openings, Option}
+use Rattle.mm_recovery.proofs.Below.{None, Result, Err, StepFault, cell_after, Meaning, Batch, PartsFault, IsCell, ReadsCell, SpellsCell}
+use Rattle.mm_recovery.proofs.Below.{cell_spelling, Snapshot, BatchAnswer, Refusal, Memory, Device, is_long, batch_answer_of}
+use Rattle.mm_recovery.proofs.Below.{batch_result_of, AskResult, goes_on, breaks_off, EndsByFinding, result_of, acts_for, answer_in}
+use Rattle.mm_recovery.proofs.Below.{fault_of, IsOrMemory, refused_result, CallReads, Long, StepsRefused, StepsBy, opt_call, StepsAnswered}
+use Rattle.mm_recovery.proofs.Below.{StepsFrom, CallWrites, IsNewAt, LeavesFlag, new_requests_by, [], ◌∷◌}
 use Rattle.mm_platform.specs.Steps.{Act}
 use Rattle.mm_machine.specs.Acts.{remaining_acts}
 use Rattle.mm_call.specs.CallKind.{AreStepsToEnd}
@@ -75,7 +75,8 @@ leaves_of n before after (inr l) flag t = l.leaves flag t
 pub leads_rest : (variant : Variant) (before after : Standing) → after ≡ before → LeadsOver variant 0 before after
 leads_rest variant before after e = grind (arith, e)
 
-pub leads_answer : (variant : Variant) (answer : Answer) (n : ℕ) (before after : Standing) → AnswerLeavesFlag variant (Ok answer) n before after
+pub leads_answer : (variant : Variant) (answer : Answer) (n : ℕ) (before after : Standing)
+    → AnswerLeavesFlag variant (Ok answer) n before after
     → LeadsOver variant n before after
 leads_answer variant answer n before after l = grind (arith, l)
 

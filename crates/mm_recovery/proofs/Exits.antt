@@ -2,9 +2,9 @@
 use Rattle.mm_recovery.proofs.Below.{ℕ, ◌≡◌, ◌≢◌, ◌≤◌, Bool, List, Option, None, Some, Result, Ok, Err, refl, sym, ap, ◌∙◌, arith, Variant}
 use Rattle.mm_recovery.proofs.Below.{Standing, Meaning, Answer, Refusal, Long, CountsHandedFault, fault_of, StoreFault, CountsFailures}
 use Rattle.mm_recovery.proofs.Below.{StoreStanding, PendingRecord, HostFault, Resumed, store_fault_as, refusal_fault, HostGoesAfterRecord}
-use Rattle.mm_recovery.proofs.Below.{AsksNextRequest, HostGoesAfterTwo, result_of_start, result_of_keep, HostGoesAfterAsk, HostGoesAfterOffer}
-use Rattle.mm_recovery.proofs.Below.{HostGoesAfterFinding, HostResumes, IsCall, CallWrites, CellIsWrittenFor, new_requests_by, IsNewOf, RequestWrites}
-use Rattle.mm_recovery.proofs.Below.{new_requests_at}
+use Rattle.mm_recovery.proofs.Below.{AsksNextRequest, HostGoesAfterTwo, result_of_start, result_of_keep, HostGoesAfterAsk}
+use Rattle.mm_recovery.proofs.Below.{HostGoesAfterOffer, HostGoesAfterFinding, HostResumes, IsCall, CallWrites, CellIsWrittenFor}
+use Rattle.mm_recovery.proofs.Below.{new_requests_by, IsNewOf, RequestWrites, new_requests_at}
 use Rattle.mm_recovery.specs.Blame.{BlamesHostFault, IsNamed}
 use Rattle.mm_recovery.proofs.CellWriting.{AnsweredWrites, LeadsOver, leads_answer, leads_rest, rests}
 use Rattle.mm_model.specs.declared.refusal.Refusal.TheVariants as refusal
@@ -45,7 +45,8 @@ module _ (variant : Variant) (meaning : Meaning) (before after : Standing) where
     came : CameWrites variant result before after
 
   exit_of : {old new : StoreStanding} {result : Result Resumed HostFault} → BlamesHostFault result before after old new → IsNamed result
-      → (requests : ℕ) → IsNewOf result requests → CellIsWrittenFor variant requests before after → LeadsBy variant result requests before after
+      → (requests : ℕ) → IsNewOf result requests → CellIsWrittenFor variant requests before after
+      → LeadsBy variant result requests before after
       → Exit old new result
   exit_of blamed named requests is_new writes leads = record {
     told = record { blamed = blamed; named = named };
@@ -54,7 +55,8 @@ module _ (variant : Variant) (meaning : Meaning) (before after : Standing) where
 
   -- a store's fault is told as such, by its count
   stored_exit : (T : Type 0) (why : StoreFault) (old new : StoreStanding) (requests : ℕ) → requests ≤ 1
-      → CellIsWrittenFor variant requests before after → after.faults ≡ before.faults → CountsFailures {T = T} old.faults new.faults (Err why)
+      → CellIsWrittenFor variant requests before after → after.faults ≡ before.faults
+      → CountsFailures {T = T} old.faults new.faults (Err why)
       → Exit old new (Err (store_fault_as why))
   stored_exit T why old new requests few w s c = grind (arith, few, w, s, c)
 

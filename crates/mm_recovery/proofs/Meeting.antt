@@ -7,9 +7,9 @@ use Rattle.mm_recovery.proofs.Below.{result_of_ending, CallContinues, IsCallOnCo
 use Rattle.mm_recovery.proofs.Below.{AreAsked, AreShown, IsIdle, fault_of, stands_at, bare, asked_for, asked_idle, basic_asked, names_made}
 use Rattle.mm_recovery.proofs.Below.{basic_comes, comes, HistoryGrows, Alike, alike_call, names_after, answered_clean_as, PendingRecord}
 use Rattle.mm_recovery.proofs.Below.{IsRefusedAs, Bool, true, false, map, guard, RegisterEntry, Value, Move, Foreign, Reset}
-use Rattle.mm_recovery.proofs.Below.{history_after_commit, items_of_all, entries_with_last_batch, are_own, has_value, is_empty, life_by, IsAllowed}
-use Rattle.mm_recovery.proofs.Below.{ask_steps, CallFinding, finding_unless_wanting, is_fresh, state_after_moves, before, AllMay, ask_may}
-use Rattle.mm_recovery.proofs.Below.{last_position, total_of, ◌≤◌}
+use Rattle.mm_recovery.proofs.Below.{history_after_commit, items_of_all, entries_with_last_batch, are_own, has_value, is_empty, life_by}
+use Rattle.mm_recovery.proofs.Below.{IsAllowed, ask_steps, CallFinding, finding_unless_wanting, is_fresh, state_after_moves, before, AllMay}
+use Rattle.mm_recovery.proofs.Below.{ask_may, last_position, total_of, ◌≤◌}
 use Rattle.mm_call.specs.ShownItems.{standing_items}
 use Rattle.mm_recovery.proofs.Refusing.{grows, MayRefuse, IsOffered, offered_then, found_refused, has_room, keeps_refused, judged_refused}
 use Rattle.mm_recovery.proofs.Slots.{IsIssued, issued_in_basic, issued_in_opt}

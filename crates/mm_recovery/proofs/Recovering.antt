@@ -5,9 +5,10 @@ use Rattle.mm_recovery.proofs.Below.{basic_instance, opt_instance, inr, History,
 use Rattle.mm_recovery.proofs.Below.{batch_answer_of, batch_result_of, AreAsked, fault_of, StepFault, StoreFault, ReadsSlot, WritesSlot}
 use Rattle.mm_recovery.proofs.Below.{slots_with_bytes, StoreStanding, PendingRecord, Slots, slot_front, slots_with, last_position, IsFit}
 use Rattle.mm_recovery.proofs.Below.{HostFault, Resumed, Start, store_fault_as, refusal_fault, IsWaiting, result_of_start, result_of_keep}
-use Rattle.mm_recovery.proofs.Below.{HostGoesAfterAsk, HostGoesAfterOffer, HostGoesAfterFinding, HostResumes, IsCall, offer_slot, IsSnapshotAt, FitsBy}
-use Rattle.mm_recovery.proofs.Below.{IsAskedFor, AnswersAt, CanRecover, IsGrown, AsksIdly, ResumeComesTo, RequestMayBeCommitted, HostRecovers}
-use Rattle.mm_recovery.proofs.Below.{RecoversTo, one_reading, HostGoesAfterTwo, HostGoesAfterThree, FitsHistory, IsWithin}
+use Rattle.mm_recovery.proofs.Below.{HostGoesAfterAsk, HostGoesAfterOffer, HostGoesAfterFinding, HostResumes, IsCall, offer_slot}
+use Rattle.mm_recovery.proofs.Below.{IsSnapshotAt, FitsBy, IsAskedFor, AnswersAt, CanRecover, IsGrown, AsksIdly, ResumeComesTo}
+use Rattle.mm_recovery.proofs.Below.{RequestMayBeCommitted, HostRecovers, RecoversTo, one_reading, HostGoesAfterTwo, HostGoesAfterThree}
+use Rattle.mm_recovery.proofs.Below.{FitsHistory, IsWithin}
 use Rattle.mm_recovery.specs.LastAnswer.{position_at, snapshot_at}
 use Rattle.mm_recovery.specs.declared.resuming.Resumed.TheVariants.{Answered}
 use Rattle.mm_recovery.proofs.Slots.{IsElsewhere, elsewhere_same, elsewhere_put, seen_put, holds_issued}

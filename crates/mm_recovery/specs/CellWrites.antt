@@ -35,7 +35,8 @@ pub record CellIsWrittenByOpening (requests : ℕ) (before after : Standing) : T
 
 -- In Basic it was to be written once for each.
 abbrev pub CellIsWrittenFor : Variant → ℕ → Standing → Standing → Type 0
-CellIsWrittenFor Basic requests before after = after.writes ≡ count_after_more requests before.writes
+CellIsWrittenFor Basic requests before after =
+    after.writes ≡ count_after_more requests before.writes
 CellIsWrittenFor Opt requests before after = CellIsWrittenByOpening requests before after
 
 -- a repeat is no new request

@@ -29,4 +29,5 @@ pub record AsksNextRequest (variant : Variant) (meaning : Meaning) (before after
   pub recorded : Result Unit StoreFault
   pub records : WritesSlot (2 + (position_at last + 1) % 2)
       (pending_spelling (record_for last request)) old middle recorded
-  pub goes : HostGoesAfterRecord variant meaning before after recorded middle new last request result
+  pub goes : HostGoesAfterRecord variant meaning before after recorded middle new
+      last request result

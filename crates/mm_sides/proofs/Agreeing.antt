@@ -5,11 +5,11 @@ use Rattle.mm_sides.proofs.Below.{Meddle, Stop, Content, sealed_snapshot_of, Ins
 use Rattle.mm_sides.proofs.Below.{IsClear, Digests, NamesPosition, content_of_issue, place_messages, each_left, each_right, each_append}
 use Rattle.mm_sides.proofs.Below.{messages_of_moves, StepFate, StepsWalk, walk, list_level, digest_level, state_after_moves, instance_by}
 use Rattle.mm_sides.proofs.Below.{TicketContent, summary_in, course_of, KeepsHistory, AreApartIn, Role, Effect, Invites, Leaves, Enters}
-use Rattle.mm_sides.proofs.Below.{MoveNotes, is_live, Pair, BothSides, list_mover, digest_mover, MoveCommand, DenialCause, FoundMove, BothAct}
-use Rattle.mm_sides.proofs.Below.{Plain, Moves, Entered, move_steps, is_moved, effect_if, effect_of, stopped_moves, state_after_steps}
-use Rattle.mm_sides.proofs.Below.{sides_after_effect_if, sides_after_issue, effect_reply, move_end_outcome, outcome_if_found, found_command}
-use Rattle.mm_sides.proofs.Below.{outcome_here, notes_with_effect_if, read_moves, found_moves, command_messages, messages_here}
-use Rattle.mm_sides.proofs.Below.{others_values_in, batches_in, IsGenuineHere, IsOursIn, history_now}
+use Rattle.mm_sides.proofs.Below.{MoveNotes, is_live, Pair, BothSides, list_mover, digest_mover, MoveCommand, DenialCause, FoundMove}
+use Rattle.mm_sides.proofs.Below.{BothAct, Plain, Moves, Entered, move_steps, is_moved, effect_if, effect_of, stopped_moves}
+use Rattle.mm_sides.proofs.Below.{state_after_steps, sides_after_effect_if, sides_after_issue, effect_reply, move_end_outcome}
+use Rattle.mm_sides.proofs.Below.{outcome_if_found, found_command, outcome_here, notes_with_effect_if, read_moves, found_moves}
+use Rattle.mm_sides.proofs.Below.{command_messages, messages_here, others_values_in, batches_in, IsGenuineHere, IsOursIn, history_now}
 use Rattle.mm_sides.proofs.Found.{Fits, FitsFound, FitsIn, finding_fits, IsFine, pushed_last, unbroken, found_is, ended_told}
 use Rattle.mm_sides.proofs.Found.{affected_order, EntersSo, enters_so}
 use Rattle.mm_sides.proofs.Outer.{AreOuter, found_outer, stopped_outer, due_among, IsAlike, same_batches, same_open, brought_alike}
@@ -76,7 +76,8 @@ module _ (variant : Variant) (meaning : Meaning) (key key' barrier : List ℕ) (
         entering = tt;
       }
 
-  leaves_goes : (l : BothSides History History) (x : Twin) (notes : MoveNotes) (ticket : TicketContent) → Kept all others asked me them l x notes
+  leaves_goes : (l : BothSides History History) (x : Twin) (notes : MoveNotes) (ticket : TicketContent)
+      → Kept all others asked me them l x notes
       → IsFine l.first.role notes (Some (Leaves ticket)) → Makes l.first.at (Some (Leaves ticket))
       → Affects l x notes (Some (Leaves ticket))
   leaves_goes l x notes ticket k fine made =
@@ -109,7 +110,8 @@ module _ (variant : Variant) (meaning : Meaning) (key key' barrier : List ℕ) (
         entering = tt;
       }
 
-  enters_goes : (l : BothSides History History) (x : Twin) (notes : MoveNotes) (ticket : TicketContent) → Kept all others asked me them l x notes
+  enters_goes : (l : BothSides History History) (x : Twin) (notes : MoveNotes) (ticket : TicketContent)
+      → Kept all others asked me them l x notes
       → IsFine l.first.role notes (Some (Enters ticket)) → EntersSo l.first.role l.second.role notes (Some (Enters ticket))
       → Affects l x notes (Some (Enters ticket))
   enters_goes l x notes ticket k fine alone =
@@ -151,7 +153,8 @@ module _ (variant : Variant) (meaning : Meaning) (key key' barrier : List ℕ) (
             (ap (λ (c : Content). c.position) is) (ap (λ (c : Content). c.state) is);
       }
 
-  affects : (l : BothSides History History) (x : Twin) (notes : MoveNotes) (effect : Option Effect) → Kept all others asked me them l x notes
+  affects : (l : BothSides History History) (x : Twin) (notes : MoveNotes) (effect : Option Effect)
+      → Kept all others asked me them l x notes
       → IsFine l.first.role notes effect → Makes l.first.at effect → Affects l x notes effect
   affects l x notes None k fine made = record { at = x; same = refl; kept = k; entering = refl }
   affects l x notes (Some (Invites nonce)) k fine made = invites_goes l x notes nonce k fine
@@ -318,7 +321,8 @@ module _ (variant : Variant) (meaning : Meaning) (key key' barrier : List ℕ) (
       let a : Affects l1 x1 notes effect =
       affects l1 x1 notes effect k1 fine (makes_of notes l.first.role y z d x.first b k.this.keeps fates found fits) in
       let l2 : BothSides History History = sides_after_effect_if list_mover l1 effect in
-      subst (λ (w : BothSides Digests ℕ). Goes all others asked me them notes (move_end_outcome list_mover pair me l2 stop broken found effect)
+      subst (λ (w : BothSides Digests ℕ). Goes all others asked me them notes
+      (move_end_outcome list_mover pair me l2 stop broken found effect)
       (move_end_outcome digest_mover pair me w stop broken found effect)) (sym a.same)
       (ended_goes pair l2 a.at notes stop broken found effect a.kept (move_says l1 x1 notes y b
       (λ live. subst (λ w. AllByRecursion (IsNamed all me w) notes.retired) (live_history l live) k.named) fates found a fits))

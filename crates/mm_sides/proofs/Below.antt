@@ -56,8 +56,8 @@ pub use Rattle.mm_outcome.specs.OneEvent.{EventsAgree, EventsKeepNames, IsSoundI
 pub use Rattle.mm_outcome.specs.Premises.{batches_of, event_messages, event_foreign_values, moves_of, AreApartIn, run_messages}
 pub use Rattle.mm_outcome.proofs.Above.{basic_begins, opt_begins, anchor_nil, basic_events_agree, basic_events_keep_names, clear_within}
 pub use Rattle.mm_outcome.proofs.Above.{event_steps, opt_events_agree, opt_events_keep_names}
-pub use Rattle.mm_sides.specs.BothSides.{BothSides, digest_mover, First, first_both_by_digests, first_both_by_lists, instance_on, key_of, list_mover, Mover, Pair}
-pub use Rattle.mm_sides.specs.BothSides.{Second, SideState, sides_swapped, SideName, history_at, history_now}
+pub use Rattle.mm_sides.specs.BothSides.{BothSides, digest_mover, First, first_both_by_digests, first_both_by_lists, instance_on, key_of}
+pub use Rattle.mm_sides.specs.BothSides.{list_mover, Mover, Pair, Second, SideState, sides_swapped, SideName, history_at, history_now}
 pub use Rattle.mm_sides.specs.Folds.{found_acceptance, BothAct, sides_after_effect_if, both_outcome_by_lists, both_outcome_of_events}
 pub use Rattle.mm_sides.specs.Folds.{both_outcome, BothEvent, BothRunOutcome, BothOutcome, BothReply, state_after_steps, effect_if}
 pub use Rattle.mm_sides.specs.Folds.{effect_of, Entered, found_command, sides_after_issue, Invited, is_moved, Left, move_end_outcome}
@@ -69,9 +69,9 @@ pub use Rattle.mm_sides.specs.Laws.{plain_reply, SidesIssueNames, SidesRunAsOne,
 pub use Rattle.mm_sides.specs.Moves.{Accept, acceptance_on, Already, MoveCommand, repeated_entry, entry_by_ticket, FoundMove, Gone, Invite}
 pub use Rattle.mm_sides.specs.Moves.{invitation_on, found_retirement_by, DenialCause, Nonce, retirement_with, Open, Refused, Retire}
 pub use Rattle.mm_sides.specs.Moves.{retirement_on, is_offer_here, ticket_in, verdict_here}
-pub use Rattle.mm_sides.specs.Order.{AreInOrder, AreNotBothLive, away, ModuleEntersByLast, here, IsAwaited, IsFreshEffect, IsLastTicket, IsSomewhere}
-pub use Rattle.mm_sides.specs.Order.{MayTake, nonces_of, RolesAreOne, RolesBegin, RolesEnterLast, RolesGoOn, RolesSwap, there, WaitApart}
-pub use Rattle.mm_sides.specs.Order.{WaitsElse}
+pub use Rattle.mm_sides.specs.Order.{AreInOrder, AreNotBothLive, away, ModuleEntersByLast, here, IsAwaited, IsFreshEffect, IsLastTicket}
+pub use Rattle.mm_sides.specs.Order.{IsSomewhere, MayTake, nonces_of, RolesAreOne, RolesBegin, RolesEnterLast, RolesGoOn, RolesSwap, there}
+pub use Rattle.mm_sides.specs.Order.{WaitApart, WaitsElse}
 pub use Rattle.mm_sides.specs.Premises.{AreFreshFrom, AreGenuineFrom, batches_in, both_batches, both_event_messages, both_messages}
 pub use Rattle.mm_sides.specs.Premises.{both_messages_from, both_foreign_values, messages_of_closing, command_messages, found_moves}
 pub use Rattle.mm_sides.specs.Premises.{IsGenuineCommand, IsGenuineHere, IsGenuineIn, IsGenuineTo, IsNew, IsOurs, IsOursFor, IsOursIn}

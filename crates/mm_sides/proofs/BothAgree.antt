@@ -1,12 +1,13 @@
 -- Whole schedules of both sides agree, by digests and by lists; and they go on from what stands after their first events.
 use Rattle.mm_sides.proofs.Below.{ℕ, ◌≡◌, List, [], ◌∷◌, ◌++◌, refl, sym, ap, subst, AllByRecursion, Contains, start_message, Variant}
 use Rattle.mm_sides.proofs.Below.{Basic, Opt, Batch, Meaning, Instance, History, first_history, AreMessagesIn, IsClear, Digests, each_left}
-use Rattle.mm_sides.proofs.Below.{each_right, each_self, instance_by, first_digests, KeepsHistory, AreApartIn, MoveNotes, no_notes, SideName}
-use Rattle.mm_sides.proofs.Below.{First, Second, Pair, instance_on, BothSides, sides_swapped, Mover, list_mover, digest_mover, first_both_by_lists}
-use Rattle.mm_sides.proofs.Below.{first_both_by_digests, BothAct, BothEvent, BothReply, BothOutcome, outcome_here, both_outcome, BothRunOutcome}
-use Rattle.mm_sides.proofs.Below.{both_outcome_of_events, notes_with_effect_if, both_event_messages, both_messages_from, both_messages}
-use Rattle.mm_sides.proofs.Below.{others_values_in, both_foreign_values, batches_in, both_batches, IsGenuineIn, AreGenuineFrom, IsNew, IsOursIn}
-use Rattle.mm_sides.proofs.Below.{AreFreshFrom, PairsAgree, PairsAgreeThroughout, both_outcome_joined, PairsGoOn, basic_begins, opt_begins}
+use Rattle.mm_sides.proofs.Below.{each_right, each_self, instance_by, first_digests, KeepsHistory, AreApartIn, MoveNotes, no_notes}
+use Rattle.mm_sides.proofs.Below.{SideName, First, Second, Pair, instance_on, BothSides, sides_swapped, Mover, list_mover, digest_mover}
+use Rattle.mm_sides.proofs.Below.{first_both_by_lists, first_both_by_digests, BothAct, BothEvent, BothReply, BothOutcome, outcome_here}
+use Rattle.mm_sides.proofs.Below.{both_outcome, BothRunOutcome, both_outcome_of_events, notes_with_effect_if, both_event_messages}
+use Rattle.mm_sides.proofs.Below.{both_messages_from, both_messages, others_values_in, both_foreign_values, batches_in, both_batches}
+use Rattle.mm_sides.proofs.Below.{IsGenuineIn, AreGenuineFrom, IsNew, IsOursIn, AreFreshFrom, PairsAgree, PairsAgreeThroughout}
+use Rattle.mm_sides.proofs.Below.{both_outcome_joined, PairsGoOn, basic_begins, opt_begins}
 use Rattle.mm_sides.proofs.InOrder.{roles_begin}
 use Rattle.mm_sides.proofs.OneLive.{here_ordered}
 use Rattle.mm_sides.proofs.Twins.{Twin, twin, turned_twin, Kept, Goes, turned_kept}
@@ -119,4 +120,8 @@ follow_on {S} {A} mover pair (event ∷ es) fs both =
     ap (λ (rest : BothRunOutcome S A). record { both = rest.both; replies = o.reply ∷ rest.replies }) (follow_on mover pair es fs o.both)
 
 pub pairs_go_on : PairsGoOn
-pairs_go_on pair es fs = (follow_on list_mover pair es fs (first_both_by_lists pair), follow_on digest_mover pair es fs (first_both_by_digests pair))
+pairs_go_on pair es fs = (
+  follow_on list_mover pair es fs (first_both_by_lists pair),
+  follow_on digest_mover pair es fs
+      (first_both_by_digests pair),
+)

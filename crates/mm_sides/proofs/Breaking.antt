@@ -2,10 +2,11 @@
 use Rattle.mm_sides.proofs.Below.{ℕ, ◌≡◌, ◌&&◌, ◌++◌, ◌∷◌, Bool, false, List, [], Option, None, Some, Result, Ok, Err, inl, inr, refl, sym}
 use Rattle.mm_sides.proofs.Below.{ap, subst, Contains, bytes_eq, bytes_eq-Decides, nat_eq, Content, History, Instance, Refusal}
 use Rattle.mm_sides.proofs.Below.{TicketContent, Event, offered_bytes, Role, Live, Retired, Waiting, Blank, Effect, Invites, Leaves, Enters}
-use Rattle.mm_sides.proofs.Below.{MoveNotes, no_notes, First, SideName, key_of, Pair, instance_on, BothSides, list_mover, first_both_by_lists, history_now}
-use Rattle.mm_sides.proofs.Below.{Invite, Retire, Accept, ticket_in, BothAct, Plain, Moves, BothEvent, both_outcome, both_outcome_of_events}
-use Rattle.mm_sides.proofs.Below.{notes_with_effect_if, IsGenuineTo, IsGenuineHere, IsGenuineIn, AreGenuineFrom, IsNew, IsOurs}
-use Rattle.mm_sides.proofs.Below.{IsOursOffered, IsOursIn, AreFreshFrom, both_messages, both_foreign_values, both_batches}
+use Rattle.mm_sides.proofs.Below.{MoveNotes, no_notes, First, SideName, key_of, Pair, instance_on, BothSides, list_mover}
+use Rattle.mm_sides.proofs.Below.{first_both_by_lists, history_now, Invite, Retire, Accept, ticket_in, BothAct, Plain, Moves, BothEvent}
+use Rattle.mm_sides.proofs.Below.{both_outcome, both_outcome_of_events, notes_with_effect_if, IsGenuineTo, IsGenuineHere, IsGenuineIn}
+use Rattle.mm_sides.proofs.Below.{AreGenuineFrom, IsNew, IsOurs, IsOursOffered, IsOursIn, AreFreshFrom, both_messages, both_foreign_values}
+use Rattle.mm_sides.proofs.Below.{both_batches}
 use Rattle.std.proofs.Common.{◌⊎◌}
 use Rattle.std.specs.Bool.{Decides}
 use Rattle.std.proofs.lemmas.Bool.Decides.{Decides-and, Decides-eqb}
@@ -226,7 +227,8 @@ module _ (pair : Pair) where
           ]
         ]
 
-  breaks_apart : (before : List BothEvent) (event : BothEvent) (later : List BothEvent) (both : BothSides History History) (notes : MoveNotes)
+  breaks_apart : (before : List BothEvent) (event : BothEvent) (later : List BothEvent) (both : BothSides History History)
+      (notes : MoveNotes)
       → AreGenuineFrom pair both (before ++ event ∷ later) → AreFreshFrom pair both notes (before ++ event ∷ later)
       → IsBreach pair (both_outcome_of_events list_mover pair both before).both (notes_after pair both notes before) event → ⊥
   breaks_apart [] event later both notes genuine fresh b = breach_apart pair both notes event b genuine.0 fresh.0 fresh.1
@@ -237,9 +239,12 @@ module _ (pair : Pair) where
   pair_apart : (events : List BothEvent) → IsClearPair pair events → IsGenuinePair pair events → IsFreshPair pair events
       → HasPairEvidence pair events → ⊥
   pair_apart events clear genuine fresh (clash c) =
-      clash_apart (instance_on pair First) (both_messages pair events) (both_foreign_values events) (both_batches events) clear.clear clear.apart c
-  pair_apart events clear genuine fresh (breach before event later split b) = breaks_apart before event later (first_both_by_lists pair) no_notes
-      (subst (AreGenuineFrom pair (first_both_by_lists pair)) split genuine) (subst (AreFreshFrom pair (first_both_by_lists pair) no_notes) split fresh) b
+      clash_apart (instance_on pair First) (both_messages pair events) (both_foreign_values events) (both_batches events)
+      clear.clear clear.apart c
+  pair_apart events clear genuine fresh (breach before event later split b) =
+      breaks_apart before event later (first_both_by_lists pair) no_notes
+      (subst (AreGenuineFrom pair (first_both_by_lists pair)) split genuine)
+      (subst (AreFreshFrom pair (first_both_by_lists pair) no_notes) split fresh) b
 
 pub pairs_decided : BasicNamesAreDecided → OptNamesAreDecided → PairsAreDecided
 pairs_decided basic opt pair events = record {

@@ -3,13 +3,13 @@ use Rattle.mm_sides.proofs.Below.{ℕ, ◌≡◌, Bool, true, false, List, Optio
 use Rattle.mm_sides.proofs.Below.{if◌then◌else◌, Contains, bytes_eq, bytes_eq-Decides, PartsFault, Form, Kind, parts_of, Content, Snapshot}
 use Rattle.mm_sides.proofs.Below.{tag_of, Refusal, Instance, check_by_tests, weighed_only, accepting_verdict, StepFate, End, Done, Fails}
 use Rattle.mm_sides.proofs.Below.{walk, walk_from_step, TicketContent, offered_bytes, Role, Live, Waiting, Retired, Effect, Invites, Leaves}
-use Rattle.mm_sides.proofs.Below.{Enters, MoveNotes, is_live, MayTake, IsFreshEffect, IsLastTicket, AreInOrder, ModuleEntersByLast, Pair, BothSides}
-use Rattle.mm_sides.proofs.Below.{Mover, MoveCommand, Invite, Retire, Accept, DenialCause, Open, Gone, Nonce, Already, FoundMove}
-use Rattle.mm_sides.proofs.Below.{is_offer_here, verdict_here, invitation_on, found_retirement_by, retirement_with, retirement_on, ticket_in}
-use Rattle.mm_sides.proofs.Below.{entry_by_ticket, repeated_entry, acceptance_on, is_moved, effect_if, effect_of, found_retirement}
-use Rattle.mm_sides.proofs.Below.{found_acceptance, found_command, BothOutcome, sides_after_effect_if, sides_after_issue, effect_reply}
-use Rattle.mm_sides.proofs.Below.{move_end_outcome, notes_with_effect_if, IsNew, IsOurs, IsOursOffered, IsOursFor, Reads, StepFault, Stop}
-use Rattle.mm_sides.proofs.Below.{plain_reply}
+use Rattle.mm_sides.proofs.Below.{Enters, MoveNotes, is_live, MayTake, IsFreshEffect, IsLastTicket, AreInOrder, ModuleEntersByLast, Pair}
+use Rattle.mm_sides.proofs.Below.{BothSides, Mover, MoveCommand, Invite, Retire, Accept, DenialCause, Open, Gone, Nonce, Already, FoundMove}
+use Rattle.mm_sides.proofs.Below.{is_offer_here, verdict_here, invitation_on, found_retirement_by, retirement_with, retirement_on}
+use Rattle.mm_sides.proofs.Below.{ticket_in, entry_by_ticket, repeated_entry, acceptance_on, is_moved, effect_if, effect_of}
+use Rattle.mm_sides.proofs.Below.{found_retirement, found_acceptance, found_command, BothOutcome, sides_after_effect_if, sides_after_issue}
+use Rattle.mm_sides.proofs.Below.{effect_reply, move_end_outcome, notes_with_effect_if, IsNew, IsOurs, IsOursOffered, IsOursFor, Reads}
+use Rattle.mm_sides.proofs.Below.{StepFault, Stop, plain_reply}
 use Rattle.mm_sides.proofs.InOrder.{not_dead, roles_go_on, roles_enter_last}
 
 -- How a list of tickets ends, and how the walk of a move does.

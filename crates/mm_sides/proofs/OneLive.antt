@@ -1,10 +1,11 @@
 -- At each moment at most one side is live, and the module enters one only where none is, by its last ticket.
 use Rattle.mm_sides.proofs.Below.{ℕ, ◌≡◌, List, [], ◌∷◌, Option, None, Some, Result, sym, subst, Meddle, Stop, Instance, History, StepFate}
-use Rattle.mm_sides.proofs.Below.{walk, course_of, Role, Effect, Enters, MoveNotes, no_notes, AreInOrder, ModuleEntersByLast, SideName, First, Second}
-use Rattle.mm_sides.proofs.Below.{Pair, instance_on, BothSides, sides_swapped, list_mover, first_both_by_lists, MoveCommand, DenialCause, FoundMove}
-use Rattle.mm_sides.proofs.Below.{BothAct, Plain, Moves, BothEvent, BothOutcome, sides_after_effect_if, state_after_steps, effect_of}
-use Rattle.mm_sides.proofs.Below.{move_steps, found_command, outcome_of_found_move, outcome_if_found, outcome_here, both_outcome}
-use Rattle.mm_sides.proofs.Below.{notes_with_effect_if, IsNew, IsOursIn, AreFreshFrom, ModuleEntersAlone, IsOneLiveFrom, OneIsLive}
+use Rattle.mm_sides.proofs.Below.{walk, course_of, Role, Effect, Enters, MoveNotes, no_notes, AreInOrder, ModuleEntersByLast, SideName}
+use Rattle.mm_sides.proofs.Below.{First, Second, Pair, instance_on, BothSides, sides_swapped, list_mover, first_both_by_lists, MoveCommand}
+use Rattle.mm_sides.proofs.Below.{DenialCause, FoundMove, BothAct, Plain, Moves, BothEvent, BothOutcome, sides_after_effect_if}
+use Rattle.mm_sides.proofs.Below.{state_after_steps, effect_of, move_steps, found_command, outcome_of_found_move, outcome_if_found}
+use Rattle.mm_sides.proofs.Below.{outcome_here, both_outcome, notes_with_effect_if, IsNew, IsOursIn, AreFreshFrom, ModuleEntersAlone}
+use Rattle.mm_sides.proofs.Below.{IsOneLiveFrom, OneIsLive}
 use Rattle.mm_sides.proofs.InOrder.{roles_begin, roles_swap, roles_are_one}
 use Rattle.mm_sides.proofs.Found.{FitsIn, IsFine, finding_fits, effect_fine, IsEnded, ended_told, affected_order, EntersSo, enters_so}
 

@@ -6,11 +6,12 @@ use Rattle.mm_sides.proofs.Below.{basic_instance, opt_instance, History, first_h
 use Rattle.mm_sides.proofs.Below.{place_messages, Reads, Refusal, messages_of_moves, list_level, instance_by, place_at, summary_in}
 use Rattle.mm_sides.proofs.Below.{TicketContent, IsTicket, TaggedTicket, ticket_tag, ticket_of, bytes_are, tickets_are_read, anchor_nil}
 use Rattle.mm_sides.proofs.Below.{clear_within, one_ask, run_messages, AreApartIn, Live, Waiting, Retired, Leaves, Enters, Invites}
-use Rattle.mm_sides.proofs.Below.{MoveNotes, no_notes, notes_with_effect, First, Second, Pair, BothSides, list_mover, first_both_by_lists, sides_swapped}
-use Rattle.mm_sides.proofs.Below.{Invite, Retire, Accept, FoundMove, DenialCause, is_offer_here, ticket_in, BothEvent, BothOutcome, Moves}
-use Rattle.mm_sides.proofs.Below.{Invited, Left, Entered, found_command, both_outcome, both_outcome_of_events, both_outcome_by_lists}
-use Rattle.mm_sides.proofs.Below.{notes_with_effect_if, read_moves, found_moves, offer_closing_messages, both_event_messages, both_messages}
-use Rattle.mm_sides.proofs.Below.{both_messages_from, AreFreshFrom, IsNew, IsOurs, IsOursIn, one_move, counters, MovesOnce}
+use Rattle.mm_sides.proofs.Below.{MoveNotes, no_notes, notes_with_effect, First, Second, Pair, BothSides, list_mover, first_both_by_lists}
+use Rattle.mm_sides.proofs.Below.{sides_swapped, Invite, Retire, Accept, FoundMove, DenialCause, is_offer_here, ticket_in, BothEvent}
+use Rattle.mm_sides.proofs.Below.{BothOutcome, Moves, Invited, Left, Entered, found_command, both_outcome, both_outcome_of_events}
+use Rattle.mm_sides.proofs.Below.{both_outcome_by_lists, notes_with_effect_if, read_moves, found_moves, offer_closing_messages}
+use Rattle.mm_sides.proofs.Below.{both_event_messages, both_messages, both_messages_from, AreFreshFrom, IsNew, IsOurs, IsOursIn, one_move}
+use Rattle.mm_sides.proofs.Below.{counters, MovesOnce}
 use Rattle.mm_digest.specs.LengthLaws.{length-zero_bytes, length-start_digest_of, length-hmac_of}
 use Rattle.mm_module.specs.CounterTable.{counter}
 use Rattle.mm_module.specs.CounterLaws.{counter_is_lawful}

@@ -3,11 +3,11 @@ use Rattle.mm_sides.proofs.Below.{ℕ, ◌≡◌, ◌≤◌, ◌+◌, true, fals
 use Rattle.mm_sides.proofs.Below.{◌∙◌, subst, arith, length-append, Batch, members_of, Meaning, Meddle, Stop, Variant, Basic, Opt, Instance}
 use Rattle.mm_sides.proofs.Below.{History, requests_of, Refusal, StepFate, walk, list_level, instance_by, Outcome, refusal_for_role}
 use Rattle.mm_sides.proofs.Below.{course_of, event_outcome, vain_event_outcome, event_steps, Role, Live, Effect, Invites, Enters, is_live}
-use Rattle.mm_sides.proofs.Below.{MoveNotes, no_notes, AreInOrder, SideName, First, Second, Pair, key_of, instance_on, BothSides, sides_swapped}
-use Rattle.mm_sides.proofs.Below.{list_mover, first_both_by_lists, MoveCommand, Accept, DenialCause, FoundMove, BothAct, Plain, Moves, BothEvent}
-use Rattle.mm_sides.proofs.Below.{BothOutcome, plain_outcome, sides_after_effect_if, state_after_steps, effect_of, move_steps}
-use Rattle.mm_sides.proofs.Below.{found_command, outcome_of_found_move, outcome_if_found, unissued_reply, outcome_here, both_outcome}
-use Rattle.mm_sides.proofs.Below.{BothRunOutcome, both_outcome_of_events, notes_with_effect_if, IsNew, IsOursIn, AreFreshFrom}
+use Rattle.mm_sides.proofs.Below.{MoveNotes, no_notes, AreInOrder, SideName, First, Second, Pair, key_of, instance_on, BothSides}
+use Rattle.mm_sides.proofs.Below.{sides_swapped, list_mover, first_both_by_lists, MoveCommand, Accept, DenialCause, FoundMove, BothAct}
+use Rattle.mm_sides.proofs.Below.{Plain, Moves, BothEvent, BothOutcome, plain_outcome, sides_after_effect_if, state_after_steps, effect_of}
+use Rattle.mm_sides.proofs.Below.{move_steps, found_command, outcome_of_found_move, outcome_if_found, unissued_reply, outcome_here}
+use Rattle.mm_sides.proofs.Below.{both_outcome, BothRunOutcome, both_outcome_of_events, notes_with_effect_if, IsNew, IsOursIn, AreFreshFrom}
 use Rattle.mm_sides.proofs.Below.{plain_events_in, plain_events, plain_reply, plain_replies, history_at, history_now, SidesRunAsOne}
 use Rattle.mm_schedule.specs.Events as events
 use Rattle.mm_schedule.specs.Machine.{IsBatchStep, IsStepWithoutBatch, IsRunStep, IsEventRun}

@@ -243,7 +243,8 @@ opt_here : (meaning : Meaning) (key barrier : List ℕ) (all others : List (List
     (c : Content) → IsClear all → AreNoGuards barrier others asked → IsWithin all others asked (opt_instance meaning key barrier) y
     → DigestsAgree (opt_instance meaning key barrier) y d → y.is_open ≡ false → AreMessagesIn (place_messages c.place) all
     → NamesPosition (opt_instance meaning key barrier) y c
-    → is_offer_here (digest_level (opt_instance meaning key barrier)) d c ≡ is_offer_here (list_level (opt_instance meaning key barrier)) y c
+    → is_offer_here (digest_level (opt_instance meaning key barrier)) d c ≡ is_offer_here (list_level (opt_instance meaning key barrier)) y
+    c
 opt_here meaning key barrier all others asked y d c clear apart w a shut listed names =
     let i = opt_instance meaning key barrier in
     let z : History = holding y [] in

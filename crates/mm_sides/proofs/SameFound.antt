@@ -4,11 +4,12 @@ use Rattle.mm_sides.proofs.Below.{bytes_eq, AllByRecursion, Contains, All-from_r
 use Rattle.mm_sides.proofs.Below.{Form, Kind, parts_of, Content, Snapshot, tag_of, Instance, History, AreMessagesIn, IsClear, Digests}
 use Rattle.mm_sides.proofs.Below.{NamesPosition, content_of_issue, IsGenuine, place_messages, Refusal, right_content, list_level}
 use Rattle.mm_sides.proofs.Below.{digest_level, check_by_tests, instance_by, weighed_alike, weighed_only, TicketContent, offered_bytes}
-use Rattle.mm_sides.proofs.Below.{KeepsHistory, AreApartIn, Role, Live, Retired, Leaves, Enters, MoveNotes, is_live, Pair, SideState, BothSides}
-use Rattle.mm_sides.proofs.Below.{list_mover, digest_mover, MoveCommand, Invite, Retire, Accept, DenialCause, Refused, Open, Gone}
-use Rattle.mm_sides.proofs.Below.{FoundMove, is_offer_here, verdict_here, found_retirement_by, retirement_with, retirement_on, ticket_in}
-use Rattle.mm_sides.proofs.Below.{repeated_entry, acceptance_on, found_retirement, found_acceptance, found_command, messages_of_closing}
-use Rattle.mm_sides.proofs.Below.{offer_closing_messages, command_messages, IsGenuineTo, IsGenuineCommand, IsOurs, IsOursOffered, IsOursFor}
+use Rattle.mm_sides.proofs.Below.{KeepsHistory, AreApartIn, Role, Live, Retired, Leaves, Enters, MoveNotes, is_live, Pair, SideState}
+use Rattle.mm_sides.proofs.Below.{BothSides, list_mover, digest_mover, MoveCommand, Invite, Retire, Accept, DenialCause, Refused, Open}
+use Rattle.mm_sides.proofs.Below.{Gone, FoundMove, is_offer_here, verdict_here, found_retirement_by, retirement_with, retirement_on}
+use Rattle.mm_sides.proofs.Below.{ticket_in, repeated_entry, acceptance_on, found_retirement, found_acceptance, found_command}
+use Rattle.mm_sides.proofs.Below.{messages_of_closing, offer_closing_messages, command_messages, IsGenuineTo, IsGenuineCommand, IsOurs}
+use Rattle.mm_sides.proofs.Below.{IsOursOffered, IsOursFor}
 use Rattle.mm_call.specs.OfferLaws.{right_is, is_right}
 use Rattle.mm_sides.proofs.Behind.{end_behind, IsBehind, RestsIn, there_same}
 use Rattle.mm_sides.proofs.Rests.{says_again, here_tells, end_of, IsAtEnd, open_same, here_same}

@@ -3,12 +3,13 @@ use Rattle.mm_sides.proofs.Below.{ℕ, ◌≡◌, Bool, true, false, List, [], �
 use Rattle.mm_sides.proofs.Below.{if◌then◌else◌, AllByRecursion, Variant, Meaning, StepFault, Meddle, Stop, sealed_snapshot_of, Instance}
 use Rattle.mm_sides.proofs.Below.{History, first_history, LiveHistory, life_of, NamesPosition, content_of_issue, each_append, StepFate}
 use Rattle.mm_sides.proofs.Below.{StepsWalk, walk, list_level, state_after_moves, instance_by, course_of, IsIssued, IsSoundIn, Role, Effect}
-use Rattle.mm_sides.proofs.Below.{Invites, Leaves, Enters, MoveNotes, no_notes, is_live, SideName, First, Second, Pair, instance_on, BothSides}
-use Rattle.mm_sides.proofs.Below.{sides_swapped, list_mover, first_both_by_lists, MoveCommand, DenialCause, FoundMove, BothAct, Plain, Moves}
-use Rattle.mm_sides.proofs.Below.{BothEvent, BothOutcome, is_moved, effect_if, effect_of, sides_after_effect_if, state_after_steps}
-use Rattle.mm_sides.proofs.Below.{stopped_moves, move_steps, sides_after_issue, move_end_outcome, outcome_of_found_move, outcome_if_found}
-use Rattle.mm_sides.proofs.Below.{found_command, outcome_here, both_outcome, BothRunOutcome, both_outcome_of_events, notes_with_effect_if}
-use Rattle.mm_sides.proofs.Below.{IsNew, IsOursIn, AreFreshFrom, ModuleEntersByLast, history_now, SnapshotsName, SidesIssueNames}
+use Rattle.mm_sides.proofs.Below.{Invites, Leaves, Enters, MoveNotes, no_notes, is_live, SideName, First, Second, Pair, instance_on}
+use Rattle.mm_sides.proofs.Below.{BothSides, sides_swapped, list_mover, first_both_by_lists, MoveCommand, DenialCause, FoundMove, BothAct}
+use Rattle.mm_sides.proofs.Below.{Plain, Moves, BothEvent, BothOutcome, is_moved, effect_if, effect_of, sides_after_effect_if}
+use Rattle.mm_sides.proofs.Below.{state_after_steps, stopped_moves, move_steps, sides_after_issue, move_end_outcome, outcome_of_found_move}
+use Rattle.mm_sides.proofs.Below.{outcome_if_found, found_command, outcome_here, both_outcome, BothRunOutcome, both_outcome_of_events}
+use Rattle.mm_sides.proofs.Below.{notes_with_effect_if, IsNew, IsOursIn, AreFreshFrom, ModuleEntersByLast, history_now, SnapshotsName}
+use Rattle.mm_sides.proofs.Below.{SidesIssueNames}
 use Rattle.mm_sides.proofs.InOrder.{not_dead, invites_none, roles_begin}
 use Rattle.mm_sides.proofs.Found.{Fits, FitsFound, FitsIn, finding_fits, IsFine, unbroken, found_is, IsEnded, ended_told, affected_order}
 use Rattle.mm_sides.proofs.Found.{enters_so}
@@ -60,7 +61,8 @@ module _ (variant : Variant) (meaning : Meaning) (key key' barrier : List ℕ) w
       → Left l.first.at effect → Affected l notes effect
   affected l notes (Some (Enters ticket)) k fine left =
       let effect : Option Effect = Some (Enters ticket) in
-      let alone : ModuleEntersByLast l.first.role l.second.role notes ticket = enters_so l.first.role l.second.role notes effect k.order fine in
+      let alone : ModuleEntersByLast l.first.role l.second.role notes ticket = enters_so l.first.role l.second.role notes
+      effect k.order fine in
       let away : history_now l ≡ l.away = away_history l alone.not_here alone.not_there in
       let z : History = record l.away { items = l.first.at.items } in
       let r = k.rests alone.not_here alone.not_there in
@@ -100,7 +102,8 @@ module _ (variant : Variant) (meaning : Meaning) (key key' barrier : List ℕ) w
   Tellable l (Enters ticket) = Answers l
   Tellable l effect = Unit {0}
 
-  told_issues : (pair : Pair) (l : BothSides History History) (notes : MoveNotes) (effect : Effect) → Issues me them l notes → Tellable l effect
+  told_issues : (pair : Pair) (l : BothSides History History) (notes : MoveNotes) (effect : Effect) → Issues me them l notes
+      → Tellable l effect
       → Issues me them (sides_after_issue list_mover pair me l effect) notes
   told_issues pair l notes (Enters ticket) k told =
       let y : History = l.first.at in
@@ -158,7 +161,8 @@ module _ (variant : Variant) (meaning : Meaning) (key key' barrier : List ℕ) w
       (t.live, issued_here variant meaning key barrier z sound (go (t.shut, (here_tells me y ticket.content t.here).live)).1)
   again_told l notes y again effect k go fits e = tt
 
-  move_told : (l : BothSides History History) (notes : MoveNotes) (y : History) (fates : ℕ → StepFate) (found : Result FoundMove DenialCause)
+  move_told : (l : BothSides History History) (notes : MoveNotes) (y : History) (fates : ℕ → StepFate)
+      (found : Result FoundMove DenialCause)
       → Issues me them l notes → (RestsOn y → RestsOn l.first.at) → FitsFound list_mover me y notes l.first.role found
       → Entered l (effect_of fates found) → (f : FoundMove) → found ≡ Ok f → (walk fates 1 (move_steps found)).broken ≡ None
       → Tellable (sides_after_effect_if list_mover l (effect_of fates found)) f.effect
@@ -184,7 +188,8 @@ module _ (variant : Variant) (meaning : Meaning) (key key' barrier : List ℕ) w
       outer_sound me keep P (stopped_moves stop w.broken) (state_after_moves (list_level me) y w.moves) (stopped_outer P stop w.broken)
       (outer_sound me keep P w.moves y (found_outer P fates found (λ n. any_value (fates n).brings)) sound)
 
-  moved_issues : (pair : Pair) (l : BothSides History History) (notes : MoveNotes) (meddles : List Meddle) (stop : Stop) (command : MoveCommand)
+  moved_issues : (pair : Pair) (l : BothSides History History) (notes : MoveNotes) (meddles : List Meddle) (stop : Stop)
+      (command : MoveCommand)
       (found : Option (Result FoundMove DenialCause)) → Issues me them l notes
       → IsOrdered l.first.role l.second.role notes (outcome_if_found list_mover pair me l meddles stop command found)
       → FitsIn list_mover me l.first.at notes l.first.role found

@@ -37,8 +37,8 @@ pub use Rattle.mm_schedule.specs.declared.event.Offer.{Offer}
 pub use Rattle.mm_schedule.specs.declared.event.Offer.TheVariants.{Last}
 pub use Rattle.mm_schedule.specs.declared.reply.Reply.{Reply}
 pub use Rattle.mm_schedule.specs.declared.reply.Way.{Way}
-pub use Rattle.mm_outcome.specs.Folds.{Outcome, moves_after_stop, course_of, vain_event_outcome, event_outcome, first_digests, first_snapshots}
-pub use Rattle.mm_outcome.specs.Folds.{way_of}
+pub use Rattle.mm_outcome.specs.Folds.{Outcome, moves_after_stop, course_of, vain_event_outcome, event_outcome, first_digests}
+pub use Rattle.mm_outcome.specs.Folds.{first_snapshots, way_of}
 pub use Rattle.mm_outcome.specs.Laws.{IsIssued}
 pub use Rattle.mm_outcome.specs.EventOffers.{offered_bytes}
 pub use Rattle.mm_outcome.specs.Premises.{IsGenuineEvent, batches_of, event_messages, event_foreign_values, moves_of, AreApartIn}

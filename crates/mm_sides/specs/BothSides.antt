@@ -35,7 +35,8 @@ pub record SideState (S : Type 0) : Type 0 where
   pub at : S
   pub issued : List (List ℕ)
 
--- BothSides sides; what is kept of where the module stood when it left last; the tickets handed out; and
+-- BothSides sides; what is kept of where the module stood when it left last; the tickets handed
+-- out; and
 -- how many requests were committed, on either side.
 pub record BothSides (S A : Type 0) : Type 0 where
   pub first : SideState S

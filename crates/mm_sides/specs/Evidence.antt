@@ -51,7 +51,8 @@ pub data HasPairEvidence (pair : Pair) (events : List BothEvent) : Type 0 where
   breach : (before : List BothEvent) (event : BothEvent) (later : List BothEvent)
       → events ≡ before ++ event ∷ later
       → IsBreach pair (both_outcome_by_lists pair before).both
-      (notes_after pair (first_both_by_lists pair) no_notes before) event → HasPairEvidence pair events
+      (notes_after pair (first_both_by_lists pair) no_notes before) event
+      → HasPairEvidence pair events
 
 -- A run of both sides meets the premises, or gives evidence; and never both.
 pub record IsDecidedPair (pair : Pair) (events : List BothEvent) : Type 0 where

@@ -6,8 +6,8 @@ use Rattle.mm_sides.specs.Below.{End, Done, Fails, StepFate, walk, sealed_ticket
 use Rattle.mm_sides.specs.Below.{course_of, event_outcome, vain_event_outcome, offered_bytes}
 use Rattle.mm_model.specs.declared.refusal.Refusal.TheVariants as refusal
 use Rattle.mm_sides.specs.Roles.{Role, Blank, Live, Waiting, Retired, Effect, Invites, Leaves, Enters, MoveNotes, notes_with_effect}
-use Rattle.mm_sides.specs.BothSides.{SideName, First, Second, Pair, instance_on, SideState, BothSides, sides_swapped, sides_seen_from, Mover, list_mover}
-use Rattle.mm_sides.specs.BothSides.{digest_mover, first_both_by_lists, first_both_by_digests}
+use Rattle.mm_sides.specs.BothSides.{SideName, First, Second, Pair, instance_on, SideState, BothSides, sides_swapped, sides_seen_from}
+use Rattle.mm_sides.specs.BothSides.{Mover, list_mover, digest_mover, first_both_by_lists, first_both_by_digests}
 use Rattle.mm_sides.specs.Moves.{MoveCommand, Invite, Retire, Accept, DenialCause, FoundMove, invitation_on, retirement_on, acceptance_on}
 use Rattle.mm_sides.specs.Moves.{ticket_in}
 
@@ -135,7 +135,8 @@ sides_after_effect mover both (Enters ticket) =
           { role = Live; at = mover.enters both.first.at both.away ticket.content };
     }
 
-abbrev pub sides_after_effect_if : {S A : Type 0} → Mover S A → BothSides S A → Option Effect → BothSides S A
+abbrev pub sides_after_effect_if : {S A : Type 0} → Mover S A → BothSides S A → Option Effect
+    → BothSides S A
 sides_after_effect_if mover both None = both
 sides_after_effect_if mover both (Some effect) = sides_after_effect mover both effect
 
@@ -204,7 +205,8 @@ found_acceptance mover pair i side None = None
 found_acceptance mover pair i side (Some bytes) =
     Some (acceptance_on (mover.level i) side.role side.at (ticket_in pair bytes))
 
-abbrev pub found_command : {S A : Type 0} → Mover S A → Pair → Instance → BothSides S A → MoveCommand
+abbrev pub found_command : {S A : Type 0} → Mover S A → Pair → Instance → BothSides S A
+    → MoveCommand
     → Option (Result FoundMove DenialCause)
 found_command mover pair i both (Invite nonce) = Some (invitation_on both.first.role nonce)
 found_command mover pair i both (Retire nonce offer) =
@@ -217,7 +219,8 @@ unissued_reply (Accept offer) = NoTicket
 unissued_reply command = NoSnapshot
 
 -- a command: where its number isn't issued nothing is called
-abbrev pub outcome_if_found : {S A : Type 0} → Mover S A → Pair → Instance → BothSides S A → List Meddle
+abbrev pub outcome_if_found : {S A : Type 0} → Mover S A → Pair → Instance → BothSides S A
+    → List Meddle
     → Stop
     → MoveCommand
     → Option (Result FoundMove DenialCause) → BothOutcome S A
@@ -244,7 +247,8 @@ outcome_swapped First o = o
 outcome_swapped Second o = record o { both = sides_swapped o.both }
 
 -- one event
-abbrev pub both_outcome : {S A : Type 0} → Mover S A → Pair → BothSides S A → BothEvent → BothOutcome S A
+abbrev pub both_outcome : {S A : Type 0} → Mover S A → Pair → BothSides S A → BothEvent
+    → BothOutcome S A
 both_outcome mover pair both event =
     outcome_swapped event.which
     (outcome_here mover pair (instance_on pair event.which)
@@ -255,7 +259,8 @@ pub record BothRunOutcome (S A : Type 0) : Type 0 where
   pub both : BothSides S A
   pub replies : List BothReply
 
-abbrev pub both_outcome_of_events : {S A : Type 0} → Mover S A → Pair → BothSides S A → List BothEvent
+abbrev pub both_outcome_of_events : {S A : Type 0} → Mover S A → Pair → BothSides S A
+    → List BothEvent
     → BothRunOutcome S A
 both_outcome_of_events mover pair both [] = record { both = both; replies = [] }
 both_outcome_of_events mover pair both (event ∷ events) =
@@ -265,7 +270,8 @@ both_outcome_of_events mover pair both (event ∷ events) =
 
 -- a schedule from the start: by lists, and by digests
 abbrev pub both_outcome_by_lists : Pair → List BothEvent → BothRunOutcome History History
-both_outcome_by_lists pair events = both_outcome_of_events list_mover pair (first_both_by_lists pair) events
+both_outcome_by_lists pair events = both_outcome_of_events list_mover pair
+    (first_both_by_lists pair) events
 
 abbrev pub both_outcome_by_digests : Pair → List BothEvent → BothRunOutcome Digests ℕ
 both_outcome_by_digests pair events = both_outcome_of_events digest_mover pair

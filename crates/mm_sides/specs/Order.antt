@@ -102,4 +102,5 @@ AreNotBothLive this other = is_live this ≡ true → is_live other ≡ false
 
 abbrev pub RolesAreOne : Type 0
 RolesAreOne =
-    (this other : Role) (notes : MoveNotes) → AreInOrder this other notes → AreNotBothLive this other
+    (this other : Role) (notes : MoveNotes) → AreInOrder this other notes
+    → AreNotBothLive this other

@@ -7,7 +7,8 @@ use Rattle.mm_sides.specs.Below.{place_messages, DeviceStep, Reads, Refusal, mes
 use Rattle.mm_sides.specs.Below.{Ask, Checkpoint, Power, Extend, course_of, offered_bytes, moves_of, event_messages, event_foreign_values}
 use Rattle.mm_sides.specs.Below.{batches_of, IsGenuineEvent, AreApartIn, IsGenuineOffer}
 use Rattle.mm_sides.specs.Roles.{Role, Live, Retired, Effect, Invites, MoveNotes, no_notes}
-use Rattle.mm_sides.specs.BothSides.{First, Pair, instance_on, SideState, BothSides, sides_seen_from, history_now, list_mover, first_both_by_lists}
+use Rattle.mm_sides.specs.BothSides.{First, Pair, instance_on, SideState, BothSides, sides_seen_from, history_now, list_mover}
+use Rattle.mm_sides.specs.BothSides.{first_both_by_lists}
 use Rattle.mm_sides.specs.Moves.{MoveCommand, Retire, Accept, FoundMove, DenialCause, ticket_in}
 use Rattle.mm_sides.specs.Folds.{BothAct, Plain, Moves, BothEvent, move_steps, found_command, both_outcome, notes_with_effect_if}
 

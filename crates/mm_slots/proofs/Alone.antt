@@ -2,9 +2,9 @@
 use Rattle.mm_slots.proofs.Below.{◌≡◌, ◌∙◌, ◌+◌, ◌==◌, ℕ, zero, suc, Bool, true, false, cond, List, [], ◌∷◌, ◌++◌, map, Option, Some, refl}
 use Rattle.mm_slots.proofs.Below.{sym, ap, arith, append-nil, slice_get, option_map, option_map_or, eqb-true, append_assoc, Instance}
 use Rattle.mm_slots.proofs.Below.{SlotAction, SlotEvent, Power, At, SlotReply, Tenant, SlotTurn, Meeting, Acts, Loses, turn_by_met}
-use Rattle.mm_slots.proofs.Below.{turn_by_action, turn_over_all, Row, instance_of, row_after, items_by_place, rows_after_event, is_cut_for_all}
-use Rattle.mm_slots.proofs.Below.{event_meetings, slot_meetings, SlotAnswer, PowerLost, Says, slot_replies_at, answers_to, answers}
-use Rattle.mm_slots.proofs.Below.{slot_replies_for, SlotsAreAlone, length, None, ◌>>=◌, flat_map-append, answer_text, answers_text}
+use Rattle.mm_slots.proofs.Below.{turn_by_action, turn_over_all, Row, instance_of, row_after, items_by_place, rows_after_event}
+use Rattle.mm_slots.proofs.Below.{is_cut_for_all, event_meetings, slot_meetings, SlotAnswer, PowerLost, Says, slot_replies_at, answers_to}
+use Rattle.mm_slots.proofs.Below.{answers, slot_replies_for, SlotsAreAlone, length, None, ◌>>=◌, flat_map-append, answer_text, answers_text}
 use Rattle.mm_slots.proofs.Below.{event_at, SlotsState, slots_steps, rows_after_all}
 use Rattle.mm_play.specs.StageShows.{state_behind_events, replies, TakesEvents}
 use Rattle.mm_slots.specs.Stage.{slots_stage}

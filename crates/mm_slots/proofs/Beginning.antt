@@ -2,12 +2,12 @@
 use Rattle.mm_slots.proofs.Below.{◌≡◌, ◌∙◌, ◌+◌, ◌<◌, ℕ, true, false, List, [], length, Option, None, Some, IsSome, refl, sym, ap, subst}
 use Rattle.mm_slots.proofs.Below.{arith, vec_capacity, option_map, One, meaning_of, Meddle, Quiet, Item, Plan, Standing, next_step}
 use Rattle.mm_slots.proofs.Below.{item_values, register_after, next_plan, quiet_plan, plan_with_meddle, standing_after_cycle, Foreign}
-use Rattle.mm_slots.proofs.Below.{PowerMove, is_long, Digests, digests_after, register_reading, Extend, rising_bytes_from, offered_bytes, plan_by}
-use Rattle.mm_slots.proofs.Below.{meddled, digest_in, flag_in, HasDigests, IsQuiet, extended_standing, stands_extended, stands_settled}
-use Rattle.mm_slots.proofs.Below.{asks_begun, closes_begun, may_take_in, SlotAction, AskInFlight, CodeFlight, SlotReply, Begun, Replied}
-use Rattle.mm_slots.proofs.Below.{Parts, SlotTurn, Asks, event_turn, turn_saying, tenant_with_flight, first_flight, begin_turn, turn_by_action}
-use Rattle.mm_slots.proofs.Below.{turn_in_flight, flight_with_meddle, digests_in, slot_in, flight_in, call_in, instance_in, PartsFit, SlotComesTo}
-use Rattle.mm_slots.proofs.Below.{SlotLosesPower, parts_with_flight, HasRegister, SeatStaysOn}
+use Rattle.mm_slots.proofs.Below.{PowerMove, is_long, Digests, digests_after, register_reading, Extend, rising_bytes_from, offered_bytes}
+use Rattle.mm_slots.proofs.Below.{plan_by, meddled, digest_in, flag_in, HasDigests, IsQuiet, extended_standing, stands_extended}
+use Rattle.mm_slots.proofs.Below.{stands_settled, asks_begun, closes_begun, may_take_in, SlotAction, AskInFlight, CodeFlight, SlotReply}
+use Rattle.mm_slots.proofs.Below.{Begun, Replied, Parts, SlotTurn, Asks, event_turn, turn_saying, tenant_with_flight, first_flight}
+use Rattle.mm_slots.proofs.Below.{begin_turn, turn_by_action, turn_in_flight, flight_with_meddle, digests_in, slot_in, flight_in, call_in}
+use Rattle.mm_slots.proofs.Below.{instance_in, PartsFit, SlotComesTo, SlotLosesPower, parts_with_flight, HasRegister, SeatStaysOn}
 use Rattle.mm_digest.specs.declared.digest.Digest.{Digest}
 use Rattle.mm_schedule.specs.declared.reply.Reply.TheVariants as reply
 use Rattle.mm_machine.specs.declared.call.OpStage.{OpStage}
@@ -46,7 +46,8 @@ quiet_next standing q = plan_is standing quiet_plan q.plan
 flight_begins : (slot : Parts) (flight : CodeFlight) (what : SlotAction) → IsQuiet slot.seat.platform
     → SlotCallFlies slot.seat.header (instance_in slot) (digests_in slot) slot.seat.platform flight slot.seat.platform [] 1
     → MayGoOn slot.seat.issued.items (vec_capacity slot.seat.issued) flight
-    → turn_saying (tenant_with_flight (slot_in slot) (first_flight (call_in flight))) Begun ≡ turn_by_action (instance_in slot) (slot_in slot) what
+    → turn_saying (tenant_with_flight (slot_in slot) (first_flight (call_in flight))) Begun ≡ turn_by_action (instance_in slot)
+    (slot_in slot) what
     → SlotComesTo slot (parts_with_flight slot flight) (turn_by_action (instance_in slot) (slot_in slot) what) Begun
 flight_begins slot flight what q begins may opens =
     let standing = slot.seat.platform in
@@ -161,7 +162,8 @@ joins_comes : (slot : Parts) (new : Standing) (tally : Counted slot) (bound : Bo
 joins_comes slot new tally bound flight value some m fits =
     let s = slot_in slot in
     let old = slot.seat.platform in
-    let on : SlotTurn = turn_saying (tenant_with_flight s (flight_with_meddle (flight_of old flight) value.bytes)) (Replied reply.Extended) in
+    let on : SlotTurn = turn_saying (tenant_with_flight s (flight_with_meddle (flight_of old flight) value.bytes))
+    (Replied reply.Extended) in
     let flies : flight_in (next_plan new) slot.flight ≡ Some (flight_with_meddle (flight_of old flight) value.bytes) =
     ap (flight_in (next_plan new)) some
     ∙ (λ j. Some (record { call = call_in flight; meddles = (m.plan j).meddles; next = (m.plan j).at + 1 })) in

@@ -65,14 +65,14 @@ pub use Rattle.mm_slots.specs.Rows.{RowActs, SlotActsAt, CanCount, IsCounted, Is
 pub use Rattle.mm_slots.specs.Rows.{meetings_at, losses_of_others, EventTells, rows_after_meetings}
 pub use Rattle.mm_world.specs.Seat.{extended_standing, IsFirst, SeatStaysOn}
 pub use Rattle.mm_slots.specs.Tenant.{turn_by_action, turn_in_flight, Acts, Asks, first_flight, begin_turn, SlotCall, Closes, event_by}
-pub use Rattle.mm_slots.specs.Tenant.{first_tenant, Flight, tenant_with_flight, turn_over_all, flight_with_meddle, Loses, turn_saying, Meeting}
-pub use Rattle.mm_slots.specs.Tenant.{outcome_in, event_turn, Tenant, tenant_instance, event_so_far, step_turn, stop_at, SlotTurn}
+pub use Rattle.mm_slots.specs.Tenant.{first_tenant, Flight, tenant_with_flight, turn_over_all, flight_with_meddle, Loses, turn_saying}
+pub use Rattle.mm_slots.specs.Tenant.{Meeting, outcome_in, event_turn, Tenant, tenant_instance, event_so_far, step_turn, stop_at, SlotTurn}
 pub use Rattle.mm_slots.specs.Tenant.{turn_by_met, power_turn, ActionLacksMemory}
 pub use Rattle.mm_slots.specs.Slots.{slots_after_cycle, selected_standing, Slots}
 pub use Rattle.mm_slots.specs.Stage.{kept_bytes_in, slots_steps, SlotsState}
-pub use Rattle.mm_slots.specs.Table.{rows_after_event, rows_after_all, SlotAnswer, answers, answers_to, items_by_place, is_cut_for_all, first_row}
-pub use Rattle.mm_slots.specs.Table.{first_rows, RowsLackMemory, instance_of, is_cut, slot_meetings, event_meetings, PowerLost, Row}
-pub use Rattle.mm_slots.specs.Table.{row_after, slot_replies_at, slot_replies_for, Says, OneRowLacksMemory}
+pub use Rattle.mm_slots.specs.Table.{rows_after_event, rows_after_all, SlotAnswer, answers, answers_to, items_by_place, is_cut_for_all}
+pub use Rattle.mm_slots.specs.Table.{first_row, first_rows, RowsLackMemory, instance_of, is_cut, slot_meetings, event_meetings, PowerLost}
+pub use Rattle.mm_slots.specs.Table.{Row, row_after, slot_replies_at, slot_replies_for, Says, OneRowLacksMemory}
 pub use Rattle.mm_slots.specs.declared.event.SlotAction.{SlotAction}
 pub use Rattle.mm_slots.specs.declared.event.SlotEvent.{SlotEvent}
 pub use Rattle.mm_slots.specs.declared.event.SlotEvent.TheVariants.{At, Power}

@@ -1,8 +1,8 @@
 -- All slots lose their power, and what an event leaves of them.
 use Rattle.mm_slots.proofs.Below.{◌≡◌, ◌∙◌, ◌≤◌, ◌<◌, ◌==◌, ℕ, Bool, true, false, cond, List, [], ◌∷◌, ◌++◌, length, get_or, Option, refl}
 use Rattle.mm_slots.proofs.Below.{sym, ap, arith, option_map_or, slice_get-get_or, ne_eqb, if◌then◌else◌, SlotAction, Power, At, SlotReply}
-use Rattle.mm_slots.proofs.Below.{Meeting, Acts, Loses, Row, rows_after_event, is_cut, is_cut_for_all, event_meetings, SlotActsAt, EventTells}
-use Rattle.mm_slots.proofs.Below.{losses_of_others, meetings_at, rows_after_meetings}
+use Rattle.mm_slots.proofs.Below.{Meeting, Acts, Loses, Row, rows_after_event, is_cut, is_cut_for_all, event_meetings, SlotActsAt}
+use Rattle.mm_slots.proofs.Below.{EventTells, losses_of_others, meetings_at, rows_after_meetings}
 use Rattle.mm_slots.proofs.Rowing.{touched_more, touched_none, touched_same}
 
 -- where no slot has the number, all lose their power

@@ -4,10 +4,11 @@ use Rattle.mm_slots.proofs.Below.{length, Option, None, Some, Result, Ok, Err, O
 use Rattle.mm_slots.proofs.Below.{slice_set, most_events, most_members, Batch, One, Quiet, Instance, digest_level, state_after_moves}
 use Rattle.mm_slots.proofs.Below.{course_of, few_committed, issues_one, count_none, stop_behind, offered_bytes, is_long, Offer, Event, Ask}
 use Rattle.mm_slots.proofs.Below.{Extend, Header, SlotEvent, Power, At, SlotAction, IsWithin, KeepsAll, Row, row_after, items_by_place}
-use Rattle.mm_slots.proofs.Below.{first_row, first_rows, rows_after_event, event_meetings, is_cut_for_all, RowsLackMemory, OneRowLacksMemory}
-use Rattle.mm_slots.proofs.Below.{Tenant, Flight, SlotTurn, Meeting, Acts, Loses, instance_of, ActionLacksMemory, turn_in_flight}
-use Rattle.mm_slots.proofs.Below.{begin_turn, event_by, tenant_with_flight, flight_with_meddle, first_flight, turn_saying, event_turn, event_so_far}
-use Rattle.mm_slots.proofs.Below.{Going, is_nothing, outcome_in, stop_at, turn_by_met, Begun, SlotCall, Asks, Closes}
+use Rattle.mm_slots.proofs.Below.{first_row, first_rows, rows_after_event, event_meetings, is_cut_for_all, RowsLackMemory}
+use Rattle.mm_slots.proofs.Below.{OneRowLacksMemory, Tenant, Flight, SlotTurn, Meeting, Acts, Loses, instance_of, ActionLacksMemory}
+use Rattle.mm_slots.proofs.Below.{turn_in_flight, begin_turn, event_by, tenant_with_flight, flight_with_meddle, first_flight, turn_saying}
+use Rattle.mm_slots.proofs.Below.{event_turn, event_so_far, Going, is_nothing, outcome_in, stop_at, turn_by_met, Begun, SlotCall, Asks}
+use Rattle.mm_slots.proofs.Below.{Closes}
 use Rattle.std.specs.List.{All}
 use Rattle.std.specs.Prelude.{take, drop, ◌++◌}
 use Rattle.std.proofs.lemmas.List.Elements.{All-cons, All-head, All-nil, All-set, All-tail, All-weaker}

@@ -28,7 +28,8 @@ by_test P true one other first second = first
 by_test P false one other first second = second
 
 begun_by : (P : SlotTurn → Type 0) (i : Instance) (slot : Tenant) (offer : Offer) (batch : Batch) (bytes : Option (List ℕ))
-    → P (event_turn i slot (Ask [] stop.Quiet offer batch)) → P (turn_saying (tenant_with_flight slot (first_flight (Asks offer batch))) Begun)
+    → P (event_turn i slot (Ask [] stop.Quiet offer batch))
+    → P (turn_saying (tenant_with_flight slot (first_flight (Asks offer batch))) Begun)
     → P (begin_turn i slot offer batch bytes)
 begun_by P i slot offer batch None refuses begins = refuses
 begun_by P i slot offer batch (Some bytes) refuses begins =

@@ -14,13 +14,15 @@ unfolding rising_bytes_from
 length-rising n = length-range_with_len n 32
 
 -- a slot over a platform that was provisioned with its key and barrier
-module _ (header : Header) (slot : Parts) (f : IsFirst header (rising_bytes_from slot.number) (rising_bytes_from (128 + slot.number)) slot.seat)
+module _ (header : Header) (slot : Parts)
+    (f : IsFirst header (rising_bytes_from slot.number) (rising_bytes_from (128 + slot.number)) slot.seat)
     (register : slot.register.bytes ≡ zero_bytes) (none : slot.flight ≡ None) where
   stands_there : HasDigests (instance_in slot) slot.seat.platform (first_digests (tenant_instance header slot.number))
   stands_there =
       let i = tenant_instance header slot.number in
       let cell = cell_spelling (cell_of i first_history) in
-      let new = stands_new header.variant (meaning_of header.«module») (rising_bytes_from slot.number) (rising_bytes_from (128 + slot.number)) cell
+      let new = stands_new header.variant (meaning_of header.«module») (rising_bytes_from slot.number)
+      (rising_bytes_from (128 + slot.number)) cell
       (length-rising slot.number) (length-rising (128 + slot.number)) refl in
       let stands = subst (λ (x : Standing). HasDigests i x (first_digests i)) (sym f.platform) new in
       subst (λ (h : Header). HasDigests (tenant_instance h slot.number) slot.seat.platform (first_digests i)) (sym f.headed) stands

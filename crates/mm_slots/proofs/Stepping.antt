@@ -4,9 +4,9 @@ use Rattle.mm_slots.proofs.Below.{refl, sym, ap, subst, arith, eq-eqb, One, mean
 use Rattle.mm_slots.proofs.Below.{Digests, digest_level, state_after_moves, course_of, rising_bytes_from, plan_by, CallReport, is_nothing}
 use Rattle.mm_slots.proofs.Below.{stop_behind, FlightStepsAs, FlightBreaksAs, MayStepOn, asks_stepped, asks_broken_off, closes_stepped}
 use Rattle.mm_slots.proofs.Below.{closes_broken_off, AskInFlight, CheckpointInFlight, CodeFlight, SlotReply, Going, Parts, SlotTurn}
-use Rattle.mm_slots.proofs.Below.{outcome_in, event_turn, turn_saying, tenant_with_flight, event_so_far, step_turn, event_by, stop_at, digests_in}
-use Rattle.mm_slots.proofs.Below.{slot_in, call_in, instance_in, PartsFit, SlotLacksMemory, SlotComesTo, parts_with_flight, flight_in}
-use Rattle.mm_slots.proofs.Below.{HasRegister, CallEndsIn, count_none, vec_capacity}
+use Rattle.mm_slots.proofs.Below.{outcome_in, event_turn, turn_saying, tenant_with_flight, event_so_far, step_turn, event_by, stop_at}
+use Rattle.mm_slots.proofs.Below.{digests_in, slot_in, call_in, instance_in, PartsFit, SlotLacksMemory, SlotComesTo, parts_with_flight}
+use Rattle.mm_slots.proofs.Below.{flight_in, HasRegister, CallEndsIn, count_none, vec_capacity}
 use Rattle.mm_base.specs.declared.fault.Memory.{Memory}
 use Rattle.mm_platform.specs.Steps.{fault_at}
 use Rattle.mm_model.specs.declared.answer.BatchAnswer.{BatchAnswer}
@@ -58,7 +58,8 @@ asks_come slot it new result fits s =
     let f = call_of slot (code.Asks it) fits in
     let p = next_plan slot.seat.platform in
     asks_stepped h.variant (meaning_of h.«module») it.bytes (One it.request) f.may.short it.call slot.seat.platform new result s.steps
-    s.room (rising_bytes_from slot.number) (rising_bytes_from (128 + slot.number)) (digests_in (parts_with_flight slot (code.Asks it))) f.from
+    s.room (rising_bytes_from slot.number) (rising_bytes_from (128 + slot.number)) (digests_in (parts_with_flight slot (code.Asks it)))
+    f.from
     slot.seat.issued.items p.meddles (p.at + 1) it.offer f.flies f.may.offered
 
 closes_come : (slot : Parts) (it : CheckpointInFlight) (new : Standing) (result : Result (FlightOutcome Checkpointed) Memory)

@@ -122,7 +122,8 @@ flight_with_meddle flight value = record flight {
 abbrev pub turn_in_flight : Instance → Tenant → Option Flight → SlotAction → SlotTurn
 turn_in_flight i slot None (action.Begin offer request) =
     begin_turn i slot offer (One request) (offered_bytes slot.issued offer)
-turn_in_flight i slot None action.Close = turn_saying (tenant_with_flight slot (first_flight Closes)) Begun
+turn_in_flight i slot None action.Close =
+    turn_saying (tenant_with_flight slot (first_flight Closes)) Begun
 turn_in_flight i slot None action.Step = turn_saying slot Idle
 turn_in_flight i slot None (action.Break how) = turn_saying slot Idle
 turn_in_flight i slot None (action.Extend value) = event_turn i slot (Extend value.bytes)
@@ -132,7 +133,8 @@ turn_in_flight i slot (Some flight) action.Step = step_turn i slot flight
 turn_in_flight i slot (Some flight) (action.Break how) =
     event_turn i slot (event_by flight.call flight.meddles (stop_at how flight.next))
 turn_in_flight i slot (Some flight) (action.Extend value) =
-    turn_saying (tenant_with_flight slot (flight_with_meddle flight value.bytes)) (Replied reply.Extended)
+    turn_saying (tenant_with_flight slot (flight_with_meddle flight value.bytes))
+    (Replied reply.Extended)
 
 abbrev pub turn_by_action : Instance → Tenant → SlotAction → SlotTurn
 turn_by_action i slot what = turn_in_flight i slot slot.flight what

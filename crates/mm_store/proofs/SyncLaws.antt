@@ -11,7 +11,8 @@ marking-twice slot one other marks = grind (arith, nat_tests)
 -- a slot alone is marked
 pub marks_alone : (slot : ℕ) (mark : Bool) (old new : Option UnsyncedSlots) → new ≡ unsynced_slots_with_mark slot mark old →
     MarksSlotAlone slot old new
-marks_alone slot mark old new e = ap (λ (x : Option UnsyncedSlots). unsynced_slots_with_mark slot true x) e ∙ marking-twice slot mark true old
+marks_alone slot mark old new e = ap (λ (x : Option UnsyncedSlots). unsynced_slots_with_mark slot true x) e
+    ∙ marking-twice slot mark true old
 
 -- what a slot is marked with in the end
 pub marked_last : (slot : ℕ) (mark : Bool) (old mid new : Option UnsyncedSlots) → MarksSlotAlone slot old mid →

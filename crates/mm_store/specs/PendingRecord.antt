@@ -34,12 +34,14 @@ pending_spelling p = pending_front p ++ sha256 (pending_front p)
 -- what reading a slot's bytes as a record gives: there is one answer for each slot and list of
 -- bytes
 abbrev pub ReadsPendingRecord : ℕ → List ℕ → Option PendingRecord → Type 0
-ReadsPendingRecord slot bytes None = (p : PendingRecord) → IsPending slot p → bytes ≢ pending_spelling p
+ReadsPendingRecord slot bytes None = (p : PendingRecord) → IsPending slot p
+    → bytes ≢ pending_spelling p
 ReadsPendingRecord slot bytes (Some p) = IsPending slot p × (bytes ≡ pending_spelling p)
 
 -- the law of the format: a slot's bytes have one reading
 abbrev pub HasOneReading : Type 0
-HasOneReading = (slot : ℕ) (bytes : List ℕ) (p q : Option PendingRecord) → ReadsPendingRecord slot bytes p
+HasOneReading = (slot : ℕ) (bytes : List ℕ) (p q : Option PendingRecord)
+    → ReadsPendingRecord slot bytes p
     →
     ReadsPendingRecord slot bytes q → p ≡ q
 

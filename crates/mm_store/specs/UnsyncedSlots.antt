@@ -23,11 +23,13 @@ unsynced_slots_with marks n mark =
 
 -- the same where it is told
 abbrev pub unsynced_slots_with_mark : ℕ → Bool → Option UnsyncedSlots → Option UnsyncedSlots
-unsynced_slots_with_mark slot mark marks = option_map (λ told. unsynced_slots_with told slot mark) marks
+unsynced_slots_with_mark slot mark marks =
+    option_map (λ told. unsynced_slots_with told slot mark) marks
 
 -- of the other slots the same is told as before
 abbrev pub MarksSlotAlone : ℕ → Option UnsyncedSlots → Option UnsyncedSlots → Type 0
-MarksSlotAlone slot old new = unsynced_slots_with_mark slot true new ≡ unsynced_slots_with_mark slot true old
+MarksSlotAlone slot old new = unsynced_slots_with_mark slot true new
+    ≡ unsynced_slots_with_mark slot true old
 
 -- no slot has such changes
 abbrev pub synced_slots : UnsyncedSlots

@@ -4,11 +4,11 @@ use Rattle.mm_transfer.proofs.Below.{inr, refl, sym, ap, ◌∙◌, subst, arith
 use Rattle.mm_transfer.proofs.Below.{Meddle, Stop, Standing, Instance, Digests, walk, digest_level, course_of, offered_bytes, Offer}
 use Rattle.mm_transfer.proofs.Below.{MoveRefusal, moved_cell_of, acceptance_in, TicketContent, ticket_of, place_at, Content}
 use Rattle.mm_transfer.proofs.Below.{sealed_snapshot_of, digest_of, Role, Effect, Enters, is_live, role_after, SideName, Pair, key_of}
-use Rattle.mm_transfer.proofs.Below.{instance_on, BothSides, digest_mover, DenialCause, FoundMove, Accept, acceptance_on, ticket_by, ticket_in}
-use Rattle.mm_transfer.proofs.Below.{move_steps, effect_of, sides_after_issue, effect_reply, found_acceptance, IssuedTickets, MoveReply}
-use Rattle.mm_transfer.proofs.Below.{CodeSide, TellsEntry, both_with, outcome_of_command, FitsIssuedTickets, CommandDone, CommandLacks}
-use Rattle.mm_transfer.proofs.Below.{has_moved, link_of, role_in, at_in, FitsSide, move_reply_of, cell_of_role, digests_after_move}
-use Rattle.mm_transfer.proofs.Below.{GivesEntry, GivesEntryBy, FitsLive, MatchesRole, FitsCell}
+use Rattle.mm_transfer.proofs.Below.{instance_on, BothSides, digest_mover, DenialCause, FoundMove, Accept, acceptance_on, ticket_by}
+use Rattle.mm_transfer.proofs.Below.{ticket_in, move_steps, effect_of, sides_after_issue, effect_reply, found_acceptance, IssuedTickets}
+use Rattle.mm_transfer.proofs.Below.{MoveReply, CodeSide, TellsEntry, both_with, outcome_of_command, FitsIssuedTickets, CommandDone}
+use Rattle.mm_transfer.proofs.Below.{CommandLacks, has_moved, link_of, role_in, at_in, FitsSide, move_reply_of, cell_of_role}
+use Rattle.mm_transfer.proofs.Below.{digests_after_move, GivesEntry, GivesEntryBy, FitsLive, MatchesRole, FitsCell}
 use Rattle.mm_move.specs.declared.accepting.Accepted.{Accepted}
 use Rattle.mm_transfer.specs.declared.reply.MoveReply.TheVariants as reply
 use Rattle.mm_transfer.proofs.Commanded.{by_known, IsIdle, chosen, whole, tell, Told, told_still, move_done, Named}
@@ -63,7 +63,8 @@ handed_entry pair i both d away again effect accepted g at = absurd g
 
 accepts_pair : (pair : Pair) (which : SideName) (role : Role) (d : Digests) (bytes : List ℕ)
     → FitsCell (instance_on pair which) (link_of pair) role d → (let i = instance_on pair which in
-    MatchesRole (GivesEntry i d) i role d (acceptance_in pair.meaning pair.variant (link_of pair) bytes (moved_cell_of (cell_of_role i role d)))
+    MatchesRole (GivesEntry i d) i role d (acceptance_in pair.meaning pair.variant (link_of pair) bytes
+    (moved_cell_of (cell_of_role i role d)))
     (acceptance_on (digest_level i) role d (ticket_in pair bytes)))
 accepts_pair pair which role d bytes fit =
     let i = instance_on pair which in

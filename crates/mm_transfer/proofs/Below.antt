@@ -66,8 +66,8 @@ pub use Rattle.mm_outcome.proofs.Above.{broken_reply}
 pub use Rattle.mm_outcome.specs.WorldState.{world_barrier, world_key}
 pub use Rattle.mm_outcome.specs.EventOffers.{offered_bytes}
 pub use Rattle.mm_outcome.proofs.Above.{few_committed, issues_one, printable}
-pub use Rattle.mm_sides.specs.BothSides.{BothSides, digest_mover, First, first_both_by_digests, first_both_by_lists, instance_on, key_of, list_mover, Pair, Second}
-pub use Rattle.mm_sides.specs.BothSides.{SideState, sides_swapped, SideName}
+pub use Rattle.mm_sides.specs.BothSides.{BothSides, digest_mover, First, first_both_by_digests, first_both_by_lists, instance_on, key_of}
+pub use Rattle.mm_sides.specs.BothSides.{list_mover, Pair, Second, SideState, sides_swapped, SideName}
 pub use Rattle.mm_sides.specs.Folds.{found_acceptance, sides_after_effect_if, both_outcome_by_digests, both_outcome_by_lists}
 pub use Rattle.mm_sides.specs.Folds.{both_outcome_of_events, both_outcome, BothEvent, BothRunOutcome, BothReply, state_after_steps, Denied}
 pub use Rattle.mm_sides.specs.Folds.{effect_if, effect_of, found_command, commits_between, is_moved, is_written, move_end_outcome}

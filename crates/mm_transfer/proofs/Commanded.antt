@@ -119,7 +119,8 @@ pub record Told (pair : Pair) (i : Instance) (stop : Stop) (broken : Option Step
     (effect : Option Effect) (result : Result MoveReply Memory) (old new : CodeSide) (was now : IssuedTickets) (d : Digests) : Type 0 where
   pub said : MoveReply
   pub is : result ≡ Ok said
-  pub ends : (both : BothSides Digests ℕ) → both.first.at.digest ≡ (at_then was.away d effect).digest → both.first.issued ≡ old.seat.issued.items
+  pub ends : (both : BothSides Digests ℕ) → both.first.at.digest ≡ (at_then was.away d effect).digest → both.first.issued
+      ≡ old.seat.issued.items
       → both.tickets ≡ was.tickets.items → (let o = move_end_outcome digest_mover pair i both stop broken found effect in
       (said ≡ move_reply_of o.reply)
       × (o.both ≡ record both { first = record both.first { issued = new.seat.issued.items }; tickets = now.tickets.items }))
@@ -190,13 +191,18 @@ move_done gives pair which stop meddles command found old new was now came resul
     t.ends (sides_after_effect_if digest_mover (both_of role brought old.seat.issued.items was.tickets.items other was.away committed)
     effect)
     (ap (λ (x : BothSides Digests ℕ). x.first.at.digest) (is other committed) ∙ b.digest)
-    (ap (λ (x : BothSides Digests ℕ). x.first.issued) (is other committed)) (ap (λ (x : BothSides Digests ℕ). x.tickets) (is other committed)) in
+    (ap (λ (x : BothSides Digests ℕ). x.first.issued) (is other committed))
+    (ap (λ (x : BothSides Digests ℕ). x.tickets) (is other committed)) in
     ok_match _ _ result t.said t.is (record {
       fits = s.fits;
       between = t.between;
       both = λ other committed.
           (λ j. both_of (s.role_is j) (s.at_is j) new.seat.issued.items now.tickets.items other (gone j) committed)
-          ∙ ap (λ (x : BothSides Digests ℕ). record x { first = record x.first { issued = new.seat.issued.items }; tickets = now.tickets.items })
+          ∙ ap (λ (x : BothSides Digests ℕ). record x {
+            first = record x.first { issued = new.seat.issued.items };
+            tickets =
+                now.tickets.items;
+          })
           (sym (is other committed)) ∙ sym (ends other committed).1
           ∙ sym (ap (λ x. (outcome_if_found digest_mover pair i (both_with old was other committed) meddles stop command x).both)
           (finds other committed));

@@ -5,8 +5,9 @@ use Rattle.mm_transfer.proofs.Below.{ReadyMove, MoveRefusal, Role, Effect, diges
 use Rattle.mm_transfer.proofs.Below.{effect_if, effect_of, state_after_steps, bytes_if_written, move_answer_of, MakesMove, cell_of_role}
 use Rattle.mm_transfer.proofs.Below.{refusal_of, next_cell_if, MatchesRole, Memory, MoveReply, Denied, Refused, move_reply_of}
 use Rattle.mm_transfer.proofs.Below.{TellsRefusalAs, has_moved, FitsEffect, FitsLive, IsSaid, digest_level, state_after_moves, Invites}
-use Rattle.mm_transfer.proofs.Below.{Leaves, Enters, role_after, SideName, Pair, instance_on, SideState, stopped_moves, sides_after_effect_if}
-use Rattle.mm_transfer.proofs.Below.{any_value, found_outer, stopped_outer, CodeSide, link_of, FitsRole, FitsCell, ◌≤◌, BothSides}
+use Rattle.mm_transfer.proofs.Below.{Leaves, Enters, role_after, SideName, Pair, instance_on, SideState, stopped_moves}
+use Rattle.mm_transfer.proofs.Below.{sides_after_effect_if, any_value, found_outer, stopped_outer, CodeSide, link_of, FitsRole, FitsCell}
+use Rattle.mm_transfer.proofs.Below.{◌≤◌, BothSides}
 use Rattle.mm_model.specs.declared.refusal.Refusal.TheVariants as core
 use Rattle.mm_move.specs.declared.refusal.MoveRefusal.TheVariants as refusal
 use Rattle.mm_transfer.specs.RoleCells.{cell_after}

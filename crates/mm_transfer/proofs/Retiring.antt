@@ -3,8 +3,8 @@ use Rattle.mm_transfer.proofs.Below.{◌≡◌, ◌+◌, ◌&&◌, ℕ, Bool, tr
 use Rattle.mm_transfer.proofs.Below.{refl, sym, ap, ◌∙◌, subst, arith, length-append, MatchResult, if◌then◌else◌, Memory, Meaning, Meddle}
 use Rattle.mm_transfer.proofs.Below.{Stop, Standing, Digests, register_reading, walk, course_of, offered_bytes, Offer, IsQuiet, Link}
 use Rattle.mm_transfer.proofs.Below.{MoveRefusal, moved_cell_of, waiting_for, invitation_in, retirement_in, Invited, Role, Effect, Invites}
-use Rattle.mm_transfer.proofs.Below.{Leaves, is_live, SideName, Pair, key_of, instance_on, BothSides, digest_mover, FoundMove, DenialCause, Invite}
-use Rattle.mm_transfer.proofs.Below.{Retire, invitation_on, retirement_on, move_steps, effect_of, sides_after_issue, effect_reply}
+use Rattle.mm_transfer.proofs.Below.{Leaves, is_live, SideName, Pair, key_of, instance_on, BothSides, digest_mover, FoundMove, DenialCause}
+use Rattle.mm_transfer.proofs.Below.{Invite, Retire, invitation_on, retirement_on, move_steps, effect_of, sides_after_issue, effect_reply}
 use Rattle.mm_transfer.proofs.Below.{found_retirement, role_after, IssuedTickets, MoveReply, CodeSide, TellsInvitation, KeepsDigest}
 use Rattle.mm_transfer.proofs.Below.{TellsRetirement, both_with, outcome_of_command, FitsIssuedTickets, CommandDone, CommandLacks}
 use Rattle.mm_transfer.proofs.Below.{has_moved, link_of, role_in, at_in, FitsSide, MovesByPlan, move_reply_of, cell_of_role, GivesInvited}
@@ -157,7 +157,8 @@ retires_planned pair which nonce bytes stop meddles old new came planned =
     planned)
 
 -- with what the offer named, over a list with room for the ticket
-pub retired_done : (pair : Pair) (which : SideName) (nonce : List ℕ) (offer : Offer) (stop : Stop) (meddles : List Meddle) (old new : CodeSide)
+pub retired_done : (pair : Pair) (which : SideName) (nonce : List ℕ) (offer : Offer) (stop : Stop) (meddles : List Meddle)
+    (old new : CodeSide)
     (was mid now : IssuedTickets) (live : Bool) (cell : List ℕ) (came : Result (List ℕ) MoveRefusal) (result : Result MoveReply Memory)
     → length nonce ≡ 32
     → Named (λ bytes (cell : List ℕ). retirement_in pair.meaning pair.variant (link_of pair) nonce bytes (moved_cell_of cell)) stop meddles

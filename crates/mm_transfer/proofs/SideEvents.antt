@@ -132,7 +132,8 @@ abbrev WantsBy : Instance → Role → Digests → Event → Standing → Standi
 WantsBy i Live d event old new = seat.SeatLacksMemory i d event old new
 WantsBy i role d event old new = SeatLacksMemoryInVain event old new
 
-wanting_by : (which : SideName) (role : Role) (event : Event) (old new : CodeSide) (memory : Memory) → (let pair = pair_of old.seat.header in
+wanting_by : (which : SideName) (role : Role) (event : Event) (old new : CodeSide) (memory : Memory)
+    → (let pair = pair_of old.seat.header in
     StandsAs pair which role old.seat.platform (at_in old) → IsQuiet old.seat.platform
     → seat.SeatTakesEvent event old.seat new.seat (Err memory) → SeatStaysOn new.seat.platform old.seat new.seat
     × WantsBy (instance_on pair which) role (at_in old) event old.seat.platform new.seat.platform)

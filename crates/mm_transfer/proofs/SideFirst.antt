@@ -2,8 +2,8 @@
 use Rattle.mm_transfer.proofs.Below.{◌≡◌, ◌∙◌, ℕ, List, [], ◌∷◌, length, refl, sym, ap, subst, Variant, Basic, Opt, start_digest_of}
 use Rattle.mm_transfer.proofs.Below.{Meaning, meaning_of, Standing, first_history, register_reading, cell_of, issued_bytes, instance_by}
 use Rattle.mm_transfer.proofs.Below.{Header, first_digests, world_key, world_barrier, HasDigests, stands_new, blank_cell, length-zero_bytes}
-use Rattle.mm_transfer.proofs.Below.{Blank, Live, First, Second, first_both_by_digests, key_of, instance_on, CodeSide, pair_of, StandsAs, IsNew}
-use Rattle.mm_transfer.proofs.Below.{Instance, Digests, IsQuiet}
+use Rattle.mm_transfer.proofs.Below.{Blank, Live, First, Second, first_both_by_digests, key_of, instance_on, CodeSide, pair_of, StandsAs}
+use Rattle.mm_transfer.proofs.Below.{IsNew, Instance, Digests, IsQuiet}
 use Rattle.mm_platform.specs.Memory.{new_platform}
 use Rattle.mm_seal.specs.Cell.{cell_spelling}
 use Rattle.mm_outcome.specs.WorldState.{rising_bytes_from}

@@ -1,10 +1,11 @@
 -- BothSides sides show of events what is told of a whole transfer.
 use Rattle.mm_transfer.proofs.Below.{◌≡◌, ◌∙◌, ℕ, List, [], ◌∷◌, ◌++◌, refl, sym, ap, subst, History, requests_of, Digests, Header}
-use Rattle.mm_transfer.proofs.Below.{promises-kept, Role, MoveNotes, no_notes, Pair, BothSides, digest_mover, list_mover, first_both_by_lists, BothEvent}
-use Rattle.mm_transfer.proofs.Below.{BothReply, BothRunOutcome, both_outcome, both_outcome_of_events, both_outcome_by_lists}
-use Rattle.mm_transfer.proofs.Below.{both_outcome_by_digests, notes_with_effect_if, IsOneLiveFrom, PairsAgreeThroughout, OneIsLive}
-use Rattle.mm_transfer.proofs.Below.{SidesRunAsOne, plain_events, plain_replies, history_now, pair_of, TransferState, first_transfer}
-use Rattle.mm_transfer.proofs.Below.{transfer_steps, kept_size_of, transfer_text, both_end_line, IsOneTransfer}
+use Rattle.mm_transfer.proofs.Below.{promises-kept, Role, MoveNotes, no_notes, Pair, BothSides, digest_mover, list_mover}
+use Rattle.mm_transfer.proofs.Below.{first_both_by_lists, BothEvent, BothReply, BothRunOutcome, both_outcome, both_outcome_of_events}
+use Rattle.mm_transfer.proofs.Below.{both_outcome_by_lists, both_outcome_by_digests, notes_with_effect_if, IsOneLiveFrom}
+use Rattle.mm_transfer.proofs.Below.{PairsAgreeThroughout, OneIsLive, SidesRunAsOne, plain_events, plain_replies, history_now, pair_of}
+use Rattle.mm_transfer.proofs.Below.{TransferState, first_transfer, transfer_steps, kept_size_of, transfer_text, both_end_line}
+use Rattle.mm_transfer.proofs.Below.{IsOneTransfer}
 use Rattle.std.proofs.Common.{inl, inr}
 use Rattle.std.proofs.lemmas.List.{append-nil}
 use Rattle.mm_play.specs.StageShows.{state_behind_events, replies, StageShows}
@@ -26,7 +27,8 @@ pub record SideLaws : Type 0 where
   pub decided : PairsAreDecided
 
 -- at the end of the events too at most one side is live
-at_the_end : (pair : Pair) (both : BothSides History History) (notes : MoveNotes) (events : List BothEvent) → IsOneLiveFrom pair both notes events
+at_the_end : (pair : Pair) (both : BothSides History History) (notes : MoveNotes) (events : List BothEvent)
+    → IsOneLiveFrom pair both notes events
     → AreNotBothLive (both_outcome_of_events list_mover pair both events).both.first.role
     (both_outcome_of_events list_mover pair both events).both.second.role
 at_the_end pair both notes [] h = h

@@ -58,5 +58,6 @@ counts_by i Second act old new w e = record {
   committed = ap (λ (b : BothSides Digests ℕ). b.committed) e;
 }
 
-pub counts_same : (pair : Pair) (event : BothEvent) (old new : BothSides Digests ℕ) → BothEventLacksMemory pair event old new → CountsSame old new
+pub counts_same : (pair : Pair) (event : BothEvent) (old new : BothSides Digests ℕ) → BothEventLacksMemory pair event old new
+    → CountsSame old new
 counts_same pair event old new w = counts_by (instance_on pair event.which) event.which event.act old new w.here w.rest

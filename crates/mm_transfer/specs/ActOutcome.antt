@@ -1,7 +1,7 @@
 -- What happens on one side in code, whichever it is: an event of a schedule, or a command.
 use Rattle.std.specs.Prelude.{◌≡◌, ◌≤◌, ◌<◌, ◌+◌, ◌^◌, ℕ, length, Result, MatchResult}
-use Rattle.mm_transfer.specs.Below.{most_members, Memory, Digests, SideName, Pair, instance_on, SideState, digest_mover, BothAct, BothOutcome}
-use Rattle.mm_transfer.specs.Below.{outcome_here}
+use Rattle.mm_transfer.specs.Below.{most_members, Memory, Digests, SideName, Pair, instance_on, SideState, digest_mover, BothAct}
+use Rattle.mm_transfer.specs.Below.{BothOutcome, outcome_here}
 use Rattle.mm_transfer.specs.declared.between.IssuedTickets.{IssuedTickets}
 use Rattle.mm_transfer.specs.declared.reply.MoveReply.{MoveReply}
 use Rattle.mm_transfer.specs.declared.side.Side.{Side as CodeSide}

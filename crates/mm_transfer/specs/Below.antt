@@ -49,8 +49,8 @@ pub use Rattle.mm_schedule.specs.declared.header.Header.{Header}
 pub use Rattle.mm_schedule.specs.declared.reply.Reply.{Reply}
 pub use Rattle.mm_outcome.specs.Folds.{Outcome, cause_of, course_of, way_of}
 pub use Rattle.mm_outcome.specs.WorldState.{rising_bytes_from, world_barrier, world_key}
-pub use Rattle.mm_sides.specs.BothSides.{BothSides, First, Pair, Second, SideState, SideName, digest_mover, sides_seen_from, first_both_by_digests, first_both_by_lists}
-pub use Rattle.mm_sides.specs.BothSides.{instance_on}
+pub use Rattle.mm_sides.specs.BothSides.{BothSides, First, Pair, Second, SideState, SideName, digest_mover, sides_seen_from}
+pub use Rattle.mm_sides.specs.BothSides.{first_both_by_digests, first_both_by_lists, instance_on}
 pub use Rattle.mm_sides.specs.Folds.{BothAct, BothEvent, BothRunOutcome, BothOutcome, BothReply, Moves, Plain, both_outcome_by_digests}
 pub use Rattle.mm_sides.specs.Folds.{both_outcome_by_lists, both_outcome_of_events, both_outcome, commits_between, is_moved, move_outcome}
 pub use Rattle.mm_sides.specs.Folds.{outcome_here, outcome_by_role, stopped_moves}

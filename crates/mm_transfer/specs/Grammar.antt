@@ -2,9 +2,9 @@
 use Rattle.std.specs.Prelude.{ℕ, List, Option, Some, None, if◌then◌else◌, codes}
 use Rattle.std.specs.Option.{option_map_or}
 use Rattle.std.specs.Str.{bytes_eq}
-use Rattle.mm_transfer.specs.Below.{Meddle, Stop, One, value_at, Ask, Checkpoint, Power, Extend, meddles_at, stop_at, offer_at, header_of_words}
-use Rattle.mm_transfer.specs.Below.{◌>>=◌, rest_after_prefix, bytes_at, number_at, word_at, Offer, Number, Last, Flip, Raw, Header, SideName}
-use Rattle.mm_transfer.specs.Below.{First, Second, BothAct, Plain, Moves, BothEvent, MoveCommand, Invite, Retire, Accept}
+use Rattle.mm_transfer.specs.Below.{Meddle, Stop, One, value_at, Ask, Checkpoint, Power, Extend, meddles_at, stop_at, offer_at}
+use Rattle.mm_transfer.specs.Below.{header_of_words, ◌>>=◌, rest_after_prefix, bytes_at, number_at, word_at, Offer, Number, Last, Flip, Raw}
+use Rattle.mm_transfer.specs.Below.{Header, SideName, First, Second, BothAct, Plain, Moves, BothEvent, MoveCommand, Invite, Retire, Accept}
 
 -- the header that the first line names, as `memoir transfer 1 basic counter`
 unfoldable pub first_header_at : List ℕ → Option Header

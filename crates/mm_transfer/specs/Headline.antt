@@ -5,8 +5,8 @@ use Rattle.std.specs.Option.{option_map}
 use Rattle.mm_play.specs.HeadingStep.{Begins}
 use Rattle.mm_play.specs.Headline.{EventPlayer}
 use Rattle.mm_transfer.specs.Below.{meaning_of, Digests, IsEventRun, ModulePromises, Header, first_both_by_lists, BothEvent, BothRunOutcome}
-use Rattle.mm_transfer.specs.Below.{both_outcome_by_lists, both_outcome_by_digests, IsOneLiveFrom, plain_events, plain_replies, AreNotBothLive}
-use Rattle.mm_transfer.specs.Below.{no_notes}
+use Rattle.mm_transfer.specs.Below.{both_outcome_by_lists, both_outcome_by_digests, IsOneLiveFrom, plain_events, plain_replies}
+use Rattle.mm_transfer.specs.Below.{AreNotBothLive, no_notes}
 use Rattle.mm_sides.specs.Evidence.{HasPairEvidence}
 use Rattle.mm_transfer.specs.Answers.{answers_text, end_line}
 use Rattle.mm_transfer.specs.Grammar.{event_at, first_header_at}
@@ -41,7 +41,8 @@ pub record IsOneTransfer (header : Header) (events : List BothEvent)
   pub judged : it.replies ≡ (both_outcome_by_lists (pair_of header) events).replies
   pub count : it.both.committed ≡ length requests
   pub live : AreNotBothLive it.both.first.role it.both.second.role
-  pub entered : IsOneLiveFrom (pair_of header) (first_both_by_lists (pair_of header)) no_notes events
+  pub entered : IsOneLiveFrom (pair_of header) (first_both_by_lists (pair_of header)) no_notes
+      events
   pub promised : ModulePromises header.«module» requests (plain_replies it.replies)
 
 -- The headline. With no premise what is shown is by digests; and each first part of the events is

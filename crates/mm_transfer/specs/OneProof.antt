@@ -15,5 +15,6 @@ pub role_prop : (i : Instance) (role : Role) (d : Digests) → IsProp (FitsRole 
 role_prop i Live d = Prim.hlevel (props, variant_prop)
 role_prop i role d = Prim.hlevel props
 
-pub fits_prop : (pair : Pair) (which : SideName) (side : CodeSide) → IsProp (FitsSide pair which side)
+pub fits_prop : (pair : Pair) (which : SideName) (side : CodeSide)
+    → IsProp (FitsSide pair which side)
 fits_prop pair which side = Prim.hlevel (props, role_prop)

@@ -3,8 +3,8 @@ use Rattle.std.specs.Prelude.{◌≡◌, ◌≤◌, ◌+◌, ◌&&◌, ℕ, Bool
 use Rattle.std.specs.Prelude.{MatchResult, is_some, if◌then◌else◌}
 use Rattle.std.specs.List.{sum_by}
 use Rattle.mm_transfer.specs.Below.{Memory, Standing, Meddle, Stop, Digests, Reads, Refusal, move_fault_of, Accepted, ReadyMove}
-use Rattle.mm_transfer.specs.Below.{MoveRefusal, cause_of, way_of, SideName, Pair, instance_on, SideState, BothSides, digest_mover, BothOutcome}
-use Rattle.mm_transfer.specs.Below.{move_outcome, MoveCommand}
+use Rattle.mm_transfer.specs.Below.{MoveRefusal, cause_of, way_of, SideName, Pair, instance_on, SideState, BothSides, digest_mover}
+use Rattle.mm_transfer.specs.Below.{BothOutcome, move_outcome, MoveCommand}
 use Rattle.mm_model.specs.declared.refusal.Refusal.TheVariants as core
 use Rattle.mm_move.specs.declared.refusal.MoveRefusal.TheVariants as refusal
 use Rattle.mm_world.specs.Lengths.{within_64}
@@ -134,7 +134,8 @@ FitsIssuedTickets between = between.kept ≡ within_64 (sum_by length between.ti
 
 -- A side with what passes between both has come to this outcome, and answers so. At most one
 -- snapshot and one ticket came, and no count is greater than the greater of both was.
-pub record CommandDone (pair : Pair) (which : SideName) (old new : CodeSide) (was now : IssuedTickets)
+pub record CommandDone (pair : Pair) (which : SideName) (old new : CodeSide)
+    (was now : IssuedTickets)
     (o : SideState Digests → ℕ → BothOutcome Digests ℕ)
     (said : MoveReply) : Type 0 where
   pub fits : FitsSide pair which new

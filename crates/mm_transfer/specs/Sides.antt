@@ -1,6 +1,7 @@
 -- BothSides sides in code, as contracts see them.
 use Rattle.std.specs.Prelude.{◌≡◌, ◌≤◌, ◌<◌, ◌+◌, ◌-◌, ◌^◌, ℕ, length}
-use Rattle.mm_transfer.specs.Below.{most_members, Digests, Header, BothSides, digest_mover, first_both_by_digests, BothEvent, BothOutcome, both_outcome}
+use Rattle.mm_transfer.specs.Below.{most_members, Digests, Header, BothSides, digest_mover, first_both_by_digests, BothEvent, BothOutcome}
+use Rattle.mm_transfer.specs.Below.{both_outcome}
 use Rattle.mm_transfer.specs.declared.between.IssuedTickets.{IssuedTickets}
 use Rattle.mm_transfer.specs.declared.side.Side.{Side as CodeSide}
 use Rattle.mm_transfer.specs.SideCommands.{both_with}
@@ -14,7 +15,8 @@ pub record TransferSides : Type 0 where
   pub both : BothSides Digests ℕ
 
 abbrev pub first_transfer_sides : Header → TransferSides
-first_transfer_sides header = record { header = header; both = first_both_by_digests (pair_of header) }
+first_transfer_sides header =
+    record { header = header; both = first_both_by_digests (pair_of header) }
 
 -- what an event comes to
 abbrev pub outcome_in : TransferSides → BothEvent → BothOutcome Digests ℕ

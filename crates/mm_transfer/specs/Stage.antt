@@ -5,8 +5,8 @@ use Rattle.std.specs.Option.{option_map}
 use Rattle.mm_play.specs.HeadingStep.{HeadingStep, Begins}
 use Rattle.mm_play.specs.StageShows.{heading_step_by}
 use Rattle.mm_play.specs.Stage.{EventStage, EventSteps, HeadStage, LineStage, AtHeading, answer_to, line_answer, closing_lines}
-use Rattle.mm_transfer.specs.Below.{most_events, most_members, Digests, Header, BothSides, digest_mover, first_both_by_digests, BothEvent, BothOutcome}
-use Rattle.mm_transfer.specs.Below.{both_outcome, LineRefusal}
+use Rattle.mm_transfer.specs.Below.{most_events, most_members, Digests, Header, BothSides, digest_mover, first_both_by_digests, BothEvent}
+use Rattle.mm_transfer.specs.Below.{BothOutcome, both_outcome, LineRefusal}
 use Rattle.mm_transfer.specs.Answers.{answer_text, end_line}
 use Rattle.mm_transfer.specs.Grammar.{first_header_at, event_at}
 use Rattle.mm_transfer.specs.Pairs.{pair_of}
@@ -22,7 +22,11 @@ pub record TransferState : Type 0 where
   pub events : ℕ
 
 abbrev pub first_transfer : Header → TransferState
-first_transfer header = record { header = header; both = first_both_by_digests (pair_of header); events = 0 }
+first_transfer header = record {
+  header = header;
+  both = first_both_by_digests (pair_of header);
+  events = 0;
+}
 
 -- the bytes of the snapshots issued on both sides, and of the tickets
 abbrev pub kept_size_of : {S A : Type 0} → BothSides S A → ℕ

@@ -18,7 +18,7 @@ mod stage;
 mod text;
 mod whole;
 
-pub use event::{Command, SideAct, SideEvent, SideChoice};
+pub use event::{Command, SideAct, SideChoice, SideEvent};
 pub use laws::{transfers_are_one_run, transfers_go_on};
 pub use mm_move::{Accepted, Invited, Link, MoveRefusal, accept, invite, retire};
 pub use opening::FirstLine;

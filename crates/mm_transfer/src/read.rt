@@ -10,7 +10,7 @@ ghost use Rattle.mm_transfer.specs.Events.{which_of, side_event_of};
 ghost use Rattle.mm_transfer.specs.Grammar.{first_header_at, side_at, named_offer_at, raw_offer_at, flipped_offer_at, whole_offer_at, retirement_at, command_at, ask_at, call_at, prefixed_act_at, act_at, event_at};
 ghost use Rattle.mm_transfer.specs.Texts as texts;
 
-use crate::event::{SideEvent, SideChoice};
+use crate::event::{SideChoice, SideEvent};
 use crate::text::{ActText, CommandText, SideEventText, owned};
 use mm_platform::Stop;
 use mm_schedule::{

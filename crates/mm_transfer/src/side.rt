@@ -49,7 +49,8 @@ impl Side {
     /// The side that the module is on at first: provisioned for the header's module, with its first
     /// snapshot.
     pub fn live(alloc: Global, header: &Header) -> Result<Side, Memory>
-        ensures { IfOk result (IsNew header.now First (first_both_by_digests (pair_of header.now)).first) }
+        ensures { IfOk result
+            (IsNew header.now First (first_both_by_digests (pair_of header.now)).first) }
     {
         match Seat::first(alloc, *header, &world_key(), &world_barrier()) {
             Err(memory) => Err(memory),
@@ -62,7 +63,8 @@ impl Side {
 
     /// The other side at first: its cell is blank, and nothing was issued there.
     pub fn blank(alloc: Global, header: &Header) -> Side
-        ensures { IsNew header.now Second (first_both_by_digests (pair_of header.now)).second result }
+        ensures { IsNew header.now Second (first_both_by_digests (pair_of header.now)).second
+            result }
     {
         Side {
             seat: Seat::bare(alloc, *header, &blank_bytes()),

@@ -15,7 +15,7 @@ ghost use Rattle.mm_transfer.specs.Pairs.{pair_of};
 
 use crate::between::IssuedTickets;
 use crate::commands;
-use crate::event::{SideAct, SideEvent, SideChoice};
+use crate::event::{SideAct, SideChoice, SideEvent};
 use crate::reply::MoveReply;
 use crate::side::Side;
 use mm_base::Memory;
@@ -148,8 +148,22 @@ impl Sides {
             committed,
         } = self;
         match event.which {
-            SideChoice::First => act(alloc, SideChoice::First, first, between, committed, &event.act),
-            SideChoice::Second => act(alloc, SideChoice::Second, second, between, committed, &event.act),
+            SideChoice::First => act(
+                alloc,
+                SideChoice::First,
+                first,
+                between,
+                committed,
+                &event.act,
+            ),
+            SideChoice::Second => act(
+                alloc,
+                SideChoice::Second,
+                second,
+                between,
+                committed,
+                &event.act,
+            ),
         }
     }
 

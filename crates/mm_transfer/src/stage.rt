@@ -3,7 +3,7 @@
 ghost use Rattle.std.specs.Prelude.{◌≡◌, ◌≤◌, ◌<◌, ◌+◌, ◌++◌, ◌∷◌, [], length, IfOk, OnErr, OnOk};
 ghost use Rattle.mm_base.specs.Limits.{longest_line, most_events};
 
-use crate::event::{SideEvent, SideChoice};
+use crate::event::{SideChoice, SideEvent};
 use crate::put::{put_answer, put_end};
 use crate::read::read_side_event;
 use crate::reply::MoveReply;
@@ -53,7 +53,8 @@ impl TransferStage {
             ≡ move_reply_of (transfer_outcome self.old (side_event_of event.now)).reply) }
         ensures sayable { IfOk result IsSayable }
         ensures after { OnOk result (self.new ≡ transfer_after self.old (side_event_of event.now)) }
-        ensures wants { OnErr result (TransferLacksMemory self.old (side_event_of event.now) self.new) }
+        ensures wants { OnErr result
+            (TransferLacksMemory self.old (side_event_of event.now) self.new) }
     {
         let reply = self.sides.event(alloc, event)?;
         self.events += 1;

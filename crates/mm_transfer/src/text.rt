@@ -4,7 +4,7 @@ ghost use Rattle.std.specs.Prelude.{◌≡◌, IfOk};
 ghost use Rattle.mm_transfer.specs.Events.{command_of, act_of, side_event_of};
 ghost use Rattle.mm_transfer.specs.Texts as texts;
 
-use crate::event::{Command, SideAct, SideEvent, SideChoice};
+use crate::event::{Command, SideAct, SideChoice, SideEvent};
 use mm_base::{Bytes, Memory};
 use mm_digest::Digest;
 use mm_platform::Stop;

@@ -10,9 +10,9 @@ use Rattle.mm_world.proofs.Below.{commits_batch, size_if, count-made, sizes_of, 
 use Rattle.mm_world.proofs.Below.{is_made_at, Fails, end_of, stopped_step, takes_effect, ◌&&◌, subst, option_to_list, append-nil, Standing}
 use Rattle.mm_world.proofs.Below.{items_after_cycle, Power, register_reading, DeviceStep, Reads, Writes, ask_steps, finding_at}
 use Rattle.mm_world.proofs.Below.{finding_unless_wanting, End, Done, StepFate, walk, walk_from_step, moves_seen, CallOutcome, call_outcome}
-use Rattle.mm_world.proofs.Below.{call_outcome_by, result_of_ending, reading_steps, RegisterStandsAt, PlatformStaysOn, fault_of, steps_of_change}
-use Rattle.mm_world.proofs.Below.{reading_none, way_of, moves_after_stop, reply_of, snapshots_of, moves_after_call, HasDigests, is_cut}
-use Rattle.mm_world.proofs.Below.{register_of_items}
+use Rattle.mm_world.proofs.Below.{call_outcome_by, result_of_ending, reading_steps, RegisterStandsAt, PlatformStaysOn, fault_of}
+use Rattle.mm_world.proofs.Below.{steps_of_change, reading_none, way_of, moves_after_stop, reply_of, snapshots_of, moves_after_call}
+use Rattle.mm_world.proofs.Below.{HasDigests, is_cut, register_of_items}
 use Rattle.std.proofs.lemmas.List.Sums.{fold-append}
 use Rattle.mm_module.specs.RunLaws.{length-outputs_from}
 use Rattle.mm_model.specs.Chains.{guard}

@@ -6,13 +6,13 @@ use Rattle.mm_world.proofs.Below.{AskResult, Answered, Refused, Broken, digest_l
 use Rattle.mm_world.proofs.Below.{finding_unless_wanting, is_fresh, End, Done, Fails, StepFate, Course, walk, fate_by_plan, moves_seen}
 use Rattle.mm_world.proofs.Below.{CallEnding, Answers, Refuses, Breaks, CallOutcome, call_outcome, call_ending_by, state_seen}
 use Rattle.mm_world.proofs.Below.{reading_steps, instance_by, StandsAt, count_after_more, result_of, kept_position, KeepsPosition}
-use Rattle.mm_world.proofs.Below.{is_broken, PlatformStaysOn, EndsAsCall, way_of, course_of, cause_of, outcome_by, outcome_without_call, plan_of}
-use Rattle.mm_world.proofs.Below.{broken_reply, HasDigests, IsQuiet, refused_call, answered_call, broken_call, takes_effect, size_if}
-use Rattle.mm_world.proofs.Below.{IsRefusalResult, IsCallResult, SettlesPlan, CallComesTo, HasRead, AsksOwnCell, call_commits, ◌&&◌, ◌++◌}
-use Rattle.mm_world.proofs.Below.{reply_of, snapshots_of, moves_after_call, is_cut, [], ◌∷◌, map, append-nil, ◌==◌, Basic, Opt, fault_at}
-use Rattle.mm_world.proofs.Below.{is_made_at, Foreign, Close, Reads, Writes, checkpoint_steps, Said, CheckpointRefusal, checkpoint_result}
-use Rattle.mm_world.proofs.Below.{CheckpointGoesBy, IsCheckpointOnCourse, StepsWalk, walk_from_step, has_close, end_of, made_move}
-use Rattle.mm_world.proofs.Below.{closes-foreign, closes_first, checkpoint_none, closing_reply, moves_after_checkpoint}
+use Rattle.mm_world.proofs.Below.{is_broken, PlatformStaysOn, EndsAsCall, way_of, course_of, cause_of, outcome_by, outcome_without_call}
+use Rattle.mm_world.proofs.Below.{plan_of, broken_reply, HasDigests, IsQuiet, refused_call, answered_call, broken_call, takes_effect}
+use Rattle.mm_world.proofs.Below.{size_if, IsRefusalResult, IsCallResult, SettlesPlan, CallComesTo, HasRead, AsksOwnCell, call_commits}
+use Rattle.mm_world.proofs.Below.{◌&&◌, ◌++◌, reply_of, snapshots_of, moves_after_call, is_cut, [], ◌∷◌, map, append-nil, ◌==◌, Basic, Opt}
+use Rattle.mm_world.proofs.Below.{fault_at, is_made_at, Foreign, Close, Reads, Writes, checkpoint_steps, Said, CheckpointRefusal}
+use Rattle.mm_world.proofs.Below.{checkpoint_result, CheckpointGoesBy, IsCheckpointOnCourse, StepsWalk, walk_from_step, has_close, end_of}
+use Rattle.mm_world.proofs.Below.{made_move, closes-foreign, closes_first, checkpoint_none, closing_reply, moves_after_checkpoint}
 use Rattle.mm_world.proofs.Below.{checkpoint_event_outcome, stopped_reply}
 use Rattle.mm_world.proofs.ClosedAt.{closes_at}
 use Rattle.mm_world.proofs.Below.{checkpoint_reply, has_closing_fault, ChecksOwnCell, quiet_call, register_of_items}

@@ -6,8 +6,8 @@ use Rattle.mm_world.proofs.Below.{fault_of, IsOrMemory, Said, CheckpointRefusal,
 use Rattle.mm_world.proofs.Below.{EndsLooking, vain_refusal, [], ◌∷◌, ◌++◌, map, append-nil, is_some, MatchResult, option_to_list, Memory}
 use Rattle.mm_world.proofs.Below.{One, size_of, Meddle, Stop, fault_at, is_made_at, fault_by_plan, values_by_plan, Instance, Foreign}
 use Rattle.mm_world.proofs.Below.{is_long, Digests, digests_after, register_reading, digest_level, state_after_moves, StepsWalk}
-use Rattle.mm_world.proofs.Below.{walk_from_step, has_commit, end_of, Reads, call_outcome_by, position_if_committed, is_broken, PlatformStaysOn}
-use Rattle.mm_world.proofs.Below.{EndsAsCall, inl, inr, Reply, Outcome, way_of, cause_of, outcome_by, outcome_without_call}
+use Rattle.mm_world.proofs.Below.{walk_from_step, has_commit, end_of, Reads, call_outcome_by, position_if_committed, is_broken}
+use Rattle.mm_world.proofs.Below.{PlatformStaysOn, EndsAsCall, inl, inr, Reply, Outcome, way_of, cause_of, outcome_by, outcome_without_call}
 use Rattle.mm_world.proofs.Below.{read_only_outcome, plan_of, broken_reply, stopped_reply, IsQuiet, quiet_call, refused_call, broken_call}
 use Rattle.mm_world.proofs.Below.{takes_effect, size_if, is_cut, IsCallResult, SettlesPlan, checkpoint_reply, has_closing_fault}
 use Rattle.mm_world.proofs.Below.{refusal_of_fault, CallComesInVain, AsksInVain, ChecksInVain, AsksPlanned, ChecksPlanned, items_beside}
@@ -333,7 +333,8 @@ checks_in_vain old mid new meddles stop result goes closes settles issued = λ i
     let told : Result Said CheckpointRefusal → Reply = λ x. checkpoint_reply stop (closes_at stop) x in
     subst (λ (x : Result Said CheckpointRefusal). CallComesInVain vain issued old new (quiet_call (told x))) (sym r.ends)
     (stopped_came i d stop meddles issued (refusal_of_fault missed) old mid new (quiet_call (told (closing_ended r.fault missed))) r.fault
-    at.quiet at.register r.goes (subst (λ x. SettlesPlan stop x mid new) breaks settles) (subst (λ x. PlatformStaysOn stop x mid) breaks p.0)
+    at.quiet at.register r.goes (subst (λ x. SettlesPlan stop x mid new) breaks settles)
+    (subst (λ x. PlatformStaysOn stop x mid) breaks p.0)
     (closing_told_vain stop missed r.fault fault_is))
 
 -- a checkpoint under a plan
@@ -405,7 +406,8 @@ module _ (variant : Variant) (meaning : Meaning) (old new : Standing) (meddles :
         let came : CallComesInVain (vain_outcome false) issued old new it = stopped_came i d stop meddles issued why old
         w.middle new it r.fault
         cell.quiet
-        cell.register r.goes (subst (λ x. SettlesPlan stop x w.middle new) breaks settles) (subst (λ x. PlatformStaysOn stop x w.middle) breaks p.0)
+        cell.register r.goes (subst (λ x. SettlesPlan stop x w.middle new) breaks settles)
+        (subst (λ x. PlatformStaysOn stop x w.middle) breaks p.0)
         (vain_told stop (size_of b) r.fault why) in
         let gives : result ≡ Ok it = vain_result stop (size_of b) r.fault why result
         (λ e. never_memory variant meaning.id read (vain ∙ ap Some e))

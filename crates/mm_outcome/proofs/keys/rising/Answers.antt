@@ -5,7 +5,8 @@ use Rattle.std.proofs.lemmas.List.FromFn.{length-range_with_len, get_or-range_wi
 use Rattle.mm_outcome.specs.WorldState.{rising_bytes_from}
 use Rattle.mm_outcome.proofs.keys.rising.Goals as goal
 
-is_rising : (bytes : List ℕ) (first : ℕ) → length bytes ≡ 32 → ((k : ℕ) → k < 32 → get_or bytes k 0 ≡ first + k) → bytes ≡ rising_bytes_from first
+is_rising : (bytes : List ℕ) (first : ℕ) → length bytes ≡ 32 → ((k : ℕ) → k < 32 → get_or bytes k 0 ≡ first + k)
+    → bytes ≡ rising_bytes_from first
 unfolding rising_bytes_from
 is_rising bytes first size each = ext_get_or 0 bytes (range_with_len first 32) (size ∙ sym (length-range_with_len first 32))
     (λ i below. let h : i < 32 = omega arith in each i h ∙ sym (get_or-range_with_len first 32 i 0 h))

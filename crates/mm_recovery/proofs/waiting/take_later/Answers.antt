@@ -3,7 +3,8 @@ use Rattle.mm_recovery.proofs.Below.{ReadsPendingRecord, later_record}
 use Rattle.mm_store.specs.Records.{pending_of}
 use Rattle.mm_recovery.proofs.waiting.take_later.Goals as goal
 
-waits : (two three : List ℕ) (waiting in_two in_three : Option PendingRecord) → ReadsPendingRecord 2 two in_two → ReadsPendingRecord 3 three in_three
+waits : (two three : List ℕ) (waiting in_two in_three : Option PendingRecord) → ReadsPendingRecord 2 two in_two
+    → ReadsPendingRecord 3 three in_three
     → waiting ≡ later_record in_two in_three → IsWaiting two three waiting
 waits two three waiting in_two in_three reads_two reads_three is =
     record { in_two = in_two; in_three = in_three; reads_two = reads_two; reads_three = reads_three; is = is }
