@@ -134,7 +134,7 @@ module _ (variant : Variant) (meaning : Meaning) where
   -- ends.
   module _ (number : ℕ) (at : SessionPlace) (after : Standing) (new : StoreStanding) where
     -- The line in hand is asked, and comes to a fault; or its reply isn't written whole.
-    pub record StopsInLine (more sent : List ℕ) (fault : SessionFault) : Type 0 where
+    pub record SessionStopsInLine (more sent : List ℕ) (fault : SessionFault) : Type 0 where
       pub line : List ℕ
       pub held : List ℕ
       pub begins : BytesBeginWith more line held
@@ -162,7 +162,7 @@ module _ (variant : Variant) (meaning : Meaning) where
     -- the host alone wants memory
     SessionStops left more sent (Lines Memory) = ⊥
     -- the line was asked
-    SessionStops left more sent fault = StopsInLine more sent fault
+    SessionStops left more sent fault = SessionStopsInLine more sent fault
 
     -- The line was answered, and the answer told.
     pub record ServesLine (bytes held sent : List ℕ) (next : Resumed) : Type 0 where
