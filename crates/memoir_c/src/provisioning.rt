@@ -76,10 +76,7 @@ fn first(alloc: Global, variant: Variant, module: &AnyModule, keys: &Keys) -> Re
         (instance_by variant (meaning_of «module».now) keys.now.key
         keys.now.barrier))) }
 {
-    match variant {
-        Variant::Basic => mm_basic::provision(alloc, module, &keys.key, &keys.barrier),
-        Variant::Opt => mm_opt::provision(alloc, module, &keys.key, &keys.barrier),
-    }
+    mm_ask::provision(alloc, variant, module, &keys.key, &keys.barrier)
 }
 
 fn put(made: &Made, first: &mut ProvisionReply, room: &mut [u8]) -> ReturnStatus

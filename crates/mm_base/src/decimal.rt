@@ -61,3 +61,11 @@ pub fn put_decimal(into: &mut Bytes, n: u64) -> Result<(), Memory>
     let text = buffer.format(n);
     into.append(text.as_bytes())
 }
+
+/// Puts a word and the number's decimal at the end.
+pub fn put_numbered(into: &mut Bytes, word: &[u8], number: u64) -> Result<(), Memory>
+    ensures { OnOk result (into.new ≡ into.old ++ word.now ++ decimal number) }
+{
+    into.append(word)?;
+    put_decimal(into, number)
+}

@@ -13,7 +13,7 @@ mod sink;
 mod source;
 
 pub use bytes::Bytes;
-pub use decimal::{put_decimal, read_decimal};
+pub use decimal::{put_decimal, put_numbered, read_decimal};
 pub use fault::{Failed, Memory, WriteFault};
 pub use fields::{bytes_of_u32, bytes_of_u64, split_u32, split_u64};
 pub use limits::{

@@ -45,7 +45,6 @@ pub use Rattle.mm_model.specs.Steps.{ask_steps, Reads as Reading, DeviceStep, Wr
 pub use Rattle.mm_model.specs.declared.answer.BatchAnswer.{BatchAnswer}
 pub use Rattle.mm_model.specs.declared.refusal.Refusal.{Refusal}
 pub use Rattle.mm_model.specs.declared.verdict.Verdict.{Verdict}
-pub use Rattle.mm_model.proofs.Above.{links}
 pub use Rattle.mm_call.specs.CallKind.{IsCallToEnd, breaks_off, IsWholeCall, EndsByFinding, goes_on, IsCallSoFar}
 pub use Rattle.mm_call.specs.EndedCall.{EndsAsCall, result_of}
 pub use Rattle.mm_call.specs.Untouched.{CountsHandedFault, IsAccepted, IsAnswered}

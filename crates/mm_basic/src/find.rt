@@ -4,11 +4,9 @@ ghost use Rattle.std.specs.Prelude.{◌≡◌, ◌≤◌, ◌↔◌, false, None
 ghost use Rattle.std.specs.Str.{bytes_eq};
 ghost use Rattle.mm_base.specs.Limits.{last_position};
 ghost use Rattle.mm_digest.specs.declared.variant.Variant.TheVariants.{Basic};
-ghost use Rattle.mm_module.specs.Batch.{normal_batch};
 ghost use Rattle.mm_module.specs.Batches.{batch_of};
 ghost use Rattle.mm_seal.specs.Cell.{FitsVariant};
 ghost use Rattle.mm_seal.specs.Snapshot.{variant_of};
-ghost use Rattle.mm_model.specs.Chains.{link};
 ghost use Rattle.mm_model.specs.Verdicts.{verdict_by};
 ghost use Rattle.mm_basic.specs.BasicSight.{IsCellOf, Both};
 ghost use Rattle.mm_basic.specs.Order.{summary_in};
@@ -19,10 +17,10 @@ ghost use Rattle.mm_call.specs.Refusals.{IsOrMemory, fault_in};
 use crate::operation::BasicAsk;
 use mm_base::CELL_LENGTH;
 use mm_call::{KeptKey, answer, examine};
-use mm_digest::{Digest, Variant, successor, successor_batch};
+use mm_digest::{Digest, Variant};
 use mm_machine::{Change, OpFinding, ReadyChange};
-use mm_model::{BatchAnswer, Refusal, Verdict, has_tab};
-use mm_module::{Batch, Module};
+use mm_model::{BatchAnswer, Refusal, Verdict, link, normal};
+use mm_module::Module;
 use mm_seal::{Cell, CellFault, Offered, PartsFault, Place, cell_bytes, parts, read_cell};
 
 /// What is found in the cell's bytes and the offered ones, in the order of the refusals.
@@ -75,7 +73,7 @@ fn weigh<M: Module>(
 {
     let body = offered.body();
     let here = summary_in(&body.place);
-    let next = link(&here, ask.batch);
+    let next = link(&here, normal(ask.batch));
     let verdict = verdict(&cell.summary, &here, &next);
     let key = keys.under(&cell.key);
     let again = examine(ask.module, key, offered, ask.batch, verdict)?;
@@ -110,17 +108,6 @@ fn summary_in(place: &Place) -> Digest
     match place {
         Place::Basic(summary) => *summary,
         Place::Opt { .. } => unreachable!(),
-    }
-}
-
-// The summary after the batch.
-#[tactic(auto, using(crate::proofs::Below::links))]
-fn link(summary: &Digest, batch: Batch<'_>) -> Digest
-    ensures { result.bytes ≡ link summary.now.bytes (normal_batch (batch_of batch.entry)) }
-{
-    match batch {
-        Batch::Many(text) if has_tab(text) => successor_batch(summary, text),
-        Batch::Many(text) | Batch::One(text) => successor(summary, text),
     }
 }
 

@@ -190,7 +190,7 @@ numbered_few i events =
     omega (
       arith,
       listed_few (numbered_messages_from i first_history (first_snapshots i) (events_of events)) (start_message i.variant i.meaning.id
-      ∷ []),
+          ∷ []),
       from_few i first_history (first_snapshots i) events,
     )
 

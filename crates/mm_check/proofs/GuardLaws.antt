@@ -6,7 +6,6 @@ use Rattle.mm_check.proofs.Below.{nat_list_eq_equiv, list_any-append, is_eq-slic
 use Rattle.mm_check.proofs.Below.{Batch, batches_of, asked_batches, number_of_first, events_of, HasAll}
 use Rattle.mm_check.proofs.ListingLaws.{number_of_first-push}
 use Rattle.mm_model.specs.Chains.{guard}
-pub use Rattle.mm_model.proofs.Above.{guards}
 
 -- a value among those that others bring
 pub any_value : (p : List ℕ → Bool) (meddles : List Meddle)

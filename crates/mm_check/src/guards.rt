@@ -7,7 +7,7 @@ ghost use Rattle.std.specs.List.{list_any};
 ghost use Rattle.std.specs.Ordering.{nat_cmp};
 ghost use Rattle.std.specs.Str.{bytes_eq};
 ghost use Rattle.mm_base.specs.Limits.{most_events};
-ghost use Rattle.mm_module.specs.Batch.{Many, normal_batch};
+ghost use Rattle.mm_module.specs.Batch.{normal_batch};
 ghost use Rattle.mm_module.specs.Batches.{batch_of};
 ghost use Rattle.mm_model.specs.Chains.{guard};
 ghost use Rattle.mm_model.specs.ChainsWords.{own_values};
@@ -20,8 +20,8 @@ ghost use Rattle.mm_check.specs.Numbering.{is_secured};
 ghost use Rattle.mm_check.specs.Guards.{events_of, batches_unless_long, digest_items, HasAll, secured_event_by};
 
 use mm_base::Memory;
-use mm_digest::{Digest, Variant, secured, secured_batch};
-use mm_model::{has_tab, is_long};
+use mm_digest::{Digest, Variant};
+use mm_model::{guard, is_long, normal};
 use mm_module::Batch;
 use mm_platform::Meddle;
 use mm_schedule::{Event, Meddles};
@@ -39,27 +39,11 @@ fn barrier() -> [u8; 32]
     ]
 }
 
-/// The guard of the requests between the TABs of a text.
-#[tactic(auto, using(crate::proofs::GuardLaws::guards))]
-fn guard_of_text(text: &[u8]) -> Digest
-    ensures { result.bytes ≡ guard world_barrier (normal_batch (Many text.now)) }
-{
-    if has_tab(text) {
-        secured_batch(&barrier(), text)
-    } else {
-        secured(&barrier(), text)
-    }
-}
-
 /// The guard of a batch.
-#[tactic(auto, using(crate::proofs::GuardLaws::guards))]
 fn guard_of(batch: Batch<'_>) -> Digest
     ensures { result.bytes ≡ guard world_barrier (normal_batch (batch_of batch.entry)) }
 {
-    match batch {
-        Batch::One(request) => secured(&barrier(), request),
-        Batch::Many(text) => guard_of_text(text),
-    }
+    guard(&barrier(), normal(batch))
 }
 
 /// The guard of a batch that isn't too long.

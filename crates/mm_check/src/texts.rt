@@ -5,22 +5,15 @@ ghost use Rattle.std.specs.Fmt.{decimal};
 ghost use Rattle.mm_check.specs.Verdicts.{agreement_text, premise_text, verdicts_text};
 
 use crate::verdicts::{Agreement, Premise, Verdicts};
-use mm_base::{Bytes, Memory, put_decimal};
+use mm_base::{Bytes, Memory, put_numbered};
 use std::alloc::Global;
-
-fn put_numbered(into: &mut Bytes, word: &[u8], number: u32) -> Result<(), Memory>
-    ensures { OnOk result (into.new ≡ into.old ++ word.now ++ decimal number) }
-{
-    into.append(word)?;
-    put_decimal(into, u64::from(number))
-}
 
 fn put_shared(into: &mut Bytes, first: u32, second: u32) -> Result<(), Memory>
     ensures { OnOk result
         (into.new ≡ into.old ++ codes "shared " ++ decimal first ++ 32 ∷ [] ++ decimal second) }
 {
-    put_numbered(into, b"shared ", first)?;
-    put_numbered(into, b" ", second)
+    put_numbered(into, b"shared ", u64::from(first))?;
+    put_numbered(into, b" ", u64::from(second))
 }
 
 fn put_premise(into: &mut Bytes, premise: &Premise) -> Result<(), Memory>
@@ -29,9 +22,9 @@ fn put_premise(into: &mut Bytes, premise: &Premise) -> Result<(), Memory>
     match premise {
         Premise::Held => into.append(b"held"),
         Premise::Shared { first, second } => put_shared(into, *first, *second),
-        Premise::Zero { message } => put_numbered(into, b"zero ", *message),
-        Premise::Secured { event } => put_numbered(into, b"secured ", *event),
-        Premise::Forged { event } => put_numbered(into, b"forged ", *event),
+        Premise::Zero { message } => put_numbered(into, b"zero ", u64::from(*message)),
+        Premise::Secured { event } => put_numbered(into, b"secured ", u64::from(*event)),
+        Premise::Forged { event } => put_numbered(into, b"forged ", u64::from(*event)),
     }
 }
 
@@ -40,7 +33,7 @@ fn put_agreement(into: &mut Bytes, agreement: &Agreement) -> Result<(), Memory>
 {
     match agreement {
         Agreement::Agree => into.append(b"agree"),
-        Agreement::Differ { line } => put_numbered(into, b"differ ", *line),
+        Agreement::Differ { line } => put_numbered(into, b"differ ", u64::from(*line)),
     }
 }
 

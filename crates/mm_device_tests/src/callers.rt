@@ -1,9 +1,11 @@
 //! The callers over the counter and a platform in memory.
 
+use mm_ask::provision;
 use mm_base::Memory;
 use mm_call::Provisioned;
 use mm_callers::closing::ask_close_repeat;
 use mm_callers::{basic, opt};
+use mm_digest::Variant;
 use mm_model::{Answer, Refusal};
 use mm_module::Counter;
 use mm_platform::{MemPlatform, Stop};
@@ -109,10 +111,12 @@ fn tried_anew(alloc: Global, name: &str, made: &Provisioned) -> Result<bool, Mem
 
 // The cell and the first snapshot, of the variant that the name begins with.
 fn provisioned(alloc: Global, name: &str) -> Result<Provisioned, Memory> {
-    if name.starts_with("basic") {
-        return mm_basic::provision(alloc, &Counter, &[7; 32], &[0; 32]);
-    }
-    mm_opt::provision(alloc, &Counter, &[7; 32], &[9; 32])
+    let variant = if name.starts_with("basic") {
+        Variant::Basic
+    } else {
+        Variant::Opt
+    };
+    provision(alloc, variant, &Counter, &[7; 32], &[9; 32])
 }
 
 fn tried(alloc: Global, name: &str) -> Result<bool, Memory> {

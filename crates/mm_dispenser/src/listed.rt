@@ -3,8 +3,8 @@
 ghost use Rattle.mm_dispenser.specs.DispenserListing.{dispenser_listing, dispenser_is_listed};
 
 use crate::dispenser::Dispenser;
-use mm_base::{Bytes, Memory};
-use mm_listing::{Listed, put_numbered};
+use mm_base::{Bytes, Memory, put_numbered};
+use mm_listing::Listed;
 
 impl Listed for Dispenser {
     ghost listing = { λ _. dispenser_listing };
@@ -24,7 +24,7 @@ impl Listed for Dispenser {
             0 => into.append(
                 b"seed 0000000000000000000000000000000000000000000000000000000000000000",
             ),
-            _ => put_numbered(into, b"draw ", choice / 4 % 16 + 1),
+            _ => put_numbered(into, b"draw ", u64::from(choice / 4 % 16 + 1)),
         }
     }
 }

@@ -5,7 +5,7 @@ ghost use Rattle.std.specs.Fmt.{decimal};
 ghost use Rattle.mm_gen.specs.Lines.{line_text, snapshot_text, stop_text};
 ghost use Rattle.mm_gen.specs.TurnLines.{chosen_request};
 
-use mm_base::{Bytes, Memory, put_decimal};
+use mm_base::{Bytes, Memory, put_decimal, put_numbered};
 use mm_listing::Listed;
 use mm_modules::AnyModule;
 use mm_platform::Stop;
@@ -71,8 +71,7 @@ fn put_stop(into: &mut Bytes, stop: Stop) -> Result<(), Memory>
 fn put_step(into: &mut Bytes, before: &[u8], step: u8, behind: &[u8]) -> Result<(), Memory>
     ensures { OnOk result (into.new ≡ into.old ++ before.now ++ decimal step ++ behind.now) }
 {
-    into.append(before)?;
-    put_decimal(into, u64::from(step))?;
+    put_numbered(into, before, u64::from(step))?;
     into.append(behind)
 }
 
@@ -83,10 +82,8 @@ fn put_snapshot(into: &mut Bytes, snapshot: SnapshotChoice) -> Result<(), Memory
         SnapshotChoice::Last => into.append(b"last"),
         SnapshotChoice::Number(number) => put_decimal(into, u64::from(number)),
         SnapshotChoice::Flip { number, byte } => {
-            into.append(b"flip ")?;
-            put_decimal(into, u64::from(number))?;
-            into.append(b" ")?;
-            put_decimal(into, u64::from(byte))
+            put_numbered(into, b"flip ", u64::from(number))?;
+            put_numbered(into, b" ", u64::from(byte))
         }
     }
 }

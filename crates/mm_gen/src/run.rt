@@ -40,16 +40,11 @@ pub fn bulk(alloc: Global, number: u64, count: u32, header: &Header) -> Result<S
         result }
     ensures replayed { IsReplayed (replay_of number count header.now) result }
 {
-    run_schedule(alloc, number, count, header)
+    bulk_inner(alloc, number, count, header)
 }
 
 // Makes the schedule, and runs it line by line.
-fn run_schedule(
-    alloc: Global,
-    number: u64,
-    count: u32,
-    header: &Header,
-) -> Result<Summary, BulkFault>
+fn bulk_inner(alloc: Global, number: u64, count: u32, header: &Header) -> Result<Summary, BulkFault>
     requires count { count ≤ most_events }
     ensures sums { IfOk result (SumsUp header.now (schedule_lines number count header.now)) }
     ensures limit { IsLimited

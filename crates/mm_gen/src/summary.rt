@@ -1,12 +1,12 @@
 //! What is told of a schedule that was run.
 
 ghost use Rattle.std.specs.Prelude.{◌≡◌, [], ◌∷◌, ◌++◌, IfOk, OnOk};
-ghost use Rattle.std.specs.Fmt.{decimal};
-ghost use Rattle.mm_gen.specs.Summaries.{bulk_text, end_text, events_text, other_counts, replies_text, told_counts};
+ghost use Rattle.mm_gen.specs.Summaries.{bulk_text, events_text, other_counts, replies_text, told_counts};
 
 use crate::counts::ReplyCounts;
-use mm_base::{Bytes, Memory, put_decimal};
+use mm_base::{Bytes, Memory, put_numbered};
 use mm_digest::Digest;
+use mm_schedule::put_end;
 use std::alloc::Global;
 
 /// What came of a schedule.
@@ -30,7 +30,7 @@ pub fn summary_text(alloc: Global, events: u32, it: &Summary) -> Result<Bytes, M
     put_events(&mut text, events)?;
     put_told_counts(&mut text, &it.counts)?;
     put_other_counts(&mut text, &it.counts)?;
-    put_end(&mut text, it)?;
+    put_end(it.committed, it.issued, &mut text)?;
     put_replies(alloc, &mut text, &it.replies)?;
     Ok(text)
 }
@@ -60,15 +60,6 @@ fn put_other_counts(into: &mut Bytes, counts: &ReplyCounts) -> Result<(), Memory
     into.append(b"\n")
 }
 
-/// Puts the last line of the replies.
-fn put_end(into: &mut Bytes, it: &Summary) -> Result<(), Memory>
-    ensures { OnOk result (into.new ≡ into.old ++ end_text it.now ++ 10 ∷ []) }
-{
-    put_numbered(into, b"end ", it.committed)?;
-    put_numbered(into, b" ", u64::from(it.issued))?;
-    into.append(b"\n")
-}
-
 /// Puts the digest of the replies.
 fn put_replies(alloc: Global, into: &mut Bytes, digest: &Digest) -> Result<(), Memory>
     ensures { OnOk result (into.new ≡ into.old ++ replies_text digest.now.bytes ++ 10 ∷ []) }
@@ -77,12 +68,4 @@ fn put_replies(alloc: Global, into: &mut Bytes, digest: &Digest) -> Result<(), M
     into.append(b"replies ")?;
     into.append(digits.as_bytes())?;
     into.append(b"\n")
-}
-
-/// Puts a word and a number.
-fn put_numbered(into: &mut Bytes, word: &[u8], number: u64) -> Result<(), Memory>
-    ensures { OnOk result (into.new ≡ into.old ++ word.now ++ decimal number) }
-{
-    into.append(word)?;
-    put_decimal(into, number)
 }

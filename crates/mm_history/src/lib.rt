@@ -10,7 +10,7 @@ mod naming;
 mod waymarks;
 
 pub use lists::HistoryLists;
-pub use marks::{HistoryMarks, guard};
+pub use marks::HistoryMarks;
 pub use messages::{anchored_message, joined, list_place};
 pub use naming::{is_named, names_are_decided};
 pub use waymarks::{SegmentStart, Waymark, Waymarks};

@@ -1,18 +1,14 @@
 //! What a history comes to.
 
 ghost use Rattle.std.specs.Prelude.{◌≡◌};
-ghost use Rattle.mm_module.specs.Batches.{batch_of};
-ghost use Rattle.mm_model.specs.Chains.{guard, link, register_of};
+ghost use Rattle.mm_model.specs.Chains.{register_of};
 ghost use Rattle.mm_model.specs.ChainsWords.{own_values};
 ghost use Rattle.mm_model.specs.History.{extension_value};
 ghost use Rattle.mm_model.specs.HistoryWords.{values_of};
 ghost use Rattle.mm_model.specs.KeptHistory.{kept_batches, kept_entry, kept_entries};
 
-use mm_digest::{
-    Digest, Variant, anchored, extended, secured, secured_batch, start, successor, successor_batch,
-    zero,
-};
-use mm_model::{KeptBatch, KeptEntry};
+use mm_digest::{Digest, Variant, anchored, extended, start, zero};
+use mm_model::{KeptBatch, KeptEntry, guard, link};
 use mm_module::Batch;
 
 /// What a history comes to.
@@ -146,28 +142,6 @@ impl HistoryMarks {
             is_own: is_alone,
             ..self
         }
-    }
-}
-
-/// The summary after one more batch.
-#[tactic(auto, unfolding(mm_model::specs::Chains::link, mm_digest::specs::MessagesWords::successor_digest_of, mm_digest::specs::MessagesWords::successor_batch_digest_of))]
-pub(crate) fn link(summary: &Digest, batch: Batch<'_>) -> Digest
-    ensures { result.bytes ≡ link summary.now.bytes (batch_of batch.entry) }
-{
-    match batch {
-        Batch::One(request) => successor(summary, request),
-        Batch::Many(text) => successor_batch(summary, text),
-    }
-}
-
-/// The value by which a batch extends the register.
-#[tactic(auto, unfolding(mm_model::specs::Chains::guard, mm_digest::specs::MessagesWords::secured_digest_of, mm_digest::specs::MessagesWords::secured_batch_digest_of))]
-pub fn guard(barrier: &[u8; 32], batch: Batch<'_>) -> Digest
-    ensures { result.bytes ≡ guard barrier.now (batch_of batch.entry) }
-{
-    match batch {
-        Batch::One(request) => secured(barrier, request),
-        Batch::Many(text) => secured_batch(barrier, text),
     }
 }
 

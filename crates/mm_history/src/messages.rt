@@ -8,9 +8,9 @@ ghost use Rattle.mm_model.specs.Chains.{link_message, guard_message};
 ghost use Rattle.mm_model.specs.Messages.{form_messages, point_messages};
 ghost use Rattle.mm_history.specs.OfferMessages.{messages_at_place};
 
-use crate::marks::guard;
 use mm_base::{Bytes, Memory};
 use mm_digest::{Digest, anchored, extended, zero};
+use mm_model::guard;
 use mm_module::Batch;
 use mm_seal::Place;
 use std::alloc::Global;

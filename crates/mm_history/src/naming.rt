@@ -20,12 +20,12 @@ ghost use Rattle.mm_history.specs.Naming.{BasicNamesAreDecided, OptNamesAreDecid
 ghost use Rattle.mm_history.specs.Waymarks.{AreWaymarks, EndsWithCurrent, IsStage, IsWaymark, digest_behind, stage_at};
 
 use crate::lists::HistoryLists;
-use crate::marks::{link, own_register, register_of};
+use crate::marks::{own_register, register_of};
 use crate::waymarks::{SegmentStart, Waymark, Waymarks, first_from, is_between};
 use mm_base::{Bytes, Memory};
 use mm_call::{BatchRun, run_batch};
 use mm_digest::{Digest, Variant, anchored, start, zero};
-use mm_model::{KeptBatch, KeptEntry, some_value};
+use mm_model::{KeptBatch, KeptEntry, link, some_value};
 use mm_module::Module;
 use mm_modules::AnyModule;
 use mm_seal::{Body, Place};

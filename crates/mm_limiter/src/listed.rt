@@ -3,8 +3,8 @@
 ghost use Rattle.mm_limiter.specs.LimiterListing.{limiter_listing, limiter_is_listed};
 
 use crate::limiter::Limiter;
-use mm_base::{Bytes, Memory};
-use mm_listing::{Listed, put_numbered};
+use mm_base::{Bytes, Memory, put_numbered};
+use mm_listing::Listed;
 
 impl Listed for Limiter {
     ghost listing = { λ _. limiter_listing };
@@ -24,7 +24,7 @@ impl Listed for Limiter {
             0 => into.append(b"set pw 50"),
             1 => into.append(b"left"),
             2 => into.append(b"guess pw"),
-            _ => put_numbered(into, b"guess ", choice / 8 % 100),
+            _ => put_numbered(into, b"guess ", u64::from(choice / 8 % 100)),
         }
     }
 }

@@ -2,8 +2,8 @@
 
 ghost use Rattle.mm_listing.specs.CounterListing.{counter_listing, counter_is_listed};
 
-use crate::listed::{Listed, put_numbered};
-use mm_base::{Bytes, Memory};
+use crate::listed::Listed;
+use mm_base::{Bytes, Memory, put_numbered};
 use mm_module::Counter;
 
 impl Listed for Counter {
@@ -22,7 +22,7 @@ impl Listed for Counter {
     fn put_request(&self, into: &mut Bytes, choice: u32) -> Result<(), Memory> {
         match choice % 4 {
             0 => into.append(b"read"),
-            _ => put_numbered(into, b"add ", choice / 4 % 1000),
+            _ => put_numbered(into, b"add ", u64::from(choice / 4 % 1000)),
         }
     }
 }

@@ -4,4 +4,4 @@
 mod counter;
 mod listed;
 
-pub use listed::{Listed, put_numbered};
+pub use listed::Listed;

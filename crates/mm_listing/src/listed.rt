@@ -1,11 +1,10 @@
 //! What a module is that stands in the list of modules.
 
 ghost use Rattle.std.specs.Prelude.{◌≡◌, ◌++◌, OnOk};
-ghost use Rattle.std.specs.Fmt.{decimal};
 ghost use Rattle.std.specs.Str.{bytes_eq};
 ghost use Rattle.mm_listing.specs.Listing.{Listing, IsListing};
 
-use mm_base::{Bytes, Memory, put_decimal};
+use mm_base::{Bytes, Memory};
 use mm_module::Module;
 
 /// A module with all that those need of it who take it from the list of modules.
@@ -27,12 +26,4 @@ pub trait Listed: Module {
 
     /// The laws hold at every module.
     ghost is_listed: { (it : Self) → IsListing (Self.meaning it) (listing it) };
-}
-
-/// Puts a word and a number at the end.
-pub fn put_numbered(into: &mut Bytes, word: &[u8], number: u32) -> Result<(), Memory>
-    ensures { OnOk result (into.new ≡ into.old ++ word.now ++ decimal number) }
-{
-    into.append(word)?;
-    put_decimal(into, u64::from(number))
 }

@@ -1,5 +1,4 @@
 -- What crates above may cite of these proofs: the other files can be read and changed by this crate alone.
-pub use Rattle.mm_model.proofs.BatchDigests.{guards, links}
 pub use Rattle.mm_model.proofs.FreshLists.{fresh_lists}
 pub use Rattle.mm_model.proofs.HistoryParts.{live_parts, LiveParts}
 pub use Rattle.mm_model.proofs.Listing.{items_messages, opt_messages}

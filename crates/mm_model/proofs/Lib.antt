@@ -11,4 +11,3 @@ mod Named
 mod KeptLaws
 mod Listing
 mod FreshLists
-mod BatchDigests

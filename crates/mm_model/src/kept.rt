@@ -29,7 +29,7 @@ pub enum KeptEntry {
 }
 
 /// Whether a text is several requests: whether some byte of it is a TAB.
-pub fn has_tab(text: &[u8]) -> bool
+fn has_tab(text: &[u8]) -> bool
     ensures { result ≡ has_tab text.now }
 {
     text.iter().any(|byte| *byte == b'\t')

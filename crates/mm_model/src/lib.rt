@@ -4,6 +4,7 @@
 
 mod answer;
 mod examples;
+mod hashes;
 mod kept;
 mod laws;
 mod long;
@@ -15,7 +16,8 @@ mod verdict;
 
 pub use answer::{Answer, BatchAnswer};
 pub use examples::{after_one_request, after_two_requests};
-pub use kept::{KeptBatch, KeptEntry, copy_entries, has_tab, last_is, normal, some_value};
+pub use hashes::{guard, link};
+pub use kept::{KeptBatch, KeptEntry, copy_entries, last_is, normal, some_value};
 pub use laws::{
     anchors_are_told_apart, basic_verdict_is_judged, batches_are_hashed, batches_are_told_apart,
     chains_go_on, ended_histories_accept_nothing, histories_list_their_messages, offers_stand_here,

@@ -61,10 +61,10 @@ pub fn by_name(name: &[u8]) -> Option<AnyModule>
     ensures named { IfSome result (λ found. name.now ≡ name_of found) }
     ensures each { (it : AnyModule) → name.now ≡ name_of it → result ≡ Some it }
 {
-    module_named(name)
+    by_name_inner(name)
 }
 
-fn module_named(name: &[u8]) -> Option<AnyModule>
+fn by_name_inner(name: &[u8]) -> Option<AnyModule>
     ensures { result ≡ module_of_name name.now }
 {
     named_among(&MODULES, name).copied()
@@ -84,10 +84,10 @@ pub fn by_id(id: u8) -> Option<AnyModule>
     ensures id { IfSome result (λ found. (meaning_of found).id ≡ id) }
     ensures each { (it : AnyModule) → (meaning_of it).id ≡ id → result ≡ Some it }
 {
-    module_with(id)
+    by_id_inner(id)
 }
 
-fn module_with(id: u8) -> Option<AnyModule>
+fn by_id_inner(id: u8) -> Option<AnyModule>
     ensures { result ≡ module_of_id id }
 {
     with_id_among(&MODULES, id).copied()
@@ -101,73 +101,41 @@ fn with_id_among(modules: &[AnyModule], id: u8) -> Option<&AnyModule>
     modules.iter().find(|module| module.id() == id)
 }
 
+/// A call of a method, handed to the module that was chosen: a module has its one arm here.
+macro_rules! chosen {
+    ($chosen:expr, $($call:tt)*) => {
+        match $chosen {
+            AnyModule::Counter => Counter.$($call)*,
+            AnyModule::Limiter => Limiter.$($call)*,
+            AnyModule::Quota => Accounts::<256>.$($call)*,
+            AnyModule::Ledger => Accounts::<16384>.$($call)*,
+            AnyModule::Dispenser => Dispenser.$($call)*,
+            AnyModule::ReceiptCounter => Receipted { inner: Counter }.$($call)*,
+            AnyModule::ReceiptLimiter => Receipted { inner: Limiter }.$($call)*,
+            AnyModule::ReceiptQuota => Receipted { inner: Accounts::<256> }.$($call)*,
+        }
+    };
+}
+
 impl Module for AnyModule {
     ghost meaning = { meaning_of };
 
     ghost is_lawful = { any_is_lawful };
 
     fn id(&self) -> u8 {
-        match self {
-            AnyModule::Counter => Counter.id(),
-            AnyModule::Limiter => Limiter.id(),
-            AnyModule::Quota => Accounts::<256>.id(),
-            AnyModule::Ledger => Accounts::<16384>.id(),
-            AnyModule::Dispenser => Dispenser.id(),
-            AnyModule::ReceiptCounter => Receipted { inner: Counter }.id(),
-            AnyModule::ReceiptLimiter => Receipted { inner: Limiter }.id(),
-            AnyModule::ReceiptQuota => Receipted {
-                inner: Accounts::<256>,
-            }
-            .id(),
-        }
+        chosen!(self, id())
     }
 
     fn first_state(&self, alloc: Global) -> Result<Bytes, Memory> {
-        match self {
-            AnyModule::Counter => Counter.first_state(alloc),
-            AnyModule::Limiter => Limiter.first_state(alloc),
-            AnyModule::Quota => Accounts::<256>.first_state(alloc),
-            AnyModule::Ledger => Accounts::<16384>.first_state(alloc),
-            AnyModule::Dispenser => Dispenser.first_state(alloc),
-            AnyModule::ReceiptCounter => Receipted { inner: Counter }.first_state(alloc),
-            AnyModule::ReceiptLimiter => Receipted { inner: Limiter }.first_state(alloc),
-            AnyModule::ReceiptQuota => Receipted {
-                inner: Accounts::<256>,
-            }
-            .first_state(alloc),
-        }
+        chosen!(self, first_state(alloc))
     }
 
     fn state_is_spelled(&self, state: &[u8]) -> bool {
-        match self {
-            AnyModule::Counter => Counter.state_is_spelled(state),
-            AnyModule::Limiter => Limiter.state_is_spelled(state),
-            AnyModule::Quota => Accounts::<256>.state_is_spelled(state),
-            AnyModule::Ledger => Accounts::<16384>.state_is_spelled(state),
-            AnyModule::Dispenser => Dispenser.state_is_spelled(state),
-            AnyModule::ReceiptCounter => Receipted { inner: Counter }.state_is_spelled(state),
-            AnyModule::ReceiptLimiter => Receipted { inner: Limiter }.state_is_spelled(state),
-            AnyModule::ReceiptQuota => Receipted {
-                inner: Accounts::<256>,
-            }
-            .state_is_spelled(state),
-        }
+        chosen!(self, state_is_spelled(state))
     }
 
     fn step(&self, alloc: Global, state: &[u8], request: &[u8]) -> Result<Stepped, Memory> {
-        match self {
-            AnyModule::Counter => Counter.step(alloc, state, request),
-            AnyModule::Limiter => Limiter.step(alloc, state, request),
-            AnyModule::Quota => Accounts::<256>.step(alloc, state, request),
-            AnyModule::Ledger => Accounts::<16384>.step(alloc, state, request),
-            AnyModule::Dispenser => Dispenser.step(alloc, state, request),
-            AnyModule::ReceiptCounter => Receipted { inner: Counter }.step(alloc, state, request),
-            AnyModule::ReceiptLimiter => Receipted { inner: Limiter }.step(alloc, state, request),
-            AnyModule::ReceiptQuota => Receipted {
-                inner: Accounts::<256>,
-            }
-            .step(alloc, state, request),
-        }
+        chosen!(self, step(alloc, state, request))
     }
 }
 
@@ -177,50 +145,14 @@ impl Listed for AnyModule {
     ghost is_listed = { any_is_listed };
 
     fn is_named(&self, name: &[u8]) -> bool {
-        match self {
-            AnyModule::Counter => Counter.is_named(name),
-            AnyModule::Limiter => Limiter.is_named(name),
-            AnyModule::Quota => Accounts::<256>.is_named(name),
-            AnyModule::Ledger => Accounts::<16384>.is_named(name),
-            AnyModule::Dispenser => Dispenser.is_named(name),
-            AnyModule::ReceiptCounter => Receipted { inner: Counter }.is_named(name),
-            AnyModule::ReceiptLimiter => Receipted { inner: Limiter }.is_named(name),
-            AnyModule::ReceiptQuota => Receipted {
-                inner: Accounts::<256>,
-            }
-            .is_named(name),
-        }
+        chosen!(self, is_named(name))
     }
 
     fn put_name(&self, into: &mut Bytes) -> Result<(), Memory> {
-        match self {
-            AnyModule::Counter => Counter.put_name(into),
-            AnyModule::Limiter => Limiter.put_name(into),
-            AnyModule::Quota => Accounts::<256>.put_name(into),
-            AnyModule::Ledger => Accounts::<16384>.put_name(into),
-            AnyModule::Dispenser => Dispenser.put_name(into),
-            AnyModule::ReceiptCounter => Receipted { inner: Counter }.put_name(into),
-            AnyModule::ReceiptLimiter => Receipted { inner: Limiter }.put_name(into),
-            AnyModule::ReceiptQuota => Receipted {
-                inner: Accounts::<256>,
-            }
-            .put_name(into),
-        }
+        chosen!(self, put_name(into))
     }
 
     fn put_request(&self, into: &mut Bytes, choice: u32) -> Result<(), Memory> {
-        match self {
-            AnyModule::Counter => Counter.put_request(into, choice),
-            AnyModule::Limiter => Limiter.put_request(into, choice),
-            AnyModule::Quota => Accounts::<256>.put_request(into, choice),
-            AnyModule::Ledger => Accounts::<16384>.put_request(into, choice),
-            AnyModule::Dispenser => Dispenser.put_request(into, choice),
-            AnyModule::ReceiptCounter => Receipted { inner: Counter }.put_request(into, choice),
-            AnyModule::ReceiptLimiter => Receipted { inner: Limiter }.put_request(into, choice),
-            AnyModule::ReceiptQuota => Receipted {
-                inner: Accounts::<256>,
-            }
-            .put_request(into, choice),
-        }
+        chosen!(self, put_request(into, choice))
     }
 }

@@ -56,10 +56,10 @@ pub fn accept<M: Module, P: Platform>(
         acceptance_in (M.meaning «module».now) variant link.now ticket.now (moved_cell_of bytes))
         (P.standing platform.old) (P.standing platform.new) result }
 {
-    accept_by(alloc, module, variant, platform, link, ticket)
+    accept_inner(alloc, module, variant, platform, link, ticket)
 }
 
-fn accept_by<M: Module, P: Platform>(
+fn accept_inner<M: Module, P: Platform>(
     alloc: Global,
     module: &M,
     variant: Variant,

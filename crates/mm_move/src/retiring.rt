@@ -52,10 +52,10 @@ pub fn retire<M: Module, P: Platform>(
         (moved_cell_of bytes))
         (P.standing platform.old) (P.standing platform.new) result }
 {
-    retire_by(alloc, module, variant, platform, link, nonce, offer)
+    retire_inner(alloc, module, variant, platform, link, nonce, offer)
 }
 
-fn retire_by<M: Module, P: Platform>(
+fn retire_inner<M: Module, P: Platform>(
     alloc: Global,
     module: &M,
     variant: Variant,

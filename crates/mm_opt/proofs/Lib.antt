@@ -1,6 +1,5 @@
 pub mod Above
 mod Below
-mod Guards
 mod FirstLaws
 mod Reading
 mod Findings

@@ -3,10 +3,8 @@
 ghost use Rattle.std.specs.Prelude.{◌≡◌, ◌+◌, ◌≤◌, IfOk, IsTrue, None, Ok};
 ghost use Rattle.mm_base.specs.Limits.{last_position};
 ghost use Rattle.mm_digest.specs.declared.variant.Variant.TheVariants.{Opt};
-ghost use Rattle.mm_module.specs.Batch.{normal_batch};
 ghost use Rattle.mm_module.specs.Batches.{batch_of};
 ghost use Rattle.mm_seal.specs.Snapshot.{variant_of};
-ghost use Rattle.mm_model.specs.Chains.{guard};
 ghost use Rattle.mm_model.specs.Verdicts.{forms_of, opt_verdict};
 ghost use Rattle.mm_opt.specs.CellSight.{SeesCell};
 ghost use Rattle.mm_opt.specs.Order.{anchor_in, extension_in};
@@ -18,10 +16,10 @@ use crate::operation::OptAsk;
 use crate::verdicts::{has_lost_power, verdict};
 use mm_base::CELL_LENGTH;
 use mm_call::{KeptKey, answer, examine};
-use mm_digest::{Digest, Variant, extended, secured, secured_batch, zero};
+use mm_digest::{Digest, Variant, extended, zero};
 use mm_machine::{Change, OpFinding, ReadyChange, SegmentOpening};
-use mm_model::{BatchAnswer, Refusal, Verdict, has_tab};
-use mm_module::{Batch, Module};
+use mm_model::{BatchAnswer, Refusal, Verdict, guard, normal};
+use mm_module::Module;
 use mm_seal::{Cell, CellFault, Offered, PartsFault, Place, cell_bytes, parts, read_cell};
 
 /// The cell of the module with this id that these bytes are.
@@ -78,7 +76,7 @@ fn weigh<M: Module>(
         (Ok offered.now) (batch_of ask.now.batch)) result }
 {
     let body = offered.body();
-    let value = guard(&cell.barrier, ask.batch);
+    let value = guard(&cell.barrier, normal(ask.batch));
     let verdict = verdict_on(cell, register, &body.place, &value);
     let key = keys.under(&cell.key);
     let again = examine(ask.module, key, offered, ask.batch, verdict)?;
@@ -99,17 +97,6 @@ fn verdict_on(cell: &Cell, register: &Digest, place: &Place, value: &Digest) -> 
     match place {
         Place::Opt { anchor, extension } => verdict(cell, register, anchor, extension, value),
         Place::Basic(_) => unreachable!(),
-    }
-}
-
-// The value by which the batch extends the register.
-#[tactic(auto, using(crate::proofs::Guards::guards))]
-fn guard(barrier: &[u8; 32], batch: Batch<'_>) -> Digest
-    ensures { result.bytes ≡ guard barrier.now (normal_batch (batch_of batch.entry)) }
-{
-    match batch {
-        Batch::Many(text) if has_tab(text) => secured_batch(barrier, text),
-        Batch::One(text) | Batch::Many(text) => secured(barrier, text),
     }
 }
 

@@ -6,8 +6,8 @@ ghost use Rattle.mm_quota.specs.LedgerListings.{ledger_is_listed, ledger_listing
 ghost use Rattle.mm_quota.specs.Requests.{account_name, account_request, amount_text};
 
 use crate::quota::Accounts;
-use mm_base::{Bytes, Memory};
-use mm_listing::{Listed, put_numbered};
+use mm_base::{Bytes, Memory, put_numbered};
+use mm_listing::Listed;
 
 fn put_account_request(into: &mut Bytes, choice: u32) -> Result<(), Memory>
     ensures { OnOk result (into.new ≡ into.old ++ account_request choice) }
@@ -16,7 +16,7 @@ fn put_account_request(into: &mut Bytes, choice: u32) -> Result<(), Memory>
         0 => put_opening(into, choice),
         1..=3 => put_moving(into, b"use a", choice),
         4 | 5 => put_moving(into, b"free a", choice),
-        6 => put_numbered(into, b"left a", choice / 8 % 16),
+        6 => put_numbered(into, b"left a", u64::from(choice / 8 % 16)),
         _ => into.append(b"sum"),
     }
 }
@@ -26,7 +26,7 @@ fn put_opening(into: &mut Bytes, choice: u32) -> Result<(), Memory>
     ensures { OnOk result
         (into.new ≡ into.old ++ codes "open " ++ account_name choice ++ codes " 100000") }
 {
-    put_numbered(into, b"open a", choice / 8 % 16)?;
+    put_numbered(into, b"open a", u64::from(choice / 8 % 16))?;
     into.append(b" 100000")
 }
 
@@ -35,8 +35,8 @@ fn put_moving(into: &mut Bytes, word: &[u8], choice: u32) -> Result<(), Memory>
     ensures { OnOk result
         (into.new ≡ into.old ++ word.now ++ decimal (choice / 8 % 16) ++ 32 ∷ amount_text choice) }
 {
-    put_numbered(into, word, choice / 8 % 16)?;
-    put_numbered(into, b" ", choice / 128 % 500)
+    put_numbered(into, word, u64::from(choice / 8 % 16))?;
+    put_numbered(into, b" ", u64::from(choice / 128 % 500))
 }
 
 impl Listed for Accounts<256> {

@@ -77,7 +77,7 @@ impl ReceiptPlayer {
 }
 
 /// Checks the pairs of an input.
-fn checked<S: Source, K: Sink>(
+fn receipts_inner<S: Source, K: Sink>(
     alloc: Global,
     key: &[u8; 32],
     input: &mut S,
@@ -130,5 +130,5 @@ pub fn receipts<S: Source, K: Sink>(
     ensures honest { ChecksHonestly key.now (S.left input.old) (S.left input.new)
         (K.received out.old) (K.received out.new) result }
 {
-    checked(alloc, key, input, out)
+    receipts_inner(alloc, key, input, out)
 }

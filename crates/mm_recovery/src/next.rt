@@ -43,12 +43,12 @@ pub fn ask_next<M: Module, P: Platform, T: Store>(
     ensures writes { RequestWrites hosted.now.variant (P.standing platform.old)
         (P.standing platform.new) result }
 {
-    record_and_ask(hosted, platform, store, last, request)
+    ask_next_inner(hosted, platform, store, last, request)
 }
 
 // Writes the record of a request, asks for it, and keeps the answer's snapshot.
 #[tactic(auto, using(crate::proofs::Askable::askable))]
-fn record_and_ask<M: Module, P: Platform, T: Store>(
+fn ask_next_inner<M: Module, P: Platform, T: Store>(
     hosted: &HostedModule<M>,
     platform: &mut P,
     store: &mut T,

@@ -173,10 +173,7 @@ fn provision<M: Module>(hosted: &HostedModule<M>, secrets: &[u8; 64]) -> Result<
     let (front, back) = secrets.split_at(32);
     key.copy_from_slice(front);
     barrier.copy_from_slice(back);
-    match hosted.variant {
-        Variant::Basic => mm_basic::provision(hosted.alloc, hosted.module, &key, &barrier),
-        Variant::Opt => mm_opt::provision(hosted.alloc, hosted.module, &key, &barrier),
-    }
+    mm_ask::provision(hosted.alloc, hosted.variant, hosted.module, &key, &barrier)
 }
 
 // Sets the store up, and then writes the cell.

@@ -24,15 +24,15 @@ pub fn read_header(line: &[u8]) -> Option<Header>
     ensures spelled { IfSome result (λ header. line.now ≡ header_text header) }
     ensures only { (header : Header) → line.now ≡ header_text header → result ≡ Some header }
 {
-    header_in(line)
+    read_header_inner(line)
 }
 
 #[tactic(auto, unfolding(crate::specs::Headers::header_at))]
-fn header_in(line: &[u8]) -> Option<Header>
+fn read_header_inner(line: &[u8]) -> Option<Header>
     ensures { result ≡ header_at line.now }
 {
     let words = after(b"memoir 1 ", line)?;
-    head_in(words)
+    read_head_inner(words)
 }
 
 /// The variant and the module of two words, as `basic counter`, behind which nothing follows. None
@@ -42,11 +42,11 @@ pub fn read_head(words: &[u8]) -> Option<Header>
     ensures spelled { IfSome result (λ head. words.now ≡ head_text head) }
     ensures only { (head : Header) → words.now ≡ head_text head → result ≡ Some head }
 {
-    head_in(words)
+    read_head_inner(words)
 }
 
 #[tactic(auto, unfolding(crate::specs::Headers::header_of_words))]
-fn head_in(words: &[u8]) -> Option<Header>
+fn read_head_inner(words: &[u8]) -> Option<Header>
     ensures { result ≡ header_of_words words.now }
 {
     let (variant, name) = word_in(words)?;

@@ -7,7 +7,7 @@ ghost use Rattle.mm_schedule.specs.RepliesWords.{told_line};
 
 use crate::print::told_word;
 use crate::reply::{Reply, Way};
-use mm_base::{Bytes, Memory, put_decimal};
+use mm_base::{Bytes, Memory, put_decimal, put_numbered};
 
 /// Puts one line of a reply with its LF at the end.
 #[inline(always)]
@@ -41,10 +41,8 @@ pub fn put_line(reply: &Reply, index: usize, into: &mut Bytes) -> Result<(), Mem
 pub fn put_end(committed: u64, issued: u32, into: &mut Bytes) -> Result<(), Memory>
     ensures { OnOk result (into.new ≡ into.old ++ end_line committed issued) }
 {
-    into.append(b"end ")?;
-    put_decimal(into, committed)?;
-    into.push(b' ')?;
-    put_decimal(into, u64::from(issued))?;
+    put_numbered(into, b"end ", committed)?;
+    put_numbered(into, b" ", u64::from(issued))?;
     into.push(b'\n')
 }
 
@@ -63,8 +61,7 @@ fn put_kept(way: Way, position: u64, into: &mut Bytes) -> Result<(), Memory>
         (into.new ≡ into.old ++ (way_text way ++ codes " kept " ++ decimal position ++ 10 ∷ [])) }
 {
     into.append(way.text())?;
-    into.append(b" kept ")?;
-    put_decimal(into, position)?;
+    put_numbered(into, b" kept ", position)?;
     into.push(b'\n')
 }
 

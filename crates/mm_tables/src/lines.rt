@@ -1,6 +1,6 @@
 //! The lines of a table, and what stands for many bytes in them.
 
-use mm_base::{Bytes, Memory, put_decimal, read_decimal};
+use mm_base::{Bytes, Memory, put_numbered, read_decimal};
 use std::alloc::Global;
 
 /// The first of the numbers of a range, as `1..40`, and the one behind its last.
@@ -35,12 +35,11 @@ fn put_line(into: &mut Bytes, line: &str) -> Result<(), Memory> {
 }
 
 // Puts a line with a number in the place of `#`.
-fn put_numbered(into: &mut Bytes, line: &str, number: u64) -> Result<(), Memory> {
+fn put_filled(into: &mut Bytes, line: &str, number: u64) -> Result<(), Memory> {
     let Some((front, back)) = line.split_once("#") else {
         return put_line(into, line);
     };
-    into.append(front.as_bytes())?;
-    put_decimal(into, number)?;
+    put_numbered(into, front.as_bytes(), number)?;
     put_line(into, back)
 }
 
@@ -57,7 +56,7 @@ pub fn put_lines(into: &mut Bytes, line: &str) -> Result<(), Memory> {
         return put_line(into, line);
     };
     for number in first..end {
-        put_numbered(into, text, number)?;
+        put_filled(into, text, number)?;
     }
     Ok(())
 }

@@ -8,7 +8,7 @@ ghost use Rattle.mm_transfer.specs.Replies.{IsSayable};
 
 use crate::event::SideChoice;
 use crate::reply::{MoveCause, MoveReply};
-use mm_base::{Bytes, Memory, put_decimal};
+use mm_base::{Bytes, Memory, put_numbered};
 use mm_replay::put_reply;
 
 impl MoveCause {
@@ -56,11 +56,10 @@ fn put_words(first: &[u8], second: &[u8], into: &mut Bytes) -> Result<(), Memory
 }
 
 // Puts a word, a number and an LF at the end.
-fn put_numbered(word: &[u8], number: u64, into: &mut Bytes) -> Result<(), Memory>
+fn put_number(word: &[u8], number: u64, into: &mut Bytes) -> Result<(), Memory>
     ensures { OnOk result (into.new ≡ into.old ++ (word.now ++ decimal number ++ 10 ∷ [])) }
 {
-    into.append(word)?;
-    put_decimal(into, number)?;
+    put_numbered(into, word, number)?;
     into.push(b'\n')
 }
 
@@ -72,8 +71,8 @@ fn put_move(reply: &MoveReply, into: &mut Bytes) -> Result<(), Memory>
     match reply {
         MoveReply::Said(reply) => put_reply(reply, into),
         MoveReply::Invited => put_words(b"invited", b"", into),
-        MoveReply::Left { ticket } => put_numbered(b"retired ", u64::from(*ticket), into),
-        MoveReply::Entered { position } => put_numbered(b"accepted ", *position, into),
+        MoveReply::Left { ticket } => put_number(b"retired ", u64::from(*ticket), into),
+        MoveReply::Entered { position } => put_number(b"accepted ", *position, into),
         MoveReply::Denied(cause) => put_words(b"no ", cause.text(), into),
         MoveReply::NoSnapshot => put_words(b"no snapshot", b"", into),
         MoveReply::NoTicket => put_words(b"no ticket", b"", into),
@@ -102,13 +101,9 @@ pub fn put_end(
 ) -> Result<(), Memory>
     ensures { OnOk result (into.new ≡ into.old ++ end_line committed first second tickets) }
 {
-    into.append(b"end ")?;
-    put_decimal(into, committed)?;
-    into.push(b' ')?;
-    put_decimal(into, u64::from(first))?;
-    into.push(b' ')?;
-    put_decimal(into, u64::from(second))?;
-    into.push(b' ')?;
-    put_decimal(into, u64::from(tickets))?;
+    put_numbered(into, b"end ", committed)?;
+    put_numbered(into, b" ", u64::from(first))?;
+    put_numbered(into, b" ", u64::from(second))?;
+    put_numbered(into, b" ", u64::from(tickets))?;
     into.push(b'\n')
 }

@@ -4,7 +4,6 @@ ghost use Rattle.std.specs.Prelude.{◌≡◌, ◌↔◌, Some, None, IfOk, IsEr
 ghost use Rattle.std.specs.Option.{option_map};
 ghost use Rattle.mm_module.specs.Values.{value_at};
 ghost use Rattle.mm_schedule.specs.Events.{meddles_of};
-ghost use Rattle.mm_schedule.specs.Headers.{header_of_words};
 ghost use Rattle.mm_schedule.specs.Texts.{offer_of};
 ghost use Rattle.mm_transfer.specs.Events.{which_of, side_event_of};
 ghost use Rattle.mm_transfer.specs.Grammar.{first_header_at, side_at, named_offer_at, raw_offer_at, flipped_offer_at, whole_offer_at, retirement_at, command_at, ask_at, call_at, prefixed_act_at, act_at, event_at};
@@ -26,13 +25,6 @@ pub fn read_first(line: &[u8]) -> Option<Header>
     ensures { result ≡ first_header_at line.now }
 {
     let words = after(b"memoir transfer 1 ", line)?;
-    head_in(words)
-}
-
-// A variant and a module.
-fn head_in(words: &[u8]) -> Option<Header>
-    ensures { result ≡ header_of_words words.now }
-{
     read_head(words)
 }
 

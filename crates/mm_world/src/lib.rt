@@ -9,7 +9,7 @@ mod views;
 mod world;
 
 pub use call::{CallReport, Caller, call_by_offer, planned_checkpoint, settle, takes_effect};
-pub use parts::{listed, provisioned};
+pub use parts::listed;
 pub use planning::{CallTeller, planned, settled};
 pub use seat::Seat;
 pub use views::{EventView, OfferView, line_view, owned_view};

@@ -5,8 +5,9 @@ ghost use Rattle.std.specs.List.{sum_by};
 ghost use Rattle.mm_world.specs.Lengths.{within_64};
 
 use crate::call::{CallReport, Caller, call_by_offer, planned_checkpoint};
-use crate::parts::{length_if, provisioned};
+use crate::parts::length_if;
 use crate::views::{EventView, OfferView};
+use mm_ask::provision;
 use mm_base::{Bytes, CELL_LENGTH, Memory};
 use mm_call::{KeptKey, Provisioned};
 use mm_digest::Digest;
@@ -63,7 +64,7 @@ impl Seat {
     ) -> Result<Seat, Memory>
         ensures { IfOk result (IsFirst header key.now barrier.now) }
     {
-        match provisioned(alloc, header.variant, &header.module, key, barrier) {
+        match provision(alloc, header.variant, &header.module, key, barrier) {
             Err(memory) => Err(memory),
             Ok(made) => Seat::over(alloc, header, made),
         }

@@ -1,8 +1,13 @@
 //! Moves of the counter between platforms in memory.
 
+<<<<<<< ours
 use crate::tests::samples::{KEY, LINK, NONCE, cell_of, offer_of, place_at, summary, ticket_of};
 use crate::{Accepted, Invited, MoveRefusal, OfferedTicket, accept, invite, read_ticket, retire};
 use mm_base::{Bytes, Memory, put_decimal};
+=======
+use crate::samples::{KEY, LINK, NONCE, cell_of, offer_of, place_at, summary, ticket_of};
+use mm_base::{Bytes, Memory, put_numbered};
+>>>>>>> theirs
 use mm_digest::Variant;
 use mm_module::Counter;
 use mm_platform::{MemPlatform, Platform, Stop};
@@ -146,15 +151,8 @@ fn stop_of(word: &str) -> Stop {
     }
 }
 
-// Puts a word, and a number with a space before.
-fn put_numbered(said: &mut Bytes, word: &[u8], number: u64) -> Result<(), Memory> {
-    said.append(word)?;
-    said.push(b' ')?;
-    put_decimal(said, number)
-}
-
 fn put_refusal(said: &mut Bytes, refusal: &MoveRefusal) -> Result<(), Memory> {
-    put_numbered(said, b"no", u64::from(refusal.code()))
+    put_numbered(said, b"no ", u64::from(refusal.code()))
 }
 
 fn put_invited(said: &mut Bytes, came: &Result<Invited, MoveRefusal>) -> Result<(), Memory> {
@@ -178,7 +176,11 @@ fn put_ticket(
         && ticket.body.place == place_at(variant, summary());
     put_numbered(
         said,
-        if is_left { b"left".as_slice() } else { b"bad" },
+        if is_left {
+            b"left ".as_slice()
+        } else {
+            b"bad "
+        },
         ticket.body.position,
     )
 }
@@ -205,7 +207,7 @@ fn put_accepted(said: &mut Bytes, variant: Variant, accepted: &Accepted) -> Resu
     let is_at = is_sealed(accepted.snapshot.as_slice(), variant, accepted.position);
     put_numbered(
         said,
-        if is_at { b"at".as_slice() } else { b"bad" },
+        if is_at { b"at ".as_slice() } else { b"bad " },
         accepted.position,
     )
 }
@@ -273,7 +275,7 @@ fn put_stopped(
     put_move(said, alloc, row, platform)?;
     platform.end_plan();
     let _ = platform.cycle();
-    put_numbered(said, b",", platform.nv_writes())
+    put_numbered(said, b", ", platform.nv_writes())
 }
 
 // The same; where memory was wanting nothing has changed, so the move is made once more.

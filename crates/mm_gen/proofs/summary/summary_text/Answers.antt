@@ -1,4 +1,4 @@
-use Rattle.mm_gen.proofs.Below.{◌≡◌, ℕ, List, [], ◌∷◌, ◌++◌, refl, append_assoc, rules, joined_lines}
+use Rattle.mm_gen.proofs.Below.{◌≡◌, ℕ, List, [], ◌∷◌, ◌++◌, refl, ap, ◌∙◌, append_assoc, rules, codes, decimal, end_line, joined_lines}
 use Rattle.mm_gen.specs.Summaries.{end_text, events_text, other_counts, replies_text, told_counts}
 use Rattle.mm_gen.proofs.summary.summary_text.Goals as goal
 
@@ -7,9 +7,15 @@ five_lines : (a b c d e one two three four five : List ℕ) → one ≡ a ++ 10 
     → four ≡ three ++ d ++ 10 ∷ [] → five ≡ four ++ e ++ 10 ∷ [] → five ≡ joined_lines (a ∷ b ∷ c ∷ d ∷ e ∷ [])
 five_lines a b c d e one two three four five is1 is2 is3 is4 is5 = rw (is5, is4, is3, is2, is1) (simp append_assoc refl)
 
+-- the last line of the replies
+end_lined : (committed issued : ℕ) → end_line committed issued ≡ (codes "end " ++ decimal committed ++ 32 ∷ decimal issued) ++ 10 ∷ []
+end_lined committed issued = simp append_assoc refl
+
 pub returns : goal.returns
 returns c =
     five_lines (events_text c.args.events) (told_counts c.args.it.now.counts) (other_counts c.args.it.now.counts) (end_text c.args.it.now)
     (replies_text c.args.it.now.replies.bytes)
     c.put_events.new.into c.put_told_counts.new.into c.put_other_counts.new.into c.put_end.new.into c.put_replies.new.into
-    (search rules) c.in_ok-put_told_counts.ensures c.in_ok-put_other_counts.ensures c.in_ok-put_end.ensures c.in_ok-put_replies.ensures
+    (search rules) c.in_ok-put_told_counts.ensures c.in_ok-put_other_counts.ensures
+    (c.in_ok-put_end.ensures ∙ ap (λ line. c.put_other_counts.new.into ++ line) (end_lined c.args.it.now.committed c.args.it.now.issued))
+    c.in_ok-put_replies.ensures

@@ -8,4 +8,4 @@ returns g c =
     moved_as (λ (bytes : List ℕ). retirement_in (g.M.Module.meaning c.args.module.now) c.args.variant c.args.link.now c.args.nonce.now
     c.args.offer.now (moved_cell_of bytes)) (λ (bytes : List ℕ). retires_no_fault (g.M.Module.meaning c.args.module.now) c.args.variant
     c.args.link.now c.args.nonce.now c.args.offer.now (moved_cell_of bytes)) (g.P.Device.standing c.args.platform.now)
-    (g.P.Device.standing c.retire_by.new.platform) c.retire_by.result c.retire_by.ensures
+    (g.P.Device.standing c.retire_inner.new.platform) c.retire_inner.result c.retire_inner.ensures

@@ -11,4 +11,4 @@ unfolding first_header_at
 reads line words found behind is = is ∙ ap (λ (rest : Option (List ℕ)). rest >>= header_of_words) behind
 
 pub returns : goal.returns
-returns c = reads c.args.line.now c.in_ok-words.words.now c.head_in.result c.in_ok-words.ensures c.head_in.ensures
+returns c = reads c.args.line.now c.in_ok-words.words.now c.read_head.result c.in_ok-words.ensures c.read_head.ensures.read

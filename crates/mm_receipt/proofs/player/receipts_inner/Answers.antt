@@ -1,6 +1,6 @@
 use Rattle.mm_receipt.proofs.Below.{ap, None, CheckTally, CheckState}
 use Rattle.mm_receipt.proofs.Playing.{checks-err}
-use Rattle.mm_receipt.proofs.player.checked.Goals as goal
+use Rattle.mm_receipt.proofs.player.receipts_inner.Goals as goal
 
 pub returns-clause-checks : goal.returns-clause-checks
 returns-clause-checks g c =

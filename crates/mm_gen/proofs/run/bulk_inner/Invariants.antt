@@ -1,6 +1,6 @@
 use Rattle.mm_gen.proofs.Below.{◌≡◌, length, schedule_lines, running_replay}
 use Rattle.mm_gen.proofs.Tallying.{Going}
-use Rattle.mm_gen.proofs.run.run_schedule.Given as goal
+use Rattle.mm_gen.proofs.run.bulk_inner.Given as goal
 
 abbrev pub invariant-lines : goal.invariant-lines
 invariant-lines l = record {

@@ -1,6 +1,6 @@
 use Rattle.mm_move.proofs.Below.{List, ℕ, Result, subst, CellFault, MovedCell, moved_cell_of, acceptance_in, IsOrNoMemory}
 use Rattle.mm_move.proofs.Moving.{read_done}
-use Rattle.mm_move.proofs.accepting.accept_by.Goals as goal
+use Rattle.mm_move.proofs.accepting.accept_inner.Goals as goal
 
 pub returns-in-Ok : goal.returns-in-Ok
 returns-in-Ok g c =

@@ -1,7 +1,7 @@
 use Rattle.mm_gen.proofs.Below.{◌∙◌, sym, ap, Err, sha256, running_replay, RunningReplay, line_at}
 use Rattle.std.proofs.lemmas.Result.{err_from_is_err_and}
 use Rattle.mm_gen.proofs.Tallying.{behind_first, ended, goes_on, next, starts, stops, within}
-use Rattle.mm_gen.proofs.run.run_schedule.Goals as goal
+use Rattle.mm_gen.proofs.run.bulk_inner.Goals as goal
 
 pub lines-init : goal.lines-init
 lines-init c =
