@@ -50,7 +50,7 @@ place_after_batch Opt false again i d b =
 -- was committed.
 abbrev pub digest_level : Instance → Level Digests
 digest_level i = record {
-  made = made i;
+  made = digests_after i;
   is_open = λ d. d.flag;
   is_lost = λ d. d.flag && bytes_eq d.register zero_bytes;
   count = λ d. d.count;

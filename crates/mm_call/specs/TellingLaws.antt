@@ -49,24 +49,24 @@ trail_last i d fates n step old new (Some fault) s = (new, Some fault, s, (refl,
 
 -- the fates of some steps, from the step of this number on, and then those of a plan
 abbrev pub fates_before_plan : List StepFate → ℕ → Plan → ℕ → StepFate
-fates_before_plan [] k plan n = planned plan n
+fates_before_plan [] k plan n = fate_by_plan plan n
 fates_before_plan (fate ∷ fates) k plan n = if n == k then fate else fates_before_plan fates (k + 1) plan n
 
 -- those fates are the plan's too
 abbrev pub AreMet : List StepFate → ℕ → Plan → Type 0
 AreMet [] k plan = Unit {0}
-AreMet (fate ∷ fates) k plan = (fate ≡ planned plan k) × AreMet fates (k + 1) plan
+AreMet (fate ∷ fates) k plan = (fate ≡ fate_by_plan plan k) × AreMet fates (k + 1) plan
 
-chosen : (here : Bool) (fate later : StepFate) (n k : ℕ) (plan : Plan) → (here ≡ true → n ≡ k) → fate ≡ planned plan k
-    → later ≡ planned plan n
-    → (if here then fate else later) ≡ planned plan n
-chosen true fate later n k plan h e l = e ∙ ap (λ (m : ℕ). planned plan m) (sym (h refl))
+chosen : (here : Bool) (fate later : StepFate) (n k : ℕ) (plan : Plan) → (here ≡ true → n ≡ k) → fate ≡ fate_by_plan plan k
+    → later ≡ fate_by_plan plan n
+    → (if here then fate else later) ≡ fate_by_plan plan n
+chosen true fate later n k plan h e l = e ∙ ap (λ (m : ℕ). fate_by_plan plan m) (sym (h refl))
 chosen false fate later n k plan h e l = l
 
 eq_tells : (n k : ℕ) → (n == k) ≡ true → n ≡ k
 eq_tells n k e = grind (arith, nat_tests)
 
-met_told : (fates : List StepFate) (k : ℕ) (plan : Plan) (n : ℕ) → AreMet fates k plan → fates_before_plan fates k plan n ≡ planned plan n
+met_told : (fates : List StepFate) (k : ℕ) (plan : Plan) (n : ℕ) → AreMet fates k plan → fates_before_plan fates k plan n ≡ fate_by_plan plan n
 met_told [] k plan n a = refl
 met_told (fate ∷ fates) k plan n a =
     chosen (n == k) fate (fates_before_plan fates (k + 1) plan n) n k plan (eq_tells n k) a.0 (met_told fates (k + 1) plan n a.1)
@@ -88,7 +88,7 @@ begins_at old plan on known at = record { is_on = on; planned = known ∙ ap (λ
 
 -- a step goes as the plan says of its number
 pub met_at : (act : Act) (old new : Standing) (fault : Option StepFault) (plan : Plan) (at : ℕ) → IsAt old plan at
-    → (g : StepGoes act old new fault) → record { brings = g.others; ends = end_of fault g.is_made } ≡ planned plan (next_count at)
+    → (g : StepGoes act old new fault) → record { brings = g.others; ends = end_of fault g.is_made } ≡ fate_by_plan plan (next_count at)
 met_at act old new fault plan at p g =
     let told = g.told (record plan { at = at }) p.planned in
     let answers : fault ≡ fault_at plan.stop (next_count at) = told.answers

@@ -93,10 +93,10 @@ foreign_of-items (v ∷ values) = ap (λ (vs : List (List ℕ)). v ∷ vs) (fore
 
 register-push : (barrier : List ℕ) (items : List RegisterEntry) (v : List ℕ)
     → register_of (entry_values barrier (items ++ Value v ∷ []))
-    ≡ after extended_message (register_of (entry_values barrier items)) (v ∷ [])
+    ≡ digest_after extended_message (register_of (entry_values barrier items)) (v ∷ [])
 unfolding register_of
 register-push barrier items v =
-    ap (after extended_message _) (values_of-append barrier items (Value v ∷ []))
+    ap (digest_after extended_message _) (values_of-append barrier items (Value v ∷ []))
     ∙ after-append extended_message _ (entry_values barrier items) (v ∷ [])
 
 -- what is asked for a closing at any of the items, for those in front and those behind
@@ -107,15 +107,15 @@ may_close_front all i y more later w first rest e =
     ∙ ap (λ (vs : List (List ℕ)). vs ++ item_values later) e ∙ sym (map-append (λ (item : Item). item.value) more later))
 
 pub may_close_back : (all : List (List ℕ)) (i : Instance) (y z : History) (front later : List Item) → z.closed ≡ y.closed
-    → register_value_of i (counted_part z) ≡ after extended_message (register_value_of i (counted_part y)) (item_values front)
+    → register_value_of i (counted_part z) ≡ digest_after extended_message (register_value_of i (counted_part y)) (item_values front)
     → MayClose all i y (front ++ later) → MayClose all i z later
 may_close_back all i y z front later closed register w first rest e =
     let r : List ℕ = register_value_of i (counted_part y) in
     let message : List (List RegisterEntry) → List ℕ → List ℕ =
     λ c s. anchored_message (cell_digest_of i Opt (record y { closed = c })) s in
     subst (Contains all) (ap (message y.closed) (after-append extended_message r (item_values front) first
-    ∙ ap (λ (s : List ℕ). after extended_message s first) (sym register))
-    ∙ ap (λ (c : List (List RegisterEntry)). message c (after extended_message (register_value_of i (counted_part z)) first)) (sym closed))
+    ∙ ap (λ (s : List ℕ). digest_after extended_message s first) (sym register))
+    ∙ ap (λ (c : List (List RegisterEntry)). message c (digest_after extended_message (register_value_of i (counted_part z)) first)) (sym closed))
     (w (item_values front ++ first) rest (append_assoc (item_values front) first rest
     ∙ ap (λ (vs : List (List ℕ)). item_values front ++ vs) e ∙ sym (map-append (λ (item : Item). item.value) front later)))
 
@@ -137,7 +137,7 @@ module _ (meaning : Meaning) (key barrier : List ℕ) where
   abbrev MayCloseAt : List (List ℕ) → List ℕ → List ℕ → List (List ℕ) → Type 0
   MayCloseAt all anchor register values =
       (first later : List (List ℕ)) → first ++ later ≡ values
-      → Contains all (anchored_message anchor (after extended_message register first))
+      → Contains all (anchored_message anchor (digest_after extended_message register first))
 
   closing_within : (all : List (List ℕ)) (moves : List Move) (may : Bool) (y : History) → AreClosing moves may
       → AreMessagesIn (trail extended_message (register_value_of I y) (foreign_move_values moves)) all

@@ -66,7 +66,7 @@ refused_with why variant after h =
 
 pub answers_of : (i : Instance) (y after : History) (p : PendingRecord) (answer : Answer) → AnswersAt i y (Some p) after answer
     → (p.position ≡ total_of after.batches)
-    × (whole answer ≡ answer_on i after (One p.request) (nat_eq p.position (total_of y.batches)))
+    × (batch_answer_of answer ≡ answer_on i after (One p.request) (nat_eq p.position (total_of y.batches)))
 answers_of i y after p answer a = let same : a.p ≡ p = same_pending p a.p a.waits in (rw same at a.position, rw same at a.answer_is)
 
 module _ {all others : List (List ℕ)} {asked : List Batch} {i : Instance} {y : History} {slots : Slots} {standing : Standing}

@@ -196,7 +196,7 @@ outcome_of_events i level s issued (event ∷ events) =
 
 -- the first snapshot of an instance, and its first digests
 abbrev pub first_snapshots : Instance → List (List ℕ)
-first_snapshots i = sealed_snapshot_of i.key (issued i first_history) ∷ []
+first_snapshots i = sealed_snapshot_of i.key (content_of_issue i first_history) ∷ []
 
 abbrev pub first_digests : Instance → Digests
 first_digests i =

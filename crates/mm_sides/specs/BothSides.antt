@@ -79,7 +79,7 @@ pub record Mover (S A : Type 0) : Type 0 where
 abbrev pub list_mover : Mover History History
 list_mover = record {
   level = list_level;
-  says = λ i y offered. issued i y;
+  says = λ i y offered. content_of_issue i y;
   leaves = λ y. y;
   enters = λ own away content. record away { items = own.items };
 }

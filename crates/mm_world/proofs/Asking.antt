@@ -67,7 +67,7 @@ read_push items item =
 shown_reads : (variant : Variant) (flag : Bool) (i : Instance) (d : Digests) (m : Move) (items : List Item) → i.variant ≡ variant
     → d.flag ≡ flag → register_after (item_values items) ≡ d.register
     → register_after (item_values (items_after_move variant flag i m items))
-    ≡ (made i d m).register
+    ≡ (digests_after i d m).register
 shown_reads Basic flag i d (Commit b) items v f e = e ∙ rw v refl
 shown_reads Opt true i d (Commit b) items v f e = read_push items (own_item (guard i.barrier b)) ∙ rw (e, v, f) refl
 shown_reads Opt false i d (Commit b) items v f e = e ∙ rw (v, f) refl
@@ -118,7 +118,7 @@ module _ (i : Instance) where
       → register_after (item_values (items_after_moves i d moves items)) ≡ (state_after_moves (digest_level i) d moves).register
   shown_all [] d items e = e
   shown_all (m ∷ moves) d items e =
-      shown_all moves (made i d m) (items_after_move i.variant d.flag i m items) (shown_reads i.variant d.flag i d m items refl refl e)
+      shown_all moves (digests_after i d m) (items_after_move i.variant d.flag i m items) (shown_reads i.variant d.flag i d m items refl refl e)
 
   pub reads_shown : (moves : List Move) (d : Digests) (items : Option (List Item)) → option_map (λ xs. register_after (item_values xs))
       items ≡ Some d.register → option_map (λ xs. register_after (item_values xs)) (option_map (items_after_moves i d moves) items) ≡ Some

@@ -1,13 +1,8 @@
 //! Moves of the counter between platforms in memory.
 
-<<<<<<< ours
 use crate::tests::samples::{KEY, LINK, NONCE, cell_of, offer_of, place_at, summary, ticket_of};
 use crate::{Accepted, Invited, MoveRefusal, OfferedTicket, accept, invite, read_ticket, retire};
-use mm_base::{Bytes, Memory, put_decimal};
-=======
-use crate::samples::{KEY, LINK, NONCE, cell_of, offer_of, place_at, summary, ticket_of};
 use mm_base::{Bytes, Memory, put_numbered};
->>>>>>> theirs
 use mm_digest::Variant;
 use mm_module::Counter;
 use mm_platform::{MemPlatform, Platform, Stop};
