@@ -66,7 +66,8 @@ chosen false fate later n k plan h e l = l
 eq_tells : (n k : ℕ) → (n == k) ≡ true → n ≡ k
 eq_tells n k e = grind (arith, nat_tests)
 
-met_told : (fates : List StepFate) (k : ℕ) (plan : Plan) (n : ℕ) → AreMet fates k plan → fates_before_plan fates k plan n ≡ fate_by_plan plan n
+met_told : (fates : List StepFate) (k : ℕ) (plan : Plan) (n : ℕ) → AreMet fates k plan → fates_before_plan fates k plan n
+    ≡ fate_by_plan plan n
 met_told [] k plan n a = refl
 met_told (fate ∷ fates) k plan n a =
     chosen (n == k) fate (fates_before_plan fates (k + 1) plan n) n k plan (eq_tells n k) a.0 (met_told fates (k + 1) plan n a.1)

@@ -115,7 +115,8 @@ may_close_back all i y z front later closed register w first rest e =
     λ c s. anchored_message (cell_digest_of i Opt (record y { closed = c })) s in
     subst (Contains all) (ap (message y.closed) (after-append extended_message r (item_values front) first
     ∙ ap (λ (s : List ℕ). digest_after extended_message s first) (sym register))
-    ∙ ap (λ (c : List (List RegisterEntry)). message c (digest_after extended_message (register_value_of i (counted_part z)) first)) (sym closed))
+    ∙ ap (λ (c : List (List RegisterEntry)). message c (digest_after extended_message (register_value_of i (counted_part z)) first))
+    (sym closed))
     (w (item_values front ++ first) rest (append_assoc (item_values front) first rest
     ∙ ap (λ (vs : List (List ℕ)). item_values front ++ vs) e ∙ sym (map-append (λ (item : Item). item.value) front later)))
 

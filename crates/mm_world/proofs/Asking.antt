@@ -118,7 +118,8 @@ module _ (i : Instance) where
       → register_after (item_values (items_after_moves i d moves items)) ≡ (state_after_moves (digest_level i) d moves).register
   shown_all [] d items e = e
   shown_all (m ∷ moves) d items e =
-      shown_all moves (digests_after i d m) (items_after_move i.variant d.flag i m items) (shown_reads i.variant d.flag i d m items refl refl e)
+      shown_all moves (digests_after i d m) (items_after_move i.variant d.flag i m items)
+      (shown_reads i.variant d.flag i d m items refl refl e)
 
   pub reads_shown : (moves : List Move) (d : Digests) (items : Option (List Item)) → option_map (λ xs. register_after (item_values xs))
       items ≡ Some d.register → option_map (λ xs. register_after (item_values xs)) (option_map (items_after_moves i d moves) items) ≡ Some
