@@ -2,7 +2,9 @@
 #![tactic(auto)]
 
 mod ask;
+mod caller;
 mod provisioning;
 
 pub use ask::Ask;
+pub use caller::Caller;
 pub use provisioning::provision;

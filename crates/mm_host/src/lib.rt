@@ -7,5 +7,6 @@ mod serving;
 mod telling;
 
 pub use fault::SessionFault;
-pub use mm_recovery::{HostFault, HostedModule, InitFault, Resumed, ask_next, init, resume};
+pub use mm_ask::Caller;
+pub use mm_recovery::{HostFault, InitFault, Resumed, ask_next, init, resume};
 pub use serving::session;

@@ -14,11 +14,12 @@ ghost use Rattle.mm_host.specs.Sessions.{IsSession, most_lines, AsksAndTells, By
 
 use crate::fault::SessionFault;
 use crate::telling::tell;
+use mm_ask::Caller;
 use mm_base::{LONGEST_REQUEST, LineFault, LineReader, Read, ReplayFault, Sink, Source};
 use mm_digest::Variant;
 use mm_module::Module;
 use mm_platform::Platform;
-use mm_recovery::{HostedModule, Resumed, ask_next, resume};
+use mm_recovery::{Resumed, ask_next, resume};
 use mm_store::Store;
 use std::alloc::Global;
 
@@ -69,39 +70,39 @@ pub fn session<M: Module, P: Platform, T: Store, S: Source, K: Sink>(
         (P.standing platform.new) (T.kept store.old) (T.kept store.new) (S.left input.old)
         (S.left input.new) (K.received out.old) (K.received out.new) result }
 {
-    let hosted = HostedModule {
+    let caller = Caller {
         alloc,
         variant,
         module,
     };
-    session_by_steps(&hosted, platform, store, input, out)
+    session_by_steps(&caller, platform, store, input, out)
 }
 
 // Recovers, and serves the lines.
 fn session_by_steps<M: Module, P: Platform, T: Store, S: Source, K: Sink>(
-    hosted: &HostedModule<M>,
+    caller: &Caller<M>,
     platform: &mut P,
     store: &mut T,
     input: &mut S,
     out: &mut K,
 ) -> Result<(), SessionFault>
-    ensures sessions { IsSession hosted.now.variant (M.meaning hosted.now.«module».now)
+    ensures sessions { IsSession caller.now.variant (M.meaning caller.now.«module».now)
         (P.standing platform.old) (P.standing platform.new) (T.kept store.old) (T.kept store.new)
         (S.left input.old) (S.left input.new) (K.received out.old) (K.received out.new) result }
     ensures read { IsBlamed (is_read_fault result) (S.faults input.old) (S.faults input.new) }
     ensures wrote { IsBlamed (is_write_fault result) (K.faults out.old) (K.faults out.new) }
 {
-    let reader = LineReader::new(hosted.alloc)?;
-    let begun = resume(hosted.alloc, hosted.variant, hosted.module, platform, store);
+    let reader = LineReader::new(caller.alloc)?;
+    let begun = resume(caller.alloc, caller.variant, caller.module, platform, store);
     match tell(begun, out) {
         Err(fault) => Err(fault),
-        Ok(first) => serve_lines(hosted, platform, store, input, out, reader, first),
+        Ok(first) => serve_lines(caller, platform, store, input, out, reader, first),
     }
 }
 
 // Serves each line of the input.
 fn serve_lines<M: Module, P: Platform, T: Store, S: Source, K: Sink>(
-    hosted: &HostedModule<M>,
+    caller: &Caller<M>,
     platform: &mut P,
     store: &mut T,
     input: &mut S,
@@ -111,7 +112,7 @@ fn serve_lines<M: Module, P: Platform, T: Store, S: Source, K: Sink>(
 ) -> Result<(), SessionFault>
     requires nothing { reader ≡ [] }
     requires sized { IsSized first }
-    ensures serves { ServesInput hosted.now.variant (M.meaning hosted.now.«module».now) 1
+    ensures serves { ServesInput caller.now.variant (M.meaning caller.now.«module».now) 1
         (record { platform = P.standing platform.old; store = T.kept store.old; last = first })
         (P.standing platform.new) (T.kept store.new) (S.left input.old) (S.left input.new) []
         (K.received out.old) (K.received out.new) result }
@@ -123,7 +124,7 @@ fn serve_lines<M: Module, P: Platform, T: Store, S: Source, K: Sink>(
         last: first,
     };
     'lines: while let Some(next) = serve_next(
-        hosted,
+        caller,
         platform,
         store,
         input,
@@ -141,7 +142,7 @@ fn serve_lines<M: Module, P: Platform, T: Store, S: Source, K: Sink>(
 
 // Reads the line of this number and serves it. None where the input ends before it.
 fn serve_next<M: Module, P: Platform, T: Store, S: Source, K: Sink>(
-    hosted: &HostedModule<M>,
+    caller: &Caller<M>,
     platform: &mut P,
     store: &mut T,
     input: &mut S,
@@ -151,7 +152,7 @@ fn serve_next<M: Module, P: Platform, T: Store, S: Source, K: Sink>(
 ) -> Result<Option<Resumed>, SessionFault>
     requires number { turn.now.number ≤ most_lines + 1 }
     requires sized { IsSized turn.now.last }
-    ensures turns { ServesNext hosted.now.variant (M.meaning hosted.now.«module».now)
+    ensures turns { ServesNext caller.now.variant (M.meaning caller.now.«module».now)
         turn.now.number (record {
           platform = P.standing platform.old;
           store = T.kept store.old;
@@ -164,7 +165,7 @@ fn serve_next<M: Module, P: Platform, T: Store, S: Source, K: Sink>(
     ensures wrote { IsBlamed (is_write_fault result) (K.faults out.old) (K.faults out.new) }
 {
     match reader.next(input, LONGEST_REQUEST) {
-        Ok(Read::Line(line)) => serve_line(hosted, platform, store, out, turn, line),
+        Ok(Read::Line(line)) => serve_line(caller, platform, store, out, turn, line),
         Ok(Read::Tail) => Err(SessionFault::Lines(ReplayFault::BadLine { line: turn.number })),
         Ok(Read::End) => Ok(None),
         Err(LineFault::ReadFault) => Err(SessionFault::Lines(ReplayFault::ReadFault)),
@@ -176,7 +177,7 @@ fn serve_next<M: Module, P: Platform, T: Store, S: Source, K: Sink>(
 
 // Serves the line of this number, unless it is one too many.
 fn serve_line<M: Module, P: Platform, T: Store, K: Sink>(
-    hosted: &HostedModule<M>,
+    caller: &Caller<M>,
     platform: &mut P,
     store: &mut T,
     out: &mut K,
@@ -187,7 +188,7 @@ fn serve_line<M: Module, P: Platform, T: Store, K: Sink>(
     requires line { IsLineFront longest_request line.now }
     ensures turns { (left : Option (List ℕ)) (bytes held : List ℕ) →
         turn.now.number ≤ most_lines + 1 → BytesBeginWith bytes line.now held →
-        TurnSends hosted.now.variant (M.meaning hosted.now.«module».now) turn.now.number (record {
+        TurnSends caller.now.variant (M.meaning caller.now.«module».now) turn.now.number (record {
           platform = P.standing platform.old;
           store = T.kept store.old;
           last = turn.now.last;
@@ -201,7 +202,7 @@ fn serve_line<M: Module, P: Platform, T: Store, K: Sink>(
     if turn.number > MOST_LINES {
         return Err(SessionFault::Lines(ReplayFault::TooMuch));
     }
-    match ask_and_tell(hosted, platform, store, out, &turn.last, line) {
+    match ask_and_tell(caller, platform, store, out, &turn.last, line) {
         Ok(next) => Ok(Some(next)),
         Err(fault) => Err(fault),
     }
@@ -209,7 +210,7 @@ fn serve_line<M: Module, P: Platform, T: Store, K: Sink>(
 
 // Asks a line, and tells what came.
 fn ask_and_tell<M: Module, P: Platform, T: Store, K: Sink>(
-    hosted: &HostedModule<M>,
+    caller: &Caller<M>,
     platform: &mut P,
     store: &mut T,
     out: &mut K,
@@ -218,13 +219,13 @@ fn ask_and_tell<M: Module, P: Platform, T: Store, K: Sink>(
 ) -> Result<Resumed, SessionFault>
     requires sized { IsSized last.now }
     requires line { IsLineFront longest_request line.now }
-    ensures asks { AsksAndTells hosted.now.variant (M.meaning hosted.now.«module».now)
+    ensures asks { AsksAndTells caller.now.variant (M.meaning caller.now.«module».now)
         (record { platform = P.standing platform.old; store = T.kept store.old; last = last.now })
         (P.standing platform.new) (T.kept store.new) (K.received out.old) (K.received out.new)
         line.now result }
     ensures sized { IfOk result IsSized }
     ensures wrote { IsBlamed (is_write_fault result) (K.faults out.old) (K.faults out.new) }
 {
-    let came = ask_next(hosted, platform, store, last, line);
+    let came = ask_next(caller, platform, store, last, line);
     tell(came, out)
 }

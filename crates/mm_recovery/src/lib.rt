@@ -8,7 +8,6 @@
 
 mod asking;
 mod fault;
-mod hosted;
 mod init_fault;
 mod next;
 mod resuming;
@@ -17,7 +16,6 @@ mod slot_laws;
 mod waiting;
 
 pub use fault::HostFault;
-pub use hosted::HostedModule;
 pub use init_fault::InitFault;
 pub use next::ask_next;
 pub use resuming::{Resumed, resume};

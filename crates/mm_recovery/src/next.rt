@@ -11,8 +11,8 @@ ghost use Rattle.mm_recovery.specs.LastAnswer.{IsSized};
 ghost use Rattle.mm_recovery.specs.NextRequest.{AsksNextRequest};
 
 use crate::fault::HostFault;
-use crate::hosted::HostedModule;
 use crate::resuming::{Resumed, ask_and_keep};
+use mm_ask::Caller;
 use mm_module::Module;
 use mm_platform::Platform;
 use mm_store::{Store, StoreFault, pending_bytes};
@@ -25,7 +25,7 @@ use std::alloc::Global;
 /// with the last snapshot; and the answer's snapshot is written to the slot of its position's
 /// parity. After a stop in between `resume` asks for it again.
 pub fn ask_next<M: Module, P: Platform, T: Store>(
-    hosted: &HostedModule<M>,
+    caller: &Caller<M>,
     platform: &mut P,
     store: &mut T,
     last: &Resumed,
@@ -33,23 +33,23 @@ pub fn ask_next<M: Module, P: Platform, T: Store>(
 ) -> Result<Resumed, HostFault>
     requires sized { IsSized last.now }
     requires line { IsLineFront longest_request request.now }
-    ensures asks { AsksNextRequest hosted.now.variant (M.meaning hosted.now.«module».now)
+    ensures asks { AsksNextRequest caller.now.variant (M.meaning caller.now.«module».now)
         (P.standing platform.old) (P.standing platform.new) (T.kept store.old) (T.kept store.new)
         last.now request.now result }
     ensures faults { BlamesHostFault result (P.standing platform.old) (P.standing platform.new)
         (T.kept store.old) (T.kept store.new) }
     ensures named { IsNamed result }
     ensures sized { IfOk result IsSized }
-    ensures writes { RequestWrites hosted.now.variant (P.standing platform.old)
+    ensures writes { RequestWrites caller.now.variant (P.standing platform.old)
         (P.standing platform.new) result }
 {
-    ask_next_inner(hosted, platform, store, last, request)
+    ask_next_inner(caller, platform, store, last, request)
 }
 
 // Writes the record of a request, asks for it, and keeps the answer's snapshot.
 #[tactic(auto, using(crate::proofs::Askable::askable))]
 fn ask_next_inner<M: Module, P: Platform, T: Store>(
-    hosted: &HostedModule<M>,
+    caller: &Caller<M>,
     platform: &mut P,
     store: &mut T,
     last: &Resumed,
@@ -57,14 +57,14 @@ fn ask_next_inner<M: Module, P: Platform, T: Store>(
 ) -> Result<Resumed, HostFault>
     requires sized { IsSized last.now }
     requires line { IsLineFront longest_request request.now }
-    ensures asks { AsksNextRequest hosted.now.variant (M.meaning hosted.now.«module».now)
+    ensures asks { AsksNextRequest caller.now.variant (M.meaning caller.now.«module».now)
         (P.standing platform.old) (P.standing platform.new) (T.kept store.old) (T.kept store.new)
         last.now request.now result }
     ensures sized { IfOk result IsSized }
 {
-    match write_record(hosted.alloc, store, last.position() + 1, request) {
+    match write_record(caller.alloc, store, last.position() + 1, request) {
         Err(fault) => Err(HostFault::from(fault)),
-        Ok(()) => ask_and_keep(hosted, platform, store, last.snapshot(), request),
+        Ok(()) => ask_and_keep(caller, platform, store, last.snapshot(), request),
     }
 }
 

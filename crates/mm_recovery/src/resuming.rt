@@ -13,8 +13,8 @@ ghost use Rattle.mm_recovery.specs.CellWrites.{RequestWrites};
 
 use crate::asking::ask;
 use crate::fault::HostFault;
-use crate::hosted::HostedModule;
 use crate::waiting::{WaitingRequest, find_waiting};
+use mm_ask::Caller;
 use mm_base::Bytes;
 use mm_digest::Variant;
 use mm_model::Answer;
@@ -78,28 +78,28 @@ pub fn resume<M: Module, P: Platform, T: Store>(
     ensures writes { RequestWrites variant (P.standing platform.old) (P.standing platform.new)
         result }
 {
-    let hosted = HostedModule {
+    let caller = Caller {
         alloc,
         variant,
         module,
     };
-    resume_by_steps(&hosted, platform, store)
+    resume_by_steps(&caller, platform, store)
 }
 
 // Finds what waits, and goes on by that.
 fn resume_by_steps<M: Module, P: Platform, T: Store>(
-    hosted: &HostedModule<M>,
+    caller: &Caller<M>,
     platform: &mut P,
     store: &mut T,
 ) -> Result<Resumed, HostFault>
-    ensures { HostResumes hosted.now.variant (M.meaning hosted.now.«module».now)
+    ensures { HostResumes caller.now.variant (M.meaning caller.now.«module».now)
         (P.standing platform.old) (P.standing platform.new) (T.kept store.old) (T.kept store.new)
         result }
 {
-    match find_waiting(hosted.alloc, store) {
+    match find_waiting(caller.alloc, store) {
         Err(fault) => Err(HostFault::from(fault)),
-        Ok(None) => start(hosted.alloc, store),
-        Ok(Some(waiting)) => repeat(hosted, platform, store, &waiting),
+        Ok(None) => start(caller.alloc, store),
+        Ok(Some(waiting)) => repeat(caller, platform, store, &waiting),
     }
 }
 
@@ -115,21 +115,21 @@ fn start<T: Store>(alloc: Global, store: &mut T) -> Result<Resumed, HostFault>
 
 // Asks for the request that waits, with the snapshot before its position.
 fn repeat<M: Module, P: Platform, T: Store>(
-    hosted: &HostedModule<M>,
+    caller: &Caller<M>,
     platform: &mut P,
     store: &mut T,
     waiting: &WaitingRequest,
 ) -> Result<Resumed, HostFault>
     requires { IsAskable waiting.now }
-    ensures { RepeatsPendingRecord hosted.now.variant (M.meaning hosted.now.«module».now)
+    ensures { RepeatsPendingRecord caller.now.variant (M.meaning caller.now.«module».now)
         (P.standing platform.old) (P.standing platform.new) (T.kept store.old) (T.kept store.new)
         waiting.now result }
 {
     let slot = ((waiting.position - 1) % 2) as u8;
-    match store.read(hosted.alloc, slot) {
+    match store.read(caller.alloc, slot) {
         Err(fault) => Err(HostFault::from(fault)),
         Ok(offer) => ask_and_keep(
-            hosted,
+            caller,
             platform,
             store,
             offer.as_slice(),
@@ -140,18 +140,18 @@ fn repeat<M: Module, P: Platform, T: Store>(
 
 /// Asks for a request, and keeps the answer's snapshot.
 pub fn ask_and_keep<M: Module, P: Platform, T: Store>(
-    hosted: &HostedModule<M>,
+    caller: &Caller<M>,
     platform: &mut P,
     store: &mut T,
     offer: &[u8],
     request: &[u8],
 ) -> Result<Resumed, HostFault>
     requires { is_long (One request.now) ≡ false }
-    ensures asks { AsksAndKeepsAnswer hosted.now.variant (M.meaning hosted.now.«module».now)
+    ensures asks { AsksAndKeepsAnswer caller.now.variant (M.meaning caller.now.«module».now)
         (P.standing platform.old) (P.standing platform.new) (T.kept store.old) (T.kept store.new)
         offer.now request.now result }
 {
-    match ask(hosted, platform, offer, request) {
+    match ask(caller, platform, offer, request) {
         Err(refusal) => Err(HostFault::from(refusal)),
         Ok(answer) => keep(store, answer),
     }

@@ -10,8 +10,8 @@ ghost use Rattle.mm_store.specs.declared.store.TheConstants.{LONGEST_SLOT};
 ghost use Rattle.mm_recovery.specs.FirstStart.{InitLeaves, TellsUse, BlamesDevice};
 ghost use Rattle.mm_recovery.specs.Init.{devices, LooksAtCell, TakesBytes, taken_bytes, instance_from, PutsAll, first_puts, SetsUp, SetsUpBoth, TakesAndSetsUp, InitGoes};
 
-use crate::hosted::HostedModule;
 use crate::init_fault::InitFault;
+use mm_ask::Caller;
 use mm_base::{CELL_LENGTH, Failed, Memory, Source};
 use mm_call::Provisioned;
 use mm_digest::Variant;
@@ -51,22 +51,22 @@ pub fn init<M: Module, P: Platform, T: Store, E: Source>(
         (devices (P.standing platform.new) (T.kept store.new) (E.left entropy.new)
         (E.faults entropy.new)) result }
 {
-    let hosted = HostedModule {
+    let caller = Caller {
         alloc,
         variant,
         module,
     };
-    init_by_steps(&hosted, platform, store, entropy)
+    init_by_steps(&caller, platform, store, entropy)
 }
 
 // Reads the cell, and goes on where it is blank.
 fn init_by_steps<M: Module, P: Platform, T: Store, E: Source>(
-    hosted: &HostedModule<M>,
+    caller: &Caller<M>,
     platform: &mut P,
     store: &mut T,
     entropy: &mut E,
 ) -> Result<(), InitFault>
-    ensures { InitGoes hosted.now.variant (M.meaning hosted.now.«module».now)
+    ensures { InitGoes caller.now.variant (M.meaning caller.now.«module».now)
         (devices (P.standing platform.old) (T.kept store.old) (E.left entropy.old)
         (E.faults entropy.old))
         (devices (P.standing platform.new) (T.kept store.new) (E.left entropy.new)
@@ -75,7 +75,7 @@ fn init_by_steps<M: Module, P: Platform, T: Store, E: Source>(
     match is_blank(platform) {
         Err(fault) => Err(InitFault::from(fault)),
         Ok(false) => Err(InitFault::Already),
-        Ok(true) => take_and_set_up(hosted, platform, store, entropy),
+        Ok(true) => take_and_set_up(caller, platform, store, entropy),
     }
 }
 
@@ -91,12 +91,12 @@ fn is_blank<P: Platform>(platform: &mut P) -> Result<bool, StepFault>
 
 // Takes the bytes, and sets both up.
 fn take_and_set_up<M: Module, P: Platform, T: Store, E: Source>(
-    hosted: &HostedModule<M>,
+    caller: &Caller<M>,
     platform: &mut P,
     store: &mut T,
     entropy: &mut E,
 ) -> Result<(), InitFault>
-    ensures { TakesAndSetsUp hosted.now.variant (M.meaning hosted.now.«module».now)
+    ensures { TakesAndSetsUp caller.now.variant (M.meaning caller.now.«module».now)
         (devices (P.standing platform.old) (T.kept store.old) (E.left entropy.old)
         (E.faults entropy.old))
         (devices (P.standing platform.new) (T.kept store.new) (E.left entropy.new)
@@ -107,7 +107,7 @@ fn take_and_set_up<M: Module, P: Platform, T: Store, E: Source>(
     match take_bytes(entropy, &mut secrets) {
         Err(fault) => Err(InitFault::from(fault)),
         Ok(got) if got < 64 => Err(InitFault::Short { got: got as u8 }),
-        Ok(_) => set_up(hosted, platform, store, &secrets),
+        Ok(_) => set_up(caller, platform, store, &secrets),
     }
 }
 
@@ -143,37 +143,37 @@ fn take_behind<E: Source>(entropy: &mut E, into: &mut [u8; 64], at: usize) -> Re
 
 // Sets both up for the instance of these bytes.
 fn set_up<M: Module, P: Platform, T: Store>(
-    hosted: &HostedModule<M>,
+    caller: &Caller<M>,
     platform: &mut P,
     store: &mut T,
     secrets: &[u8; 64],
 ) -> Result<(), InitFault>
-    ensures { SetsUp (instance_from hosted.now.variant (M.meaning hosted.now.«module».now)
+    ensures { SetsUp (instance_from caller.now.variant (M.meaning caller.now.«module».now)
         secrets.now)
         (P.standing platform.old) (P.standing platform.new) (T.kept store.old) (T.kept store.new)
         result }
 {
-    match provision(hosted, secrets) {
+    match provision(caller, secrets) {
         Err(fault) => Err(InitFault::from(fault)),
         Ok(made) => set_up_both(platform, store, &made),
     }
 }
 
 // The first cell and snapshot of the instance of these bytes.
-fn provision<M: Module>(hosted: &HostedModule<M>, secrets: &[u8; 64]) -> Result<Provisioned, Memory>
+fn provision<M: Module>(caller: &Caller<M>, secrets: &[u8; 64]) -> Result<Provisioned, Memory>
     ensures cell { IfOk result (λ made. made.cell
         ≡ cell_spelling
-        (cell_of (instance_from hosted.now.variant (M.meaning hosted.now.«module».now)
+        (cell_of (instance_from caller.now.variant (M.meaning caller.now.«module».now)
         secrets.now) first_history)) }
     ensures snapshot { IfOk result (λ made. made.snapshot
-        ≡ issued_bytes (instance_from hosted.now.variant (M.meaning hosted.now.«module».now)
+        ≡ issued_bytes (instance_from caller.now.variant (M.meaning caller.now.«module».now)
         secrets.now) first_history) }
 {
     let (mut key, mut barrier) = ([0; 32], [0; 32]);
     let (front, back) = secrets.split_at(32);
     key.copy_from_slice(front);
     barrier.copy_from_slice(back);
-    mm_ask::provision(hosted.alloc, hosted.variant, hosted.module, &key, &barrier)
+    mm_ask::provision(caller.alloc, caller.variant, caller.module, &key, &barrier)
 }
 
 // Sets the store up, and then writes the cell.

@@ -11,7 +11,7 @@ ghost use Rattle.mm_world.specs.PlannedCall.{IsPlanned, TellsCheckpoint};
 ghost use Rattle.mm_opt.specs.ClosingOperation.{closing_operation};
 
 use crate::planning::planned;
-use mm_ask::Ask;
+use mm_ask::{Ask, Caller};
 use mm_base::{Bytes, Memory};
 use mm_call::{AskResult, KeptKey};
 use mm_digest::Variant;
@@ -141,14 +141,6 @@ fn restore(platform: &mut MemPlatform, stop: Stop)
     if let Stop::Cut(_) = stop {
         platform.lose_power();
     }
-}
-
-/// A module in a variant, and the allocator of its calls.
-#[derive(Drop)]
-pub struct Caller<'a, M> {
-    pub alloc: Global,
-    pub variant: Variant,
-    pub module: &'a M,
 }
 
 // Makes the call that offers these bytes and asks for a batch, on this course, over a platform that

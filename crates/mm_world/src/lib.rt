@@ -8,7 +8,7 @@ mod seat;
 mod views;
 mod world;
 
-pub use call::{CallReport, Caller, call_by_offer, planned_checkpoint, settle, takes_effect};
+pub use call::{CallReport, call_by_offer, planned_checkpoint, settle, takes_effect};
 pub use parts::listed;
 pub use planning::{CallTeller, planned, settled};
 pub use seat::Seat;

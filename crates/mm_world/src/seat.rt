@@ -4,10 +4,10 @@ ghost use Rattle.std.specs.Prelude.{◌≡◌, ◌≤◌, ◌-◌, ◌^◌, leng
 ghost use Rattle.std.specs.List.{sum_by};
 ghost use Rattle.mm_world.specs.Lengths.{within_64};
 
-use crate::call::{CallReport, Caller, call_by_offer, planned_checkpoint};
+use crate::call::{CallReport, call_by_offer, planned_checkpoint};
 use crate::parts::length_if;
 use crate::views::{EventView, OfferView};
-use mm_ask::provision;
+use mm_ask::{Caller, provision};
 use mm_base::{Bytes, CELL_LENGTH, Memory};
 use mm_call::{KeptKey, Provisioned};
 use mm_digest::Digest;

@@ -6,10 +6,10 @@ use Rattle.mm_host.proofs.serving.serve_lines.Given as goal
 abbrev pub invariant-lines : goal.invariant-lines
 invariant-lines g l = record {
   rests : (after : Standing) (new : StoreStanding) (left received : Option (List ℕ)) (result : Result Unit SessionFault)
-      → ServesInput l.hosted.variant (g.M.Module.meaning l.hosted.module.now) l.turn.number
+      → ServesInput l.caller.variant (g.M.Module.meaning l.caller.module.now) l.turn.number
       (record { platform = g.P.Device.standing l.platform; store = g.T.Store.kept l.store; last = l.turn.last })
       after new (g.S.Source.left l.input) left l.reader (g.K.Sink.received l.out) received result
-      → ServesInput l.hosted.variant (g.M.Module.meaning l.hosted.module.now) 1
+      → ServesInput l.caller.variant (g.M.Module.meaning l.caller.module.now) 1
       (record { platform = g.P.Device.standing l.fn.platform; store = g.T.Store.kept l.fn.store; last = l.fn.first })
       after new (g.S.Source.left l.fn.input) left [] (g.K.Sink.received l.fn.out) received result;
   few : l.turn.number ≤ most_lines + 1;

@@ -4,7 +4,7 @@ use Rattle.mm_recovery.proofs.asking.call_one.Goals as goal
 
 pub returns-clause-asked : goal.returns-clause-asked
 returns-clause-asked g c =
-    asked_in c.args.hosted.now.variant _ (g.met.M.Module.is_lawful c.args.hosted.now.module.now) _ _ _ _ _ _ c.requires c.call.ensures
+    asked_in c.args.caller.now.variant _ (g.met.M.Module.is_lawful c.args.caller.now.module.now) _ _ _ _ _ _ c.requires c.call.ensures
     c.result.ensures
 
 pub returns-clause-one : goal.returns-clause-one
