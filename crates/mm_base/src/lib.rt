@@ -23,6 +23,3 @@ pub use lines::{LineFault, LineReader, Read};
 pub use replay_fault::ReplayFault;
 pub use sink::{MemSink, Sink, write_all};
 pub use source::{MemSource, Source};
-
-#[cfg(test)]
-mod tests;

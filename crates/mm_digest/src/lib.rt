@@ -11,6 +11,3 @@ pub use digest::{
 };
 pub use hmac::{HmacKey, hmac_sha256};
 pub use variant::Variant;
-
-#[cfg(test)]
-mod tests;

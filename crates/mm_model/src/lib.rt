@@ -33,6 +33,3 @@ pub use move_laws::{
 pub use refusal::Refusal;
 pub use symbolic::Symbolic;
 pub use verdict::Verdict;
-
-#[cfg(test)]
-mod tests;

@@ -26,6 +26,3 @@ pub use link::Link;
 pub use refusal::MoveRefusal;
 pub use retiring::retire;
 pub use ticket::{OfferedTicket, Ticket, read_ticket, ticket_bytes};
-
-#[cfg(test)]
-mod tests;

@@ -8,6 +8,3 @@ mod quota;
 mod request;
 
 pub use quota::{Accounts, Ledger, Quota};
-
-#[cfg(test)]
-mod tests;

@@ -13,6 +13,3 @@ pub use field::split_digest;
 pub use kept::KeptKey;
 pub use sealing::{SealingKey, TaggedText};
 pub use snapshot::{Body, Offered, OpenFault, PartsFault, Place, open, parts, seal, seal_under};
-
-#[cfg(test)]
-mod tests;

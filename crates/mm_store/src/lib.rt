@@ -11,6 +11,3 @@ pub use fault::StoreFault;
 pub use memory::MemStore;
 pub use pending::{PendingRequest, pending_bytes, read_pending};
 pub use store::{LONGEST_SLOT, Store};
-
-#[cfg(test)]
-mod tests;

@@ -1,7 +1,7 @@
 //! The bytes of a record.
 
-use crate::{pending_bytes, read_pending};
 use mm_base::{Bytes, Memory, read_decimal};
+use mm_store::{pending_bytes, read_pending};
 use sha2::{Digest as _, Sha256};
 use std::alloc::{AllocError, Global};
 use std::test::Fail;

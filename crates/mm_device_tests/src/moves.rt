@@ -1,10 +1,10 @@
 //! Moves of the counter between platforms in memory.
 
-use crate::tests::samples::{KEY, LINK, NONCE, cell_of, offer_of, place_at, summary, ticket_of};
-use crate::{Accepted, Invited, MoveRefusal, OfferedTicket, accept, invite, read_ticket, retire};
+use crate::samples::{KEY, LINK, NONCE, cell_of, offer_of, place_at, summary, ticket_of};
 use mm_base::{Bytes, Memory, put_numbered};
 use mm_digest::Variant;
 use mm_module::Counter;
+use mm_move::{Accepted, Invited, MoveRefusal, OfferedTicket, accept, invite, read_ticket, retire};
 use mm_platform::{MemPlatform, Platform, Stop};
 use mm_seal::open;
 use std::alloc::Global;
@@ -99,7 +99,7 @@ cut-2 left retire here => left 5, 0
 
 /// A line of a table.
 #[derive(Clone, Copy)]
-struct Row<'a> {
+struct MoveCase<'a> {
     variant: Variant,
     stop: Stop,
     cell: &'a str,
@@ -108,12 +108,12 @@ struct Row<'a> {
     said: &'a str,
 }
 
-fn row_of(line: &str) -> Option<Row<'_>> {
+fn row_of(line: &str) -> Option<MoveCase<'_>> {
     let (asked, said) = line.split_once(" => ")?;
     let (front, asked) = asked.split_once(' ')?;
     let (cell, asked) = asked.split_once(' ')?;
     let (word, given) = asked.split_once(' ')?;
-    Some(Row {
+    Some(MoveCase {
         variant: variant_of(front),
         stop: stop_of(front),
         cell,
@@ -207,7 +207,11 @@ fn put_accepted(said: &mut Bytes, variant: Variant, accepted: &Accepted) -> Resu
     )
 }
 
-fn put_invite(said: &mut Bytes, row: &Row<'_>, platform: &mut MemPlatform) -> Result<(), Memory> {
+fn put_invite(
+    said: &mut Bytes,
+    row: &MoveCase<'_>,
+    platform: &mut MemPlatform,
+) -> Result<(), Memory> {
     let came = invite(platform, &LINK, row.variant, 1, &NONCE, &KEY);
     put_invited(said, &came)
 }
@@ -242,7 +246,7 @@ fn put_accept(
 fn put_move(
     said: &mut Bytes,
     alloc: Global,
-    row: &Row<'_>,
+    row: &MoveCase<'_>,
     platform: &mut MemPlatform,
 ) -> Result<(), Memory> {
     match row.word {
@@ -263,7 +267,7 @@ fn put_move(
 fn put_stopped(
     said: &mut Bytes,
     alloc: Global,
-    row: &Row<'_>,
+    row: &MoveCase<'_>,
     platform: &mut MemPlatform,
 ) -> Result<(), Memory> {
     platform.plan(row.stop, &[])?;
@@ -277,7 +281,7 @@ fn put_stopped(
 fn put_made(
     said: &mut Bytes,
     alloc: Global,
-    row: &Row<'_>,
+    row: &MoveCase<'_>,
     platform: &mut MemPlatform,
 ) -> Result<(), Memory> {
     put_stopped(said, alloc, row, platform)?;
@@ -290,7 +294,7 @@ fn put_made(
 
 // Whether what comes of a row is what it says. It is played on another platform with its cell; at
 // `same` on the one that there is.
-fn is_so(alloc: Global, row: &Row<'_>, platform: &mut MemPlatform) -> Result<bool, Memory> {
+fn is_so(alloc: Global, row: &MoveCase<'_>, platform: &mut MemPlatform) -> Result<bool, Memory> {
     if row.cell != "same" {
         *platform = MemPlatform::new(alloc, &cell_of(row.variant, row.cell));
     }

@@ -1,6 +1,6 @@
 //! Lines of an input that fails, or that has longer ones.
 
-use crate::{Bytes, LineFault, LineReader, MemSource, Memory, Read, read_decimal};
+use mm_base::{Bytes, LineFault, LineReader, MemSource, Memory, Read, read_decimal};
 use std::alloc::Global;
 use std::test::Fail;
 

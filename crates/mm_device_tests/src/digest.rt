@@ -1,6 +1,6 @@
 //! Hash functions and their messages, with vectors from outside.
 
-use crate::{
+use mm_digest::{
     Digest, HmacKey, Variant, anchored, extended, hmac_sha256, secured, secured_batch, start,
     successor, successor_batch, zero,
 };

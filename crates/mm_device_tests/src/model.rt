@@ -1,8 +1,8 @@
 //! Histories and verdicts, and a machine.
 
-use crate::{Machine, Symbolic, Verdict};
 use mm_base::{Memory, read_decimal};
 use mm_digest::{Digest, Variant};
+use mm_model::{Machine, Symbolic, Verdict};
 use mm_module::{Batch, Counter};
 use std::alloc::Global;
 use std::test::Fail;

@@ -1,8 +1,8 @@
 //! The longest ledger.
 
-use crate::Accounts;
 use mm_base::{Bytes, Memory};
 use mm_module::{Module, is_line};
+use mm_quota::Accounts;
 use std::alloc::Global;
 use std::test::Fail;
 

@@ -1,11 +1,11 @@
 //! Cells and snapshots, read as they were spelled.
 
-use crate::{
+use mm_base::{Bytes, CELL_LENGTH, Memory, read_decimal};
+use mm_digest::{Digest, Variant};
+use mm_seal::{
     Body, Cell, CellFault, Offered, OpenFault, PartsFault, Place, cell_bytes, open, parts,
     read_cell, seal,
 };
-use mm_base::{Bytes, CELL_LENGTH, Memory, read_decimal};
-use mm_digest::{Digest, Variant};
 use std::alloc::Global;
 use std::test::Fail;
 
