@@ -78,10 +78,10 @@ fn turned(
 {
     match issued_at(issued, number) {
         None => Ok(None),
-        Some(snapshot) => match flip(alloc, snapshot, offset as usize) {
-            Err(memory) => Err(memory),
-            Ok(copy) => Ok(Some(OfferedBytes::Made(copy))),
-        },
+        Some(snapshot) => {
+            let copy = flip(alloc, snapshot, offset as usize)?;
+            Ok(Some(OfferedBytes::Made(copy)))
+        }
     }
 }
 

@@ -21,14 +21,13 @@ use std::alloc::Global;
 fn bytes_offered(alloc: Global, issued: &[Bytes], offer: &Offer) -> Result<Option<Bytes>, Memory>
     ensures { IfOk result (λ found. found ≡ offered_bytes issued.now offer.now) }
 {
-    match offered(alloc, issued, offer) {
-        Err(memory) => Err(memory),
-        Ok(None) => Ok(None),
-        Ok(Some(OfferedBytes::Made(bytes))) => Ok(Some(bytes)),
-        Ok(Some(OfferedBytes::Lent(bytes))) => match Bytes::copy_of(alloc, bytes) {
-            Err(memory) => Err(memory),
-            Ok(copy) => Ok(Some(copy)),
-        },
+    match offered(alloc, issued, offer)? {
+        None => Ok(None),
+        Some(OfferedBytes::Made(bytes)) => Ok(Some(bytes)),
+        Some(OfferedBytes::Lent(bytes)) => {
+            let copy = Bytes::copy_of(alloc, bytes)?;
+            Ok(Some(copy))
+        }
     }
 }
 
