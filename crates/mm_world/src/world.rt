@@ -44,8 +44,10 @@ impl World {
     pub fn new(alloc: Global, header: &Header) -> Result<World, Memory>
         ensures { IfOk result (λ world. world ≡ first_world_state header.now) }
     {
-        let seat = Seat::first(alloc, *header, &world_key(), &world_barrier())?;
-        Ok(World { seat })
+        match Seat::first(alloc, *header, &world_key(), &world_barrier()) {
+            Err(memory) => Err(memory),
+            Ok(seat) => Ok(World { seat }),
+        }
     }
 
     /// Follows one event, and answers it. After want of memory nothing has changed, but that a call
