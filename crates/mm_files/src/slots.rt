@@ -7,6 +7,7 @@ use crate::kept::KeptFile;
 use crate::place::{FilePlace, refuse_same};
 use crate::reason::Reason;
 use mm_base::Memory;
+use mm_store::Four;
 use std::alloc::Global;
 use std::os::unix::fs::FileExt;
 use std::rt::Files;
@@ -20,10 +21,7 @@ const LATER: u16 = 1;
 /// The files of the slots.
 #[derive(Drop)]
 pub struct SlotFiles<'a, R: Files> {
-    first: Slot<'a, R>,
-    second: Slot<'a, R>,
-    third: Slot<'a, R>,
-    fourth: Slot<'a, R>,
+    slots: Four<Slot<'a, R>>,
 }
 
 impl<'a, R: Files> SlotFiles<'a, R>
@@ -32,71 +30,47 @@ where
 {
     /// The slots, whose links are followed now.
     pub fn new(alloc: Global, files: &'a R) -> Result<SlotFiles<'a, R>, Memory> {
-        let first = Slot::new(alloc, files, "slot0")?;
-        let second = Slot::new(alloc, files, "slot1")?;
-        let third = Slot::new(alloc, files, "slot2")?;
-        let fourth = Slot::new(alloc, files, "slot3")?;
+        let zero = Slot::new(alloc, files, "slot0")?;
+        let one = Slot::new(alloc, files, "slot1")?;
+        let two = Slot::new(alloc, files, "slot2")?;
+        let three = Slot::new(alloc, files, "slot3")?;
         Ok(SlotFiles {
-            first,
-            second,
-            third,
-            fourth,
+            slots: Four::new(zero, one, two, three),
         })
     }
 
     /// The slot of this number below 4. It knows which files the others have open.
     pub fn get(&mut self, slot: u8) -> &mut Slot<'a, R> {
-        let claims = Claims {
-            first: self.first.kept.identity(),
-            second: self.second.kept.identity(),
-            third: self.third.kept.identity(),
-            fourth: self.fourth.kept.identity(),
-        };
-        let slot = match slot {
-            0 => &mut self.first,
-            1 => &mut self.second,
-            2 => &mut self.third,
-            _ => &mut self.fourth,
-        };
+        let claims = self.claims();
+        let slot = self.slots.get_mut(slot);
         slot.claims = claims;
         slot
     }
-}
 
-/// Which files the slots have open.
-#[derive(Clone, Copy)]
-struct Claims {
-    first: Option<Identity>,
-    second: Option<Identity>,
-    third: Option<Identity>,
-    fourth: Option<Identity>,
-}
-
-impl Claims {
-    // None is open.
-    fn none() -> Claims {
-        Claims {
-            first: None,
-            second: None,
-            third: None,
-            fourth: None,
-        }
+    // Which files the slots have open.
+    fn claims(&self) -> Four<Option<Identity>> {
+        Four::new(
+            self.slots.get(0).kept.identity(),
+            self.slots.get(1).kept.identity(),
+            self.slots.get(2).kept.identity(),
+            self.slots.get(3).kept.identity(),
+        )
     }
+}
 
-    // The slot that has this file open.
-    fn name_of(&self, file: Identity) -> Option<&'static str> {
-        let file = Some(file);
-        if self.first == file {
-            Some("slot0")
-        } else if self.second == file {
-            Some("slot1")
-        } else if self.third == file {
-            Some("slot2")
-        } else if self.fourth == file {
-            Some("slot3")
-        } else {
-            None
-        }
+// The slot that has this file open, of slots that have these.
+fn name_of(claims: &Four<Option<Identity>>, file: Identity) -> Option<&'static str> {
+    let file = Some(file);
+    if *claims.get(0) == file {
+        Some("slot0")
+    } else if *claims.get(1) == file {
+        Some("slot1")
+    } else if *claims.get(2) == file {
+        Some("slot2")
+    } else if *claims.get(3) == file {
+        Some("slot3")
+    } else {
+        None
     }
 }
 
@@ -118,7 +92,7 @@ pub struct Slot<'a, R: Files> {
     // The length that writes of pages gave it, none where it is that of its file.
     length: Option<u64>,
     // What all slots had open when this call began.
-    claims: Claims,
+    claims: Four<Option<Identity>>,
 }
 
 impl<'a, R: Files> Slot<'a, R>
@@ -133,7 +107,7 @@ where
             place,
             kept: KeptFile::new(files, name),
             length: None,
-            claims: Claims::none(),
+            claims: Four::new(None, None, None, None),
         })
     }
 
@@ -169,7 +143,7 @@ where
 
     // An error where another slot has the file open.
     fn refuse_claimed(&self, opened: &OpenedFile<R::File>) -> Result<(), Reason> {
-        match self.claims.name_of(opened.identity) {
+        match name_of(&self.claims, opened.identity) {
             Some(other) if other != self.name => Err(Reason::Same {
                 name: self.name,
                 other,

@@ -3,6 +3,7 @@ use Rattle.std.specs.Prelude.{◌≡◌, length, ℕ, ◌==◌, ◌+◌, zero, s
 use Rattle.std.specs.Prelude.{if◌then◌else◌}
 use Rattle.sha2.specs.Sha256.{sha256}
 use Rattle.mm_digest.specs.declared.digest.Digest.{Digest}
+use Rattle.mm_store.specs.Four.{Four}
 use Rattle.mm_pages.specs.Bytes.{page_of}
 
 -- for each slot the digests of its first pages, each kept or not; of all later pages none is kept
@@ -11,6 +12,10 @@ pub record Rows : Type 0 where
   pub one : List (Option Digest)
   pub two : List (Option Digest)
   pub three : List (Option Digest)
+
+-- four rows, as those of the slots
+abbrev pub rows_of : Four (List (Option Digest)) → Rows
+rows_of four = record { zero = four.zero; one = four.one; two = four.two; three = four.three }
 
 -- none is kept
 abbrev pub no_rows : Rows

@@ -5,6 +5,7 @@ ghost use Rattle.mm_pages.specs.Rows.{no_rows, row_in, rows_with, kept_digest, r
 
 use mm_base::Memory;
 use mm_digest::Digest;
+use mm_store::Four;
 use std::alloc::Global;
 use std::marker::Model;
 
@@ -85,18 +86,15 @@ impl DigestRow {
 // The digests of all slots.
 #[derive(Drop)]
 pub struct SlotDigests {
-    zero: DigestRow,
-    one: DigestRow,
-    two: DigestRow,
-    three: DigestRow,
+    rows: Four<DigestRow>,
 }
 
 impl Model for SlotDigests {
-    ghost use Rattle.mm_pages.specs.Rows.{Rows};
+    ghost use Rattle.mm_pages.specs.Rows.{Rows, rows_of};
 
     ghost Value = { Rows };
 
-    ghost view = { λ d. record { zero = d.zero; one = d.one; two = d.two; three = d.three } };
+    ghost view = { λ d. rows_of d.rows };
 }
 
 impl SlotDigests {
@@ -109,10 +107,7 @@ impl SlotDigests {
         let two = DigestRow::new(alloc)?;
         let three = DigestRow::new(alloc)?;
         Ok(SlotDigests {
-            zero,
-            one,
-            two,
-            three,
+            rows: Four::new(zero, one, two, three),
         })
     }
 
@@ -121,12 +116,7 @@ impl SlotDigests {
         requires { slot < 4 }
         ensures { result ≡ kept_digest (row_in self.now slot) page }
     {
-        match slot {
-            0 => self.zero.get(page),
-            1 => self.one.get(page),
-            2 => self.two.get(page),
-            _ => self.three.get(page),
-        }
+        self.rows.get(slot).get(page)
     }
 
     /// Keeps the digest of a page, which follows those of the pages before it.
@@ -137,12 +127,7 @@ impl SlotDigests {
         ensures { self.new ≡ rows_with self.old slot
             (row_with_digest page digest (row_in self.old slot)) }
     {
-        match slot {
-            0 => self.zero.keep(page, digest),
-            1 => self.one.keep(page, digest),
-            2 => self.two.keep(page, digest),
-            _ => self.three.keep(page, digest),
-        }
+        self.rows.get_mut(slot).keep(page, digest);
     }
 
     /// Drops the digest of a page.
@@ -150,12 +135,7 @@ impl SlotDigests {
         requires { slot < 4 }
         ensures { DropsPage slot page self.old self.new }
     {
-        match slot {
-            0 => self.zero.drop_page(page),
-            1 => self.one.drop_page(page),
-            2 => self.two.drop_page(page),
-            _ => self.three.drop_page(page),
-        }
+        self.rows.get_mut(slot).drop_page(page);
     }
 
     /// Drops the digests of a slot's pages from this one on.
@@ -163,11 +143,6 @@ impl SlotDigests {
         requires { slot < 4 }
         ensures { self.new ≡ rows_with self.old slot (take page (row_in self.old slot)) }
     {
-        match slot {
-            0 => self.zero.cut(page),
-            1 => self.one.cut(page),
-            2 => self.two.cut(page),
-            _ => self.three.cut(page),
-        }
+        self.rows.get_mut(slot).cut(page);
     }
 }

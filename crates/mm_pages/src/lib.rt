@@ -3,7 +3,6 @@
 
 mod device;
 mod digests;
-mod marks;
 mod memory;
 mod page;
 mod reading;

@@ -2,16 +2,16 @@
 
 ghost use Rattle.std.specs.Prelude.{◌≡◌, ◌↔◌, ◌<◌, ◌≤◌, ◌+◌, ◌++◌, IsTrue, IsErr, [], OnOk, OnErr, IfOk, length, take, drop, if◌then◌else◌};
 ghost use Rattle.mm_base.specs.Faults.{next_count};
-ghost use Rattle.mm_store.specs.Slots.{slot_in, slots_with};
+ghost use Rattle.mm_store.specs.Slots.{slots_of};
 ghost use Rattle.mm_store.specs.UnsyncedSlots.{is_unsynced_in};
 ghost use Rattle.mm_pages.specs.Bytes.{resized_bytes, bytes_with_page};
 ghost use Rattle.mm_pages.specs.Calls.{ReadsLength, ReadsPage, WritesPage, SetsLength, SyncsPages};
 ghost use Rattle.mm_pages.specs.Sheets.{blank_sheets, standing_of_sheets, sheets_after_call, sheets_after_fault, sheets_after_slot_fault, sheets_after_read, sheets_after_change, sheets_after_sync};
 
 use crate::device::PageDevice;
-use crate::marks::SlotMarks;
 use crate::page::{PAGE, page_of};
 use mm_base::{Failed, Memory};
+use mm_store::Four;
 use std::alloc::Global;
 use std::marker::Model;
 
@@ -94,125 +94,46 @@ fn put_at(bytes: &mut [u8], start: usize, part: &[u8; 256])
     there.copy_from_slice(part);
 }
 
-// The bytes of the four slots.
-#[derive(Drop)]
-pub struct FourSheets {
-    zero: Sheet,
-    one: Sheet,
-    two: Sheet,
-    three: Sheet,
-}
-
-impl Model for FourSheets {
-    ghost use Rattle.mm_store.specs.Slots.{Slots};
-
-    ghost Value = { Slots };
-
-    ghost view = { λ s. record { zero = s.zero; one = s.one; two = s.two; three = s.three } };
-}
-
-impl FourSheets {
-    // Four empty slots.
-    fn new(alloc: Global) -> Result<FourSheets, Memory>
-        ensures { IfOk result (λ sheets. sheets ≡ blank_sheets.slots) }
-    {
-        let zero = Sheet::new(alloc)?;
-        let one = Sheet::new(alloc)?;
-        let two = Sheet::new(alloc)?;
-        let three = Sheet::new(alloc)?;
-        Ok(FourSheets {
-            zero,
-            one,
-            two,
-            three,
-        })
-    }
-
-    // The bytes of one slot.
-    fn get(&self, slot: u8) -> &[u8]
-        requires { slot < 4 }
-        ensures value { result.now ≡ slot_in self.now slot }
-        ensures most { length result.now ≤ 1100032 }
-    {
-        match slot {
-            0 => self.zero.as_slice(),
-            1 => self.one.as_slice(),
-            2 => self.two.as_slice(),
-            _ => self.three.as_slice(),
-        }
-    }
-
-    // Puts these bytes in place of one slot's.
-    fn set(&mut self, slot: u8, bytes: &[u8])
-        requires slot { slot < 4 }
-        requires most { length bytes.now ≤ 1100032 }
-        ensures { self.new ≡ slots_with self.old slot bytes.now }
-    {
-        match slot {
-            0 => self.zero.set(bytes),
-            1 => self.one.set(bytes),
-            2 => self.two.set(bytes),
-            _ => self.three.set(bytes),
-        }
-    }
-
-    // Cuts one slot to this length, or fills it up to there with zero bytes.
-    fn resize(&mut self, slot: u8, size: usize)
-        requires slot { slot < 4 }
-        requires most { size ≤ 1100032 }
-        ensures { self.new ≡ slots_with self.old slot (resized_bytes size (slot_in self.old slot)) }
-    {
-        match slot {
-            0 => self.zero.resize(size),
-            1 => self.one.resize(size),
-            2 => self.two.resize(size),
-            _ => self.three.resize(size),
-        }
-    }
-
-    // Puts a page of one slot in place.
-    fn put_page(&mut self, slot: u8, page: u16, part: &[u8; 256])
-        requires slot { slot < 4 }
-        requires page { page < 4297 }
-        ensures { self.new ≡ slots_with self.old slot
-            (bytes_with_page page part.now (slot_in self.old slot)) }
-    {
-        match slot {
-            0 => self.zero.put_page(page, part),
-            1 => self.one.put_page(page, part),
-            2 => self.two.put_page(page, part),
-            _ => self.three.put_page(page, part),
-        }
-    }
+// Four empty slots.
+fn empty_slots(alloc: Global) -> Result<Four<Sheet>, Memory>
+    ensures { IfOk result (λ slots. slots_of slots ≡ blank_sheets.slots) }
+{
+    let zero = Sheet::new(alloc)?;
+    let one = Sheet::new(alloc)?;
+    let two = Sheet::new(alloc)?;
+    let three = Sheet::new(alloc)?;
+    Ok(Four::new(zero, one, two, three))
 }
 
 /// An honest device of pages in memory, which contracts see as sheets. It tells its slots.
 #[derive(Drop)]
 pub struct MemPages {
     alloc: Global,
-    slots: FourSheets,
+    slots: Four<Sheet>,
     faults: u64,
     page_reads: u64,
     page_writes: u64,
     length_writes: u64,
-    unsynced: SlotMarks,
+    unsynced: Four<bool>,
     ahead: u64,
     leaves: Vec<u8>,
 }
 
 impl Model for MemPages {
     ghost use Rattle.std.specs.Prelude.{length, ◌≤◌};
+    ghost use Rattle.mm_store.specs.Slots.{slots_of};
+    ghost use Rattle.mm_store.specs.UnsyncedSlots.{unsynced_slots_of};
     ghost use Rattle.mm_pages.specs.Sheets.{Sheets};
 
     ghost Value = { Sheets };
 
     ghost view = { λ p. record {
-      slots = p.slots;
+      slots = slots_of p.slots;
       faults = p.faults;
       page_reads = p.page_reads;
       page_writes = p.page_writes;
       length_writes = p.length_writes;
-      unsynced = p.unsynced;
+      unsynced = unsynced_slots_of p.unsynced;
       ahead = p.ahead;
       leaves = p.leaves.items;
     } };
@@ -226,7 +147,7 @@ impl MemPages {
     pub fn new(alloc: Global) -> Result<MemPages, Memory>
         ensures { IfOk result (λ pages. pages ≡ blank_sheets) }
     {
-        let slots = FourSheets::new(alloc)?;
+        let slots = empty_slots(alloc)?;
         Ok(MemPages {
             alloc,
             slots,
@@ -234,7 +155,7 @@ impl MemPages {
             page_reads: 0,
             page_writes: 0,
             length_writes: 0,
-            unsynced: SlotMarks::new(),
+            unsynced: Four::new(false, false, false, false),
             ahead: 0,
             leaves: Vec::new(alloc),
         })
@@ -280,7 +201,7 @@ impl MemPages {
         requires { slot < 4 }
         ensures { result ≡ is_unsynced_in self.now.unsynced slot }
     {
-        self.unsynced.get(slot)
+        *self.unsynced.get(slot)
     }
 
     // Begins a call, and tells whether it is the one that is to fail.
@@ -310,8 +231,8 @@ impl MemPages {
         if !self.is_to_fail() {
             return false;
         }
-        self.slots.set(slot, self.leaves.as_slice());
-        self.unsynced.set(slot, true);
+        self.slots.get_mut(slot).set(self.leaves.as_slice());
+        *self.unsynced.get_mut(slot) = true;
         true
     }
 }
@@ -329,7 +250,7 @@ impl PageDevice for MemPages {
         if self.is_to_fail() {
             return Err(Failed);
         }
-        Ok(self.slots.get(slot).len() as u32)
+        Ok(self.slots.get(slot).as_slice().len() as u32)
     }
 
     fn read_page(&mut self, slot: u8, page: u16, into: &mut [u8; 256]) -> Result<(), Failed>
@@ -347,7 +268,7 @@ impl PageDevice for MemPages {
         if self.is_to_fail() {
             return Err(Failed);
         }
-        *into = page_of(self.slots.get(slot), page);
+        *into = page_of(self.slots.get(slot).as_slice(), page);
         Ok(())
     }
 
@@ -367,8 +288,8 @@ impl PageDevice for MemPages {
         if self.is_to_fail_in(slot) {
             return Err(Failed);
         }
-        self.slots.put_page(slot, page, bytes);
-        self.unsynced.set(slot, true);
+        self.slots.get_mut(slot).put_page(page, bytes);
+        *self.unsynced.get_mut(slot) = true;
         Ok(())
     }
 
@@ -387,8 +308,8 @@ impl PageDevice for MemPages {
         if self.is_to_fail_in(slot) {
             return Err(Failed);
         }
-        self.slots.resize(slot, length as usize);
-        self.unsynced.set(slot, true);
+        self.slots.get_mut(slot).resize(length as usize);
+        *self.unsynced.get_mut(slot) = true;
         Ok(())
     }
 
@@ -402,7 +323,7 @@ impl PageDevice for MemPages {
         if self.is_to_fail_in(slot) {
             return Err(Failed);
         }
-        self.unsynced.set(slot, false);
+        *self.unsynced.get_mut(slot) = false;
         Ok(())
     }
 }

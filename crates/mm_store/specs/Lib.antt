@@ -1,3 +1,4 @@
+pub mod Four
 pub mod Slots
 pub mod UnsyncedSlots
 pub mod StoreStanding

@@ -1,5 +1,6 @@
 -- The four slots of a store.
 use Rattle.std.specs.Prelude.{ℕ, ◌==◌, List, take, if◌then◌else◌}
+use Rattle.mm_store.specs.Four.{Four}
 use Rattle.mm_store.specs.declared.store.TheConstants.{LONGEST_SLOT}
 
 -- the bytes of each slot
@@ -8,6 +9,10 @@ pub record Slots : Type 0 where
   pub one : List ℕ
   pub two : List ℕ
   pub three : List ℕ
+
+-- four, as the slots
+abbrev pub slots_of : Four (List ℕ) → Slots
+slots_of four = record { zero = four.zero; one = four.one; two = four.two; three = four.three }
 
 -- the most bytes that a slot is read with, and that are written to it
 unfoldable pub longest_slot : ℕ

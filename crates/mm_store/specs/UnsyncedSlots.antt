@@ -1,6 +1,7 @@
 -- Which slots have changes that were not synced.
 use Rattle.std.specs.Prelude.{◌≡◌, ℕ, ◌==◌, Bool, true, false, Option, if◌then◌else◌}
 use Rattle.std.specs.Option.{option_map}
+use Rattle.mm_store.specs.Four.{Four}
 
 -- of each slot, whether it has such changes
 pub record UnsyncedSlots : Type 0 where
@@ -8,6 +9,11 @@ pub record UnsyncedSlots : Type 0 where
   pub one : Bool
   pub two : Bool
   pub three : Bool
+
+-- four marks, as those of the slots
+abbrev pub unsynced_slots_of : Four Bool → UnsyncedSlots
+unsynced_slots_of four =
+    record { zero = four.zero; one = four.one; two = four.two; three = four.three }
 
 -- whether the slot with this number, which is below 4, has such changes
 abbrev pub is_unsynced_in : UnsyncedSlots → ℕ → Bool

@@ -3,11 +3,13 @@
 #![tactic(auto)]
 
 mod fault;
+mod four;
 mod memory;
 mod pending;
 mod store;
 
 pub use fault::StoreFault;
+pub use four::Four;
 pub use memory::MemStore;
 pub use pending::{PendingRequest, pending_bytes, read_pending};
 pub use store::{LONGEST_SLOT, Store};

@@ -2,79 +2,23 @@
 
 ghost use Rattle.std.specs.Prelude.{◌≡◌, ◌↔◌, ◌<◌, ◌≤◌, IsTrue, false, Err, OnOk, OnErr, length, take, if◌then◌else◌};
 ghost use Rattle.mm_base.specs.Faults.{next_count};
-ghost use Rattle.mm_store.specs.Slots.{longest_slot, slot_in, slots_with};
+ghost use Rattle.mm_store.specs.Slots.{longest_slot, slot_in, slots_of, slots_with};
 ghost use Rattle.mm_store.specs.Shelf.{Shelf, new_shelf, shelf_standing, shelf_after_call, shelf_after_read, shelf_after_write};
 ghost use Rattle.mm_store.specs.Calls.{ReadsSlot, WritesSlot};
 
 use crate::fault::StoreFault;
+use crate::four::Four;
 use crate::store::{LONGEST_SLOT, Store};
 use mm_base::{Bytes, Memory};
 use std::alloc::Global;
 use std::marker::Model;
 use std::mem;
 
-// The bytes of the four slots.
-#[derive(Drop)]
-pub struct FourSlots {
-    zero: Bytes,
-    one: Bytes,
-    two: Bytes,
-    three: Bytes,
-}
-
-impl Model for FourSlots {
-    ghost use Rattle.mm_store.specs.Slots.{Slots};
-
-    ghost Value = { Slots };
-
-    ghost view = { λ s. record { zero = s.zero; one = s.one; two = s.two; three = s.three } };
-}
-
-impl FourSlots {
-    // Four empty slots.
-    fn new(alloc: Global) -> FourSlots
-        ensures { result ≡ new_shelf.slots }
-    {
-        FourSlots {
-            zero: Bytes::new(alloc),
-            one: Bytes::new(alloc),
-            two: Bytes::new(alloc),
-            three: Bytes::new(alloc),
-        }
-    }
-
-    // The bytes of one slot.
-    fn get(&self, slot: u8) -> &[u8]
-        requires { slot < 4 }
-        ensures { result.now ≡ slot_in self.now slot }
-    {
-        match slot {
-            0 => self.zero.as_slice(),
-            1 => self.one.as_slice(),
-            2 => self.two.as_slice(),
-            _ => self.three.as_slice(),
-        }
-    }
-
-    // Puts these bytes in place of one slot's.
-    fn set(&mut self, slot: u8, bytes: Bytes)
-        requires { slot < 4 }
-        ensures { self.new ≡ slots_with self.old slot bytes }
-    {
-        match slot {
-            0 => self.zero = bytes,
-            1 => self.one = bytes,
-            2 => self.two = bytes,
-            _ => self.three = bytes,
-        }
-    }
-}
-
 /// A store in memory, which contracts see as a shelf. It tells its slots.
 #[derive(Drop)]
 pub struct MemStore {
     alloc: Global,
-    slots: FourSlots,
+    slots: Four<Bytes>,
     is_honest: bool,
     faults: u64,
     ahead: u64,
@@ -85,7 +29,7 @@ impl Model for MemStore {
     ghost Value = { Shelf };
 
     ghost view = { λ s. record {
-      slots = s.slots;
+      slots = slots_of s.slots;
       is_honest = s.is_honest;
       faults = s.faults;
       ahead = s.ahead;
@@ -100,7 +44,12 @@ impl MemStore {
     {
         MemStore {
             alloc,
-            slots: FourSlots::new(alloc),
+            slots: Four::new(
+                Bytes::new(alloc),
+                Bytes::new(alloc),
+                Bytes::new(alloc),
+                Bytes::new(alloc),
+            ),
             is_honest: true,
             faults: 0,
             ahead: 0,
@@ -132,7 +81,7 @@ impl MemStore {
         ensures err { OnErr result (self.new ≡ self.old) }
     {
         let kept = Bytes::copy_of(self.alloc, bytes)?;
-        self.slots.set(slot, kept);
+        *self.slots.get_mut(slot) = kept;
         self.is_honest = false;
         Ok(())
     }
@@ -142,7 +91,7 @@ impl MemStore {
         requires { slot < 4 }
         ensures { result.now ≡ slot_in self.now.slots slot }
     {
-        self.slots.get(slot)
+        self.slots.get(slot).as_slice()
     }
 
     // Begins a call, and tells whether it is the one that is to fail.
@@ -174,7 +123,7 @@ impl Store for MemStore {
         if self.is_to_fail() {
             return Err(StoreFault::Failed);
         }
-        let copy = Bytes::copy_of(alloc, seen(self.slots.get(slot)))?;
+        let copy = Bytes::copy_of(alloc, seen(self.slots.get(slot).as_slice()))?;
         Ok(copy)
     }
 
@@ -188,11 +137,11 @@ impl Store for MemStore {
     {
         if self.is_to_fail() {
             let left = mem::replace(&mut self.leaves, Bytes::new(self.alloc));
-            self.slots.set(slot, left);
+            *self.slots.get_mut(slot) = left;
             return Err(StoreFault::Failed);
         }
         let kept = Bytes::copy_of(self.alloc, bytes)?;
-        self.slots.set(slot, kept);
+        *self.slots.get_mut(slot) = kept;
         Ok(())
     }
 }
