@@ -43,7 +43,7 @@ AreSteps (step ∷ steps) (it ∷ made) = IsStep step it × AreSteps steps made
 AreSteps _ _ = ⊥
 
 -- the step that is to be made, as C has it: unanswered, and with zeros behind a register's value
-abbrev pub next_step_of : told.Step → Step
+abbrev pub next_step_of : told.HostStep → Step
 next_step_of step.ReadCell = record { kind = 1; answer = 0; bytes = replicate 104 0 }
 next_step_of (step.WriteCell bytes) = record { kind = 2; answer = 0; bytes = bytes }
 next_step_of step.ReadRegister = record { kind = 3; answer = 0; bytes = replicate 104 0 }

@@ -30,14 +30,14 @@ finding_of_machine (Ok found) = Ok found
 finding_of_machine (Err why) = Err (refusal_of_halt why)
 
 -- how the call ended
-abbrev pub end_of_machine : machine_end.Ended BatchAnswer Refusal → AskResult
+abbrev pub end_of_machine : machine_end.OpResult BatchAnswer Refusal → AskResult
 end_of_machine (end.Answered answer) = Answered answer
 end_of_machine (end.Refused why) = end_of_refusal why
 end_of_machine end.Lacks = Refused Memory
 end_of_machine (end.Broken fault commits) = Broken fault commits
 
 -- what the changing steps gave, which refuse nothing
-abbrev pub IsMade : machine_end.Ended BatchAnswer Refusal → Type 0
+abbrev pub IsMade : machine_end.OpResult BatchAnswer Refusal → Type 0
 IsMade (end.Refused why) = ⊥
 IsMade end.Lacks = ⊥
 IsMade _ = Unit {0}
@@ -52,7 +52,7 @@ pub record CallReads (o : OpMeaning BatchAnswer Refusal) (old new : Standing)
 -- What is left of a call of what was asked that stands here, and how it ended.
 pub record CallFinishes (o : OpMeaning BatchAnswer Refusal) (stage : OpStage BatchAnswer)
     (old new : Standing) (ended : AskResult) : Type 0 where
-  pub end : machine_end.Ended BatchAnswer Refusal
+  pub end : machine_end.OpResult BatchAnswer Refusal
   pub finishes : machine.OpEnds o stage old new end
   pub gives : ended ≡ end_of_machine end
 

@@ -5,10 +5,10 @@ use Rattle.mm_machine.specs.declared.operation.ReadyChange as ready
 use Rattle.mm_opt.specs.Below.{BatchAnswer}
 
 abbrev pub BatchFinding : Type 0
-BatchFinding = found.Found BatchAnswer
+BatchFinding = found.OpFinding BatchAnswer
 
 abbrev pub ReadyBatch : Type 0
-ReadyBatch = ready.Ready BatchAnswer
+ReadyBatch = ready.ReadyChange BatchAnswer
 
 abbrev pub BatchStage : Type 0
-BatchStage = call.Stage BatchAnswer
+BatchStage = call.OpStage BatchAnswer

@@ -24,7 +24,7 @@ key_of_words _ = None
 
 -- what is said to a request that brings this key
 abbrev pub keyed_text : Option (List ℕ) → List ℕ
-keyed_text None = codes "outcome_without_key"
+keyed_text None = codes "unkeyed"
 keyed_text (Some key) = codes "keyed"
 
 -- a request before a key is set

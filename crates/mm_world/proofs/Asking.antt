@@ -369,7 +369,7 @@ on_settled _ true mid new stays e = e ∙ stays
 on_settled _ _ mid new stays e = e ∙ stays
 
 -- what a call came to, in the words of its ending
-pub record Tells (stop : Stop) (size : ℕ) (e : CallEnding) (it : code.Called) : Type 0 where
+pub record Tells (stop : Stop) (size : ℕ) (e : CallEnding) (it : code.CallReport) : Type 0 where
   pub reply : it.reply ≡ reply_of (way_of stop) e
   pub snapshot : option_to_list it.snapshot ≡ snapshots_of e
   pub committed : it.committed ≡ committed_by e size

@@ -70,10 +70,10 @@ module _ (i : Instance) (d : Digests) (stop : Stop) (meddles : List Meddle) (byt
   on c = call_outcome i (digest_level i) d c bytes b
 
   -- the call that is planned came to this, or what it came to
-  abbrev Comes : code.Called → Type 0
+  abbrev Comes : code.CallReport → Type 0
   Comes it = CallComesTo i (outcome_by (digest_level i) stop issued (on (course_of stop meddles))) d.count issued old new it
 
-  abbrev Ends : Result code.Called Memory → Type 0
+  abbrev Ends : Result code.CallReport Memory → Type 0
   Ends result = MatchResult result Comes (λ _. HasRead i d meddles stop old new)
 
   abbrev OverAs : AskResult → Type 0
@@ -95,7 +95,7 @@ module _ (i : Instance) (d : Digests) (stop : Stop) (meddles : List Meddle) (byt
   ]
 
   -- a call that was answered, refused for another reason than want of memory, or broken off
-  came_call : (ended : AskResult) (r : OverAs ended) (it : code.Called) (ending : CallEnding) → (on r.course).ending ≡ ending
+  came_call : (ended : AskResult) (r : OverAs ended) (it : code.CallReport) (ending : CallEnding) → (on r.course).ending ≡ ending
       → breaks ending ≡ is_broken ended → (ending ≡ Refuses refusal.Memory → ⊥) → Tells stop (size_of b) ending it → Comes it
   came_call ended r it ending e alike never tells =
       let o = on r.course in let lost = is_broken ended && is_cut stop in
@@ -149,7 +149,7 @@ module _ (i : Instance) (d : Digests) (stop : Stop) (meddles : List Meddle) (byt
         writes = settles.writes ∙ r.goes.writes ∙ ap (λ n. count_after_more n old.writes) h.writes;
       }
 
-  ends_why : (why : Refusal) (result : Result code.Called Memory) → OverAs (Refused why) → IsRefusalResult why result → Ends result
+  ends_why : (why : Refusal) (result : Result code.CallReport Memory) → OverAs (Refused why) → IsRefusalResult why result → Ends result
   ends_why refusal.Memory (Ok it) r e = absurd (cc)
   ends_why refusal.Memory (Err memory) r e =
       lacks_call (Refused refusal.Memory) r refl (told_err (on r.course).ending refusal.Memory (sym r.goes.gives) r.keeps)
@@ -157,7 +157,7 @@ module _ (i : Instance) (d : Digests) (stop : Stop) (meddles : List Meddle) (byt
       (told_err (on r.course).ending why (sym r.goes.gives) r.keeps) refl (λ x. cc)
       (record { reply = refl; snapshot = refl; committed = refl }))
 
-  ends_all : (size : ℕ) (ended : AskResult) (result : Result code.Called Memory) → OverAs ended → size ≡ size_of b
+  ends_all : (size : ℕ) (ended : AskResult) (result : Result code.CallReport Memory) → OverAs ended → size ≡ size_of b
       → IsCallResult stop size ended result → Ends result
   ends_all size (Answered answer) result r n e = subst Ends (sym e) (came_call (Answered answer) r (answered_call answer) (Answers answer)
       (told_ok (on r.course).ending answer (sym r.goes.gives)) refl (λ x. cc) (record { reply = refl; snapshot = refl; committed = refl }))
@@ -173,13 +173,13 @@ module _ (i : Instance) (d : Digests) (stop : Stop) (meddles : List Meddle) (byt
       }))
 
 -- where memory was wanting nothing may have happened at all
-or_read : (P : code.Called → Type 0) (Q R : Type 0) (result : Result code.Called Memory) → MatchResult result P (λ _. R)
+or_read : (P : code.CallReport → Type 0) (Q R : Type 0) (result : Result code.CallReport Memory) → MatchResult result P (λ _. R)
     → MatchResult result P (λ _. Q ⊎ R)
 or_read P Q R (Ok it) h = h
 or_read P Q R (Err memory) h = inr h
 
 module _ (variant : Variant) (meaning : Meaning) (old mid new : Standing) (meddles : List Meddle) (stop : Stop) (bytes : List ℕ) (b : Batch)
-    (size : ℕ) (ended : AskResult) (result : Result code.Called Memory) (short : is_long b ≡ false) (n : size ≡ size_of b)
+    (size : ℕ) (ended : AskResult) (result : Result code.CallReport Memory) (short : is_long b ≡ false) (n : size ≡ size_of b)
     (calls : EndsAsCall variant meaning (record old { plan = Some (plan_of stop meddles) }) mid bytes b ended)
     (settles : SettlesPlan stop (is_broken ended) mid new) (told : IsCallResult stop size ended result) (issued : List (List ℕ)) where
   -- a call that isn't too long, over a planned platform: where memory is wanting it has read

@@ -213,7 +213,7 @@ told_vain stop why None = reply.No (cause_of why)
 told_vain stop why (Some fault) = reply.Nothing (way_of stop)
 
 -- What is told of a call that was refused for this, or broken off at its first step.
-record TellsVain (stop : Stop) (why : Refusal) (fault : Option StepFault) (it : code.Called) : Type 0 where
+record TellsVain (stop : Stop) (why : Refusal) (fault : Option StepFault) (it : code.CallReport) : Type 0 where
   pub reply : it.reply ≡ told_vain stop why fault
   pub snapshot : it.snapshot ≡ None
   pub committed : it.committed ≡ 0
@@ -242,7 +242,7 @@ module _ (i : Instance) where
 
   -- the step over a planned platform
   stopped_came : (d : Digests) (stop : Stop) (meddles : List Meddle) (issued : List (List ℕ)) (why : Refusal) (old mid new : Standing)
-      (it : code.Called) (fault : Option StepFault) → IsQuiet old → register_reading old ≡ Some d.register
+      (it : code.CallReport) (fault : Option StepFault) → IsQuiet old → register_reading old ≡ Some d.register
       → StepGoes ReadCell (record old { plan = Some (plan_of stop meddles) }) mid fault → SettlesPlan stop (is_some fault) mid new
       → PlatformStaysOn stop (is_some fault) mid → TellsVain stop why fault it
       → CallComesInVain (read_only_outcome (digest_level i) d issued meddles stop why)
@@ -282,7 +282,7 @@ broken_with None why = refl
 broken_with (Some fault) why = refl
 
 -- what a call came to that was refused for this, or broken off at its first step
-abbrev vain_call : Stop → ℕ → Option StepFault → Refusal → code.Called
+abbrev vain_call : Stop → ℕ → Option StepFault → Refusal → code.CallReport
 vain_call stop size None why = refused_call (cause_of why)
 vain_call stop size (Some fault) why = broken_call stop (if takes_effect stop then None else None) size
 
@@ -294,7 +294,7 @@ vain_told stop size (Some fault) why = record {
   committed = ap (λ kept. size_if kept size) (none_kept (takes_effect stop));
 }
 
-vain_result : (stop : Stop) (size : ℕ) (fault : Option StepFault) (why : Refusal) (result : Result code.Called Memory)
+vain_result : (stop : Stop) (size : ℕ) (fault : Option StepFault) (why : Refusal) (result : Result code.CallReport Memory)
     → (why ≡ refusal.Memory → ⊥) → IsCallResult stop size (end_by_fault fault why) result → result ≡ Ok (vain_call stop size fault why)
 vain_result stop size (Some fault) why result never e = e
 vain_result stop size None refusal.Memory result never e = absurd (never refl)
@@ -339,7 +339,7 @@ checks_in_vain old mid new meddles stop result goes closes settles issued = λ i
 
 -- a checkpoint under a plan
 module _ (old new : Standing) (meddles : List Meddle) (stop : Stop) (issued : List (List ℕ)) where
-  checks_either : (called : Result code.Called Memory) (w : WasPlanned closing_asked TellsCheckpoint meddles stop old new called)
+  checks_either : (called : Result code.CallReport Memory) (w : WasPlanned closing_asked TellsCheckpoint meddles stop old new called)
       → ChecksPlanned old new issued meddles stop (Ok (checkpoint_reply stop (has_closed_segment stop w.ended) (result_of_end w.ended)))
   checks_either called w =
       let at = record old { plan = Some (plan_of stop meddles) } in
@@ -356,12 +356,12 @@ module _ (old new : Standing) (meddles : List Meddle) (stop : Stop) (issued : Li
             (checks_in_vain old w.middle new meddles stop said goes closes settled issued i d fault read);
       }
 
-  checks_told : (it : code.Called) → IsPlanned closing_asked TellsCheckpoint meddles stop old new (Ok it)
+  checks_told : (it : code.CallReport) → IsPlanned closing_asked TellsCheckpoint meddles stop old new (Ok it)
       → ChecksPlanned old new issued meddles stop (Ok it.reply)
   checks_told it (inl e) = absurd (cc)
   checks_told it (inr w) =
       let same : it ≡ quiet_call (checkpoint_reply stop (has_closed_segment stop w.ended) (result_of_end w.ended)) = cc in
-      subst (λ (x : Reply). ChecksPlanned old new issued meddles stop (Ok x)) (sym (ap (λ (x : code.Called). x.reply) same))
+      subst (λ (x : Reply). ChecksPlanned old new issued meddles stop (Ok x)) (sym (ap (λ (x : code.CallReport). x.reply) same))
       (checks_either (Ok it) w)
 
   -- or want of memory for that
@@ -370,21 +370,21 @@ module _ (old new : Standing) (meddles : List Meddle) (stop : Stop) (issued : Li
   checks_want memory (inl e) = record { own = λ variant meaning. λ key barrier d s q. e.1; vain = λ i d fault at. e.1 }
   checks_want memory (inr w) = absurd (cc)
 
-  module _ (called : Result code.Called Memory) (planned : IsPlanned closing_asked TellsCheckpoint meddles stop old new called) where
-    pub checks_to : (it : code.Called) → called ≡ Ok it → ChecksPlanned old new issued meddles stop (Ok it.reply)
+  module _ (called : Result code.CallReport Memory) (planned : IsPlanned closing_asked TellsCheckpoint meddles stop old new called) where
+    pub checks_to : (it : code.CallReport) → called ≡ Ok it → ChecksPlanned old new issued meddles stop (Ok it.reply)
     checks_to it is =
-        checks_told it (subst (λ (r : Result code.Called Memory). IsPlanned closing_asked TellsCheckpoint meddles stop old new r) is
+        checks_told it (subst (λ (r : Result code.CallReport Memory). IsPlanned closing_asked TellsCheckpoint meddles stop old new r) is
         planned)
 
     pub checks_lack : (memory : Memory) → called ≡ Err memory → ChecksPlanned old new issued meddles stop (Err memory)
     checks_lack memory is =
-        checks_want memory (subst (λ (r : Result code.Called Memory). IsPlanned closing_asked TellsCheckpoint meddles stop old new r) is
+        checks_want memory (subst (λ (r : Result code.CallReport Memory). IsPlanned closing_asked TellsCheckpoint meddles stop old new r) is
         planned)
 
 -- a call that isn't too long, over a planned platform
 
 module _ (variant : Variant) (meaning : Meaning) (old new : Standing) (meddles : List Meddle) (stop : Stop) (offer : List ℕ) (b : Batch)
-    (result : Result code.Called Memory) (short : is_long b ≡ false) (issued : List (List ℕ)) where
+    (result : Result code.CallReport Memory) (short : is_long b ≡ false) (issued : List (List ℕ)) where
   abbrev at : Standing
   at = record old { plan = Some (plan_of stop meddles) }
 
@@ -398,7 +398,7 @@ module _ (variant : Variant) (meaning : Meaning) (old new : Standing) (meddles :
         let r = ask_stops meaning cell.bytes offer b read why cell.reads at w.middle ended cell.cell variant w.ended w.ends refl vain in
         let p = calls.plans (plan_of stop meddles) cell.quiet.is_on refl refl in
         let breaks : is_broken ended ≡ is_some r.fault = ap is_broken r.ends ∙ broken_with r.fault why in
-        let it : code.Called = vain_call stop (size_of b) r.fault why in
+        let it : code.CallReport = vain_call stop (size_of b) r.fault why in
         let vain_outcome : Bool → Outcome Digests = λ long. if long then outcome_without_call d issued (reply.No cause.Long)
         else read_only_outcome (digest_level
         i) d
@@ -412,7 +412,7 @@ module _ (variant : Variant) (meaning : Meaning) (old new : Standing) (meddles :
         let gives : result ≡ Ok it = vain_result stop (size_of b) r.fault why result
         (λ e. never_memory variant meaning.id read (vain ∙ ap Some e))
         (subst (λ (x : AskResult). IsCallResult stop (size_of b) x result) r.ends w.told) in
-        subst (λ (x : Result code.Called Memory). MatchResult x (CallComesInVain (vain_outcome (is_long b)) issued old new)
+        subst (λ (x : Result code.CallReport Memory). MatchResult x (CallComesInVain (vain_outcome (is_long b)) issued old new)
         (λ _. new ≡ old))
         (sym gives) (subst (λ (long : Bool). CallComesInVain (vain_outcome long) issued old new it) (sym short) came)
 
@@ -428,7 +428,7 @@ module _ (variant : Variant) (meaning : Meaning) (old new : Standing) (meddles :
 
 -- or want of memory for the plan
 pub asks_to : (variant : Variant) (meaning : Meaning) (old new : Standing) (meddles : List Meddle) (stop : Stop) (offer : List ℕ)
-    (b : Batch) (result : Result code.Called Memory) (short : is_long b ≡ false) (issued : List (List ℕ))
+    (b : Batch) (result : Result code.CallReport Memory) (short : is_long b ≡ false) (issued : List (List ℕ))
     → IsPlanned (ask_operation variant meaning offer b) (TellsAsk b) meddles stop old new result
     → AsksPlanned variant meaning old new issued meddles stop (Some offer) b result
 asks_to variant meaning old new meddles stop offer b (Ok it) short issued (inl e) = absurd (cc)

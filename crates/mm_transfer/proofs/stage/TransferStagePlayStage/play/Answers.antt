@@ -1,7 +1,7 @@
 use Rattle.mm_transfer.proofs.Below.{◌∙◌, Some, ap, inr, side_event_of, sym}
 use Rattle.mm_play.specs.Stage.{answer_by}
 use Rattle.mm_transfer.specs.Stage.{transfer_steps, TransferState, transfer_text}
-use Rattle.mm_transfer.proofs.stage.TransferStageOpStage.play.Goals as goal
+use Rattle.mm_transfer.proofs.stage.TransferStagePlayStage.play.Goals as goal
 
 -- memory was wanting for the reply: the event was followed
 pub returns : goal.returns
