@@ -39,8 +39,8 @@ impl ReturnStatus {
     /// Its number, 0 for Done alone, and 16 for Next alone.
     pub fn code(self) -> u32
         ensures number { result ≡ number_of self }
-        ensures done { (result ≡ 0) ↔ (self ≡ Said.Done) }
-        ensures next { (result ≡ 16) ↔ (self ≡ Said.Next) }
+        ensures done { (result ≡ 0) ↔ (self ≡ CallStatus.Done) }
+        ensures next { (result ≡ 16) ↔ (self ≡ CallStatus.Next) }
     {
         match self {
             ReturnStatus::Done => 0,

@@ -62,8 +62,8 @@ impl Parts {
         requires fits { PartsFit self.old }
         requires few { self.old.seat.committed < 2 ^ 63 }
         ensures ok { IfOk result (SlotComesTo self.old self.new
-            (turn_by_action (instance_in self.old) (slot_in self.old) Action.Step)) }
-        ensures err { OnErr result (SlotLacksMemory Action.Step self.old self.new) }
+            (turn_by_action (instance_in self.old) (slot_in self.old) SlotAction.Step)) }
+        ensures err { OnErr result (SlotLacksMemory SlotAction.Step self.old self.new) }
     {
         match self.flight.take() {
             None => Ok(SlotReply::Idle),
@@ -77,7 +77,7 @@ impl Parts {
         requires fits { PartsFit self.old }
         requires few { self.old.seat.committed < 2 ^ 63 }
         ensures { SlotComesTo self.old self.new
-            (turn_by_action (instance_in self.old) (slot_in self.old) (Action.Break how)) result }
+            (turn_by_action (instance_in self.old) (slot_in self.old) (SlotAction.Break how)) result }
     {
         match self.flight.take() {
             None => SlotReply::Idle,

@@ -23,7 +23,7 @@ fn put_said(said: &SlotReply, into: &mut Bytes) -> Result<(), Memory>
 }
 
 fn put_going(step: u64, into: &mut Bytes) -> Result<(), Memory>
-    ensures { OnOk result (into.new ≡ into.old ++ slot_reply_text (Said.Going step)) }
+    ensures { OnOk result (into.new ≡ into.old ++ slot_reply_text (SlotReply.Going step)) }
 {
     into.append(b"going ")?;
     put_decimal(into, step)?;

@@ -46,7 +46,7 @@ fn read_cell<P: Platform>(platform: &mut P) -> Result<[u8; CELL_LENGTH], StepFau
 // Makes room for an extension, and then the extension.
 #[tactic(auto, using(crate::proofs::Missing::made_bare))]
 fn extend<P: Platform>(platform: &mut P, value: &Digest) -> Result<MadeStep, Memory>
-    ensures act { IfOk result (λ it. made_act it ≡ act_of (Step.ExtendRegister value.now)) }
+    ensures act { IfOk result (λ it. made_act it ≡ act_of (HostStep.ExtendRegister value.now)) }
     ensures made { IfOk result (λ it.
         IsMade it (bare_standing (P.standing platform.old))
         (bare_standing (P.standing platform.new))) }

@@ -157,7 +157,7 @@ fn copied(value: &Digest) -> Digest
 
 // A reading step failed.
 fn broken<A, R>(fault: StepFault) -> StepTarget<A, R>
-    ensures { result ≡ Turn.End (Ended.Broken fault None) }
+    ensures { result ≡ StepTarget.End (OpResult.Broken fault None) }
 {
     StepTarget::End(OpResult::Broken {
         fault,
