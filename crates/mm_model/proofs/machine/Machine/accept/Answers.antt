@@ -9,7 +9,7 @@ step-requires-clause-spelled g c =
 
 pub invariant_of-self-2 : goal.invariant_of-self-2
 invariant_of-self-2 g c =
-    IsRun-push (g.M.Module.meaning c.self.inside.runner) c.self.inside.requests.items c.push.new.self.items
+    IsStateOfRun-push (g.M.Module.meaning c.self.inside.runner) c.self.inside.requests.items c.push.new.self.items
     c.args.request.now c.in_ok-asked.asked c.self.inside.state c.as_slice.result.now c.self.inside.output
     c.in_ok-stepped.stepped.state c.in_ok-stepped.stepped.output c.self.invariant c.as_slice.ensures.value
     c.in_ok-stepped.ensures.state c.in_ok-stepped.ensures.output c.in_ok-asked.ensures c.in_ok-push.ensures.items
