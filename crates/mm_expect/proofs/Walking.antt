@@ -141,7 +141,8 @@ pub made_where_whole : (stop : Stop) (step : ℕ) → fault_at stop step ≡ Non
 made_where_whole (Fail at done) step none = grind (arith, nat_tests, none)
 made_where_whole stop step none = refl
 
-pub changes_then : (a b c : ChronicleView) (action : code.ChronicleMove) (made : Bool) (values : List (List ℕ)) (step : code_step.ChronicleStep)
+pub changes_then : (a b c : ChronicleView) (action : code.ChronicleMove) (made : Bool) (values : List (List ℕ))
+    (step : code_step.ChronicleStep)
     → step ≡ Changes action → ChronicleGoes a b (map Foreign values) → ChronicleGoes b c (made_move made (move_of action))
     → ChronicleGoes a c (step_moves (model_step_of step) made values)
 changes_then a b c action made values step is first second =
@@ -161,7 +162,8 @@ walks_on a b c stop meddles n step later all is whole made m first fault more =
     let W : Option StepFault
     → Type 0 = λ f. ChronicleWalks a c (walk_from_step (model_step_of step) (due_values n meddles) (end_of f (is_made_at stop n)) rest)
     fault in
-    subst (λ (s : List code_step.ChronicleStep). ChronicleWalks a c (walk fates n (steps_of s)) fault) (sym is) (subst W (sym whole) (record {
+    subst (λ (s : List code_step.ChronicleStep). ChronicleWalks a c (walk fates n (steps_of s)) fault) (sym is)
+        (subst W (sym whole) (record {
       went = went_then a b c (step_moves (model_step_of step) true (due_values n meddles)) rest.moves
           (subst (λ (x : Bool). ChronicleGoes a b (step_moves (model_step_of step) x (due_values n meddles))) effect first) more.went;
       broken = more.broken;

@@ -77,7 +77,8 @@ impl Parts {
         requires fits { PartsFit self.old }
         requires few { self.old.seat.committed < 2 ^ 63 }
         ensures { SlotComesTo self.old self.new
-            (turn_by_action (instance_in self.old) (slot_in self.old) (SlotAction.Break how)) result }
+            (turn_by_action (instance_in self.old) (slot_in self.old) (SlotAction.Break how))
+            result }
     {
         match self.flight.take() {
             None => SlotReply::Idle,
