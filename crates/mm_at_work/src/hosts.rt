@@ -57,7 +57,11 @@ pub fn run_verb<P: Platform, T: Store, S: Source, E: Source, K: Sink>(
         (S.left handed.new.input) (S.faults handed.new.input) (E.left handed.new.entropy)
         (E.faults handed.new.entropy) (K.received handed.new.out) (K.faults handed.new.out) in
         IsCommandRun (record {
-        command = verb_command verb; old = old; new = new; status = result }) }
+          command = verb_command verb;
+          old = old;
+          new = new;
+          status = result;
+        }) }
 {
     let HandedObjects {
         store,

@@ -163,7 +163,7 @@ walks_on a b c stop meddles n step later all is whole made m first fault more =
     → Type 0 = λ f. ChronicleWalks a c (walk_from_step (model_step_of step) (due_values n meddles) (end_of f (is_made_at stop n)) rest)
     fault in
     subst (λ (s : List code_step.ChronicleStep). ChronicleWalks a c (walk fates n (steps_of s)) fault) (sym is)
-        (subst W (sym whole) (record {
+    (subst W (sym whole) (record {
       went = went_then a b c (step_moves (model_step_of step) true (due_values n meddles)) rest.moves
           (subst (λ (x : Bool). ChronicleGoes a b (step_moves (model_step_of step) x (due_values n meddles))) effect first) more.went;
       broken = more.broken;

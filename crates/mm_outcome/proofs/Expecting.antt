@@ -143,7 +143,7 @@ module _ (meaning : Meaning) (key barrier : List ℕ) (all others : List (List �
       (taking_is I values y) back) in
       subst (AreListed (bare y)) (sym (moves_from_reset-foreign values (Reset ∷ rest))) (
         subst (λ w. AreMessagesIn (w ++ messages_of_moves I (bare y) rest) all)
-        (sym (reset_messages meaning key barrier (bare y) y.is_open))
+            (sym (reset_messages meaning key barrier (bare y) y.is_open))
             after,
         each_right (Contains others) values (foreign_move_values rest)
             (subst (AllByRecursion (Contains others)) (foreign_move_values-first values (Reset ∷ rest)) listed.1),
