@@ -60,7 +60,8 @@ basic_met key =
     let found = finding_unless_wanting (finding_at i (list_level i) (state_seen i (list_level i) first_history (course_of Quiet [])) five
     (issued_bytes i first_history)) false in
     let heard = right_messages i five (right_content i (issued_bytes i first_history)) in
-    let made = messages_of_moves i first_history (walk (course_of Quiet []).fates 1 (ask_steps Basic false (is_fresh found) five)).moves in (
+    let steps = ask_steps Basic false (is_fresh found) five in
+    let made = messages_of_moves i first_history (walk (course_of Quiet []).fates 1 steps).moves in (
       record {
         clear = clear_within all (run_messages i one_ask) basic_clear (
           basic_listed.0,
