@@ -160,8 +160,8 @@ fn tell(
       after = room.new;
       says = result;
     }) }
-    ensures unwritten { result ≢ CallStatus.Done → room.new ≡ room.old }
-    ensures unsaid { result ≢ CallStatus.Done → result ≢ CallStatus.Next → reply.new ≡ reply.old }
+    ensures unwritten { result ≢ ReturnStatus.Done → room.new ≡ room.old }
+    ensures unsaid { result ≢ ReturnStatus.Done → result ≢ ReturnStatus.Next → reply.new ≡ reply.old }
 {
     match asked {
         Err(said) => said,
@@ -185,8 +185,8 @@ fn put_answer(answer: &Answer, reply: &mut Reply, room: &mut [u8]) -> ReturnStat
       after = room.new;
       says = result;
     }) }
-    ensures unwritten { result ≢ CallStatus.Done → room.new ≡ room.old }
-    ensures unsaid { result ≢ CallStatus.Done → reply.new ≡ reply.old }
+    ensures unwritten { result ≢ ReturnStatus.Done → room.new ≡ room.old }
+    ensures unsaid { result ≢ ReturnStatus.Done → reply.new ≡ reply.old }
 {
     let output = answer.output.as_slice();
     let snapshot = answer.snapshot.as_slice();

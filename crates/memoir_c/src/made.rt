@@ -27,7 +27,7 @@ pub struct Step {
 pub fn put_made(steps: &[Step], into: &mut [MadeStep; MOST_STEPS]) -> Result<(), ReturnStatus>
     requires { length steps.now ≤ 5 }
     ensures ok { OnOk result (AreSteps steps.now (take (length steps.now) into.new)) }
-    ensures err { IfErr result (λ why. (why ≡ CallStatus.NoStep) × HasNoStep steps.now) }
+    ensures err { IfErr result (λ why. (why ≡ ReturnStatus.NoStep) × HasNoStep steps.now) }
 {
     'steps: for (i, step) in steps.iter().enumerate() {
         match made(step) {
@@ -41,7 +41,7 @@ pub fn put_made(steps: &[Step], into: &mut [MadeStep; MOST_STEPS]) -> Result<(),
 // The step that was made.
 fn made(step: &Step) -> Result<MadeStep, ReturnStatus>
     ensures ok { IfOk result (λ it. IsStep step.now it) }
-    ensures err { IfErr result (λ why. (why ≡ CallStatus.NoStep) × IsNoStep step.now) }
+    ensures err { IfErr result (λ why. (why ≡ ReturnStatus.NoStep) × IsNoStep step.now) }
 {
     let answer = answer(step.answer)?;
     match step.kind {
@@ -57,7 +57,7 @@ fn made(step: &Step) -> Result<MadeStep, ReturnStatus>
 // What a device answered: 0 Ok, 1 Failed, 2 Off.
 fn answer(answer: u8) -> Result<Result<(), StepFault>, ReturnStatus>
     ensures ok { IfOk result (λ it. answer ≡ answer_by (result_err it)) }
-    ensures err { IfErr result (λ why. (why ≡ CallStatus.NoStep) × (2 < answer)) }
+    ensures err { IfErr result (λ why. (why ≡ ReturnStatus.NoStep) × (2 < answer)) }
 {
     match answer {
         0 => Ok(Ok(())),

@@ -49,8 +49,8 @@ fn put_record(
       old = length.old;
       new = length.new;
     }) (number_of result) }
-    ensures unwritten { result ≢ CallStatus.Done → room.new ≡ room.old }
-    ensures unsaid { result ≢ CallStatus.Done → length.new ≡ length.old }
+    ensures unwritten { result ≢ ReturnStatus.Done → room.new ≡ room.old }
+    ensures unsaid { result ≢ ReturnStatus.Done → length.new ≡ length.old }
 {
     match record(alloc, position, request) {
         Err(said) => said,
@@ -84,8 +84,8 @@ fn put(bytes: &[u8], length: &mut usize, room: &mut [u8]) -> ReturnStatus
       old = length.old;
       new = length.new;
     }) result }
-    ensures unwritten { result ≢ CallStatus.Done → room.new ≡ room.old }
-    ensures unsaid { result ≢ CallStatus.Done → length.new ≡ length.old }
+    ensures unwritten { result ≢ ReturnStatus.Done → room.new ≡ room.old }
+    ensures unsaid { result ≢ ReturnStatus.Done → length.new ≡ length.old }
 {
     if bytes.len() > room.len() {
         return ReturnStatus::NoRoom;
@@ -131,9 +131,9 @@ fn put_request(
       old = length.old;
       new = length.new;
     }) position.new result }
-    ensures unwritten { result ≢ CallStatus.Done → room.new ≡ room.old }
-    ensures unsaid { result ≢ CallStatus.Done → length.new ≡ length.old }
-    ensures unnumbered { result ≢ CallStatus.Done → position.new ≡ position.old }
+    ensures unwritten { result ≢ ReturnStatus.Done → room.new ≡ room.old }
+    ensures unsaid { result ≢ ReturnStatus.Done → length.new ≡ length.old }
+    ensures unnumbered { result ≢ ReturnStatus.Done → position.new ≡ position.old }
 {
     let Some(pending) = read_pending(slot, bytes) else {
         return ReturnStatus::Refused(Refusal::Form);

@@ -86,8 +86,8 @@ fn put(made: &Made, first: &mut ProvisionReply, room: &mut [u8]) -> ReturnStatus
       before = room.old;
       after = room.new;
     }) result }
-    ensures unwritten { result ≢ CallStatus.Done → room.new ≡ room.old }
-    ensures unsaid { result ≢ CallStatus.Done → first.new ≡ first.old }
+    ensures unwritten { result ≢ ReturnStatus.Done → room.new ≡ room.old }
+    ensures unsaid { result ≢ ReturnStatus.Done → first.new ≡ first.old }
 {
     let snapshot = made.snapshot.as_slice();
     if snapshot.len() > room.len() {

@@ -39,8 +39,8 @@ impl ReturnStatus {
     /// Its number, 0 for Done alone, and 16 for Next alone.
     pub fn code(self) -> u32
         ensures number { result ≡ number_of self }
-        ensures done { (result ≡ 0) ↔ (self ≡ CallStatus.Done) }
-        ensures next { (result ≡ 16) ↔ (self ≡ CallStatus.Next) }
+        ensures done { (result ≡ 0) ↔ (self ≡ ReturnStatus.Done) }
+        ensures next { (result ≡ 16) ↔ (self ≡ ReturnStatus.Next) }
     {
         match self {
             ReturnStatus::Done => 0,
