@@ -161,7 +161,8 @@ fn tell(
       says = result;
     }) }
     ensures unwritten { result ≢ ReturnStatus.Done → room.new ≡ room.old }
-    ensures unsaid { result ≢ ReturnStatus.Done → result ≢ ReturnStatus.Next → reply.new ≡ reply.old }
+    ensures unsaid { result ≢ ReturnStatus.Done → result ≢ ReturnStatus.Next
+        → reply.new ≡ reply.old }
 {
     match asked {
         Err(said) => said,
