@@ -1,4 +1,5 @@
-use Rattle.mm_gen.proofs.Below.{◌≡◌, ℕ, List, [], ◌∷◌, ◌++◌, refl, ap, ◌∙◌, append_assoc, rules, codes, decimal, end_line, joined_lines}
+use Rattle.mm_gen.proofs.Below.{◌≡◌, ℕ, List, [], ◌∷◌, ◌++◌, refl, ap, append_assoc, rules, end_line, joined_lines}
+use Rattle.mm_gen.specs.declared.summary.Summary.{Summary}
 use Rattle.mm_gen.specs.Summaries.{end_text, events_text, other_counts, replies_text, told_counts}
 use Rattle.mm_gen.proofs.summary.summary_text.Goals as goal
 
@@ -8,8 +9,9 @@ five_lines : (a b c d e one two three four five : List ℕ) → one ≡ a ++ 10 
 five_lines a b c d e one two three four five is1 is2 is3 is4 is5 = rw (is5, is4, is3, is2, is1) (simp append_assoc refl)
 
 -- the last line of the replies
-end_lined : (committed issued : ℕ) → end_line committed issued ≡ (codes "end " ++ decimal committed ++ 32 ∷ decimal issued) ++ 10 ∷ []
-end_lined committed issued = simp append_assoc refl
+end_put : (before after : List ℕ) (it : Summary) → after ≡ before ++ end_line it.committed it.issued
+    → after ≡ before ++ end_text it ++ 10 ∷ []
+end_put before after it is = rw is (simp append_assoc refl)
 
 pub returns : goal.returns
 returns c =
@@ -17,5 +19,4 @@ returns c =
     (replies_text c.args.it.now.replies.bytes)
     c.put_events.new.into c.put_told_counts.new.into c.put_other_counts.new.into c.put_end.new.into c.put_replies.new.into
     (search rules) c.in_ok-put_told_counts.ensures c.in_ok-put_other_counts.ensures
-    (c.in_ok-put_end.ensures ∙ ap (λ line. c.put_other_counts.new.into ++ line) (end_lined c.args.it.now.committed c.args.it.now.issued))
-    c.in_ok-put_replies.ensures
+    (end_put c.put_other_counts.new.into c.put_end.new.into c.args.it.now c.in_ok-put_end.ensures) c.in_ok-put_replies.ensures
