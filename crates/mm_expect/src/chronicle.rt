@@ -114,7 +114,7 @@ impl Chronicle {
         Ok(())
     }
 
-    // HistoryLists the message by which the register takes in a value: none in Basic, which has no
+    // Lists the message by which the register takes in a value: none in Basic, which has no
     // register.
     fn tell_extension(&mut self, value: &Digest) -> Result<(), Memory>
         ensures { OnOk result (self.new ≡ record self.old {
@@ -158,7 +158,7 @@ impl Chronicle {
         self.marks = self.marks.emptied(self.lists.is_clear());
     }
 
-    // HistoryLists the message by which a segment is closed: none in Basic, which has no segments.
+    // Lists the message by which a segment is closed: none in Basic, which has no segments.
     fn tell_closing(&mut self) -> Result<(), Memory>
         ensures { OnOk result (self.new ≡ record self.old {
           closing = self.old.closing

@@ -32,7 +32,7 @@ impl ReplyCounts {
         }
     }
 
-    /// ReplyCounts one reply more. A reply of several lines is one.
+    /// Counts one reply more. A reply of several lines is one.
     pub fn count(&mut self, reply: &Reply)
         requires { total self.old < most_events }
         ensures counted { self.new ≡ counts_after_reply self.old reply.now }

@@ -34,7 +34,7 @@ impl SlotPlatform {
     ghost use Rattle.mm_slots.specs.SlotLoan.{LendsSlot};
 
     /// A platform with these cells of 104 bytes each, one a slot: on, with empty registers and no
-    /// faults. Tenant 0 is selected.
+    /// faults. Slot 0 is selected.
     pub fn new(alloc: Global, cells: &[[u8; CELL_LENGTH]]) -> Result<SlotPlatform, Memory>
         requires some { 1 ≤ length cells.now }
         requires few { length cells.now ≤ 16 }

@@ -101,7 +101,7 @@ fn left_of(outcome: Result<(), StepFault>, leaves: FailureEffect) -> FailureEffe
     }
 }
 
-// FailureEffect that much of a write of these bytes in its range.
+// Leaves that much of a write of these bytes in its range.
 fn leave(range: &mut [u8], bytes: &[u8], leaves: FailureEffect) {
     let size = range.len().min(bytes.len());
     match leaves {

@@ -28,13 +28,13 @@ impl TableNotes {
         self.written.as_slice()
     }
 
-    /// TableNotes what the last command wrote.
+    /// Notes what the last command wrote.
     pub fn write(&mut self, bytes: &[u8]) -> Result<(), Memory> {
         self.last = Bytes::copy_of(self.alloc, bytes)?;
         Ok(())
     }
 
-    /// TableNotes whether a command came out as it stands.
+    /// Notes whether a command came out as it stands.
     pub fn tell(&mut self, is_so: bool, command: &str, code: u64) -> Result<bool, Memory> {
         if !is_so {
             self.written.append(b"not so: ")?;
@@ -48,7 +48,7 @@ impl TableNotes {
         Ok(is_so)
     }
 
-    /// TableNotes whether a case came out as it stands.
+    /// Notes whether a case came out as it stands.
     pub fn count(&mut self, is_so: bool, row: &str) -> Result<(), Memory> {
         if is_so {
             self.right = self.right.saturating_add(1);
@@ -59,7 +59,7 @@ impl TableNotes {
         self.written.push(b'\n')
     }
 
-    /// TableNotes a heading.
+    /// Notes a heading.
     pub fn head(&mut self, title: &str) -> Result<(), Memory> {
         self.written.push(b'\n')?;
         self.written
