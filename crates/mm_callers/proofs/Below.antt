@@ -71,7 +71,7 @@ pub use Rattle.mm_opt.specs.CheckpointOnCourse.{IsCheckpointOnCourse, checkpoint
 pub use Rattle.mm_opt.specs.declared.segment.CheckpointRefusal.{CheckpointRefusal}
 pub use Rattle.mm_opt.specs.declared.segment.Checkpointed.{Checkpointed as Said}
 pub use Rattle.mm_callers.specs.Basic.{AnswersOnce, AreAskedNext, AsksAgain, AsksTwice, finding_for, in_first, in_second, AreLeftBatches}
-pub use Rattle.mm_callers.specs.Basic.{IsOnce, SaysFound, SaysUnlessFault}
+pub use Rattle.mm_callers.specs.Basic.{call_terms, CallTerms, IsOnce, SaysFound, SaysUnlessFault}
 pub use Rattle.mm_callers.specs.Closing.{AreShownUnlessIdle, ClosesBetween, EndsBehind, in_closing, MayClose, RepeatsBehind, RepeatsReply}
 pub use Rattle.mm_callers.specs.Closing.{SaysClosing}
 pub use Rattle.mm_callers.specs.Completeness.{batches_after_call, IsAnswer, IsOfferedAt, IsWelcome}

@@ -9,7 +9,7 @@ use Rattle.mm_callers.proofs.Below.{reading_steps, CallContinues, IsCallOnCourse
 use Rattle.mm_callers.proofs.Below.{walk, CallFinding, finding_at, foreign_made, right_content, finding_unless_wanting, is_fresh}
 use Rattle.mm_callers.proofs.Below.{AskPromise, CallKind, Given, CountsHandedFault, list_level, state_after_moves, one_content, right_of}
 use Rattle.mm_callers.proofs.Below.{listed_by, issued_once, AreAsked, fault_of, fault_in, answered_at, IsOnce, AnswersOnce, AreLeftBatches}
-use Rattle.mm_callers.proofs.Below.{SaysFound, SaysUnlessFault, finding_for, in_second}
+use Rattle.mm_callers.proofs.Below.{call_terms, SaysFound, SaysUnlessFault, finding_for, in_second}
 use Rattle.mm_base.specs.Faults.{next_count, CountRose}
 use Rattle.mm_module.specs.BatchLaws.{size_of-pos}
 use Rattle.mm_call.specs.Answers.{answer_on}
@@ -257,7 +257,7 @@ module _ {all others : List (List ℕ)} {asked : List Batch} {i : Instance} {y :
   -- the call may be made at what another one leaves
   abbrev pub stays : {z : History} {new : Standing} {other : List ℕ} {c : Batch} {result : Result BatchAnswer Refusal}
       → ((content : Content) → NamesPosition i y content → NamesPosition i z content) → After all others asked i z new other c result
-      → StaysAsAsked all others asked i new offer b
+      → StaysAsAsked (call_terms all others asked i y) new offer b
   stays names l = record {
     after = l.after;
     stands = l.stands;
@@ -266,7 +266,7 @@ module _ {all others : List (List ℕ)} {asked : List Batch} {i : Instance} {y :
 
   -- one call
   pub ends_once : {new : Standing} (result : Result BatchAnswer Refusal) → CountsHandedFault (fault_in result) old.faults new.faults
-      → Left all others asked i y new offer b result → EndsOnce all others asked i y old new offer b result
+      → Left all others asked i y new offer b result → EndsOnce (call_terms all others asked i y) old new offer b result
   ends_once (Ok answer) blames x = answers_once x.leaves.stands (once x.leaves.comes)
   ends_once {new = new} (Err why) blames x = record {
     stays = stays (λ content n. n) x.leaves;
@@ -278,7 +278,7 @@ module _ {all others : List (List ℕ)} {asked : List Batch} {i : Instance} {y :
   pub ends_again : {middle new : Standing} {first : Result BatchAnswer Refusal} (result : Result BatchAnswer Refusal)
       → CountRose old.faults middle.faults → CountsHandedFault (fault_in result) middle.faults new.faults
       → (x : After all others asked i y middle offer b first) → Left all others asked i x.after new offer b result
-      → EndsOnce all others asked i y old new offer b result
+      → EndsOnce (call_terms all others asked i y) old new offer b result
   ends_again (Ok answer) rose blames x z = answers_once z.leaves.stands (once_twice x.comes refl z.leaves.comes)
   ends_again {middle = middle} {new = new} (Err why) rose blames x z = record {
     stays = stays x.names z.leaves;
@@ -292,7 +292,8 @@ module _ {all others : List (List ℕ)} {asked : List Batch} {i : Instance} {y :
       → middle.faults ≡ old.faults → CountsHandedFault (fault_in result) middle.faults new.faults → next ≡ one.snapshot
       → (x : After all others asked i y middle offer b (Ok one))
       → ((content : Content) → IsRight i next content → content_of_issue i x.after ≡ content)
-      → Left all others asked i x.after new next second result → EndsNext all others asked i y old new offer b second result
+      → Left all others asked i x.after new next second result
+      → EndsNext (call_terms all others asked i y) old new offer b second result
   ends_next {one = one} {second = second} (Ok answer) same blames e x says z = elim z.leaves.comes [
     | kept also gives ↦
         let g = gives answer refl in

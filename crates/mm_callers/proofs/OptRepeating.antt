@@ -8,7 +8,7 @@ use Rattle.mm_callers.proofs.Below.{state_after_moves, finding_at, finding_unles
 use Rattle.mm_callers.proofs.Below.{SaysUnlessFault, MayClose, AreShownUnlessIdle, RepeatsBehind, EndsBehind, in_closing, ClosesBetween}
 use Rattle.mm_callers.proofs.Below.{shown_front, option_map, opt_instance, checkpoint_outcome, IsCallOnCourse, AreAsked, AreShown, StandsAt}
 use Rattle.mm_callers.proofs.Below.{items_after_moves, standing_items, stands_at, placed, right_at, Said, IsCheckpointOnCourse, DigestMoves}
-use Rattle.mm_callers.proofs.Below.{call_goes_on, is_long, Answer, foreign_move_values, batch_answer_of, Long, CheckpointRefusal}
+use Rattle.mm_callers.proofs.Below.{call_terms, CallTerms, call_goes_on, is_long, Answer, foreign_move_values, batch_answer_of, Long, CheckpointRefusal}
 use Rattle.mm_call.specs.ShowingLaws.{shown_same}
 use Rattle.mm_opt.specs.AskPromise.{OptAskPromise}
 use Rattle.mm_callers.proofs.Leaving.{answered, asked_on, not_long, After, Left, Offers, not_at_end, once, once_twice, answers_once}
@@ -84,7 +84,7 @@ module _ {meaning : Meaning} {old answered_at closed : Standing} {offer request 
   short = not_long call (λ (e : Ok first ≡ Err Long). cc)
 
   abbrev Shown : List Item → Type 0
-  Shown more = AreShownUnlessIdle all others I y offer (One request) more
+  Shown more = AreShownUnlessIdle (call_terms all others asked I y) offer (One request) more
 
   -- what a call and the checkpoint behind it leave
   record Behind : Type 0 where
@@ -195,7 +195,7 @@ module _ {meaning : Meaning} {old answered_at closed : Standing} {offer request 
   -- the call once more was refused
   refused_behind : {new : Standing} {why : Refusal} (r : IsCallOnCourse Opt meaning closed new offer (One request) (Err why))
       → (x : Behind) → x.two.after.is_open ≡ false → fault_of why ≡ None
-      → EndsBehind None all others asked I y new offer (One request) why
+      → EndsBehind None (call_terms all others asked I y) new offer (One request) why
   refused_behind {why = why} r x shut none =
       let fell = once_more r x shut in
       let l = fell.leaves in
@@ -208,9 +208,8 @@ module _ {meaning : Meaning} {old answered_at closed : Standing} {offer request 
         says = subst (λ (f : Option StepFault). SaysUnlessFault f (finding_for I l.after offer (One request)) why) none fell.says.says;
       }
 
-ends_behind : (f : Option StepFault) {all others : List (List ℕ)} {asked : List Batch} {i : Instance} {y : History} {new : Standing}
-    {offer : List ℕ} {b : Batch} {why : Refusal} → (f ≡ None → EndsBehind None all others asked i y new offer b why)
-    → EndsBehind f all others asked i y new offer b why
+ends_behind : (f : Option StepFault) {terms : CallTerms} {new : Standing} {offer : List ℕ} {b : Batch} {why : Refusal}
+    → (f ≡ None → EndsBehind None terms new offer b why) → EndsBehind f terms new offer b why
 ends_behind (Some fault) h = tt
 ends_behind None h = h refl
 

@@ -6,6 +6,20 @@ use Rattle.mm_callers.specs.Below.{basic_instance, AreMessagesIn, offer_messages
 use Rattle.mm_callers.specs.Below.{BatchAnswer, Refusal, Memory, Long, answer_on, EndsWith, CallFinding, finding_at, list_level, AreAsked}
 use Rattle.mm_callers.specs.Below.{fault_of}
 
+-- The terms of a call, as mm_call has them: the messages, the values of others and the batches
+-- within which all keeps, and the instance and the history that the platform stands for.
+pub record CallTerms : Type 0 where
+  pub all : List (List ℕ)
+  pub others : List (List ℕ)
+  pub asked : List Batch
+  pub i : Instance
+  pub y : History
+
+abbrev pub call_terms : List (List ℕ) → List (List ℕ) → List Batch → Instance → History
+    → CallTerms
+call_terms all others asked i y =
+    record { all = all; others = others; asked = asked; i = i; y = y }
+
 -- The batch was committed once: it follows the history's batches, or it was their last one before.
 abbrev pub IsOnce : List Batch → Batch → List Batch → Type 0
 IsOnce before b after = (after ≡ before ++ b ∷ []) ⊎ ((after ≡ before) × EndsWith before b)
@@ -42,13 +56,11 @@ SaysUnlessFault None found why = SaysFound found why
 
 -- After an error the platform stands for a history of which the same holds as was asked, so that
 -- the call may be made again.
-pub record StaysAsAsked (all others : List (List ℕ)) (asked : List Batch)
-    (i : Instance) (new : Standing)
-    (offer : List ℕ)
-    (b : Batch) : Type 0 where
-  pub after : History
-  pub stands : StandsFor i new after
-  pub asked_then : AreAsked all others asked i after offer b
+pub record StaysAsAsked (terms : CallTerms) (new : Standing) (offer : List ℕ) (b : Batch) : Type 0
+  where
+    pub after : History
+    pub stands : StandsFor terms.i new after
+    pub asked_then : AreAsked terms.all terms.others terms.asked terms.i after offer b
 
 -- The batches are as before; or this one was committed too, and at least one fault was counted.
 abbrev pub AreLeftBatches : List Batch → Batch → List Batch → Standing → Standing → Type 0
@@ -57,20 +69,17 @@ AreLeftBatches before b after old new =
 
 -- A call ended with an error, as did what was made of it once more after a fault: what stands, and
 -- what is told.
-pub record RefusesCall (all others : List (List ℕ)) (asked : List Batch)
-    (i : Instance) (y : History)
-    (old new : Standing) (offer : List ℕ)
-    (b : Batch) (why : Refusal) : Type 0 where
-  pub stays : StaysAsAsked all others asked i new offer b
-  pub left : AreLeftBatches y.batches b stays.after.batches old new
-  pub says : SaysUnlessFault (fault_of why) (finding_for i stays.after offer b) why
+pub record RefusesCall (terms : CallTerms) (old new : Standing) (offer : List ℕ) (b : Batch)
+    (why : Refusal) : Type 0 where
+  pub stays : StaysAsAsked terms new offer b
+  pub left : AreLeftBatches terms.y.batches b stays.after.batches old new
+  pub says : SaysUnlessFault (fault_of why) (finding_for terms.i stays.after offer b) why
 
 -- How a call ended, which may have been made once more after a device's fault.
-abbrev pub EndsOnce : List (List ℕ) → List (List ℕ) → List Batch → Instance → History → Standing
-    → Standing → List ℕ → Batch → Result BatchAnswer Refusal → Type 0
-EndsOnce all others asked i y old new offer b (Err why) =
-    RefusesCall all others asked i y old new offer b why
-EndsOnce all others asked i y old new offer b (Ok answer) = AnswersOnce i y new b answer
+abbrev pub EndsOnce : CallTerms → Standing → Standing → List ℕ → Batch
+    → Result BatchAnswer Refusal → Type 0
+EndsOnce terms old new offer b (Err why) = RefusesCall terms old new offer b why
+EndsOnce terms old new offer b (Ok answer) = AnswersOnce terms.i terms.y new b answer
 
 abbrev pub AsksAgain : Meaning → Standing → Standing → List ℕ → List ℕ
     → Result BatchAnswer Refusal → Type 0
@@ -78,7 +87,8 @@ AsksAgain meaning old new offer request result =
     (key : List ℕ) (y : History) (all others : List (List ℕ)) (asked : List Batch) →
     StandsFor (basic_instance meaning key) old y
     → AreAsked all others asked (basic_instance meaning key) y offer (One request) →
-    EndsOnce all others asked (basic_instance meaning key) y old new offer (One request) result
+    EndsOnce (call_terms all others asked (basic_instance meaning key) y) old new offer
+    (One request) result
 
 -- What is asked besides for a second batch, on the snapshot of the first answer: the messages at
 -- the place that this snapshot says, where the first batch is a repeat and where it is new.
@@ -99,25 +109,24 @@ pub record AnswersNext (i : Instance) (y : History) (new : Standing) (first seco
 -- Two calls, the second on the snapshot of the first answer, ended with an error: the first was
 -- refused; or it was answered, so that the first batch was committed once, and the second was
 -- refused on the snapshot of that place.
-pub data RefusesNext (all others : List (List ℕ)) (asked : List Batch) (i : Instance) (y : History)
-    (old new : Standing) (offer : List ℕ)
+pub data RefusesNext (terms : CallTerms) (old new : Standing) (offer : List ℕ)
     (first second : Batch) (why : Refusal) : Type 0 where
-  in_first : RefusesCall all others asked i y old new offer first why
-      → RefusesNext all others asked i y old new offer first second why
-  in_second : (batches : List Batch) → IsOnce y.batches first batches
-      → (stays : StaysAsAsked all others asked i new offer first)
+  in_first : RefusesCall terms old new offer first why
+      → RefusesNext terms old new offer first second why
+  in_second : (batches : List Batch) → IsOnce terms.y.batches first batches
+      → (stays : StaysAsAsked terms new offer first)
       → AreLeftBatches batches second stays.after.batches old new
       → SaysUnlessFault (fault_of why)
-      (finding_for i stays.after (issued_bytes i stays.after) second) why
-      → RefusesNext all others asked i y old new offer first second why
+      (finding_for terms.i stays.after (issued_bytes terms.i stays.after) second) why
+      → RefusesNext terms old new offer first second why
 
 -- How two calls ended, the second on the snapshot of the first answer.
-abbrev pub EndsNext : List (List ℕ) → List (List ℕ) → List Batch → Instance → History → Standing
-    → Standing → List ℕ → Batch → Batch → Result BatchAnswer Refusal → Type 0
-EndsNext all others asked i y old new offer first second (Err why) =
-    RefusesNext all others asked i y old new offer first second why
-EndsNext all others asked i y old new offer first second (Ok answer) =
-    AnswersNext i y new first second answer
+abbrev pub EndsNext : CallTerms → Standing → Standing → List ℕ → Batch → Batch
+    → Result BatchAnswer Refusal → Type 0
+EndsNext terms old new offer first second (Err why) =
+    RefusesNext terms old new offer first second why
+EndsNext terms old new offer first second (Ok answer) =
+    AnswersNext terms.i terms.y new first second answer
 
 abbrev pub AsksTwice : Meaning → Standing → Standing → List ℕ → List ℕ → List ℕ
     → Result BatchAnswer Refusal → Type 0
@@ -126,5 +135,5 @@ AsksTwice meaning old new offer first second result =
     StandsFor (basic_instance meaning key) old y
     → AreAsked all others asked (basic_instance meaning key) y offer (One first) →
     AreAskedNext all asked (basic_instance meaning key) y (One first) (One second) →
-    EndsNext all others asked (basic_instance meaning key) y old new offer (One first)
+    EndsNext (call_terms all others asked (basic_instance meaning key) y) old new offer (One first)
     (One second) result

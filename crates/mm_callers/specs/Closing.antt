@@ -6,7 +6,7 @@ use Rattle.mm_callers.specs.Below.{extended_message, anchored_message, digest_af
 use Rattle.mm_callers.specs.Below.{One, Meaning, History, register_value_of, cell_digest_of, Instance, life_of, is_lost, Answer}
 use Rattle.mm_callers.specs.Below.{BatchAnswer, Refusal, counted_part, IsCallOnCourse, batch_answer_of, AreShown, IsIdle, fault_of}
 use Rattle.mm_callers.specs.Below.{IsCheckpointOnCourse, CheckpointRefusal, Device, Blank, Cell, Kind, Lost, Checkpointed}
-use Rattle.mm_callers.specs.Basic.{IsOnce, AnswersOnce, finding_for, SaysFound, StaysAsAsked, RefusesCall}
+use Rattle.mm_callers.specs.Basic.{CallTerms, IsOnce, AnswersOnce, finding_for, SaysFound, StaysAsAsked, RefusesCall}
 use Rattle.mm_callers.specs.Opt.{HoldsOnEach}
 use Rattle.mm_callers.specs.declared.closing.Replies.{Replies}
 use Rattle.mm_callers.specs.declared.closing.RepeatRefusal.{RepeatRefusal}
@@ -22,10 +22,10 @@ MayClose all i y more =
 
 -- What is asked of the items that the register shows. Where the first call is idle nothing is: it
 -- leaves no segment open, so there is none to close, and the second call is idle too.
-abbrev pub AreShownUnlessIdle : List (List ℕ) → List (List ℕ) → Instance → History → List ℕ → Batch
-    → List Item → Type 0
-AreShownUnlessIdle all others i y offer b more =
-    (IsIdle i y offer b → ⊥) → AreShown all others i y more × MayClose all i y more
+abbrev pub AreShownUnlessIdle : CallTerms → List ℕ → Batch → List Item → Type 0
+AreShownUnlessIdle terms offer b more = (IsIdle terms.i terms.y offer b → ⊥)
+    → AreShown terms.all terms.others terms.i terms.y more
+    × MayClose terms.all terms.i terms.y more
 
 -- The second reply is the first one again: it is told as a repeat, at the first one's position and
 -- with its outputs, and the batch stands once in the run that it is of.
@@ -45,40 +45,34 @@ SaysClosing Cell y = ⊥
 SaysClosing Kind y = ⊥
 
 -- The first call was answered: the batch was committed once, and the call may be made again.
-pub record StaysOnce (all others : List (List ℕ)) (asked : List Batch) (i : Instance) (y : History)
-    (new : Standing) (offer : List ℕ)
-    (b : Batch) : Type 0 where
-  pub stays : StaysAsAsked all others asked i new offer b
-  pub once : IsOnce y.batches b stays.after.batches
+pub record StaysOnce (terms : CallTerms) (new : Standing) (offer : List ℕ) (b : Batch) : Type 0
+  where
+    pub stays : StaysAsAsked terms new offer b
+    pub once : IsOnce terms.y.batches b stays.after.batches
 
 -- It was made once more behind the checkpoint, and refused as it was found. Where it handed on a
 -- device's fault the register may be emptied, and nothing is known by its items at exit.
-pub record RefusesBehind (all others : List (List ℕ)) (asked : List Batch) (i : Instance)
-    (y : History) (new : Standing) (offer : List ℕ)
-    (b : Batch) (why : Refusal) : Type 0 where
-  pub one : StaysOnce all others asked i y new offer b
-  pub says : SaysFound (finding_for i one.stays.after offer b) why
+pub record RefusesBehind (terms : CallTerms) (new : Standing) (offer : List ℕ) (b : Batch)
+    (why : Refusal) : Type 0 where
+  pub one : StaysOnce terms new offer b
+  pub says : SaysFound (finding_for terms.i one.stays.after offer b) why
 
-abbrev pub EndsBehind : Option StepFault → List (List ℕ) → List (List ℕ) → List Batch → Instance
-    → History → Standing → List ℕ → Batch
-    → Refusal → Type 0
-EndsBehind (Some fault) all others asked i y new offer b why = Unit {0}
-EndsBehind None all others asked i y new offer b why =
-    RefusesBehind all others asked i y new offer b why
+abbrev pub EndsBehind : Option StepFault → CallTerms → Standing → List ℕ → Batch → Refusal
+    → Type 0
+EndsBehind (Some fault) terms new offer b why = Unit {0}
+EndsBehind None terms new offer b why = RefusesBehind terms new offer b why
 
 -- The error is that of the call, of the checkpoint, or of the call once more.
-pub data RefusesRepeat (all others : List (List ℕ)) (asked : List Batch) (i : Instance)
-    (y : History) (old new : Standing) (offer : List ℕ)
-    (b : Batch) (why : RepeatRefusal) : Type 0 where
-  in_first : (is : Refusal) → why ≡ Asking is → RefusesCall all others asked i y old new offer b is
-      → RefusesRepeat all others asked i y old new offer b why
-  in_closing : (is : CheckpointRefusal) → why ≡ Closing is
-      → (one : StaysOnce all others asked i y new offer b)
+pub data RefusesRepeat (terms : CallTerms) (old new : Standing) (offer : List ℕ) (b : Batch)
+    (why : RepeatRefusal) : Type 0 where
+  in_first : (is : Refusal) → why ≡ Asking is → RefusesCall terms old new offer b is
+      → RefusesRepeat terms old new offer b why
+  in_closing : (is : CheckpointRefusal) → why ≡ Closing is → (one : StaysOnce terms new offer b)
       → SaysClosing is one.stays.after
-      → RefusesRepeat all others asked i y old new offer b why
+      → RefusesRepeat terms old new offer b why
   in_second : (is : Refusal) → why ≡ Asking is
-      → EndsBehind (fault_of is) all others asked i y new offer b is
-      → RefusesRepeat all others asked i y old new offer b why
+      → EndsBehind (fault_of is) terms new offer b is
+      → RefusesRepeat terms old new offer b why
 
 -- A request, a checkpoint and the request once more, where the second reply is told as a repeat.
 -- What is asked of what others do is asked of the register's items at exit.
@@ -86,14 +80,14 @@ abbrev pub RepeatsBehind : Meaning → Standing → Standing → List ℕ → Li
     → Result Replies RepeatRefusal
     → Type 0
 RepeatsBehind meaning old new offer request (Err why) =
-    HoldsOnEach meaning old new offer (One request) (λ all others asked i y more.
-    AreShownUnlessIdle all others i y offer (One request) more →
-    RefusesRepeat all others asked i y old new offer (One request) why)
+    HoldsOnEach meaning old new offer (One request) (λ terms more.
+    AreShownUnlessIdle terms offer (One request) more →
+    RefusesRepeat terms old new offer (One request) why)
 RepeatsBehind meaning old new offer request (Ok replies) =
     replies.second.again ≡ true →
-    HoldsOnEach meaning old new offer (One request) (λ all others asked i y more.
-    AreShownUnlessIdle all others i y offer (One request) more →
-    RepeatsReply i y new (One request) (batch_answer_of replies.first)
+    HoldsOnEach meaning old new offer (One request) (λ terms more.
+    AreShownUnlessIdle terms offer (One request) more →
+    RepeatsReply terms.i terms.y new (One request) (batch_answer_of replies.first)
     (batch_answer_of replies.second))
 
 -- It is told as a repeat. A request that is taken as new empties the register, so what was in it
@@ -110,9 +104,10 @@ pub record ClosesBetween (meaning : Meaning) (old new : Standing) (offer request
   pub checks : IsCheckpointOnCourse answered closed (Ok said)
   pub asks_again : IsCallOnCourse Opt meaning closed new offer (One request)
       (Ok (batch_answer_of second))
-  pub repeats : HoldsOnEach meaning old closed offer (One request) (λ all others asked i y more.
-      AreShownUnlessIdle all others i y offer (One request) more →
-      RepeatsReply i y new (One request) (batch_answer_of first) (batch_answer_of second))
+  pub repeats : HoldsOnEach meaning old closed offer (One request) (λ terms more.
+      AreShownUnlessIdle terms offer (One request) more →
+      RepeatsReply terms.i terms.y new (One request) (batch_answer_of first)
+      (batch_answer_of second))
 
 abbrev pub NeverTwice : Meaning → Standing → Standing → List ℕ → List ℕ
     → Result Replies RepeatRefusal

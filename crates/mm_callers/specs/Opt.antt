@@ -5,21 +5,20 @@ use Rattle.std.specs.List.{Contains}
 use Rattle.mm_callers.specs.Below.{extended_message, Item, Standing, quiet_plan, Batch, One, Meaning, guard, History}
 use Rattle.mm_callers.specs.Below.{register_value_of, Instance, opt_instance, is_long, StandsFor, BatchAnswer}
 use Rattle.mm_callers.specs.Below.{Refusal, Memory, counted_part, IsAnswered, AreAsked, AreShown, IsIdle, standing_items, foreign_items}
-use Rattle.mm_callers.specs.Basic.{AreAskedNext, EndsOnce, EndsNext, IsOfRun}
+use Rattle.mm_callers.specs.Basic.{CallTerms, call_terms, AreAskedNext, EndsOnce, EndsNext, IsOfRun}
 use Rattle.mm_callers.specs.Completeness.{IsWelcome, batches_after_call}
 
 -- So it is of each history that the platform stands for, of which what a call needs is asked, and
 -- where the register's items are known at entry and at exit: these are behind those that counted.
 abbrev pub HoldsOnEach : Meaning → Standing → Standing → List ℕ → Batch
-    → (List (List ℕ) → List (List ℕ) → List Batch → Instance → History → List Item → Type 0)
-    → Type 0
+    → (CallTerms → List Item → Type 0) → Type 0
 HoldsOnEach meaning old new offer b holds =
     (key barrier : List ℕ) (y : History) (all others : List (List ℕ)) (asked : List Batch)
     (items more : List Item) →
     StandsFor (opt_instance meaning key barrier) old y → old.items ≡ Some items
     → new.items ≡ Some (standing_items y.is_open items ++ more) →
     AreAsked all others asked (opt_instance meaning key barrier) y offer b
-    → holds all others asked (opt_instance meaning key barrier) y more
+    → holds (call_terms all others asked (opt_instance meaning key barrier) y) more
 
 -- One call, or one that is made again after a device's fault; inside a segment or across an
 -- opening. Where it is idle, as a repeat with no segment open, nothing is asked of the register's
@@ -27,17 +26,19 @@ HoldsOnEach meaning old new offer b holds =
 abbrev pub AsksOnce : Meaning → Standing → Standing → List ℕ → List ℕ → Result BatchAnswer Refusal
     → Type 0
 AsksOnce meaning old new offer request result =
-    HoldsOnEach meaning old new offer (One request) (λ all others asked i y more.
-    ((IsIdle i y offer (One request) → ⊥) → AreShown all others i y more) →
-    EndsOnce all others asked i y old new offer (One request) result)
+    HoldsOnEach meaning old new offer (One request) (λ terms more.
+    ((IsIdle terms.i terms.y offer (One request) → ⊥) →
+    AreShown terms.all terms.others terms.i terms.y more) →
+    EndsOnce terms old new offer (One request) result)
 
 -- two calls, the second on the snapshot of the first answer; inside a segment or across an opening
 abbrev pub AsksTwice : Meaning → Standing → Standing → List ℕ → List ℕ → List ℕ
     → Result BatchAnswer Refusal → Type 0
 AsksTwice meaning old new offer first second result =
-    HoldsOnEach meaning old new offer (One first) (λ all others asked i y more.
-    AreAskedNext all asked i y (One first) (One second) → AreShown all others i y more →
-    EndsNext all others asked i y old new offer (One first) (One second) result)
+    HoldsOnEach meaning old new offer (One first) (λ terms more.
+    AreAskedNext terms.all terms.asked terms.i terms.y (One first) (One second) →
+    AreShown terms.all terms.others terms.i terms.y more →
+    EndsNext terms old new offer (One first) (One second) result)
 
 -- The answer is this one, by whether it is a repeat; or memory was wanting, and the platform stands
 -- for the history as before.
@@ -82,7 +83,8 @@ AsksInMemory meaning old new offer request result =
 abbrev pub AsksWelcome : Meaning → Standing → Standing → List ℕ → List ℕ
     → Result BatchAnswer Refusal → Type 0
 AsksWelcome meaning old new offer request result =
-    HoldsOnEach meaning old new offer (One request) (λ all others asked i y more. (again : Bool) →
-    is_long (One request) ≡ false → (y.is_open ≡ true → foreign_items more ≡ [])
-    → (((y.is_open ≡ false) × (again ≡ true) → ⊥) → AreShown all others i y more)
-    → IsWelcome i y offer (One request) again → IsAnswered result old new)
+    HoldsOnEach meaning old new offer (One request) (λ terms more. (again : Bool) →
+    is_long (One request) ≡ false → (terms.y.is_open ≡ true → foreign_items more ≡ [])
+    → (((terms.y.is_open ≡ false) × (again ≡ true) → ⊥)
+    → AreShown terms.all terms.others terms.i terms.y more)
+    → IsWelcome terms.i terms.y offer (One request) again → IsAnswered result old new)

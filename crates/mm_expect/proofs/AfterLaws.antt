@@ -2,7 +2,7 @@
 use Rattle.mm_expect.proofs.Below.{◌≡◌, ℕ, List, [], ◌∷◌, ◌++◌, refl, sym, ap, ◌∙◌, option_to_list, Variant, Basic, Opt, AnyModule}
 use Rattle.mm_expect.proofs.Below.{meaning_of, Instance, History, first_history, list_level, instance_by, Header, Event, Outcome}
 use Rattle.mm_expect.proofs.Below.{event_outcome, RunOutcome, outcome_by_lists, first_snapshots, world_of, world_key, world_barrier}
-use Rattle.mm_expect.proofs.Below.{goes_on, EventReply, ChronicleGoesByEvent, ChronicleView, instance_with, ExpectedState}
+use Rattle.mm_expect.proofs.Below.{goes_on, EventReply, ChronicleGoesByEvent, ChronicleView, ListedChronicle, instance_with, ExpectedState}
 use Rattle.mm_expect.proofs.Below.{expected_state_after, first_expected_state, IsAfter}
 
 world_is : (variant : Variant) («module» : AnyModule)
@@ -38,11 +38,11 @@ goes_after header events event old new at is =
       issued_is = ap (λ (t : ExpectedState). t.issued) later ∙ sym (ap (λ (f : RunOutcome History). f.issued) whole);
     }
 
-pub event_state : {old new : ChronicleView} {issued later : List (List ℕ)} {event : Event} {front back : List (List ℕ)} {said : EventReply}
-    → ChronicleGoesByEvent old new issued event front back said → later ≡ issued ++ option_to_list said.snapshot
-    → traced new later ≡ expected_state_after (traced old issued) event
+pub event_state : {old new : ListedChronicle} {issued later : List (List ℕ)} {event : Event} {said : EventReply}
+    → ChronicleGoesByEvent old new issued event said → later ≡ issued ++ option_to_list said.snapshot
+    → traced new.at later ≡ expected_state_after (traced old.at issued) event
 event_state {old} {issued = issued} {event = event} comes kept =
-    let same = ap (λ (i : Instance). event_outcome i (list_level i) old.history issued event) (instance_is (header_of old)) in
+    let same = ap (λ (i : Instance). event_outcome i (list_level i) old.at.history issued event) (instance_is (header_of old.at)) in
     λ j. record {
       header = record { variant = comes.variant j; «module» = comes.«module» j };
       history = (comes.state ∙ ap (λ (o : Outcome History). o.state) same) j;

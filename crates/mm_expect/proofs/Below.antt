@@ -82,7 +82,7 @@ pub use Rattle.mm_outcome.proofs.Above.{basic_issued_named, closing_all, goes_on
 pub use Rattle.mm_outcome.proofs.Above.{short_outputs, then_all, broken_reply, told_reply}
 pub use Rattle.mm_expect.specs.Calls.{AdmitsBatch, repeat_in, ChronicleCalls, changes_on, ChronicleChanges, first_changing_step}
 pub use Rattle.mm_expect.specs.Calls.{changing_steps, ending_of, NewCallGoesOn, new_ending, count_after_batch}
-pub use Rattle.mm_expect.specs.ChronicleEvents.{call_outcome_on, moves_if, ChronicleGoesByCall, ChronicleGoesByEvent}
+pub use Rattle.mm_expect.specs.ChronicleEvents.{call_outcome_on, listed_chronicle, ListedChronicle, moves_if, ChronicleGoesByCall, ChronicleGoesByEvent}
 pub use Rattle.mm_expect.specs.GenuineOffers.{EachOfferIsDecided, IssuedAreGenuine}
 pub use Rattle.mm_expect.specs.OfferDecision.{AreIssued, DecidesBytes, DecidesEvent, DecidesOffer, IsAmong}
 pub use Rattle.mm_expect.specs.ChronicleView.{barrier_of, instance_with, ChronicleView, chronicle_instance, state_after_batch}

@@ -3,7 +3,7 @@ use Rattle.mm_expect.proofs.Below.{ℕ, ◌≡◌, Bool, true, false, List, [], 
 use Rattle.mm_expect.proofs.Below.{Opt, zero_bytes, Meddle, Stop, Batch, InOpt, Instance, History, cell_digest_of, issued_place, digest_of}
 use Rattle.mm_expect.proofs.Below.{AskResult, Answered, Refused, Broken, CallOutcome, right_content, list_level, state_after_moves, way_of}
 use Rattle.mm_expect.proofs.Below.{reply_of, snapshots_of, moves_after_call, moves_after_stop, HistoryMarks, EventReply, ChronicleCalls}
-use Rattle.mm_expect.proofs.Below.{ending_of, ChronicleGoesByCall, call_outcome_on, moves_if, marks_of, ChronicleView, ChronicleGoes}
+use Rattle.mm_expect.proofs.Below.{ending_of, ChronicleGoesByCall, call_outcome_on, listed_chronicle, moves_if, marks_of, ChronicleView, ChronicleGoes}
 use Rattle.mm_expect.proofs.Below.{instance_with, chronicle_instance}
 use Rattle.mm_digest.specs.declared.digest.Digest.{Digest}
 use Rattle.mm_call.specs.CallPremises.{right_messages}
@@ -57,7 +57,7 @@ pub went_by_call : {old went handed new : ChronicleView} {stop : Stop} {meddles 
     → handed.history ≡ went.history → handed.variant ≡ went.variant → handed.«module» ≡ went.«module»
     → back ≡ asked ++ (went.extending ++ went.closing) → ChronicleGoes handed new (moves_if (is_broken ended) (moves_after_stop stop))
     → said.reply ≡ reply_of (way_of stop) (ending_of ended) → option_to_list said.snapshot ≡ snapshots_of (ending_of ended)
-    → ChronicleGoesByCall old new stop meddles bytes b front back said
+    → ChronicleGoesByCall (listed_chronicle old front) (listed_chronicle new back) stop meddles bytes b said
 went_by_call {old} {went} {handed} {new} {stop} {meddles} {bytes} {b} {ended} {front} listed calls hh hv hm handed_on restored replied
     sealed =
     let right : List (List ℕ) = right_messages (chronicle_instance old) b (right_content (chronicle_instance old) bytes) in

@@ -9,7 +9,7 @@ ghost use Rattle.mm_call.specs.CallFinding.{right_content};
 ghost use Rattle.mm_schedule.specs.Events.{Ask, Checkpoint, Power, Extend, meddles_of, event_of};
 ghost use Rattle.mm_outcome.specs.Folds.{moves_after_stop};
 ghost use Rattle.mm_outcome.specs.WorldState.{world_key};
-ghost use Rattle.mm_expect.specs.ChronicleEvents.{ChronicleGoesByCall, ChronicleGoesByEvent, moves_if};
+ghost use Rattle.mm_expect.specs.ChronicleEvents.{listed_chronicle, ChronicleGoesByCall, ChronicleGoesByEvent, moves_if};
 ghost use Rattle.mm_expect.specs.ChronicleView.{ChronicleGoes, chronicle_instance};
 
 use crate::calls::ClosingResult;
@@ -121,9 +121,10 @@ fn call_and_list(
     requires key { key.old ≡ world_key }
     requires short { is_long (batch_of batch) ≡ false }
     ensures key { key.new ≡ key.old }
-    ensures went { IfOk result (ChronicleGoesByCall chronicle.old chronicle.new course.now.stop
-        course.now.meddles.now bytes.now (batch_of batch.entry) messages.old.items
-        messages.new.items) }
+    ensures went { IfOk result (ChronicleGoesByCall
+        (listed_chronicle chronicle.old messages.old.items)
+        (listed_chronicle chronicle.new messages.new.items)
+        course.now.stop course.now.meddles.now bytes.now (batch_of batch.entry)) }
 {
     list_asked(chronicle, key, bytes, batch, messages)?;
     chronicle.forget_messages();
@@ -156,9 +157,10 @@ fn follow_ask(
 ) -> Result<EventReply, Memory>
     requires key { key.old ≡ world_key }
     ensures key { key.new ≡ key.old }
-    ensures went { IfOk result (ChronicleGoesByEvent chronicle.old chronicle.new issued.now
-        (Ask course.now.meddles.now course.now.stop offer.now (batch_of batch.entry))
-        messages.old.items messages.new.items) }
+    ensures went { IfOk result (ChronicleGoesByEvent
+        (listed_chronicle chronicle.old messages.old.items)
+        (listed_chronicle chronicle.new messages.new.items) issued.now
+        (Ask course.now.meddles.now course.now.stop offer.now (batch_of batch.entry))) }
 {
     match offered(chronicle.alloc, issued, offer)? {
         None => Ok(quiet(Reply::No(Cause::Snapshot))),
@@ -185,8 +187,10 @@ fn follow_checkpoint(
     course: &CallPlan<'_>,
     messages: &mut Vec<Bytes>,
 ) -> Result<EventReply, Memory>
-    ensures { IfOk result (ChronicleGoesByEvent chronicle.old chronicle.new issued.now
-        (Checkpoint course.now.meddles.now course.now.stop) messages.old.items messages.new.items) }
+    ensures { IfOk result (ChronicleGoesByEvent
+        (listed_chronicle chronicle.old messages.old.items)
+        (listed_chronicle chronicle.new messages.new.items) issued.now
+        (Checkpoint course.now.meddles.now course.now.stop)) }
 {
     chronicle.forget_messages();
     let closing = chronicle.checkpoint(course)?;
@@ -202,8 +206,8 @@ fn follow_power(
     issued: &[Bytes],
     messages: &mut Vec<Bytes>,
 ) -> EventReply
-    ensures { ChronicleGoesByEvent chronicle.old chronicle.new issued.now Power messages.old.items
-        messages.new.items result }
+    ensures { ChronicleGoesByEvent (listed_chronicle chronicle.old messages.old.items)
+        (listed_chronicle chronicle.new messages.new.items) issued.now Power result }
 {
     chronicle.empty();
     quiet(Reply::Power)
@@ -216,8 +220,10 @@ fn follow_extend(
     value: &Digest,
     messages: &mut Vec<Bytes>,
 ) -> Result<EventReply, Memory>
-    ensures { IfOk result (ChronicleGoesByEvent chronicle.old chronicle.new issued.now
-        (Extend value.now.bytes) messages.old.items messages.new.items) }
+    ensures { IfOk result (ChronicleGoesByEvent
+        (listed_chronicle chronicle.old messages.old.items)
+        (listed_chronicle chronicle.new messages.new.items) issued.now
+        (Extend value.now.bytes)) }
 {
     chronicle.forget_messages();
     chronicle.bring(value)?;
@@ -235,9 +241,10 @@ fn follow(
 ) -> Result<EventReply, Memory>
     requires { key.old ≡ world_key }
     ensures key { key.new ≡ key.old }
-    ensures went { IfOk result (ChronicleGoesByEvent chronicle.old chronicle.new issued.now
-        (event_of event.now)
-        messages.old.items messages.new.items) }
+    ensures went { IfOk result (ChronicleGoesByEvent
+        (listed_chronicle chronicle.old messages.old.items)
+        (listed_chronicle chronicle.new messages.new.items) issued.now
+        (event_of event.now)) }
 {
     match event {
         Event::Ask {

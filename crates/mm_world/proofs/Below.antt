@@ -65,7 +65,7 @@ pub use Rattle.mm_outcome.proofs.Above.{broken_reply, stopped_reply}
 pub use Rattle.mm_outcome.specs.Folds.{plan_of}
 pub use Rattle.mm_outcome.specs.WorldState.{first_world_state, WorldFollows, WorldState, outcome_in, WorldLacksMemory, world_of}
 pub use Rattle.mm_outcome.proofs.Above.{count-made, grown, printed, sizes_of, world_few}
-pub use Rattle.mm_world.specs.OwnCalls.{AsksOwnCell, CallComesTo, ChecksOwnCell, HasRead, CallLacksMemory, quiet_call}
+pub use Rattle.mm_world.specs.OwnCalls.{AsksOwnCell, CallComesTo, ChecksOwnCell, HasRead, CallLacksMemory, planned_ask, quiet_call}
 pub use Rattle.mm_world.specs.Calls.{answered_call, broken_call, IsCallResult, is_cut, refused_call, IsRefusalResult, SettlesPlan, size_if}
 pub use Rattle.mm_world.specs.Calls.{stopped_step, has_closing_fault, takes_effect, checkpoint_reply}
 pub use Rattle.mm_world.specs.VainCalls.{AsksInVain, AsksPlanned, CallComesInVain, ChecksInVain, ChecksPlanned, refusal_of_fault}

@@ -8,7 +8,7 @@ use Rattle.mm_world.proofs.Below.{CallEnding, Answers, Refuses, Breaks, CallOutc
 use Rattle.mm_world.proofs.Below.{reading_steps, instance_by, StandsAt, count_after_more, result_of, kept_position, KeepsPosition}
 use Rattle.mm_world.proofs.Below.{is_broken, PlatformStaysOn, EndsAsCall, way_of, course_of, cause_of, outcome_by, outcome_without_call}
 use Rattle.mm_world.proofs.Below.{plan_of, broken_reply, HasDigests, IsQuiet, refused_call, answered_call, broken_call, takes_effect}
-use Rattle.mm_world.proofs.Below.{size_if, IsRefusalResult, IsCallResult, SettlesPlan, CallComesTo, HasRead, AsksOwnCell, call_commits}
+use Rattle.mm_world.proofs.Below.{size_if, IsRefusalResult, IsCallResult, SettlesPlan, CallComesTo, HasRead, AsksOwnCell, planned_ask, call_commits}
 use Rattle.mm_world.proofs.Below.{◌&&◌, ◌++◌, reply_of, snapshots_of, moves_after_call, is_cut, [], ◌∷◌, map, append-nil, ◌==◌, Basic, Opt}
 use Rattle.mm_world.proofs.Below.{fault_at, is_made_at, Foreign, Close, Reads, Writes, checkpoint_steps, Said, CheckpointRefusal}
 use Rattle.mm_world.proofs.Below.{checkpoint_result, CheckpointGoesBy, IsCheckpointOnCourse, StepsWalk, walk_from_step, has_close, end_of}
@@ -209,7 +209,7 @@ module _ (variant : Variant) (meaning : Meaning) (old mid new : Standing) (meddl
       (ends_all i d stop meddles bytes (normal_batch b) old mid new issued size ended result r (n ∙ ap (λ xs. length xs)
       (sym (members_of-normal b))) told)
 
-  pub asks_as : AsksOwnCell variant meaning old new issued meddles stop (Some bytes) b result
+  pub asks_as : AsksOwnCell variant meaning old new issued (planned_ask meddles stop (Some bytes) b) result
   asks_as = λ key barrier d s q.
       let i = instance_by variant meaning key barrier in
       or_read (λ it. CallComesTo i (ask_event_outcome i (digest_level i) d issued meddles stop (Some bytes) b) d.count issued old new it)

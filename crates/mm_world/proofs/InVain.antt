@@ -10,7 +10,7 @@ use Rattle.mm_world.proofs.Below.{walk_from_step, has_commit, end_of, Reads, cal
 use Rattle.mm_world.proofs.Below.{PlatformStaysOn, EndsAsCall, inl, inr, Reply, Outcome, way_of, cause_of, outcome_by, outcome_without_call}
 use Rattle.mm_world.proofs.Below.{read_only_outcome, plan_of, broken_reply, stopped_reply, IsQuiet, quiet_call, refused_call, broken_call}
 use Rattle.mm_world.proofs.Below.{takes_effect, size_if, is_cut, IsCallResult, SettlesPlan, checkpoint_reply, has_closing_fault}
-use Rattle.mm_world.proofs.Below.{refusal_of_fault, CallComesInVain, AsksInVain, ChecksInVain, AsksPlanned, ChecksPlanned, items_beside}
+use Rattle.mm_world.proofs.Below.{refusal_of_fault, CallComesInVain, AsksInVain, ChecksInVain, AsksPlanned, ChecksPlanned, planned_ask, items_beside}
 use Rattle.mm_world.proofs.Below.{register_of_items, reads_beside, foreign_made}
 use Rattle.mm_seal.specs.CellLaws.{reads_cell-same}
 use Rattle.mm_call.specs.CallKind.{IsCallToEnd, EndsByFinding}
@@ -393,7 +393,7 @@ module _ (variant : Variant) (meaning : Meaning) (old new : Standing) (meddles :
     ended = end_of_machine w.ended
 
     asks_in_vain : EndsAsCall variant meaning at w.middle offer b ended → SettlesPlan stop (is_broken ended) w.middle new
-        → AsksInVain variant meaning old new issued meddles stop (Some offer) b result
+        → AsksInVain variant meaning old new issued (planned_ask meddles stop (Some offer) b) result
     asks_in_vain calls settles = λ i d read why cell vain.
         let r = ask_stops meaning cell.bytes offer b read why cell.reads at w.middle ended cell.cell variant w.ended w.ends refl vain in
         let p = calls.plans (plan_of stop meddles) cell.quiet.is_on refl refl in
@@ -416,7 +416,7 @@ module _ (variant : Variant) (meaning : Meaning) (old new : Standing) (meddles :
         (λ _. new ≡ old))
         (sym gives) (subst (λ (long : Bool). CallComesInVain (vain_outcome long) issued old new it) (sym short) came)
 
-    asks_either : AsksPlanned variant meaning old new issued meddles stop (Some offer) b result
+    asks_either : AsksPlanned variant meaning old new issued (planned_ask meddles stop (Some offer) b) result
     asks_either =
         let calls = calls_by meaning offer b at w.middle variant w.ended w.ends in
         let settled = subst (λ x. SettlesPlan stop x w.middle new) (sym (asks_broken variant meaning offer b at w.middle w.ended w.ends))
@@ -430,7 +430,7 @@ module _ (variant : Variant) (meaning : Meaning) (old new : Standing) (meddles :
 pub asks_to : (variant : Variant) (meaning : Meaning) (old new : Standing) (meddles : List Meddle) (stop : Stop) (offer : List ℕ)
     (b : Batch) (result : Result code.CallReport Memory) (short : is_long b ≡ false) (issued : List (List ℕ))
     → IsPlanned (ask_operation variant meaning offer b) (TellsAsk b) meddles stop old new result
-    → AsksPlanned variant meaning old new issued meddles stop (Some offer) b result
+    → AsksPlanned variant meaning old new issued (planned_ask meddles stop (Some offer) b) result
 asks_to variant meaning old new meddles stop offer b (Ok it) short issued (inl e) = absurd (cc)
 asks_to variant meaning old new meddles stop offer b (Err memory) short issued (inl e) = record {
   own = λ key barrier d s q. inl e.1;

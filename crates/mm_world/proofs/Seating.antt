@@ -1,7 +1,7 @@
 -- What happens at a seat, by what its platform came to.
 use Rattle.mm_world.proofs.Below.{◌≡◌, ℕ, ◌+◌, ◌-◌, ◌≤◌, ◌^◌, List, [], ◌∷◌, ◌++◌, length, Option, None, Some, Result, Ok, Err, refl, sym}
 use Rattle.mm_world.proofs.Below.{ap, ◌∙◌, IfOk, subst, arith, append-nil, option_to_list, Memory, Batch, meaning_of, Meddle, Stop}
-use Rattle.mm_world.proofs.Below.{Standing, Instance, Digests, digests_after, Foreign, Reply, Ask, Checkpoint, HasDigests, AsksPlanned}
+use Rattle.mm_world.proofs.Below.{Standing, Instance, Digests, digests_after, Foreign, Reply, Ask, Checkpoint, HasDigests, AsksPlanned, planned_ask}
 use Rattle.mm_world.proofs.Below.{ChecksPlanned, refusal_of_fault, reads_beside}
 use Rattle.std.specs.List.{sum_by}
 use Rattle.std.proofs.lemmas.List.Sums.{sum_by-append}
@@ -50,7 +50,7 @@ stands_extended i d value old s =
 module _ (meddles : List Meddle) (stop : Stop) (offer : Offer) (b : Batch) where
   abbrev Planned : Header → Standing → Standing → List (List ℕ) → Result CallReport Memory → Type 0
   Planned h old new lent result =
-      AsksPlanned h.variant (meaning_of h.«module») old new lent meddles stop (offered_bytes lent offer) b result
+      AsksPlanned h.variant (meaning_of h.«module») old new lent (planned_ask meddles stop (offered_bytes lent offer) b) result
 
   -- a planned call in the words of the seat as it was before room was made
   planned_here : (old mid : Seat) (new new' : Standing) (lent : List (List ℕ)) (result : Result CallReport Memory)

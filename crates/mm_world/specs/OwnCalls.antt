@@ -41,18 +41,29 @@ pub record HasRead (i : Instance) (d : Digests) (meddles : List Meddle) (stop : 
 abbrev pub CallLacksMemory : Instance → Digests → List Meddle → Stop → Standing → Standing → Type 0
 CallLacksMemory i d meddles stop old new = (new ≡ old) ⊎ HasRead i d meddles stop old new
 
--- the batch is asked of these bytes, if any are offered, over a quiet platform
-abbrev pub AsksOwnCell : Variant → Meaning → Standing → Standing → List (List ℕ) → List Meddle
-    → Stop
-    → Option (List ℕ) → Batch
+-- What is asked under a plan: what is done between the steps, and which one is stopped; the bytes
+-- that are offered, if any are; and the batch.
+pub record PlannedAsk : Type 0 where
+  pub meddles : List Meddle
+  pub stop : Stop
+  pub bytes : Option (List ℕ)
+  pub b : Batch
+
+abbrev pub planned_ask : List Meddle → Stop → Option (List ℕ) → Batch → PlannedAsk
+planned_ask meddles stop bytes b =
+    record { meddles = meddles; stop = stop; bytes = bytes; b = b }
+
+-- the batch is asked so over a quiet platform, after these snapshots
+abbrev pub AsksOwnCell : Variant → Meaning → Standing → Standing → List (List ℕ) → PlannedAsk
     → Result CallReport Memory → Type 0
-AsksOwnCell variant meaning old new issued meddles stop bytes b result =
+AsksOwnCell variant meaning old new issued ask result =
     (key barrier : List ℕ) (d : Digests) → let i = instance_by variant meaning key barrier in
     HasDigests i old d → IsQuiet old
     → MatchResult result
-    (CallComesTo i (ask_event_outcome i (digest_level i) d issued meddles stop bytes b)
+    (CallComesTo i
+    (ask_event_outcome i (digest_level i) d issued ask.meddles ask.stop ask.bytes ask.b)
     d.count issued old new)
-    (λ _. CallLacksMemory i d meddles stop old new)
+    (λ _. CallLacksMemory i d ask.meddles ask.stop old new)
 
 -- a call that hands out no snapshot and commits nothing
 abbrev pub quiet_call : Reply → CallReport

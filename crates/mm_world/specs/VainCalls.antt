@@ -4,7 +4,6 @@ use Rattle.std.specs.Prelude.{if◌then◌else◌}
 use Rattle.mm_base.specs.declared.fault.Memory.{Memory}
 use Rattle.mm_digest.specs.declared.variant.Variant.{Variant}
 use Rattle.mm_module.specs.Meaning.{Meaning}
-use Rattle.mm_module.specs.Batch.{Batch}
 use Rattle.mm_platform.specs.declared.plan.Meddle.{Meddle}
 use Rattle.mm_platform.specs.declared.plan.Stop.{Stop}
 use Rattle.mm_platform.specs.Standing.{Standing}
@@ -23,7 +22,7 @@ use Rattle.mm_call.specs.Standing.{count_after_more}
 use Rattle.mm_schedule.specs.declared.reply.Reply.{Reply}
 use Rattle.mm_outcome.specs.Folds.{Outcome, read_only_outcome, vain_ask_outcome}
 use Rattle.mm_world.specs.declared.call.CallReport.{CallReport}
-use Rattle.mm_world.specs.OwnCalls.{quiet_call, AsksOwnCell, ChecksOwnCell}
+use Rattle.mm_world.specs.OwnCalls.{quiet_call, PlannedAsk, AsksOwnCell, ChecksOwnCell}
 use Rattle.mm_world.specs.WorldStanding.{IsQuiet}
 
 -- why nothing is found in a cell: it is blank, or its bytes spell none
@@ -59,17 +58,16 @@ pub record IsRead (read : Result Cell CellFault) (d : Digests) (standing : Stand
   pub register : register_reading standing ≡ Some d.register
   pub quiet : IsQuiet standing
 
--- the batch is asked of these bytes, if any are offered, over a quiet platform that holds no cell
--- of the call's own
-abbrev pub AsksInVain : Variant → Meaning → Standing → Standing → List (List ℕ) → List Meddle → Stop
-    → Option (List ℕ) → Batch
+-- the batch is asked so over a quiet platform that holds no cell of the call's own
+abbrev pub AsksInVain : Variant → Meaning → Standing → Standing → List (List ℕ) → PlannedAsk
     → Result CallReport Memory → Type 0
-AsksInVain variant meaning old new issued meddles stop bytes b result =
+AsksInVain variant meaning old new issued ask result =
     (i : Instance) (d : Digests) (read : Result Cell CellFault) (why : Refusal) → IsRead read d old
     → vain_refusal variant meaning.id read ≡ Some why
     → MatchResult result
-    (CallComesInVain (vain_ask_outcome (digest_level i) d issued meddles stop why bytes b) issued
-    old new)
+    (CallComesInVain
+    (vain_ask_outcome (digest_level i) d issued ask.meddles ask.stop why ask.bytes ask.b)
+    issued old new)
     (λ _. new ≡ old)
 
 -- a checkpoint over a quiet platform that holds no cell at all
@@ -86,10 +84,9 @@ ChecksInVain old new issued meddles stop result =
 -- A call that asks for a batch under a plan: over the call's own cell, and over one that it doesn't
 -- go on with.
 pub record AsksPlanned (variant : Variant) (meaning : Meaning) (old new : Standing)
-    (issued : List (List ℕ)) (meddles : List Meddle) (stop : Stop)
-    (bytes : Option (List ℕ)) (b : Batch) (result : Result CallReport Memory) : Type 0 where
-  pub own : AsksOwnCell variant meaning old new issued meddles stop bytes b result
-  pub vain : AsksInVain variant meaning old new issued meddles stop bytes b result
+    (issued : List (List ℕ)) (ask : PlannedAsk) (result : Result CallReport Memory) : Type 0 where
+  pub own : AsksOwnCell variant meaning old new issued ask result
+  pub vain : AsksInVain variant meaning old new issued ask result
 
 -- A checkpoint under a plan: over a cell of any variant and module, and over none.
 pub record ChecksPlanned (old new : Standing) (issued : List (List ℕ)) (meddles : List Meddle)

@@ -5,6 +5,7 @@ ghost use Rattle.mm_module.specs.Batches.{batch_of};
 ghost use Rattle.mm_module.specs.Meaning.{Meaning};
 ghost use Rattle.mm_digest.specs.declared.variant.Variant.{Variant};
 ghost use Rattle.mm_outcome.specs.EventOffers.{offered_bytes};
+ghost use Rattle.mm_world.specs.OwnCalls.{planned_ask};
 ghost use Rattle.mm_world.specs.VainCalls.{AsksPlanned, ChecksPlanned};
 ghost use Rattle.mm_world.specs.Calls.{refused_call, answered_call, broken_call, takes_effect, IsCallResult, PowerComesBack, SettlesPlan, has_closed_segment, checkpoint_reply};
 ghost use Rattle.mm_world.specs.PlannedCall.{IsPlanned, TellsCheckpoint};
@@ -155,8 +156,8 @@ fn planned_call<M: Module>(
 ) -> Result<CallReport, Memory>
     ensures { (issued : List (List ℕ))
         → AsksPlanned caller.now.variant (M.meaning caller.now.«module».now) platform.old
-        platform.new issued course.now.meddles.now course.now.stop (Some offer.now)
-        (batch_of batch.entry) result }
+        platform.new issued (planned_ask course.now.meddles.now course.now.stop (Some offer.now)
+        (batch_of batch.entry)) result }
 {
     if mm_model::is_long(&batch) {
         return Ok(CallReport::refused(Cause::Long));
@@ -184,8 +185,8 @@ pub fn call_by_offer<M: Module>(
     keys: &mut KeptKey,
 ) -> Result<CallReport, Memory>
     ensures { AsksPlanned caller.now.variant (M.meaning caller.now.«module».now) platform.old
-        platform.new issued.now course.now.meddles.now course.now.stop
-        (offered_bytes issued.now offer.now) (batch_of batch.entry) result }
+        platform.new issued.now (planned_ask course.now.meddles.now course.now.stop
+        (offered_bytes issued.now offer.now) (batch_of batch.entry)) result }
 {
     match offered(caller.alloc, issued, offer) {
         Err(memory) => Err(memory),
