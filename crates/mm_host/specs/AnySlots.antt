@@ -12,6 +12,7 @@ use Rattle.mm_host.specs.Below.{first_offer, IsWaiting, Refused}
 use Rattle.mm_host.specs.declared.fault.SessionFault.{SessionFault}
 use Rattle.mm_host.specs.declared.fault.SessionFault.TheVariants.{Host}
 use Rattle.mm_host.specs.Continuation.{IsInHand, CallsRunOver, RunsTo, served_calls_in}
+use Rattle.mm_host.specs.SessionStanding.{SessionStanding}
 use Rattle.mm_host.specs.Sessions.{ServedCall, served_lines, IsSession}
 
 -- the bytes that are offered next: the last answer's snapshot, and before any answer the first ones
@@ -117,37 +118,34 @@ module _ (all others : List (List ℕ)) (asked : List Batch) (i : Instance) (y :
 -- a platform of Basic under every key; over one of Opt under every key and barrier, where what
 -- others did is known by the items that the register shows at the session's end, so that this is
 -- asked for the whole session, unless nothing new is asked.
-abbrev pub RunsOnceFrom : Variant → Meaning → Standing → Standing → Standing → StoreStanding
-    → StoreStanding → Option (List ℕ) → Option (List ℕ)
-    → Option (List ℕ)
-    → Option (List ℕ) → Result Unit SessionFault → Type 0
-RunsOnceFrom Basic meaning entry before after old new left left' received received' result =
-    (s : IsSession Basic meaning before after old new left left' received received' result)
+abbrev pub RunsOnceFrom : Variant → Meaning → (entry : Standing) → SessionStanding
+    → SessionStanding → Result Unit SessionFault → Type 0
+RunsOnceFrom Basic meaning entry old new result =
+    (s : IsSession Basic meaning old new result)
     (key : List ℕ) (y : History) (slots : Slots) (all others : List (List ℕ)) (asked : List Batch)
     (requests : List (List ℕ)) →
-    (may : MayStart all others asked (basic_instance meaning key) y slots entry old) →
+    (may : MayStart all others asked (basic_instance meaning key) y slots entry old.kept) →
     AreAskedInTurn all asked (basic_instance meaning key) y (first_offer slots may.waiting) requests
     →
-    RunsOnce all others asked (basic_instance meaning key) y slots may.waiting left after
+    RunsOnce all others asked (basic_instance meaning key) y slots may.waiting old.left new.standing
     (served_calls_in may.waiting s.goes) (IsInHand may.waiting s.goes) requests result
-RunsOnceFrom Opt meaning entry before after old new left left' received received' result =
-    (s : IsSession Opt meaning before after old new left left' received received' result)
+RunsOnceFrom Opt meaning entry old new result =
+    (s : IsSession Opt meaning old new result)
     (key barrier : List ℕ) (y : History) (slots : Slots) (all others : List (List ℕ))
     (asked : List Batch) (requests : List (List ℕ)) (items more : List Item) →
-    (may : MayStart all others asked (opt_instance meaning key barrier) y slots entry old) →
+    (may : MayStart all others asked (opt_instance meaning key barrier) y slots entry old.kept) →
     AreAskedInTurn all asked (opt_instance meaning key barrier) y
     (first_offer slots may.waiting) requests →
-    entry.items ≡ Some items → after.items ≡ Some (standing_items y.is_open items ++ more) →
+    entry.items ≡ Some items →
+    new.standing.items ≡ Some (standing_items y.is_open items ++ more) →
     ((AsksNothingNew (opt_instance meaning key barrier) y (first_offer slots may.waiting) requests
     → ⊥) →
     AreShown all others (opt_instance meaning key barrier) y more) →
-    RunsOnce all others asked (opt_instance meaning key barrier) y slots may.waiting left after
-    (served_calls_in may.waiting s.goes) (IsInHand may.waiting s.goes) requests result
+    RunsOnce all others asked (opt_instance meaning key barrier) y slots may.waiting old.left
+    new.standing (served_calls_in may.waiting s.goes) (IsInHand may.waiting s.goes) requests result
 
 -- a session is entered where it starts
-abbrev pub SessionRunsOnce : Variant → Meaning → Standing → Standing → StoreStanding
-    → StoreStanding → Option (List ℕ) → Option (List ℕ)
-    → Option (List ℕ)
-    → Option (List ℕ) → Result Unit SessionFault → Type 0
-SessionRunsOnce variant meaning before after old new left left' received received' result =
-    RunsOnceFrom variant meaning before before after old new left left' received received' result
+abbrev pub SessionRunsOnce : Variant → Meaning → SessionStanding → SessionStanding
+    → Result Unit SessionFault → Type 0
+SessionRunsOnce variant meaning old new result =
+    RunsOnceFrom variant meaning old.standing old new result

@@ -36,6 +36,7 @@ pub use Rattle.mm_store.specs.Slots.{Slots, slot_front}
 pub use Rattle.mm_play.specs.PlaysInput.{IsUnrefused}
 pub use Rattle.mm_play.specs.Fronts.{IsFrontOf}
 pub use Rattle.mm_recovery.specs.CellWrites.{CellIsWrittenFor, new_requests_by, new_requests_at}
+pub use Rattle.mm_recovery.specs.HostStanding.{HostStanding, host_standing}
 pub use Rattle.mm_recovery.specs.SlotFit.{FitsHistory, first_offer}
 pub use Rattle.mm_recovery.specs.NextRequest.{AsksNextRequest}
 pub use Rattle.mm_recovery.specs.Recovery.{AsksIdly, CanRecover, IsRefusedAs, RequestMayBeCommitted}

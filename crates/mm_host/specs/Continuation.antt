@@ -6,7 +6,7 @@ use Rattle.std.proofs.Common.{inl, inr}
 use Rattle.mm_host.specs.Below.{last_position, WriteFault, Variant, Standing, Batch, One, Meaning, History, requests_of, total_of, Instance}
 use Rattle.mm_host.specs.Below.{Spoiled, LostLife, life_of, StandsFor, Answer, IsWithin, IsBatchStep, Reply, Told, StoreStanding}
 use Rattle.mm_host.specs.Below.{PendingRecord, Slots, slot_front, FitsHistory, IsRefusedAs, RequestMayBeCommitted, IsWaiting, HostFault}
-use Rattle.mm_host.specs.Below.{Store, Refused, Resumed, Answered}
+use Rattle.mm_host.specs.Below.{HostStanding, Store, Refused, Resumed, Answered}
 use Rattle.mm_model.specs.declared.refusal.Refusal.TheVariants.{Full}
 use Rattle.mm_host.specs.declared.fault.SessionFault.{SessionFault}
 use Rattle.mm_host.specs.declared.fault.SessionFault.TheVariants.{Host, Lines}
@@ -42,19 +42,17 @@ first_served_call (Some p) (Answered answer) = record { line = p.request; answer
 first_served_call _ _ = []
 
 module _ {variant : Variant} {meaning : Meaning} {begun : Result Resumed HostFault}
-    {platform after : Standing} {store new : StoreStanding} {left : Option (List ℕ)}
-    {taken sent : List ℕ} {result : Result Unit SessionFault} (waiting : Option PendingRecord) where
+    {middle new : HostStanding} {left : Option (List ℕ)} {taken sent : List ℕ}
+    {result : Result Unit SessionFault} (waiting : Option PendingRecord) where
   -- the requests that a session told, each with its answer
-  abbrev pub served_calls_in : SessionGoesAfterResume variant meaning begun platform after store
-      new left taken sent
-      result → List ServedCall
+  abbrev pub served_calls_in : SessionGoesAfterResume variant meaning begun middle new left taken
+      sent result → List ServedCall
   served_calls_in (inl stops) = []
   served_calls_in (inr goes) = first_served_call waiting goes.first ++ goes.lines.calls
 
   -- the request in hand where a session stopped: what waited, or the line after those that were
   -- told
-  abbrev pub IsInHand : SessionGoesAfterResume variant meaning begun platform after store
-      new left taken sent
+  abbrev pub IsInHand : SessionGoesAfterResume variant meaning begun middle new left taken sent
       result → List ℕ → Type 0
   IsInHand (inl stops) request = (p : PendingRecord) × (waiting ≡ Some p) × (p.request ≡ request)
   IsInHand (inr goes) request = (held : List ℕ) × BytesBeginWith goes.lines.more request held

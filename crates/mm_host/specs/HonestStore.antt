@@ -6,6 +6,7 @@ use Rattle.mm_host.specs.Below.{first_offer}
 use Rattle.mm_host.specs.declared.fault.SessionFault.{SessionFault}
 use Rattle.mm_host.specs.AnySlots.{AreAmong, AreAskedInTurn, AsksNothingNew}
 use Rattle.mm_host.specs.Continuation.{ContinuesTo, IsInHand, served_calls_in}
+use Rattle.mm_host.specs.SessionStanding.{SessionStanding}
 use Rattle.mm_host.specs.Sessions.{IsSession}
 
 module _ (all others : List (List ℕ)) (asked : List Batch) (i : Instance) (y : History) where
@@ -26,42 +27,37 @@ module _ (all others : List (List ℕ)) (asked : List Batch) (i : Instance) (y :
 -- were made alone: they are among these. Over a platform of Basic under every key; over one of Opt
 -- under every key and barrier, where what others did is known by the items that the register shows
 -- at the session's end, unless nothing new is asked.
-abbrev pub ContinuesFrom : Variant → Meaning → Standing → Standing → Standing → StoreStanding
-    → StoreStanding → Option (List ℕ) → Option (List ℕ)
-    → Option (List ℕ)
-    → Option (List ℕ) → Result Unit SessionFault → Type 0
-ContinuesFrom Basic meaning entry before after old new left left' received received' result =
-    (s : IsSession Basic meaning before after old new left left' received received' result)
+abbrev pub ContinuesFrom : Variant → Meaning → (entry : Standing) → SessionStanding
+    → SessionStanding → Result Unit SessionFault → Type 0
+ContinuesFrom Basic meaning entry old new result =
+    (s : IsSession Basic meaning old new result)
     (key : List ℕ) (y : History) (slots : Slots) (all others : List (List ℕ)) (asked : List Batch)
     (requests : List (List ℕ)) →
-    (may : MayGoOn all others asked (basic_instance meaning key) y slots entry old) →
+    (may : MayGoOn all others asked (basic_instance meaning key) y slots entry old.kept) →
     AreAskedInTurn all asked (basic_instance meaning key) y
     (first_offer slots may.fits.waiting) requests →
     AreAmong (served_calls_in may.fits.waiting s.goes) (IsInHand may.fits.waiting s.goes) requests →
-    ContinuesTo all others asked (basic_instance meaning key) y may.fits.waiting after new
-    (served_calls_in may.fits.waiting s.goes)
-    (IsInHand may.fits.waiting s.goes) result
-ContinuesFrom Opt meaning entry before after old new left left' received received' result =
-    (s : IsSession Opt meaning before after old new left left' received received' result)
+    ContinuesTo all others asked (basic_instance meaning key) y may.fits.waiting new.standing
+    new.kept (served_calls_in may.fits.waiting s.goes) (IsInHand may.fits.waiting s.goes) result
+ContinuesFrom Opt meaning entry old new result =
+    (s : IsSession Opt meaning old new result)
     (key barrier : List ℕ) (y : History) (slots : Slots) (all others : List (List ℕ))
     (asked : List Batch) (requests : List (List ℕ)) (items more : List Item) →
-    (may : MayGoOn all others asked (opt_instance meaning key barrier) y slots entry old) →
+    (may : MayGoOn all others asked (opt_instance meaning key barrier) y slots entry old.kept) →
     AreAskedInTurn all asked (opt_instance meaning key barrier) y
     (first_offer slots may.fits.waiting)
     requests →
     AreAmong (served_calls_in may.fits.waiting s.goes) (IsInHand may.fits.waiting s.goes) requests →
-    entry.items ≡ Some items → after.items ≡ Some (standing_items y.is_open items ++ more) →
+    entry.items ≡ Some items →
+    new.standing.items ≡ Some (standing_items y.is_open items ++ more) →
     ((AsksNothingNew (opt_instance meaning key barrier) y
     (first_offer slots may.fits.waiting) requests → ⊥)
     → AreShown all others (opt_instance meaning key barrier) y more) →
-    ContinuesTo all others asked (opt_instance meaning key barrier) y may.fits.waiting after new
-    (served_calls_in may.fits.waiting s.goes)
-    (IsInHand may.fits.waiting s.goes) result
+    ContinuesTo all others asked (opt_instance meaning key barrier) y may.fits.waiting new.standing
+    new.kept (served_calls_in may.fits.waiting s.goes) (IsInHand may.fits.waiting s.goes) result
 
 -- a session is entered where it starts
-abbrev pub SessionContinues : Variant → Meaning → Standing → Standing → StoreStanding
-    → StoreStanding → Option (List ℕ) → Option (List ℕ)
-    → Option (List ℕ)
-    → Option (List ℕ) → Result Unit SessionFault → Type 0
-SessionContinues variant meaning before after old new left left' received received' result =
-    ContinuesFrom variant meaning before before after old new left left' received received' result
+abbrev pub SessionContinues : Variant → Meaning → SessionStanding → SessionStanding
+    → Result Unit SessionFault → Type 0
+SessionContinues variant meaning old new result =
+    ContinuesFrom variant meaning old.standing old new result

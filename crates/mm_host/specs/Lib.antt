@@ -1,4 +1,5 @@
 pub mod Below
+pub mod SessionStanding
 pub mod Sessions
 pub mod SessionBlame
 pub mod Continuation

@@ -2,8 +2,9 @@
 use Rattle.std.specs.Prelude.{◌≡◌, ◌≢◌, ℕ, List, [], ◌∷◌, ◌++◌, codes, Option, None, Some, Result, Ok, Err, ◌⊎◌, ◌+◌, ◌<◌, ◌≤◌, length}
 use Rattle.std.specs.Io.KnownBytes.{Appends, Consumes, IsAtEnd}
 use Rattle.mm_host.specs.Below.{joined_lines, longest_request, IsLineFront, IsLong, WriteFault, ReadFault, LineLong, BadLine, TooMuch}
-use Rattle.mm_host.specs.Below.{Variant, Standing, Meaning, Answer, Refusal, cause_text, told_line, Cause, StoreStanding, IsFrontOf}
+use Rattle.mm_host.specs.Below.{Variant, Meaning, Answer, Refusal, cause_text, told_line, Cause, IsFrontOf, HostStanding}
 use Rattle.mm_host.specs.Below.{AsksNextRequest, HostResumes, HostFault, Memory, Refused, Resumed, Answered}
+use Rattle.mm_host.specs.SessionStanding.{SessionStanding, host_of}
 use Rattle.mm_host.specs.declared.fault.SessionFault.{SessionFault}
 use Rattle.mm_host.specs.declared.fault.SessionFault.TheVariants.{Host, Lines}
 use Rattle.mm_base.specs.declared.replay_fault.ReplayFault.TheVariants.{Memory}
@@ -53,11 +54,13 @@ pub record TellsReply (came : Result Resumed HostFault) (received received' : Op
 
 -- The lines that a session serves, one after another. Nothing is asked for these steps.
 
--- where a session stands: its platform, its store, and what it came to last
+-- where a session stands: what its host tells, and what it came to last
 pub record SessionPlace : Type 0 where
-  pub platform : Standing
-  pub store : StoreStanding
+  pub host : HostStanding
   pub last : Resumed
+
+abbrev pub place_of : SessionStanding → Resumed → SessionPlace
+place_of at last = record { host = host_of at; last = last }
 
 -- a line, and the answer to it
 pub record ServedCall : Type 0 where
@@ -79,12 +82,9 @@ abbrev pub most_lines : ℕ
 most_lines = 1000000
 
 -- Nothing more is asked or written.
-pub record IsAtRest (at : SessionPlace) (after : Standing) (new : StoreStanding)
-    (sent : List ℕ) : Type 0
-  where
-    pub platform : after ≡ at.platform
-    pub store : new ≡ at.store
-    pub nothing : sent ≡ []
+pub record IsAtRest (at : SessionPlace) (new : HostStanding) (sent : List ℕ) : Type 0 where
+  pub still : new ≡ at.host
+  pub nothing : sent ≡ []
 
 -- The bytes begin with a line, its LF and what is held behind.
 pub record BytesBeginWith (bytes line held : List ℕ) : Type 0 where
@@ -109,12 +109,10 @@ module _ (variant : Variant) (meaning : Meaning) where
   pub record ServesFirstCall (from : SessionPlace) (c : ServedCall) (goes : SessionPlace
       → Type 0) : Type 0 where
     pub within : IsLineFront longest_request c.line
-    pub platform : Standing
-    pub store : StoreStanding
-    pub asks : AsksNextRequest variant meaning from.platform platform from.store
-        store from.last c.line
+    pub host : HostStanding
+    pub asks : AsksNextRequest variant meaning from.host host from.last c.line
         (Ok (Answered c.answer))
-    pub rest : goes (record { platform = platform; store = store; last = Answered c.answer })
+    pub rest : goes (record { host = host; last = Answered c.answer })
 
   -- These lines are asked one after another, each with the snapshot of the answer before, and
   -- answered so.
@@ -123,16 +121,16 @@ module _ (variant : Variant) (meaning : Meaning) where
   ServesCalls from (c ∷ calls) to = ServesFirstCall from c (λ next. ServesCalls next calls to)
 
   -- The line of this number is asked, and what comes is told.
-  pub record AsksAndTells (at : SessionPlace) (after : Standing) (new : StoreStanding)
+  pub record AsksAndTells (at : SessionPlace) (new : HostStanding)
       (received received' : Option (List ℕ)) (line : List ℕ)
       (result : Result Resumed SessionFault) : Type 0 where
     pub came : Result Resumed HostFault
-    pub asks : AsksNextRequest variant meaning at.platform after at.store new at.last line came
+    pub asks : AsksNextRequest variant meaning at.host new at.last line came
     pub tells : TellsReply came received received' result
 
   -- One turn, where the line of this number would be next: it is read and served, or the session
   -- ends.
-  module _ (number : ℕ) (at : SessionPlace) (after : Standing) (new : StoreStanding) where
+  module _ (number : ℕ) (at : SessionPlace) (new : HostStanding) where
     -- The line in hand is asked, and comes to a fault; or its reply isn't written whole.
     pub record SessionStopsInLine (more sent : List ℕ) (fault : SessionFault) : Type 0 where
       pub line : List ℕ
@@ -140,24 +138,24 @@ module _ (variant : Variant) (meaning : Meaning) where
       pub begins : BytesBeginWith more line held
       pub few : number ≤ most_lines
       pub came : Result Resumed HostFault
-      pub asks : AsksNextRequest variant meaning at.platform after at.store new at.last line came
+      pub asks : AsksNextRequest variant meaning at.host new at.last line came
       pub says : SendsReply came sent (Err fault)
 
     -- How the session stops; `more` was taken of the input behind the lines before this one.
     abbrev pub SessionStops : Option (List ℕ) → List ℕ → List ℕ → SessionFault → Type 0
     -- the source failed before the line's LF
     SessionStops left more sent (Lines ReadFault) =
-        IsAtRest at after new sent × IsLineFront longest_request more
+        IsAtRest at new sent × IsLineFront longest_request more
     -- the input ended within the line
     SessionStops left more sent (Lines (BadLine line)) =
-        IsAtRest at after new sent × (line ≡ number) × IsLineFront longest_request more
+        IsAtRest at new sent × (line ≡ number) × IsLineFront longest_request more
         × (0 < length more) × IsAtEnd left
     -- more bytes came than a line may have
     SessionStops left more sent (Lines (LineLong line)) =
-        IsAtRest at after new sent × (line ≡ number) × IsLong longest_request more
+        IsAtRest at new sent × (line ≡ number) × IsLong longest_request more
     -- the line is one too many
     SessionStops left more sent (Lines TooMuch) =
-        IsAtRest at after new sent × (number ≡ most_lines + 1) × (line : List ℕ) × (held : List ℕ)
+        IsAtRest at new sent × (number ≡ most_lines + 1) × (line : List ℕ) × (held : List ℕ)
         × BytesBeginWith more line held
     -- the host alone wants memory
     SessionStops left more sent (Lines Memory) = ⊥
@@ -171,8 +169,7 @@ module _ (variant : Variant) (meaning : Meaning) where
       pub few : number ≤ most_lines
       pub answer : Answer
       pub answered : next ≡ Answered answer
-      pub asks : AsksNextRequest variant meaning at.platform after at.store new at.last line
-          (Ok (Answered answer))
+      pub asks : AsksNextRequest variant meaning at.host new at.last line (Ok (Answered answer))
       pub told : sent ≡ reply_text (Ok (Answered answer))
 
     -- How the turn went, by its answer: `bytes` are those held before and those taken, and `held`
@@ -181,7 +178,7 @@ module _ (variant : Variant) (meaning : Meaning) where
         → Result (Option Resumed) SessionFault → Type 0
     TurnGoes left bytes held sent (Ok (Some next)) = ServesLine bytes held sent next
     TurnGoes left bytes held sent (Ok None) =
-        IsAtRest at after new sent × (bytes ≡ []) × IsAtEnd left
+        IsAtRest at new sent × (bytes ≡ []) × IsAtEnd left
     TurnGoes left bytes held sent (Err fault) = SessionStops left bytes sent fault
 
     -- What was sent in a turn, and how it went.
@@ -192,17 +189,17 @@ module _ (variant : Variant) (meaning : Meaning) where
       pub appended : Appends received received' sent
       pub went : TurnGoes left bytes held sent result
 
-    pub record ServesNext (left left' : Option (List ℕ)) (held held' : List ℕ)
-        (received received' : Option (List ℕ))
-        (result : Result (Option Resumed) SessionFault) : Type 0 where
-      pub taken : List ℕ
-      pub consumed : Consumes left left' taken
-      pub turns : TurnSends left' (held ++ taken) held' received received' result
+  -- Some bytes are held before a turn from where the host last stood, and some after it.
+  pub record ServesNext (number : ℕ) (last : Resumed) (old new : SessionStanding)
+      (held held' : List ℕ) (result : Result (Option Resumed) SessionFault) : Type 0 where
+    pub taken : List ℕ
+    pub consumed : Consumes old.left new.left taken
+    pub turns : TurnSends number (place_of old last) (host_of new) new.left (held ++ taken) held'
+        old.received new.received result
 
   -- Some lines are served from where the session stands, of which the first would have this number,
   -- and there it ends; `bytes` were held before or taken.
-  pub record ServesAllLines (number : ℕ) (from : SessionPlace) (after : Standing)
-      (new : StoreStanding)
+  pub record ServesAllLines (number : ℕ) (from : SessionPlace) (new : HostStanding)
       (left : Option (List ℕ)) (bytes sent : List ℕ)
       (result : Result Unit SessionFault) : Type 0 where
     pub calls : List ServedCall
@@ -213,49 +210,45 @@ module _ (variant : Variant) (meaning : Meaning) where
     pub last : List ℕ
     pub took : bytes ≡ joined_lines (served_lines calls) ++ more
     pub wrote : sent ≡ replies_to calls ++ last
-    pub ends : TurnGoes (length calls + number) at after new left more [] last
-        (turn_answer_of result)
+    pub ends : TurnGoes (length calls + number) at new left more [] last (turn_answer_of result)
 
   -- The lines of an input are served, where some bytes are held; with what was taken and written
   -- for them.
-  pub record ServesInput (number : ℕ) (from : SessionPlace) (after : Standing) (new : StoreStanding)
-      (left left' : Option (List ℕ)) (held : List ℕ) (received received' : Option (List ℕ))
-      (result : Result Unit SessionFault) : Type 0 where
+  pub record ServesInput (number : ℕ) (last : Resumed) (old new : SessionStanding)
+      (held : List ℕ) (result : Result Unit SessionFault) : Type 0 where
     pub taken : List ℕ
     pub sent : List ℕ
-    pub consumed : Consumes left left' taken
-    pub appended : Appends received received' sent
-    pub lines : ServesAllLines number from after new left' (held ++ taken) sent result
+    pub consumed : Consumes old.left new.left taken
+    pub appended : Appends old.received new.received sent
+    pub lines : ServesAllLines number (place_of old last) (host_of new) new.left (held ++ taken)
+        sent result
 
   -- What waited is told, and the lines are served.
-  pub record SessionGoesOn (begun : Result Resumed HostFault) (platform after : Standing)
-      (store new : StoreStanding) (left : Option (List ℕ)) (taken sent : List ℕ)
+  pub record SessionGoesOn (begun : Result Resumed HostFault) (middle new : HostStanding)
+      (left : Option (List ℕ)) (taken sent : List ℕ)
       (result : Result Unit SessionFault) : Type 0 where
     pub first : Resumed
     pub begins : begun ≡ Ok first
     pub replies : List ℕ
     pub wrote : sent ≡ reply_text begun ++ replies
-    pub lines : ServesAllLines 1 (record { platform = platform; store = store; last = first }) after
-        new left taken replies result
+    pub lines : ServesAllLines 1 (record { host = middle; last = first }) new left taken replies
+        result
 
   -- It stops at once, or it goes on, as what waited came to.
-  abbrev pub SessionGoesAfterResume : Result Resumed HostFault → Standing → Standing → StoreStanding
-      → StoreStanding → Option (List ℕ) → List ℕ → List ℕ → Result Unit SessionFault → Type 0
-  SessionGoesAfterResume begun platform after store new left taken sent result =
-      ((after ≡ platform) × (new ≡ store) × SessionStopsAtOnce begun taken sent result)
-      ⊎ SessionGoesOn begun platform after store new left taken sent result
+  abbrev pub SessionGoesAfterResume : Result Resumed HostFault → HostStanding → HostStanding
+      → Option (List ℕ) → List ℕ → List ℕ → Result Unit SessionFault → Type 0
+  SessionGoesAfterResume begun middle new left taken sent result =
+      ((new ≡ middle) × SessionStopsAtOnce begun taken sent result)
+      ⊎ SessionGoesOn begun middle new left taken sent result
 
   -- A session: it goes on after a stop, and then answers each line of its input before it reads the
   -- next. These bytes were taken of the input, and those written.
-  pub record IsSession (before after : Standing) (old new : StoreStanding)
-      (left left' received received' : Option (List ℕ))
-      (result : Result Unit SessionFault) : Type 0 where
+  pub record IsSession (old new : SessionStanding) (result : Result Unit SessionFault) : Type 0 where
     pub taken : List ℕ
     pub sent : List ℕ
-    pub consumed : Consumes left left' taken
-    pub appended : Appends received received' sent
+    pub consumed : Consumes old.left new.left taken
+    pub appended : Appends old.received new.received sent
     pub begun : Result Resumed HostFault
-    pub platform : Standing
-    pub store : StoreStanding
-    pub resumes : HostResumes variant meaning before platform old store begun
-    pub goes : SessionGoesAfterResume begun platform after store new left' taken sent result
+    pub middle : HostStanding
+    pub resumes : HostResumes variant meaning (host_of old) middle begun
+    pub goes : SessionGoesAfterResume begun middle (host_of new) new.left taken sent result

@@ -10,6 +10,7 @@ use Rattle.mm_recovery.specs.Below.{StoreStanding, StoreFault}
 use Rattle.mm_recovery.specs.declared.init_fault.InitFault.{InitFault}
 use Rattle.mm_recovery.specs.declared.init_fault.InitFault.TheVariants.{Memory, Platform, Already, ReadFault, Short}
 use Rattle.mm_recovery.specs.InitFaults.{init_fault_as}
+use Rattle.mm_recovery.specs.HostStanding.{HostStanding}
 
 -- what a first start works with: what stands on the platform, what the store holds, and of the
 -- source of entropy what is left, where it tells that, and its count of faults
@@ -23,6 +24,10 @@ abbrev pub devices : Standing → StoreStanding → (left : Option (List ℕ)) (
     → Devices
 devices platform store left source_faults =
     record { platform = platform; store = store; left = left; source_faults = source_faults }
+
+-- those of a host among them
+abbrev pub host_among : Devices → HostStanding
+host_among at = record { standing = at.platform; kept = at.store }
 
 -- the cell is read, and told to be blank exactly where it is
 pub record LooksAtCell (old new : Standing) (is_blank : Result Bool StepFault) : Type 0 where
@@ -90,19 +95,18 @@ GoesAfterAllPuts cell before after (Err why) result =
     (after ≡ before) × (result ≡ Err (init_fault_as why))
 GoesAfterAllPuts cell before after (Ok _) result = WritesCell cell before after result
 
-pub record SetsUpBoth (cell snapshot : List ℕ) (before after : Standing) (old new : StoreStanding)
+pub record SetsUpBoth (cell snapshot : List ℕ) (old new : HostStanding)
     (result : Result Unit InitFault) : Type 0 where
   pub stored : Result Unit StoreFault
-  pub puts : PutsAll (first_puts snapshot) old new stored
-  pub goes : GoesAfterAllPuts cell before after stored result
+  pub puts : PutsAll (first_puts snapshot) old.kept new.kept stored
+  pub goes : GoesAfterAllPuts cell old.standing new.standing stored result
 
 -- The first cell and snapshot of the instance are made, unless memory is wanting.
-abbrev pub SetsUp : Instance → Standing → Standing → StoreStanding → StoreStanding
-    → Result Unit InitFault → Type 0
-SetsUp i before after old new result =
-    ((after ≡ before) × (new ≡ old) × (result ≡ Err Memory))
-    ⊎ SetsUpBoth (cell_spelling (cell_of i first_history)) (issued_bytes i first_history) before
-    after old new result
+abbrev pub SetsUp : Instance → HostStanding → HostStanding → Result Unit InitFault → Type 0
+SetsUp i old new result =
+    ((new ≡ old) × (result ≡ Err Memory))
+    ⊎ SetsUpBoth (cell_spelling (cell_of i first_history)) (issued_bytes i first_history) old new
+    result
 
 -- With 64 bytes the platform and the store are set up for their instance.
 abbrev pub GoesAfterTaking : Variant → Meaning → Devices → Devices → Result (List ℕ) Failed
@@ -113,8 +117,7 @@ GoesAfterTaking variant meaning middle after (Ok secrets) result =
     ((length secrets < 64) × (after ≡ middle) × (result ≡ Err (Short (length secrets))))
     ⊎ ((length secrets ≡ 64)
     × (after ≡ record middle { platform = after.platform; store = after.store })
-    × SetsUp (instance_from variant meaning secrets) middle.platform after.platform middle.store
-    after.store result)
+    × SetsUp (instance_from variant meaning secrets) (host_among middle) (host_among after) result)
 
 pub record TakesAndSetsUp (variant : Variant) (meaning : Meaning) (before after : Devices)
     (result : Result Unit InitFault) : Type 0 where

@@ -1,4 +1,5 @@
 pub mod Below
+pub mod HostStanding
 pub mod Faults
 pub mod WaitingRequest
 pub mod HostCall

@@ -1,14 +1,15 @@
 -- What a host program that goes on after a stop comes to, by lists alone.
 use Rattle.std.specs.Prelude.{◌≡◌, ◌≢◌, ℕ, true, List, [], ◌∷◌, ◌++◌, Option, None, Some, Result, Ok, Err, nat_eq, ◌⊎◌, ◌%◌, IfOk, IsSome}
 use Rattle.std.specs.List.{Contains}
-use Rattle.mm_recovery.specs.Below.{Variant, Basic, Opt, Item, Standing, Batch, One, Meaning, History, total_of, Instance, basic_instance}
+use Rattle.mm_recovery.specs.Below.{Variant, Basic, Opt, Item, Batch, One, Meaning, History, total_of, Instance, basic_instance}
 use Rattle.mm_recovery.specs.Below.{opt_instance, Life, Spoiled, LostLife, life_of, AreMessagesIn, IsClear, AreNoGuards, StandsFor, Answer}
 use Rattle.mm_recovery.specs.Below.{Refusal, Device, Lost, Stale, answer_on, IsWithin, right_messages, right_content, batch_answer_of}
-use Rattle.mm_recovery.specs.Below.{AreShown, IsIdle, fault_of, standing_items, StoreStanding, PendingRecord, Slots, slot_front}
+use Rattle.mm_recovery.specs.Below.{AreShown, IsIdle, fault_of, standing_items, PendingRecord, Slots, slot_front}
 use Rattle.mm_recovery.specs.declared.fault.HostFault.{HostFault}
 use Rattle.mm_recovery.specs.declared.fault.HostFault.TheVariants.{Refused}
 use Rattle.mm_recovery.specs.declared.resuming.Resumed.{Resumed}
 use Rattle.mm_recovery.specs.declared.resuming.Resumed.TheVariants.{Start, Answered}
+use Rattle.mm_recovery.specs.HostStanding.{HostStanding}
 use Rattle.mm_recovery.specs.SlotFit.{offer_slot, FitsHistory, IsSnapshotAt}
 use Rattle.mm_recovery.specs.LastAnswer.{position_at, snapshot_at}
 
@@ -27,11 +28,10 @@ IsAskedFor all asked i slots (Some p) =
 -- the history, and the slots fit it; and no two messages share a digest, of the history and of the
 -- request that waits.
 pub record CanRecover (all others : List (List ℕ)) (asked : List Batch) (i : Instance) (y : History)
-    (slots : Slots) (standing : Standing)
-    (kept : StoreStanding) : Type 0 where
-  pub honest : kept.is_honest ≡ true
-  pub told : kept.slots ≡ Some slots
-  pub stands : StandsFor i standing y
+    (slots : Slots) (at : HostStanding) : Type 0 where
+  pub honest : at.kept.is_honest ≡ true
+  pub told : at.kept.slots ≡ Some slots
+  pub stands : StandsFor i at.standing y
   pub fits : FitsHistory i slots y
   pub clear : IsClear all
   pub apart : AreNoGuards i.barrier others asked
@@ -83,47 +83,46 @@ abbrev pub RequestMayBeCommitted : {T : Type 0} → Result T HostFault → Type 
 RequestMayBeCommitted (Err (Refused why)) = IsSome (fault_of why)
 RequestMayBeCommitted result = Unit {0}
 
--- Whatever it gives, the platform stands for a history that grew by the request that waits or by
--- nothing, and the slots fit that one; so it may be called again. What was asked of the history
--- holds of it too. The newest snapshot is in the slot of its position's parity, and names that
--- position of the history. No power is lost by it.
-pub record RecoversTo (all others : List (List ℕ)) (asked : List Batch) (i : Instance) (y : History)
-    (slots : Slots)
-    (waiting : Option PendingRecord) (standing : Standing) (kept : StoreStanding)
-    (result : Result Resumed HostFault) : Type 0 where
-  pub after : History
-  pub stands : StandsFor i standing after
-  pub within : IsWithin all others asked i after
-  pub grown : IsGrown y waiting after
-  pub only : (after.batches ≡ y.batches) ⊎ RequestMayBeCommitted result
-  pub slots_after : Slots
-  pub told : kept.slots ≡ Some slots_after
-  pub fits : FitsHistory i slots_after after
-  pub same_wait : fits.waiting ≡ waiting
-  pub honest : kept.is_honest ≡ true
-  pub newest : IfOk result
-      (λ resumed. slot_front slots_after (position_at resumed % 2) ≡ snapshot_at resumed)
-  pub holds : IfOk result (λ resumed. IsSnapshotAt i after (snapshot_at resumed)
-      (position_at resumed))
-  pub powered : life_of i.variant y ≢ LostLife → life_of i.variant after ≢ LostLife
-  pub comes : ResumeComesTo i y slots waiting after result
+module _ (all others : List (List ℕ)) (asked : List Batch) (i : Instance) (y : History) where
+  -- Whatever it gives, the platform stands for a history that grew by the request that waits or by
+  -- nothing, and the slots fit that one; so it may be called again. What was asked of the history
+  -- holds of it too. The newest snapshot is in the slot of its position's parity, and names that
+  -- position of the history. No power is lost by it.
+  pub record RecoversTo (slots : Slots) (waiting : Option PendingRecord) (new : HostStanding)
+      (result : Result Resumed HostFault) : Type 0 where
+    pub after : History
+    pub stands : StandsFor i new.standing after
+    pub within : IsWithin all others asked i after
+    pub grown : IsGrown y waiting after
+    pub only : (after.batches ≡ y.batches) ⊎ RequestMayBeCommitted result
+    pub slots_after : Slots
+    pub told : new.kept.slots ≡ Some slots_after
+    pub fits : FitsHistory i slots_after after
+    pub same_wait : fits.waiting ≡ waiting
+    pub honest : new.kept.is_honest ≡ true
+    pub newest : IfOk result
+        (λ resumed. slot_front slots_after (position_at resumed % 2) ≡ snapshot_at resumed)
+    pub holds : IfOk result (λ resumed. IsSnapshotAt i after (snapshot_at resumed)
+        (position_at resumed))
+    pub powered : life_of i.variant y ≢ LostLife → life_of i.variant after ≢ LostLife
+    pub comes : ResumeComesTo i y slots waiting after result
 
 -- Over a platform of Basic it recovers from every history, under every key; over one of Opt under
 -- every key and barrier, where what others did is known by the items that the register shows at
 -- exit behind those that counted at entry, unless it asks idly.
-abbrev pub HostRecovers : Variant → Meaning → Standing → Standing → StoreStanding → StoreStanding
+abbrev pub HostRecovers : Variant → Meaning → HostStanding → HostStanding
     → Result Resumed HostFault → Type 0
-HostRecovers Basic meaning before after old new result =
+HostRecovers Basic meaning old new result =
     (key : List ℕ) (y : History) (slots : Slots) (all others : List (List ℕ)) (asked : List Batch)
-    (can : CanRecover all others asked (basic_instance meaning key) y slots before old) →
-    RecoversTo all others asked (basic_instance meaning key) y slots
-    can.fits.waiting after new result
-HostRecovers Opt meaning before after old new result =
+    (can : CanRecover all others asked (basic_instance meaning key) y slots old) →
+    RecoversTo all others asked (basic_instance meaning key) y slots can.fits.waiting new result
+HostRecovers Opt meaning old new result =
     (key barrier : List ℕ) (y : History) (slots : Slots) (all others : List (List ℕ))
     (asked : List Batch) (items more : List Item)
-    (can : CanRecover all others asked (opt_instance meaning key barrier) y slots before old) →
-    before.items ≡ Some items → after.items ≡ Some (standing_items y.is_open items ++ more) →
+    (can : CanRecover all others asked (opt_instance meaning key barrier) y slots old) →
+    old.standing.items ≡ Some items →
+    new.standing.items ≡ Some (standing_items y.is_open items ++ more) →
     ((AsksIdly (opt_instance meaning key barrier) y slots can.fits.waiting → ⊥)
     → AreShown all others (opt_instance meaning key barrier) y more) →
-    RecoversTo all others asked (opt_instance meaning key barrier) y slots
-    can.fits.waiting after new result
+    RecoversTo all others asked (opt_instance meaning key barrier) y slots can.fits.waiting new
+    result

@@ -1,13 +1,13 @@
 -- The steps by which a host program goes on after a stop. Nothing is asked for them.
 use Rattle.std.specs.Prelude.{◌≡◌, ◌-◌, ◌%◌, ℕ, List, Option, None, Some, Result, Ok, Err}
-use Rattle.mm_recovery.specs.Below.{Variant, Standing, Meaning, Answer, Refusal, ReadsSlot, WritesSlot, StoreStanding, PendingRecord}
-use Rattle.mm_recovery.specs.Below.{StoreFault}
+use Rattle.mm_recovery.specs.Below.{Variant, Meaning, Answer, Refusal, ReadsSlot, WritesSlot, StoreStanding, PendingRecord, StoreFault}
 use Rattle.mm_recovery.specs.declared.fault.HostFault.{HostFault}
 use Rattle.mm_recovery.specs.declared.resuming.Resumed.{Resumed}
 use Rattle.mm_recovery.specs.declared.resuming.Resumed.TheVariants.{Start, Answered}
 use Rattle.mm_recovery.specs.Faults.{store_fault_as, refusal_fault}
 use Rattle.mm_recovery.specs.WaitingRequest.{TakesWaitingRequest}
 use Rattle.mm_recovery.specs.HostCall.{IsCall}
+use Rattle.mm_recovery.specs.HostStanding.{HostStanding}
 
 -- Slots 2 and 3 are read, and the later record's request is taken.
 abbrev pub HostGoesAfterThree : List ℕ → Result (List ℕ) StoreFault
@@ -62,45 +62,40 @@ abbrev pub HostGoesAfterAsk : Result Answer Refusal → StoreStanding → StoreS
 HostGoesAfterAsk (Err why) old new result = (new ≡ old) × (result ≡ Err (refusal_fault why))
 HostGoesAfterAsk (Ok answer) old new result = KeepsAnswer answer old new result
 
-pub record AsksAndKeepsAnswer (variant : Variant) (meaning : Meaning) (before after : Standing)
-    (old new : StoreStanding) (offer request : List ℕ)
-    (result : Result Resumed HostFault) : Type 0 where
+pub record AsksAndKeepsAnswer (variant : Variant) (meaning : Meaning) (old new : HostStanding)
+    (offer request : List ℕ) (result : Result Resumed HostFault) : Type 0 where
   pub asked : Result Answer Refusal
-  pub asks : IsCall variant meaning before after offer request asked
-  pub goes : HostGoesAfterAsk asked old new result
+  pub asks : IsCall variant meaning old.standing new.standing offer request asked
+  pub goes : HostGoesAfterAsk asked old.kept new.kept result
 
 -- The request that waits is asked with the snapshot before its position.
-abbrev pub HostGoesAfterOffer : Variant → Meaning → Standing → Standing → Result (List ℕ) StoreFault
-    → StoreStanding → StoreStanding → PendingRecord
-    → Result Resumed HostFault → Type 0
-HostGoesAfterOffer variant meaning before after (Err why) old new p result =
-    (after ≡ before) × (new ≡ old) × (result ≡ Err (store_fault_as why))
-HostGoesAfterOffer variant meaning before after (Ok offer) old new p result =
-    AsksAndKeepsAnswer variant meaning before after old new offer p.request result
+abbrev pub HostGoesAfterOffer : Variant → Meaning → Result (List ℕ) StoreFault → HostStanding
+    → HostStanding → PendingRecord → Result Resumed HostFault → Type 0
+HostGoesAfterOffer variant meaning (Err why) middle new p result =
+    (new ≡ middle) × (result ≡ Err (store_fault_as why))
+HostGoesAfterOffer variant meaning (Ok offer) middle new p result =
+    AsksAndKeepsAnswer variant meaning middle new offer p.request result
 
-pub record RepeatsPendingRecord (variant : Variant) (meaning : Meaning) (before after : Standing)
-    (old new : StoreStanding) (p : PendingRecord)
-    (result : Result Resumed HostFault) : Type 0 where
+pub record RepeatsPendingRecord (variant : Variant) (meaning : Meaning) (old new : HostStanding)
+    (p : PendingRecord) (result : Result Resumed HostFault) : Type 0 where
   pub middle : StoreStanding
   pub offer : Result (List ℕ) StoreFault
-  pub reads : ReadsSlot ((p.position - 1) % 2) old middle offer
-  pub goes : HostGoesAfterOffer variant meaning before after offer middle new p result
+  pub reads : ReadsSlot ((p.position - 1) % 2) old.kept middle offer
+  pub goes : HostGoesAfterOffer variant meaning offer (record old { kept = middle }) new p result
 
 -- The call: it finds what waits, and begins with the first snapshot or repeats the request.
-abbrev pub HostGoesAfterFinding : Variant → Meaning → Standing → Standing
-    → Result (Option PendingRecord) StoreFault → StoreStanding → StoreStanding
-    → Result Resumed HostFault → Type 0
-HostGoesAfterFinding variant meaning before after (Err why) old new result =
-    (after ≡ before) × (new ≡ old) × (result ≡ Err (store_fault_as why))
-HostGoesAfterFinding variant meaning before after (Ok None) old new result =
-    (after ≡ before) × StartsFromSlot old new result
-HostGoesAfterFinding variant meaning before after (Ok (Some p)) old new result =
-    RepeatsPendingRecord variant meaning before after old new p result
+abbrev pub HostGoesAfterFinding : Variant → Meaning → Result (Option PendingRecord) StoreFault
+    → HostStanding → HostStanding → Result Resumed HostFault → Type 0
+HostGoesAfterFinding variant meaning (Err why) middle new result =
+    (new ≡ middle) × (result ≡ Err (store_fault_as why))
+HostGoesAfterFinding variant meaning (Ok None) middle new result =
+    (new.standing ≡ middle.standing) × StartsFromSlot middle.kept new.kept result
+HostGoesAfterFinding variant meaning (Ok (Some p)) middle new result =
+    RepeatsPendingRecord variant meaning middle new p result
 
-pub record HostResumes (variant : Variant) (meaning : Meaning) (before after : Standing)
-    (old new : StoreStanding)
+pub record HostResumes (variant : Variant) (meaning : Meaning) (old new : HostStanding)
     (result : Result Resumed HostFault) : Type 0 where
   pub middle : StoreStanding
   pub waiting : Result (Option PendingRecord) StoreFault
-  pub finds : FindsWaitingRequest old middle waiting
-  pub goes : HostGoesAfterFinding variant meaning before after waiting middle new result
+  pub finds : FindsWaitingRequest old.kept middle waiting
+  pub goes : HostGoesAfterFinding variant meaning waiting (record old { kept = middle }) new result

@@ -4,7 +4,7 @@ use Rattle.std.specs.List.{Contains}
 use Rattle.mm_recovery.specs.Below.{start_message, Variant, Basic, Opt, Batch, Meaning, History, Move, history_after, Instance, IsClear}
 use Rattle.mm_recovery.specs.Below.{AreNoGuards, MayMove, IsSound, IsGenuine, has_commit, instance_by, PendingRecord, Slots}
 use Rattle.mm_recovery.specs.SlotFit.{first_offer, FitsHistory}
-use Rattle.mm_recovery.specs.Init.{Devices, instance_from}
+use Rattle.mm_recovery.specs.Init.{Devices, host_among, instance_from}
 use Rattle.mm_recovery.specs.FirstStart.{first_history_on, first_slots, ShowsValues, InstanceBegins}
 use Rattle.mm_recovery.specs.Recovery.{CanRecover}
 
@@ -47,7 +47,7 @@ StaysGenuine =
 -- From what a first start leaves over an honest store a recovery can go on, and nothing waits.
 pub record CanStart (all others : List (List ℕ)) (asked : List Batch) (i : Instance) (y : History)
     (after : Devices) : Type 0 where
-  pub can : CanRecover all others asked i y (first_slots i) after.platform after.store
+  pub can : CanRecover all others asked i y (first_slots i) (host_among after)
   pub nothing_waits : can.fits.waiting ≡ None
 
 abbrev pub FirstStartsCanGoOn : Type 0
