@@ -32,6 +32,18 @@ outside standing kept left reads entropy takes received writes = record {
   writes = writes;
 }
 
+-- the same, but for what the input and the output tell
+abbrev pub with_streams : Outside
+    → (left : Option (List ℕ)) (reads : ℕ) (received : Option (List ℕ)) (writes : ℕ) → Outside
+with_streams it left reads received writes =
+    record it { left = left; reads = reads; received = received; writes = writes }
+
+-- the same, but for what the platform and the output tell
+abbrev pub with_platform : Outside
+    → Standing → (received : Option (List ℕ)) (writes : ℕ) → Outside
+with_platform it standing received writes =
+    record it { standing = standing; received = received; writes = writes }
+
 -- of these, what the objects of a session tell
 abbrev pub session_of : Outside → SessionStanding
 session_of it = session_standing it.standing it.kept it.left it.received

@@ -2,7 +2,7 @@
 
 ghost use Rattle.mm_app.specs.Checkpoint.{CheckpointsInstance, checkpoint_line};
 ghost use Rattle.mm_app.specs.CommandOutput.{TellsLines};
-ghost use Rattle.mm_app.specs.Outside.{Outside};
+ghost use Rattle.mm_app.specs.Outside.{Outside, with_platform};
 
 use crate::status::Status;
 use crate::telling::{stopped, written};
@@ -14,10 +14,9 @@ use mm_platform::Platform;
 pub fn close_segment<P: Platform, K: Sink>(platform: &mut P, out: &mut K) -> Status
     // Whatever the other objects tell (`it`).
     ensures { (it : Outside) → CheckpointsInstance
-        (record it { standing = P.standing platform.old; received = K.received out.old;
-        writes = K.faults out.old })
-        (record it { standing = P.standing platform.new; received = K.received out.new;
-        writes = K.faults out.new }) result }
+        (with_platform it (P.standing platform.old) (K.received out.old) (K.faults out.old))
+        (with_platform it (P.standing platform.new) (K.received out.new) (K.faults out.new))
+        result }
 {
     let answer = checkpoint(platform);
     tell_checkpoint(answer, out)

@@ -1,6 +1,6 @@
 //! The command `power`: the platform loses its power, and gets it back.
 
-ghost use Rattle.mm_app.specs.Outside.{Outside};
+ghost use Rattle.mm_app.specs.Outside.{Outside, with_platform};
 ghost use Rattle.mm_app.specs.Power.{LosesPower};
 
 use crate::status::Status;
@@ -12,10 +12,9 @@ use mm_platform::Platform;
 pub fn lose_power<P: Platform, K: Sink>(platform: &mut P, out: &mut K) -> Status
     // Whatever the other objects tell (`it`).
     ensures { (it : Outside) → LosesPower
-        (record it { standing = P.standing platform.old; received = K.received out.old;
-        writes = K.faults out.old })
-        (record it { standing = P.standing platform.new; received = K.received out.new;
-        writes = K.faults out.new }) result }
+        (with_platform it (P.standing platform.old) (K.received out.old) (K.faults out.old))
+        (with_platform it (P.standing platform.new) (K.received out.new) (K.faults out.new))
+        result }
 {
     match platform.cycle() {
         Ok(()) => written(b"power\n", out),

@@ -3,7 +3,7 @@
 ghost use Rattle.mm_receipt.specs.Reports.{ChecksHonestly};
 ghost use Rattle.mm_words.specs.declared.command.CommandLine.TheVariants.{Receipts};
 ghost use Rattle.mm_app.specs.LinePlays.{PlaysAndStops};
-ghost use Rattle.mm_app.specs.Outside.{Outside};
+ghost use Rattle.mm_app.specs.Outside.{Outside, with_streams};
 ghost use Rattle.mm_app.specs.Completeness.{CanBeAnswered};
 ghost use Rattle.mm_app.specs.Status.{EndsUnrefused};
 
@@ -22,10 +22,10 @@ pub fn check_receipts<S: Source, K: Sink>(
 ) -> Status
     // Whatever the other objects tell (`it`).
     ensures checks { (it : Outside) → PlaysAndStops (ChecksHonestly key.now)
-        (record it { left = S.left input.old; reads = S.faults input.old;
-        received = K.received out.old; writes = K.faults out.old })
-        (record it { left = S.left input.new; reads = S.faults input.new;
-        received = K.received out.new; writes = K.faults out.new }) result }
+        (with_streams it (S.left input.old) (S.faults input.old) (K.received out.old)
+        (K.faults out.old))
+        (with_streams it (S.left input.new) (S.faults input.new) (K.received out.new)
+        (K.faults out.new)) result }
     ensures complete { CanBeAnswered (Receipts key.now) (S.left input.old) → EndsUnrefused result }
 {
     let answer = receipts(alloc, key, input, out);

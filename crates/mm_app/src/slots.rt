@@ -3,7 +3,7 @@
 ghost use Rattle.mm_slots.specs.WholeSlots.{PlaysSlots};
 ghost use Rattle.mm_words.specs.declared.command.CommandLine.TheVariants.{Slots};
 ghost use Rattle.mm_app.specs.LinePlays.{PlaysAndStops};
-ghost use Rattle.mm_app.specs.Outside.{Outside};
+ghost use Rattle.mm_app.specs.Outside.{Outside, with_streams};
 ghost use Rattle.mm_app.specs.Completeness.{CanBeAnswered};
 ghost use Rattle.mm_app.specs.Status.{EndsUnrefused};
 
@@ -17,10 +17,10 @@ use std::alloc::Global;
 pub fn play_slots<S: Source, K: Sink>(alloc: Global, input: &mut S, out: &mut K) -> Status
     // Whatever the other objects tell (`it`).
     ensures plays { (it : Outside) → PlaysAndStops PlaysSlots
-        (record it { left = S.left input.old; reads = S.faults input.old;
-        received = K.received out.old; writes = K.faults out.old })
-        (record it { left = S.left input.new; reads = S.faults input.new;
-        received = K.received out.new; writes = K.faults out.new }) result }
+        (with_streams it (S.left input.old) (S.faults input.old) (K.received out.old)
+        (K.faults out.old))
+        (with_streams it (S.left input.new) (S.faults input.new) (K.received out.new)
+        (K.faults out.new)) result }
     ensures complete { CanBeAnswered Slots (S.left input.old) → EndsUnrefused result }
 {
     let answer = slots(alloc, input, out);

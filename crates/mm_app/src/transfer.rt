@@ -4,7 +4,7 @@
 ghost use Rattle.mm_transfer.specs.TransferPlay.{PlaysTransfer};
 ghost use Rattle.mm_words.specs.declared.command.CommandLine.TheVariants.{Transfer};
 ghost use Rattle.mm_app.specs.LinePlays.{PlaysAndStops};
-ghost use Rattle.mm_app.specs.Outside.{Outside};
+ghost use Rattle.mm_app.specs.Outside.{Outside, with_streams};
 ghost use Rattle.mm_app.specs.Completeness.{CanBeAnswered};
 ghost use Rattle.mm_app.specs.Status.{EndsUnrefused};
 
@@ -18,10 +18,10 @@ use std::alloc::Global;
 pub fn play_transfer<S: Source, K: Sink>(alloc: Global, input: &mut S, out: &mut K) -> Status
     // Whatever the other objects tell (`it`).
     ensures plays { (it : Outside) → PlaysAndStops PlaysTransfer
-        (record it { left = S.left input.old; reads = S.faults input.old;
-        received = K.received out.old; writes = K.faults out.old })
-        (record it { left = S.left input.new; reads = S.faults input.new;
-        received = K.received out.new; writes = K.faults out.new }) result }
+        (with_streams it (S.left input.old) (S.faults input.old) (K.received out.old)
+        (K.faults out.old))
+        (with_streams it (S.left input.new) (S.faults input.new) (K.received out.new)
+        (K.faults out.new)) result }
     ensures complete { CanBeAnswered Transfer (S.left input.old) → EndsUnrefused result }
 {
     let answer = transfer(alloc, input, out);
