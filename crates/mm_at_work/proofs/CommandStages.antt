@@ -65,8 +65,8 @@ finds_it variant it held None before found same id formed told none finds =
 
 pub runs_find : RunsFindTheInstance
 runs_find it Basic key barrier y old new status r s none =
-    finds_it Basic it (cell_of (instance_by Basic (meaning_of it) key barrier) y) r.looks.fault old.standing r.found refl refl s.spells s.cell
-    none r.looks.finds
+    finds_it Basic it (cell_of (instance_by Basic (meaning_of it) key barrier) y) r.looks.fault old.standing r.found refl refl s.spells
+    s.cell none r.looks.finds
 runs_find it Opt key barrier y old new status r s none =
     finds_it Opt it (cell_of (instance_by Opt (meaning_of it) key barrier) y) r.looks.fault old.standing r.found refl refl s.spells s.cell
     none r.looks.finds

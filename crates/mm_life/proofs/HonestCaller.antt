@@ -31,28 +31,28 @@ pub lives_on_one_store : BasicLifeGoesOn → BasicLivesWriteOnce → (meaning : 
     → IsLife Basic meaning started.platform (stages_over old new started middle empty between told one two)
     → LivesOnOneStore meaning old new one two
 lives_on_one_store law counted meaning lawful old new started begun middle empty between told one two life = record {
-      started = started;
-      begun = begun;
-      middle = middle;
-      empty = empty;
-      between = between;
-      told = told;
-      stages = stages_over old new started middle empty between told one two;
-      are = refl;
-      life = life;
-      goes = λ cell slots here honest shown whole whole'.
-          let i : Instance = basic_instance meaning (take 32 begun.secrets) in
-          let stages : List LifeStage = stages_over old new started middle empty between told one two in
-          let stands = begun.stands cell [] here refl in
-          elim (clash_or i (life_messages i started.platform stages life) [] (life_batches i started.platform stages life)) [
-            | inl clash ↦ inr clash
-            | inr fine ↦
-                let gone =
-                law meaning lawful (take 32 begun.secrets) started.platform started.store stages life stands (begun.honest ∙ honest)
-                (begun.stores slots honest shown) ((refl, refl), (tt, ((refl, refl), tt))) fine.0 (
-                  (λ is waiting waits slots shown. absurd (whole is)),
-                  (tt, ((λ is waiting waits slots shown. absurd (whole' is)), tt)),
-                ) in
-                inl (gone, counted meaning (take 32 begun.secrets) _ started.platform stages life gone.after stands gone.follows)
-          ];
-    }
+  started = started;
+  begun = begun;
+  middle = middle;
+  empty = empty;
+  between = between;
+  told = told;
+  stages = stages_over old new started middle empty between told one two;
+  are = refl;
+  life = life;
+  goes = λ cell slots here honest shown whole whole'.
+      let i : Instance = basic_instance meaning (take 32 begun.secrets) in
+      let stages : List LifeStage = stages_over old new started middle empty between told one two in
+      let stands = begun.stands cell [] here refl in
+      elim (clash_or i (life_messages i started.platform stages life) [] (life_batches i started.platform stages life)) [
+        | inl clash ↦ inr clash
+        | inr fine ↦
+            let gone =
+            law meaning lawful (take 32 begun.secrets) started.platform started.store stages life stands (begun.honest ∙ honest)
+            (begun.stores slots honest shown) ((refl, refl), (tt, ((refl, refl), tt))) fine.0 (
+              (λ is waiting waits slots shown. absurd (whole is)),
+              (tt, ((λ is waiting waits slots shown. absurd (whole' is)), tt)),
+            ) in
+            inl (gone, counted meaning (take 32 begun.secrets) _ started.platform stages life gone.after stands gone.follows)
+      ];
+}

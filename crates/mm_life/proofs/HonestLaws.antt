@@ -40,7 +40,8 @@ opt_goes_on meaning lawful key barrier values start kept stages f stands honest 
     let calls = each_left (Contains all) front back itself in
     let first = is_first Opt meaning key barrier values lawful in
     gone_from_none (life_goes (opt_proofs.opt_life meaning lawful key barrier all others asked clear apart) stages
-    (first_history_on values) kept (first_slots i) start f honest told stands (opt_proofs.first_within meaning lawful key barrier values all others asked calls.0) first.fits over
+    (first_history_on values) kept (first_slots i) start f honest told stands
+    (opt_proofs.first_within meaning lawful key barrier values all others asked calls.0) first.fits over
     (opt_proofs.all_seen meaning lawful key barrier all others asked clear apart start stages f
     (each_right (Contains all) front back itself) (each_self [] others)) chance
     (record { messages = calls.1; batches = each_self [] asked }))

@@ -163,11 +163,11 @@ module _ (variant : Variant) (meaning : Meaning) (slots : Slots) where
     | inl is ↦ offers is refl
     | inr rest ↦ unasked rest
   ]
-  opens_found (Some p) middle new came g told = elim (offer_shown g.offer middle.kept (record middle { kept = g.middle }) new p came g.goes told
-      g.reads) [
-    | inl is ↦ offers is refl
-    | inr rest ↦ unasked rest
-  ]
+  opens_found (Some p) middle new came g told =
+      elim (offer_shown g.offer middle.kept (record middle { kept = g.middle }) new p came g.goes told g.reads) [
+        | inl is ↦ offers is refl
+        | inr rest ↦ unasked rest
+      ]
 
   opens_by : (waiting : Option PendingRecord) (found : Result (Option PendingRecord) StoreFault) (first : StoreStanding)
       (middle new : HostStanding) (came : Result Resumed HostFault) (g : HostGoesAfterFinding variant meaning found middle new came)

@@ -96,8 +96,8 @@ abbrev stages_over : (old new : LifeStanding) (started : Devices) (middle closed
     (told : Option (List ℕ)) (one : Result Unit SessionFault) (said : Result Checkpointed CheckpointRefusal)
     (two : Result Unit SessionFault) → List LifeStage
 stages_over old new started middle closed empty between told one said two =
-    stages_around (session_stage (program_standing started.store old.first old.received) (program_standing between new.first told) one middle)
-    said closed empty
+    stages_around (session_stage (program_standing started.store old.first old.received) (program_standing between new.first told)
+    one middle) said closed empty
     (session_stage (program_standing between old.second told) (program_standing new.devices.store new.second new.received) two
     new.devices.platform)
 
