@@ -7,6 +7,7 @@ use Rattle.mm_host.proofs.Below.{offer_slot, offer_after, IsCall, IsInHand, firs
 use Rattle.mm_host.proofs.Below.{HostGoesAfterFinding, HostGoesAfterOffer, result_of_start, SendsReply, reply_text, snapshot_at}
 use Rattle.mm_host.proofs.Below.{SessionPlace, ServedCall, ServesCalls, SessionGoesAfterResume, BytesBeginWith, IsSession}
 use Rattle.mm_host.proofs.Below.{SessionStopsAtOnce, IsWaiting, Saw, one_waiting, saw_two, AreAmong, requests_with, served_lines, Answer}
+use Rattle.mm_host.proofs.Below.{HostStanding, host_standing, SessionStanding, host_of}
 use Rattle.mm_recovery.specs.declared.fault.HostFault.TheVariants as host
 use Rattle.mm_host.specs.Sessions.{SessionGoesOn, ServesAllLines}
 use Rattle.mm_host.proofs.Lines.{answered_call, asks, by_end, by_told, IsRead, line_tries, lines_in, never_refused, TellsCall}

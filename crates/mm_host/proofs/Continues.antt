@@ -3,6 +3,7 @@ use Rattle.mm_host.proofs.Below.{◌≡◌, ◌∙◌, ℕ, List, Option, None, 
 use Rattle.mm_host.proofs.Below.{opt_instance, History, Variant, Basic, Opt, inl, StoreStanding, PendingRecord, Slots, SessionFault}
 use Rattle.mm_host.proofs.Below.{ContinuesFrom, MayGoOn, MayStart, SessionContinues, FitsBy, history_with_values, names_alike, IsGenuine}
 use Rattle.mm_host.proofs.Below.{first_offer, IsSnapshotAt, one_content, StepFault}
+use Rattle.mm_host.proofs.Below.{SessionStanding}
 use Rattle.mm_platform.specs.Steps.{items_beside, StepGoes, ReadCell}
 use Rattle.mm_host.proofs.Leading.{basic_laws}
 use Rattle.mm_host.proofs.OptLeading.{opt_laws}

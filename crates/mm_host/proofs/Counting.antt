@@ -1,11 +1,12 @@
 -- What a session counts, by the steps: whose fault it is that it ends, and how often it is to write the cell.
 use Rattle.mm_host.proofs.Below.{ℕ, ◌≡◌, ◌≢◌, ◌+◌, ◌≤◌, List, [], ◌∷◌, length, Option, None, Some, Result, Ok, Err, refl, ap, ◌∙◌, subst}
 use Rattle.mm_host.proofs.Below.{inl, inr, arith, is_some, length-append, lines_of, lines_of-joined, lines_of-line, Variant, Basic, Opt}
-use Rattle.mm_host.proofs.Below.{Standing, StepFault, Meaning, Refusal, CountsHandedFault, fault_of, StoreStanding, HostFault, SessionFault}
+use Rattle.mm_host.proofs.Below.{Standing, StepFault, Meaning, Refusal, CountsHandedFault, fault_of, HostFault, SessionFault}
 use Rattle.mm_host.proofs.Below.{Host, Resumed, Start, Answered, RequestMayBeUntold, SendsReply, told_cause, refusal_text, reply_text}
 use Rattle.mm_host.proofs.Below.{SessionPlace, ServedCall, ServesCalls, served_lines, SessionGoesAfterResume, BytesBeginWith, IsSession}
 use Rattle.mm_host.proofs.Below.{Told, next_told, resumes_told, AnsweredWrites, CameWrites, answered_writes, both_writes, next_came}
 use Rattle.mm_host.proofs.Below.{new_most, resumes_came, counted_most, joined, leads_rest, rests}
+use Rattle.mm_host.proofs.Below.{HostStanding, SessionStanding, host_of}
 use Rattle.std.specs.Prelude.{IsSome}
 use Rattle.mm_model.specs.declared.refusal.Refusal.TheVariants.{Device}
 use Rattle.mm_play.specs.PlaysInput.{IsBlamed}

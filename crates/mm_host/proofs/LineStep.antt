@@ -22,6 +22,7 @@ use Rattle.mm_host.proofs.Leading.{Laws, Reaches}
 use Rattle.mm_host.proofs.Settling.{answers_of, broken_refused, came_by, CameTo, IsSettledAt, refused_in, refused_last, refused_with}
 use Rattle.mm_host.proofs.Settling.{settled_by, went_first}
 use Rattle.mm_host.proofs.Below.{HostGoesAfterRecord, Enters}
+use Rattle.mm_host.proofs.Below.{HostStanding, host_standing}
 use Rattle.mm_host.proofs.Putting.{IsNext, IsPut, fits_next, fits_room, full_fits, put_next, torn_fits, waits_next}
 
 module _ {all others : List (List ℕ)} {asked : List Batch} {i : Instance} {final : Standing} (laws : Laws all others asked i final) where
@@ -199,7 +200,7 @@ module _ {all others : List (List ℕ)} {asked : List Batch} {i : Instance} {fin
 
     -- the record isn't written whole
     unwritten : (why : StoreFault) (middle new : StoreStanding) (came : Result Resumed HostFault) (slots : Slots)
-        → middle.is_honest ≡ at.host.kept.is_honest 
+        → middle.is_honest ≡ at.host.kept.is_honest
         → (host_standing final new ≡ host_standing at.host.standing middle) × (came ≡ Err (store_fault_as why))
         → middle.slots ≡ Some slots → (IsNotBeyond slots (total_of y.batches + 1) → FitsHistory i slots y)
         → (store_fault_as why ≢ host.Store → FitsHistory i slots y) → CameTo all others asked i y (Some next) final new came

@@ -9,6 +9,7 @@ use Rattle.mm_host.proofs.Below.{ServesCalls, served_lines, BytesBeginWith, ◌<
 use Rattle.mm_host.proofs.Below.{take-append-drop, tail_of, lines_with_front, tail_with_front, IsLong, IsLineFront, lines_of-append}
 use Rattle.mm_host.proofs.Below.{tail_of-append, tail_of-joined, tail_of-unbroken, longest_request, LineLong, BadLine, TooMuch}
 use Rattle.mm_host.proofs.Below.{SessionGoesAfterResume, IsSession, most_lines}
+use Rattle.mm_host.proofs.Below.{HostStanding, SessionStanding, host_of}
 use Rattle.mm_host.specs.Sessions.{ServesAllLines}
 use Rattle.std.proofs.Common.{append-nil}
 use Rattle.mm_model.specs.ListLaws.{each_right}

@@ -1,10 +1,11 @@
 -- What a session asked, by its steps: the first of some requests.
-use Rattle.mm_host.proofs.Below.{◌≡◌, ◌∙◌, ℕ, List, [], ◌∷◌, ◌++◌, Option, Some, Result, Err, inl, inr, Standing, StoreStanding}
+use Rattle.mm_host.proofs.Below.{◌≡◌, ◌∙◌, ℕ, List, [], ◌∷◌, ◌++◌, Option, Some, Result, Err, inl, inr}
 use Rattle.mm_host.proofs.Below.{PendingRecord, SessionFault, Host, SessionPlace, ServedCall, IsAtRest, Ok, served_lines, AreAmong}
 use Rattle.mm_host.proofs.Below.{first_served_call, IsSession, SessionGoesAfterResume, sym, Variant, append_assoc, append_cancel_left}
 use Rattle.mm_host.specs.Sessions.{ServesAllLines}
 use Rattle.mm_host.proofs.Below.{◌+◌, length, Meaning, BytesBeginWith, turn_answer_of, IsMade, Lines, Memory, TurnGoes, SessionStopsInLine}
 use Rattle.mm_host.proofs.Below.{StoreFault, WriteFault}
+use Rattle.mm_host.proofs.Below.{HostStanding, host_standing, SessionStanding, host_of}
 use Rattle.mm_host.proofs.Lines.{IsByInput}
 
 -- A line in hand is one of the requests, where it was asked.

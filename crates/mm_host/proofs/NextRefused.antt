@@ -4,13 +4,14 @@ use Rattle.mm_host.proofs.Below.{◌≡◌, ◌∙◌, ◌+◌, ◌≤◌, ℕ, 
 use Rattle.mm_host.proofs.Below.{refl, sym, ap, subst, inl, inr, ◌⊎◌, arith, IsSome, take, drop, take-append-drop, length-append}
 use Rattle.mm_host.proofs.Below.{length-take, append_assoc, append_cancel_left, append-nil, Variant, Basic, Opt, Standing, One, Batch}
 use Rattle.mm_host.proofs.Below.{Meaning, Instance, Digests, Answer, Refusal, SessionFault, Host, Lines, Memory, WriteFault, LineLong}
-use Rattle.mm_host.proofs.Below.{BadLine, TooMuch, IsCall, StoreFault, offer_after, ServedCall, IsSession, StandsAt, StoreStanding}
+use Rattle.mm_host.proofs.Below.{BadLine, TooMuch, IsCall, StoreFault, offer_after, ServedCall, IsSession, StandsAt}
 use Rattle.mm_host.proofs.Below.{finding_at, digest_level, fault_of, by_refusal, IsInHand, parts_of, HostFault, Resumed, SendsReply}
 use Rattle.mm_host.proofs.Below.{reply_text, store_fault_as, refusal_fault, snapshot_at, PendingRecord, Slots, slot_front, IsWaiting}
 use Rattle.mm_host.proofs.Below.{first_offer, requests_with, served_lines, served_calls_in, first_served_call, lines_of, lines_of-append}
 use Rattle.mm_host.proofs.Below.{IsUnbroken, IsLong, longest_request, most_lines, SessionGoesAfterResume, SessionStopsAtOnce}
 use Rattle.mm_host.proofs.Below.{SessionStopsInLine, lines_with_front, InBasic, InOpt, if◌then◌else◌, later_record, SessionPlace}
 use Rattle.mm_host.proofs.Below.{ReadsPendingRecord}
+use Rattle.mm_host.proofs.Below.{HostStanding, SessionStanding, host_of}
 use Rattle.std.specs.Prelude.{◌<◌, IfSome, nat_le}
 use Rattle.mm_base.specs.InputLaws.{lines_of-unbroken}
 use Rattle.mm_base.specs.declared.replay_fault.ReplayFault.TheVariants.{ReadFault}

@@ -1,9 +1,10 @@
 -- Where there is a position for each request, none is refused as Full.
 use Rattle.mm_host.proofs.Below.{◌≡◌, ◌+◌, ◌-◌, ◌≤◌, ℕ, Bool, true, false, List, [], ◌∷◌, ◌++◌, Option, Some, Result, Err, length, arith}
 use Rattle.mm_host.proofs.Below.{ap, inl, inr, length-append, last_position, Variant, Standing, Batch, One, Meaning, Instance, History}
-use Rattle.mm_host.proofs.Below.{total_of, IsBatchStep, StoreStanding, PendingRecord, Slots, slot_front, IsWaiting, ServedCall}
+use Rattle.mm_host.proofs.Below.{total_of, IsBatchStep, PendingRecord, Slots, slot_front, IsWaiting, ServedCall}
 use Rattle.mm_host.proofs.Below.{served_lines, AreAmong, ContinuesTo, IsInHand, CallsRunOver, SessionFault, Host, IsSession}
 use Rattle.mm_host.proofs.Below.{served_calls_in}
+use Rattle.mm_host.proofs.Below.{SessionStanding}
 use Rattle.mm_host.proofs.CallsMade.{chain_of, Ends, rests, stops}
 use Rattle.mm_host.proofs.Lines.{length-served_lines}
 use Rattle.mm_model.specs.declared.refusal.Refusal.TheVariants.{Full}

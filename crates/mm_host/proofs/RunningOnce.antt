@@ -14,6 +14,7 @@ use Rattle.mm_host.proofs.Below.{agrees_is, foreign_may, is_agrees, counted_open
 use Rattle.mm_host.proofs.Below.{foreign_all, holds_made, foreign_messages, history_with_values, taking_is, names_alike, shown_back}
 use Rattle.mm_host.proofs.Below.{shown_front, shown_shut, MayStart, RunsOnceFrom, not_lost, was_powered, append-nil, SessionRunsOnce}
 use Rattle.mm_host.proofs.Below.{counted_part}
+use Rattle.mm_host.proofs.Below.{SessionStanding, session_standing}
 use Rattle.mm_model.specs.declared.refusal.Refusal.TheVariants as refusal
 use Rattle.mm_store.specs.declared.fault.StoreFault.TheVariants as fault
 use Rattle.mm_recovery.specs.declared.fault.HostFault.TheVariants as host

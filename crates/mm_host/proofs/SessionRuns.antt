@@ -12,6 +12,7 @@ use Rattle.mm_host.proofs.Below.{Variant, true}
 use Rattle.mm_host.specs.Sessions.{SessionGoesOn}
 use Rattle.mm_host.proofs.Below.{◌+◌, ◌%◌, length, IsLineFront, longest_request, HostGoesAfterRecord, BytesBeginWith, turn_answer_of}
 use Rattle.mm_host.proofs.Below.{IsMade, Enters, Lines, pending_spelling, position_at, TurnGoes, StoreFault, WriteFault, WritesSlot}
+use Rattle.mm_host.proofs.Below.{HostStanding, host_standing, session_standing}
 use Rattle.mm_recovery.specs.declared.fault.HostFault.TheVariants as host
 use Rattle.mm_host.proofs.CallsMade.{first_told, InHand, lines_chain, served_calls}
 use Rattle.mm_host.proofs.InTurn.{calls_reach, chain_reaches, ends_reach, May, met_last, StandsIn}
@@ -224,7 +225,7 @@ module _ {all others : List (List ℕ)} {asked : List Batch} {i : Instance} {fin
 
     -- the recovery, by what a call for what waits comes to
     recovered_by : (More : History → Type 0) (after : Standing) (came : Result Resumed HostFault)
-        → (waiting ≡ None → after ≡ before → More y) → 
+        → (waiting ≡ None → after ≡ before → More y) →
         (r : HostResumes i.variant i.meaning (host_standing before old) (host_standing after s.middle.kept) came)
         → (IsMade i.variant i.meaning r.waiting (host_standing before r.middle) (host_standing after s.middle.kept) came r.goes
         → (p : PendingRecord) (call : Result Answer Refusal) → waiting ≡ Some p
@@ -254,7 +255,7 @@ module _ {all others : List (List ℕ)} {asked : List Batch} {i : Instance} {fin
 
     -- or lines come behind it
     recovers_between : (first : Resumed) (lines : List (List ℕ)) → Reaches i.variant i s.middle.standing final → s.begun ≡ Ok first
-        → requests ≡ requests_with waiting lines → 
+        → requests ≡ requests_with waiting lines →
         (r : RecoversTo all others asked i y slots waiting s.middle (Ok first))
         × IsBetween laws (waiting_then laws z slots waiting) s.middle.standing (offer_then laws z slots waiting) lines r.after
     recovers_between first lines reaches is all_lines =

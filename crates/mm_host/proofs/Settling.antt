@@ -6,6 +6,7 @@ use Rattle.mm_host.proofs.Below.{HostFault, Resumed, Start, Answered, IsNotBeyon
 use Rattle.mm_host.proofs.Below.{AnswersAt, IsGrown, RequestMayBeCommitted, RecoversTo, IsRefusedAs, position_at, SessionPlace}
 use Rattle.mm_host.proofs.Below.{CallsRunOver, first_served_call, inr, last_position, subst, ◌≤◌, ◌++◌, Variant, Life, StepFault, fault_of}
 use Rattle.mm_host.proofs.Below.{by_refusal, AreNewFrom, AreToldOnce, RefusesAs, ServedCall, Host}
+use Rattle.mm_host.proofs.Below.{HostStanding}
 use Rattle.mm_model.specs.declared.refusal.Refusal.TheVariants as refusal
 use Rattle.mm_recovery.specs.declared.fault.HostFault.TheVariants as host
 use Rattle.mm_host.proofs.Leading.{answered_first, same_pending}

@@ -1,11 +1,12 @@
 -- The steps of a session: its start, a turn from what the reader read and what came of the line, and the rest of it.
 use Rattle.mm_host.proofs.Below.{◌≡◌, ℕ, List, [], ◌++◌, Option, Result, Ok, Err, refl, ap, inl, inr, Appends-nil, Appends-trans}
-use Rattle.mm_host.proofs.Below.{Consumes-nil, Variant, Standing, Meaning, StoreStanding, HostFault, SessionFault, Host, Resumed}
+use Rattle.mm_host.proofs.Below.{Consumes-nil, Variant, Meaning, HostFault, SessionFault, Host, Resumed}
 use Rattle.mm_host.proofs.Below.{HostResumes, SendsReply, TellsReply, session_result_of, reply_text, IsSession, ServesInput, ◌∙◌, ◌+◌, ◌≤◌}
 use Rattle.mm_host.proofs.Below.{◌∷◌, sym, append_assoc, arith, longest_request, Lines, WriteFault, AsksNextRequest, SessionPlace}
 use Rattle.mm_host.proofs.Below.{BytesBeginWith, SessionStopsInLine, most_lines, ServesNext, TurnGoes, length, Some, Consumes-trans}
 use Rattle.mm_host.proofs.Below.{joined_lines, Answered, served_lines, replies_to, ServesLine, AsksAndTells, TurnSends, ServedCall}
 use Rattle.mm_host.proofs.Below.{turn_answer_of}
+use Rattle.mm_host.proofs.Below.{HostStanding, SessionStanding, session_standing, host_of, place_of}
 use Rattle.mm_base.specs.ReadsNextLine.{ReadsNextLine}
 use Rattle.mm_base.specs.declared.lines.LineFault.{LineFault}
 use Rattle.mm_base.specs.declared.lines.Read.{Read}

@@ -1,4 +1,4 @@
-use Rattle.mm_host.proofs.Below.{◌≡◌, ◌+◌, ◌-◌, ◌≤◌, ℕ, [], Result, IsSized, SessionFault, SessionStanding}
+use Rattle.mm_host.proofs.Below.{◌≡◌, ◌+◌, ◌-◌, ◌≤◌, [], Result, IsSized, SessionFault, SessionStanding}
 use Rattle.mm_host.proofs.Below.{most_lines, ServesInput, session_standing}
 use Rattle.mm_host.proofs.serving.serve_lines.Given as goal
 
