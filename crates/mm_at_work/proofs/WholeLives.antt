@@ -1,6 +1,6 @@
 -- Lives over devices in memory are wholes: the slots of the first start are offered first, and of a copy what is asked.
 use Rattle.std.specs.List.{Contains}
-use Rattle.std.proofs.Common.{◌≡◌, ◌≤◌, ◌∙◌, ℕ, List, [], ◌∷◌, Option, None, Some, Result, arith, drop, length, refl, sym, ap, subst, take}
+use Rattle.std.proofs.Common.{◌≡◌, ◌≤◌, ◌∙◌, ℕ, List, [], ◌∷◌, None, Some, Result, arith, drop, length, refl, sym, ap, subst, take}
 use Rattle.std.proofs.Common.{inl, inr}
 use Rattle.std.proofs.lemmas.List.{append-nil, take_all}
 use Rattle.mm_digest.specs.declared.variant.Variant.{Variant}

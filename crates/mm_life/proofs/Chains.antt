@@ -21,8 +21,8 @@ use Rattle.mm_recovery.specs.declared.resuming.Resumed.TheVariants.{Answered, St
 use Rattle.mm_host.specs.AnySlots.{offer_after}
 use Rattle.mm_host.specs.SessionStanding.{SessionStanding, host_of}
 use Rattle.mm_host.specs.Continuation.{IsInHand, first_served_call, served_calls_in}
-use Rattle.mm_host.specs.Sessions.{SessionGoesAfterResume, BytesBeginWith, SessionPlace, SendsReply, ServedCall, TurnGoes, IsSession}
-use Rattle.mm_host.specs.Sessions.{SessionStopsInLine, turn_answer_of}
+use Rattle.mm_host.specs.Sessions.{SessionGoesAfterResume, BytesBeginWith, SessionPlace, SendsReply, ServedCall, ServesAllLines, IsSession}
+use Rattle.mm_host.specs.Sessions.{SessionStopsInLine}
 use Rattle.mm_host.specs.declared.fault.SessionFault.{SessionFault}
 use Rattle.mm_host.specs.declared.fault.SessionFault.TheVariants.{Host, Lines}
 use Rattle.mm_host.proofs.Above.{CallsInTurn, TellsCall, last_offer, served_calls, tells_call}
@@ -125,34 +125,32 @@ module _ (variant : Variant) (meaning : Meaning) (before after : Standing) where
       rw some (answered_first gives p offer first c (rw is at t))
 
 -- how the lines end
-module _ (variant : Variant) (meaning : Meaning) (number : ℕ) (at : SessionPlace) (new : HostStanding)
-    (left : Option (List ℕ)) (more sent : List ℕ) where
-  abbrev InHand : List ℕ → Type 0
-  InHand request = (held : List ℕ) × BytesBeginWith more request held
+abbrev InHand : List ℕ → List ℕ → Type 0
+InHand more request = (held : List ℕ) × BytesBeginWith more request held
 
+module _ (variant : Variant) (meaning : Meaning) (number : ℕ) (at : SessionPlace) (new : HostStanding) (more sent : List ℕ) where
   line_ends : (recorded : Result Unit StoreFault) (middle : StoreStanding) (line : List ℕ)
       (came : Result Resumed HostFault) (fault : SessionFault)
-      (g : HostGoesAfterRecord variant meaning recorded (record at.host { kept = middle }) new at.last line came) → InHand line
+      (g : HostGoesAfterRecord variant meaning recorded (record at.host { kept = middle }) new at.last line came) → InHand more line
       → SendsReply came sent (Err fault)
-      → Ends variant meaning at.host.standing new.standing (snapshot_at at.last) InHand
-      (recorded_calls {variant} {meaning} recorded (record at.host { kept = middle }) new at.last line came g) (Err fault)
+      → Ends variant meaning at.host.standing new.standing (snapshot_at at.last) (InHand more)
+      (recorded_calls variant meaning recorded (record at.host { kept = middle }) new at.last line came g) (Err fault)
   line_ends (Ok it) middle line came fault g hand says =
       stops line hand g.asked g.asks refl came (tells_call g.asked middle new.kept came g.goes) sent fault says refl
   line_ends (Err why) middle line came fault g hand says = rests (same_standing (record at.host { kept = middle }) new g.0) refl
 
   in_line : (fault : SessionFault) (e : SessionStopsInLine variant meaning number at new more sent fault)
-      → Ends variant meaning at.host.standing new.standing (snapshot_at at.last) InHand
-      (line_calls variant meaning at.host new at.last e.line e.asks) (Err fault)
+      → Ends variant meaning at.host.standing new.standing (snapshot_at at.last) (InHand more) (line_calls e.asks) (Err fault)
   in_line fault e = line_ends e.asks.recorded e.asks.middle e.line e.came fault e.asks.goes (e.held, e.begins) e.says
 
-  lines_end : (result : Result Unit SessionFault)
-      (e : TurnGoes variant meaning number at new left more [] sent (turn_answer_of result))
-      → Ends variant meaning at.host.standing new.standing (snapshot_at at.last) InHand
-      (last_calls {variant} {meaning} number at new left more sent result e) result
-  lines_end (Err (Host fault)) e = in_line (Host fault) e
-  lines_end (Err (Lines input.WriteFault)) e = in_line (Lines input.WriteFault) e
-  lines_end (Err (Lines input.Memory)) e = absurd e
-  lines_end _ e = rests (same_standing at.host new e.0.still) refl
+module _ (variant : Variant) (meaning : Meaning) (number : ℕ) (from : SessionPlace) (new : HostStanding) (left : Option (List ℕ))
+    (bytes sent : List ℕ) where
+  lines_end : (result : Result Unit SessionFault) (l : ServesAllLines variant meaning number from new left bytes sent result)
+      → Ends variant meaning l.at.host.standing new.standing (snapshot_at l.at.last) (InHand l.more) (last_calls result l) result
+  lines_end (Err (Host fault)) l = in_line variant meaning _ l.at new l.more l.last (Host fault) l.ends
+  lines_end (Err (Lines input.WriteFault)) l = in_line variant meaning _ l.at new l.more l.last (Lines input.WriteFault) l.ends
+  lines_end (Err (Lines input.Memory)) l = absurd l.ends
+  lines_end _ l = rests (same_standing l.at.host new l.ends.0.still) refl
 
 module _ {variant : Variant} {meaning : Meaning} {old new : SessionStanding} {result : Result Unit SessionFault}
     (s : IsSession variant meaning old new result) where
@@ -184,7 +182,7 @@ module _ {variant : Variant} {meaning : Meaning} {old new : SessionStanding} {re
         at = l.at.host.standing;
         calls = f.calls l.calls l.at.host.standing (served_calls variant meaning from l.at l.calls l.serves);
         ends = rw (f.offers l.calls) (rw (last_offer variant meaning from l.at l.calls l.serves)
-            (lines_end variant meaning _ l.at (host_of new) new.left l.more l.last result l.ends));
+            (lines_end variant meaning 1 from (host_of new) new.left s.taken g.replies result l));
       }
 
   pub session_chain : Chain variant meaning (first_bytes s) old.standing new.standing (served_calls_of s) (IsInHandOf s)

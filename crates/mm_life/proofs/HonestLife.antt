@@ -96,19 +96,19 @@ store_failed (Err (Host Store)) = inl refl
 store_failed _ = inr (λ e. cc)
 
 -- a life that goes on from these requests
-record GoneOn (all others : List (List ℕ)) (asked : List Batch) (i : Instance) (requests : List (List ℕ)) (kept : StoreStanding)
+pub record GoneOn (all others : List (List ℕ)) (asked : List Batch) (i : Instance) (requests : List (List ℕ)) (kept : StoreStanding)
     (start : Standing) (stages : List LifeStage) (f : IsLife i.variant i.meaning start stages) : Type 0 where
-  after : List (List ℕ)
-  goes : GoesOnFrom others i start stages f requests after
-  follows : LifeFollows i.variant i.meaning start stages f requests after
-  history : History
-  holds : requests_of history.batches ≡ after
-  stands : StandsFor i (end_of start stages) history
-  within : IsWithin all others asked i history
-  honest : (store_at_end kept stages).is_honest ≡ true
-  left : Slots
-  told : (store_at_end kept stages).slots ≡ Some left
-  fits : FitsHistory i left history
+  pub after : List (List ℕ)
+  pub goes : GoesOnFrom others i start stages f requests after
+  pub follows : LifeFollows i.variant i.meaning start stages f requests after
+  pub history : History
+  pub holds : requests_of history.batches ≡ after
+  pub stands : StandsFor i (end_of start stages) history
+  pub within : IsWithin all others asked i history
+  pub honest : (store_at_end kept stages).is_honest ≡ true
+  pub left : Slots
+  pub told : (store_at_end kept stages).slots ≡ Some left
+  pub fits : FitsHistory i left history
 
 pub gone_from_none : {all others : List (List ℕ)} {asked : List Batch} {i : Instance} {kept : StoreStanding} {start : Standing}
     {stages : List LifeStage} {f : IsLife i.variant i.meaning start stages} → GoneOn all others asked i [] kept start stages f

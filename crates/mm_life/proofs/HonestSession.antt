@@ -1,5 +1,5 @@
 -- A session over an honest store, by the calls that it made: it goes on from a history that the slots fit.
-use Rattle.std.proofs.Common.{◌≡◌, ◌∙◌, ◌⊎◌, ℕ, true, List, [], ◌∷◌, ◌++◌, map, Option, None, Some, Result, Ok, Err, refl, sym, subst, inl}
+use Rattle.std.proofs.Common.{◌≡◌, ◌∙◌, ◌⊎◌, ◌+◌, ℕ, true, List, [], ◌∷◌, ◌++◌, map, Option, None, Some, Result, Ok, Err, refl, sym, subst, inl}
 use Rattle.std.proofs.Common.{inr}
 use Rattle.mm_base.specs.declared.replay_fault.ReplayFault.TheVariants.{WriteFault}
 use Rattle.mm_digest.specs.declared.variant.Variant.{Variant}
@@ -28,12 +28,12 @@ use Rattle.mm_recovery.proofs.Above.{IsMade, MadeOf, Saw, one_waiting, saw_two}
 use Rattle.mm_host.specs.AnySlots.{AreAskedInTurn, history_after_answer, offer_after}
 use Rattle.mm_host.specs.Continuation.{ContinuesTo, IsInHand, served_calls_in}
 use Rattle.mm_host.specs.SessionStanding.{SessionStanding, host_of, session_standing}
-use Rattle.mm_host.specs.Sessions.{SessionGoesAfterResume, SessionPlace, ServedCall, TurnGoes, IsSession, turn_answer_of, served_lines}
+use Rattle.mm_host.specs.Sessions.{SessionGoesAfterResume, SessionPlace, ServedCall, ServesAllLines, IsSession, served_lines}
 use Rattle.mm_host.specs.declared.fault.SessionFault.{SessionFault}
 use Rattle.mm_host.specs.declared.fault.SessionFault.TheVariants.{Host, Lines}
 use Rattle.mm_host.proofs.Above.{AreMade, CallsInTurn, IsLineAsked, IsWritten, Laws, Shows, StandsIn, calls_reach, continues_by, May}
 use Rattle.mm_host.proofs.Above.{fits_genuine, pending_for, same_self, stepped_by}
-use Rattle.std.proofs.Common.{Bool, ap}
+use Rattle.std.proofs.Common.{Bool, ap, length}
 use Rattle.mm_model.specs.History.{requests_of, total_of}
 use Rattle.mm_store.specs.declared.fault.StoreFault.TheVariants as fault
 use Rattle.mm_host.specs.Continuation.{AreToldOnce, RefusesAs}
@@ -203,24 +203,25 @@ module _ (variant : Variant) (meaning : Meaning) where
   record_made : (recorded : Result Unit StoreFault) (middle new : HostStanding) (last : Resumed) (line : List ℕ)
       (came : Result Resumed HostFault) (g : HostGoesAfterRecord variant meaning recorded middle new last line came)
       → IsWritten recorded
-      → requests_in (recorded_calls {variant} {meaning} recorded middle new last line came g) ≡ line ∷ []
+      → requests_in (recorded_calls variant meaning recorded middle new last line came g) ≡ line ∷ []
   record_made (Ok it) middle new last line came g m = refl
   record_made (Err why) middle new last line came g m = absurd m
 
-module _ (variant : Variant) (meaning : Meaning) (number : ℕ) (at : SessionPlace) (new : HostStanding)
-    (left : Option (List ℕ)) (more sent : List ℕ) where
-  line_made : (result : Result Unit SessionFault) (e : TurnGoes variant meaning number at new left more [] sent (turn_answer_of result))
-      → IsLineAsked variant meaning number at new left more sent
-      (requests_in (last_calls {variant} {meaning} number at new left more sent result e)) result e
-  line_made (Err (Host fault)) e = λ m. (
+module _ (variant : Variant) (meaning : Meaning) (number : ℕ) (from : SessionPlace) (new : HostStanding) (left : Option (List ℕ))
+    (bytes sent : List ℕ) where
+  line_made : (result : Result Unit SessionFault) (l : ServesAllLines variant meaning number from new left bytes sent result)
+      → IsLineAsked variant meaning (length l.calls + number) l.at new left l.more l.last (requests_in (last_calls result l)) result l.ends
+  line_made (Err (Host fault)) l = λ m. (
     [],
-    record_made variant meaning e.asks.recorded (record at.host { kept = e.asks.middle }) new at.last e.line e.came e.asks.goes m,
+    record_made variant meaning l.ends.asks.recorded (record l.at.host { kept = l.ends.asks.middle }) new l.at.last l.ends.line
+        l.ends.came l.ends.asks.goes m,
   )
-  line_made (Err (Lines WriteFault)) e = λ m. (
+  line_made (Err (Lines WriteFault)) l = λ m. (
     [],
-    record_made variant meaning e.asks.recorded (record at.host { kept = e.asks.middle }) new at.last e.line e.came e.asks.goes m,
+    record_made variant meaning l.ends.asks.recorded (record l.at.host { kept = l.ends.asks.middle }) new l.at.last l.ends.line
+        l.ends.came l.ends.asks.goes m,
   )
-  line_made _ e = tt
+  line_made _ l = tt
 
 module _ {variant : Variant} {meaning : Meaning} {old new : SessionStanding} {result : Result Unit SessionFault}
     (s : IsSession variant meaning old new result) (waiting : Option PendingRecord) where
@@ -236,7 +237,7 @@ module _ {variant : Variant} {meaning : Meaning} {old new : SessionStanding} {re
   all_made (inr g) is = (
     requests_in (untold_calls s (inr g)),
     refl,
-    line_made variant meaning _ g.lines.at (host_of new) new.left g.lines.more g.lines.last result g.lines.ends,
+    line_made variant meaning 1 (record { host = s.middle; last = g.first }) (host_of new) new.left s.taken g.replies result g.lines,
   )
 
 module _ {all others : List (List ℕ)} {asked : List Batch} {i : Instance} {final : Standing} (laws : Laws all others asked i final)

@@ -1,7 +1,7 @@
 -- A first start of Opt, a session, a checkpoint, a loss of power, and a session over the same store, over any devices.
 use Rattle.std.specs.Prelude.{Bool, Ok, Err, true, false, Some, map}
 use Rattle.std.specs.Option.{option_map}
-use Rattle.std.proofs.Common.{◌∙◌, ◌≡◌, ◌++◌, ap, ℕ, List, [], Option, Result, refl, take, drop, inl, inr}
+use Rattle.std.proofs.Common.{◌∙◌, ◌≡◌, ◌++◌, ap, ℕ, List, Option, Result, refl, take, drop, inl, inr}
 use Rattle.mm_base.specs.declared.fault.Failed.{Failed}
 use Rattle.mm_digest.specs.declared.variant.Variant.{Variant}
 use Rattle.mm_digest.specs.declared.variant.Variant.TheVariants.{Opt}

@@ -2,10 +2,10 @@
 use Rattle.std.specs.Prelude.{◌≡◌, ℕ, List, [], ◌∷◌, ◌++◌, Option, None, Some, Result, Ok, Err}
 use Rattle.std.proofs.Common.{inl, inr}
 use Rattle.mm_base.specs.declared.replay_fault.ReplayFault.TheVariants.{WriteFault}
-use Rattle.mm_life.specs.Below.{Variant, Meaning, StoreFault, PendingRecord, HostStanding, host_standing, snapshot_at, HostGoesAfterRecord}
+use Rattle.mm_life.specs.Below.{Variant, Meaning, StoreFault, PendingRecord, HostStanding, host_standing, HostGoesAfterRecord}
 use Rattle.mm_life.specs.Below.{AsksNextRequest, HostGoesAfterFinding, HostGoesAfterOffer, AsksAndKeepsAnswer, HostFault, Resumed}
-use Rattle.mm_life.specs.Below.{SessionGoesAfterResume, SessionPlace, SessionStanding, ServedCall, TurnGoes, IsSession, IsInHand}
-use Rattle.mm_life.specs.Below.{host_of, turn_answer_of, served_calls_in, SessionFault}
+use Rattle.mm_life.specs.Below.{SessionGoesAfterResume, ServesAllLines, SessionPlace, SessionStanding, ServedCall, IsSession, IsInHand}
+use Rattle.mm_life.specs.Below.{host_of, served_calls_in, SessionFault}
 use Rattle.mm_host.specs.declared.fault.SessionFault.TheVariants.{Host, Lines}
 use Rattle.mm_life.specs.Deeds.{LifeCall}
 
@@ -17,10 +17,10 @@ told_calls offer (c ∷ calls) =
     ∷ told_calls c.answer.snapshot calls
 
 -- a request is asked: one call
-abbrev pub one_call : (variant : Variant) (meaning : Meaning) (old new : HostStanding)
-    (offer request : List ℕ) {result : Result Resumed HostFault}
+abbrev pub one_call : {variant : Variant} {meaning : Meaning} {old new : HostStanding}
+    {offer request : List ℕ} {result : Result Resumed HostFault}
     → AsksAndKeepsAnswer variant meaning old new offer request result → List LifeCall
-one_call variant meaning old new offer request a =
+one_call {offer = offer} {request = request} a =
     record { offer = offer; request = request; gives = a.asked } ∷ []
 
 -- what waits is asked, unless the store failed before
@@ -28,8 +28,7 @@ abbrev pub offered_calls : (variant : Variant) (meaning : Meaning)
     (offer : Result (List ℕ) StoreFault) (middle new : HostStanding) (p : PendingRecord)
     (result : Result Resumed HostFault)
     → HostGoesAfterOffer variant meaning offer middle new p result → List LifeCall
-offered_calls variant meaning (Ok offer) middle new p result a =
-    one_call variant meaning middle new offer p.request a
+offered_calls variant meaning (Ok offer) middle new p result a = one_call a
 offered_calls variant meaning (Err why) middle new p result a = []
 
 abbrev pub first_calls : (variant : Variant) (meaning : Meaning)
@@ -55,32 +54,28 @@ offer_after_finding variant meaning (Ok None) middle new result a = bytes_of (a.
 offer_after_finding variant meaning (Err why) middle new result a = []
 
 -- a line is asked, unless its record isn't written
-abbrev pub recorded_calls : {variant : Variant} {meaning : Meaning}
+abbrev pub recorded_calls : (variant : Variant) (meaning : Meaning)
     (recorded : Result Unit StoreFault) (middle new : HostStanding) (last : Resumed)
     (line : List ℕ) (result : Result Resumed HostFault)
     → HostGoesAfterRecord variant meaning recorded middle new last line result → List LifeCall
-recorded_calls {variant} {meaning} (Ok it) middle new last line result a =
-    one_call variant meaning middle new (snapshot_at last) line a
-recorded_calls (Err why) middle new last line result a = []
+recorded_calls variant meaning (Ok it) middle new last line result a = one_call a
+recorded_calls variant meaning (Err why) middle new last line result a = []
 
-abbrev pub line_calls : (variant : Variant) (meaning : Meaning) (old new : HostStanding)
-    (last : Resumed) (line : List ℕ) {result : Result Resumed HostFault}
+abbrev pub line_calls : {variant : Variant} {meaning : Meaning} {old new : HostStanding}
+    {last : Resumed} {line : List ℕ} {result : Result Resumed HostFault}
     → AsksNextRequest variant meaning old new last line result → List LifeCall
-line_calls variant meaning old new last line {result} a =
-    recorded_calls {variant} {meaning} a.recorded (record old { kept = a.middle }) new last line
-    result a.goes
+line_calls {variant} {meaning} {old} {new} {last} {line} {result} a =
+    recorded_calls variant meaning a.recorded (record old { kept = a.middle }) new last line result
+    a.goes
 
--- the line in hand where the session stops
-abbrev pub last_calls : {variant : Variant} {meaning : Meaning} (number : ℕ) (at : SessionPlace)
-    (new : HostStanding) (left : Option (List ℕ)) (more sent : List ℕ)
+-- of the lines that are served, the one in hand where the session stops
+abbrev pub last_calls : {variant : Variant} {meaning : Meaning} {number : ℕ} {from : SessionPlace}
+    {new : HostStanding} {left : Option (List ℕ)} {bytes sent : List ℕ}
     (result : Result Unit SessionFault)
-    → TurnGoes variant meaning number at new left more [] sent (turn_answer_of result)
-    → List LifeCall
-last_calls {variant} {meaning} number at new left more sent (Err (Host fault)) e =
-    line_calls variant meaning at.host new at.last e.line e.asks
-last_calls {variant} {meaning} number at new left more sent (Err (Lines WriteFault)) e =
-    line_calls variant meaning at.host new at.last e.line e.asks
-last_calls number at new left more sent _ e = []
+    → ServesAllLines variant meaning number from new left bytes sent result → List LifeCall
+last_calls (Err (Host fault)) lines = line_calls lines.ends.asks
+last_calls (Err (Lines WriteFault)) lines = line_calls lines.ends.asks
+last_calls _ lines = []
 
 -- what waited, where the store told it
 abbrev pub found_record : Result (Option PendingRecord) StoreFault → Option PendingRecord
@@ -120,9 +115,7 @@ abbrev pub untold_calls : {variant : Variant} {meaning : Meaning} {old new : Ses
     → List LifeCall
 untold_calls {variant} {meaning} s (inl stops) =
     first_calls variant meaning s.resumes.waiting (found_host s) s.middle s.begun s.resumes.goes
-untold_calls {variant} {meaning} {old} {new} {result} s (inr goes) =
-    last_calls {variant} {meaning} _ goes.lines.at (host_of new) new.left goes.lines.more
-    goes.lines.last result goes.lines.ends
+untold_calls {result = result} s (inr goes) = last_calls result goes.lines
 
 -- all calls that it made
 abbrev pub session_calls : {variant : Variant} {meaning : Meaning} {old new : SessionStanding}
