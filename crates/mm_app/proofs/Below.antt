@@ -33,7 +33,7 @@ pub use Rattle.mm_words.proofs.Above.{one_command}
 pub use Rattle.mm_gen.specs.declared.fault.BulkFault.{BulkFault}
 pub use Rattle.mm_gen.specs.declared.summary.Summary.{Summary}
 pub use Rattle.mm_recovery.specs.FirstStart.{BlamesDevice, TellsUse}
-pub use Rattle.mm_recovery.specs.Init.{GoesAfterLooking, GoesAfterAllPuts, GoesAfterTaking, Devices, devices, instance_from, SetsUp}
+pub use Rattle.mm_recovery.specs.Init.{GoesAfterLooking, GoesAfterAllPuts, GoesAfterTaking, Devices, instance_from, SetsUp}
 pub use Rattle.mm_recovery.specs.Init.{TakesBytes, result_of_write}
 pub use Rattle.mm_recovery.specs.declared.init_fault.InitFault.{InitFault}
 pub use Rattle.mm_host.specs.declared.fault.SessionFault.{SessionFault}

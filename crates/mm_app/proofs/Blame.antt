@@ -168,9 +168,8 @@ module _ (command : CommandLine) (old new : Outside) (status : Status) where
   -- a session, or none where no instance was found
   run_blamed : (found : Result Header Status) (fault : Option StepFault) (middle : Standing) (made : Bool)
       → DeviceStepEnds fault old.standing middle made → FindsInstance fault old.standing found
-      → ServesIfFound found middle new.standing old.kept new.kept old.left new.left old.received new.received old.reads new.reads
-      old.writes new.writes status → source_faults command old ≡ old.reads → source_faults command new ≡ new.reads
-      → Blamed command old new status
+      → ServesIfFound found (record old { standing = middle }) new status → source_faults command old ≡ old.reads
+      → source_faults command new ≡ new.reads → Blamed command old new status
   run_blamed (Ok header) None middle made e f a read read' =
       let served = a.served in
       blamed_so _ _ _ (blames_as status _ _ _ (session_status served.answer) served.ends (served_as served.answer))

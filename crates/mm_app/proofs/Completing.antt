@@ -1,7 +1,7 @@
 -- A command of the host isn't refused where it may be done.
 use Rattle.mm_app.proofs.Below.{◌≡◌, ◌∙◌, ◌+◌, ◌≤◌, ◌<◌, ℕ, Bool, true, false, List, length, Option, None, Some, Result, Ok, Err, refl, sym}
 use Rattle.mm_app.proofs.Below.{ap, subst, inl, inr, arith, length-append, Consumes, IsAtEnd, Variant, TellsUse, GoesAfterLooking}
-use Rattle.mm_app.proofs.Below.{GoesAfterAllPuts, GoesAfterTaking, Devices, SetsUp, TakesBytes, devices, instance_from, result_of_write}
+use Rattle.mm_app.proofs.Below.{GoesAfterAllPuts, GoesAfterTaking, Devices, SetsUp, TakesBytes, instance_from, result_of_write}
 use Rattle.mm_app.proofs.Below.{SessionFault, InitFault, Instance, Refusal, meaning_of, module_of_id, any_is_found, AnyModule}
 use Rattle.mm_app.proofs.Below.{ClosesSegment, EndsClosing, EndsLooking, FindsClosing, FindsSegment, LooksAtSegment, WeighsRegister}
 use Rattle.mm_app.proofs.Below.{closing_by, result_of_closing_write, segment_by, segment_in, Checkpointed, CheckpointRefusal, StepFault}
@@ -22,6 +22,8 @@ use Rattle.mm_base.specs.Input.{lines_of}
 use Rattle.mm_host.proofs.Above.{among_input, unless_full}
 use Rattle.mm_host.specs.AnySlots.{requests_with}
 use Rattle.mm_host.specs.Continuation.{RefusesAs}
+use Rattle.mm_recovery.specs.HostStanding.{HostStanding}
+use Rattle.mm_recovery.specs.Init.{host_among}
 use Rattle.mm_recovery.specs.InitFaults.{init_fault_as}
 use Rattle.mm_host.specs.SessionLines.{IsNoLines}
 use Rattle.mm_host.specs.declared.fault.SessionFault.TheVariants as session
@@ -41,6 +43,7 @@ use Rattle.mm_seal.specs.declared.cell.Cell.{Cell}
 use Rattle.mm_seal.specs.CellLaws.{reads_cell-same}
 use Rattle.mm_store.specs.declared.fault.StoreFault.{StoreFault}
 use Rattle.mm_app.proofs.Below.{Bulk, bulk_lines, BulkFault, Summary}
+use Rattle.mm_app.specs.Outside.{devices_of}
 use Rattle.mm_app.specs.Completeness.{CanRun, CanServe, in_basic, in_opt, IsReplayable}
 use Rattle.mm_gen.specs.Replay.{IsReplayed, replay_of}
 use Rattle.mm_gen.specs.declared.fault.BulkFault.TheVariants as bulk
@@ -96,11 +99,11 @@ put_whole : (cell : List ℕ) (before after : Standing) (stored : Result (Unit {
 put_whole cell before after (Ok done) result got a s = written_whole a.written result got a.gives s
 put_whole cell before after (Err why) result got a s = unstored_whole why result got a.1 s
 
-pub set_whole : (i : Instance) (before after : Standing) (old new : StoreStanding) (result : Result (Unit {0}) InitFault) (got : ℕ)
-    → SetsUp i before after old new result → Shorts result got → ⊥
-set_whole i before after old new result got up s = elim up [
-  | inl none ↦ let e = none.2 in cc
-  | inr both ↦ put_whole (cell_spelling (cell_of i first_history)) before after both.stored result got both.goes s
+pub set_whole : (i : Instance) (old new : HostStanding) (result : Result (Unit {0}) InitFault) (got : ℕ)
+    → SetsUp i old new result → Shorts result got → ⊥
+set_whole i old new result got up s = elim up [
+  | inl none ↦ let e = none.1 in cc
+  | inr both ↦ put_whole (cell_spelling (cell_of i first_history)) old.standing new.standing both.stored result got both.goes s
 ]
 
 taken_whole : (variant : Variant) (meaning : Meaning) (middle after : Devices) (taken : Result (List ℕ) Failed) (result : Result (Unit {0})
@@ -110,7 +113,7 @@ taken_whole : (variant : Variant) (meaning : Meaning) (middle after : Devices) (
 taken_whole variant meaning middle after (Err why) result got enough a s = let e = a.1 in cc
 taken_whole variant meaning middle after (Ok bytes) result got enough a s = elim a [
   | inl few ↦ enough bytes refl few.0
-  | inr many ↦ set_whole (instance_from variant meaning bytes) middle.platform after.platform middle.store after.store result got many.2 s
+  | inr many ↦ set_whole (instance_from variant meaning bytes) (host_among middle) (host_among after) result got many.2 s
 ]
 
 never_short : (variant : Variant) (meaning : Meaning) (middle after : Devices) (is_blank : Result Bool StepFault)
@@ -224,9 +227,8 @@ session_ends _ variant after powered pure lines unfull r = tt
 module _ (old new : Outside) (status : Status) (middle : Standing) where
   abbrev Serves : Result Header Status → Type 0
   Serves found =
-      ServesIfFound found middle new.standing old.kept new.kept old.left new.left old.received new.received old.reads new.reads old.writes
-      new.writes status
-      × ContinuesIfFound found old.standing middle new.standing old.kept new.kept old.left new.left old.received
+      ServesIfFound found (record old { standing = middle }) new status
+      × ContinuesIfFound found old.standing (record old { standing = middle }) new
 
   -- what is found in the cell
   found_is : (v : Variant) (it : AnyModule) (held : Held) (found : Result Header Status) (bytes : List ℕ) → held.variant ≡ v
@@ -285,12 +287,10 @@ module _ (old new : Outside) (status : Status) (middle : Standing) where
 does_end : (command : CommandLine) (old new : Outside) (status : Status) → CanBeDone command old new → CommandDoes command old new status
     → IsDoneOrFailed status
 does_end (Init header) old new status can d =
-    let before : Devices = devices old.standing old.kept old.entropy old.takes in
-    let after : Devices = devices new.standing new.kept new.entropy new.takes in
     told_ends (init_line d.answer) old.received new.received old.writes new.writes status d.tells
-    (start_ends d.answer (λ got s. never_short header.variant (meaning_of header.module) (record before { platform = d.steps.platform })
-    after d.steps.is_blank d.answer can.secrets got can.left can.many d.steps.goes s) (unused before blank_cell d.answer d.uses can.cell
-    refl))
+    (start_ends d.answer (λ got s. never_short header.variant (meaning_of header.module)
+    (record (devices_of old) { platform = d.steps.platform }) (devices_of new) d.steps.is_blank d.answer can.secrets got can.left can.many
+    d.steps.goes s) (unused (devices_of old) blank_cell d.answer d.uses can.cell refl))
 does_end Run old new status can d = run_ends old new status d.middle d.looks.fault d.found can d.looks.finds (d.goes, d.continues)
 does_end Checkpoint old new status can d =
     told_ends (checkpoint_line d.answer) old.received new.received old.writes new.writes status d.tells

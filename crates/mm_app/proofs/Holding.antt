@@ -56,8 +56,7 @@ TellsOffer command old new status cell why =
     (status ≡ Refused why → (command ≡ Run) × IsOfOffer why)
     × ((slots : Slots) (waiting : Option PendingRecord) (input : List ℕ) → old.kept.slots ≡ Some slots →
     IsWaiting (slot_front slots 2) (slot_front slots 3) waiting → old.left ≡ Some input → IsExactlyWhere ((command ≡ Run)
-    × RefusesNext cell old.standing new.standing old.kept new.kept old.left new.left old.received slots waiting input status why)
-    (Refused why) status)
+    × RefusesNext cell old new slots waiting input status why) (Refused why) status)
 
 -- another command, or another status
 pub none_offered : (command : CommandLine) (old new : Outside) (status : Status) (cell : List ℕ) (why : Refusal)

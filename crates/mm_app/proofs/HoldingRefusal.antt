@@ -101,7 +101,7 @@ module _ (old new : Outside) (status : Status) (cell : List ℕ) (told : old.sta
     (slots_told : old.kept.slots ≡ Some slots) (w : IsWaiting (slot_front slots 2) (slot_front slots 3) waiting)
     (left : old.left ≡ Some input) where
   pub refused_always : (why : Refusal)
-      → RefusesNext cell old.standing new.standing old.kept new.kept old.left new.left old.received slots waiting input status why
+      → RefusesNext cell old new slots waiting input status why
       → (status ≡ Refused why) ⊎ EndsByFault status
   refused_always why r =
       let i : Instance = instance_of r.held r.it in

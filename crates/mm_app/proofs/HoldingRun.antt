@@ -34,6 +34,7 @@ use Rattle.mm_seal.specs.CellLaws.{reads_cell-same}
 use Rattle.mm_seal.specs.declared.cell.CellFault.TheVariants as unheld
 use Rattle.mm_store.specs.PendingRecord.{PendingRecord}
 use Rattle.mm_store.specs.Slots.{Slots, slot_front}
+use Rattle.mm_app.specs.Outside.{session_of}
 use Rattle.mm_app.specs.StatusFacts.{CantRead, EndsByFault, HasLostPower, instance_of, IsExactlyWhere, MayBeLost, RefusesNext}
 use Rattle.mm_app.specs.Run.{refusal_status}
 use Rattle.mm_app.specs.Status.{status_at}
@@ -110,16 +111,15 @@ basic_shut Opt flag barrier fits e = refl
 module _ (old new : Outside) (status : Status) (middle : Standing) (cell : List ℕ) (held : Held) (it : AnyModule)
     (spells : SpellsCell cell held) (found : module_of_id held.module ≡ Some it) (goes : StepGoes ReadCell old.standing middle None)
     (told : old.standing.cell ≡ Some cell) (items : List Item) (shown : old.standing.items ≡ Some items)
-    (s : ServesAndStops (record { variant = held.variant; «module» = it }) middle new.standing old.kept new.kept old.left new.left
-    old.received new.received old.reads new.reads old.writes new.writes status) where
+    (s : ServesAndStops (record { variant = held.variant; «module» = it }) (record old { standing = middle }) new status) where
   abbrev i : Instance
   i = instance_of held it
 
   first : StandsFirst i middle
   first = stands_first old.standing middle cell held it spells found (read_untouched old.standing middle goes) told items shown
 
-  abbrev ran : IsSession held.variant (meaning_of it) middle new.standing old.kept new.kept old.left new.left old.received s.between
-      s.served.answer
+  abbrev ran : IsSession held.variant (meaning_of it) (record (session_of old) { standing = middle })
+      (record (session_of new) { received = s.between }) s.served.answer
   ran = s.served.sessions
 
   -- a refusal that the status tells
@@ -226,8 +226,7 @@ module _ (old new : Outside) (status : Status) (middle : Standing) (cell : List 
   module _ (slots : Slots) (waiting : Option PendingRecord) (input : List ℕ) (slots_told : old.kept.slots ≡ Some slots)
       (w : IsWaiting (slot_front slots 2) (slot_front slots 3) waiting) (left : old.left ≡ Some input) where
     abbrev RefusesHere : Refusal → Type 0
-    RefusesHere why =
-        RefusesNext cell old.standing new.standing old.kept new.kept old.left new.left old.received slots waiting input status why
+    RefusesHere why = RefusesNext cell old new slots waiting input status why
 
     refused_run : (why : Refusal) → status ≡ Refused why → RefusesHere why
     refused_run why is =
@@ -244,7 +243,7 @@ module _ (old new : Outside) (status : Status) (middle : Standing) (cell : List 
             found = found;
             start = middle;
             looked = read_untouched old.standing middle goes;
-            received' = s.between;
+            between = s.between;
             answer = s.served.answer;
             went = ran;
             ended = s.served.ends;
@@ -266,7 +265,7 @@ abbrev IsRefusedRun : (old new : Outside) → Status → List ℕ → Refusal �
 IsRefusedRun old new status cell why =
     (slots : Slots) (waiting : Option PendingRecord) (input : List ℕ) → old.kept.slots ≡ Some slots →
     IsWaiting (slot_front slots 2) (slot_front slots 3) waiting → old.left ≡ Some input →
-    RefusesNext cell old.standing new.standing old.kept new.kept old.left new.left old.received slots waiting input status why
+    RefusesNext cell old new slots waiting input status why
 
 -- What is told of a cell that is told.
 record AtRun (old new : Outside) (status : Status) (cell : List ℕ) : Type 0 where
@@ -277,9 +276,7 @@ record AtRun (old new : Outside) (status : Status) (cell : List ℕ) : Type 0 wh
 
 module _ (old new : Outside) (status : Status) (middle : Standing) (cell : List ℕ) where
   abbrev Goes_on : Result Header Status → Type 0
-  Goes_on found =
-      ServesIfFound found middle new.standing old.kept new.kept old.left new.left old.received new.received old.reads new.reads
-      old.writes new.writes status
+  Goes_on found = ServesIfFound found (record old { standing = middle }) new status
 
   blank_run : cell ≡ blank_cell → status ≡ Blank → AtRun old new status cell
   blank_run is e = record {
@@ -348,18 +345,15 @@ module _ (old new : Outside) (status : Status) (middle : Standing) where
   unlike_run run end not is = let clash : true ≡ false = sym run ∙ ap is_run is ∙ not in absurd (cc)
 
   ends_run : (read : Result Held CellFault) (found : Result Header Status) → found ≡ found_instance read
-      → ServesIfFound found middle new.standing old.kept new.kept old.left new.left old.received new.received old.reads new.reads
-      old.writes new.writes status → is_run status ≡ true
+      → ServesIfFound found (record old { standing = middle }) new status → is_run status ≡ true
   ends_run read (Err end) e g = ap is_run g.stops.ends ∙ found_is_run read end e
   ends_run read (Ok header) e g = ap is_run g.served.ends ∙ session_is_run g.served.answer
 
   run_by : (fault : Option StepFault) (found : Result Header Status) → StepGoes ReadCell old.standing middle fault
       → FindsInstance fault old.standing found
-      → ServesIfFound found middle new.standing old.kept new.kept old.left new.left old.received new.received old.reads new.reads
-      old.writes new.writes status → Holding Run old new status
+      → ServesIfFound found (record old { standing = middle }) new status → Holding Run old new status
   run_by (Some fault) found goes f g =
-      let none = subst (λ (r : Result Header Status). ServesIfFound r middle new.standing old.kept new.kept old.left new.left old.received
-      new.received old.reads new.reads old.writes new.writes status) f g in
+      let none = subst (λ (r : Result Header Status). ServesIfFound r (record old { standing = middle }) new status) f g in
       fault_holding Run old new status (subst EndsByFault (sym none.stops.ends) tt)
   run_by None found goes f g =
       let sees = f.2 in

@@ -1,14 +1,16 @@
 -- What `init` tells of what the cell and the source of entropy held.
 use Rattle.mm_app.proofs.Below.{◌≡◌, ◌∙◌, ◌+◌, ◌≤◌, ◌<◌, ℕ, Bool, true, false, List, length, Option, None, Some, Result, Ok, Err, refl, sym}
 use Rattle.mm_app.proofs.Below.{ap, subst, inl, inr, ◌⊎◌, arith, length-append, append-nil, Consumes, IsAtEnd, Variant, TellsUse}
-use Rattle.mm_app.proofs.Below.{GoesAfterLooking, GoesAfterTaking, Devices, devices, TakesBytes, instance_from, InitFault, Header, Init}
+use Rattle.mm_app.proofs.Below.{GoesAfterLooking, GoesAfterTaking, Devices, TakesBytes, instance_from, InitFault, Header, Init}
 use Rattle.mm_app.proofs.Below.{CommandDoes, Outside, init_line, [], Status, StepFault, TellsLines, meaning_of}
 use Rattle.std.specs.Prelude.{◌≢◌}
 use Rattle.mm_base.specs.declared.fault.Failed.{Failed}
 use Rattle.mm_module.specs.Meaning.{Meaning}
 use Rattle.mm_recovery.specs.FirstStart.{TellsByCell}
+use Rattle.mm_recovery.specs.Init.{host_among}
 use Rattle.mm_recovery.specs.declared.init_fault.InitFault.TheVariants as init
 use Rattle.mm_seal.specs.Cell.{blank_cell}
+use Rattle.mm_app.specs.Outside.{devices_of}
 use Rattle.mm_app.specs.StatusFacts.{EndsByFault, IsExactlyWhere, RunsShort, StartsOne}
 use Rattle.mm_app.specs.declared.status.Status.TheVariants.{Already, Blank, Cell, Kind, Lost, Refused, Short, Memory, PlatformFault}
 use Rattle.mm_app.specs.declared.status.Status.TheVariants.{ReadFault, StoreFault}
@@ -85,8 +87,8 @@ module _ (cell : List ℕ) (status : Status) where
         | inr many ↦
             let most = consumed_most secrets bytes left c in
             nowhere
-            (λ is. set_whole (instance_from variant meaning bytes) middle.platform after.platform middle.store after.store answer got
-            many.2 (short_only answer got (only is))) (λ h. absurd (omega (arith, most, many.0, h.0.2)))
+            (λ is. set_whole (instance_from variant meaning bytes) (host_among middle) (host_among after) answer got many.2
+            (short_only answer got (only is))) (λ h. absurd (omega (arith, most, many.0, h.0.2)))
       ]
 
   short_where : (variant : Variant) (meaning : Meaning) (middle after : Devices) (is_blank : Result Bool StepFault)
@@ -105,8 +107,6 @@ module _ (cell : List ℕ) (status : Status) where
 pub start_holding : (header : Header) (old new : Outside) (status : Status) → CommandDoes (Init header) old new status
     → Holding (Init header) old new status
 start_holding header old new status d =
-    let before : Devices = devices old.standing old.kept old.entropy old.takes in
-    let after : Devices = devices new.standing new.kept new.entropy new.takes in
     let only = λ (end : Status) (is : status ≡ end) (held : tells_held end ≡ true).
     held_told (init_line d.answer) old.received new.received old.writes new.writes status end d.tells is held in
     let so : Told [] status d.answer = λ end e.
@@ -119,8 +119,8 @@ start_holding header old new status d =
       unread = λ cell items told shown. nowhere (unlike Cell refl refl) (λ h. h);
       kind = λ cell told. nowhere (unlike Kind refl refl) (λ h. h);
       short = λ cell secrets got told left.
-          short_where cell status header.variant (meaning_of header.module) (record before { platform = d.steps.platform }) after
-          d.steps.is_blank d.answer secrets got so (λ is. only (Short got) is refl) (d.uses cell told) left d.steps.goes;
+          short_where cell status header.variant (meaning_of header.module) (record (devices_of old) { platform = d.steps.platform })
+          (devices_of new) d.steps.is_blank d.answer secrets got so (λ is. only (Short got) is refl) (d.uses cell told) left d.steps.goes;
       lost = λ cell items told shown. nowhere (unlike Lost refl refl) (λ h. h.0);
       refused = λ cell items why told shown.
           none_offered (Init header) old new status cell why (unlike (Refused why) refl refl) (λ e. cc);

@@ -82,14 +82,12 @@ unserved : (fault : Option StepFault) (before : Standing) (end : Status) → Fin
 unserved None before end f = (unheld_as f.2.read end f.2.found_is).other
 unserved (Some fault) before end f = let is = platform_end end f in λ h. cc
 
-output_run : (fault : Option StepFault) (found : Result Header Status) (before middle after : Standing) (old new : StoreStanding)
-    (left left' received received' : Option (List ℕ)) (reads reads' writes writes' : ℕ) (status : Status) → FindsInstance fault before found
-    → ServesIfFound found middle after old new left left' received received' reads reads' writes writes' status
-    → BlamesOutput status writes writes'
-output_run fault (Ok header) before middle after old new left left' received received' reads reads' writes writes' status f a =
-    output_served a.served.answer status a.between received' writes a.count writes' a.served.wrote a.served.ends a.stops
-output_run fault (Err end) before middle after old new left left' received received' reads reads' writes writes' status f a =
-    output_stopped end status received received' writes writes' (unserved fault before end f) a.stops
+output_run : (fault : Option StepFault) (found : Result Header Status) (before : Standing) (old new : Outside) (status : Status)
+    → FindsInstance fault before found → ServesIfFound found old new status → BlamesOutput status old.writes new.writes
+output_run fault (Ok header) before old new status f a =
+    output_served a.served.answer status a.between new.received old.writes a.count new.writes a.served.wrote a.served.ends a.stops
+output_run fault (Err end) before old new status f a =
+    output_stopped end status old.received new.received old.writes new.writes (unserved fault before end f) a.stops
 
 bulk_no_write : (count : ℕ) (answer : Result Summary BulkFault) → end_of (bulk_lines count answer) ≡ WriteFault → ⊥
 bulk_no_write count answer h = grind arith
@@ -118,8 +116,7 @@ output_done : (command : CommandLine) (old new : Outside) (status : Status) → 
 output_done (Init header) old new status d =
     output_told (init_line d.answer) _ _ _ _ status (start_blames d.answer _ _ d.faults).other d.tells
 output_done Run old new status d =
-    output_run d.looks.fault d.found old.standing d.middle new.standing old.kept new.kept old.left new.left
-    old.received new.received old.reads new.reads old.writes new.writes status d.looks.finds d.goes
+    output_run d.looks.fault d.found old.standing (record old { standing = d.middle }) new status d.looks.finds d.goes
 output_done (Gen it) old new status d = output_given old new _ status d
 output_done Help old new status d = output_given old new _ status d
 output_done (Bulk it) old new status d =

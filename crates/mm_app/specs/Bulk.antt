@@ -11,6 +11,7 @@ use Rattle.mm_gen.specs.declared.summary.Summary.{Summary}
 use Rattle.mm_replay.specs.Schedule.{first_running_replay}
 use Rattle.mm_words.specs.declared.command.GeneratedSchedule.{GeneratedSchedule}
 use Rattle.mm_app.specs.CommandOutput.{TellsLines}
+use Rattle.mm_app.specs.Outside.{Outside}
 use Rattle.mm_app.specs.declared.status.Status.{Status}
 use Rattle.mm_app.specs.declared.status.Status.TheVariants.{Memory, TooMuch}
 
@@ -22,15 +23,14 @@ bulk_lines count (Err fault.TooMuch) = Err TooMuch
 
 -- The schedule was run, and what came of it was told: TooMuch exactly where the limits of a replay
 -- are passed. The digest is that of all that a replay of the same schedule writes.
-pub record RunsInBulk (it : GeneratedSchedule) (received received' : Option (List ℕ))
-    (writes writes' : ℕ)
-    (status : Status) : Type 0 where
+pub record RunsInBulk (it : GeneratedSchedule) (old new : Outside) (status : Status) : Type 0 where
   pub answer : Result Summary BulkFault
   pub sums : IfOk answer (SumsUp it.header (schedule_lines it.number it.count it.header))
   pub limit : IsLimited (is_over (first_running_replay it.header)
       (schedule_lines it.number it.count it.header)) answer
   pub replayed : IsReplayed (replay_of it.number it.count it.header) answer
-  pub tells : TellsLines (bulk_lines it.count answer) received received' writes writes' status
+  pub tells : TellsLines (bulk_lines it.count answer) old.received new.received old.writes
+      new.writes status
 
 -- The five lines were told, or memory was wanting for them.
 abbrev pub TellsSummary : ℕ → Summary → (received received' : Option (List ℕ)) (writes writes' : ℕ)

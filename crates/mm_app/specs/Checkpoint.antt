@@ -1,5 +1,5 @@
 -- What the command `checkpoint` does.
-use Rattle.std.specs.Prelude.{ℕ, List, codes, Option, Result, Ok, Err}
+use Rattle.std.specs.Prelude.{ℕ, List, codes, Result, Ok, Err}
 use Rattle.mm_call.specs.Untouched.{CountsHandedFault}
 use Rattle.mm_opt.specs.declared.segment.Checkpointed.{Checkpointed}
 use Rattle.mm_opt.specs.declared.segment.Checkpointed.TheVariants as said
@@ -7,9 +7,9 @@ use Rattle.mm_opt.specs.declared.segment.CheckpointRefusal.{CheckpointRefusal}
 use Rattle.mm_opt.specs.declared.segment.CheckpointRefusal.TheVariants as refusal
 use Rattle.mm_opt.specs.Checkpoints.{ClosesSegment, ClosingStepsBy, LeavesStill, closing_fault_in}
 use Rattle.mm_opt.specs.CheckpointOnCourse.{IsCheckpointOnCourse}
-use Rattle.mm_platform.specs.Standing.{Standing}
 use Rattle.mm_app.specs.Status.{line_of}
 use Rattle.mm_app.specs.CommandOutput.{TellsLines}
+use Rattle.mm_app.specs.Outside.{Outside}
 use Rattle.mm_app.specs.declared.status.Status.{Status}
 use Rattle.mm_app.specs.declared.status.Status.TheVariants.{PlatformFault, Blank, Cell, Lost, Kind}
 
@@ -25,13 +25,12 @@ checkpoint_line (Err refusal.Lost) = Err Lost
 
 -- A checkpoint: how it went over the platform, from any history; what it left where it was refused;
 -- its steps; and what was told. The platform's count rose exactly where a device's fault ended it.
-pub record CheckpointsInstance (before after : Standing) (received received' : Option (List ℕ))
-    (writes writes' : ℕ)
-    (status : Status) : Type 0 where
+pub record CheckpointsInstance (old new : Outside) (status : Status) : Type 0 where
   pub answer : Result Checkpointed CheckpointRefusal
-  pub closes : ClosesSegment before after answer
-  pub goes : IsCheckpointOnCourse before after answer
-  pub untouched : LeavesStill answer before after
-  pub steps : ClosingStepsBy answer before after
-  pub faults : CountsHandedFault (closing_fault_in answer) before.faults after.faults
-  pub tells : TellsLines (checkpoint_line answer) received received' writes writes' status
+  pub closes : ClosesSegment old.standing new.standing answer
+  pub goes : IsCheckpointOnCourse old.standing new.standing answer
+  pub untouched : LeavesStill answer old.standing new.standing
+  pub steps : ClosingStepsBy answer old.standing new.standing
+  pub faults : CountsHandedFault (closing_fault_in answer) old.standing.faults new.standing.faults
+  pub tells : TellsLines (checkpoint_line answer) old.received new.received old.writes new.writes
+      status

@@ -6,7 +6,6 @@ use Rattle.mm_words.specs.Commands.{SpellsCommand, help_text}
 use Rattle.mm_words.specs.declared.command.CommandLine.{CommandLine}
 use Rattle.mm_words.specs.declared.command.CommandLine.TheVariants.{Init, Run, Checkpoint, Power, Replay, Check, Gen, Bulk, Slots, Receipts}
 use Rattle.mm_words.specs.declared.command.CommandLine.TheVariants.{Transfer, Help}
-use Rattle.mm_recovery.specs.Init.{devices}
 use Rattle.mm_receipt.specs.Reports.{ChecksHonestly}
 use Rattle.mm_replay.specs.WholeReplay.{ReplaysSchedule}
 use Rattle.mm_slots.specs.WholeSlots.{PlaysSlots}
@@ -24,38 +23,18 @@ use Rattle.mm_app.specs.declared.status.Status.TheVariants.{Memory}
 
 -- What a command does, by what the objects that it is handed tell before and after.
 abbrev pub CommandDoes : CommandLine → (old new : Outside) → Status → Type 0
-CommandDoes (Init header) old new status =
-    StartsInstance header (devices old.standing old.kept old.entropy old.takes)
-    (devices new.standing new.kept new.entropy new.takes)
-    old.received new.received old.writes new.writes status
-CommandDoes Run old new status =
-    RunsInstance old.standing new.standing old.kept new.kept old.left new.left old.received
-    new.received old.reads new.reads old.writes
-    new.writes status
-CommandDoes Checkpoint old new status =
-    CheckpointsInstance old.standing new.standing old.received new.received old.writes
-    new.writes status
-CommandDoes Power old new status =
-    LosesPower old.standing new.standing old.received new.received old.writes new.writes status
-CommandDoes Replay old new status =
-    PlaysAndStops ReplaysSchedule old.left new.left old.received new.received old.reads new.reads
-    old.writes new.writes status
-CommandDoes Check old new status =
-    PlaysAndStops ChecksRun old.left new.left old.received new.received old.reads new.reads
-    old.writes new.writes status
+CommandDoes (Init header) old new status = StartsInstance header old new status
+CommandDoes Run old new status = RunsInstance old new status
+CommandDoes Checkpoint old new status = CheckpointsInstance old new status
+CommandDoes Power old new status = LosesPower old new status
+CommandDoes Replay old new status = PlaysAndStops ReplaysSchedule old new status
+CommandDoes Check old new status = PlaysAndStops ChecksRun old new status
 CommandDoes (Gen it) old new status =
     GivesText (schedule_text it.number it.count it.header) old new status
-CommandDoes (Bulk it) old new status =
-    IsStill old new × RunsInBulk it old.received new.received old.writes new.writes status
-CommandDoes Slots old new status =
-    PlaysAndStops PlaysSlots old.left new.left old.received new.received old.reads new.reads
-    old.writes new.writes status
-CommandDoes (Receipts key) old new status =
-    PlaysAndStops (ChecksHonestly key) old.left new.left old.received new.received old.reads
-    new.reads old.writes new.writes status
-CommandDoes Transfer old new status =
-    PlaysAndStops PlaysTransfer old.left new.left old.received new.received old.reads new.reads
-    old.writes new.writes status
+CommandDoes (Bulk it) old new status = IsStill old new × RunsInBulk it old new status
+CommandDoes Slots old new status = PlaysAndStops PlaysSlots old new status
+CommandDoes (Receipts key) old new status = PlaysAndStops (ChecksHonestly key) old new status
+CommandDoes Transfer old new status = PlaysAndStops PlaysTransfer old new status
 CommandDoes Help old new status = GivesText help_text old new status
 
 -- The command was done, or memory was wanting before it.

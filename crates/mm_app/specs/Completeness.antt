@@ -74,21 +74,20 @@ pub record CanClose (old new : Outside) : Type 0 where
 -- Nobody else extends the register of an open segment, by what it shows at the end behind the items
 -- that counted; and power isn't lost inside one. Of Basic nothing is asked.
 pub record ExtendsAlone (all others : List (List ℕ)) (i : Instance) (y : History) (offer : List ℕ)
-    (requests : List (List ℕ)) (before after : Standing) : Type 0 where
+    (requests : List (List ℕ)) (old new : Outside) : Type 0 where
   pub nobody : others ≡ []
   pub powered : life_of Opt y ≢ LostLife
   pub items : List Item
-  pub shown : before.items ≡ Some items
+  pub shown : old.standing.items ≡ Some items
   pub more : List Item
-  pub ends : after.items ≡ Some (standing_items y.is_open items ++ more)
+  pub ends : new.standing.items ≡ Some (standing_items y.is_open items ++ more)
   pub alone : (AsksNothingNew i y offer requests → ⊥) → AreShown all others i y more
 
 abbrev pub IsAlone : Variant → List (List ℕ) → List (List ℕ) → Instance → History → List ℕ
-    → List (List ℕ)
-    → (before after : Standing) → Type 0
-IsAlone Basic all others i y offer requests before after = Unit {0}
-IsAlone Opt all others i y offer requests before after =
-    ExtendsAlone all others i y offer requests before after
+    → List (List ℕ) → (old new : Outside) → Type 0
+IsAlone Basic all others i y offer requests old new = Unit {0}
+IsAlone Opt all others i y offer requests old new =
+    ExtendsAlone all others i y offer requests old new
 
 -- there is a position for each of these requests behind a history
 abbrev pub HasRoom : History → List (List ℕ) → Type 0
@@ -110,8 +109,7 @@ pub record CanServe (i : Instance) (old new : Outside) : Type 0 where
       (requests_with may.fits.waiting (lines_of input))
   pub room : HasRoom y (requests_with may.fits.waiting (lines_of input))
   pub alone : IsAlone i.variant all others i y (first_offer slots may.fits.waiting)
-      (requests_with may.fits.waiting (lines_of input))
-      old.standing new.standing
+      (requests_with may.fits.waiting (lines_of input)) old new
 
 -- It is an instance of a module, of Basic or of Opt.
 pub data CanRun (old new : Outside) : Type 0 where

@@ -1,10 +1,10 @@
 -- What the command `power` does.
 use Rattle.std.specs.Prelude.{ℕ, List, codes, Option, None, Some, Result, Ok, Err}
 use Rattle.mm_platform.specs.declared.fault.StepFault.{StepFault}
-use Rattle.mm_platform.specs.Standing.{Standing}
 use Rattle.mm_platform.specs.Steps.{PowerCycles}
 use Rattle.mm_app.specs.Status.{line_of}
 use Rattle.mm_app.specs.CommandOutput.{TellsLines}
+use Rattle.mm_app.specs.Outside.{Outside}
 use Rattle.mm_app.specs.declared.status.Status.{Status}
 use Rattle.mm_app.specs.declared.status.Status.TheVariants.{PlatformFault}
 
@@ -14,8 +14,7 @@ power_line None = Ok (line_of (codes "power"))
 power_line (Some fault) = Err PlatformFault
 
 -- The platform lost its power and has it back, or failed at that; and it was told.
-pub record LosesPower (before after : Standing) (received received' : Option (List ℕ))
-    (writes writes' : ℕ) (status : Status) : Type 0 where
+pub record LosesPower (old new : Outside) (status : Status) : Type 0 where
   pub fault : Option StepFault
-  pub cycles : PowerCycles before after fault
-  pub tells : TellsLines (power_line fault) received received' writes writes' status
+  pub cycles : PowerCycles old.standing new.standing fault
+  pub tells : TellsLines (power_line fault) old.received new.received old.writes new.writes status

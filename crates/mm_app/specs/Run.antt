@@ -23,9 +23,9 @@ use Rattle.mm_seal.specs.Cell.{ReadsCell}
 use Rattle.mm_seal.specs.declared.cell.Cell.{Cell as Held}
 use Rattle.mm_seal.specs.declared.cell.CellFault.{CellFault}
 use Rattle.mm_seal.specs.declared.cell.CellFault.TheVariants as unheld
-use Rattle.mm_store.specs.StoreStanding.{StoreStanding}
 use Rattle.mm_app.specs.Status.{status_at}
 use Rattle.mm_app.specs.CommandOutput.{TellsStop, StopsAs}
+use Rattle.mm_app.specs.Outside.{Outside, session_of}
 use Rattle.mm_app.specs.declared.status.Status.{Status}
 use Rattle.mm_app.specs.declared.status.Status.TheVariants.{Done, Memory, PlatformFault, StoreFault, Blank, Cell, Lost, Refused}
 
@@ -83,89 +83,66 @@ pub record LooksAtInstance (before after : Standing) (found : Result Header Stat
 -- within the limits aren't to blame; and from which history to which it went, by one run of the
 -- module, with slots to go on from; and how often the cell was to be written. Each count of faults
 -- rose exactly where its object is to blame.
-pub record ServesInstance (header : Header) (before after : Standing) (old new : StoreStanding)
-    (left left' received received' : Option (List ℕ))
-    (reads reads' writes writes' : ℕ) (status : Status) : Type 0 where
+pub record ServesInstance (header : Header) (old new : Outside) (status : Status) : Type 0 where
   pub answer : Result (Unit {0}) SessionFault
-  pub sessions : IsSession header.variant (meaning_of header.module) before after old new left left'
-      received received' answer
-  pub lines : SparesLines left answer
-  pub continues : SessionContinues header.variant (meaning_of header.module) before after old new
-      left left' received received' answer
-  pub cell : SessionWrites header.variant (meaning_of header.module) before after old new left left'
-      received received' answer
-  pub platform : IsBlamed (is_platform_fault answer) before.faults after.faults
-  pub store : IsBlamed (is_store_fault answer) old.faults new.faults
-  pub read : IsBlamed (is_read_fault answer) reads reads'
-  pub wrote : IsBlamed (is_write_fault answer) writes writes'
+  pub sessions : IsSession header.variant (meaning_of header.module) (session_of old)
+      (session_of new) answer
+  pub lines : SparesLines old.left answer
+  pub continues : SessionContinues header.variant (meaning_of header.module) (session_of old)
+      (session_of new) answer
+  pub cell : SessionWrites header.variant (meaning_of header.module) (session_of old)
+      (session_of new) answer
+  pub platform : IsBlamed (is_platform_fault answer) old.standing.faults new.standing.faults
+  pub store : IsBlamed (is_store_fault answer) old.kept.faults new.kept.faults
+  pub read : IsBlamed (is_read_fault answer) old.reads new.reads
+  pub wrote : IsBlamed (is_write_fault answer) old.writes new.writes
   pub named : IsRefusalNamed answer
   pub ends : status ≡ session_status answer
 
 -- Such a session, and then its stop line. `between` is what the output had received between the
 -- two, and `count` its count.
-pub record ServesAndStops (header : Header) (before after : Standing) (old new : StoreStanding)
-    (left left' received received' : Option (List ℕ))
-    (reads reads' writes writes' : ℕ) (status : Status) : Type 0 where
+pub record ServesAndStops (header : Header) (old new : Outside) (status : Status) : Type 0 where
   pub between : Option (List ℕ)
   pub count : ℕ
-  pub served : ServesInstance header before after old new left left' received between reads reads'
-      writes count status
-  pub stops : TellsStop between received' count writes' status
+  pub served : ServesInstance header old (record new { received = between; writes = count }) status
+  pub stops : TellsStop between new.received count new.writes status
 
 -- No instance was found, and nothing more was done.
-pub record FindsNone (end : Status) (before after : Standing) (old new : StoreStanding)
-    (left left' received received' : Option (List ℕ))
-    (reads reads' writes writes' : ℕ) (status : Status) : Type 0 where
-  pub standing : after ≡ before
-  pub kept : new ≡ old
-  pub unread : left' ≡ left
-  pub unfailed : reads' ≡ reads
-  pub stops : StopsAs end received received' writes writes' status
+pub record FindsNone (end : Status) (old new : Outside) (status : Status) : Type 0 where
+  pub standing : new.standing ≡ old.standing
+  pub kept : new.kept ≡ old.kept
+  pub unread : new.left ≡ old.left
+  pub unfailed : new.reads ≡ old.reads
+  pub stops : StopsAs end old.received new.received old.writes new.writes status
 
-abbrev pub ServesIfFound : Result Header Status
-    → (before after : Standing) (old new : StoreStanding)
-    (left left' received received' : Option (List ℕ))
-    (reads reads' writes writes' : ℕ)
-    → Status → Type 0
-ServesIfFound (Err end) before after old new left left' received received' reads reads' writes
-    writes' status =
-    FindsNone end before after old new left left' received received' reads reads' writes writes'
-    status
-ServesIfFound (Ok header) before after old new left left' received received' reads reads' writes
-    writes' status =
-    ServesAndStops header before after old new left left' received received' reads reads' writes
-    writes' status
+abbrev pub ServesIfFound : Result Header Status → (old new : Outside) → Status → Type 0
+ServesIfFound (Err end) old new status = FindsNone end old new status
+ServesIfFound (Ok header) old new status = ServesAndStops header old new status
 
 -- Whatever the slots held, a session over the instance that was found told one run of its module
 -- from the history that the platform stood for before the cell was read.
-abbrev pub RunsOnceIfFound : Result Header Status → (entry before after : Standing)
-    (old new : StoreStanding)
-    (left left' received : Option (List ℕ)) → Type 0
-RunsOnceIfFound (Err end) entry before after old new left left' received = Unit {0}
-RunsOnceIfFound (Ok header) entry before after old new left left' received =
+abbrev pub RunsOnceIfFound : Result Header Status → (entry : Standing) (old new : Outside) → Type 0
+RunsOnceIfFound (Err end) entry old new = Unit {0}
+RunsOnceIfFound (Ok header) entry old new =
     (between : Option (List ℕ)) (answer : Result (Unit {0}) SessionFault) →
-    RunsOnceFrom header.variant (meaning_of header.module) entry before after old new left left'
-    received between answer
+    RunsOnceFrom header.variant (meaning_of header.module) entry (session_of old)
+    (record (session_of new) { received = between }) answer
 
 -- Over an honest store whose slots fit the history that the platform stood for before the cell was
 -- read, it goes on, and may be gone on with.
-abbrev pub ContinuesIfFound : Result Header Status → (entry before after : Standing)
-    (old new : StoreStanding)
-    (left left' received : Option (List ℕ)) → Type 0
-ContinuesIfFound (Err end) entry before after old new left left' received = Unit {0}
-ContinuesIfFound (Ok header) entry before after old new left left' received =
+abbrev pub ContinuesIfFound : Result Header Status → (entry : Standing) (old new : Outside) → Type 0
+ContinuesIfFound (Err end) entry old new = Unit {0}
+ContinuesIfFound (Ok header) entry old new =
     (between : Option (List ℕ)) (answer : Result (Unit {0}) SessionFault) →
-    ContinuesFrom header.variant (meaning_of header.module) entry before after old new left left'
-    received between answer
+    ContinuesFrom header.variant (meaning_of header.module) entry (session_of old)
+    (record (session_of new) { received = between }) answer
 
--- The platform's cell was read, and a session served over the instance that it holds.
-pub record RunsInstance (before after : Standing) (old new : StoreStanding)
-    (left left' received received' : Option (List ℕ))
-    (reads reads' writes writes' : ℕ) (status : Status) : Type 0 where
+-- The platform's cell was read, and a session served over the instance that it holds. `middle` is
+-- what stood on the platform between the two.
+pub record RunsInstance (old new : Outside) (status : Status) : Type 0 where
   pub middle : Standing
   pub found : Result Header Status
-  pub looks : LooksAtInstance before middle found
-  pub goes : ServesIfFound found middle after old new left left' received received' reads reads'
-      writes writes' status
-  pub once : RunsOnceIfFound found before middle after old new left left' received
-  pub continues : ContinuesIfFound found before middle after old new left left' received
+  pub looks : LooksAtInstance old.standing middle found
+  pub goes : ServesIfFound found (record old { standing = middle }) new status
+  pub once : RunsOnceIfFound found old.standing (record old { standing = middle }) new
+  pub continues : ContinuesIfFound found old.standing (record old { standing = middle }) new

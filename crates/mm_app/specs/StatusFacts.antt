@@ -25,7 +25,6 @@ use Rattle.mm_recovery.specs.SlotFit.{first_offer}
 use Rattle.mm_recovery.specs.WaitingRequest.{IsWaiting}
 use Rattle.mm_seal.specs.Cell.{IsNoCell, SpellsCell, blank_cell}
 use Rattle.mm_seal.specs.declared.cell.Cell.{Cell as Held}
-use Rattle.mm_store.specs.StoreStanding.{StoreStanding}
 use Rattle.mm_store.specs.PendingRecord.{PendingRecord}
 use Rattle.mm_store.specs.Slots.{Slots, slot_front}
 use Rattle.mm_words.specs.declared.command.CommandLine.{CommandLine}
@@ -33,6 +32,7 @@ use Rattle.mm_words.specs.Commands.{SpellsCommand}
 use Rattle.mm_words.specs.declared.command.CommandLine.TheVariants.{Init, Run, Bulk, Checkpoint}
 use Rattle.mm_words.specs.declared.command.GeneratedSchedule.{GeneratedSchedule}
 use Rattle.mm_app.specs.Commands.{SpellSome}
+use Rattle.mm_app.specs.Outside.{Outside, session_of}
 use Rattle.mm_app.specs.Run.{session_status}
 use Rattle.mm_app.specs.declared.status.Status.{Status}
 use Rattle.mm_app.specs.declared.status.Status.TheVariants.{ReadFault, WriteFault, Memory, PlatformFault, StoreFault, Blank, Already, Cell}
@@ -106,28 +106,26 @@ instance_of held it = instance_by held.variant (meaning_of it) held.key held.bar
 
 -- From where the cell was read, a session over the instance that it holds went so, and ended with
 -- this status.
-pub record HasServed (cell : List ℕ) (before after : Standing) (old new : StoreStanding)
-    (left left' received : Option (List ℕ)) (status : Status) : Type 0 where
+pub record HasServed (cell : List ℕ) (old new : Outside) (status : Status) : Type 0 where
   pub held : Held
   pub spells : SpellsCell cell held
   pub it : AnyModule
   pub found : module_of_id held.module ≡ Some it
   pub start : Standing
-  pub looked : IsUntouched before start
-  pub received' : Option (List ℕ)
+  pub looked : IsUntouched old.standing start
+  pub between : Option (List ℕ)
   pub answer : Result (Unit {0}) SessionFault
-  pub went : IsSession held.variant (meaning_of it) start after old new left left'
-      received received'
-      answer
+  pub went : IsSession held.variant (meaning_of it) (record (session_of old) { standing = start })
+      (record (session_of new) { received = between }) answer
   pub ended : status ≡ session_status answer
 
 -- The requests that it told were asked and answered one after another, each but the first with the
 -- snapshot of the answer before; and the next one is refused so, as its offer is by the digests at
 -- which the platform stands at the end. Lost power isn't meant, which has a status of its own.
-pub record RefusesNext (cell : List ℕ) (before after : Standing) (old new : StoreStanding)
-    (left left' received : Option (List ℕ)) (slots : Slots) (waiting : Option PendingRecord)
-    (input : List ℕ) (status : Status) (why : Refusal) : Type 0 where
-  pub served : HasServed cell before after old new left left' received status
+pub record RefusesNext (cell : List ℕ) (old new : Outside) (slots : Slots)
+    (waiting : Option PendingRecord) (input : List ℕ) (status : Status)
+    (why : Refusal) : Type 0 where
+  pub served : HasServed cell old new status
   pub open served use *
   pub told : List ServedCall
   pub is_told : told ≡ served_calls_in waiting went.goes
@@ -136,7 +134,7 @@ pub record RefusesNext (cell : List ℕ) (before after : Standing) (old new : St
   pub request : List ℕ
   pub next : IsNext waiting input told request
   pub digests : Digests
-  pub stands : StandsAt (instance_of held it) after digests
+  pub stands : StandsAt (instance_of held it) new.standing digests
   pub judged : finding_at (instance_of held it) (digest_level (instance_of held it)) digests
       (One request) (offer_after (first_offer slots waiting) told) ≡ Err why
   pub powered : why ≢ refusal.Lost
@@ -185,17 +183,17 @@ TellsLost words before after status =
 -- store that tells its slots it is so exactly where what is offered next, behind the answers that
 -- were told, is refused. At first that is what the slots offer; and the request is what waits in
 -- them, or a line.
-abbrev pub TellsRefusal : List (List ℕ) → (before after : Standing) → (old new : StoreStanding)
-    → (left left' received : Option (List ℕ)) → Status → Type 0
-TellsRefusal words before after old new left left' received status =
-    (cell : List ℕ) (items : List Item) (why : Refusal) → before.cell ≡ Some cell →
-    before.items ≡ Some items →
+abbrev pub TellsRefusal : List (List ℕ) → (old new : Outside) → Status → Type 0
+TellsRefusal words old new status =
+    (cell : List ℕ) (items : List Item) (why : Refusal) → old.standing.cell ≡ Some cell →
+    old.standing.items ≡ Some items →
     (status ≡ Refused why → SpellSome (λ command. command ≡ Run) words × IsOfOffer why)
-    × ((slots : Slots) (waiting : Option PendingRecord) (input : List ℕ) → old.slots ≡ Some slots →
-    IsWaiting (slot_front slots 2) (slot_front slots 3) waiting → left ≡ Some input →
+    × ((slots : Slots) (waiting : Option PendingRecord) (input : List ℕ)
+    → old.kept.slots ≡ Some slots →
+    IsWaiting (slot_front slots 2) (slot_front slots 3) waiting → old.left ≡ Some input →
     IsExactlyWhere
     (SpellSome (λ command. command ≡ Run) words
-    × RefusesNext cell before after old new left left' received slots waiting input status why)
+    × RefusesNext cell old new slots waiting input status why)
     (Refused why) status)
 
 -- A run in bulk is too much exactly where the replay of the text that its number makes is.

@@ -3,6 +3,7 @@
 ghost use Rattle.std.specs.Prelude.{◌≤◌};
 ghost use Rattle.mm_base.specs.Limits.{most_events};
 ghost use Rattle.mm_app.specs.Bulk.{RunsInBulk, TellsSummary};
+ghost use Rattle.mm_app.specs.Outside.{Outside};
 
 use crate::status::Status;
 use crate::telling::{stopped, written};
@@ -14,8 +15,10 @@ use std::alloc::Global;
 /// Runs the schedule of a number, and tells what came of it.
 pub fn run_in_bulk<K: Sink>(alloc: Global, it: &GeneratedSchedule, out: &mut K) -> Status
     requires { it.now.count ≤ most_events }
-    ensures { RunsInBulk it.now (K.received out.old) (K.received out.new) (K.faults out.old)
-        (K.faults out.new) result }
+    // Whatever the other objects tell (`rest`).
+    ensures { (rest : Outside) → RunsInBulk it.now
+        (record rest { received = K.received out.old; writes = K.faults out.old })
+        (record rest { received = K.received out.new; writes = K.faults out.new }) result }
 {
     match bulk(alloc, it.number, it.count, &it.header) {
         Ok(summary) => tell_summary(alloc, it.count, &summary, out),

@@ -2,6 +2,7 @@
 
 ghost use Rattle.mm_app.specs.Checkpoint.{CheckpointsInstance, checkpoint_line};
 ghost use Rattle.mm_app.specs.CommandOutput.{TellsLines};
+ghost use Rattle.mm_app.specs.Outside.{Outside, with_platform};
 
 use crate::status::Status;
 use crate::telling::{stopped, written};
@@ -11,8 +12,11 @@ use mm_platform::Platform;
 
 /// Closes the platform's open segment, where there is one.
 pub fn close_segment<P: Platform, K: Sink>(platform: &mut P, out: &mut K) -> Status
-    ensures { CheckpointsInstance (P.standing platform.old) (P.standing platform.new)
-        (K.received out.old) (K.received out.new) (K.faults out.old) (K.faults out.new) result }
+    // Whatever the other objects tell (`it`).
+    ensures { (it : Outside) → CheckpointsInstance
+        (with_platform it (P.standing platform.old) (K.received out.old) (K.faults out.old))
+        (with_platform it (P.standing platform.new) (K.received out.new) (K.faults out.new))
+        result }
 {
     let answer = checkpoint(platform);
     tell_checkpoint(answer, out)

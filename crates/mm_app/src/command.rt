@@ -155,9 +155,13 @@ pub fn memoir<P: Platform, T: Store, S: Source, E: Source, K: Sink>(
         (E.left entropy.old) result }
     ensures lost { TellsLost (map (λ s. s.now) words.now) (P.standing platform.old)
         (P.standing platform.new) result }
-    ensures refused { TellsRefusal (map (λ s. s.now) words.now) (P.standing platform.old)
-        (P.standing platform.new) (T.kept store.old) (T.kept store.new) (S.left input.old)
-        (S.left input.new) (K.received out.old) result }
+    ensures refused { let old = outside (P.standing platform.old) (T.kept store.old)
+        (S.left input.old) (S.faults input.old) (E.left entropy.old) (E.faults entropy.old)
+        (K.received out.old) (K.faults out.old) in
+        let new = outside (P.standing platform.new) (T.kept store.new) (S.left input.new)
+        (S.faults input.new) (E.left entropy.new) (E.faults entropy.new) (K.received out.new)
+        (K.faults out.new) in
+        TellsRefusal (map (λ s. s.now) words.now) old new result }
     ensures much { TellsMuch (map (λ s. s.now) words.now) result }
 
     // A command leaves the objects that it doesn't use as they were.

@@ -1,5 +1,6 @@
 //! The command `power`: the platform loses its power, and gets it back.
 
+ghost use Rattle.mm_app.specs.Outside.{Outside, with_platform};
 ghost use Rattle.mm_app.specs.Power.{LosesPower};
 
 use crate::status::Status;
@@ -9,8 +10,11 @@ use mm_platform::Platform;
 
 /// Lets the platform lose its power and get it back.
 pub fn lose_power<P: Platform, K: Sink>(platform: &mut P, out: &mut K) -> Status
-    ensures { LosesPower (P.standing platform.old) (P.standing platform.new)
-        (K.received out.old) (K.received out.new) (K.faults out.old) (K.faults out.new) result }
+    // Whatever the other objects tell (`it`).
+    ensures { (it : Outside) → LosesPower
+        (with_platform it (P.standing platform.old) (K.received out.old) (K.faults out.old))
+        (with_platform it (P.standing platform.new) (K.received out.new) (K.faults out.new))
+        result }
 {
     match platform.cycle() {
         Ok(()) => written(b"power\n", out),

@@ -3,6 +3,7 @@
 ghost use Rattle.mm_receipt.specs.Reports.{ChecksHonestly};
 ghost use Rattle.mm_words.specs.declared.command.CommandLine.TheVariants.{Receipts};
 ghost use Rattle.mm_app.specs.LinePlays.{PlaysAndStops};
+ghost use Rattle.mm_app.specs.Outside.{Outside, with_streams};
 ghost use Rattle.mm_app.specs.Completeness.{CanBeAnswered};
 ghost use Rattle.mm_app.specs.Status.{EndsUnrefused};
 
@@ -19,9 +20,12 @@ pub fn check_receipts<S: Source, K: Sink>(
     input: &mut S,
     out: &mut K,
 ) -> Status
-    ensures checks { PlaysAndStops (ChecksHonestly key.now) (S.left input.old) (S.left input.new)
-        (K.received out.old) (K.received out.new) (S.faults input.old) (S.faults input.new)
-        (K.faults out.old) (K.faults out.new) result }
+    // Whatever the other objects tell (`it`).
+    ensures checks { (it : Outside) → PlaysAndStops (ChecksHonestly key.now)
+        (with_streams it (S.left input.old) (S.faults input.old) (K.received out.old)
+        (K.faults out.old))
+        (with_streams it (S.left input.new) (S.faults input.new) (K.received out.new)
+        (K.faults out.new)) result }
     ensures complete { CanBeAnswered (Receipts key.now) (S.left input.old) → EndsUnrefused result }
 {
     let answer = receipts(alloc, key, input, out);

@@ -3,6 +3,7 @@
 ghost use Rattle.mm_replay.specs.WholeReplay.{ReplaysSchedule};
 ghost use Rattle.mm_words.specs.declared.command.CommandLine.TheVariants.{Replay};
 ghost use Rattle.mm_app.specs.LinePlays.{PlaysAndStops};
+ghost use Rattle.mm_app.specs.Outside.{Outside, with_streams};
 ghost use Rattle.mm_app.specs.Completeness.{CanBeAnswered};
 ghost use Rattle.mm_app.specs.Status.{EndsUnrefused};
 
@@ -14,9 +15,12 @@ use std::alloc::Global;
 
 /// Replays the input, and writes the stop line.
 pub fn replay_and_stop<S: Source, K: Sink>(alloc: Global, input: &mut S, out: &mut K) -> Status
-    ensures replays { PlaysAndStops ReplaysSchedule (S.left input.old) (S.left input.new)
-        (K.received out.old) (K.received out.new) (S.faults input.old) (S.faults input.new)
-        (K.faults out.old) (K.faults out.new) result }
+    // Whatever the other objects tell (`it`).
+    ensures replays { (it : Outside) → PlaysAndStops ReplaysSchedule
+        (with_streams it (S.left input.old) (S.faults input.old) (K.received out.old)
+        (K.faults out.old))
+        (with_streams it (S.left input.new) (S.faults input.new) (K.received out.new)
+        (K.faults out.new)) result }
     ensures complete { CanBeAnswered Replay (S.left input.old) → EndsUnrefused result }
 {
     let answer = replay(alloc, input, out);

@@ -1,6 +1,8 @@
 //! The command `run`: the lines of the input are served by the instance that the platform's cell
 //! holds.
 
+ghost use Rattle.std.specs.Prelude.{ℕ, List, Option};
+ghost use Rattle.mm_app.specs.Outside.{outside};
 ghost use Rattle.mm_app.specs.Run.{LooksAtInstance, RunsInstance, SeesInstance, ServesInstance, ServesAndStops};
 
 use crate::status::Status;
@@ -22,10 +24,12 @@ pub fn run_instance<P: Platform, T: Store, S: Source, K: Sink>(
     input: &mut S,
     out: &mut K,
 ) -> Status
-    ensures { RunsInstance (P.standing platform.old) (P.standing platform.new) (T.kept store.old)
-        (T.kept store.new) (S.left input.old) (S.left input.new) (K.received out.old)
-        (K.received out.new) (S.faults input.old) (S.faults input.new) (K.faults out.old)
-        (K.faults out.new) result }
+    // Whatever the entropy tells, which isn't taken from (`entropy`, `takes`).
+    ensures { (entropy : Option (List ℕ)) (takes : ℕ) → RunsInstance
+        (outside (P.standing platform.old) (T.kept store.old) (S.left input.old)
+        (S.faults input.old) entropy takes (K.received out.old) (K.faults out.old))
+        (outside (P.standing platform.new) (T.kept store.new) (S.left input.new)
+        (S.faults input.new) entropy takes (K.received out.new) (K.faults out.new)) result }
 {
     match look(platform) {
         Err(status) => stopped(status, out),
@@ -70,10 +74,11 @@ fn serve_and_stop<P: Platform, T: Store, S: Source, K: Sink>(
     input: &mut S,
     out: &mut K,
 ) -> Status
-    ensures { ServesAndStops header.now (P.standing platform.old) (P.standing platform.new)
-        (T.kept store.old) (T.kept store.new) (S.left input.old) (S.left input.new)
-        (K.received out.old) (K.received out.new) (S.faults input.old) (S.faults input.new)
-        (K.faults out.old) (K.faults out.new) result }
+    ensures { (entropy : Option (List ℕ)) (takes : ℕ) → ServesAndStops header.now
+        (outside (P.standing platform.old) (T.kept store.old) (S.left input.old)
+        (S.faults input.old) entropy takes (K.received out.old) (K.faults out.old))
+        (outside (P.standing platform.new) (T.kept store.new) (S.left input.new)
+        (S.faults input.new) entropy takes (K.received out.new) (K.faults out.new)) result }
 {
     let status = serve(alloc, header, platform, store, input, out);
     stopped(status, out)
@@ -88,10 +93,11 @@ fn serve<P: Platform, T: Store, S: Source, K: Sink>(
     input: &mut S,
     out: &mut K,
 ) -> Status
-    ensures { ServesInstance header.now (P.standing platform.old) (P.standing platform.new)
-        (T.kept store.old) (T.kept store.new) (S.left input.old) (S.left input.new)
-        (K.received out.old) (K.received out.new) (S.faults input.old) (S.faults input.new)
-        (K.faults out.old) (K.faults out.new) result }
+    ensures { (entropy : Option (List ℕ)) (takes : ℕ) → ServesInstance header.now
+        (outside (P.standing platform.old) (T.kept store.old) (S.left input.old)
+        (S.faults input.old) entropy takes (K.received out.old) (K.faults out.old))
+        (outside (P.standing platform.new) (T.kept store.new) (S.left input.new)
+        (S.faults input.new) entropy takes (K.received out.new) (K.faults out.new)) result }
 {
     let answer = session(
         alloc,

@@ -1,8 +1,9 @@
 //! The command `init`: an instance of a variant and a module is started on a blank platform.
 
-ghost use Rattle.mm_recovery.specs.Init.{devices};
+ghost use Rattle.std.specs.Prelude.{ℕ, List, Option};
 ghost use Rattle.mm_app.specs.Init.{StartsInstance, init_line};
 ghost use Rattle.mm_app.specs.CommandOutput.{TellsLines};
+ghost use Rattle.mm_app.specs.Outside.{outside};
 
 use crate::status::Status;
 use crate::telling::{stopped, written};
@@ -22,12 +23,12 @@ pub fn start_instance<P: Platform, T: Store, E: Source, K: Sink>(
     entropy: &mut E,
     out: &mut K,
 ) -> Status
-    ensures { StartsInstance header.now
-        (devices (P.standing platform.old) (T.kept store.old) (E.left entropy.old)
-        (E.faults entropy.old))
-        (devices (P.standing platform.new) (T.kept store.new) (E.left entropy.new)
-        (E.faults entropy.new))
-        (K.received out.old) (K.received out.new) (K.faults out.old) (K.faults out.new) result }
+    // Whatever the input tells, which isn't read (`left`, `reads`).
+    ensures { (left : Option (List ℕ)) (reads : ℕ) → StartsInstance header.now
+        (outside (P.standing platform.old) (T.kept store.old) left reads (E.left entropy.old)
+        (E.faults entropy.old) (K.received out.old) (K.faults out.old))
+        (outside (P.standing platform.new) (T.kept store.new) left reads (E.left entropy.new)
+        (E.faults entropy.new) (K.received out.new) (K.faults out.new)) result }
 {
     let answer = init(
         alloc,

@@ -4,6 +4,7 @@
 ghost use Rattle.mm_transfer.specs.TransferPlay.{PlaysTransfer};
 ghost use Rattle.mm_words.specs.declared.command.CommandLine.TheVariants.{Transfer};
 ghost use Rattle.mm_app.specs.LinePlays.{PlaysAndStops};
+ghost use Rattle.mm_app.specs.Outside.{Outside, with_streams};
 ghost use Rattle.mm_app.specs.Completeness.{CanBeAnswered};
 ghost use Rattle.mm_app.specs.Status.{EndsUnrefused};
 
@@ -15,9 +16,12 @@ use std::alloc::Global;
 
 /// Plays the schedule of two platforms that the input gives, and writes the stop line.
 pub fn play_transfer<S: Source, K: Sink>(alloc: Global, input: &mut S, out: &mut K) -> Status
-    ensures plays { PlaysAndStops PlaysTransfer (S.left input.old) (S.left input.new)
-        (K.received out.old) (K.received out.new) (S.faults input.old) (S.faults input.new)
-        (K.faults out.old) (K.faults out.new) result }
+    // Whatever the other objects tell (`it`).
+    ensures plays { (it : Outside) → PlaysAndStops PlaysTransfer
+        (with_streams it (S.left input.old) (S.faults input.old) (K.received out.old)
+        (K.faults out.old))
+        (with_streams it (S.left input.new) (S.faults input.new) (K.received out.new)
+        (K.faults out.new)) result }
     ensures complete { CanBeAnswered Transfer (S.left input.old) → EndsUnrefused result }
 {
     let answer = transfer(alloc, input, out);

@@ -5,6 +5,7 @@ use Rattle.std.proofs.Common.{subst, inl, inr}
 use Rattle.std.proofs.lemmas.List.{append-nil}
 use Rattle.mm_app.specs.Checkpoint.{CheckpointsInstance}
 use Rattle.mm_app.specs.Commands.{DoesOrLacks, UsesPlatform}
+use Rattle.mm_app.specs.Outside.{devices_of, session_of}
 use Rattle.mm_app.specs.Power.{LosesPower as CommandLosesPower}
 use Rattle.mm_app.specs.Run.{FindsInstance, RunsInstance, ServesIfFound, found_instance}
 use Rattle.mm_app.specs.Init.{StartsInstance}
@@ -15,11 +16,12 @@ use Rattle.mm_call.specs.Standing.{StandsAt, cell_at, instance_by}
 use Rattle.mm_call.proofs.Above.{stands_at}
 use Rattle.mm_digest.specs.declared.variant.Variant.{Variant}
 use Rattle.mm_digest.specs.declared.variant.Variant.TheVariants.{Basic, Opt}
+use Rattle.mm_host.specs.SessionStanding.{SessionStanding}
 use Rattle.mm_host.specs.Sessions.{IsSession}
 use Rattle.mm_life.specs.Deeds.{Deed, DeedLeads, Extends, LosesPower}
 use Rattle.mm_life.specs.Deeds as deeds
 use Rattle.mm_life.specs.DeviceDeeds.{CyclesAreDeeds, ReadsAreDeeds}
-use Rattle.mm_life.specs.Stages.{Does, IsLife, LifeStage, end_of}
+use Rattle.mm_life.specs.Stages.{Does, IsLife, LifeStage, end_of, session_stage}
 use Rattle.mm_life.specs.DeedHistory.{IsNoCall}
 use Rattle.mm_life.proofs.Above.{deed_stands, life_stands}
 use Rattle.mm_model.specs.Instance.{Instance}
@@ -47,9 +49,9 @@ use Rattle.mm_seal.specs.declared.cell.CellFault.{CellFault}
 use Rattle.mm_seal.specs.declared.cell.CellFault.TheVariants as unheld
 use Rattle.mm_words.specs.declared.command.CommandLine.{CommandLine}
 use Rattle.mm_words.specs.declared.command.CommandLine.TheVariants.{Init, Run, Checkpoint, Power}
-use Rattle.mm_at_work.specs.CommandLives.{look_stage, session_stage}
+use Rattle.mm_at_work.specs.CommandLives.{look_stage, program_of}
 use Rattle.mm_at_work.specs.Commands.{AreLife, AreRun, AreStagesOf, HasBegun, CommandsAreLife, CommandsFromBlank}
-use Rattle.mm_at_work.specs.Commands.{IsMetAgain, IsQuiet, CommandRun, devices_of}
+use Rattle.mm_at_work.specs.Commands.{IsMetAgain, IsQuiet, CommandRun}
 use Rattle.mm_at_work.proofs.CommandStages.{finds_it}
 
 -- lives, one behind another
@@ -137,7 +139,7 @@ module _ (reads : ReadsAreDeeds) (cycles : CyclesAreDeeds) (it : AnyModule) (var
       absurd (held_not_blank held spelled ((l.tells (cell_spelling held) told).0 refl))
 
   init_ran : (r : CommandRun) (header : Header)
-      → StartsInstance header (devices_of r.old) (devices_of r.new) r.old.received r.new.received r.old.writes r.new.writes r.status
+      → StartsInstance header r.old r.new r.status
       → (d : Digests) → StandsAt I r.old.standing d → OneRan r (Init header)
   init_ran r header s d stands =
       let l = s.steps.looks in
@@ -161,19 +163,18 @@ module _ (reads : ReadsAreDeeds) (cycles : CyclesAreDeeds) (it : AnyModule) (var
       (looks : DeedLeads variant M r.old.standing (Extends values) middle) where
     run_by : (found : Result Header Status)
         → ((header : Header) → found ≡ Ok header → header ≡ record { variant = variant; «module» = it })
-        → ServesIfFound found middle r.new.standing r.old.kept r.new.kept r.old.left r.new.left r.old.received r.new.received
-        r.old.reads r.new.reads r.old.writes r.new.writes r.status → OneRan r Run
+        → ServesIfFound found (record r.old { standing = middle }) r.new r.status → OneRan r Run
     run_by (Err end) is s =
         quiet_ran r Run (λ stages q. inl (record { quiet = q; kept = s.kept; unread = s.unread; end = end; stops = s.stops }))
         (Extends values) tt
         (subst (λ (x : Standing). DeedLeads variant M r.old.standing (Extends values) x) (sym s.standing) looks)
     run_by (Ok header) is s =
-        let session : IsSession variant M middle r.new.standing r.old.kept r.new.kept r.old.left r.new.left r.old.received s.between
-        s.served.answer =
-        subst (λ (h : Header). IsSession h.variant (meaning_of h.«module») middle r.new.standing r.old.kept r.new.kept r.old.left r.new.left
-        r.old.received s.between s.served.answer) (is header refl) s.served.sessions in
+        let old : SessionStanding = session_of (record r.old { standing = middle }) in
+        let new : SessionStanding = session_of (record r.new { received = s.between }) in
+        let session : IsSession variant M old new s.served.answer =
+        subst (λ (h : Header). IsSession h.variant (meaning_of h.«module») old new s.served.answer) (is header refl) s.served.sessions in
         let stages : List LifeStage = look_stage values middle
-        ∷ session_stage r.old.kept r.new.kept r.old.left r.new.left r.old.received s.between s.served.answer r.new.standing ∷ [] in
+        ∷ session_stage (program_of r.old) (program_of (record r.new { received = s.between })) s.served.answer r.new.standing ∷ [] in
         record {
           here = stages;
           life = (looks, (session, tt));
@@ -190,17 +191,13 @@ module _ (reads : ReadsAreDeeds) (cycles : CyclesAreDeeds) (it : AnyModule) (var
           });
         }
 
-  run_ran : (r : CommandRun) → RunsInstance r.old.standing r.new.standing r.old.kept r.new.kept r.old.left r.new.left r.old.received
-      r.new.received r.old.reads r.new.reads r.old.writes r.new.writes r.status → (d : Digests) → StandsAt I r.old.standing d
-      → OneRan r Run
+  run_ran : (r : CommandRun) → RunsInstance r.old r.new r.status → (d : Digests) → StandsAt I r.old.standing d → OneRan r Run
   run_ran r x d stands =
       run_by r x.middle x.looks.goes.others (reads variant M r.old.standing x.middle x.looks.fault x.looks.goes) x.found
       (λ header e. found_is (cell_at I d) x.looks.fault r.old.standing header (variant_is variant M key barrier)
       (ap (λ (m : Meaning). m.id) (meaning_is variant M key barrier)) (stands.spells, refl) stands.cell (rw e at x.looks.finds)) x.goes
 
-  power_ran : (r : CommandRun) → CommandLosesPower r.old.standing r.new.standing r.old.received r.new.received r.old.writes
-      r.new.writes r.status
-      → OneRan r Power
+  power_ran : (r : CommandRun) → CommandLosesPower r.old r.new r.status → OneRan r Power
   power_ran r l = elim (cycles variant M r.old.standing r.new.standing l.fault l.cycles).failed [
     | inl lost ↦ quiet_ran r Power (λ stages q. q) LosesPower tt lost
     | inr kept ↦ quiet_ran r Power (λ stages q. q) (Extends []) tt kept
@@ -292,8 +289,7 @@ module _ (r : CommandRun) (blank : r.old.standing.cell ≡ Some blank_cell) wher
 
   run_blank : (found : Result Header Status) (middle : Standing) (fault : Option StepFault) → middle.cell ≡ r.old.standing.cell
       → FindsInstance fault r.old.standing found
-      → ServesIfFound found middle r.new.standing r.old.kept r.new.kept r.old.left r.new.left r.old.received r.new.received
-      r.old.reads r.new.reads r.old.writes r.new.writes r.status → r.new.standing.cell ≡ r.old.standing.cell
+      → ServesIfFound found (record r.old { standing = middle }) r.new r.status → r.new.standing.cell ≡ r.old.standing.cell
   run_blank (Err end) middle fault same finds s = ap (λ (x : Standing). x.cell) s.standing ∙ same
   run_blank (Ok header) middle fault same finds s = absurd (found_none fault header finds)
 

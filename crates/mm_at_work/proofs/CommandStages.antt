@@ -1,5 +1,6 @@
 -- The commands of the program are parts of a life, by what each does.
 use Rattle.std.proofs.Common.{◌≡◌, ◌∙◌, ℕ, List, [], ◌∷◌, Option, None, Some, Result, Ok, Err, refl, sym, ap, subst}
+use Rattle.mm_app.specs.Outside.{Outside, devices_of}
 use Rattle.mm_app.specs.Run.{FindsInstance, RunsInstance, SeesInstance, ServesIfFound, found_header, found_instance}
 use Rattle.mm_digest.specs.declared.variant.Variant.TheVariants.{Basic, Opt}
 use Rattle.mm_call.specs.Standing.{instance_by}
@@ -22,30 +23,28 @@ use Rattle.mm_platform.specs.Standing.{Standing}
 use Rattle.mm_at_work.specs.CommandLives.{CheckpointsArePartsOfLife, IsRunOfLife, LossesArePartsOfLife, RunsArePartsOfLife}
 use Rattle.mm_at_work.specs.CommandLives.{RunsFindTheInstance, InitBeginsLife}
 use Rattle.mm_schedule.specs.declared.header.Header.{Header}
-use Rattle.mm_store.specs.StoreStanding.{StoreStanding}
 
-run_leads : (found : Result Header Status) (before middle after : Standing) (values : List (List ℕ)) (old new : StoreStanding)
-    (left left' received received' : Option (List ℕ)) (reads reads' writes writes' : ℕ) (status : Status)
-    → ((variant : Variant) (meaning : Meaning) → DeedLeads variant meaning before (Extends values) middle)
-    → ServesIfFound found middle after old new left left' received received' reads reads' writes writes' status
-    → IsRunOfLife found before middle after values old new left left' received
-run_leads (Err end) before middle after values old new left left' received received' reads reads' writes writes' status looks s =
+run_leads : (found : Result Header Status) (old new : Outside) (middle : Standing) (values : List (List ℕ)) (status : Status)
+    → ((variant : Variant) (meaning : Meaning) → DeedLeads variant meaning old.standing (Extends values) middle)
+    → ServesIfFound found (record old { standing = middle }) new status → IsRunOfLife found old new middle values
+run_leads (Err end) old new middle values status looks s =
     λ variant meaning. (
-      subst (λ (it : Standing). DeedLeads variant meaning before (Extends values) it) (sym s.standing)
+      subst (λ (it : Standing). DeedLeads variant meaning old.standing (Extends values) it) (sym s.standing)
           (looks variant meaning),
       tt,
     )
-run_leads (Ok header) before middle after values old new left left' received received' reads reads' writes writes' status looks s =
+run_leads (Ok header) old new middle values status looks s =
     (s.between, s.served.answer, (looks header.variant (meaning_of header.«module»), (s.served.sessions, tt)))
 
 pub runs_are_parts : ReadsAreDeeds → RunsArePartsOfLife
-runs_are_parts deeds before after old new left left' received received' reads reads' writes writes' status r =
-    run_leads r.found before r.middle after r.looks.goes.others old new left left' received received' reads reads' writes writes' status
-    (λ variant meaning. deeds variant meaning before r.middle r.looks.fault r.looks.goes) r.goes
+runs_are_parts deeds old new status r =
+    run_leads r.found old new r.middle r.looks.goes.others status
+    (λ variant meaning. deeds variant meaning old.standing r.middle r.looks.fault r.looks.goes) r.goes
 
 pub init_begins : InitBeginsLife
-init_begins header before after received received' writes writes' status s done is =
-    subst (λ (answer : Result (Unit {0}) InitFault). InitLeaves header.variant (meaning_of header.«module») before after answer) is s.leaves
+init_begins header old new status s done is =
+    subst (λ (answer : Result (Unit {0}) InitFault). InitLeaves header.variant (meaning_of header.«module») (devices_of old)
+    (devices_of new) answer) is s.leaves
 
 -- a cell that holds the instance is found to hold it
 sees_it : (variant : Variant) (it : AnyModule) (held : Held) (found : Result Header Status) (bytes : List ℕ) → held.variant ≡ variant
@@ -65,16 +64,15 @@ finds_it variant it held None before found same id formed told none finds =
     sees_it variant it held found finds.0 same id formed (finds.1 (cell_spelling held) told) finds.2
 
 pub runs_find : RunsFindTheInstance
-runs_find it Basic key barrier y before after old new left left' received received' reads reads' writes writes' status r s none =
-    finds_it Basic it (cell_of (instance_by Basic (meaning_of it) key barrier) y) r.looks.fault before r.found refl refl s.spells s.cell
-    none r.looks.finds
-runs_find it Opt key barrier y before after old new left left' received received' reads reads' writes writes' status r s none =
-    finds_it Opt it (cell_of (instance_by Opt (meaning_of it) key barrier) y) r.looks.fault before r.found refl refl s.spells s.cell
+runs_find it Basic key barrier y old new status r s none =
+    finds_it Basic it (cell_of (instance_by Basic (meaning_of it) key barrier) y) r.looks.fault old.standing r.found refl refl s.spells
+    s.cell none r.looks.finds
+runs_find it Opt key barrier y old new status r s none =
+    finds_it Opt it (cell_of (instance_by Opt (meaning_of it) key barrier) y) r.looks.fault old.standing r.found refl refl s.spells s.cell
     none r.looks.finds
 
 pub checkpoints_are_parts : CheckpointsArePartsOfLife
-checkpoints_are_parts variant meaning before after received received' writes writes' status c = c.goes
+checkpoints_are_parts variant meaning old new status c = c.goes
 
 pub losses_are_parts : CyclesAreDeeds → LossesArePartsOfLife
-losses_are_parts deeds variant meaning before after received received' writes writes' status l =
-    deeds variant meaning before after l.fault l.cycles
+losses_are_parts deeds variant meaning old new status l = deeds variant meaning old.standing new.standing l.fault l.cycles

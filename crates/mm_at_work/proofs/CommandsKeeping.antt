@@ -7,7 +7,7 @@ use Rattle.mm_life.specs.Deeds.{Calls, Checkpoints, Extends, LosesPower}
 use Rattle.mm_life.specs.Laws.{BasicLifeIsOne, LivesKeepPromises, OptLifeIsOne, SessionsOfferSlots}
 use Rattle.mm_life.specs.Premises.{AreUntagged, IsFirstUntagged, life_batches, life_messages, opt_messages, others_values, snapshots_of}
 use Rattle.mm_life.specs.SessionCalls.{session_calls}
-use Rattle.mm_life.specs.Stages.{Does, Holds, IsLife, LifePart, PartLeads, LifeStage, part_calls}
+use Rattle.mm_life.specs.Stages.{Does, Holds, IsLife, LifePart, PartLeads, LifeStage, part_calls, session_on}
 use Rattle.mm_life.specs.DeedHistory.{IsNoCall}
 use Rattle.mm_model.specs.History.{first_history}
 use Rattle.mm_model.specs.Instance.{Instance}
@@ -29,7 +29,7 @@ use Rattle.mm_at_work.proofs.WholeLives.{basic_short, first_by, first_is_old, op
 
 -- the sessions of these stages begin over these slots, and besides no call is made
 abbrev StartsOver : Slots → LifePart → Type 0
-StartsOver slots (Holds p) = p.old.slots ≡ Some slots
+StartsOver slots (Holds p) = p.old.kept.slots ≡ Some slots
 StartsOver slots (Does deed) = IsNoCall deed
 
 abbrev StartOver : Slots → List LifeStage → Type 0
@@ -70,7 +70,7 @@ module _ (offers : SessionsOfferSlots) (i : Instance) (slots : Slots)
       (f : PartLeads i.variant i.meaning old part new)
       → StartsOver slots part → IsFirstUntagged i (Issued more) (part_calls i.variant i.meaning old part new f)
   part_untagged more old (Holds p) new f told =
-      elim (offers i.variant i.meaning old new p.old p.new p.left p.left' p.received p.received' p.result f slots told) [
+      elim (offers i.variant i.meaning (session_on old p.old) (session_on new p.new) p.result f slots told) [
         | inl none ↦ rw none tt
         | inr shown ↦
             first_by i (Issued more) (first_offer slots shown.waiting) (session_calls f)

@@ -4,6 +4,7 @@ use Rattle.mm_at_work.proofs.Below.{Batch, Instance, History, InstanceBegins, In
 use Rattle.mm_at_work.proofs.Below.{Slots, TornMemory, whole_bytes, TwoCell, first_devices, store_in_pages, two_cells, StartsInMemory}
 use Rattle.std.specs.Option.{option_map}
 use Rattle.mm_base.specs.Streams.{Supply}
+use Rattle.mm_recovery.specs.HostStanding.{host_standing}
 use Rattle.mm_recovery.specs.declared.fault.HostFault.{HostFault}
 use Rattle.mm_recovery.specs.declared.init_fault.InitFault.{InitFault}
 use Rattle.mm_recovery.specs.declared.resuming.Resumed.{Resumed}
@@ -14,7 +15,7 @@ use Rattle.mm_at_work.specs.MemoryRecovery.{CanRecoverInMemory, RecoversInMemory
 can_recover : {all others : List (List ℕ)} {asked : List Batch} {i : Instance} {y : History} {it : TwoCell TornMemory}
     {store : CachedDevice Sheets} →
     CanRecoverInMemory all others asked i y it store
-    → CanRecover all others asked i y store.device.slots (two_cells it) (store_in_pages store)
+    → CanRecover all others asked i y store.device.slots (host_standing (two_cells it) (store_in_pages store))
 can_recover can = record {
   honest = refl;
   told = refl;
@@ -28,7 +29,8 @@ can_recover can = record {
 
 pub recovers_in_memory : (variant : Variant) (meaning : Meaning) (before after : TwoCell TornMemory) (old new : CachedDevice Sheets)
     (result : Result Resumed HostFault) →
-    HostRecovers variant meaning (two_cells before) (two_cells after) (store_in_pages old) (store_in_pages new) result →
+    HostRecovers variant meaning (host_standing (two_cells before) (store_in_pages old))
+    (host_standing (two_cells after) (store_in_pages new)) result →
     RecoversInMemory variant meaning before after old new result
 unfolding can_recover
 recovers_in_memory Basic meaning before after old new result recovers = λ key y all others asked can.

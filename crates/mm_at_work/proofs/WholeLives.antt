@@ -1,6 +1,6 @@
 -- Lives over devices in memory are wholes: the slots of the first start are offered first, and of a copy what is asked.
 use Rattle.std.specs.List.{Contains}
-use Rattle.std.proofs.Common.{◌≡◌, ◌≤◌, ◌∙◌, ℕ, List, [], ◌∷◌, Option, None, Some, Result, arith, drop, length, refl, sym, ap, subst, take}
+use Rattle.std.proofs.Common.{◌≡◌, ◌≤◌, ◌∙◌, ℕ, List, [], ◌∷◌, None, Some, Result, arith, drop, length, refl, sym, ap, subst, take}
 use Rattle.std.proofs.Common.{inl, inr}
 use Rattle.std.proofs.lemmas.List.{append-nil, take_all}
 use Rattle.mm_digest.specs.declared.variant.Variant.{Variant}
@@ -20,6 +20,7 @@ use Rattle.mm_store.proofs.Above.{longest_slot-is}
 use Rattle.mm_recovery.specs.FirstStart.{IsFirstStore, ShowsValues, first_history_on, first_slots}
 use Rattle.mm_recovery.specs.SlotFit.{first_offer}
 use Rattle.mm_recovery.proofs.Above.{one_waiting}
+use Rattle.mm_host.specs.SessionStanding.{SessionStanding}
 use Rattle.mm_host.specs.Sessions.{IsSession}
 use Rattle.mm_host.specs.declared.fault.SessionFault.{SessionFault}
 use Rattle.mm_pages.specs.CachedDevice.{CachedDevice}
@@ -31,10 +32,10 @@ use Rattle.mm_life.specs.Deeds.{LifeCall, Checkpoints, Deed, LosesPower}
 use Rattle.mm_life.specs.Laws.{BasicLifeIsOne, OptLifeIsOne, SessionsOfferSlots}
 use Rattle.mm_life.specs.Premises.{IsFirstUntagged, IsUntagged, life_batches, life_messages, opt_messages, others_values, snapshots_of}
 use Rattle.mm_life.specs.SessionCalls.{IsFirstOffered, session_calls}
-use Rattle.mm_life.specs.Stages.{Does, IsLife, LifeStage}
-use Rattle.mm_at_work.specs.Devices.{store_in_pages, two_cells}
+use Rattle.mm_life.specs.Stages.{Does, IsLife, LifeStage, session_on, session_stage}
+use Rattle.mm_at_work.specs.Devices.{program_in_memory, session_in_memory, two_cells}
 use Rattle.mm_at_work.specs.Lives.{BeginsLife, FirstSlotsAreOld, IsOldCopy, IsWholeInBasic, IsWholeInOpt, LivesCheckpointed, LivesOnCopy}
-use Rattle.mm_at_work.specs.Lives.{LivesWithoutPower, session_stage}
+use Rattle.mm_at_work.specs.Lives.{LivesWithoutPower, MemoryLife}
 use Rattle.mm_at_work.specs.MemoryStart.{StartsInMemory}
 
 -- The first slots offer the first snapshot, as nothing waits in them.
@@ -62,21 +63,18 @@ first_by i issued bytes [] u o = tt
 first_by i issued bytes (c ∷ calls) u o = rw o u
 
 -- a session over a copy, or over the slots of the first start
-module _ (offers : SessionsOfferSlots) (i : Instance) (issued : List (List ℕ)) (before after : Standing) (pages new : CachedDevice Sheets)
-    (left left' received received' : Option (List ℕ)) (result : Result Unit SessionFault)
-    (s : IsSession i.variant i.meaning before after (store_in_pages pages) (store_in_pages new) left left' received received' result) where
-  copy_untagged : IsOldCopy i issued pages.device.slots → IsFirstUntagged i issued (session_calls s)
-  copy_untagged old =
-      elim (offers i.variant i.meaning before after (store_in_pages pages) (store_in_pages new) left left' received received' result s
-      pages.device.slots refl) [
-        | inl none ↦ rw none tt
-        | inr shown ↦
-            first_by i issued (first_offer pages.device.slots shown.waiting) (session_calls s) (old shown.waiting shown.is_waiting)
-            shown.offered
-      ]
+module _ (offers : SessionsOfferSlots) (i : Instance) (issued : List (List ℕ)) (old new : SessionStanding)
+    (result : Result Unit SessionFault) (s : IsSession i.variant i.meaning old new result) (slots : Slots)
+    (told : old.kept.slots ≡ Some slots) where
+  copy_untagged : IsOldCopy i issued slots → IsFirstUntagged i issued (session_calls s)
+  copy_untagged copy = elim (offers i.variant i.meaning old new result s slots told) [
+    | inl none ↦ rw none tt
+    | inr shown ↦
+        first_by i issued (first_offer slots shown.waiting) (session_calls s) (copy shown.waiting shown.is_waiting) shown.offered
+  ]
 
-  start_untagged : (slots : Slots) → pages.device.slots ≡ slots → IsOldCopy i issued slots → IsFirstUntagged i issued (session_calls s)
-  start_untagged slots is old = copy_untagged (subst (λ (x : Slots). IsOldCopy i issued x) (sym is) old)
+  start_untagged : (first : Slots) → slots ≡ first → IsOldCopy i issued first → IsFirstUntagged i issued (session_calls s)
+  start_untagged first is copy = copy_untagged (subst (λ (x : Slots). IsOldCopy i issued x) (sym is) copy)
 
 -- the first snapshots are short
 pub basic_short : (meaning : Meaning) → IsLawful meaning → (key : List ℕ) → length (issued_bytes (basic_instance meaning key) first_history)
@@ -91,16 +89,19 @@ opt_short meaning lawful key barrier = sealed_snapshot_of-most _ _ (opt_content 
 abbrev deed_stage : Deed → Standing → LifeStage
 deed_stage deed after = record { part = Does deed; after = after }
 
-module _ (meaning : Meaning) (lawful : IsLawful meaning) (offers : SessionsOfferSlots) (start middle after : TwoCell TornMemory)
-    (pages left_pages copy new : CachedDevice Sheets) (entropy entropy' first first' second second' received between received' : List ℕ)
+module _ (meaning : Meaning) (lawful : IsLawful meaning) (offers : SessionsOfferSlots) (old new : MemoryLife)
+    (start middle : TwoCell TornMemory) (pages left_pages : CachedDevice Sheets) (between : List ℕ)
     (one two : Result Unit SessionFault) where
   abbrev One : LifeStage
-  One = session_stage pages left_pages first first' received between one middle
+  One = session_stage (program_in_memory pages old.first old.received) (program_in_memory left_pages new.first between) one
+      (two_cells middle)
 
   abbrev Two : LifeStage
-  Two = session_stage copy new second second' between received' two after
+  Two = session_stage (program_in_memory old.copy old.second between) (program_in_memory new.copy new.second new.received) two
+      (two_cells new.platform)
 
-  abbrev begins : (variant : Variant) → StartsInMemory variant meaning start pages entropy entropy' → BeginsLife entropy entropy'
+  abbrev begins : (variant : Variant) → StartsInMemory variant meaning start pages old.entropy new.entropy
+      → BeginsLife old.entropy new.entropy
   begins variant starts = record {
     secrets = starts.secrets;
     counted = starts.counted;
@@ -112,7 +113,7 @@ module _ (meaning : Meaning) (lawful : IsLawful meaning) (offers : SessionsOffer
     between = between;
   }
 
-  module _ (basic_one : BasicLifeIsOne) (starts : StartsInMemory Basic meaning start pages entropy entropy') where
+  module _ (basic_one : BasicLifeIsOne) (starts : StartsInMemory Basic meaning start pages old.entropy new.entropy) where
     abbrev key : List ℕ
     key = take 32 starts.secrets
 
@@ -125,51 +126,51 @@ module _ (meaning : Meaning) (lawful : IsLawful meaning) (offers : SessionsOffer
     basic_old : FirstSlotsAreOld B
     basic_old = first_is_old B (basic_short meaning lawful key) first_history (starts.first [])
 
-    first_session : (s : IsSession Basic meaning (two_cells start) (two_cells middle) (store_in_pages pages) (store_in_pages left_pages)
-        (Some first) (Some first') (Some received) (Some between) one) → IsFirstUntagged B (Issued []) (session_calls s)
+    first_session : (s : IsSession Basic meaning (session_in_memory start pages old.first old.received)
+        (session_in_memory middle left_pages new.first between) one) → IsFirstUntagged B (Issued []) (session_calls s)
     first_session s =
-        start_untagged offers B (Issued []) (two_cells start) (two_cells middle) pages left_pages (Some first) (Some first') (Some received)
-        (Some between) one s (first_slots B) starts.slots (basic_old [])
+        start_untagged offers B (Issued []) (session_in_memory start pages old.first old.received)
+        (session_in_memory middle left_pages new.first between) one s pages.device.slots refl (first_slots B) starts.slots (basic_old [])
 
     second_session : (before : Standing) (issued : List (List ℕ))
-        (s : IsSession Basic meaning before (two_cells after) (store_in_pages copy)
-        (store_in_pages new) (Some second) (Some second') (Some between) (Some received') two) → IsOldCopy B issued copy.device.slots
+        (s : IsSession Basic meaning (session_on before (program_in_memory old.copy old.second between))
+        (session_in_memory new.platform new.copy new.second new.received) two) → IsOldCopy B issued old.copy.device.slots
         → IsFirstUntagged B issued (session_calls s)
-    second_session before issued s old =
-        copy_untagged offers B issued before (two_cells after) copy new (Some second) (Some second') (Some between) (Some received') two s
-        old
+    second_session before issued s copy =
+        copy_untagged offers B issued (session_on before (program_in_memory old.copy old.second between))
+        (session_in_memory new.platform new.copy new.second new.received) two s old.copy.device.slots refl copy
 
     whole_on_copy : (f : IsLife Basic meaning (two_cells start) (One ∷ Two ∷ []))
-        → IsWholeInBasic B start One (Two ∷ []) copy.device.slots f
-    whole_on_copy f old =
+        → IsWholeInBasic B start One (Two ∷ []) old.copy.device.slots f
+    whole_on_copy f copy =
         let issued : List (List ℕ) = Issued (snapshots_of (session_calls f.0)) in
         elim (clash_or B (life_messages B (two_cells start) (One ∷ Two ∷ []) f) [] (life_batches B (two_cells start) (One ∷ Two ∷ []) f)) [
           | inl clash ↦ inr clash
           | inr fine ↦
               inl (basic_one meaning lawful key (two_cells start) (One ∷ Two ∷ []) f (starts.stands [] refl) fine.0
-              (first_session f.0, (second_session (two_cells middle) issued f.1.0 old, tt)))
+              (first_session f.0, (second_session (two_cells middle) issued f.1.0 copy, tt)))
         ]
 
     pub lives_on_copy : IsLife Basic meaning (two_cells start) (One ∷ Two ∷ [])
-        → LivesOnCopy meaning after copy new entropy entropy' first first' second second' received received' one two
+        → LivesOnCopy meaning old new one two
     lives_on_copy f =
         record { begun = begins Basic starts; life = f; whole = whole_on_copy f; first_is_old = basic_old }
 
     whole_without_power : (empty : Standing) (f : IsLife Basic meaning (two_cells start) (One ∷ deed_stage LosesPower empty ∷ Two ∷ []))
-        → IsWholeInBasic B start One (deed_stage LosesPower empty ∷ Two ∷ []) copy.device.slots f
-    whole_without_power empty f old =
+        → IsWholeInBasic B start One (deed_stage LosesPower empty ∷ Two ∷ []) old.copy.device.slots f
+    whole_without_power empty f copy =
         let stages : List LifeStage = One ∷ deed_stage LosesPower empty ∷ Two ∷ [] in
         let issued : List (List ℕ) = Issued (snapshots_of (session_calls f.0)) in
         elim (clash_or B (life_messages B (two_cells start) stages f) [] (life_batches B (two_cells start) stages f)) [
           | inl clash ↦ inr clash
           | inr fine ↦
               inl (basic_one meaning lawful key (two_cells start) stages f (starts.stands [] refl) fine.0
-              (first_session f.0, (tt, (rw (append-nil issued) (second_session empty issued f.1.1.0 old), tt))))
+              (first_session f.0, (tt, (rw (append-nil issued) (second_session empty issued f.1.1.0 copy), tt))))
         ]
 
     pub lives_without_power : (empty : Standing)
         → IsLife Basic meaning (two_cells start) (One ∷ deed_stage LosesPower empty ∷ Two ∷ [])
-        → LivesWithoutPower meaning after copy new entropy entropy' first first' second second' received received' one two
+        → LivesWithoutPower meaning old new one two
     lives_without_power empty f = record {
       begun = begins Basic starts;
       empty = empty;
@@ -178,7 +179,7 @@ module _ (meaning : Meaning) (lawful : IsLawful meaning) (offers : SessionsOffer
       first_is_old = basic_old;
     }
 
-  module _ (opt_one : OptLifeIsOne) (starts : StartsInMemory Opt meaning start pages entropy entropy') where
+  module _ (opt_one : OptLifeIsOne) (starts : StartsInMemory Opt meaning start pages old.entropy new.entropy) where
     abbrev O : Instance
     O = opt_instance meaning (take 32 starts.secrets) (drop 32 starts.secrets)
 
@@ -189,8 +190,8 @@ module _ (meaning : Meaning) (lawful : IsLawful meaning) (offers : SessionsOffer
     whole_checkpointed : (said : Result Checkpointed CheckpointRefusal) (closed : Standing)
         (f : IsLife Opt meaning (two_cells start) (One ∷ deed_stage (Checkpoints said) closed ∷ Two ∷ [])) (values : List (List ℕ))
         → ShowsValues Opt (two_cells start) values
-        → IsWholeInOpt O start One (deed_stage (Checkpoints said) closed ∷ Two ∷ []) copy.device.slots f
-    whole_checkpointed said closed f values shows old =
+        → IsWholeInOpt O start One (deed_stage (Checkpoints said) closed ∷ Two ∷ []) old.copy.device.slots f
+    whole_checkpointed said closed f values shows copy =
         let stages : List LifeStage = One ∷ deed_stage (Checkpoints said) closed ∷ Two ∷ [] in
         let none : List (List ℕ) = issued_bytes O first_history ∷ [] in
         let issued : List (List ℕ) = issued_bytes O first_history ∷ snapshots_of (session_calls f.0) in
@@ -200,13 +201,15 @@ module _ (meaning : Meaning) (lawful : IsLawful meaning) (offers : SessionsOffer
           | inr fine ↦
               inl (opt_one meaning lawful (take 32 starts.secrets) (drop 32 starts.secrets) values (two_cells start) stages f
               (starts.stands values shows) fine.0 (fine.1 refl) (
-                start_untagged offers O none (two_cells start) (two_cells middle) pages left_pages (Some first) (Some first')
-                    (Some received) (Some between) one f.0 (first_slots O) starts.slots (opt_old []),
+                start_untagged offers O none (session_in_memory start pages old.first old.received)
+                    (session_in_memory middle left_pages new.first between) one f.0 pages.device.slots refl (first_slots O) starts.slots
+                    (opt_old []),
                 (
                   tt,
                   (
-                    rw (append-nil issued) (copy_untagged offers O issued closed (two_cells after) copy new (Some second) (Some second')
-                        (Some between) (Some received') two f.1.1.0 old),
+                    rw (append-nil issued) (copy_untagged offers O issued
+                        (session_on closed (program_in_memory old.copy old.second between))
+                        (session_in_memory new.platform new.copy new.second new.received) two f.1.1.0 old.copy.device.slots refl copy),
                     tt,
                   ),
                 ),
@@ -215,7 +218,7 @@ module _ (meaning : Meaning) (lawful : IsLawful meaning) (offers : SessionsOffer
 
     pub lives_checkpointed : (said : Result Checkpointed CheckpointRefusal) (closed : Standing)
         → IsLife Opt meaning (two_cells start) (One ∷ deed_stage (Checkpoints said) closed ∷ Two ∷ [])
-        → LivesCheckpointed meaning after copy new entropy entropy' first first' second second' received received' one said two
+        → LivesCheckpointed meaning old new one said two
     lives_checkpointed said closed f = record {
       begun = begins Opt starts;
       closed = closed;

@@ -3,7 +3,7 @@ use Rattle.std.specs.Prelude.{◌≡◌, ◌⊎◌, ℕ, List, [], ◌∷◌, �
 use Rattle.std.specs.List.{AllByRecursion}
 use Rattle.std.specs.Option.{option_map}
 use Rattle.mm_app.specs.Commands.{DoesOrLacks, UsesPlatform}
-use Rattle.mm_app.specs.Outside.{Outside}
+use Rattle.mm_app.specs.Outside.{Outside, devices_of}
 use Rattle.mm_app.specs.Run.{session_status}
 use Rattle.mm_app.specs.CommandOutput.{StopsAs, TellsStop}
 use Rattle.mm_app.specs.declared.status.Status.{Status}
@@ -11,7 +11,7 @@ use Rattle.mm_call.specs.Standing.{instance_by}
 use Rattle.mm_digest.specs.declared.variant.Variant.{Variant}
 use Rattle.mm_host.specs.declared.fault.SessionFault.{SessionFault}
 use Rattle.mm_life.specs.Deeds.{Deed}
-use Rattle.mm_life.specs.Stages.{Does, IsLife, LifeStage}
+use Rattle.mm_life.specs.Stages.{Does, IsLife, LifeStage, session_stage}
 use Rattle.mm_life.specs.DeedHistory.{IsNoCall}
 use Rattle.mm_model.specs.History.{History}
 use Rattle.mm_model.specs.Standing.{StandsFor}
@@ -21,12 +21,11 @@ use Rattle.mm_modules.specs.declared.any.AnyModule.{AnyModule}
 use Rattle.mm_platform.specs.Standing.{Standing}
 use Rattle.mm_platform.specs.Steps.{items_beside}
 use Rattle.mm_recovery.specs.FirstStart.{InstanceBegins, ShowsValues}
-use Rattle.mm_recovery.specs.Init.{Devices, devices}
 use Rattle.mm_schedule.specs.declared.header.Header.{Header}
 use Rattle.mm_seal.specs.Cell.{blank_cell}
 use Rattle.mm_words.specs.declared.command.CommandLine.{CommandLine}
 use Rattle.mm_words.specs.declared.command.CommandLine.TheVariants.{Init, Run}
-use Rattle.mm_at_work.specs.CommandLives.{look_stage, session_stage}
+use Rattle.mm_at_work.specs.CommandLives.{look_stage, program_of}
 
 -- a command that was run: what the objects told that it was handed, before and behind it; and how
 -- it ended
@@ -77,7 +76,7 @@ pub record HoldsSession (r : CommandRun) (stages : List LifeStage) : Type 0 wher
   pub between : Option (List ℕ)
   pub result : Result (Unit {0}) SessionFault
   pub are : stages ≡ look_stage values middle
-      ∷ session_stage r.old.kept r.new.kept r.old.left r.new.left r.old.received between result
+      ∷ session_stage (program_of r.old) (program_of (record r.new { received = between })) result
       r.new.standing ∷ []
   pub ends : r.status ≡ session_status result
   pub count : ℕ
@@ -110,10 +109,6 @@ CommandsAreLife =
     (commands : List CommandRun) →
     StandsFor (instance_by variant (meaning_of it) key barrier) start y → AreRun start commands →
     AreLife variant (meaning_of it) start commands
-
--- what a first start works with, of what the objects of a command tell
-abbrev pub devices_of : Outside → Devices
-devices_of o = devices o.standing o.kept o.entropy o.takes
 
 -- An instance was begun by one of the commands, an `init`: those before it left the cell blank, and
 -- those behind it are its life, where the register is told in Opt.

@@ -1,8 +1,10 @@
 -- What stands on devices in memory: two cells over a memory whose writes tear, and a store over
 -- pages.
-use Rattle.std.specs.Prelude.{true, None, Some}
+use Rattle.std.specs.Prelude.{ℕ, List, true, None, Some}
 use Rattle.std.specs.Option.{option_map}
 use Rattle.mm_base.specs.Streams.{Supply}
+use Rattle.mm_host.specs.SessionStanding.{SessionStanding, session_standing}
+use Rattle.mm_life.specs.Stages.{ProgramStanding, program_standing}
 use Rattle.mm_recovery.specs.Init.{Devices}
 use Rattle.mm_pages.specs.CachedDevice.{CachedDevice}
 use Rattle.mm_pages.specs.Sheets.{Sheets}
@@ -36,6 +38,33 @@ store_in_pages store = record {
   faults = store.device.faults;
   unsynced = Some store.device.unsynced;
 }
+
+-- what the objects of a session tell in memory, and of these what a program's own ones do
+abbrev pub session_in_memory : TwoCell TornMemory → CachedDevice Sheets
+    → (left received : List ℕ) → SessionStanding
+session_in_memory it store left received =
+    session_standing (two_cells it) (store_in_pages store) (Some left) (Some received)
+
+abbrev pub program_in_memory : CachedDevice Sheets → (left received : List ℕ) → ProgramStanding
+program_in_memory store left received =
+    program_standing (store_in_pages store) (Some left) (Some received)
+
+-- the objects of a session in memory: its platform, its pages, what is left of its input, and what
+-- its output received
+pub record MemorySession : Type 0 where
+  pub platform : TwoCell TornMemory
+  pub pages : CachedDevice Sheets
+  pub left : List ℕ
+  pub received : List ℕ
+
+abbrev pub memory_session : TwoCell TornMemory → CachedDevice Sheets → (left received : List ℕ)
+    → MemorySession
+memory_session platform pages left received =
+    record { platform = platform; pages = pages; left = left; received = received }
+
+-- what these tell
+abbrev pub session_by : MemorySession → SessionStanding
+session_by it = session_in_memory it.platform it.pages it.left it.received
 
 -- what a first start works with
 abbrev pub first_devices : TwoCell TornMemory → CachedDevice Sheets → Supply → Devices

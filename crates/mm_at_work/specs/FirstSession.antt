@@ -1,5 +1,5 @@
 -- What a first start, and a session behind it, come to over devices in memory.
-use Rattle.std.specs.Prelude.{◌≡◌, ℕ, List, ◌++◌, None, Some, Result, length, take}
+use Rattle.std.specs.Prelude.{◌≡◌, ℕ, List, ◌++◌, None, Result, length, take}
 use Rattle.std.specs.List.{Contains}
 use Rattle.mm_base.specs.Input.{lines_of}
 use Rattle.mm_digest.specs.Messages.{start_message}
@@ -20,7 +20,7 @@ use Rattle.mm_pages.specs.CachedDevice.{CachedDevice}
 use Rattle.mm_pages.specs.Sheets.{Sheets}
 use Rattle.mm_twocell.specs.TornMemory.{TornMemory}
 use Rattle.mm_twocell.specs.declared.pair.TwoCell.{TwoCell}
-use Rattle.mm_at_work.specs.Devices.{store_in_pages, two_cells}
+use Rattle.mm_at_work.specs.Devices.{MemorySession, session_by, session_in_memory, store_in_pages, two_cells}
 
 -- What is asked of the lines: they are asked one after another from the first history, with what a
 -- new store offers first; and no two messages of this share a digest.
@@ -33,20 +33,17 @@ pub record CanBegin (all others : List (List ℕ)) (asked : List Batch) (i : Ins
 
 -- 64 bytes were taken, of which the first 32 are the key; and a session of Basic was held. What it
 -- told is one run of the module from the empty list, and so on. Nothing is asked of the devices.
-pub record BeginsAndServes (meaning : Meaning) (after : TwoCell TornMemory)
-    (new : CachedDevice Sheets)
-    (entropy entropy' input input' received received' : List ℕ)
-    (result : Result Unit SessionFault) : Type 0 where
+pub record BeginsAndServes (meaning : Meaning) (entropy entropy' : List ℕ)
+    (old new : MemorySession) (result : Result Unit SessionFault) : Type 0 where
   pub secrets : List ℕ
   pub counted : length secrets ≡ 64
   pub taken : entropy ≡ secrets ++ entropy'
   pub middle : TwoCell TornMemory
   pub store : CachedDevice Sheets
-  pub session : IsSession Basic meaning (two_cells middle) (two_cells after) (store_in_pages store)
-      (store_in_pages new)
-      (Some input) (Some input') (Some received) (Some received') result
+  pub session : IsSession Basic meaning (session_in_memory middle store old.left old.received)
+      (session_by new) result
   pub continues : (all others : List (List ℕ)) (asked : List Batch)
-      → CanBegin all others asked (basic_instance meaning (take 32 secrets)) (lines_of input) →
+      → CanBegin all others asked (basic_instance meaning (take 32 secrets)) (lines_of old.left) →
       ContinuesTo all others asked (basic_instance meaning (take 32 secrets)) first_history None
-      (two_cells after) (store_in_pages new)
+      (two_cells new.platform) (store_in_pages new.pages)
       (served_calls_in None session.goes) (IsInHand None session.goes) result

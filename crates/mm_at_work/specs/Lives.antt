@@ -1,6 +1,6 @@
 -- What lives over devices in memory come to: a first start, and two sessions, the second over a
 -- copy in the pages' place.
-use Rattle.std.specs.Prelude.{◌≡◌, ◌⊎◌, ℕ, List, [], ◌∷◌, ◌++◌, Option, Some, Result, length}
+use Rattle.std.specs.Prelude.{◌≡◌, ◌⊎◌, ℕ, List, [], ◌∷◌, ◌++◌, Option, Result, length}
 use Rattle.mm_digest.specs.declared.variant.Variant.TheVariants.{Basic, Opt}
 use Rattle.mm_platform.specs.Standing.{Standing}
 use Rattle.mm_module.specs.Meaning.{Meaning}
@@ -25,24 +25,28 @@ use Rattle.mm_life.specs.Deeds.{Checkpoints, LosesPower}
 use Rattle.mm_life.specs.Laws.{life_snapshots}
 use Rattle.mm_life.specs.OneList.{IsOneWhole}
 use Rattle.mm_life.specs.Premises.{IsUntagged, life_batches, life_messages, opt_messages, others_values, snapshots_of}
-use Rattle.mm_life.specs.Stages.{Does, Holds, IsLife, LifeStage, part_calls}
-use Rattle.mm_at_work.specs.Devices.{store_in_pages, two_cells}
+use Rattle.mm_life.specs.Stages.{Does, IsLife, LifeStage, part_calls, session_stage}
+use Rattle.mm_at_work.specs.Devices.{program_in_memory, two_cells}
 
--- a session over pages, on an input and an output in memory
-abbrev pub session_stage : CachedDevice Sheets → CachedDevice Sheets → List ℕ → List ℕ → List ℕ
-    → List ℕ
-    → Result Unit SessionFault → TwoCell TornMemory → LifeStage
-session_stage old new left left' received received' result after = record {
-  part = Holds (record {
-    old = store_in_pages old;
-    new = store_in_pages new;
-    left = Some left;
-    left' = Some left';
-    received = Some received;
-    received' = Some received';
-    result = result;
-  });
-  after = two_cells after;
+-- the objects of such a life: its platform, the copy of the pages, what is left of its entropy and
+-- of the input of each session, and what the output of both received
+pub record MemoryLife : Type 0 where
+  pub platform : TwoCell TornMemory
+  pub copy : CachedDevice Sheets
+  pub entropy : List ℕ
+  pub first : List ℕ
+  pub second : List ℕ
+  pub received : List ℕ
+
+abbrev pub memory_life : TwoCell TornMemory → CachedDevice Sheets
+    → (entropy first second received : List ℕ) → MemoryLife
+memory_life platform copy entropy first second received = record {
+  platform = platform;
+  copy = copy;
+  entropy = entropy;
+  first = first;
+  second = second;
+  received = received;
 }
 
 -- What a copy of the slots offers first was issued, if it is right.
@@ -61,6 +65,19 @@ pub record BeginsLife (entropy entropy' : List ℕ) : Type 0 where
   pub middle : TwoCell TornMemory
   pub left_pages : CachedDevice Sheets
   pub between : List ℕ
+
+-- the first session, over the pages of the first start; and the second one, over the copy
+abbrev pub first_stage : (old new : MemoryLife) → BeginsLife old.entropy new.entropy
+    → Result Unit SessionFault → LifeStage
+first_stage old new b result =
+    session_stage (program_in_memory b.pages old.first old.received)
+    (program_in_memory b.left_pages new.first b.between) result (two_cells b.middle)
+
+abbrev pub second_stage : (old new : MemoryLife) → BeginsLife old.entropy new.entropy
+    → Result Unit SessionFault → LifeStage
+second_stage old new b result =
+    session_stage (program_in_memory old.copy old.second b.between)
+    (program_in_memory new.copy new.second new.received) result (two_cells new.platform)
 
 -- Behind a first session of it, where the copy in the pages' place is an old one, a life is one
 -- whole, or gives evidence: two different of its messages have one digest, or the digest of one is
@@ -103,58 +120,47 @@ FirstSlotsAreOld i =
     (more : List (List ℕ)) → IsOldCopy i (issued_bytes i first_history ∷ more) (first_slots i)
 
 -- A life of Basic over a copy: a session, and one over the copy.
-pub record LivesOnCopy (meaning : Meaning) (after : TwoCell TornMemory)
-    (copy new : CachedDevice Sheets)
-    (entropy entropy' first first' second second' received received' : List ℕ)
+pub record LivesOnCopy (meaning : Meaning) (old new : MemoryLife)
     (one two : Result Unit SessionFault) : Type 0 where
-  pub begun : BeginsLife entropy entropy'
+  pub begun : BeginsLife old.entropy new.entropy
   pub open begun use *
   pub life : IsLife Basic meaning (two_cells start)
-      (session_stage pages left_pages first first' received between one middle
-      ∷ session_stage copy new second second' between received' two after ∷ [])
+      (first_stage old new begun one ∷ second_stage old new begun two ∷ [])
   pub whole : IsWholeInBasic (instance_from Basic meaning secrets) start
-      (session_stage pages left_pages first first' received between one middle)
-      (session_stage copy new second second' between received' two after ∷ [])
-      copy.device.slots life
+      (first_stage old new begun one) (second_stage old new begun two ∷ [])
+      old.copy.device.slots life
   pub first_is_old : FirstSlotsAreOld (instance_from Basic meaning secrets)
 
 -- The same with a loss of power between the two.
-pub record LivesWithoutPower (meaning : Meaning) (after : TwoCell TornMemory)
-    (copy new : CachedDevice Sheets)
-    (entropy entropy' first first' second second' received received' : List ℕ)
+pub record LivesWithoutPower (meaning : Meaning) (old new : MemoryLife)
     (one two : Result Unit SessionFault) : Type 0 where
-  pub begun : BeginsLife entropy entropy'
+  pub begun : BeginsLife old.entropy new.entropy
   pub open begun use *
   pub empty : Standing
   pub life : IsLife Basic meaning (two_cells start)
-      (session_stage pages left_pages first first' received between one middle
+      (first_stage old new begun one
       ∷ record { part = Does LosesPower; after = empty }
-      ∷ session_stage copy new second second' between received' two after ∷ [])
+      ∷ second_stage old new begun two ∷ [])
   pub whole : IsWholeInBasic (instance_from Basic meaning secrets) start
-      (session_stage pages left_pages first first' received between one middle)
-      (record { part = Does LosesPower; after = empty }
-      ∷ session_stage copy new second second' between received' two after ∷ []) copy.device.slots
-      life
+      (first_stage old new begun one)
+      (record { part = Does LosesPower; after = empty } ∷ second_stage old new begun two ∷ [])
+      old.copy.device.slots life
   pub first_is_old : FirstSlotsAreOld (instance_from Basic meaning secrets)
 
 -- A life of Opt with a checkpoint between the two, from the values that the register showed at the
 -- first start.
-pub record LivesCheckpointed (meaning : Meaning) (after : TwoCell TornMemory)
-    (copy new : CachedDevice Sheets)
-    (entropy entropy' first first' second second' received received' : List ℕ)
+pub record LivesCheckpointed (meaning : Meaning) (old new : MemoryLife)
     (one : Result Unit SessionFault) (said : Result Checkpointed CheckpointRefusal)
     (two : Result Unit SessionFault) : Type 0 where
-  pub begun : BeginsLife entropy entropy'
+  pub begun : BeginsLife old.entropy new.entropy
   pub open begun use *
   pub closed : Standing
   pub life : IsLife Opt meaning (two_cells start)
-      (session_stage pages left_pages first first' received between one middle
+      (first_stage old new begun one
       ∷ record { part = Does (Checkpoints said); after = closed }
-      ∷ session_stage copy new second second' between received' two after ∷ [])
+      ∷ second_stage old new begun two ∷ [])
   pub whole : (values : List (List ℕ)) → ShowsValues Opt (two_cells start) values
-      → IsWholeInOpt (instance_from Opt meaning secrets) start
-      (session_stage pages left_pages first first' received between one middle)
+      → IsWholeInOpt (instance_from Opt meaning secrets) start (first_stage old new begun one)
       (record { part = Does (Checkpoints said); after = closed }
-      ∷ session_stage copy new second second' between received' two after ∷ []) copy.device.slots
-      life
+      ∷ second_stage old new begun two ∷ []) old.copy.device.slots life
   pub first_is_old : FirstSlotsAreOld (instance_from Opt meaning secrets)

@@ -15,6 +15,7 @@ use Rattle.mm_call.specs.Premises.{AreShown}
 use Rattle.mm_call.specs.ShownItems.{standing_items}
 use Rattle.mm_recovery.specs.declared.fault.HostFault.{HostFault}
 use Rattle.mm_recovery.specs.declared.resuming.Resumed.{Resumed}
+use Rattle.mm_recovery.specs.HostStanding.{host_standing}
 use Rattle.mm_recovery.specs.SlotFit.{FitsHistory}
 use Rattle.mm_recovery.specs.Recovery.{AsksIdly, IsAskedFor, RecoversTo}
 use Rattle.mm_pages.specs.CachedDevice.{CachedDevice}
@@ -46,7 +47,7 @@ RecoversInMemory Basic meaning before after old new result =
     (key : List ℕ) (y : History) (all others : List (List ℕ)) (asked : List Batch)
     (can : CanRecoverInMemory all others asked (basic_instance meaning key) y before old) →
     RecoversTo all others asked (basic_instance meaning key) y old.device.slots can.fits.waiting
-    (two_cells after) (store_in_pages new) result
+    (host_standing (two_cells after) (store_in_pages new)) result
 RecoversInMemory Opt meaning before after old new result =
     (key barrier : List ℕ) (y : History) (all others : List (List ℕ)) (asked : List Batch)
     (items more : List Item)
@@ -57,4 +58,4 @@ RecoversInMemory Opt meaning before after old new result =
     → AreShown all others (opt_instance meaning key barrier) y more) →
     RecoversTo all others asked (opt_instance meaning key barrier) y
     old.device.slots can.fits.waiting
-    (two_cells after) (store_in_pages new) result
+    (host_standing (two_cells after) (store_in_pages new)) result

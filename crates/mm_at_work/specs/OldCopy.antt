@@ -22,11 +22,9 @@ use Rattle.mm_host.specs.Continuation.{IsInHand, served_calls_in}
 use Rattle.mm_host.specs.Sessions.{IsSession}
 use Rattle.mm_recovery.specs.WaitingRequest.{IsWaiting}
 use Rattle.mm_host.specs.declared.fault.SessionFault.{SessionFault}
-use Rattle.mm_pages.specs.CachedDevice.{CachedDevice}
-use Rattle.mm_pages.specs.Sheets.{Sheets}
 use Rattle.mm_twocell.specs.TornMemory.{TornMemory}
 use Rattle.mm_twocell.specs.declared.pair.TwoCell.{TwoCell}
-use Rattle.mm_at_work.specs.Devices.{store_in_pages, two_cells}
+use Rattle.mm_at_work.specs.Devices.{MemorySession, session_by, two_cells}
 
 -- What is asked where it starts: the picked cell, and in Opt the register, stand for the history;
 -- no two messages of it, and of what waits in the copy and the lines, share a digest; and where the
@@ -45,40 +43,33 @@ pub record CanServeCopy (all others : List (List ℕ)) (asked : List Batch) (i :
 
 -- What it told is one run of the module from the history on, whatever the copy holds. In Opt what
 -- others did is known by the register's items, unless nothing new is asked.
-abbrev pub CopyRunsOnce : (variant : Variant) (meaning : Meaning)
-    (before after : TwoCell TornMemory)
-    (copy new : CachedDevice Sheets) (input input' received received' : List ℕ)
+abbrev pub CopyRunsOnce : (variant : Variant) (meaning : Meaning) (old new : MemorySession)
     (result : Result Unit SessionFault)
-    → IsSession variant meaning (two_cells before) (two_cells after) (store_in_pages copy)
-    (store_in_pages new) (Some input) (Some input') (Some received) (Some received') result
-    → Type 0
-CopyRunsOnce Basic meaning before after copy new input input' received received' result s =
+    → IsSession variant meaning (session_by old) (session_by new) result → Type 0
+CopyRunsOnce Basic meaning old new result s =
     (key : List ℕ) (y : History) (all others : List (List ℕ)) (asked : List Batch) →
-    (can : CanServeCopy all others asked (basic_instance meaning key) y before copy.device.slots
-    (lines_of input)) →
+    (can : CanServeCopy all others asked (basic_instance meaning key) y old.platform
+    old.pages.device.slots (lines_of old.left)) →
     EndsRun all others asked (basic_instance meaning key) y
-    (first_offer copy.device.slots can.waiting)
-    (two_cells after) (served_calls_in can.waiting s.goes) (IsInHand can.waiting s.goes) result
-CopyRunsOnce Opt meaning before after copy new input input' received received' result s =
+    (first_offer old.pages.device.slots can.waiting) (two_cells new.platform)
+    (served_calls_in can.waiting s.goes) (IsInHand can.waiting s.goes) result
+CopyRunsOnce Opt meaning old new result s =
     (key barrier : List ℕ) (y : History) (all others : List (List ℕ)) (asked : List Batch)
     (items more : List Item) →
-    (can : CanServeCopy all others asked (opt_instance meaning key barrier) y before
-    copy.device.slots
-    (lines_of input)) →
-    (two_cells before).items ≡ Some items
-    → (two_cells after).items ≡ Some (standing_items y.is_open items ++ more) →
+    (can : CanServeCopy all others asked (opt_instance meaning key barrier) y old.platform
+    old.pages.device.slots (lines_of old.left)) →
+    (two_cells old.platform).items ≡ Some items
+    → (two_cells new.platform).items ≡ Some (standing_items y.is_open items ++ more) →
     ((AsksNothingNew (opt_instance meaning key barrier) y
-    (first_offer copy.device.slots can.waiting)
-    (requests_with can.waiting (lines_of input)) → ⊥)
+    (first_offer old.pages.device.slots can.waiting)
+    (requests_with can.waiting (lines_of old.left)) → ⊥)
     → AreShown all others (opt_instance meaning key barrier) y more) →
     EndsRun all others asked (opt_instance meaning key barrier) y
-    (first_offer copy.device.slots can.waiting)
-    (two_cells after) (served_calls_in can.waiting s.goes) (IsInHand can.waiting s.goes) result
+    (first_offer old.pages.device.slots can.waiting) (two_cells new.platform)
+    (served_calls_in can.waiting s.goes) (IsInHand can.waiting s.goes) result
 
-pub record ServesCopy (variant : Variant) (meaning : Meaning) (before after : TwoCell TornMemory)
-    (copy new : CachedDevice Sheets) (input input' received received' : List ℕ)
+-- The pages are the copy when it starts.
+pub record ServesCopy (variant : Variant) (meaning : Meaning) (old new : MemorySession)
     (result : Result Unit SessionFault) : Type 0 where
-  pub session : IsSession variant meaning (two_cells before) (two_cells after) (store_in_pages copy)
-      (store_in_pages new) (Some input) (Some input') (Some received) (Some received') result
-  pub one_run : CopyRunsOnce variant meaning before after copy new input input' received received'
-      result session
+  pub session : IsSession variant meaning (session_by old) (session_by new) result
+  pub one_run : CopyRunsOnce variant meaning old new result session

@@ -2,7 +2,7 @@
 //! copy in the pages' place.
 
 ghost use Rattle.std.specs.Prelude.{IfOk};
-ghost use Rattle.mm_at_work.specs.Lives.{LivesOnCopy, LivesWithoutPower, LivesCheckpointed};
+ghost use Rattle.mm_at_work.specs.Lives.{LivesCheckpointed, LivesOnCopy, LivesWithoutPower, memory_life};
 
 use crate::calls::close_segment;
 use crate::sessions::{serve, start};
@@ -54,11 +54,11 @@ pub fn live_on_copy<M: Module>(
     second_input: &mut MemSource,
     out: &mut MemSink,
 ) -> Result<TwoSessions, InitFault>
-    ensures { IfOk result (λ both. LivesOnCopy (M.meaning «module».now) platform.new
-        copy.old copy.new
-        entropy.old.left entropy.new.left first_input.old.left first_input.new.left
-        second_input.old.left second_input.new.left out.old.received out.new.received both.first
-        both.second) }
+    ensures { IfOk result (λ both. LivesOnCopy (M.meaning «module».now)
+        (memory_life platform.old copy.old entropy.old.left first_input.old.left
+        second_input.old.left out.old.received)
+        (memory_life platform.new copy.new entropy.new.left first_input.new.left
+        second_input.new.left out.new.received) both.first both.second) }
 {
     // Laws, which do nothing: the clauses rest on their contracts.
     basic_life_is_one();
@@ -102,10 +102,11 @@ pub fn live_without_power<M: Module>(
     second_input: &mut MemSource,
     out: &mut MemSink,
 ) -> Result<TwoSessions, TwoSessionsFault>
-    ensures { IfOk result (λ both. LivesWithoutPower (M.meaning «module».now) platform.new copy.old
-        copy.new entropy.old.left entropy.new.left first_input.old.left first_input.new.left
-        second_input.old.left second_input.new.left out.old.received out.new.received both.first
-        both.second) }
+    ensures { IfOk result (λ both. LivesWithoutPower (M.meaning «module».now)
+        (memory_life platform.old copy.old entropy.old.left first_input.old.left
+        second_input.old.left out.old.received)
+        (memory_life platform.new copy.new entropy.new.left first_input.new.left
+        second_input.new.left out.new.received) both.first both.second) }
 {
     // Laws, which do nothing: the clauses rest on their contracts.
     basic_life_is_one();
@@ -155,10 +156,12 @@ pub fn live_checkpointed<M: Module>(
     second_input: &mut MemSource,
     out: &mut MemSink,
 ) -> Result<Checkpoint, InitFault>
-    ensures { IfOk result (λ all. LivesCheckpointed (M.meaning «module».now) platform.new copy.old
-        copy.new entropy.old.left entropy.new.left first_input.old.left first_input.new.left
-        second_input.old.left second_input.new.left out.old.received out.new.received
-        all.sessions.first all.said all.sessions.second) }
+    ensures { IfOk result (λ all. LivesCheckpointed (M.meaning «module».now)
+        (memory_life platform.old copy.old entropy.old.left first_input.old.left
+        second_input.old.left out.old.received)
+        (memory_life platform.new copy.new entropy.new.left first_input.new.left
+        second_input.new.left out.new.received) all.sessions.first all.said
+        all.sessions.second) }
 {
     // Laws, which do nothing: the clauses rest on their contracts.
     opt_life_is_one();

@@ -6,7 +6,7 @@ ghost use Rattle.mm_host.specs.HonestStore.{SessionContinues};
 ghost use Rattle.mm_recovery.specs.FirstStart.{InitLeaves};
 ghost use Rattle.mm_host.specs.Sessions.{IsSession};
 ghost use Rattle.mm_host.specs.SessionWrites.{SessionWrites};
-ghost use Rattle.mm_at_work.specs.Devices.{first_devices, store_in_pages, two_cells};
+ghost use Rattle.mm_at_work.specs.Devices.{first_devices, memory_session, session_in_memory, two_cells};
 ghost use Rattle.mm_at_work.specs.FirstSession.{BeginsAndServes};
 ghost use Rattle.mm_at_work.specs.OldCopy.{ServesCopy};
 ghost use Rattle.mm_at_work.specs.MemoryRecovery.{RecoversInMemory};
@@ -79,22 +79,18 @@ pub fn serve<M: Module>(
     input: &mut MemSource,
     out: &mut MemSink,
 ) -> Result<(), SessionFault>
-    ensures sessions { IsSession variant (M.meaning «module».now) (two_cells platform.old)
-        (two_cells platform.new) (store_in_pages store.old) (store_in_pages store.new)
-        (Some input.old.left) (Some input.new.left) (Some out.old.received) (Some out.new.received)
-        result }
-    ensures continues { SessionContinues variant (M.meaning «module».now) (two_cells platform.old)
-        (two_cells platform.new) (store_in_pages store.old) (store_in_pages store.new)
-        (Some input.old.left) (Some input.new.left) (Some out.old.received) (Some out.new.received)
-        result }
-    ensures once { SessionRunsOnce variant (M.meaning «module».now) (two_cells platform.old)
-        (two_cells platform.new) (store_in_pages store.old) (store_in_pages store.new)
-        (Some input.old.left) (Some input.new.left) (Some out.old.received) (Some out.new.received)
-        result }
-    ensures writes { SessionWrites variant (M.meaning «module».now) (two_cells platform.old)
-        (two_cells platform.new) (store_in_pages store.old) (store_in_pages store.new)
-        (Some input.old.left) (Some input.new.left) (Some out.old.received) (Some out.new.received)
-        result }
+    ensures sessions { IsSession variant (M.meaning «module».now)
+        (session_in_memory platform.old store.old input.old.left out.old.received)
+        (session_in_memory platform.new store.new input.new.left out.new.received) result }
+    ensures continues { SessionContinues variant (M.meaning «module».now)
+        (session_in_memory platform.old store.old input.old.left out.old.received)
+        (session_in_memory platform.new store.new input.new.left out.new.received) result }
+    ensures once { SessionRunsOnce variant (M.meaning «module».now)
+        (session_in_memory platform.old store.old input.old.left out.old.received)
+        (session_in_memory platform.new store.new input.new.left out.new.received) result }
+    ensures writes { SessionWrites variant (M.meaning «module».now)
+        (session_in_memory platform.old store.old input.old.left out.old.received)
+        (session_in_memory platform.new store.new input.new.left out.new.received) result }
 {
     session(alloc, variant, module, platform, store, input, out)
 }
@@ -110,8 +106,9 @@ pub fn serve_copy<M: Module>(
     input: &mut MemSource,
     out: &mut MemSink,
 ) -> Result<(), SessionFault>
-    ensures { ServesCopy variant (M.meaning «module».now) platform.old platform.new copy store.new
-        input.old.left input.new.left out.old.received out.new.received result }
+    ensures { ServesCopy variant (M.meaning «module».now)
+        (memory_session platform.old copy input.old.left out.old.received)
+        (memory_session platform.new store.new input.new.left out.new.received) result }
 {
     *store = copy;
     serve(alloc, variant, module, platform, store, input, out)
@@ -127,9 +124,9 @@ pub fn start_and_serve<M: Module>(
     input: &mut MemSource,
     out: &mut MemSink,
 ) -> Result<Result<(), SessionFault>, InitFault>
-    ensures { IfOk result (λ served. BeginsAndServes (M.meaning «module».now) platform.new store.new
-        entropy.old.left entropy.new.left input.old.left input.new.left out.old.received
-        out.new.received served) }
+    ensures { IfOk result (λ served. BeginsAndServes (M.meaning «module».now) entropy.old.left
+        entropy.new.left (memory_session platform.old store.old input.old.left out.old.received)
+        (memory_session platform.new store.new input.new.left out.new.received) served) }
 {
     match start(alloc, Variant::Basic, module, platform, store, entropy) {
         Err(fault) => Err(fault),

@@ -1,5 +1,5 @@
 -- A session as its calls: those that it told, one after another; and at most one behind them that it didn't tell.
-use Rattle.std.proofs.Common.{◌≡◌, ◌∙◌, ℕ, List, [], ◌∷◌, ◌++◌, Option, None, Some, Result, Ok, Err, refl, sym, inl, inr}
+use Rattle.std.proofs.Common.{◌≡◌, ◌∙◌, ℕ, List, [], ◌∷◌, ◌++◌, Option, None, Some, Result, Ok, Err, ap, refl, sym, inl, inr}
 use Rattle.mm_base.specs.declared.replay_fault.ReplayFault.TheVariants as input
 use Rattle.mm_digest.specs.declared.variant.Variant.{Variant}
 use Rattle.mm_platform.specs.Standing.{Standing}
@@ -10,6 +10,7 @@ use Rattle.mm_store.specs.StoreStanding.{StoreStanding}
 use Rattle.mm_store.specs.PendingRecord.{PendingRecord}
 use Rattle.mm_store.specs.declared.fault.StoreFault.{StoreFault}
 use Rattle.mm_recovery.specs.HostCall.{IsCall}
+use Rattle.mm_recovery.specs.HostStanding.{HostStanding}
 use Rattle.mm_recovery.specs.Faults.{refusal_fault, store_fault_as}
 use Rattle.mm_recovery.specs.LastAnswer.{snapshot_at}
 use Rattle.mm_recovery.specs.NextRequest.{HostGoesAfterRecord}
@@ -18,15 +19,16 @@ use Rattle.mm_recovery.specs.declared.fault.HostFault.{HostFault}
 use Rattle.mm_recovery.specs.declared.resuming.Resumed.{Resumed}
 use Rattle.mm_recovery.specs.declared.resuming.Resumed.TheVariants.{Answered, Start}
 use Rattle.mm_host.specs.AnySlots.{offer_after}
+use Rattle.mm_host.specs.SessionStanding.{SessionStanding, host_of}
 use Rattle.mm_host.specs.Continuation.{IsInHand, first_served_call, served_calls_in}
-use Rattle.mm_host.specs.Sessions.{SessionGoesAfterResume, BytesBeginWith, SessionPlace, SendsReply, ServedCall, TurnGoes, IsSession}
-use Rattle.mm_host.specs.Sessions.{SessionStopsInLine, turn_answer_of}
+use Rattle.mm_host.specs.Sessions.{SessionGoesAfterResume, BytesBeginWith, SessionPlace, SendsReply, ServedCall, ServesAllLines, IsSession}
+use Rattle.mm_host.specs.Sessions.{SessionStopsInLine}
 use Rattle.mm_host.specs.declared.fault.SessionFault.{SessionFault}
 use Rattle.mm_host.specs.declared.fault.SessionFault.TheVariants.{Host, Lines}
 use Rattle.mm_host.proofs.Above.{CallsInTurn, TellsCall, last_offer, served_calls, tells_call}
 use Rattle.mm_life.specs.Deeds.{LifeCall}
-use Rattle.mm_life.specs.SessionCalls.{IsInHandOf, bytes_of, first_bytes, first_calls, found_record, last_calls, line_calls, offered_calls}
-use Rattle.mm_life.specs.SessionCalls.{offer_after_finding, recorded_calls, served_calls_of, untold_calls}
+use Rattle.mm_life.specs.SessionCalls.{IsInHandOf, bytes_of, first_bytes, first_calls, found_host, found_record, last_calls, line_calls}
+use Rattle.mm_life.specs.SessionCalls.{offer_after_finding, offered_calls, recorded_calls, served_calls_of, untold_calls}
 
 -- one call, by what was offered, asked and given
 abbrev pub call_of : List ℕ → List ℕ → Result Answer Refusal → LifeCall
@@ -59,28 +61,32 @@ data Begun (variant : Variant) (meaning : Meaning) (before after : Standing) (wa
       → IsCall variant meaning before after offer p.request gives → calls ≡ call_of offer p.request gives ∷ []
       → TellsCall gives came → Begun variant meaning before after waiting offer calls came
 
+-- where nothing was done the platform is as before
+same_standing : (old new : HostStanding) → new ≡ old → new.standing ≡ old.standing
+same_standing old new same = ap (λ (host : HostStanding). host.standing) same
+
+module _ (variant : Variant) (meaning : Meaning) where
+  begun_start : (before after : Standing) (zero : Result (List ℕ) StoreFault) (came : Result Resumed HostFault) → after ≡ before
+      → came ≡ result_of_start zero → Begun variant meaning before after None (bytes_of zero) [] came
+  begun_start before after (Ok bytes) came same e = starts same refl refl e
+  begun_start before after (Err why) came same e = failed same refl why e
+
+  begun_repeat : (offer : Result (List ℕ) StoreFault) (middle new : HostStanding) (p : PendingRecord) (came : Result Resumed HostFault)
+      (g : HostGoesAfterOffer variant meaning offer middle new p came)
+      → Begun variant meaning middle.standing new.standing (Some p) (bytes_of offer)
+      (offered_calls variant meaning offer middle new p came g) came
+  begun_repeat (Ok bytes) middle new p came g = repeats p refl g.asked g.asks refl (tells_call g.asked middle.kept new.kept came g.goes)
+  begun_repeat (Err why) middle new p came g = failed (same_standing middle new g.0) refl why g.1
+
+  begun_by : (waiting : Result (Option PendingRecord) StoreFault) (middle new : HostStanding) (came : Result Resumed HostFault)
+      (g : HostGoesAfterFinding variant meaning waiting middle new came)
+      → Begun variant meaning middle.standing new.standing (found_record waiting)
+      (offer_after_finding variant meaning waiting middle new came g) (first_calls variant meaning waiting middle new came g) came
+  begun_by (Ok (Some p)) middle new came g = begun_repeat g.offer (record middle { kept = g.middle }) new p came g.goes
+  begun_by (Ok None) middle new came g = begun_start middle.standing new.standing g.1.zero came g.0 g.1.gives
+  begun_by (Err why) middle new came g = failed (same_standing middle new g.0) refl why g.1
+
 module _ (variant : Variant) (meaning : Meaning) (before after : Standing) where
-  begun_start : (zero : Result (List ℕ) StoreFault) (came : Result Resumed HostFault) → after ≡ before → came ≡ result_of_start zero
-      → Begun variant meaning before after None (bytes_of variant meaning before after zero) [] came
-  begun_start (Ok bytes) came same e = starts same refl refl e
-  begun_start (Err why) came same e = failed same refl why e
-
-  begun_repeat : (offer : Result (List ℕ) StoreFault) (old new : StoreStanding) (p : PendingRecord) (came : Result Resumed HostFault)
-      (g : HostGoesAfterOffer variant meaning before after offer old new p came)
-      → Begun variant meaning before after (Some p) (bytes_of variant meaning before after offer)
-      (offered_calls variant meaning before after offer old new p came g) came
-  begun_repeat (Ok bytes) old new p came g = repeats p refl g.asked g.asks refl (tells_call g.asked old new came g.goes)
-  begun_repeat (Err why) old new p came g = failed g.0 refl why g.2
-
-  begun_by : (waiting : Result (Option PendingRecord) StoreFault) (old new : StoreStanding) (came : Result Resumed HostFault)
-      (g : HostGoesAfterFinding variant meaning before after waiting old new came)
-      → Begun variant meaning before after (found_record waiting)
-      (offer_after_finding variant meaning before after waiting old new came g)
-      (first_calls variant meaning before after waiting old new came g) came
-  begun_by (Ok (Some p)) old new came g = begun_repeat g.offer g.middle new p came g.goes
-  begun_by (Ok None) old new came g = begun_start g.1.zero came g.0 g.1.gives
-  begun_by (Err why) old new came g = failed g.0 refl why g.2
-
   -- it stops at once
   at_once : (final : Standing) (waiting : Option PendingRecord) (offer : List ℕ) (calls : List LifeCall) (begun : Result Resumed HostFault)
       (sent : List ℕ) (fault : SessionFault) (result : Result Unit SessionFault) → final ≡ after → SendsReply begun sent (Err fault)
@@ -119,68 +125,66 @@ module _ (variant : Variant) (meaning : Meaning) (before after : Standing) where
       rw some (answered_first gives p offer first c (rw is at t))
 
 -- how the lines end
-module _ (variant : Variant) (meaning : Meaning) (number : ℕ) (at : SessionPlace) (after : Standing) (new : StoreStanding)
-    (left : Option (List ℕ)) (more sent : List ℕ) where
-  abbrev InHand : List ℕ → Type 0
-  InHand request = (held : List ℕ) × BytesBeginWith more request held
+abbrev InHand : List ℕ → List ℕ → Type 0
+InHand more request = (held : List ℕ) × BytesBeginWith more request held
 
+module _ (variant : Variant) (meaning : Meaning) (number : ℕ) (at : SessionPlace) (new : HostStanding) (more sent : List ℕ) where
   line_ends : (recorded : Result Unit StoreFault) (middle : StoreStanding) (line : List ℕ)
       (came : Result Resumed HostFault) (fault : SessionFault)
-      (g : HostGoesAfterRecord variant meaning at.platform after recorded middle new at.last line came) → InHand line
+      (g : HostGoesAfterRecord variant meaning recorded (record at.host { kept = middle }) new at.last line came) → InHand more line
       → SendsReply came sent (Err fault)
-      → Ends variant meaning at.platform after (snapshot_at at.last) InHand
-      (recorded_calls variant meaning at.platform after recorded middle new at.last line came g) (Err fault)
+      → Ends variant meaning at.host.standing new.standing (snapshot_at at.last) (InHand more)
+      (recorded_calls variant meaning recorded (record at.host { kept = middle }) new at.last line came g) (Err fault)
   line_ends (Ok it) middle line came fault g hand says =
-      stops line hand g.asked g.asks refl came (tells_call g.asked middle new came g.goes) sent fault says refl
-  line_ends (Err why) middle line came fault g hand says = rests g.0 refl
+      stops line hand g.asked g.asks refl came (tells_call g.asked middle new.kept came g.goes) sent fault says refl
+  line_ends (Err why) middle line came fault g hand says = rests (same_standing (record at.host { kept = middle }) new g.0) refl
 
-  in_line : (fault : SessionFault) (e : SessionStopsInLine variant meaning number at after new more sent fault)
-      → Ends variant meaning at.platform after (snapshot_at at.last) InHand
-      (line_calls variant meaning at.platform after at.last e.line e.asks) (Err fault)
+  in_line : (fault : SessionFault) (e : SessionStopsInLine variant meaning number at new more sent fault)
+      → Ends variant meaning at.host.standing new.standing (snapshot_at at.last) (InHand more) (line_calls e.asks) (Err fault)
   in_line fault e = line_ends e.asks.recorded e.asks.middle e.line e.came fault e.asks.goes (e.held, e.begins) e.says
 
-  lines_end : (result : Result Unit SessionFault)
-      (e : TurnGoes variant meaning number at after new left more [] sent (turn_answer_of result))
-      → Ends variant meaning at.platform after (snapshot_at at.last) InHand
-      (last_calls variant meaning number at after new left more sent result e) result
-  lines_end (Err (Host fault)) e = in_line (Host fault) e
-  lines_end (Err (Lines input.WriteFault)) e = in_line (Lines input.WriteFault) e
-  lines_end (Err (Lines input.Memory)) e = absurd e
-  lines_end _ e = rests e.0.platform refl
+module _ (variant : Variant) (meaning : Meaning) (number : ℕ) (from : SessionPlace) (new : HostStanding) (left : Option (List ℕ))
+    (bytes sent : List ℕ) where
+  lines_end : (result : Result Unit SessionFault) (l : ServesAllLines variant meaning number from new left bytes sent result)
+      → Ends variant meaning l.at.host.standing new.standing (snapshot_at l.at.last) (InHand l.more) (last_calls result l) result
+  lines_end (Err (Host fault)) l = in_line variant meaning _ l.at new l.more l.last (Host fault) l.ends
+  lines_end (Err (Lines input.WriteFault)) l = in_line variant meaning _ l.at new l.more l.last (Lines input.WriteFault) l.ends
+  lines_end (Err (Lines input.Memory)) l = absurd l.ends
+  lines_end _ l = rests (same_standing l.at.host new l.ends.0.still) refl
 
-module _ {variant : Variant} {meaning : Meaning} {before after : Standing} {old new : StoreStanding}
-    {left left' received received' : Option (List ℕ)} {result : Result Unit SessionFault}
-    (s : IsSession variant meaning before after old new left left' received received' result) where
+module _ {variant : Variant} {meaning : Meaning} {old new : SessionStanding} {result : Result Unit SessionFault}
+    (s : IsSession variant meaning old new result) where
   abbrev waiting : Option PendingRecord
   waiting = found_record s.resumes.waiting
 
   abbrev Began : Type 0
   Began =
-      Begun variant meaning before s.platform waiting (first_bytes s)
-      (first_calls variant meaning before s.platform s.resumes.waiting s.resumes.middle s.store s.begun s.resumes.goes) s.begun
+      Begun variant meaning old.standing s.middle.standing waiting (first_bytes s)
+      (first_calls variant meaning s.resumes.waiting (found_host s) s.middle s.begun s.resumes.goes) s.begun
 
   began : Began
-  began = begun_by variant meaning before s.platform s.resumes.waiting s.resumes.middle s.store s.begun s.resumes.goes
+  began = begun_by variant meaning s.resumes.waiting (found_host s) s.middle s.begun s.resumes.goes
 
-  chain_by : (goes : SessionGoesAfterResume variant meaning s.begun s.platform after s.store new left' s.taken s.sent result)
-      → Chain variant meaning (first_bytes s) before after (served_calls_in waiting goes) (IsInHand waiting goes)
+  chain_by : (goes : SessionGoesAfterResume variant meaning s.begun s.middle (host_of new) new.left s.taken s.sent result)
+      → Chain variant meaning (first_bytes s) old.standing new.standing (served_calls_in waiting goes) (IsInHand waiting goes)
       (untold_calls s goes) result
   chain_by (inl e) = record {
-    at = before;
+    at = old.standing;
     calls = refl;
-    ends = at_once variant meaning before s.platform after waiting (first_bytes s) _ s.begun s.sent e.2.fault result e.0 e.2.says
-        e.2.stops began;
+    ends = at_once variant meaning old.standing s.middle.standing new.standing waiting (first_bytes s) _ s.begun s.sent e.1.fault result
+        (same_standing s.middle (host_of new) e.0) e.1.says e.1.stops began;
   }
   chain_by (inr g) =
       let l = g.lines in
-      let from : SessionPlace = record { platform = s.platform; store = s.store; last = g.first } in
-      let f = first_by variant meaning before s.platform waiting (first_bytes s) _ g.first s.begun g.begins began in
+      let from : SessionPlace = record { host = s.middle; last = g.first } in
+      let f = first_by variant meaning old.standing s.middle.standing waiting (first_bytes s) _ g.first s.begun g.begins began in
       record {
-        at = l.at.platform;
-        calls = f.calls l.calls l.at.platform (served_calls variant meaning from l.at l.calls l.serves);
+        at = l.at.host.standing;
+        calls = f.calls l.calls l.at.host.standing (served_calls variant meaning from l.at l.calls l.serves);
         ends = rw (f.offers l.calls) (rw (last_offer variant meaning from l.at l.calls l.serves)
-            (lines_end variant meaning _ l.at after new left' l.more l.last result l.ends));
+            (lines_end variant meaning 1 from (host_of new) new.left s.taken g.replies result l));
       }
 
-  pub session_chain : Chain variant meaning (first_bytes s) before after (served_calls_of s) (IsInHandOf s) (untold_calls s s.goes) result
+  pub session_chain : Chain variant meaning (first_bytes s) old.standing new.standing (served_calls_of s) (IsInHandOf s)
+      (untold_calls s s.goes) result
   session_chain = chain_by s.goes

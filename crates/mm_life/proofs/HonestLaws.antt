@@ -13,7 +13,7 @@ use Rattle.mm_life.specs.HonestLife.{BasicLifeGoesOn, OptLifeGoesOn}
 use Rattle.mm_life.specs.Premises.{life_batches, life_messages, opt_messages, others_values, register_messages}
 use Rattle.mm_life.proofs.BasicLife as basic_proofs
 use Rattle.mm_life.proofs.OptLife as opt_proofs
-use Rattle.mm_life.proofs.HonestLife.{life_goes}
+use Rattle.mm_life.proofs.HonestLife.{gone_from_none, life_goes}
 
 pub basic_goes_on : BasicLifeGoesOn
 basic_goes_on meaning lawful key start kept stages f stands honest told over clear chance =
@@ -22,11 +22,11 @@ basic_goes_on meaning lawful key start kept stages f stands honest told over cle
     let asked : List Batch = life_batches i start stages f in
     let itself = each_self [] all in
     let first = is_first Basic meaning key i.barrier [] lawful in
-    life_goes (basic_proofs.basic_life meaning lawful key all asked clear) stages first_history kept (first_slots i) start f honest
-    told stands
+    gone_from_none (life_goes (basic_proofs.basic_life meaning lawful key all asked clear) stages first_history kept (first_slots i) start f
+    honest told stands
     (basic_proofs.first_within meaning lawful key all asked itself.0) first.fits over
     (basic_proofs.all_seen meaning lawful key all asked clear start stages f) chance
-    (record { messages = itself.1; batches = each_self [] asked })
+    (record { messages = itself.1; batches = each_self [] asked }))
 
 pub opt_goes_on : OptLifeGoesOn
 opt_goes_on meaning lawful key barrier values start kept stages f stands honest told over clear apart chance =
@@ -39,9 +39,9 @@ opt_goes_on meaning lawful key barrier values start kept stages f stands honest 
     let itself = each_self [] all in
     let calls = each_left (Contains all) front back itself in
     let first = is_first Opt meaning key barrier values lawful in
-    life_goes (opt_proofs.opt_life meaning lawful key barrier all others asked clear apart) stages (first_history_on values) kept
-    (first_slots i) start f
-    honest told stands (opt_proofs.first_within meaning lawful key barrier values all others asked calls.0) first.fits over
+    gone_from_none (life_goes (opt_proofs.opt_life meaning lawful key barrier all others asked clear apart) stages
+    (first_history_on values) kept (first_slots i) start f honest told stands
+    (opt_proofs.first_within meaning lawful key barrier values all others asked calls.0) first.fits over
     (opt_proofs.all_seen meaning lawful key barrier all others asked clear apart start stages f
     (each_right (Contains all) front back itself) (each_self [] others)) chance
-    (record { messages = calls.1; batches = each_self [] asked })
+    (record { messages = calls.1; batches = each_self [] asked }))

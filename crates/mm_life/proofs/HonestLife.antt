@@ -23,11 +23,11 @@ use Rattle.mm_host.specs.declared.fault.SessionFault.TheVariants.{Host}
 use Rattle.mm_host.proofs.Above.{Shows, calls_reach}
 use Rattle.mm_life.specs.Deeds.{LifeCall, Calls, Checkpoints, Deed, DeedLeads, Extends, LosesPower}
 use Rattle.mm_life.specs.HonestLife.{AreNoChance, BeginsOver, IsGoneOnWith, IsNextOrLast, IsOverOneStore, LeavesNoChance}
-use Rattle.mm_life.specs.HonestLife.{PartGoesOn, store_behind, reached_position}
+use Rattle.mm_life.specs.HonestLife.{GoesOnFrom, PartGoesOn, reached_position, store_at_end, store_behind}
 use Rattle.mm_store.specs.StoreStanding.{StoreStanding}
-use Rattle.mm_life.specs.OneList.{PartSteps, SessionSteps}
+use Rattle.mm_life.specs.OneList.{LifeFollows, PartSteps, SessionSteps}
 use Rattle.mm_life.specs.SessionCalls.{first_bytes, IsInHandOf, session_calls, served_calls_of}
-use Rattle.mm_life.specs.Stages.{Does, Holds, IsLife, LifePart, PartLeads, Program, LifeStage, life_calls, part_calls}
+use Rattle.mm_life.specs.Stages.{Does, Holds, IsLife, LifePart, PartLeads, Program, LifeStage, end_of, life_calls, part_calls}
 use Rattle.mm_life.specs.DeedHistory.{IsNoCall, HistoryStays}
 use Rattle.mm_life.proofs.Chains.{session_chain}
 use Rattle.mm_life.proofs.HonestSession.{AreStill, goes_on}
@@ -95,6 +95,38 @@ store_failed : (result : Result Unit SessionFault) → (result ≡ Err (Host Sto
 store_failed (Err (Host Store)) = inl refl
 store_failed _ = inr (λ e. cc)
 
+-- a life that goes on from these requests
+pub record GoneOn (all others : List (List ℕ)) (asked : List Batch) (i : Instance) (requests : List (List ℕ)) (kept : StoreStanding)
+    (start : Standing) (stages : List LifeStage) (f : IsLife i.variant i.meaning start stages) : Type 0 where
+  pub after : List (List ℕ)
+  pub goes : GoesOnFrom others i start stages f requests after
+  pub follows : LifeFollows i.variant i.meaning start stages f requests after
+  pub history : History
+  pub holds : requests_of history.batches ≡ after
+  pub stands : StandsFor i (end_of start stages) history
+  pub within : IsWithin all others asked i history
+  pub honest : (store_at_end kept stages).is_honest ≡ true
+  pub left : Slots
+  pub told : (store_at_end kept stages).slots ≡ Some left
+  pub fits : FitsHistory i left history
+
+pub gone_from_none : {all others : List (List ℕ)} {asked : List Batch} {i : Instance} {kept : StoreStanding} {start : Standing}
+    {stages : List LifeStage} {f : IsLife i.variant i.meaning start stages} → GoneOn all others asked i [] kept start stages f
+    → IsGoneOnWith all others asked i kept start stages f
+gone_from_none g = record {
+  after = g.after;
+  goes = g.goes;
+  follows = g.follows;
+  history = g.history;
+  holds = g.holds;
+  stands = g.stands;
+  within = g.within;
+  honest = g.honest;
+  left = g.left;
+  told = g.told;
+  fits = g.fits;
+}
+
 module _ {all others : List (List ℕ)} {asked : List Batch} {i : Instance} {IsSeen : Standing → LifePart → Standing → Type 0}
     {IsStill : Standing → List LifeCall → Type 0} (life : LifeLaws all others asked i IsSeen IsStill) where
   -- where a part leads, from a history that the slots fit
@@ -111,11 +143,11 @@ module _ {all others : List (List ℕ)} {asked : List Batch} {i : Instance} {IsS
     fits : FitsHistory i left after
 
   module _ (y : History) (kept : StoreStanding) (slots : Slots) (old : Standing) (p : Program) (new : Standing)
-      (s : PartLeads i.variant i.meaning old (Holds p) new) (told : p.old.slots ≡ Some slots) (fits : FitsHistory i slots y)
+      (s : PartLeads i.variant i.meaning old (Holds p) new) (told : p.old.kept.slots ≡ Some slots) (fits : FitsHistory i slots y)
       (chance : LeavesNoChance i.variant i.meaning old (Holds p) new s) where
     abbrev On : Type 0
     On =
-        ContinuesTo all others asked i y fits.waiting new p.new (served_calls_in fits.waiting s.goes)
+        ContinuesTo all others asked i y fits.waiting new p.new.kept (served_calls_in fits.waiting s.goes)
         (IsInHand fits.waiting s.goes) p.result
 
     waits : IsNextOrLast (requests_of y.batches) fits.waiting
@@ -208,7 +240,7 @@ module _ {all others : List (List ℕ)} {asked : List Batch} {i : Instance} {IsS
           λ c one middle makes. life.idles y old middle c (subst (λ (calls : List LifeCall). IsStill old calls) one still) makes,
         )
       ] in
-      let here : p.old.slots ≡ Some slots = begins.1 ∙ told in
+      let here : p.old.kept.slots ≡ Some slots = begins.1 ∙ told in
       let on = goes_on laws s y slots here (begins.0 ∙ honest) stands within fits seen_so listed in
       program_gone y kept slots old p new s here fits chance stands on.0 on.1
   part_goes y kept slots old (Does (Calls c)) new f honest told stands within fits begins seen chance listed = absurd begins
@@ -227,7 +259,7 @@ module _ {all others : List (List ℕ)} {asked : List Batch} {i : Instance} {IsS
       → StandsFor i start y → IsWithin all others asked i y → FitsHistory i slots y → IsOverOneStore kept stages
       → AreSeen life start stages f → AreNoChance i.variant i.meaning start stages f
       → AreListed all asked i (life_calls i.variant i.meaning start stages f)
-      → IsGoneOnWith all others asked i (requests_of y.batches) kept start stages f
+      → GoneOn all others asked i (requests_of y.batches) kept start stages f
   life_goes [] y kept slots start f honest told stands within fits over seen chance listed = record {
     after = requests_of y.batches;
     goes = refl;

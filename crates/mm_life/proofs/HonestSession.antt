@@ -1,5 +1,5 @@
 -- A session over an honest store, by the calls that it made: it goes on from a history that the slots fit.
-use Rattle.std.proofs.Common.{◌≡◌, ◌∙◌, ◌⊎◌, ℕ, true, List, [], ◌∷◌, ◌++◌, map, Option, None, Some, Result, Ok, Err, refl, sym, subst, inl}
+use Rattle.std.proofs.Common.{◌≡◌, ◌∙◌, ◌⊎◌, ◌+◌, ℕ, true, List, [], ◌∷◌, ◌++◌, map, Option, None, Some, Result, Ok, Err, refl, sym, subst, inl}
 use Rattle.std.proofs.Common.{inr}
 use Rattle.mm_base.specs.declared.replay_fault.ReplayFault.TheVariants.{WriteFault}
 use Rattle.mm_digest.specs.declared.variant.Variant.{Variant}
@@ -17,6 +17,7 @@ use Rattle.mm_store.specs.PendingRecord.{PendingRecord}
 use Rattle.mm_store.specs.Slots.{Slots, slot_front}
 use Rattle.mm_store.specs.declared.fault.StoreFault.{StoreFault}
 use Rattle.mm_recovery.specs.Faults.{store_fault_as}
+use Rattle.mm_recovery.specs.HostStanding.{HostStanding, host_standing}
 use Rattle.mm_recovery.specs.SlotFit.{FitsBy, FitsHistory, first_offer, offer_slot}
 use Rattle.mm_recovery.specs.NextRequest.{HostGoesAfterRecord}
 use Rattle.mm_recovery.specs.Resumption.{HostGoesAfterFinding, HostGoesAfterOffer, result_of_start}
@@ -26,19 +27,20 @@ use Rattle.mm_recovery.specs.declared.resuming.Resumed.{Resumed}
 use Rattle.mm_recovery.proofs.Above.{IsMade, MadeOf, Saw, one_waiting, saw_two}
 use Rattle.mm_host.specs.AnySlots.{AreAskedInTurn, history_after_answer, offer_after}
 use Rattle.mm_host.specs.Continuation.{ContinuesTo, IsInHand, served_calls_in}
-use Rattle.mm_host.specs.Sessions.{SessionGoesAfterResume, SessionPlace, ServedCall, TurnGoes, IsSession, turn_answer_of, served_lines}
+use Rattle.mm_host.specs.SessionStanding.{SessionStanding, host_of, session_standing}
+use Rattle.mm_host.specs.Sessions.{SessionGoesAfterResume, SessionPlace, ServedCall, ServesAllLines, IsSession, served_lines}
 use Rattle.mm_host.specs.declared.fault.SessionFault.{SessionFault}
 use Rattle.mm_host.specs.declared.fault.SessionFault.TheVariants.{Host, Lines}
 use Rattle.mm_host.proofs.Above.{AreMade, CallsInTurn, IsLineAsked, IsWritten, Laws, Shows, StandsIn, calls_reach, continues_by, May}
 use Rattle.mm_host.proofs.Above.{fits_genuine, pending_for, same_self, stepped_by}
-use Rattle.std.proofs.Common.{Bool, ap}
+use Rattle.std.proofs.Common.{Bool, ap, length}
 use Rattle.mm_model.specs.History.{requests_of, total_of}
 use Rattle.mm_store.specs.declared.fault.StoreFault.TheVariants as fault
 use Rattle.mm_host.specs.Continuation.{AreToldOnce, RefusesAs}
 use Rattle.mm_host.proofs.Above.{by_told, fits_room, unspoiled}
 use Rattle.mm_life.specs.OneList.{SessionSteps}
 use Rattle.mm_life.specs.Deeds.{LifeCall}
-use Rattle.mm_life.specs.SessionCalls.{bytes_of, first_bytes, first_calls, found_record, IsInHandOf, last_calls, offered_calls}
+use Rattle.mm_life.specs.SessionCalls.{bytes_of, first_bytes, first_calls, found_host, found_record, IsInHandOf, last_calls, offered_calls}
 use Rattle.mm_life.specs.SessionCalls.{offer_after_finding, recorded_calls, session_calls, told_calls, untold_calls}
 use Rattle.mm_life.proofs.Chains.{Chain, Ends, call_of, rests, session_chain, stops}
 use Rattle.mm_life.proofs.OneCall.{AreListed, makes_call}
@@ -122,128 +124,133 @@ module _ {all others : List (List ℕ)} {asked : List Batch} {i : Instance} {fin
       elim still.0 [ inl e ↦ absurd (cc) | inr one ↦ let clash = one.1 in absurd (cc) ]
 
 -- What a start came to where the store failed, or memory was wanting, before anything was asked.
-record Rests (before after : Standing) (slots : Slots) (honest : Bool) (new : StoreStanding)
-    (came : Result Resumed HostFault) : Type 0 where
-  same : after ≡ before
-  told : new.slots ≡ Some slots
-  is_honest : new.is_honest ≡ honest
+record Rests (before : Standing) (new : HostStanding) (slots : Slots) (honest : Bool) (came : Result Resumed HostFault) : Type 0 where
+  same : new.standing ≡ before
+  told : new.kept.slots ≡ Some slots
+  is_honest : new.kept.is_honest ≡ honest
   why : StoreFault
   is : came ≡ Err (store_fault_as why)
 
 -- It rests; or what the slots show was offered first, for what waits in them.
-data Opens (variant : Variant) (meaning : Meaning) (before after : Standing) (slots : Slots) (honest : Bool)
-    (waiting : Option PendingRecord)
-    (found : Result (Option PendingRecord) StoreFault) (middle new : StoreStanding) (came : Result Resumed HostFault)
-    (g : HostGoesAfterFinding variant meaning before after found middle new came) : Type 0 where
-  unasked : Rests before after slots honest new came → Opens variant meaning before after slots honest waiting found middle new came g
-  offers : offer_after_finding variant meaning before after found middle new came g ≡ first_offer slots waiting → found_record found
-      ≡ waiting
-      → Opens variant meaning before after slots honest waiting found middle new came g
+data Opens (variant : Variant) (meaning : Meaning) (slots : Slots) (honest : Bool) (waiting : Option PendingRecord)
+    (found : Result (Option PendingRecord) StoreFault) (middle new : HostStanding) (came : Result Resumed HostFault)
+    (g : HostGoesAfterFinding variant meaning found middle new came) : Type 0 where
+  unasked : Rests middle.standing new slots honest came → Opens variant meaning slots honest waiting found middle new came g
+  offers : offer_after_finding variant meaning found middle new came g ≡ first_offer slots waiting → found_record found ≡ waiting
+      → Opens variant meaning slots honest waiting found middle new came g
 
-module _ (variant : Variant) (meaning : Meaning) (before after : Standing) (slots : Slots) where
-  zero_shown : (zero : Result (List ℕ) StoreFault) (old new : StoreStanding) (came : Result Resumed HostFault) → after ≡ before
-      → old.slots ≡ Some slots → ReadsSlot 0 old new zero → came ≡ result_of_start zero
-      → (bytes_of variant meaning before after zero ≡ slot_front slots 0) ⊎ Rests before after slots old.is_honest new came
-  zero_shown (Ok bytes) old new came same told r e = inl (r.gives slots told)
-  zero_shown (Err why) old new came same told r e =
+module _ (variant : Variant) (meaning : Meaning) (slots : Slots) where
+  zero_shown : (zero : Result (List ℕ) StoreFault) (middle new : HostStanding) (came : Result Resumed HostFault)
+      → new.standing ≡ middle.standing → middle.kept.slots ≡ Some slots → ReadsSlot 0 middle.kept new.kept zero
+      → came ≡ result_of_start zero
+      → (bytes_of zero ≡ slot_front slots 0) ⊎ Rests middle.standing new slots middle.kept.is_honest came
+  zero_shown (Ok bytes) middle new came same told r e = inl (r.gives slots told)
+  zero_shown (Err why) middle new came same told r e =
       inr (record { same = same; told = r.slots ∙ told; is_honest = r.honest; why = why; is = e })
 
-  offer_shown : (offer : Result (List ℕ) StoreFault) (first old new : StoreStanding) (p : PendingRecord) (came : Result Resumed HostFault)
-      → HostGoesAfterOffer variant meaning before after offer old new p came → first.slots ≡ Some slots
-      → ReadsSlot (offer_slot p) first old offer
-      → (bytes_of variant meaning before after offer ≡ slot_front slots (offer_slot p)) ⊎ Rests before after slots first.is_honest new came
-  offer_shown (Ok bytes) first old new p came g told r = inl (r.gives slots told)
-  offer_shown (Err why) first old new p came g told r =
-      rw g.1 (inr (record { same = g.0; told = r.slots ∙ told; is_honest = r.honest; why = why; is = g.2 }))
+  offer_shown : (offer : Result (List ℕ) StoreFault) (first : StoreStanding) (middle new : HostStanding) (p : PendingRecord)
+      (came : Result Resumed HostFault) → HostGoesAfterOffer variant meaning offer middle new p came → first.slots ≡ Some slots
+      → ReadsSlot (offer_slot p) first middle.kept offer
+      → (bytes_of offer ≡ slot_front slots (offer_slot p)) ⊎ Rests middle.standing new slots first.is_honest came
+  offer_shown (Ok bytes) first middle new p came g told r = inl (r.gives slots told)
+  offer_shown (Err why) first middle new p came g told r =
+      rw g.0 (inr (record { same = refl; told = r.slots ∙ told; is_honest = r.honest; why = why; is = g.1 }))
 
-  opens_found : (found : Option PendingRecord) (middle new : StoreStanding) (came : Result Resumed HostFault)
-      (g : HostGoesAfterFinding variant meaning before after (Ok found) middle new came) → middle.slots ≡ Some slots
-      → Opens variant meaning before after slots middle.is_honest found (Ok found) middle new came g
+  opens_found : (found : Option PendingRecord) (middle new : HostStanding) (came : Result Resumed HostFault)
+      (g : HostGoesAfterFinding variant meaning (Ok found) middle new came) → middle.kept.slots ≡ Some slots
+      → Opens variant meaning slots middle.kept.is_honest found (Ok found) middle new came g
   opens_found None middle new came g told = elim (zero_shown g.1.zero middle new came g.0 told g.1.reads g.1.gives) [
     | inl is ↦ offers is refl
     | inr rest ↦ unasked rest
   ]
-  opens_found (Some p) middle new came g told = elim (offer_shown g.offer middle g.middle new p came g.goes told g.reads) [
-    | inl is ↦ offers is refl
-    | inr rest ↦ unasked rest
-  ]
+  opens_found (Some p) middle new came g told =
+      elim (offer_shown g.offer middle.kept (record middle { kept = g.middle }) new p came g.goes told g.reads) [
+        | inl is ↦ offers is refl
+        | inr rest ↦ unasked rest
+      ]
 
-  opens_by : (waiting : Option PendingRecord) (found : Result (Option PendingRecord) StoreFault) (first middle new : StoreStanding)
-      (came : Result Resumed HostFault) (g : HostGoesAfterFinding variant meaning before after found middle new came)
-      → IsWaiting (slot_front slots 2) (slot_front slots 3) waiting → Saw slots first middle found
-      → Opens variant meaning before after slots middle.is_honest waiting found middle new came g
+  opens_by : (waiting : Option PendingRecord) (found : Result (Option PendingRecord) StoreFault) (first : StoreStanding)
+      (middle new : HostStanding) (came : Result Resumed HostFault) (g : HostGoesAfterFinding variant meaning found middle new came)
+      → IsWaiting (slot_front slots 2) (slot_front slots 3) waiting → Saw slots first middle.kept found
+      → Opens variant meaning slots middle.kept.is_honest waiting found middle new came g
   opens_by waiting (Err why) first middle new came g w s =
-      unasked (rw g.1 (record { same = g.0; told = s.told; is_honest = refl; why = why; is = g.2 }))
+      unasked (rw g.0 (record { same = refl; told = s.told; is_honest = refl; why = why; is = g.1 }))
   opens_by waiting (Ok found) first middle new came g w s =
-      subst (λ (v : Option PendingRecord). Opens variant meaning before after slots middle.is_honest v (Ok found) middle new came g)
+      subst (λ (v : Option PendingRecord). Opens variant meaning slots middle.kept.is_honest v (Ok found) middle new came g)
       (one_waiting (slot_front slots 2) (slot_front slots 3) found waiting (s.waiting found refl) w)
       (opens_found found middle new came g s.told)
 
 -- Where a call was made, it is the first or the last one.
-module _ (variant : Variant) (meaning : Meaning) (before after : Standing) where
-  offer_made : (offer : Result (List ℕ) StoreFault) (old new : StoreStanding) (p : PendingRecord) (came : Result Resumed HostFault)
-      (g : HostGoesAfterOffer variant meaning before after offer old new p came) → MadeOf offer
-      → requests_in (offered_calls variant meaning before after offer old new p came g) ≡ p.request ∷ []
-  offer_made (Ok bytes) old new p came g m = refl
-  offer_made (Err why) old new p came g m = absurd m
+module _ (variant : Variant) (meaning : Meaning) where
+  offer_made : (offer : Result (List ℕ) StoreFault) (middle new : HostStanding) (p : PendingRecord) (came : Result Resumed HostFault)
+      (g : HostGoesAfterOffer variant meaning offer middle new p came) → MadeOf offer
+      → requests_in (offered_calls variant meaning offer middle new p came g) ≡ p.request ∷ []
+  offer_made (Ok bytes) middle new p came g m = refl
+  offer_made (Err why) middle new p came g m = absurd m
 
-  first_made : (found : Result (Option PendingRecord) StoreFault) (middle new : StoreStanding) (came : Result Resumed HostFault)
-      (g : HostGoesAfterFinding variant meaning before after found middle new came) → IsMade variant meaning before after found
-      middle new came g
+  first_made : (found : Result (Option PendingRecord) StoreFault) (middle new : HostStanding) (came : Result Resumed HostFault)
+      (g : HostGoesAfterFinding variant meaning found middle new came) → IsMade variant meaning found middle new came g
       → (p : PendingRecord) → found_record found ≡ Some p
-      → requests_in (first_calls variant meaning before after found middle new came g) ≡ p.request ∷ []
+      → requests_in (first_calls variant meaning found middle new came g) ≡ p.request ∷ []
   first_made (Ok (Some q)) middle new came g m p e =
       let same : q ≡ p = cc in
-      subst (λ (x : PendingRecord). requests_in (offered_calls variant meaning before after g.offer g.middle new q came g.goes) ≡ x.request
-      ∷ [])
-      same (offer_made g.offer g.middle new q came g.goes m)
+      let at : HostStanding = record middle { kept = g.middle } in
+      subst (λ (x : PendingRecord). requests_in (offered_calls variant meaning g.offer at new q came g.goes) ≡ x.request ∷ []) same
+      (offer_made g.offer at new q came g.goes m)
   first_made (Ok None) middle new came g m p e = absurd m
   first_made (Err why) middle new came g m p e = absurd m
 
-  record_made : (recorded : Result Unit StoreFault) (old new : StoreStanding) (last : Resumed) (line : List ℕ)
-      (came : Result Resumed HostFault)
-      (g : HostGoesAfterRecord variant meaning before after recorded old new last line came) → IsWritten recorded
-      → requests_in (recorded_calls variant meaning before after recorded old new last line came g) ≡ line ∷ []
-  record_made (Ok it) old new last line came g m = refl
-  record_made (Err why) old new last line came g m = absurd m
+  record_made : (recorded : Result Unit StoreFault) (middle new : HostStanding) (last : Resumed) (line : List ℕ)
+      (came : Result Resumed HostFault) (g : HostGoesAfterRecord variant meaning recorded middle new last line came)
+      → IsWritten recorded
+      → requests_in (recorded_calls variant meaning recorded middle new last line came g) ≡ line ∷ []
+  record_made (Ok it) middle new last line came g m = refl
+  record_made (Err why) middle new last line came g m = absurd m
 
-module _ (variant : Variant) (meaning : Meaning) (number : ℕ) (at : SessionPlace) (after : Standing) (new : StoreStanding)
-    (left : Option (List ℕ)) (more sent : List ℕ) where
-  line_made : (result : Result Unit SessionFault) (e : TurnGoes variant meaning number at after new left more [] sent
-      (turn_answer_of result))
-      → IsLineAsked variant meaning number at after new left more sent
-      (requests_in (last_calls variant meaning number at after new left more sent result e)) result e
-  line_made (Err (Host fault)) e =
-      λ m. ([], record_made variant meaning at.platform after e.asks.recorded e.asks.middle new at.last e.line e.came e.asks.goes m)
-  line_made (Err (Lines WriteFault)) e =
-      λ m. ([], record_made variant meaning at.platform after e.asks.recorded e.asks.middle new at.last e.line e.came e.asks.goes m)
-  line_made _ e = tt
+module _ (variant : Variant) (meaning : Meaning) (number : ℕ) (from : SessionPlace) (new : HostStanding) (left : Option (List ℕ))
+    (bytes sent : List ℕ) where
+  line_made : (result : Result Unit SessionFault) (l : ServesAllLines variant meaning number from new left bytes sent result)
+      → IsLineAsked variant meaning (length l.calls + number) l.at new left l.more l.last (requests_in (last_calls result l)) result l.ends
+  line_made (Err (Host fault)) l = λ m. (
+    [],
+    record_made variant meaning l.ends.asks.recorded (record l.at.host { kept = l.ends.asks.middle }) new l.at.last l.ends.line
+        l.ends.came l.ends.asks.goes m,
+  )
+  line_made (Err (Lines WriteFault)) l = λ m. (
+    [],
+    record_made variant meaning l.ends.asks.recorded (record l.at.host { kept = l.ends.asks.middle }) new l.at.last l.ends.line
+        l.ends.came l.ends.asks.goes m,
+  )
+  line_made _ l = tt
 
-module _ {variant : Variant} {meaning : Meaning} {before after : Standing} {old new : StoreStanding}
-    {left left' received received' : Option (List ℕ)} {result : Result Unit SessionFault}
-    (s : IsSession variant meaning before after old new left left' received received' result) (waiting : Option PendingRecord) where
+module _ {variant : Variant} {meaning : Meaning} {old new : SessionStanding} {result : Result Unit SessionFault}
+    (s : IsSession variant meaning old new result) (waiting : Option PendingRecord) where
   abbrev Goes : Type 0
-  Goes = SessionGoesAfterResume variant meaning s.begun s.platform after s.store new left' s.taken s.sent result
+  Goes = SessionGoesAfterResume variant meaning s.begun s.middle (host_of new) new.left s.taken s.sent result
 
   all_made : (goes : Goes) → found_record s.resumes.waiting ≡ waiting
       → AreMade s waiting (served_lines (served_calls_in waiting goes) ++ requests_in (untold_calls s goes)) goes
   all_made (inl e) is = λ m p k. (
     [],
-    first_made variant meaning before s.platform s.resumes.waiting s.resumes.middle s.store s.begun s.resumes.goes m p (is ∙ k),
+    first_made variant meaning s.resumes.waiting (found_host s) s.middle s.begun s.resumes.goes m p (is ∙ k),
   )
   all_made (inr g) is = (
     requests_in (untold_calls s (inr g)),
     refl,
-    line_made variant meaning _ g.lines.at after new left' g.lines.more g.lines.last result g.lines.ends,
+    line_made variant meaning 1 (record { host = s.middle; last = g.first }) (host_of new) new.left s.taken g.replies result g.lines,
   )
 
 module _ {all others : List (List ℕ)} {asked : List Batch} {i : Instance} {final : Standing} (laws : Laws all others asked i final)
     {before : Standing} {old new : StoreStanding} {left left' received received' : Option (List ℕ)} {result : Result Unit SessionFault}
-    (s : IsSession i.variant i.meaning before final old new left left' received received' result) (y : History) (slots : Slots)
+    (s : IsSession i.variant i.meaning (session_standing before old left received) (session_standing final new left' received') result)
+    (y : History) (slots : Slots)
     (told : old.slots ≡ Some slots) (honest : old.is_honest ≡ true) (stands : StandsFor i before y)
     (within : IsWithin all others asked i y) (fits : FitsHistory i slots y)
     (seen : Shows i.variant all others i y before final ⊎ AreStill laws y before (session_calls s)) where
-  abbrev OnBy : SessionGoesAfterResume i.variant i.meaning s.begun s.platform final s.store new left' s.taken s.sent result → Type 0
+  abbrev Went : Type 0
+  Went = SessionGoesAfterResume i.variant i.meaning s.begun s.middle (host_standing final new) left' s.taken s.sent result
+
+  abbrev OnBy : Went → Type 0
   OnBy goes =
       (c : ContinuesTo all others asked i y fits.waiting final new (served_calls_in fits.waiting goes) (IsInHand fits.waiting goes) result)
       × SessionSteps i.meaning (requests_of y.batches) (served_calls_in (found_record s.resumes.waiting) goes)
@@ -303,16 +310,14 @@ module _ {all others : List (List ℕ)} {asked : List Batch} {i : Instance} {fin
   none_told None f = tt
   none_told (Some p) f = tt
 
-  on_rests : (goes : SessionGoesAfterResume i.variant i.meaning s.begun s.platform final s.store new left' s.taken s.sent result)
-      → (kept : Bool)
-      → kept ≡ true → Rests before s.platform slots kept s.store s.begun → OnBy goes
+  on_rests : (goes : Went) → (kept : Bool) → kept ≡ true → Rests before s.middle slots kept s.begun → OnBy goes
   on_rests (inr g) kept e r =
       let clash : Ok g.first ≡ Err (store_fault_as r.why) = sym g.begins ∙ r.is in absurd (cc)
   on_rests (inl ended) kept e r = (
     record {
       runs = record {
         after = y;
-        stands = subst (λ (x : Standing). StandsFor i x y) (sym (ended.0 ∙ r.same)) stands;
+        stands = subst (λ (x : Standing). StandsFor i x y) (sym (ap (λ (h : HostStanding). h.standing) ended.0 ∙ r.same)) stands;
         within = within;
         requests = requests_of y.batches;
         run = refl;
@@ -323,12 +328,12 @@ module _ {all others : List (List ℕ)} {asked : List Batch} {i : Instance} {fin
       once = none_told fits.waiting fits.fits;
       room = fits_room i slots y fits;
       slots_after = slots;
-      honest = ap (λ (k : StoreStanding). k.is_honest) ended.1 ∙ r.is_honest ∙ e;
-      slots_told = ap (λ (k : StoreStanding). k.slots) ended.1 ∙ r.told;
+      honest = ap (λ (h : HostStanding). h.kept.is_honest) ended.0 ∙ r.is_honest ∙ e;
+      slots_told = ap (λ (h : HostStanding). h.kept.slots) ended.0 ∙ r.told;
       fits = λ n. fits;
       whole = λ n. fits;
-      refuses = subst (λ (x : Result Unit SessionFault). RefusesAs x i.variant y) (sym ended.2.stops)
-          (by_told (λ (f : SessionFault). RefusesAs {T = Unit} (Err f) i.variant y) s.begun s.sent ended.2.fault ended.2.says
+      refuses = subst (λ (x : Result Unit SessionFault). RefusesAs x i.variant y) (sym ended.1.stops)
+          (by_told (λ (f : SessionFault). RefusesAs {T = Unit} (Err f) i.variant y) s.begun s.sent ended.1.fault ended.1.says
           (λ (w : HostFault) (came : s.begun ≡ Err w).
           let same : store_fault_as r.why ≡ w = host_same s.begun (store_fault_as r.why) w r.is came in
           subst (λ (f : HostFault). RefusesAs {T = Unit} (Err (Host f)) i.variant y) same (stored_refuses r.why)) (λ n. tt));
@@ -344,9 +349,10 @@ module _ {all others : List (List ℕ)} {asked : List Batch} {i : Instance} {fin
       let r = s.resumes in
       let saw = saw_two slots r.finds.two old r.finds.middle r.middle r.waiting told r.finds.reads r.finds.goes in
       by_opens (saw.honest ∙ honest)
-      (opens_by i.variant i.meaning before s.platform slots fits.waiting r.waiting old r.middle s.store s.begun r.goes fits.is_waiting saw)
+      (opens_by i.variant i.meaning slots fits.waiting r.waiting old (host_standing before r.middle) s.middle s.begun r.goes
+      fits.is_waiting saw)
     where
-      by_opens : s.resumes.middle.is_honest ≡ true → Opens i.variant i.meaning before s.platform slots s.resumes.middle.is_honest
-          fits.waiting s.resumes.waiting s.resumes.middle s.store s.begun s.resumes.goes → OnBy s.goes
+      by_opens : s.resumes.middle.is_honest ≡ true → Opens i.variant i.meaning slots s.resumes.middle.is_honest fits.waiting
+          s.resumes.waiting (host_standing before s.resumes.middle) s.middle s.begun s.resumes.goes → OnBy s.goes
       by_opens e (unasked rest) = on_rests s.goes s.resumes.middle.is_honest e rest
       by_opens e (offers is found) = on_offers listed is found

@@ -27,7 +27,7 @@ use Rattle.mm_recovery.specs.declared.fault.HostFault.TheVariants.{Refused}
 use Rattle.mm_host.specs.declared.fault.SessionFault.{SessionFault}
 use Rattle.mm_host.specs.declared.fault.SessionFault.TheVariants.{Host}
 use Rattle.mm_host.specs.Continuation.{RefusesAs}
-use Rattle.mm_life.specs.Below.{PendingRecord, ServedCall}
+use Rattle.mm_life.specs.Below.{IsSession, PendingRecord, SessionStanding}
 use Rattle.mm_life.specs.HonestLife.{GoesOnOver}
 use Rattle.mm_life.specs.IdleParts.{flag_in, has_open_segment}
 use Rattle.mm_life.proofs.ClosingCounts.{flag_behind}
@@ -88,14 +88,13 @@ module _ (meaning : Meaning) (key barrier : List ℕ) where
   pub still_open : (old new : Standing) → new.cell ≡ old.cell → has_open_segment new ≡ has_open_segment old
   still_open old new same = ap (λ (c : Option (List ℕ)). bytes_eq (option_map_or flag_in c []) (1 ∷ [])) same
 
-  pub unlost : (others : List (List ℕ)) (old new : Standing) (requests : List (List ℕ)) (waiting : Option PendingRecord)
-      (told : List ServedCall)
-      (hand : List ℕ → Type 0) (result : Result Unit SessionFault) (after : List (List ℕ))
-      → GoesOnOver others I old new requests waiting told hand result after → has_open_segment old ≡ false
+  pub unlost : (others : List (List ℕ)) (old new : SessionStanding) (result : Result Unit SessionFault)
+      (ran : IsSession Opt meaning old new result) (waiting : Option PendingRecord) (requests after : List (List ℕ))
+      → GoesOnOver others I ran waiting requests after → has_open_segment old.standing ≡ false
       → result ≢ Err (Host (Refused refusal.Lost))
-  unlost others old new requests waiting told hand result after g shut is =
-      let s = stands_at I old g.entered.history g.entered.stands in
-      let tells : TellsFlag old (digests_of I g.entered.history).flag =
+  unlost others old new result ran waiting requests after g shut is =
+      let s = stands_at I old.standing g.entered.history g.entered.stands in
+      let tells : TellsFlag old.standing (digests_of I g.entered.history).flag =
       record { cell = _; is_cell = s.spells; tells = s.cell; shows = refl } in
-      g.powered (not_lost _ _ _ _ (sym (open_told old _ tells) ∙ shut))
+      g.powered (not_lost _ _ _ _ (sym (open_told old.standing _ tells) ∙ shut))
       (subst (λ r. RefusesAs r Opt g.left.history) is g.refuses)

@@ -39,18 +39,19 @@ pub use Rattle.mm_store.specs.StoreStanding.{StoreStanding}
 pub use Rattle.mm_store.specs.PendingRecord.{PendingRecord}
 pub use Rattle.mm_store.specs.Slots.{Slots, slot_front}
 pub use Rattle.mm_store.specs.declared.fault.StoreFault.{StoreFault}
+pub use Rattle.mm_recovery.specs.HostStanding.{HostStanding, host_standing}
 pub use Rattle.mm_recovery.specs.HostCall.{IsCall}
 pub use Rattle.mm_recovery.specs.FirstStart.{first_history_on, first_slots}
 pub use Rattle.mm_recovery.specs.SlotFit.{FitsHistory, first_offer}
-pub use Rattle.mm_recovery.specs.LastAnswer.{snapshot_at}
 pub use Rattle.mm_recovery.specs.NextRequest.{HostGoesAfterRecord, AsksNextRequest}
 pub use Rattle.mm_recovery.specs.Resumption.{HostGoesAfterFinding, HostGoesAfterOffer, AsksAndKeepsAnswer}
 pub use Rattle.mm_recovery.specs.WaitingRequest.{IsWaiting}
 pub use Rattle.mm_recovery.specs.declared.fault.HostFault.{HostFault}
 pub use Rattle.mm_recovery.specs.declared.fault.HostFault.TheVariants.{Store}
 pub use Rattle.mm_recovery.specs.declared.resuming.Resumed.{Resumed}
+pub use Rattle.mm_host.specs.SessionStanding.{SessionStanding, host_of, session_standing}
 pub use Rattle.mm_host.specs.AnySlots.{MayStart}
 pub use Rattle.mm_host.specs.Continuation.{AreToldOnce, HasUntoldRequest, IsInHand, IsNotBeyond, RefusesAs, CallsRunOver, answer_reply}
 pub use Rattle.mm_host.specs.Continuation.{served_calls_in}
-pub use Rattle.mm_host.specs.Sessions.{SessionGoesAfterResume, SessionPlace, ServedCall, TurnGoes, IsSession, turn_answer_of}
+pub use Rattle.mm_host.specs.Sessions.{SessionGoesAfterResume, ServesAllLines, SessionPlace, ServedCall, IsSession}
 pub use Rattle.mm_host.specs.declared.fault.SessionFault.{SessionFault}

@@ -5,7 +5,7 @@ use Rattle.mm_life.specs.Below.{Variant, Basic, Opt, Standing, IsLawful, Meaning
 use Rattle.mm_life.specs.Below.{basic_instance, opt_instance, StandsFor, Batch, IsClear, AreNoGuards, IsWithin, Lost, Spoiled, life_of}
 use Rattle.mm_life.specs.Below.{first_history_on, first_slots, PendingRecord, Slots, slot_front, IsWaiting, IsInHand, ServedCall}
 use Rattle.mm_life.specs.Below.{SessionFault, served_calls_in, last_position, StoreStanding, AreToldOnce, FitsHistory, IsNotBeyond}
-use Rattle.mm_life.specs.Below.{RefusesAs, Store}
+use Rattle.mm_life.specs.Below.{RefusesAs, Store, IsSession, SessionStanding}
 use Rattle.mm_host.specs.declared.fault.SessionFault.TheVariants.{Host}
 use Rattle.mm_life.specs.Deeds.{Calls}
 use Rattle.mm_life.specs.OneList.{LifeFollows, SessionSteps}
@@ -14,13 +14,14 @@ use Rattle.mm_life.specs.Stages.{Does, Holds, IsLife, LifePart, PartLeads, LifeS
 
 -- A program's store shows what this one does, and is as honest; another deed is no call.
 abbrev pub BeginsOver : StoreStanding → LifePart → Type 0
-BeginsOver kept (Holds p) = (p.old.is_honest ≡ kept.is_honest) × (p.old.slots ≡ kept.slots)
+BeginsOver kept (Holds p) =
+    (p.old.kept.is_honest ≡ kept.is_honest) × (p.old.kept.slots ≡ kept.slots)
 BeginsOver kept (Does (Calls c)) = ⊥
 BeginsOver kept (Does deed) = Unit {0}
 
 -- the store behind a part, and behind all of a life
 abbrev pub store_behind : StoreStanding → LifePart → StoreStanding
-store_behind kept (Holds p) = p.new
+store_behind kept (Holds p) = p.new.kept
 store_behind kept (Does deed) = kept
 
 abbrev pub store_at_end : StoreStanding → List LifeStage → StoreStanding
@@ -54,8 +55,8 @@ abbrev pub LeavesNoChance : (variant : Variant) (meaning : Meaning) (old : Stand
     (new : Standing) → PartLeads variant meaning old part new → Type 0
 LeavesNoChance variant meaning old (Holds p) new s =
     p.result ≡ Err (Host Store) → (waiting : Option PendingRecord)
-    → WaitsInSlots p.old.slots waiting →
-    (slots : Slots) → p.new.slots ≡ Some slots →
+    → WaitsInSlots p.old.kept.slots waiting →
+    (slots : Slots) → p.new.kept.slots ≡ Some slots →
     IsNotBeyond slots (reached_position waiting (served_calls_in waiting s.goes) + 1)
 LeavesNoChance variant meaning old (Does deed) new f = Unit {0}
 
@@ -84,27 +85,26 @@ pub record HasHistory (i : Instance) (standing : Standing) (requests : List (Lis
 -- it is told first, and each line is new; and no request is behind the last position. A refusal is
 -- by a device's fault; or Full, and every position is used up; or in Opt as the history at the end
 -- is lost, and then it was lost before the session, or spoiled, and then by values of others.
-pub record GoesOnOver (others : List (List ℕ)) (i : Instance) (old new : Standing)
-    (requests : List (List ℕ)) (waiting : Option PendingRecord) (told : List ServedCall)
-    (hand : List ℕ → Type 0) (result : Result Unit SessionFault) (after : List (List ℕ)) : Type 0
-  where
-    pub waits : IsNextOrLast requests waiting
-    pub steps : SessionSteps i.meaning requests told hand result after
-    pub once : AreToldOnce (length requests) waiting told
-    pub room : length after ≤ last_position
-    pub entered : HasHistory i old requests
-    pub left : HasHistory i new after
-    pub refuses : RefusesAs result i.variant left.history
-    pub powered : life_of i.variant entered.history ≢ Lost → life_of i.variant left.history ≢ Lost
-    pub unspoiled : others ≡ [] → life_of i.variant left.history ≢ Spoiled
+pub record GoesOnOver (others : List (List ℕ)) (i : Instance) {old new : SessionStanding}
+    {result : Result Unit SessionFault} (s : IsSession i.variant i.meaning old new result)
+    (waiting : Option PendingRecord) (requests after : List (List ℕ)) : Type 0 where
+  pub waits : IsNextOrLast requests waiting
+  pub steps : SessionSteps i.meaning requests (served_calls_in waiting s.goes)
+      (IsInHand waiting s.goes) result after
+  pub once : AreToldOnce (length requests) waiting (served_calls_in waiting s.goes)
+  pub room : length after ≤ last_position
+  pub entered : HasHistory i old.standing requests
+  pub left : HasHistory i new.standing after
+  pub refuses : RefusesAs result i.variant left.history
+  pub powered : life_of i.variant entered.history ≢ Lost → life_of i.variant left.history ≢ Lost
+  pub unspoiled : others ≡ [] → life_of i.variant left.history ≢ Spoiled
 
 abbrev pub PartGoesOn : (others : List (List ℕ)) (i : Instance) (old : Standing) (part : LifePart)
     (new : Standing) → PartLeads i.variant i.meaning old part new → List (List ℕ) → List (List ℕ)
     → Type 0
 PartGoesOn others i old (Holds p) new s requests after =
-    (waiting : Option PendingRecord) × WaitsInSlots p.old.slots waiting
-    × GoesOnOver others i old new requests waiting (served_calls_in waiting s.goes)
-    (IsInHand waiting s.goes) p.result after
+    (waiting : Option PendingRecord) × WaitsInSlots p.old.kept.slots waiting
+    × GoesOnOver others i s waiting requests after
 PartGoesOn others i old (Does deed) new f requests after = after ≡ requests
 
 -- each part of a life goes on from the requests that those before it left
@@ -117,15 +117,15 @@ GoesOnFrom others i start (stage ∷ stages) f requests after =
     × PartGoesOn others i start stage.part stage.after f.0 requests between
     × GoesOnFrom others i stage.after stages f.1 between after
 
--- A life goes on over one store, from these requests: there is one list that all of it follows; so
--- what a module promises of a life holds of it (`LivesKeepPromises`). And at its end the platform
--- stands for a history of this list, which the slots fit: so the next session may go on from there.
+-- A life goes on over one store, from no request: there is one list that all of it follows; so what
+-- a module promises of a life holds of it (`LivesKeepPromises`). And at its end the platform stands
+-- for a history of this list, which the slots fit: so the next session may go on from there.
 pub record IsGoneOnWith (all others : List (List ℕ)) (asked : List Batch) (i : Instance)
-    (requests : List (List ℕ)) (kept : StoreStanding) (start : Standing) (stages : List LifeStage)
+    (kept : StoreStanding) (start : Standing) (stages : List LifeStage)
     (f : IsLife i.variant i.meaning start stages) : Type 0 where
   pub after : List (List ℕ)
-  pub goes : GoesOnFrom others i start stages f requests after
-  pub follows : LifeFollows i.variant i.meaning start stages f requests after
+  pub goes : GoesOnFrom others i start stages f [] after
+  pub follows : LifeFollows i.variant i.meaning start stages f [] after
   pub history : History
   pub holds : requests_of history.batches ≡ after
   pub stands : StandsFor i (end_of start stages) history
@@ -147,7 +147,7 @@ BasicLifeGoesOn =
     IsClear (life_messages (basic_instance meaning key) start stages f) →
     AreNoChance Basic meaning start stages f →
     IsGoneOnWith (life_messages (basic_instance meaning key) start stages f) []
-    (life_batches (basic_instance meaning key) start stages f) (basic_instance meaning key) []
+    (life_batches (basic_instance meaning key) start stages f) (basic_instance meaning key)
     kept start stages f
 
 -- Opt, from a register that others had extended by these values: the same, where besides the
@@ -168,5 +168,4 @@ OptLifeGoesOn =
     IsGoneOnWith (opt_messages (opt_instance meaning key barrier) start stages f)
     (others_values (opt_instance meaning key barrier) start stages f)
     (life_batches (opt_instance meaning key barrier) start stages f)
-    (opt_instance meaning key barrier) [] kept start
-    stages f
+    (opt_instance meaning key barrier) kept start stages f

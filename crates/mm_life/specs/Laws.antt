@@ -3,7 +3,7 @@ use Rattle.std.specs.Prelude.{◌≡◌, ℕ, List, [], ◌∷◌, Option, Some,
 use Rattle.mm_life.specs.Below.{Variant, Basic, Opt, Standing, IsLawful, Meaning, AreSaid, AnyModule, meaning_of, first_history}
 use Rattle.mm_life.specs.Below.{basic_instance, AreNoGuards, IsClear, StandsFor, issued_bytes, ModulePromises, tellings_in, Instance}
 use Rattle.mm_life.specs.Below.{opt_instance, Batch, first_history_on, StoreStanding, PendingRecord, Slots, slot_front, first_offer}
-use Rattle.mm_life.specs.Below.{IsWaiting, MayStart, SessionFault, IsSession}
+use Rattle.mm_life.specs.Below.{IsWaiting, MayStart, SessionFault, SessionStanding, IsSession}
 use Rattle.mm_life.specs.SessionCalls.{IsFirstOffered, session_calls}
 use Rattle.mm_life.specs.Deeds.{LifeCall}
 use Rattle.mm_life.specs.OneList.{LifeFollows, IsOneWhole, life_replies}
@@ -60,11 +60,10 @@ pub record OffersSlots (slots : Slots) (calls : List LifeCall) : Type 0 where
 -- call.
 abbrev pub SessionsOfferSlots : Type 0
 SessionsOfferSlots =
-    (variant : Variant) (meaning : Meaning) (before after : Standing) (old new : StoreStanding)
-    (left left' received received' : Option (List ℕ)) (result : Result Unit SessionFault)
-    (s : IsSession variant meaning before after old new left left' received received' result)
+    (variant : Variant) (meaning : Meaning) (old new : SessionStanding)
+    (result : Result Unit SessionFault) (s : IsSession variant meaning old new result)
     (slots : Slots) →
-    old.slots ≡ Some slots → (session_calls s ≡ []) ⊎ OffersSlots slots (session_calls s)
+    old.kept.slots ≡ Some slots → (session_calls s ≡ []) ⊎ OffersSlots slots (session_calls s)
 
 -- Behind a life a session may start over any slots, where what they offer first was issued in this
 -- life, if it is right: so it is one run from the life's history on.

@@ -1,35 +1,31 @@
 -- What a life over one store comes to, over any devices: a first start, a session, a loss of power,
 -- and a session over what the first one left; in Opt with a checkpoint before power is lost.
-use Rattle.std.specs.Prelude.{◌≡◌, ◌≢◌, ◌⊎◌, ℕ, true, List, [], ◌∷◌, Option, Some, Result, Ok, Err, drop, take}
-use Rattle.mm_life.specs.Below.{Basic, Opt, Item, Standing, Meaning, basic_instance, opt_instance, Slots, Store, StoreStanding}
+use Rattle.std.specs.Prelude.{◌≡◌, ◌≢◌, ◌⊎◌, ℕ, true, List, [], ◌∷◌, Option, Some, Result, Ok, Err, take}
+use Rattle.mm_life.specs.Below.{Basic, Opt, Instance, Item, Standing, Meaning, basic_instance, Slots, Store, StoreStanding}
 use Rattle.mm_life.specs.Below.{SessionFault, CheckpointRefusal, Checkpointed}
 use Rattle.mm_model.specs.declared.refusal.Refusal.TheVariants.{Lost}
 use Rattle.mm_recovery.specs.declared.fault.HostFault.TheVariants.{Refused}
 use Rattle.mm_host.specs.declared.fault.SessionFault.TheVariants.{Host}
 use Rattle.mm_recovery.specs.FirstStart.{InstanceBegins}
-use Rattle.mm_recovery.specs.Init.{Devices}
+use Rattle.mm_recovery.specs.Init.{Devices, instance_from}
 use Rattle.mm_life.specs.Deeds.{Checkpoints, LosesPower}
 use Rattle.mm_evidence.specs.Evidence.{HasClash}
 use Rattle.mm_life.specs.HonestLife.{IsGoneOnWith}
 use Rattle.mm_life.specs.Premises.{life_batches, life_messages, opt_messages, others_values}
-use Rattle.mm_life.specs.Stages.{Does, Holds, IsLife, LifeStage}
+use Rattle.mm_life.specs.Stages.{Does, IsLife, LifeStage, program_standing, session_stage}
 use Rattle.mm_life.specs.LifeWrites.{BasicWrites, WritesOnceEach, segment_turns}
 
--- A session: the store, its input and its output, before and after; and what stands behind it.
-abbrev pub session_stage : StoreStanding → StoreStanding → Option (List ℕ) → Option (List ℕ)
-    → Option (List ℕ) → Option (List ℕ) → Result Unit SessionFault → Standing → LifeStage
-session_stage old new left left' received received' result after = record {
-  part = Holds (record {
-    old = old;
-    new = new;
-    left = left;
-    left' = left';
-    received = received;
-    received' = received';
-    result = result;
-  });
-  after = after;
-}
+-- What the objects of such a life tell: the devices of a first start, what is left of the input of
+-- each session, and what the output of both received.
+pub record LifeStanding : Type 0 where
+  pub devices : Devices
+  pub first : Option (List ℕ)
+  pub second : Option (List ℕ)
+  pub received : Option (List ℕ)
+
+abbrev pub life_standing : Devices → (first second received : Option (List ℕ)) → LifeStanding
+life_standing devices first second received =
+    record { devices = devices; first = first; second = second; received = received }
 
 -- the store didn't fail
 abbrev pub KeepsStore : Result Unit SessionFault → Type 0
@@ -42,35 +38,39 @@ abbrev pub IsGoneOnInBasic : (meaning : Meaning) (key : List ℕ) (start : Stand
     (kept : StoreStanding) (stages : List LifeStage) → IsLife Basic meaning start stages → Type 0
 IsGoneOnInBasic meaning key start kept stages f =
     ((gone : IsGoneOnWith (life_messages (basic_instance meaning key) start stages f) []
-    (life_batches (basic_instance meaning key) start stages f) (basic_instance meaning key) []
+    (life_batches (basic_instance meaning key) start stages f) (basic_instance meaning key)
     kept start stages f)
     × BasicWrites meaning start stages f gone.after)
     ⊎ HasClash (basic_instance meaning key)
     (life_messages (basic_instance meaning key) start stages f) []
     (life_batches (basic_instance meaning key) start stages f)
 
+-- a loss of power between two sessions
+abbrev pub stages_around_loss : LifeStage → (empty : Standing) → LifeStage → List LifeStage
+stages_around_loss first empty second =
+    first ∷ record { part = Does LosesPower; after = empty } ∷ second ∷ []
+
 -- It is one, or gives evidence, where the platform told its cell before the first start, and an
 -- honest store its slots, and the store failed in neither session.
-pub record LivesOnOneStore (meaning : Meaning) (before : Devices) (after : Standing)
-    (new : StoreStanding) (first first' second second' received received' : Option (List ℕ))
+pub record LivesOnOneStore (meaning : Meaning) (old new : LifeStanding)
     (one two : Result Unit SessionFault) : Type 0 where
   pub started : Devices
-  pub begun : InstanceBegins Basic meaning before started
+  pub begun : InstanceBegins Basic meaning old.devices started
   pub middle : Standing
   pub empty : Standing
   pub between : StoreStanding
   pub told : Option (List ℕ)
-  pub life : IsLife Basic meaning started.platform
-      (session_stage started.store between first first' received told one middle
-      ∷ record { part = Does LosesPower; after = empty }
-      ∷ session_stage between new second second' told received' two after ∷ [])
-  pub goes : (cell : List ℕ) (slots : Slots) → before.platform.cell ≡ Some cell →
-      before.store.is_honest ≡ true → before.store.slots ≡ Some slots →
+  pub stages : List LifeStage
+  pub are : stages ≡ stages_around_loss
+      (session_stage (program_standing started.store old.first old.received)
+      (program_standing between new.first told) one middle) empty
+      (session_stage (program_standing between old.second told)
+      (program_standing new.devices.store new.second new.received) two new.devices.platform)
+  pub life : IsLife Basic meaning started.platform stages
+  pub goes : (cell : List ℕ) (slots : Slots) → old.devices.platform.cell ≡ Some cell →
+      old.devices.store.is_honest ≡ true → old.devices.store.slots ≡ Some slots →
       KeepsStore one → KeepsStore two →
-      IsGoneOnInBasic meaning (take 32 begun.secrets) started.platform started.store
-      (session_stage started.store between first first' received told one middle
-      ∷ record { part = Does LosesPower; after = empty }
-      ∷ session_stage between new second second' told received' two after ∷ []) life
+      IsGoneOnInBasic meaning (take 32 begun.secrets) started.platform started.store stages life
 
 -- behind a checkpoint that wasn't refused no session is refused as Lost
 abbrev pub IsUnlost : Result Checkpointed CheckpointRefusal → Result Unit SessionFault → Type 0
@@ -81,20 +81,15 @@ IsUnlost (Err why) result = Unit {0}
 -- ends so. Or it gives evidence: two different messages of its calls, or by which the register's
 -- items went into it, have one digest, or the digest of one is zero; or a value of others is the
 -- guard of a request.
-abbrev pub IsGoneOnInOpt : (meaning : Meaning) (key barrier : List ℕ) (start : Standing)
-    (kept : StoreStanding) (stages : List LifeStage) → IsLife Opt meaning start stages
+abbrev pub IsGoneOnInOpt : (i : Instance) (start : Standing) (kept : StoreStanding)
+    (stages : List LifeStage) → IsLife i.variant i.meaning start stages
     → Result Checkpointed CheckpointRefusal → Result Unit SessionFault → Type 0
-IsGoneOnInOpt meaning key barrier start kept stages f said last =
-    (IsGoneOnWith (opt_messages (opt_instance meaning key barrier) start stages f)
-    (others_values (opt_instance meaning key barrier) start stages f)
-    (life_batches (opt_instance meaning key barrier) start stages f)
-    (opt_instance meaning key barrier) [] kept start
-    stages f
+IsGoneOnInOpt i start kept stages f said last =
+    (IsGoneOnWith (opt_messages i start stages f) (others_values i start stages f)
+    (life_batches i start stages f) i kept start stages f
     × IsUnlost said last)
-    ⊎ HasClash (opt_instance meaning key barrier)
-    (opt_messages (opt_instance meaning key barrier) start stages f)
-    (others_values (opt_instance meaning key barrier) start stages f)
-    (life_batches (opt_instance meaning key barrier) start stages f)
+    ⊎ HasClash i (opt_messages i start stages f) (others_values i start stages f)
+    (life_batches i start stages f)
 
 -- a checkpoint that said this, and a loss of power, between two sessions
 abbrev pub stages_around : LifeStage → Result Checkpointed CheckpointRefusal
@@ -107,12 +102,11 @@ stages_around first said closed empty second =
 -- It is one, or gives evidence, where the platform told its cell and its register's items before
 -- the first start, and an honest store its slots, and the store failed in neither session; and the
 -- cell is written once for each segment opened or closed.
-pub record LivesOverCheckpoint (meaning : Meaning) (before : Devices) (after : Standing)
-    (new : StoreStanding) (first first' second second' received received' : Option (List ℕ))
+pub record LivesOverCheckpoint (meaning : Meaning) (old new : LifeStanding)
     (one : Result Unit SessionFault) (said : Result Checkpointed CheckpointRefusal)
     (two : Result Unit SessionFault) : Type 0 where
   pub started : Devices
-  pub begun : InstanceBegins Opt meaning before started
+  pub begun : InstanceBegins Opt meaning old.devices started
   pub middle : Standing
   pub closed : Standing
   pub empty : Standing
@@ -120,15 +114,17 @@ pub record LivesOverCheckpoint (meaning : Meaning) (before : Devices) (after : S
   pub told : Option (List ℕ)
   pub stages : List LifeStage
   pub are : stages ≡ stages_around
-      (session_stage started.store between first first' received told one middle) said closed empty
-      (session_stage between new second second' told received' two after)
+      (session_stage (program_standing started.store old.first old.received)
+      (program_standing between new.first told) one middle) said closed empty
+      (session_stage (program_standing between old.second told)
+      (program_standing new.devices.store new.second new.received) two new.devices.platform)
   pub life : IsLife Opt meaning started.platform stages
   pub goes : (cell : List ℕ) (items : List Item) (slots : Slots) →
-      before.platform.cell ≡ Some cell → before.platform.items ≡ Some items →
-      before.store.is_honest ≡ true → before.store.slots ≡ Some slots →
+      old.devices.platform.cell ≡ Some cell → old.devices.platform.items ≡ Some items →
+      old.devices.store.is_honest ≡ true → old.devices.store.slots ≡ Some slots →
       KeepsStore one → KeepsStore two →
-      IsGoneOnInOpt meaning (take 32 begun.secrets) (drop 32 begun.secrets) started.platform
-      started.store stages life said two
-  pub writes : (cell : List ℕ) (items : List Item) → before.platform.cell ≡ Some cell →
-      before.platform.items ≡ Some items →
+      IsGoneOnInOpt (instance_from Opt meaning begun.secrets) started.platform started.store stages
+      life said two
+  pub writes : (cell : List ℕ) (items : List Item) → old.devices.platform.cell ≡ Some cell →
+      old.devices.platform.items ≡ Some items →
       WritesOnceEach started.platform stages (segment_turns started.platform stages)

@@ -1,19 +1,29 @@
 -- The life of a platform behind its first start: programs, and deeds between them, one after
 -- another, whatever the slots hold when a program starts.
 use Rattle.std.specs.Prelude.{ℕ, List, [], ◌∷◌, ◌++◌, Option, Result}
-use Rattle.mm_life.specs.Below.{Variant, Standing, Meaning, StoreStanding, IsSession, SessionFault}
+use Rattle.mm_life.specs.Below.{Variant, Standing, Meaning, StoreStanding, IsSession, SessionFault, SessionStanding, session_standing}
 use Rattle.mm_life.specs.Deeds.{LifeCall, Calls, Deed, DeedLeads}
 use Rattle.mm_life.specs.SessionCalls.{session_calls}
 
--- A program's session: its store, its input and its output, before and after; and how it ended.
--- Nothing ties the store before it to what another program left.
-pub record Program : Type 0 where
-  pub old : StoreStanding
-  pub new : StoreStanding
+-- What the objects of a program tell, besides the platform: what its store keeps, what is left of
+-- its input, and what its output received.
+pub record ProgramStanding : Type 0 where
+  pub kept : StoreStanding
   pub left : Option (List ℕ)
-  pub left' : Option (List ℕ)
   pub received : Option (List ℕ)
-  pub received' : Option (List ℕ)
+
+abbrev pub program_standing : StoreStanding → Option (List ℕ) → Option (List ℕ) → ProgramStanding
+program_standing kept left received = record { kept = kept; left = left; received = received }
+
+-- with the platform these are the objects of a session
+abbrev pub session_on : Standing → ProgramStanding → SessionStanding
+session_on standing own = session_standing standing own.kept own.left own.received
+
+-- A program's session: what its objects told, before and after; and how it ended. Nothing ties the
+-- store before it to what another program left.
+pub record Program : Type 0 where
+  pub old : ProgramStanding
+  pub new : ProgramStanding
   pub result : Result Unit SessionFault
 
 -- a program holds a session, or a deed is done
@@ -26,10 +36,16 @@ pub record LifeStage : Type 0 where
   pub part : LifePart
   pub after : Standing
 
+-- a session was held, over these objects
+abbrev pub session_stage : (old new : ProgramStanding) → Result Unit SessionFault → Standing
+    → LifeStage
+session_stage old new result after =
+    record { part = Holds (record { old = old; new = new; result = result }); after = after }
+
 -- The part leads a platform from one standing to another.
 abbrev pub PartLeads : Variant → Meaning → Standing → LifePart → Standing → Type 0
 PartLeads variant meaning old (Holds p) new =
-    IsSession variant meaning old new p.old p.new p.left p.left' p.received p.received' p.result
+    IsSession variant meaning (session_on old p.old) (session_on new p.new) p.result
 PartLeads variant meaning old (Does deed) new = DeedLeads variant meaning old deed new
 
 -- Each of these stages begins with what stands behind the one before it, the first one here.

@@ -3,7 +3,7 @@
 
 ghost use Rattle.std.specs.Prelude.{IfOk};
 ghost use Rattle.mm_recovery.specs.Init.{devices};
-ghost use Rattle.mm_life.specs.OneStore.{LivesOnOneStore, LivesOverCheckpoint};
+ghost use Rattle.mm_life.specs.OneStore.{LivesOnOneStore, LivesOverCheckpoint, life_standing};
 
 use crate::honest::{basic_life_goes_on, opt_life_goes_on};
 use crate::laws::{device_calls_are_deeds, lives_write_once};
@@ -53,11 +53,12 @@ pub fn live_on_one_store<M: Module, P: Platform, T: Store, E: Source, S: Source,
     out: &mut K,
 ) -> Result<BothSessions, BothSessionsFault>
     ensures { IfOk result (λ both. LivesOnOneStore (M.meaning «module».now)
-        (devices (P.standing platform.old) (T.kept store.old) (E.left entropy.old)
-        (E.faults entropy.old)) (P.standing platform.new) (T.kept store.new)
-        (S.left first_input.old) (S.left first_input.new) (S.left second_input.old)
-        (S.left second_input.new) (K.received out.old) (K.received out.new) both.first
-        both.second) }
+        (life_standing (devices (P.standing platform.old) (T.kept store.old) (E.left entropy.old)
+        (E.faults entropy.old)) (S.left first_input.old) (S.left second_input.old)
+        (K.received out.old))
+        (life_standing (devices (P.standing platform.new) (T.kept store.new) (E.left entropy.new)
+        (E.faults entropy.new)) (S.left first_input.new) (S.left second_input.new)
+        (K.received out.new)) both.first both.second) }
 {
     // Laws, which do nothing: the clauses rest on their contracts.
     basic_life_goes_on();
@@ -107,11 +108,12 @@ pub fn live_over_checkpoint<M: Module, P: Platform, T: Store, E: Source, S: Sour
     out: &mut K,
 ) -> Result<CheckedSessions, BothSessionsFault>
     ensures { IfOk result (λ held. LivesOverCheckpoint (M.meaning «module».now)
-        (devices (P.standing platform.old) (T.kept store.old) (E.left entropy.old)
-        (E.faults entropy.old)) (P.standing platform.new) (T.kept store.new)
-        (S.left first_input.old) (S.left first_input.new) (S.left second_input.old)
-        (S.left second_input.new) (K.received out.old) (K.received out.new) held.first
-        held.checkpoint held.second) }
+        (life_standing (devices (P.standing platform.old) (T.kept store.old) (E.left entropy.old)
+        (E.faults entropy.old)) (S.left first_input.old) (S.left second_input.old)
+        (K.received out.old))
+        (life_standing (devices (P.standing platform.new) (T.kept store.new) (E.left entropy.new)
+        (E.faults entropy.new)) (S.left first_input.new) (S.left second_input.new)
+        (K.received out.new)) held.first held.checkpoint held.second) }
 {
     // Laws, which do nothing: the clauses rest on their contracts.
     opt_life_goes_on();

@@ -1,7 +1,7 @@
 use Rattle.mm_app.proofs.checkpoint.close_segment.Goals as goal
 
 pub returns : goal.returns
-returns g c = record {
+returns g c it = record {
   answer = c.checkpoint-answer.result;
   closes = c.checkpoint-answer.ensures.closes;
   goes = c.checkpoint-answer.ensures.goes;

@@ -1,7 +1,7 @@
 use Rattle.mm_app.proofs.start.start_instance.Goals as goal
 
 pub returns : goal.returns
-returns g c = record {
+returns g c left reads = record {
   answer = c.init-answer.result;
   steps = c.init-answer.ensures.steps;
   leaves = c.init-answer.ensures.leaves;

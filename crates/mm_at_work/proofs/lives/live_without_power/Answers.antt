@@ -3,15 +3,18 @@ use Rattle.std.specs.Result.{result_err}
 use Rattle.mm_digest.specs.declared.variant.Variant.TheVariants.{Basic}
 use Rattle.mm_at_work.proofs.WholeLives.{lives_without_power}
 use Rattle.mm_at_work.specs.Devices.{two_cells}
+use Rattle.mm_at_work.specs.Lives.{memory_life}
 use Rattle.mm_at_work.proofs.lives.live_without_power.Goals as goal
 
 pub returns-in-Ok-cycle : goal.returns-in-Ok-cycle
 returns-in-Ok-cycle g c =
     lives_without_power (g.M.Module.meaning c.args.module.now) (g.met.M.Module.is_lawful c.args.module.now) c.sessions_offer_slots.ensures
-    c.start.new.platform c.serve-first.new.platform c.serve-second.new.platform c.start.new.store c.serve-first.new.store
-    c.args.copy.now c.serve-second.new.store c.args.entropy.now.left c.start.new.entropy.left c.args.first_input.now.left
-    c.serve-first.new.input.left c.args.second_input.now.left c.serve-second.new.input.left c.args.out.now.received
-    c.serve-first.new.out.received c.serve-second.new.out.received c.serve-first.result c.serve-second.result
+    (memory_life c.args.platform.now c.args.copy.now c.args.entropy.now.left c.args.first_input.now.left c.args.second_input.now.left
+    c.args.out.now.received)
+    (memory_life c.serve-second.new.platform c.serve-second.new.store c.start.new.entropy.left c.serve-first.new.input.left
+    c.serve-second.new.input.left c.serve-second.new.out.received)
+    c.start.new.platform c.serve-first.new.platform c.start.new.store c.serve-first.new.store c.serve-first.new.out.received
+    c.serve-first.result c.serve-second.result
     c.basic_life_is_one.ensures c.in-Ok.ensures.starts
     (two_cells c.cycle.new.self) (
       c.serve-first.ensures.sessions,
