@@ -69,6 +69,7 @@ pub use Rattle.mm_store.specs.Slots.{longest_slot, slot_front, Slots, slots_with
 pub use Rattle.mm_store.specs.declared.fault.StoreFault.{StoreFault}
 pub use Rattle.mm_store.proofs.Above.{longest_slot-is, one_reading}
 pub use Rattle.mm_recovery.specs.HostCall.{IsCall}
+pub use Rattle.mm_recovery.specs.HostStanding.{HostStanding, host_standing}
 pub use Rattle.mm_recovery.specs.Faults.{refusal_fault, store_fault_as}
 pub use Rattle.mm_recovery.specs.SlotFit.{first_offer, FitsBy, FitsHistory, IsSnapshotAt, IsAwaited, offer_slot}
 pub use Rattle.mm_recovery.specs.LastAnswer.{IsSized, position_at, snapshot_at}
@@ -93,7 +94,8 @@ pub use Rattle.mm_host.specs.Continuation.{IsNotBeyond, RequestMayBeUntold, Refu
 pub use Rattle.mm_host.specs.Continuation.{served_calls_in}
 pub use Rattle.mm_host.specs.HonestStore.{ContinuesFrom, MayGoOn, SessionContinues}
 pub use Rattle.mm_host.specs.Continuation.{waiting_position}
-pub use Rattle.mm_host.specs.Sessions.{session_result_of, refusal_text, reply_text, SendsReply, TellsReply, told_cause, served_lines}
+pub use Rattle.mm_host.specs.SessionStanding.{host_of, SessionStanding, session_standing}
+pub use Rattle.mm_host.specs.Sessions.{place_of, session_result_of, refusal_text, reply_text, SendsReply, TellsReply, told_cause, served_lines}
 pub use Rattle.mm_host.specs.Sessions.{SessionPlace, replies_to, ServedCall, ServesCalls, SessionGoesAfterResume, BytesBeginWith}
 pub use Rattle.mm_host.specs.Sessions.{turn_answer_of, IsAtRest, most_lines, IsSession, SessionStopsAtOnce, SessionStopsInLine}
 pub use Rattle.mm_host.specs.Sessions.{AsksAndTells, TurnGoes, ServesInput, ServesLine, ServesNext, TurnSends}

@@ -7,6 +7,7 @@ use Rattle.mm_host.proofs.Below.{offer_slot, offer_after, IsCall, IsInHand, firs
 use Rattle.mm_host.proofs.Below.{HostGoesAfterFinding, HostGoesAfterOffer, result_of_start, SendsReply, reply_text, snapshot_at}
 use Rattle.mm_host.proofs.Below.{SessionPlace, ServedCall, ServesCalls, SessionGoesAfterResume, BytesBeginWith, IsSession}
 use Rattle.mm_host.proofs.Below.{SessionStopsAtOnce, IsWaiting, Saw, one_waiting, saw_two, AreAmong, requests_with, served_lines, Answer}
+use Rattle.mm_host.proofs.Below.{HostStanding, host_standing, SessionStanding, host_of}
 use Rattle.mm_recovery.specs.declared.fault.HostFault.TheVariants as host
 use Rattle.mm_host.specs.Sessions.{SessionGoesOn, ServesAllLines}
 use Rattle.mm_host.proofs.Lines.{answered_call, asks, by_end, by_told, IsRead, line_tries, lines_in, never_refused, TellsCall}
@@ -40,19 +41,19 @@ pub data Begun (variant : Variant) (meaning : Meaning) (before after : Standing)
 
 module _ (variant : Variant) (meaning : Meaning) where
   pub served_calls : (from to : SessionPlace) (calls : List ServedCall) → ServesCalls variant meaning from calls to
-      → CallsInTurn variant meaning (snapshot_at from.last) from.platform calls to.platform
-  served_calls from to [] s = ap (λ (p : SessionPlace). p.platform) s
+      → CallsInTurn variant meaning (snapshot_at from.last) from.host.standing calls to.host.standing
+  served_calls from to [] s = ap (λ (p : SessionPlace). p.host.standing) s
   served_calls from to (c ∷ calls) s = (
-    s.platform,
+    s.host.standing,
     answered_call c.answer (line_tries s.asks),
-    served_calls (record { platform = s.platform; store = s.store; last = Answered c.answer }) to calls s.rest,
+    served_calls (record { host = s.host; last = Answered c.answer }) to calls s.rest,
   )
 
   pub last_offer : (from to : SessionPlace) (calls : List ServedCall) → ServesCalls variant meaning from calls to
       → offer_after (snapshot_at from.last) calls ≡ snapshot_at to.last
   last_offer from to [] s = ap (λ (p : SessionPlace). snapshot_at p.last) (sym s)
   last_offer from to (c ∷ calls) s =
-      last_offer (record { platform = s.platform; store = s.store; last = Answered c.answer }) to calls s.rest
+      last_offer (record { host = s.host; last = Answered c.answer }) to calls s.rest
 
   pub calls_split : (offer : List ℕ) (before after : Standing) (front behind : List ServedCall)
       → CallsInTurn variant meaning offer before (front ++ behind) after
@@ -64,20 +65,20 @@ module _ (variant : Variant) (meaning : Meaning) where
       (r.0, (h.0, h.1, r.1), r.2)
 
 -- the lines that were served, and how they end
-module _ {variant : Variant} {meaning : Meaning} {from : SessionPlace} {after : Standing} {new : StoreStanding} {left : Option (List ℕ)}
+module _ {variant : Variant} {meaning : Meaning} {from : SessionPlace} {new : HostStanding} {left : Option (List ℕ)}
     {taken sent : List ℕ} {result : Result Unit SessionFault}
-    (l : ServesAllLines variant meaning 1 from after new left taken sent result) where
+    (l : ServesAllLines variant meaning 1 from new left taken sent result) where
   abbrev pub InHand : List ℕ → Type 0
   InHand request = (held : List ℕ) × BytesBeginWith l.more request held
 
-  abbrev pub lines_chain : Chain variant meaning (snapshot_at from.last) from.platform after l.calls InHand result
+  abbrev pub lines_chain : Chain variant meaning (snapshot_at from.last) from.host.standing new.standing l.calls InHand result
   lines_chain = record {
-    at = l.at.platform;
+    at = l.at.host.standing;
     calls = served_calls variant meaning from l.at l.calls l.serves;
     ends = rw (last_offer variant meaning from l.at l.calls l.serves)
-        (by_end (λ r. Ends variant meaning l.at.platform after (snapshot_at l.at.last) InHand r) result l
+        (by_end (λ r. Ends variant meaning l.at.host.standing new.standing (snapshot_at l.at.last) InHand r) result l
         (λ fault e. stops e.line (e.held, e.begins) e.came (line_tries e.asks) l.last fault e.says refl)
-        (λ by r. rests r.platform (λ why e. rw e at by)));
+        (λ by r. rests (ap (λ (h : HostStanding). h.standing) r.still) (λ why e. rw e at by)));
   }
 
 module _ (variant : Variant) (meaning : Meaning) (before after : Standing) where
@@ -92,21 +93,22 @@ module _ (variant : Variant) (meaning : Meaning) (before after : Standing) where
     begun_repeat : (offer : Result (List ℕ) StoreFault) (came : Result Resumed HostFault) (old middle new : StoreStanding)
         (p : PendingRecord)
         → old.slots ≡ Some slots → ReadsSlot (offer_slot p) old middle offer
-        → HostGoesAfterOffer variant meaning before after offer middle new p came
+        → HostGoesAfterOffer variant meaning offer (host_standing before middle) (host_standing after new) p came
         → Begun variant meaning before after (first_offer slots (Some p)) (Some p) came
-    begun_repeat (Err why) came old middle new p told r g = failed g.0 why g.2
+    begun_repeat (Err why) came old middle new p told r g = failed (ap (λ (h : HostStanding). h.standing) g.0) why g.1
     begun_repeat (Ok bytes) came old middle new p told r g =
         repeats p refl g.asked (rw (r.gives slots told) at g.asks) (tells_call g.asked middle new came g.goes)
 
     begun_found : (found : Result (Option PendingRecord) StoreFault) (came : Result Resumed HostFault) (waiting : Option PendingRecord)
         (first middle new : StoreStanding) → IsWaiting (slot_front slots 2) (slot_front slots 3) waiting → Saw slots first middle found
-        → HostGoesAfterFinding variant meaning before after found middle new came
+        → HostGoesAfterFinding variant meaning found (host_standing before middle) (host_standing after new) came
         → Begun variant meaning before after (first_offer slots waiting) waiting came
-    begun_found (Err why) came waiting first middle new w s g = failed g.0 why g.2
+    begun_found (Err why) came waiting first middle new w s g = failed (ap (λ (h : HostStanding). h.standing) g.0) why g.1
     begun_found (Ok found) came waiting first middle new w s g =
         rw (one_waiting (slot_front slots 2) (slot_front slots 3) waiting found w (s.waiting found refl)) (by_found found g)
       where
-        by_found : (found : Option PendingRecord) → HostGoesAfterFinding variant meaning before after (Ok found) middle new came
+        by_found : (found : Option PendingRecord)
+            → HostGoesAfterFinding variant meaning (Ok found) (host_standing before middle) (host_standing after new) came
             → Begun variant meaning before after (first_offer slots found) found came
         by_found None g = begun_start g.1.zero came middle new g.0 s.told g.1.reads g.1.gives
         by_found (Some p) g = begun_repeat g.offer came middle g.middle new p s.told g.reads g.goes
@@ -121,14 +123,14 @@ module _ (variant : Variant) (meaning : Meaning) (before after : Standing) where
   begun_by_zero (Err why) came same e = ([], None, failed same why e)
 
   begun_by_offer : (offer : Result (List ℕ) StoreFault) (came : Result Resumed HostFault) (middle new : StoreStanding) (p : PendingRecord)
-      → HostGoesAfterOffer variant meaning before after offer middle new p came → BegunSomehow came
-  begun_by_offer (Err why) came middle new p g = ([], None, failed g.0 why g.2)
+      → HostGoesAfterOffer variant meaning offer (host_standing before middle) (host_standing after new) p came → BegunSomehow came
+  begun_by_offer (Err why) came middle new p g = ([], None, failed (ap (λ (h : HostStanding). h.standing) g.0) why g.1)
   begun_by_offer (Ok bytes) came middle new p g =
       (bytes, Some p, repeats p refl g.asked g.asks (tells_call g.asked middle new came g.goes))
 
   begun_somehow : (found : Result (Option PendingRecord) StoreFault) (came : Result Resumed HostFault) (middle new : StoreStanding)
-      → HostGoesAfterFinding variant meaning before after found middle new came → BegunSomehow came
-  begun_somehow (Err why) came middle new g = ([], None, failed g.0 why g.2)
+      → HostGoesAfterFinding variant meaning found (host_standing before middle) (host_standing after new) came → BegunSomehow came
+  begun_somehow (Err why) came middle new g = ([], None, failed (ap (λ (h : HostStanding). h.standing) g.0) why g.1)
   begun_somehow (Ok None) came middle new g = begun_by_zero g.1.zero came g.0 g.1.gives
   begun_somehow (Ok (Some p)) came middle new g = begun_by_offer g.offer came g.middle new p g.goes
 
@@ -167,24 +169,23 @@ module _ (variant : Variant) (meaning : Meaning) (before after : Standing) (offe
   at_once waiting begun taken sent result s (repeats p some call c t) =
       stops p.request (p, some, refl) begun (asks call c t) sent s.fault s.says s.stops
 
-module _ {variant : Variant} {meaning : Meaning} {before after : Standing} {old new : StoreStanding}
-    {left left' received received' : Option (List ℕ)} {result : Result Unit SessionFault}
-    (s : IsSession variant meaning before after old new left left' received received' result) where
+module _ {variant : Variant} {meaning : Meaning} {old new : SessionStanding} {result : Result Unit SessionFault}
+    (s : IsSession variant meaning old new result) where
   -- a session that began so
-  module _ (offer : List ℕ) (waiting : Option PendingRecord) (begun_by : Begun variant meaning before s.platform offer waiting s.begun)
+  module _ (offer : List ℕ) (waiting : Option PendingRecord) (begun_by : Begun variant meaning old.standing s.middle.standing offer waiting s.begun)
     where
-      pub first_by : (first : Resumed) → s.begun ≡ Ok first → FirstCalls variant meaning before s.platform offer waiting first
+      pub first_by : (first : Resumed) → s.begun ≡ Ok first → FirstCalls variant meaning old.standing s.middle.standing offer waiting first
       first_by first e =
-          first_calls variant meaning before s.platform offer waiting first
+          first_calls variant meaning old.standing s.middle.standing offer waiting first
           (rw e at begun_by)
 
-      chain_by : (goes : SessionGoesAfterResume variant meaning s.begun s.platform after s.store new left' s.taken s.sent result)
-          → Chain variant meaning offer before after (served_calls_in waiting goes) (IsInHand waiting goes) result
+      chain_by : (goes : SessionGoesAfterResume variant meaning s.begun s.middle (host_of new) new.left s.taken s.sent result)
+          → Chain variant meaning offer old.standing new.standing (served_calls_in waiting goes) (IsInHand waiting goes) result
       chain_by (inl e) = record {
-        at = before;
+        at = old.standing;
         calls = refl;
-        ends = at_once variant meaning before after offer waiting s.begun s.taken s.sent result e.2
-            (rw e.0 begun_by);
+        ends = at_once variant meaning old.standing new.standing offer waiting s.begun s.taken s.sent result e.1
+            (rw (ap (λ (h : HostStanding). h.standing) e.0) begun_by);
       }
       chain_by (inr g) =
           let l = lines_chain g.lines in
@@ -195,8 +196,8 @@ module _ {variant : Variant} {meaning : Meaning} {before after : Standing} {old 
             ends = rw (f.offers g.lines.calls) l.ends;
           }
 
-      among_by : (input : List ℕ) → IsRead input s.taken left'
-          → (goes : SessionGoesAfterResume variant meaning s.begun s.platform after s.store new left' s.taken s.sent result)
+      among_by : (input : List ℕ) → IsRead input s.taken new.left
+          → (goes : SessionGoesAfterResume variant meaning s.begun s.middle (host_of new) new.left s.taken s.sent result)
           → AreAmong (served_calls_in waiting goes) (IsInHand waiting goes) (requests_with waiting (lines_of input))
       among_by input read (inl e) = record {
         served = (requests_with waiting (lines_of input), refl);
@@ -218,25 +219,25 @@ module _ {variant : Variant} {meaning : Meaning} {before after : Standing} {old 
           }
 
   -- over a store that tells its slots
-  module _ (slots : Slots) (waiting : Option PendingRecord) (slots_told : old.slots ≡ Some slots)
+  module _ (slots : Slots) (waiting : Option PendingRecord) (slots_told : old.kept.slots ≡ Some slots)
       (w : IsWaiting (slot_front slots 2) (slot_front slots 3) waiting) where
-    pub begun_told : Begun variant meaning before s.platform (first_offer slots waiting) waiting s.begun
+    pub begun_told : Begun variant meaning old.standing s.middle.standing (first_offer slots waiting) waiting s.begun
     begun_told =
         let r = s.resumes in
-        begun_found variant meaning before s.platform slots r.waiting s.begun waiting old r.middle s.store w
-        (saw_two slots r.finds.two old r.finds.middle r.middle r.waiting slots_told r.finds.reads r.finds.goes) r.goes
+        begun_found variant meaning old.standing s.middle.standing slots r.waiting s.begun waiting old.kept r.middle s.middle.kept w
+        (saw_two slots r.finds.two old.kept r.finds.middle r.middle r.waiting slots_told r.finds.reads r.finds.goes) r.goes
 
-    pub chain_of : Chain variant meaning (first_offer slots waiting) before after (served_calls_in waiting s.goes)
+    pub chain_of : Chain variant meaning (first_offer slots waiting) old.standing new.standing (served_calls_in waiting s.goes)
         (IsInHand waiting s.goes) result
     chain_of = chain_by (first_offer slots waiting) waiting begun_told s.goes
 
-    pub among_input : (input : List ℕ) → left ≡ Some input
+    pub among_input : (input : List ℕ) → old.left ≡ Some input
         → AreAmong (served_calls_in waiting s.goes) (IsInHand waiting s.goes) (requests_with waiting (lines_of input))
     among_input input e =
-        among_by (first_offer slots waiting) waiting begun_told input (read_of left left' input s.taken e s.consumed) s.goes
+        among_by (first_offer slots waiting) waiting begun_told input (read_of old.left new.left input s.taken e s.consumed) s.goes
 
     -- what was told first
-    pub first_told : (g : SessionGoesOn variant meaning s.begun s.platform after s.store new left' s.taken s.sent result)
+    pub first_told : (g : SessionGoesOn variant meaning s.begun s.middle (host_of new) new.left s.taken s.sent result)
         (rest : List (List ℕ))
         → served_lines (first_served_call waiting g.first ++ g.lines.calls) ++ rest ≡ requests_with waiting
         (served_lines g.lines.calls ++ rest)
@@ -246,10 +247,10 @@ module _ {variant : Variant} {meaning : Meaning} {before after : Standing} {old 
   pub record SomeChain : Type 0 where
     pub offer : List ℕ
     pub waiting : Option PendingRecord
-    pub chain : Chain variant meaning offer before after (served_calls_in waiting s.goes) (IsInHand waiting s.goes) result
+    pub chain : Chain variant meaning offer old.standing new.standing (served_calls_in waiting s.goes) (IsInHand waiting s.goes) result
 
   pub some_chain : SomeChain
   some_chain =
       let r = s.resumes in
-      let b = begun_somehow variant meaning before s.platform r.waiting s.begun r.middle s.store r.goes in
+      let b = begun_somehow variant meaning old.standing s.middle.standing r.waiting s.begun r.middle s.middle.kept r.goes in
       record { offer = b.0; waiting = b.1; chain = chain_by b.0 b.1 b.2 s.goes }

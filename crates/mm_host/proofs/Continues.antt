@@ -3,6 +3,7 @@ use Rattle.mm_host.proofs.Below.{◌≡◌, ◌∙◌, ℕ, List, Option, None, 
 use Rattle.mm_host.proofs.Below.{opt_instance, History, Variant, Basic, Opt, inl, StoreStanding, PendingRecord, Slots, SessionFault}
 use Rattle.mm_host.proofs.Below.{ContinuesFrom, MayGoOn, MayStart, SessionContinues, FitsBy, history_with_values, names_alike, IsGenuine}
 use Rattle.mm_host.proofs.Below.{first_offer, IsSnapshotAt, one_content, StepFault}
+use Rattle.mm_host.proofs.Below.{SessionStanding}
 use Rattle.mm_platform.specs.Steps.{items_beside, StepGoes, ReadCell}
 use Rattle.mm_host.proofs.Leading.{basic_laws}
 use Rattle.mm_host.proofs.OptLeading.{opt_laws}
@@ -49,37 +50,34 @@ module _ (meaning : Meaning) (key barrier : List ℕ) (y : History) (values : Li
   fits_looked None f = (f.0, holds_looked _ _ f.1)
   fits_looked (Some p) f = (f.0, holds_looked _ _ f.1)
 
-continue_over : (variant : Variant) (meaning : Meaning) → IsLawful meaning → (entry before after : Standing) (values : List (List ℕ))
-    → before.cell ≡ entry.cell → before.items ≡ items_beside values entry.items
-    → (old new : StoreStanding) (left left' received received' : Option (List ℕ)) (result : Result Unit SessionFault)
-    → ContinuesFrom variant meaning entry before after old new left left' received received' result
-continue_over Basic meaning lawful entry before after values cell looked old new left left' received received' result =
+continue_over : (variant : Variant) (meaning : Meaning) → IsLawful meaning → (entry : Standing) (old new : SessionStanding)
+    (values : List (List ℕ)) → old.standing.cell ≡ entry.cell → old.standing.items ≡ items_beside values entry.items
+    → (result : Result Unit SessionFault) → ContinuesFrom variant meaning entry old new result
+continue_over Basic meaning lawful entry old new values cell looked result =
     λ s key y slots all others asked requests may f among.
-    continues_to (basic_laws meaning lawful key all others asked after may.clear may.apart) s y y slots may.fits.waiting may.told may.honest
+    continues_to (basic_laws meaning lawful key all others asked new.standing may.clear may.apart) s y y slots may.fits.waiting may.told may.honest
     may.fits.is_waiting may.fits.fits requests (record {
       stands = record { spells = may.stands.spells; cell = cell ∙ may.stands.cell; register = tt };
       within = may.within;
       genuine = (starts_by may).genuine;
       same = refl;
     }) (inl tt) f among (λ p. p)
-continue_over Opt meaning lawful entry before after values cell looked old new left left' received received' result =
+continue_over Opt meaning lawful entry old new values cell looked result =
     λ s key barrier y slots all others asked requests items more may f among known ends shown_so.
-    let e = enter_by meaning lawful entry before after values cell looked s key barrier y slots all others asked requests items more
+    let e = enter_by meaning lawful entry old new values cell looked s key barrier y slots all others asked requests items more
     (starts_by may) known ends y.is_open refl shown_so in
-    continues_to (opt_laws meaning lawful key barrier all others asked after may.clear may.apart) s (history_with_values y values) y slots
+    continues_to (opt_laws meaning lawful key barrier all others asked new.standing may.clear may.apart) s (history_with_values y values) y slots
     may.fits.waiting may.told may.honest may.fits.is_waiting (fits_looked meaning key barrier y values slots may.fits.waiting may.fits.fits)
     requests e.0 e.1 f among (powered_looked values y)
 
 -- behind a reading of the cell, whether that failed or not
 pub continues_from : (variant : Variant) (meaning : Meaning) → IsLawful meaning
-    → (entry before after : Standing) (fault : Option StepFault) (old new : StoreStanding) (left left' received received' : Option (List ℕ))
-    (result : Result Unit SessionFault) → StepGoes ReadCell entry before fault
-    → ContinuesFrom variant meaning entry before after old new left left' received received' result
-continues_from variant meaning lawful entry before after fault old new left left' received received' result g =
-    continue_over variant meaning lawful entry before after g.others g.cell g.items old new left left' received received' result
+    → (entry : Standing) (fault : Option StepFault) (old new : SessionStanding) (result : Result Unit SessionFault)
+    → StepGoes ReadCell entry old.standing fault → ContinuesFrom variant meaning entry old new result
+continues_from variant meaning lawful entry fault old new result g =
+    continue_over variant meaning lawful entry old new g.others g.cell g.items result
 
 pub session_continues : (variant : Variant) (meaning : Meaning) → IsLawful meaning
-    → (before after : Standing) (old new : StoreStanding) (left left' received received' : Option (List ℕ))
-    (result : Result Unit SessionFault) → SessionContinues variant meaning before after old new left left' received received' result
-session_continues variant meaning lawful before after =
-    continue_over variant meaning lawful before before after [] refl (nothing_beside before.items)
+    → (old new : SessionStanding) (result : Result Unit SessionFault) → SessionContinues variant meaning old new result
+session_continues variant meaning lawful old new =
+    continue_over variant meaning lawful old.standing old new [] refl (nothing_beside old.standing.items)

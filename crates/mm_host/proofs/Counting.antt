@@ -1,11 +1,12 @@
 -- What a session counts, by the steps: whose fault it is that it ends, and how often it is to write the cell.
 use Rattle.mm_host.proofs.Below.{ℕ, ◌≡◌, ◌≢◌, ◌+◌, ◌≤◌, List, [], ◌∷◌, length, Option, None, Some, Result, Ok, Err, refl, ap, ◌∙◌, subst}
 use Rattle.mm_host.proofs.Below.{inl, inr, arith, is_some, length-append, lines_of, lines_of-joined, lines_of-line, Variant, Basic, Opt}
-use Rattle.mm_host.proofs.Below.{Standing, StepFault, Meaning, Refusal, CountsHandedFault, fault_of, StoreStanding, HostFault, SessionFault}
+use Rattle.mm_host.proofs.Below.{Standing, StepFault, Meaning, Refusal, CountsHandedFault, fault_of, HostFault, SessionFault}
 use Rattle.mm_host.proofs.Below.{Host, Resumed, Start, Answered, RequestMayBeUntold, SendsReply, told_cause, refusal_text, reply_text}
 use Rattle.mm_host.proofs.Below.{SessionPlace, ServedCall, ServesCalls, served_lines, SessionGoesAfterResume, BytesBeginWith, IsSession}
 use Rattle.mm_host.proofs.Below.{Told, next_told, resumes_told, AnsweredWrites, CameWrites, answered_writes, both_writes, next_came}
 use Rattle.mm_host.proofs.Below.{new_most, resumes_came, counted_most, joined, leads_rest, rests}
+use Rattle.mm_host.proofs.Below.{HostStanding, SessionStanding, host_of}
 use Rattle.std.specs.Prelude.{IsSome}
 use Rattle.mm_model.specs.declared.refusal.Refusal.TheVariants.{Device}
 use Rattle.mm_play.specs.PlaysInput.{IsBlamed}
@@ -19,9 +20,9 @@ use Rattle.mm_host.proofs.Lines.{by_end, by_told, IsByInput, length-served_lines
 
 -- Lines that were answered: no count of faults rises, and the new ones write the cell.
 record Counts (variant : Variant) (requests : ℕ) (from to : SessionPlace) : Type 0 where
-  platform : to.platform.faults ≡ from.platform.faults
-  store : to.store.faults ≡ from.store.faults
-  wrote : AnsweredWrites variant requests from.platform to.platform
+  platform : to.host.standing.faults ≡ from.host.standing.faults
+  store : to.host.kept.faults ≡ from.host.kept.faults
+  wrote : AnsweredWrites variant requests from.host.standing to.host.standing
 
 served_counts : (variant : Variant) (meaning : Meaning) (from to : SessionPlace) (calls : List ServedCall)
     → ServesCalls variant meaning from calls to
@@ -30,49 +31,47 @@ served_counts variant meaning from to [] s = rw s (record {
   platform = refl;
   store = refl;
   wrote = record {
-    writes = rests variant from.platform from.platform refl;
-    leads = leads_rest variant from.platform from.platform refl;
+    writes = rests variant from.host.standing from.host.standing refl;
+    leads = leads_rest variant from.host.standing from.host.standing refl;
   };
 })
 served_counts variant meaning from to (c ∷ calls) s =
-    let t = next_told variant meaning from.platform s.platform from.store s.store from.last c.line (Ok (Answered c.answer)) s.asks in
-    let w = next_came variant meaning from.platform s.platform from.store s.store from.last c.line (Ok (Answered c.answer)) s.asks in
-    let next : SessionPlace = record { platform = s.platform; store = s.store; last = Answered c.answer } in
+    let t = next_told variant meaning from.host s.host from.last c.line (Ok (Answered c.answer)) s.asks in
+    let w = next_came variant meaning from.host s.host from.last c.line (Ok (Answered c.answer)) s.asks in
+    let next : SessionPlace = record { host = s.host; last = Answered c.answer } in
     let rest = served_counts variant meaning next to calls s.rest in
     record {
       platform = rest.platform ∙ t.blamed.0;
       store = rest.store ∙ t.blamed.1;
-      wrote = both_writes variant (new_requests_by c.answer.again) (new_lines calls) from.platform s.platform to.platform
-          (answered_writes variant (Answered c.answer) from.platform s.platform w) rest.wrote;
+      wrote = both_writes variant (new_requests_by c.answer.again) (new_lines calls) from.host.standing s.host.standing to.host.standing
+          (answered_writes variant (Answered c.answer) from.host.standing s.host.standing w) rest.wrote;
     }
 
 -- What is said of a session's end and of the request in hand.
-pub record Says (requests : ℕ) (before after : Standing) (old new : StoreStanding) (result : Result Unit SessionFault) : Type 0 where
-  pub platform : IsBlamed (is_platform_fault result) before.faults after.faults
-  pub store : IsBlamed (is_store_fault result) old.faults new.faults
+pub record Says (requests : ℕ) (old new : HostStanding) (result : Result Unit SessionFault) : Type 0 where
+  pub platform : IsBlamed (is_platform_fault result) old.standing.faults new.standing.faults
+  pub store : IsBlamed (is_store_fault result) old.kept.faults new.kept.faults
   pub named : IsRefusalNamed result
   pub untold : requests ≢ 0 → RequestMayBeUntold result
 
 -- What a session counts: of the new requests those that were told, and the one in hand.
-pub record Counted (variant : Variant) (told most : ℕ) (result : Result Unit SessionFault) (before after : Standing)
-    (old new : StoreStanding) : Type 0 where
+pub record Counted (variant : Variant) (told most : ℕ) (result : Result Unit SessionFault) (old new : HostStanding) : Type 0 where
   pub in_hand : ℕ
-  pub says : Says in_hand before after old new result
+  pub says : Says in_hand old new result
   pub one : in_hand ≤ 1
   pub few : told + in_hand ≤ most
-  pub writes : CellIsWrittenFor variant (told + in_hand) before after
+  pub writes : CellIsWrittenFor variant (told + in_hand) old.standing new.standing
 
 -- the fault that came
 blames_by : (broken : Option StepFault) (before now : ℕ) → CountsHandedFault broken before now → IsBlamed (is_some broken) before now
 blames_by None before now b = b
 blames_by (Some fault) before now b = b
 
-host_blamed : (fault : HostFault) (before after : Standing) (old new : StoreStanding)
-    → BlamesHostFault {T = Resumed} (Err fault) before after old new
-    → IsBlamed (is_platform_fault {T = Unit} (Err (Host fault))) before.faults after.faults
-    × IsBlamed (is_store_fault {T = Unit} (Err (Host fault))) old.faults new.faults
-host_blamed (host.Refused why) before after old new b = (blames_by (fault_of why) before.faults after.faults b.0, b.1)
-host_blamed _ before after old new b = b
+host_blamed : (fault : HostFault) (old new : HostStanding) → BlamesHostFault {T = Resumed} (Err fault) old new
+    → IsBlamed (is_platform_fault {T = Unit} (Err (Host fault))) old.standing.faults new.standing.faults
+    × IsBlamed (is_store_fault {T = Unit} (Err (Host fault))) old.kept.faults new.kept.faults
+host_blamed (host.Refused why) old new b = (blames_by (fault_of why) old.standing.faults new.standing.faults b.0, b.1)
+host_blamed _ old new b = b
 
 -- a refusal that is told is no fault of a device
 told_no_device : (why : Refusal) → refusal_text (told_cause why) ≢ [] → fault_of why ≡ None
@@ -80,11 +79,11 @@ told_no_device (Device broken) h = absurd (h refl)
 told_no_device _ h = refl
 
 -- where a text is told, no count rose
-quiet_told : (came : Result Resumed HostFault) (before after : Standing) (old new : StoreStanding) → reply_text came ≢ []
-    → BlamesHostFault came before after old new → (after.faults ≡ before.faults) × (new.faults ≡ old.faults)
-quiet_told (Err host.Store) before after old new h b = absurd (h refl)
-quiet_told (Err (host.Refused why)) before after old new h b = (rw (told_no_device why h) at b.0, b.1)
-quiet_told _ before after old new h b = b
+quiet_told : (came : Result Resumed HostFault) (old new : HostStanding) → reply_text came ≢ [] → BlamesHostFault came old new
+    → (new.standing.faults ≡ old.standing.faults) × (new.kept.faults ≡ old.kept.faults)
+quiet_told (Err host.Store) old new h b = absurd (h refl)
+quiet_told (Err (host.Refused why)) old new h b = (rw (told_no_device why h) at b.0, b.1)
+quiet_told _ old new h b = b
 
 -- of a request that isn't told
 new_at : (broken : Option StepFault) (n : ℕ) → IsNewAt broken n → (n ≤ 1) × (n ≢ 0 → IsSome broken)
@@ -104,52 +103,51 @@ untold_at : (fault : HostFault) (n : ℕ) → IsNewOf (Err fault) n → n ≢ 0 
 untold_at (host.Refused why) n h k = (new_at (fault_of why) n h).1 k
 untold_at _ n h k = tt
 
-counted_of : (variant : Variant) (requests most : ℕ) (result : Result Unit SessionFault) (before after : Standing) (old new : StoreStanding)
-    → Says requests before after old new result → requests ≤ 1 → requests ≤ most → CellIsWrittenFor variant requests before after
-    → Counted variant 0 most result before after old new
-counted_of variant requests most result before after old new s one few writes =
+counted_of : (variant : Variant) (requests most : ℕ) (result : Result Unit SessionFault) (old new : HostStanding)
+    → Says requests old new result → requests ≤ 1 → requests ≤ most → CellIsWrittenFor variant requests old.standing new.standing
+    → Counted variant 0 most result old new
+counted_of variant requests most result old new s one few writes =
     let none : 0 + requests ≡ requests = omega arith in
     record { in_hand = requests; says = s; one = one; few = omega (arith, few); writes = rw none writes }
 
 said_counted : (variant : Variant) (came : Result Resumed HostFault) (sent : List ℕ) (fault : SessionFault) (most : ℕ)
-    (before after : Standing) (old new : StoreStanding) → SendsReply came sent (Err fault) → Told came before after old new
-    → CameWrites variant came before after → 1 ≤ most → Counted variant 0 most (Err fault) before after old new
-said_counted variant came sent fault most before after old new s t c h =
+    (old new : HostStanding) → SendsReply came sent (Err fault) → Told came old new
+    → CameWrites variant came old.standing new.standing → 1 ≤ most → Counted variant 0 most (Err fault) old new
+said_counted variant came sent fault most old new s t c h =
     let one = came_most came c.requests c.is_new in
-    let says : Says c.requests before after old new (Err fault) =
-    by_told (λ (f : SessionFault). Says c.requests before after old new (Err f)) came sent fault s
+    let says : Says c.requests old new (Err fault) =
+    by_told (λ (f : SessionFault). Says c.requests old new (Err f)) came sent fault s
     (λ (why : HostFault) (e : came ≡ Err why).
-    let told : Told (Err why) before after old new = rw e at t in
-    let b = host_blamed why before after old new told.blamed in record {
+    let told : Told (Err why) old new = rw e at t in
+    let b = host_blamed why old new told.blamed in record {
       platform = b.0;
       store = b.1;
       named = record { remembered = λ e. told.named.remembered (cc); short = λ e. told.named.short (cc); hosts = λ e. absurd (cc) };
       untold = λ k. untold_at why c.requests (rw e at c.is_new) k;
     })
-    (λ n. let q = quiet_told came before after old new n t.blamed in
+    (λ n. let q = quiet_told came old new n t.blamed in
     record {
       platform = q.0;
       store = q.1;
       named = record { remembered = λ e. absurd (cc); short = λ e. absurd (cc); hosts = λ e. absurd (cc) };
       untold = λ k. refl;
     }) in
-    counted_of variant c.requests most (Err fault) before after old new says one (omega (arith, one, h)) c.writes
+    counted_of variant c.requests most (Err fault) old new says one (omega (arith, one, h)) c.writes
 
 -- at rest
-rest_says : (result : Result Unit SessionFault) (before after : Standing) (old new : StoreStanding) → IsByInput result
-    → (after.faults ≡ before.faults) × (new.faults ≡ old.faults) → Says 0 before after old new result
-rest_says (Err (Host fault)) before after old new by q = absurd by
-rest_says result before after old new by q = record {
-  platform = q.0;
-  store = q.1;
+rest_says : (result : Result Unit SessionFault) (old new : HostStanding) → IsByInput result → new ≡ old → Says 0 old new result
+rest_says (Err (Host fault)) old new by q = absurd by
+rest_says result old new by q = record {
+  platform = ap (λ (h : HostStanding). h.standing.faults) q;
+  store = ap (λ (h : HostStanding). h.kept.faults) q;
   named = record { remembered = λ e. absurd (cc); short = λ e. absurd (cc); hosts = λ e. subst IsByInput e by };
   untold = λ k. absurd (k refl);
 }
 
 -- the end of the lines
-module _ (variant : Variant) (meaning : Meaning) (from : SessionPlace) (after : Standing) (new : StoreStanding) (left : Option (List ℕ))
+module _ (variant : Variant) (meaning : Meaning) (from : SessionPlace) (new : HostStanding) (left : Option (List ℕ))
     (taken sent : List ℕ) (result : Result Unit SessionFault)
-    (l : ServesAllLines variant meaning 1 from after new left taken sent result) where
+    (l : ServesAllLines variant meaning 1 from new left taken sent result) where
   has_line : (line held : List ℕ) → BytesBeginWith l.more line held → 1 ≤ length (lines_of l.more)
   has_line line held b =
       let counted : length (lines_of l.more) ≡ length (line ∷ lines_of held) =
@@ -157,16 +155,14 @@ module _ (variant : Variant) (meaning : Meaning) (from : SessionPlace) (after : 
       ∙ ap (λ (ls : List (List ℕ)). length ls) (lines_of-line line held b.within.unbroken) in
       omega (arith, counted)
 
-  ends_counted : Counted variant 0 (length (lines_of l.more)) result l.at.platform after l.at.store new
+  ends_counted : Counted variant 0 (length (lines_of l.more)) result l.at.host new
   ends_counted =
-      by_end (λ r. Counted variant 0 (length (lines_of l.more)) r l.at.platform after l.at.store new) result l
-      (λ fault s. said_counted variant s.came l.last fault (length (lines_of l.more)) l.at.platform after l.at.store new s.says
-      (next_told variant meaning l.at.platform after l.at.store new l.at.last s.line s.came s.asks)
-      (next_came variant meaning l.at.platform after l.at.store new l.at.last s.line s.came s.asks) (has_line s.line s.held s.begins))
-      (λ by r. counted_of variant 0 (length (lines_of l.more)) result l.at.platform after l.at.store new
-      (rest_says result l.at.platform after l.at.store new by
-      (ap (λ (x : Standing). x.faults) r.platform, ap (λ (k : StoreStanding). k.faults) r.store)) (omega arith) (omega arith)
-      (rests variant l.at.platform after r.platform))
+      by_end (λ r. Counted variant 0 (length (lines_of l.more)) r l.at.host new) result l
+      (λ fault s. said_counted variant s.came l.last fault (length (lines_of l.more)) l.at.host new s.says
+      (next_told variant meaning l.at.host new l.at.last s.line s.came s.asks)
+      (next_came variant meaning l.at.host new l.at.last s.line s.came s.asks) (has_line s.line s.held s.begins))
+      (λ by r. counted_of variant 0 (length (lines_of l.more)) result l.at.host new (rest_says result l.at.host new by r.still)
+      (omega arith) (omega arith) (rests variant l.at.host.standing new.standing (ap (λ (h : HostStanding). h.standing) r.still)))
 
   taken_lines : length (lines_of taken) ≡ length l.calls + length (lines_of l.more)
   taken_lines =
@@ -188,26 +184,26 @@ for_most Basic n before after w = let most = counted_most n before.writes in ome
 for_most Opt n before after w = w.each
 
 -- a whole session
-module _ {variant : Variant} {meaning : Meaning} {before after : Standing} {old new : StoreStanding}
-    {left left' received received' : Option (List ℕ)} {result : Result Unit SessionFault}
-    (s : IsSession variant meaning before after old new left left' received received' result) where
-  counted_by : (goes : SessionGoesAfterResume variant meaning s.begun s.platform after s.store new left' s.taken s.sent result)
-      → Counted variant (new_told_requests goes) (1 + length (lines_of s.taken)) result before after old new
+module _ {variant : Variant} {meaning : Meaning} {old new : SessionStanding} {result : Result Unit SessionFault}
+    (s : IsSession variant meaning old new result) where
+  counted_by : (goes : SessionGoesAfterResume variant meaning s.begun s.middle (host_of new) new.left s.taken s.sent result)
+      → Counted variant (new_told_requests goes) (1 + length (lines_of s.taken)) result (host_of old) (host_of new)
   counted_by (inl e) =
       let most : ℕ = 1 + length (lines_of s.taken) in
-      rw e.2.stops (rw e.0 (rw e.1 (said_counted variant s.begun s.sent e.2.fault most before s.platform old s.store e.2.says
-      (resumes_told variant meaning before s.platform old s.store s.begun s.resumes)
-      (resumes_came variant meaning before s.platform old s.store s.begun s.resumes) (omega arith))))
+      rw e.1.stops (rw e.0 (said_counted variant s.begun s.sent e.1.fault most (host_of old) s.middle e.1.says
+      (resumes_told variant meaning (host_of old) s.middle s.begun s.resumes)
+      (resumes_came variant meaning (host_of old) s.middle s.begun s.resumes) (omega arith)))
   counted_by (inr g) =
       let l = g.lines in
-      let from : SessionPlace = record { platform = s.platform; store = s.store; last = g.first } in
-      let told : Told (Ok g.first) before s.platform old s.store =
-      rw g.begins at (resumes_told variant meaning before s.platform old s.store s.begun s.resumes) in
-      let first = answered_writes variant g.first before s.platform (rw g.begins at
-      (resumes_came variant meaning before s.platform old s.store s.begun s.resumes)) in
+      let from : SessionPlace = record { host = s.middle; last = g.first } in
+      let told : Told (Ok g.first) (host_of old) s.middle =
+      rw g.begins at (resumes_told variant meaning (host_of old) s.middle s.begun s.resumes) in
+      let first = answered_writes variant g.first old.standing s.middle.standing (rw g.begins at
+      (resumes_came variant meaning (host_of old) s.middle s.begun s.resumes)) in
       let c = served_counts variant meaning from l.at l.calls l.serves in
-      let told_writes = both_writes variant (new_requests_at g.first) (new_lines l.calls) before s.platform l.at.platform first c.wrote in
-      let e = ends_counted variant meaning from after new left' s.taken g.replies result l in
+      let told_writes = both_writes variant (new_requests_at g.first) (new_lines l.calls) old.standing s.middle.standing l.at.host.standing first
+      c.wrote in
+      let e = ends_counted variant meaning from (host_of new) new.left s.taken g.replies result l in
       let none : 0 + e.in_hand ≡ e.in_hand = omega arith in
       record {
         in_hand = e.in_hand;
@@ -223,19 +219,19 @@ module _ {variant : Variant} {meaning : Meaning} {before after : Standing} {old 
           first_most g.first,
           lines_most l.calls,
           e.few,
-          taken_lines variant meaning from after new left' s.taken g.replies result l,
+          taken_lines variant meaning from (host_of new) new.left s.taken g.replies result l,
         );
-        writes = joined variant (new_requests_at g.first + new_lines l.calls) e.in_hand before l.at.platform after told_writes.leads
-            told_writes.writes (rw none at e.writes);
+        writes = joined variant (new_requests_at g.first + new_lines l.calls) e.in_hand old.standing l.at.host.standing new.standing
+            told_writes.leads told_writes.writes (rw none at e.writes);
       }
 
-  pub session_counted : Counted variant (new_told_requests s.goes) (1 + length (lines_of s.taken)) result before after old new
+  pub session_counted : Counted variant (new_told_requests s.goes) (1 + length (lines_of s.taken)) result (host_of old) (host_of new)
   session_counted = counted_by s.goes
 
-  pub session_writes : SessionWrites variant meaning before after old new left left' received received' result
+  pub session_writes : SessionWrites variant meaning old new result
   session_writes =
       let c = session_counted in
-      let most = for_most variant (new_told_requests s.goes + c.in_hand) before after c.writes in record {
+      let most = for_most variant (new_told_requests s.goes + c.in_hand) old.standing new.standing c.writes in record {
         ran = s;
         in_hand = c.in_hand;
         one = c.one;

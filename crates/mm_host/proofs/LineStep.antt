@@ -22,6 +22,7 @@ use Rattle.mm_host.proofs.Leading.{Laws, Reaches}
 use Rattle.mm_host.proofs.Settling.{answers_of, broken_refused, came_by, CameTo, IsSettledAt, refused_in, refused_last, refused_with}
 use Rattle.mm_host.proofs.Settling.{settled_by, went_first}
 use Rattle.mm_host.proofs.Below.{HostGoesAfterRecord, Enters}
+use Rattle.mm_host.proofs.Below.{HostStanding, host_standing}
 use Rattle.mm_host.proofs.Putting.{IsNext, IsPut, fits_next, fits_room, full_fits, put_next, torn_fits, waits_next}
 
 module _ {all others : List (List ℕ)} {asked : List Batch} {i : Instance} {final : Standing} (laws : Laws all others asked i final) where
@@ -31,11 +32,11 @@ module _ {all others : List (List ℕ)} {asked : List Batch} {i : Instance} {fin
 
   -- A session stands for a history that is the same as this one but for others' values, and these lines may be asked from there.
   pub record IsReady {at : SessionPlace} (s : IsSettledAt all others asked i at) (z : History) (lines : List (List ℕ)) : Type 0 where
-    pub between : IsBetween z at.platform (snapshot_at at.last) lines s.after
+    pub between : IsBetween z at.host.standing (snapshot_at at.last) lines s.after
     pub follow : AreAskedInTurn all asked i z (snapshot_at at.last) lines
 
   pub stands_in : {at : SessionPlace} (s : IsSettledAt all others asked i at) (z : History) → IsSame i.variant s.after z
-      → StandsIn all others asked i s.after z at.platform (snapshot_at at.last)
+      → StandsIn all others asked i s.after z at.host.standing (snapshot_at at.last)
   stands_in {at} s z same = record {
     stands = s.stands;
     within = s.within;
@@ -45,13 +46,13 @@ module _ {all others : List (List ℕ)} {asked : List Batch} {i : Instance} {fin
 
   -- the snapshot of an answer says what the history issues
   ready_on : (z : History) (at : SessionPlace) (lines : List (List ℕ)) (s : IsSettledAt all others asked i at)
-      → snapshot_at at.last ≡ issued_bytes i s.after → IsBetween z at.platform (issued_bytes i z) lines s.after
+      → snapshot_at at.last ≡ issued_bytes i s.after → IsBetween z at.host.standing (issued_bytes i z) lines s.after
       → AreAskedInTurn all asked i z (issued_bytes i z) lines → IsReady s z lines
   ready_on z at lines s is between follow =
       let here : issued_bytes i z ≡ snapshot_at at.last =
       sym (is ∙ ap (λ (c : Content). sealed_snapshot_of i.key c) (laws.issue s.after z between.1)) in
       record {
-        between = subst (λ (offer : List ℕ). IsBetween z at.platform offer lines s.after) here between;
+        between = subst (λ (offer : List ℕ). IsBetween z at.host.standing offer lines s.after) here between;
         follow = subst (λ (offer : List ℕ). AreAskedInTurn all asked i z offer lines) here follow;
       }
 
@@ -66,22 +67,22 @@ module _ {all others : List (List ℕ)} {asked : List Batch} {i : Instance} {fin
   offer_then z slots (Some p) = issued_bytes i (waiting_then z slots (Some p))
 
   -- where a session stands once what waits is answered
-  pub ready_first : (y z : History) (slots : Slots) (waiting : Option PendingRecord) (standing : Standing) (kept : StoreStanding)
+  pub ready_first : (y z : History) (slots : Slots) (waiting : Option PendingRecord) (at : HostStanding)
       (first : Resumed) (lines : List (List ℕ)) (f : FitsBy i slots y waiting)
-      (r : RecoversTo all others asked i y slots waiting standing kept (Ok first))
-      → IsBetween (waiting_then z slots waiting) standing (offer_then z slots waiting) lines r.after
+      (r : RecoversTo all others asked i y slots waiting at (Ok first))
+      → IsBetween (waiting_then z slots waiting) at.standing (offer_then z slots waiting) lines r.after
       → AreAskedInTurn all asked i z (first_offer slots waiting) (requests_with waiting lines)
       → IsReady (settled_by waiting first f r) (waiting_then z slots waiting) lines
-  ready_first y z slots None standing kept (Start first) lines f r m follow = record {
+  ready_first y z slots None at (Start first) lines f r m follow = record {
     between = rw r.comes.1 m;
     follow = rw r.comes.1 follow;
   }
-  ready_first y z slots None standing kept (Answered answer) lines f r m follow =
+  ready_first y z slots None at (Answered answer) lines f r m follow =
       let clash : None ≡ Some r.comes.p = r.comes.waits in absurd (cc)
-  ready_first y z slots (Some p) standing kept (Start first) lines f r m follow = let clash : Some p ≡ None = r.comes.0 in absurd (cc)
-  ready_first y z slots (Some p) standing kept (Answered answer) lines f r m follow =
+  ready_first y z slots (Some p) at (Start first) lines f r m follow = let clash : Some p ≡ None = r.comes.0 in absurd (cc)
+  ready_first y z slots (Some p) at (Answered answer) lines f r m follow =
       let a = answers_of i y r.after p answer r.comes in
-      ready_on (waiting_then z slots (Some p)) (record { platform = standing; store = kept; last = Answered answer }) lines
+      ready_on (waiting_then z slots (Some p)) (record { host = at; last = Answered answer }) lines
       (settled_by (Some p) (Answered answer) f r) (ap (λ (b : BatchAnswer). b.snapshot) a.1) m follow.2
 
   -- a call that was answered, with others behind it
@@ -161,8 +162,8 @@ module _ {all others : List (List ℕ)} {asked : List Batch} {i : Instance} {fin
 
     -- once the record is written, the line waits, where there is a position for it
     enters : (room : position < last_position) (it : Unit {0}) (middle : StoreStanding)
-        → WritesSlot slot (pending_spelling next) at.store middle (Ok it)
-        → Enters all others asked i y (put (pending_spelling next)) at.platform middle
+        → WritesSlot slot (pending_spelling next) at.host.kept middle (Ok it)
+        → Enters all others asked i y (put (pending_spelling next)) at.host.standing middle
     enters room it middle w = record {
       honest = w.honest ∙ settled.honest;
       told = w.leaves settled.honest ∙ ap (λ (x : Option Slots). slots_with_bytes slot (pending_spelling next) x) settled.told;
@@ -180,30 +181,32 @@ module _ {all others : List (List ℕ)} {asked : List Batch} {i : Instance} {fin
     -- so what it comes to is a recovery, with more that is known of the history where it is gone on with
     recovered : (room : position < last_position) (More : History → Type 0) (after : Standing) (middle new : StoreStanding)
         (came : Result Resumed HostFault) (it : Unit {0})
-        → WritesSlot slot (pending_spelling next) at.store middle (Ok it)
-        → (g : HostGoesAfterRecord i.variant i.meaning at.platform after (Ok it) middle new at.last line came)
+        → WritesSlot slot (pending_spelling next) at.host.kept middle (Ok it)
+        → (g : HostGoesAfterRecord i.variant i.meaning (Ok it) (host_standing at.host.standing middle) (host_standing after new) at.last line
+        came)
         → (o : Met all others asked i y after offer next (batch_result_of g.asked)) × More o.after
-        → (r : RecoversTo all others asked i y (put (pending_spelling next)) (Some next) after new came)
+        → (r : RecoversTo all others asked i y (put (pending_spelling next)) (Some next) (host_standing after new) came)
         × IfOk came (λ (resumed : Resumed). More r.after)
     unfolding enters
     recovered room More after middle new came it w g leads =
         let slots : Slots = put (pending_spelling next) in
-        let can : Enters all others asked i y slots at.platform middle = enters room it middle w in
+        let can : Enters all others asked i y slots at.host.standing middle = enters room it middle w in
         let o = subst (λ (bytes : List ℕ). (o : Met all others asked i y after bytes next (batch_result_of g.asked)) × More o.after)
         (sym offers)
         leads in
-        let l = left_by all others asked i y slots at.platform middle can More after next (batch_result_of g.asked) refl o.0 o.1 in
+        let l = left_by all others asked i y slots at.host.standing middle can More after next (batch_result_of g.asked) refl o.0 o.1 in
         ask_exit More all others asked i laws.lawful y slots (Some next) next after g.asked middle new came l.0 l.1 g.asks.fits can.honest
         can.told g.goes
 
     -- the record isn't written whole
     unwritten : (why : StoreFault) (middle new : StoreStanding) (came : Result Resumed HostFault) (slots : Slots)
-        → middle.is_honest ≡ at.store.is_honest → (final ≡ at.platform) × (new ≡ middle) × (came ≡ Err (store_fault_as why))
+        → middle.is_honest ≡ at.host.kept.is_honest
+        → (host_standing final new ≡ host_standing at.host.standing middle) × (came ≡ Err (store_fault_as why))
         → middle.slots ≡ Some slots → (IsNotBeyond slots (total_of y.batches + 1) → FitsHistory i slots y)
         → (store_fault_as why ≢ host.Store → FitsHistory i slots y) → CameTo all others asked i y (Some next) final new came
-    unwritten why middle new came slots honest g told fits whole = rw (g.2, g.1) (record {
+    unwritten why middle new came slots honest g told fits whole = rw (g.1, ap (λ (h : HostStanding). h.kept) g.0) (record {
       after = y;
-      stands = rw g.0 settled.stands;
+      stands = rw (ap (λ (h : HostStanding). h.standing) g.0) settled.stands;
       within = settled.within;
       slots_after = slots;
       honest = honest ∙ settled.honest;
@@ -218,8 +221,9 @@ module _ {all others : List (List ℕ)} {asked : List Batch} {i : Instance} {fin
     })
 
     pub line_unwritten : (why : StoreFault) (middle new : StoreStanding) (came : Result Resumed HostFault)
-        → WritesSlot slot (pending_spelling next) at.store middle (Err why)
-        → HostGoesAfterRecord i.variant i.meaning at.platform final (Err why) middle new at.last line came
+        → WritesSlot slot (pending_spelling next) at.host.kept middle (Err why)
+        → HostGoesAfterRecord i.variant i.meaning (Err why) (host_standing at.host.standing middle) (host_standing final new) at.last line
+        came
         → CameTo all others asked i y (Some next) final new came
     line_unwritten fault.Memory middle new came w g =
         unwritten fault.Memory middle new came settled.slots_after w.honest g (w.leaves settled.honest ∙ settled.told) (λ n. settled.fits)
@@ -291,7 +295,7 @@ module _ {all others : List (List ℕ)} {asked : List Batch} {i : Instance} {fin
 
     -- And a line that isn't is refused, and nothing changes: what waited goes on to wait.
     full_last : (full : position ≡ last_position) (middle new : StoreStanding) (came : Result Resumed HostFault)
-        (call : Result Answer Refusal) (it : Unit {0}) → WritesSlot slot (pending_spelling next) at.store middle (Ok it)
+        (call : Result Answer Refusal) (it : Unit {0}) → WritesSlot slot (pending_spelling next) at.host.kept middle (Ok it)
         → HostGoesAfterAsk call middle new came → Met all others asked i y final offer next (batch_result_of call)
         → CameTo all others asked i y (Some next) final new came
     full_last full middle new came (Ok answer) it w g m = absurd (never_answered full final answer m m.comes)
@@ -326,16 +330,17 @@ module _ {all others : List (List ℕ)} {asked : List Batch} {i : Instance} {fin
 
     -- where it may be asked
     module _ (z : History) (lines : List (List ℕ)) (s : IsReady settled z (line ∷ lines)) where
-      here : StandsIn all others asked i y z at.platform offer
+      here : StandsIn all others asked i y z at.host.standing offer
       here = stands_in settled z s.between.1
 
       -- the last line, where it is asked
       pub line_last : (it : Unit {0}) (middle new : StoreStanding) (came : Result Resumed HostFault)
-          → WritesSlot slot (pending_spelling next) at.store middle (Ok it)
-          → HostGoesAfterRecord i.variant i.meaning at.platform final (Ok it) middle new at.last line came
+          → WritesSlot slot (pending_spelling next) at.host.kept middle (Ok it)
+          → HostGoesAfterRecord i.variant i.meaning (Ok it) (host_standing at.host.standing middle) (host_standing final new) at.last line
+          came
           → CameTo all others asked i y (Some next) final new came
       line_last it middle new came w g =
-          let m = met_last laws y z at.platform offer next lines g.asked here s.follow s.between.0 g.asks in
+          let m = met_last laws y z at.host.standing offer next lines g.asked here s.follow s.between.0 g.asks in
           elim (cases_lt position last_position) [
             | inl room ↦ came_by (Some next) came (recovered (omega (arith, room)) NoMore final middle new came it w g (m, tt)).0
             | inr full ↦ full_last (omega (arith, full, most)) middle new came g.asked it w g.goes m
@@ -346,7 +351,7 @@ module _ {all others : List (List ℕ)} {asked : List Batch} {i : Instance} {fin
       then_is = history_after_answer i z offer line
 
       pub record LineGoes (after : Standing) (new : StoreStanding) (answer : Answer) : Type 0 where
-        pub settled_then : IsSettledAt all others asked i (record { platform = after; store = new; last = Answered answer })
+        pub settled_then : IsSettledAt all others asked i (record { host = host_standing after new; last = Answered answer })
         pub ready : IsReady settled_then then_is lines
         pub new_here : (answer.again ≡ false) × (answer.position ≡ total_of y.batches + 1)
         pub total : total_of settled_then.after.batches ≡ total_of y.batches + 1
@@ -355,15 +360,16 @@ module _ {all others : List (List ℕ)} {asked : List Batch} {i : Instance} {fin
         pub powered : life_of i.variant y ≢ LostLife → life_of i.variant settled_then.after ≢ LostLife
 
       pub line_goes : (recorded : Result Unit StoreFault) (after : Standing) (middle new : StoreStanding) (answer : Answer)
-          → Reaches i.variant i after final → WritesSlot slot (pending_spelling next) at.store middle recorded
-          → HostGoesAfterRecord i.variant i.meaning at.platform after recorded middle new at.last line (Ok (Answered answer))
+          → Reaches i.variant i after final → WritesSlot slot (pending_spelling next) at.host.kept middle recorded
+          → HostGoesAfterRecord i.variant i.meaning recorded (host_standing at.host.standing middle) (host_standing after new) at.last line
+          (Ok (Answered answer))
           → LineGoes after new answer
       unfolding enters
       line_goes (Err why) after middle new answer reaches w g =
-          let clash : Ok (Answered answer) ≡ Err (store_fault_as why) = g.2 in absurd (cc)
+          let clash : Ok (Answered answer) ≡ Err (store_fault_as why) = g.1 in absurd (cc)
       line_goes (Ok it) after middle new answer reaches w g =
           let told = refusal_told g.asked middle new (Ok (Answered answer)) g.goes in
-          let o = between_told y z at.platform after offer next g.asked (Answered answer) lines here s.follow s.between.0
+          let o = between_told y z at.host.standing after offer next g.asked (Answered answer) lines here s.follow s.between.0
           reaches g.asks told
           in
           let room : position < last_position = room_for after g.asked (Answered answer) told o.0 in
@@ -375,7 +381,7 @@ module _ {all others : List (List ℕ)} {asked : List Batch} {i : Instance} {fin
           let fresh : nat_eq next.position (total_of y.batches) ≡ false = grind (arith, nat_tests, settled.at_end) in
           record {
             settled_then = settled_by (Some next) (Answered answer) f r.0;
-            ready = ready_on then_is (record { platform = after; store = new; last = Answered answer }) lines
+            ready = ready_on then_is (record { host = host_standing after new; last = Answered answer }) lines
                 (settled_by (Some next) (Answered answer) f r.0) (ap (λ (x : BatchAnswer). x.snapshot) a.1) r.1 s.follow.2;
             new_here = (ap (λ (b : BatchAnswer). b.again) a.1 ∙ fresh, ap (λ (b : BatchAnswer). b.position) a.1 ∙ total);
             total = total;

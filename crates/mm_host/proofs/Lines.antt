@@ -9,6 +9,7 @@ use Rattle.mm_host.proofs.Below.{ServesCalls, served_lines, BytesBeginWith, ◌<
 use Rattle.mm_host.proofs.Below.{take-append-drop, tail_of, lines_with_front, tail_with_front, IsLong, IsLineFront, lines_of-append}
 use Rattle.mm_host.proofs.Below.{tail_of-append, tail_of-joined, tail_of-unbroken, longest_request, LineLong, BadLine, TooMuch}
 use Rattle.mm_host.proofs.Below.{SessionGoesAfterResume, IsSession, most_lines}
+use Rattle.mm_host.proofs.Below.{HostStanding, SessionStanding, host_of}
 use Rattle.mm_host.specs.Sessions.{ServesAllLines}
 use Rattle.std.proofs.Common.{append-nil}
 use Rattle.mm_model.specs.ListLaws.{each_right}
@@ -24,11 +25,11 @@ IsByInput (Err (Lines WriteFault)) = ⊥
 IsByInput _ = Unit {0}
 
 -- It ends with a line in hand, or at rest.
-pub by_end : {variant : Variant} {meaning : Meaning} {from : SessionPlace} {after : Standing} {new : StoreStanding} {left : Option (List ℕ)}
+pub by_end : {variant : Variant} {meaning : Meaning} {from : SessionPlace} {new : HostStanding} {left : Option (List ℕ)}
     {taken sent : List ℕ} (P : Result Unit SessionFault → Type 0) (result : Result Unit SessionFault)
-    (l : ServesAllLines variant meaning 1 from after new left taken sent result)
-    → ((fault : SessionFault) → SessionStopsInLine variant meaning (length l.calls + 1) l.at after new l.more l.last fault → P (Err fault))
-    → (IsByInput result → IsAtRest l.at after new l.last → P result) → P result
+    (l : ServesAllLines variant meaning 1 from new left taken sent result)
+    → ((fault : SessionFault) → SessionStopsInLine variant meaning (length l.calls + 1) l.at new l.more l.last fault → P (Err fault))
+    → (IsByInput result → IsAtRest l.at new l.last → P result) → P result
 by_end P (Err (Host fault)) l line rest = line (Host fault) l.ends
 by_end P (Err (Lines WriteFault)) l line rest = line (Lines WriteFault) l.ends
 by_end P (Err (Lines Memory)) l line rest = absurd l.ends
@@ -73,14 +74,15 @@ pub tells_call : (call : Result Answer Refusal) (old new : StoreStanding) (came 
 tells_call (Err why) old new came g = g.1
 tells_call (Ok answer) old new came g = kept_tells answer g.written came g.gives
 
-module _ {variant : Variant} {meaning : Meaning} {before after : Standing} {old new : StoreStanding} {last : Resumed} {line : List ℕ}
-    {came : Result Resumed HostFault} (a : AsksNextRequest variant meaning before after old new last line came) where
-  tries_by : (recorded : Result Unit StoreFault) → HostGoesAfterRecord variant meaning before after recorded a.middle new last line came
-      → Tries variant meaning before after (snapshot_at last) line came
-  tries_by (Err why) g = fails g.0 why g.2
-  tries_by (Ok it) g = asks g.asked g.asks (tells_call g.asked a.middle new came g.goes)
+module _ {variant : Variant} {meaning : Meaning} {old new : HostStanding} {last : Resumed} {line : List ℕ}
+    {came : Result Resumed HostFault} (a : AsksNextRequest variant meaning old new last line came) where
+  tries_by : (recorded : Result Unit StoreFault)
+      → HostGoesAfterRecord variant meaning recorded (record old { kept = a.middle }) new last line came
+      → Tries variant meaning old.standing new.standing (snapshot_at last) line came
+  tries_by (Err why) g = fails (ap (λ (h : HostStanding). h.standing) g.0) why g.1
+  tries_by (Ok it) g = asks g.asked g.asks (tells_call g.asked a.middle new.kept came g.goes)
 
-  pub line_tries : Tries variant meaning before after (snapshot_at last) line came
+  pub line_tries : Tries variant meaning old.standing new.standing (snapshot_at last) line came
   line_tries = tries_by a.recorded a.goes
 
 -- what is told was called, and answered
@@ -141,7 +143,7 @@ pub unbroken_served : (variant : Variant) (meaning : Meaning) (from to : Session
 unbroken_served variant meaning from to [] s = tt
 unbroken_served variant meaning from to (c ∷ calls) s = (
   s.within.unbroken,
-  unbroken_served variant meaning (record { platform = s.platform; store = s.store; last = Answered c.answer }) to calls s.rest,
+  unbroken_served variant meaning (record { host = s.host; last = Answered c.answer }) to calls s.rest,
 )
 
 pub length-served_lines : (calls : List ServedCall) → length (served_lines calls) ≡ length calls
@@ -149,9 +151,9 @@ length-served_lines [] = refl
 length-served_lines (c ∷ calls) = ap (λ (n : ℕ). suc n) (length-served_lines calls)
 
 -- the input behind the lines that were served
-module _ {variant : Variant} {meaning : Meaning} {from : SessionPlace} {after : Standing} {new : StoreStanding} {left : Option (List ℕ)}
+module _ {variant : Variant} {meaning : Meaning} {from : SessionPlace} {new : HostStanding} {left : Option (List ℕ)}
     {taken sent input : List ℕ} {result : Result Unit SessionFault}
-    (l : ServesAllLines variant meaning 1 from after new left taken sent result) (r : IsRead input taken left) where
+    (l : ServesAllLines variant meaning 1 from new left taken sent result) (r : IsRead input taken left) where
   pub bytes_in : input ≡ joined_lines (served_lines l.calls) ++ (l.more ++ r.rest)
   bytes_in = r.is ∙ ap (λ (x : List ℕ). x ++ r.rest) l.took ∙ append_assoc (joined_lines (served_lines l.calls)) l.more r.rest
 
@@ -209,21 +211,20 @@ module _ (count : ℕ) (more rest : List ℕ) (r : IsRest count (more ++ rest)) 
       ap (λ (ls : List (List ℕ)). length ls) (next_line more rest line held b) in
       absurd (omega (arith, next, e, r.few))
 
-spares_end : {variant : Variant} {meaning : Meaning} {from : SessionPlace} {after : Standing} {new : StoreStanding} {left : Option (List ℕ)}
-    {taken sent : List ℕ} (result : Result Unit SessionFault) (l : ServesAllLines variant meaning 1 from after new left taken sent result)
+spares_end : {variant : Variant} {meaning : Meaning} {from : SessionPlace} {new : HostStanding} {left : Option (List ℕ)}
+    {taken sent : List ℕ} (result : Result Unit SessionFault) (l : ServesAllLines variant meaning 1 from new left taken sent result)
     (rest : List ℕ) → IsRest (length l.calls) (l.more ++ rest) → (IsAtEnd left → rest ≡ []) → IsNoLines result
 spares_end (Err (Lines (LineLong line))) l rest r h = not_long (length l.calls) l.more rest r l.ends.2
 spares_end (Err (Lines (BadLine line))) l rest r h = not_cut (length l.calls) l.more rest r (h l.ends.4) l.ends.2 l.ends.3
 spares_end (Err (Lines TooMuch)) l rest r h = not_many (length l.calls) l.more rest r l.ends.2 l.ends.3 l.ends.1 l.ends.4
 spares_end _ l rest r h = tt
 
-module _ {variant : Variant} {meaning : Meaning} {before after : Standing} {old new : StoreStanding}
-    {left left' received received' : Option (List ℕ)} {result : Result Unit SessionFault}
-    (s : IsSession variant meaning before after old new left left' received received' result) where
-  spares_by : (input : List ℕ) → IsRead input s.taken left' → AreWithin input
-      → SessionGoesAfterResume variant meaning s.begun s.platform after s.store new left' s.taken s.sent result → IsNoLines result
-  spares_by input r w (inl e) = rw e.2.stops
-      (by_told (λ (f : SessionFault). IsNoLines {T = Unit} (Err f)) s.begun s.sent e.2.fault e.2.says (λ why e. tt) (λ n. tt))
+module _ {variant : Variant} {meaning : Meaning} {old new : SessionStanding} {result : Result Unit SessionFault}
+    (s : IsSession variant meaning old new result) where
+  spares_by : (input : List ℕ) → IsRead input s.taken new.left → AreWithin input
+      → SessionGoesAfterResume variant meaning s.begun s.middle (host_of new) new.left s.taken s.sent result → IsNoLines result
+  spares_by input r w (inl e) = rw e.1.stops
+      (by_told (λ (f : SessionFault). IsNoLines {T = Unit} (Err f)) s.begun s.sent e.1.fault e.1.says (λ why e. tt) (λ n. tt))
   spares_by input r w (inr g) =
       let l = g.lines in
       let served = lines_in l r in
@@ -241,5 +242,5 @@ module _ {variant : Variant} {meaning : Meaning} {before after : Standing} {old 
         );
       }) r.at_end
 
-  pub spares_lines : SparesLines left result
-  spares_lines = λ input e w. spares_by input (read_of left left' input s.taken e s.consumed) w s.goes
+  pub spares_lines : SparesLines old.left result
+  spares_lines = λ input e w. spares_by input (read_of old.left new.left input s.taken e s.consumed) w s.goes

@@ -4,13 +4,14 @@ use Rattle.mm_host.proofs.Below.{◌≡◌, ◌∙◌, ◌+◌, ◌≤◌, ℕ, 
 use Rattle.mm_host.proofs.Below.{refl, sym, ap, subst, inl, inr, ◌⊎◌, arith, IsSome, take, drop, take-append-drop, length-append}
 use Rattle.mm_host.proofs.Below.{length-take, append_assoc, append_cancel_left, append-nil, Variant, Basic, Opt, Standing, One, Batch}
 use Rattle.mm_host.proofs.Below.{Meaning, Instance, Digests, Answer, Refusal, SessionFault, Host, Lines, Memory, WriteFault, LineLong}
-use Rattle.mm_host.proofs.Below.{BadLine, TooMuch, IsCall, StoreFault, offer_after, ServedCall, IsSession, StandsAt, StoreStanding}
+use Rattle.mm_host.proofs.Below.{BadLine, TooMuch, IsCall, StoreFault, offer_after, ServedCall, IsSession, StandsAt}
 use Rattle.mm_host.proofs.Below.{finding_at, digest_level, fault_of, by_refusal, IsInHand, parts_of, HostFault, Resumed, SendsReply}
 use Rattle.mm_host.proofs.Below.{reply_text, store_fault_as, refusal_fault, snapshot_at, PendingRecord, Slots, slot_front, IsWaiting}
 use Rattle.mm_host.proofs.Below.{first_offer, requests_with, served_lines, served_calls_in, first_served_call, lines_of, lines_of-append}
 use Rattle.mm_host.proofs.Below.{IsUnbroken, IsLong, longest_request, most_lines, SessionGoesAfterResume, SessionStopsAtOnce}
 use Rattle.mm_host.proofs.Below.{SessionStopsInLine, lines_with_front, InBasic, InOpt, if◌then◌else◌, later_record, SessionPlace}
 use Rattle.mm_host.proofs.Below.{ReadsPendingRecord}
+use Rattle.mm_host.proofs.Below.{HostStanding, SessionStanding, host_of}
 use Rattle.std.specs.Prelude.{◌<◌, IfSome, nat_le}
 use Rattle.mm_base.specs.InputLaws.{lines_of-unbroken}
 use Rattle.mm_base.specs.declared.replay_fault.ReplayFault.TheVariants.{ReadFault}
@@ -195,12 +196,12 @@ none_next more rest request lines u at_end e =
     ap lines_of (ap (λ (x : List ℕ). more ++ x) at_end ∙ append-nil more) ∙ lines_of-unbroken more u in
     absurd (cc)
 
-next_ends : {variant : Variant} {meaning : Meaning} {from : SessionPlace} {after : Standing} {new : StoreStanding} {left : Option (List ℕ)}
+next_ends : {variant : Variant} {meaning : Meaning} {from : SessionPlace} {new : HostStanding} {left : Option (List ℕ)}
     {taken sent input : List ℕ} (why : Refusal) (result : Result Unit SessionFault)
-    (l : ServesAllLines variant meaning 1 from after new left taken sent result) (r : IsRead input taken left) (request : List ℕ)
+    (l : ServesAllLines variant meaning 1 from new left taken sent result) (r : IsRead input taken left) (request : List ℕ)
     (lines : List (List ℕ)) → lines_of (l.more ++ r.rest) ≡ request ∷ lines → length request ≤ longest_request
     → length l.calls + 1 ≤ most_lines
-    → ((fault : SessionFault) → SessionStopsInLine variant meaning (length l.calls + 1) l.at after new l.more l.last fault
+    → ((fault : SessionFault) → SessionStopsInLine variant meaning (length l.calls + 1) l.at new l.more l.last fault
     → EndsFor why fault)
     → RefusesOrFails why result
 next_ends why (Ok done) l r request lines e short few stops =
@@ -238,22 +239,21 @@ waiting_short two three waiting w =
     rw w.is (later_short w.in_two w.in_three (record_short 2 two w.in_two w.reads_two) (record_short 3 three w.in_three w.reads_three))
 
 -- a session that the host ends has a line in hand, which isn't one too many
-few_by : {variant : Variant} {meaning : Meaning} {from : SessionPlace} {after : Standing} {new : StoreStanding} {left : Option (List ℕ)}
-    {taken sent : List ℕ} (result : Result Unit SessionFault) (l : ServesAllLines variant meaning 1 from after new left taken sent result)
+few_by : {variant : Variant} {meaning : Meaning} {from : SessionPlace} {new : HostStanding} {left : Option (List ℕ)}
+    {taken sent : List ℕ} (result : Result Unit SessionFault) (l : ServesAllLines variant meaning 1 from new left taken sent result)
     (fault : HostFault) → result ≡ Err (Host fault) → length l.calls + 1 ≤ most_lines
 few_by (Ok done) l fault e = absurd (cc)
 few_by (Err (Host is)) l fault e = l.ends.few
 few_by (Err (Lines is)) l fault e = absurd (cc)
 
 -- A session whose next request is refused by the digests at its end.
-module _ {variant : Variant} {meaning : Meaning} {before after : Standing} {old new : StoreStanding}
-    {left left' received received' : Option (List ℕ)} {result : Result Unit SessionFault}
-    (s : IsSession variant meaning before after old new left left' received received' result) (slots : Slots)
+module _ {variant : Variant} {meaning : Meaning} {old new : SessionStanding} {result : Result Unit SessionFault}
+    (s : IsSession variant meaning old new result) (slots : Slots)
     (waiting : Option PendingRecord)
-    (slots_told : old.slots ≡ Some slots) (w : IsWaiting (slot_front slots 2) (slot_front slots 3) waiting) (input : List ℕ)
-    (left_told : left ≡ Some input) where
+    (slots_told : old.kept.slots ≡ Some slots) (w : IsWaiting (slot_front slots 2) (slot_front slots 3) waiting) (input : List ℕ)
+    (left_told : old.left ≡ Some input) where
   abbrev Goes : Type 0
-  Goes = SessionGoesAfterResume variant meaning s.begun s.platform after s.store new left' s.taken s.sent result
+  Goes = SessionGoesAfterResume variant meaning s.begun s.middle (host_of new) new.left s.taken s.sent result
 
   abbrev first : List ℕ
   first = first_offer slots waiting
@@ -270,7 +270,7 @@ module _ {variant : Variant} {meaning : Meaning} {before after : Standing} {old 
   }
   in_hand_by fault e (inr g) request h =
       let l = g.lines in
-      let read = read_of left left' input s.taken left_told s.consumed in
+      let read = read_of old.left new.left input s.taken left_told s.consumed in
       let f = first_by s first waiting (begun_told s slots waiting slots_told w) g.first g.begins in
       record {
         lines = served_lines l.calls ++ request ∷ [];
@@ -289,12 +289,12 @@ module _ {variant : Variant} {meaning : Meaning} {before after : Standing} {old 
       → IsNext waiting input (served_calls_in waiting s.goes) request
   next_in_hand fault e request h = in_hand_by fault e s.goes request h
 
-  module _ (key barrier : List ℕ) (d there : Digests) (starts_at : StandsAt (instance_by variant meaning key barrier) before d)
-      (ends_at : StandsAt (instance_by variant meaning key barrier) after there) (why : Refusal) (request : List ℕ) where
+  module _ (key barrier : List ℕ) (d there : Digests) (starts_at : StandsAt (instance_by variant meaning key barrier) old.standing d)
+      (ends_at : StandsAt (instance_by variant meaning key barrier) new.standing there) (why : Refusal) (request : List ℕ) where
     abbrev JudgedBehind : List ServedCall → Type 0
-    JudgedBehind told = Judged variant meaning key barrier after there ends_at why (offer_after first told) request
+    JudgedBehind told = Judged variant meaning key barrier new.standing there ends_at why (offer_after first told) request
 
-    at_once_ends : (stops : SessionStopsAtOnce s.begun s.taken s.sent result) → Begun variant meaning before after first waiting s.begun
+    at_once_ends : (stops : SessionStopsAtOnce s.begun s.taken s.sent result) → Begun variant meaning old.standing new.standing first waiting s.begun
         → IsNext waiting input [] request → JudgedBehind [] → EndsFor why stops.fault
     at_once_ends stops (failed same f e) n judged = told_store why s.begun f e s.sent stops.fault stops.says
     at_once_ends stops (starts same none e) n judged =
@@ -302,16 +302,16 @@ module _ {variant : Variant} {meaning : Meaning} {before after : Standing} {old 
     at_once_ends stops (repeats p some call c t) n judged =
         let asked : request ∷ [] ≡ p.request ∷ n.lines = n.asked ∙ ap (λ (x : Option PendingRecord). requests_with x n.lines) some in
         let is : request ≡ p.request = cc in
-        tried_ends variant meaning key barrier after there ends_at why before first p.request
-        (subst (λ (x : List ℕ). Judged variant meaning key barrier after there ends_at why first x) is judged) s.begun (asks call c t) d
+        tried_ends variant meaning key barrier new.standing there ends_at why old.standing first p.request
+        (subst (λ (x : List ℕ). Judged variant meaning key barrier new.standing there ends_at why first x) is judged) s.begun (asks call c t) d
         starts_at s.sent stops.fault stops.says
 
-    lines_ends : (g : SessionGoesOn variant meaning s.begun s.platform after s.store new left' s.taken s.sent result)
+    lines_ends : (g : SessionGoesOn variant meaning s.begun s.middle (host_of new) new.left s.taken s.sent result)
         → IsNext waiting input (first_served_call waiting g.first ++ g.lines.calls) request
         → JudgedBehind (first_served_call waiting g.first ++ g.lines.calls) → RefusesOrFails why result
     lines_ends g n judged =
         let l = g.lines in
-        let read = read_of left left' input s.taken left_told s.consumed in
+        let read = read_of old.left new.left input s.taken left_told s.consumed in
         let f = first_by s first waiting (begun_told s slots waiting slots_told w) g.first g.begins in
         let lines_are : n.lines ≡ served_lines l.calls ++ request ∷ [] =
         requests_cancel waiting n.lines (served_lines l.calls ++ request ∷ []) (sym n.asked ∙ f.told l.calls (request ∷ [])) in
@@ -319,9 +319,9 @@ module _ {variant : Variant} {meaning : Meaning} {before after : Standing} {old 
         sym (lines_in l read) ∙ sym n.first.1 ∙ ap (λ (x : List (List ℕ)). x ++ n.first.0) lines_are
         ∙ append_assoc (served_lines l.calls) (request ∷ []) n.first.0 in
         let next : lines_of (l.more ++ read.rest) ≡ request ∷ n.first.0 = append_cancel_left (served_lines l.calls) _ _ all in
-        let calls = f.calls l.calls l.at.platform
+        let calls = f.calls l.calls l.at.host.standing
         (served_calls variant meaning _ l.at l.calls l.serves) in
-        let there_at = calls_leave variant meaning key barrier first before l.at.platform (first_served_call waiting g.first ++ l.calls)
+        let there_at = calls_leave variant meaning key barrier first old.standing l.at.host.standing (first_served_call waiting g.first ++ l.calls)
         calls d
         starts_at in
         let offer_is : offer_after first (first_served_call waiting g.first ++ l.calls) ≡ snapshot_at l.at.last =
@@ -338,13 +338,13 @@ module _ {variant : Variant} {meaning : Meaning} {before after : Standing} {old 
         let begins : lines_of (l.more ++ read.rest) ≡ e.line ∷ lines_of (e.held ++ read.rest) =
         next_line l.more read.rest e.line e.held e.begins in
         let is : request ≡ e.line = (let both : request ∷ n.first.0 ≡ e.line ∷ lines_of (e.held ++ read.rest) = sym next ∙ begins in cc) in
-        tried_ends variant meaning key barrier after there ends_at why l.at.platform (snapshot_at l.at.last) e.line
+        tried_ends variant meaning key barrier new.standing there ends_at why l.at.host.standing (snapshot_at l.at.last) e.line
         (rw (sym is, sym offer_is) judged) e.came (line_tries e.asks) there_at.digests there_at.stands l.last fault e.says)
 
     next_by : (goes : Goes) → IsNext waiting input (served_calls_in waiting goes) request → JudgedBehind (served_calls_in waiting goes)
         → RefusesOrFails why result
     next_by (inl e) n judged =
-        rw e.2.stops (at_once_ends e.2 (rw e.0 (begun_told s slots waiting slots_told w)) n judged)
+        rw e.1.stops (at_once_ends e.1 (rw (ap (λ (h : HostStanding). h.standing) e.0) (begun_told s slots waiting slots_told w)) n judged)
     next_by (inr g) n judged = lines_ends g n judged
 
     pub next_refused : IsNext waiting input (served_calls_in waiting s.goes) request → JudgedBehind (served_calls_in waiting s.goes)

@@ -1,9 +1,10 @@
 -- Where there is a position for each request, none is refused as Full.
 use Rattle.mm_host.proofs.Below.{◌≡◌, ◌+◌, ◌-◌, ◌≤◌, ℕ, Bool, true, false, List, [], ◌∷◌, ◌++◌, Option, Some, Result, Err, length, arith}
 use Rattle.mm_host.proofs.Below.{ap, inl, inr, length-append, last_position, Variant, Standing, Batch, One, Meaning, Instance, History}
-use Rattle.mm_host.proofs.Below.{total_of, IsBatchStep, StoreStanding, PendingRecord, Slots, slot_front, IsWaiting, ServedCall}
+use Rattle.mm_host.proofs.Below.{total_of, IsBatchStep, PendingRecord, Slots, slot_front, IsWaiting, ServedCall}
 use Rattle.mm_host.proofs.Below.{served_lines, AreAmong, ContinuesTo, IsInHand, CallsRunOver, SessionFault, Host, IsSession}
 use Rattle.mm_host.proofs.Below.{served_calls_in}
+use Rattle.mm_host.proofs.Below.{SessionStanding}
 use Rattle.mm_host.proofs.CallsMade.{chain_of, Ends, rests, stops}
 use Rattle.mm_host.proofs.Lines.{length-served_lines}
 use Rattle.mm_model.specs.declared.refusal.Refusal.TheVariants.{Full}
@@ -27,15 +28,14 @@ runs_most meaning (c ∷ told) requests after r =
       runs_most meaning told r.0 after r.2,
     )
 
-module _ {variant : Variant} {meaning : Meaning} {before final : Standing} {old new : StoreStanding}
-    {left left' received received' : Option (List ℕ)} {result : Result Unit SessionFault}
-    (s : IsSession variant meaning before final old new left left' received received' result) (slots : Slots)
+module _ {variant : Variant} {meaning : Meaning} {old new : SessionStanding} {result : Result Unit SessionFault}
+    (s : IsSession variant meaning old new result) (slots : Slots)
     (waiting : Option PendingRecord)
-    (slots_told : old.slots ≡ Some slots) (w : IsWaiting (slot_front slots 2) (slot_front slots 3) waiting)
+    (slots_told : old.kept.slots ≡ Some slots) (w : IsWaiting (slot_front slots 2) (slot_front slots 3) waiting)
     {all others : List (List ℕ)} {asked : List Batch} {i : Instance} (y : History) (requests : List (List ℕ))
     (among : AreAmong (served_calls_in waiting s.goes) (IsInHand waiting s.goes) requests)
     (room : total_of y.batches + length requests ≤ last_position)
-    (c : ContinuesTo all others asked i y waiting final new (served_calls_in waiting s.goes) (IsInHand waiting s.goes) result) where
+    (c : ContinuesTo all others asked i y waiting new.standing new.kept (served_calls_in waiting s.goes) (IsInHand waiting s.goes) result) where
   -- the requests at the end are those that were told, with none in hand
   few : result ≡ Err (Host (host.Refused Full)) → length c.runs.requests ≡ last_position
   few full = elim c.runs.committed [
@@ -44,7 +44,7 @@ module _ {variant : Variant} {meaning : Meaning} {before final : Standing} {old 
     | inr untold ↦ let clash : false ≡ true = rw full at untold.untold in absurd (cc)
   ]
 
-  by_ends : {at : Standing} {offer : List ℕ} → Ends variant meaning at final offer (IsInHand waiting s.goes) result
+  by_ends : {at : Standing} {offer : List ℕ} → Ends variant meaning at new.standing offer (IsInHand waiting s.goes) result
       → result ≡ Err (Host (host.Refused Full)) → ⊥
   by_ends (rests same never) full = never Full full
   by_ends (stops request h came t sent fault says ends) full =

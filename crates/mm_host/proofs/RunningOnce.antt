@@ -14,6 +14,7 @@ use Rattle.mm_host.proofs.Below.{agrees_is, foreign_may, is_agrees, counted_open
 use Rattle.mm_host.proofs.Below.{foreign_all, holds_made, foreign_messages, history_with_values, taking_is, names_alike, shown_back}
 use Rattle.mm_host.proofs.Below.{shown_front, shown_shut, MayStart, RunsOnceFrom, not_lost, was_powered, append-nil, SessionRunsOnce}
 use Rattle.mm_host.proofs.Below.{counted_part}
+use Rattle.mm_host.proofs.Below.{SessionStanding, session_standing}
 use Rattle.mm_model.specs.declared.refusal.Refusal.TheVariants as refusal
 use Rattle.mm_store.specs.declared.fault.StoreFault.TheVariants as fault
 use Rattle.mm_recovery.specs.declared.fault.HostFault.TheVariants as host
@@ -113,7 +114,8 @@ module _ {all others : List (List ℕ)} {asked : List Batch} {i : Instance} {fin
   -- A session from a history that is the same as this one but for others' values.
   module _ {before : Standing} {old new : StoreStanding} {left left' received received' : Option (List ℕ)}
       {result : Result Unit SessionFault}
-      (s : IsSession i.variant i.meaning before final old new left left' received received' result) (y z : History) (slots : Slots)
+      (s : IsSession i.variant i.meaning (session_standing before old left received) (session_standing final new left' received') result)
+      (y z : History) (slots : Slots)
       (waiting : Option PendingRecord) (slots_told : old.slots ≡ Some slots)
       (w : IsWaiting (slot_front slots 2) (slot_front slots 3) waiting)
       (requests : List (List ℕ)) (here : StandsIn all others asked i y z before (first_offer slots waiting))
@@ -231,14 +233,13 @@ powered_looked values y p =
     (λ (e : y.is_open ≡ true). more_items y.items (map Value values)
     (was_powered y.is_open (is_empty y.items) (are_own y.items y.current) (has_value (items_of_all y.closed)) p e))
 
-module _ (meaning : Meaning) (lawful : IsLawful meaning) (entry before after : Standing) (brought_by : List (List ℕ))
-    (cell : before.cell ≡ entry.cell) (looked : before.items ≡ items_beside brought_by entry.items) {old new : StoreStanding}
-    {left left' received received' : Option (List ℕ)}
-    {result : Result Unit SessionFault} (s : IsSession Opt meaning before after old new left left' received received' result)
+module _ (meaning : Meaning) (lawful : IsLawful meaning) (entry : Standing) (old new : SessionStanding) (brought_by : List (List ℕ))
+    (cell : old.standing.cell ≡ entry.cell) (looked : old.standing.items ≡ items_beside brought_by entry.items)
+    {result : Result Unit SessionFault} (s : IsSession Opt meaning old new result)
     (key barrier : List ℕ) (y : History) (slots : Slots) (all others : List (List ℕ)) (asked : List Batch)
     (requests : List (List ℕ)) (items more : List Item) (may : MayStart all others asked (opt_instance meaning key barrier)
-    y slots entry old)
-    (known : entry.items ≡ Some items) (ends : after.items ≡ Some (standing_items y.is_open items ++ more)) where
+    y slots entry old.kept)
+    (known : entry.items ≡ Some items) (ends : new.standing.items ≡ Some (standing_items y.is_open items ++ more)) where
   abbrev j : Instance
   j = opt_instance meaning key barrier
 
@@ -251,21 +252,21 @@ module _ (meaning : Meaning) (lawful : IsLawful meaning) (entry before after : S
   abbrev brought : List Item
   brought = map foreign_item brought_by
 
-  abbrev laws : Laws all others asked j after
-  laws = opt_laws meaning lawful key barrier all others asked after may.clear may.apart
+  abbrev laws : Laws all others asked j new.standing
+  laws = opt_laws meaning lawful key barrier all others asked new.standing may.clear may.apart
 
   -- where the session stands once it starts, and what is asked of what others do
   abbrev pub Enters : Type 0
-  Enters = (here : StandsIn all others asked j z y before offered) × May laws z before offered requests
+  Enters = (here : StandsIn all others asked j z y old.standing offered) × May laws z old.standing offered requests
 
-  there : before.items ≡ Some (items ++ brought)
+  there : old.standing.items ≡ Some (items ++ brought)
   there = looked ∙ ap (λ (xs : Option (List Item)). items_beside brought_by xs) known
 
-  stands : StandsFor j before z
+  stands : StandsFor j old.standing z
   stands =
       let d : Digests = digests_of j y in
       let at = stands_at j entry y may.stands in
-      let read : StandsAt j before (with_register d (fold extended_digest_of d.register brought_by)) = record {
+      let read : StandsAt j old.standing (with_register d (fold extended_digest_of d.register brought_by)) = record {
         spells = at.spells;
         cell = cell ∙ at.cell;
         reads = ap (λ (xs : Option (List Item)). register_of_items xs) looked ∙ reads_beside entry.items brought_by d.register at.reads;
@@ -276,7 +277,7 @@ module _ (meaning : Meaning) (lawful : IsLawful meaning) (entry before after : S
       (state_after_moves (digest_level j) d (map Foreign brought_by))
       (foreign_agrees meaning key barrier brought_by y d (is_agrees j y d refl))
       ∙ ap (digests_of j) (taking_is j brought_by y) in
-      stands_for j before z (rw is at read)
+      stands_for j old.standing z (rw is at read)
 
   -- what is asked goes on
   within_open : (k : List Item) → y.is_open ≡ true → AreShown all others j y (brought ++ k) → IsWithin all others asked j z
@@ -301,7 +302,7 @@ module _ (meaning : Meaning) (lawful : IsLawful meaning) (entry before after : S
       ∙ ap (λ (vs : List (List ℕ)). chains.digest_after extended_message (register_value_of j (counted_part y)) vs)
       (sym (foreign_values brought_by))) a
 
-  enter_from : IsWithin all others asked j z → May laws z before offered requests → Enters
+  enter_from : IsWithin all others asked j z → May laws z old.standing offered requests → Enters
   enter_from w m = (
     record {
       stands = stands;
@@ -315,7 +316,7 @@ module _ (meaning : Meaning) (lawful : IsLawful meaning) (entry before after : S
   enter_open : y.is_open ≡ true → AreShown all others j y more → Enters
   enter_open e shown_are =
       let reaches = chain_reaches laws (chain_of s slots may.waiting may.told may.is_waiting) in
-      let stays = reaches (digests_of j z) (stands_at j before z stands) e (items ++ brought) there in
+      let stays = reaches (digests_of j z) (stands_at j old.standing z stands) e (items ++ brought) there in
       let both : Some (items ++ more) ≡ Some ((items ++ brought) ++ stays.more) =
       ap (λ (flag : Bool). Some (standing_items flag items ++ more)) (sym e) ∙ sym ends ∙ stays.shows in
       let whole : items ++ more ≡ (items ++ brought) ++ stays.more = cc in
@@ -351,41 +352,38 @@ module _ (meaning : Meaning) (lawful : IsLawful meaning) (entry before after : S
   enter_by false e shown_so = enter_shut e shown_so
 
 -- a session behind others' values
-run_over : (variant : Variant) (meaning : Meaning) → IsLawful meaning → (entry before after : Standing) (values : List (List ℕ))
-    → before.cell ≡ entry.cell → before.items ≡ items_beside values entry.items
-    → (old new : StoreStanding) (left left' received received' : Option (List ℕ)) (result : Result Unit SessionFault)
-    → RunsOnceFrom variant meaning entry before after old new left left' received received' result
-run_over Basic meaning lawful entry before after values cell looked old new left left' received received' result =
+run_over : (variant : Variant) (meaning : Meaning) → IsLawful meaning → (entry : Standing) (old new : SessionStanding)
+    (values : List (List ℕ)) → old.standing.cell ≡ entry.cell → old.standing.items ≡ items_beside values entry.items
+    → (result : Result Unit SessionFault) → RunsOnceFrom variant meaning entry old new result
+run_over Basic meaning lawful entry old new values cell looked result =
     λ s key y slots all others asked requests may f.
-    runs_once (basic_laws meaning lawful key all others asked after may.clear may.apart) s y y slots may.waiting may.told may.is_waiting
+    runs_once (basic_laws meaning lawful key all others asked new.standing may.clear may.apart) s y y slots may.waiting may.told may.is_waiting
     requests (record {
       stands = record { spells = may.stands.spells; cell = cell ∙ may.stands.cell; register = tt };
       within = may.within;
       genuine = may.genuine;
       same = refl;
     }) (λ p. p) (inl tt) f
-run_over Opt meaning lawful entry before after values cell looked old new left left' received received' result =
+run_over Opt meaning lawful entry old new values cell looked result =
     λ s key barrier y slots all others asked requests items more may f known ends shown_so.
-    let e = enter_by meaning lawful entry before after values cell looked s key barrier y slots all others asked requests items more may
+    let e = enter_by meaning lawful entry old new values cell looked s key barrier y slots all others asked requests items more may
     known ends y.is_open refl shown_so in
-    runs_once (opt_laws meaning lawful key barrier all others asked after may.clear may.apart) s (history_with_values y values) y
+    runs_once (opt_laws meaning lawful key barrier all others asked new.standing may.clear may.apart) s (history_with_values y values) y
     slots may.waiting
     may.told may.is_waiting requests e.0 (powered_looked values y) e.1 f
 
 -- behind a reading of the cell, whether that failed or not
 pub runs_once_from : (variant : Variant) (meaning : Meaning) → IsLawful meaning
-    → (entry before after : Standing) (fault : Option StepFault) (old new : StoreStanding) (left left' received received' : Option (List ℕ))
-    (result : Result Unit SessionFault) → StepGoes ReadCell entry before fault
-    → RunsOnceFrom variant meaning entry before after old new left left' received received' result
-runs_once_from variant meaning lawful entry before after fault old new left left' received received' result g =
-    run_over variant meaning lawful entry before after g.others g.cell g.items old new left left' received received' result
+    → (entry : Standing) (fault : Option StepFault) (old new : SessionStanding) (result : Result Unit SessionFault)
+    → StepGoes ReadCell entry old.standing fault → RunsOnceFrom variant meaning entry old new result
+runs_once_from variant meaning lawful entry fault old new result g =
+    run_over variant meaning lawful entry old new g.others g.cell g.items result
 
 pub nothing_beside : (items : Option (List Item)) → items ≡ items_beside [] items
 nothing_beside None = refl
 nothing_beside (Some xs) = ap (λ (x : List Item). Some x) (sym (append-nil xs))
 
 pub session_runs_once : (variant : Variant) (meaning : Meaning) → IsLawful meaning
-    → (before after : Standing) (old new : StoreStanding) (left left' received received' : Option (List ℕ))
-    (result : Result Unit SessionFault) → SessionRunsOnce variant meaning before after old new left left' received received' result
-session_runs_once variant meaning lawful before after =
-    run_over variant meaning lawful before before after [] refl (nothing_beside before.items)
+    → (old new : SessionStanding) (result : Result Unit SessionFault) → SessionRunsOnce variant meaning old new result
+session_runs_once variant meaning lawful old new =
+    run_over variant meaning lawful old.standing old new [] refl (nothing_beside old.standing.items)

@@ -12,6 +12,7 @@ use Rattle.mm_host.proofs.Below.{Variant, true}
 use Rattle.mm_host.specs.Sessions.{SessionGoesOn}
 use Rattle.mm_host.proofs.Below.{◌+◌, ◌%◌, length, IsLineFront, longest_request, HostGoesAfterRecord, BytesBeginWith, turn_answer_of}
 use Rattle.mm_host.proofs.Below.{IsMade, Enters, Lines, pending_spelling, position_at, TurnGoes, StoreFault, WriteFault, WritesSlot}
+use Rattle.mm_host.proofs.Below.{HostStanding, host_standing, session_standing}
 use Rattle.mm_recovery.specs.declared.fault.HostFault.TheVariants as host
 use Rattle.mm_host.proofs.CallsMade.{first_told, InHand, lines_chain, served_calls}
 use Rattle.mm_host.proofs.InTurn.{calls_reach, chain_reaches, ends_reach, May, met_last, StandsIn}
@@ -111,10 +112,10 @@ module _ {all others : List (List ℕ)} {asked : List Batch} {i : Instance} (y :
   rests_at : {final : Standing} (at : SessionPlace) (new : StoreStanding) (sent : List ℕ) (result : Result Unit SessionFault)
       (s : IsSettledAt all others asked i at) → CallsRunOver i.meaning (requests_of y.batches) told (requests_of s.after.batches)
       → AreToldOnce (total_of y.batches) first told
-      → (life_of i.variant y ≢ LostLife → life_of i.variant s.after ≢ LostLife) → IsAtRest at final new sent → IsByInput result
+      → (life_of i.variant y ≢ LostLife → life_of i.variant s.after ≢ LostLife) → IsAtRest at (host_standing final new) sent → IsByInput result
       → ContinuesTo all others asked i y first final new told hand result
   rests_at at new sent result s run once powered e by =
-      rw (e.platform, e.store) (ends_at at.store result (came_by s.waiting (Ok at.last) s.came) (λ clash. absurd (cc)) run once (inl refl)
+      rw (ap (λ (h : HostStanding). h.standing) e.still, ap (λ (h : HostStanding). h.kept) e.still) (ends_at at.host.kept result (came_by s.waiting (Ok at.last) s.came) (λ clash. absurd (cc)) run once (inl refl)
       (rest_refuses result i.variant s.after by) powered)
 
   -- what came ends it
@@ -145,14 +146,14 @@ module _ {all others : List (List ℕ)} {asked : List Batch} {i : Instance} {fin
   pub lines_come : (z : History) (from to : SessionPlace) (calls : List ServedCall) (rest : List (List ℕ))
       (s : IsSettledAt all others asked i from)
       → IsReady laws s z (served_lines calls ++ rest) → ServesCalls i.variant i.meaning from calls to
-      → Reaches i.variant i to.platform final → AfterLines s.after to calls rest
+      → Reaches i.variant i to.host.standing final → AfterLines s.after to calls rest
   lines_come z from to [] rest s ready h reaches =
       rw h (record { settled = s; then_is = z; ready = ready; run = refl; once = tt; powered = λ p. p })
   lines_come z from to (c ∷ calls) rest s ready h reaches =
-      let next : SessionPlace = record { platform = h.platform; store = h.store; last = Answered c.answer } in
-      let b = line_goes laws from c.line s h.within z (served_lines calls ++ rest) ready h.asks.recorded h.platform h.asks.middle h.store
+      let next : SessionPlace = record { host = h.host; last = Answered c.answer } in
+      let b = line_goes laws from c.line s h.within z (served_lines calls ++ rest) ready h.asks.recorded h.host.standing h.asks.middle h.host.kept
       c.answer
-      (calls_reach laws c.answer.snapshot h.platform to.platform calls
+      (calls_reach laws c.answer.snapshot h.host.standing to.host.standing calls
       (served_calls i.variant i.meaning next to calls h.rest) reaches)
       h.asks.records h.asks.goes in
       let r = lines_come (history_after_answer i z (snapshot_at from.last) c.line) next to calls rest b.settled_then b.ready
@@ -173,8 +174,8 @@ module _ {all others : List (List ℕ)} {asked : List Batch} {i : Instance} {fin
     (ready : IsReady laws settled z rest)
     (line : List ℕ) (new : StoreStanding) (came : Result Resumed HostFault) (within : IsLineFront longest_request line) where
   line_came : (recorded : Result Unit StoreFault) (middle : StoreStanding)
-      → WritesSlot (2 + (position_at at.last + 1) % 2) (pending_spelling (record_for at.last line)) at.store middle recorded
-      → HostGoesAfterRecord i.variant i.meaning at.platform final recorded middle new at.last line came
+      → WritesSlot (2 + (position_at at.last + 1) % 2) (pending_spelling (record_for at.last line)) at.host.kept middle recorded
+      → HostGoesAfterRecord i.variant i.meaning recorded (host_standing at.host.standing middle) (host_standing final new) at.last line came
       → (IsWritten recorded → (next : List (List ℕ)) × (rest ≡ line ∷ next))
       → CameTo all others asked i settled.after (Some (record_for at.last line)) final new came
   line_came (Err why) middle records g first = line_unwritten laws at line settled within why middle new came records g
@@ -188,7 +189,8 @@ module _ {all others : List (List ℕ)} {asked : List Batch} {i : Instance} {fin
 
 module _ {all others : List (List ℕ)} {asked : List Batch} {i : Instance} {final : Standing} (laws : Laws all others asked i final)
     {before : Standing} {old new : StoreStanding} {left left' received received' : Option (List ℕ)} {result : Result Unit SessionFault}
-    (s : IsSession i.variant i.meaning before final old new left left' received received' result) (y z : History) (slots : Slots)
+    (s : IsSession i.variant i.meaning (session_standing before old left received) (session_standing final new left' received') result)
+    (y z : History) (slots : Slots)
     (waiting : Option PendingRecord) (slots_told : old.slots ≡ Some slots) (honest : old.is_honest ≡ true)
     (w : IsWaiting (slot_front slots 2) (slot_front slots 3) waiting) (fits : FitsBy i slots y waiting) (requests : List (List ℕ))
     (here : StandsIn all others asked i y z before (first_offer slots waiting))
@@ -223,26 +225,28 @@ module _ {all others : List (List ℕ)} {asked : List Batch} {i : Instance} {fin
 
     -- the recovery, by what a call for what waits comes to
     recovered_by : (More : History → Type 0) (after : Standing) (came : Result Resumed HostFault)
-        → (waiting ≡ None → after ≡ before → More y) → (r : HostResumes i.variant i.meaning before after old s.store came)
-        → (IsMade i.variant i.meaning before after r.waiting r.middle s.store came r.goes
+        → (waiting ≡ None → after ≡ before → More y) →
+        (r : HostResumes i.variant i.meaning (host_standing before old) (host_standing after s.middle.kept) came)
+        → (IsMade i.variant i.meaning r.waiting (host_standing before r.middle) (host_standing after s.middle.kept) came r.goes
         → (p : PendingRecord) (call : Result Answer Refusal) → waiting ≡ Some p
         → IsCall i.variant i.meaning before after (slot_front slots (offer_slot p)) p.request call
         → ((why : Refusal) → call ≡ Err why → came ≡ Err (refusal_fault why))
         → (o : Met all others asked i y after (slot_front slots (offer_slot p)) p (batch_result_of call)) × More o.after)
-        → (v : RecoversTo all others asked i y slots waiting after s.store came) × IfOk came (λ (resumed : Resumed). More v.after)
+        → (v : RecoversTo all others asked i y slots waiting (host_standing after s.middle.kept) came)
+        × IfOk came (λ (resumed : Resumed). More v.after)
     unfolding enters
     recovered_by More after came none r leads =
-        recovers_by More i.variant all others asked i laws.lawful y slots before after old enters s.store came none r
+        recovers_by More i.variant all others asked i laws.lawful y slots before after old enters s.middle.kept came none r
         (λ made p call e told c.
         let o = leads made p call e c told in left_by all others asked i y slots before old enters More after p
         (batch_result_of call) e o.0 o.1)
 
     -- it is all
-    recovers_last : final ≡ s.platform → IsFirstAsked s waiting requests → RecoversTo all others asked i y slots waiting
-        final s.store s.begun
+    recovers_last : final ≡ s.middle.standing → IsFirstAsked s waiting requests → RecoversTo all others asked i y slots
+        waiting (host_standing final s.middle.kept) s.begun
     recovers_last same first =
-        subst (λ (x : Standing). RecoversTo all others asked i y slots waiting x s.store s.begun) (sym same)
-        (recovered_by NoMore s.platform s.begun (λ n e. tt) s.resumes (λ made p call e c told.
+        subst (λ (x : Standing). RecoversTo all others asked i y slots waiting (host_standing x s.middle.kept) s.begun) (sym same)
+        (recovered_by NoMore s.middle.standing s.begun (λ n e. tt) s.resumes (λ made p call e c told.
         let f = first made p e in
         let a = asks_first p f.0 e f.1 in
         let m = met_last laws y z before (slot_front slots (offer_slot p)) p f.0 call a.first_here a.first_follow a.first_may
@@ -250,29 +254,30 @@ module _ {all others : List (List ℕ)} {asked : List Batch} {i : Instance} {fin
         (subst (λ (x : Standing). Met all others asked i y x (slot_front slots (offer_slot p)) p (batch_result_of call)) same m, tt))).0
 
     -- or lines come behind it
-    recovers_between : (first : Resumed) (lines : List (List ℕ)) → Reaches i.variant i s.platform final → s.begun ≡ Ok first
-        → requests ≡ requests_with waiting lines → (r : RecoversTo all others asked i y slots waiting s.platform s.store (Ok first))
-        × IsBetween laws (waiting_then laws z slots waiting) s.platform (offer_then laws z slots waiting) lines r.after
+    recovers_between : (first : Resumed) (lines : List (List ℕ)) → Reaches i.variant i s.middle.standing final → s.begun ≡ Ok first
+        → requests ≡ requests_with waiting lines →
+        (r : RecoversTo all others asked i y slots waiting s.middle (Ok first))
+        × IsBetween laws (waiting_then laws z slots waiting) s.middle.standing (offer_then laws z slots waiting) lines r.after
     recovers_between first lines reaches is all_lines =
-        recovered_by (IsBetween laws (waiting_then laws z slots waiting) s.platform (offer_then laws z slots waiting) lines) s.platform
+        recovered_by (IsBetween laws (waiting_then laws z slots waiting) s.middle.standing (offer_then laws z slots waiting) lines) s.middle.standing
         (Ok first)
         (λ n e.
-        let rests : May laws y s.platform (slot_front slots 0) lines =
+        let rests : May laws y s.middle.standing (slot_front slots 0) lines =
         subst (λ (x : Standing). May laws y x (slot_front slots 0) lines) (sym e)
         (subst (λ (rs : List (List ℕ)). May laws y before (slot_front slots 0) rs)
         (all_lines ∙ ap (λ (v : Option PendingRecord). requests_with v lines) n)
         (subst (λ (v : Option PendingRecord). May laws y before (first_offer slots v) requests) n may)) in
-        subst (λ (v : Option PendingRecord). IsBetween laws (waiting_then laws z slots v) s.platform (offer_then laws z slots v) lines y)
+        subst (λ (v : Option PendingRecord). IsBetween laws (waiting_then laws z slots v) s.middle.standing (offer_then laws z slots v) lines y)
         (sym n)
         (rests, here.same))
         (rw is at s.resumes)
         (λ made p call e c told.
         let a = asks_first p lines e (all_lines ∙ ap (λ (v : Option PendingRecord). requests_with v lines) e) in
-        let b = between_told laws y z before s.platform (slot_front slots (offer_slot p)) p call first lines a.first_here a.first_follow
+        let b = between_told laws y z before s.middle.standing (slot_front slots (offer_slot p)) p call first lines a.first_here a.first_follow
         a.first_may reaches c told in
         subst (λ (v : Option PendingRecord).
-        (o : Met all others asked i y s.platform (slot_front slots (offer_slot p)) p (batch_result_of call))
-        × IsBetween laws (waiting_then laws z slots v) s.platform (offer_then laws z slots v) lines o.after) (sym e) b)
+        (o : Met all others asked i y s.middle.standing (slot_front slots (offer_slot p)) p (batch_result_of call))
+        × IsBetween laws (waiting_then laws z slots v) s.middle.standing (offer_then laws z slots v) lines o.after) (sym e) b)
 
     -- nothing was told
     none_told : (w : Option PendingRecord) → FitsBy i slots y w → AreToldOnce (total_of y.batches) w []
@@ -280,30 +285,30 @@ module _ {all others : List (List ℕ)} {asked : List Batch} {i : Instance} {fin
     none_told (Some p) f = tt
 
     -- what waited ends it
-    at_once : new ≡ s.store → (e : SessionStopsAtOnce s.begun s.taken s.sent result)
-        → RecoversTo all others asked i y slots waiting final s.store s.begun
+    at_once : new ≡ s.middle.kept → (e : SessionStopsAtOnce s.begun s.taken s.sent result)
+        → RecoversTo all others asked i y slots waiting (host_standing final s.middle.kept) s.begun
         → ContinuesTo all others asked i y waiting final new []
         (λ (request : List ℕ). (p : PendingRecord) × (waiting ≡ Some p) × (p.request ≡ request)) result
     at_once same e r =
         let hand : List ℕ → Type 0 = λ request. (p : PendingRecord) × (waiting ≡ Some p) × (p.request ≡ request) in
-        rw e.stops (rw same (stops_with y waiting [] hand y waiting s.store s.begun s.sent e.fault refl (none_told waiting fits) (λ p. p)
+        rw e.stops (rw same (stops_with y waiting [] hand y waiting s.middle.kept s.begun s.sent e.fault refl (none_told waiting fits) (λ p. p)
         (came_by waiting s.begun r)
         (λ p w. (p, w, refl)) e.says))
 
     -- the lines
-    serves_on : (g : SessionGoesOn i.variant i.meaning s.begun s.platform final s.store new left' s.taken s.sent result)
+    serves_on : (g : SessionGoesOn i.variant i.meaning s.begun s.middle (host_standing final new) left' s.taken s.sent result)
         → (rest : List (List ℕ)) → served_lines (first_served_call waiting g.first ++ g.lines.calls) ++ rest ≡ requests
-        → IsLineAsked i.variant i.meaning (length g.lines.calls + 1) g.lines.at final new left' g.lines.more g.lines.last rest result
+        → IsLineAsked i.variant i.meaning (length g.lines.calls + 1) g.lines.at (host_standing final new) left' g.lines.more g.lines.last rest result
         g.lines.ends
         → ContinuesTo all others asked i y waiting final new (first_served_call waiting g.first ++ g.lines.calls) (InHand g.lines) result
     serves_on g rest served asks_line =
         let l = g.lines in
         let told : List ServedCall = first_served_call waiting g.first ++ l.calls in
-        let from : SessionPlace = record { platform = s.platform; store = s.store; last = g.first } in
+        let from : SessionPlace = record { host = s.middle; last = g.first } in
         let lines : List (List ℕ) = served_lines l.calls ++ rest in
         let all_lines : requests ≡ requests_with waiting lines = sym served ∙ first_told s slots waiting slots_told w g rest in
         let r = recovers_between g.first lines (chain_reaches laws (lines_chain l)) g.begins all_lines in
-        let ready = ready_first laws y z slots waiting s.platform s.store g.first lines fits r.0 r.1
+        let ready = ready_first laws y z slots waiting s.middle g.first lines fits r.0 r.1
         (subst (λ (rs : List (List ℕ)). AreAskedInTurn all asked i z (first_offer slots waiting) rs) all_lines follow) in
         let c = lines_come laws (waiting_then laws z slots waiting) from l.at l.calls rest (settled_by waiting g.first fits r.0) ready
         l.serves (ends_reach laws (lines_chain l).ends) in
@@ -320,10 +325,10 @@ module _ {all others : List (List ℕ)} {asked : List Batch} {i : Instance} {fin
         (λ p k. rw (same_pending (record_for l.at.last e.line) p k) (e.held, e.begins)) e.says)
         (λ by x. rests_at y waiting told (InHand l) l.at new l.last result c.settled run once (λ p. c.powered (r.0.powered p)) x by)
 
-    ends_by : (goes : SessionGoesAfterResume i.variant i.meaning s.begun s.platform final s.store new left' s.taken s.sent result)
+    ends_by : (goes : SessionGoesAfterResume i.variant i.meaning s.begun s.middle (host_standing final new) left' s.taken s.sent result)
         → AreMade s waiting requests goes
         → ContinuesTo all others asked i y waiting final new (served_calls_in waiting goes) (IsInHand waiting goes) result
-    ends_by (inl e) a = at_once e.1 e.2 (recovers_last e.0 a)
+    ends_by (inl e) a = at_once (ap (λ (h : HostStanding). h.kept) e.0) e.1 (recovers_last (ap (λ (h : HostStanding). h.standing) e.0) a)
     ends_by (inr g) a = serves_on g a.0 a.1 a.2
 
     -- of the history of which was asked
@@ -358,13 +363,13 @@ module _ {all others : List (List ℕ)} {asked : List Batch} {i : Instance} {fin
     line_among : (told : List ServedCall) (number : ℕ) (at : SessionPlace) (left : Option (List ℕ)) (more sent : List ℕ)
         (a : AreAmong told (λ (request : List ℕ). (held : List ℕ) × BytesBeginWith more request held) requests)
         → (result : Result Unit SessionFault)
-        → (e : TurnGoes i.variant i.meaning number at final new left more [] sent (turn_answer_of result))
-        → IsLineAsked i.variant i.meaning number at final new left more sent a.served.0 result e
+        → (e : TurnGoes i.variant i.meaning number at (host_standing final new) left more [] sent (turn_answer_of result))
+        → IsLineAsked i.variant i.meaning number at (host_standing final new) left more sent a.served.0 result e
     line_among told number at left more sent a (Err (Host fault)) e = λ written. among_next told more a e.line e.held e.begins
     line_among told number at left more sent a (Err (Lines WriteFault)) e = λ written. among_next told more a e.line e.held e.begins
     line_among told number at left more sent a _ e = tt
 
-    made_among : (goes : SessionGoesAfterResume i.variant i.meaning s.begun s.platform final s.store new left' s.taken s.sent result)
+    made_among : (goes : SessionGoesAfterResume i.variant i.meaning s.begun s.middle (host_standing final new) left' s.taken s.sent result)
         → AreAmong (served_calls_in waiting goes) (IsInHand waiting goes) requests → AreMade s waiting requests goes
     made_among (inl e) a = λ made p k. let f = a.in_hand p.request (p, k, refl) in (f.0, sym f.1)
     made_among (inr g) a = (

@@ -6,6 +6,7 @@ use Rattle.mm_host.proofs.Below.{HostFault, Resumed, Start, Answered, IsNotBeyon
 use Rattle.mm_host.proofs.Below.{AnswersAt, IsGrown, RequestMayBeCommitted, RecoversTo, IsRefusedAs, position_at, SessionPlace}
 use Rattle.mm_host.proofs.Below.{CallsRunOver, first_served_call, inr, last_position, subst, ◌≤◌, ◌++◌, Variant, Life, StepFault, fault_of}
 use Rattle.mm_host.proofs.Below.{by_refusal, AreNewFrom, AreToldOnce, RefusesAs, ServedCall, Host}
+use Rattle.mm_host.proofs.Below.{HostStanding}
 use Rattle.mm_model.specs.declared.refusal.Refusal.TheVariants as refusal
 use Rattle.mm_recovery.specs.declared.fault.HostFault.TheVariants as host
 use Rattle.mm_host.proofs.Leading.{answered_first, same_pending}
@@ -17,7 +18,7 @@ pub record IsSettledAt (all others : List (List ℕ)) (asked : List Batch) (i : 
   pub from : History
   pub slots : Slots
   pub waiting : Option PendingRecord
-  pub came : RecoversTo all others asked i from slots waiting at.platform at.store (Ok at.last)
+  pub came : RecoversTo all others asked i from slots waiting at.host (Ok at.last)
   pub open came use *
   pub recorded : waiting_position waiting ≡ position_at at.last
   pub at_end : position_at at.last ≡ total_of came.after.batches
@@ -69,10 +70,9 @@ pub answers_of : (i : Instance) (y after : History) (p : PendingRecord) (answer 
     × (batch_answer_of answer ≡ answer_on i after (One p.request) (nat_eq p.position (total_of y.batches)))
 answers_of i y after p answer a = let same : a.p ≡ p = same_pending p a.p a.waits in (rw same at a.position, rw same at a.answer_is)
 
-module _ {all others : List (List ℕ)} {asked : List Batch} {i : Instance} {y : History} {slots : Slots} {standing : Standing}
-    {kept : StoreStanding} where
+module _ {all others : List (List ℕ)} {asked : List Batch} {i : Instance} {y : History} {slots : Slots} {here : HostStanding} where
   abbrev pub came_by : (waiting : Option PendingRecord) (came : Result Resumed HostFault)
-      → RecoversTo all others asked i y slots waiting standing kept came → CameTo all others asked i y waiting standing kept came
+      → RecoversTo all others asked i y slots waiting here came → CameTo all others asked i y waiting here.standing here.kept came
   came_by waiting came r = record {
     after = r.after;
     stands = r.stands;
@@ -91,13 +91,13 @@ module _ {all others : List (List ℕ)} {asked : List Batch} {i : Instance} {y :
 
   -- what waited, and was told
   pub record Went (waiting : Option PendingRecord) (first : Resumed)
-      (r : RecoversTo all others asked i y slots waiting standing kept (Ok first)) : Type 0 where
+      (r : RecoversTo all others asked i y slots waiting here (Ok first)) : Type 0 where
     pub recorded : waiting_position waiting ≡ position_at first
     pub at_end : position_at first ≡ total_of r.after.batches
     pub run : CallsRunOver i.meaning (requests_of y.batches) (first_served_call waiting first) (requests_of r.after.batches)
 
   pub went_first : (waiting : Option PendingRecord) (first : Resumed) → FitsBy i slots y waiting
-      → (r : RecoversTo all others asked i y slots waiting standing kept (Ok first)) → Went waiting first r
+      → (r : RecoversTo all others asked i y slots waiting here (Ok first)) → Went waiting first r
   went_first None (Start first) f r = let none : FitsBy i r.slots_after r.after None = rw r.same_wait at r.fits.fits in
       record { recorded = refl; at_end = sym none.0; run = ap requests_of r.grown }
   went_first None (Answered answer) f r = let clash : None ≡ Some r.comes.p = r.comes.waits in absurd (cc)
@@ -109,7 +109,7 @@ module _ {all others : List (List ℕ)} {asked : List Batch} {i : Instance} {y :
 
   -- with the lines behind it
   pub once_first : (waiting : Option PendingRecord) (first : Resumed)
-      → (r : RecoversTo all others asked i y slots waiting standing kept (Ok first)) → (calls : List ServedCall)
+      → (r : RecoversTo all others asked i y slots waiting here (Ok first)) → (calls : List ServedCall)
       → AreNewFrom (total_of r.after.batches) calls → AreToldOnce (total_of y.batches) waiting (first_served_call waiting first ++ calls)
   once_first None (Start first) r calls new =
       subst (λ (bs : List Batch). AreNewFrom (total_of bs) calls) r.grown new
@@ -124,8 +124,8 @@ module _ {all others : List (List ℕ)} {asked : List Batch} {i : Instance} {y :
       )
 
   abbrev pub settled_by : (waiting : Option PendingRecord) (last : Resumed) → FitsBy i slots y waiting
-      → RecoversTo all others asked i y slots waiting standing kept (Ok last)
-      → IsSettledAt all others asked i (record { platform = standing; store = kept; last = last })
+      → RecoversTo all others asked i y slots waiting here (Ok last)
+      → IsSettledAt all others asked i (record { host = here; last = last })
   settled_by waiting last f r = record {
     from = y;
     slots = slots;

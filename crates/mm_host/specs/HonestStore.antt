@@ -1,5 +1,5 @@
 -- What a session comes to over an honest store, in either variant: it may be gone on with.
-use Rattle.std.specs.Prelude.{◌≡◌, ℕ, true, List, ◌++◌, Option, Some, Result}
+use Rattle.std.specs.Prelude.{◌≡◌, ℕ, true, List, ◌++◌, Some, Result}
 use Rattle.mm_host.specs.Below.{Variant, Basic, Opt, Item, Standing, Batch, Meaning, History, Instance, basic_instance, opt_instance}
 use Rattle.mm_host.specs.Below.{IsClear, AreNoGuards, StandsFor, IsWithin, AreShown, standing_items, StoreStanding, Slots, FitsHistory}
 use Rattle.mm_host.specs.Below.{first_offer}

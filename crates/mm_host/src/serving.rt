@@ -4,11 +4,13 @@ ghost use Rattle.std.specs.Prelude.{◌≡◌, ◌+◌, ◌≤◌, ℕ, false, L
 ghost use Rattle.mm_base.specs.Lines.{IsLineFront};
 ghost use Rattle.mm_base.specs.Limits.{longest_request};
 ghost use Rattle.mm_play.specs.PlaysInput.{IsBlamed};
+ghost use Rattle.mm_recovery.specs.HostStanding.{host_standing};
 ghost use Rattle.mm_recovery.specs.LastAnswer.{IsSized};
 ghost use Rattle.mm_host.specs.AnySlots.{SessionRunsOnce};
 ghost use Rattle.mm_host.specs.HonestStore.{SessionContinues};
 ghost use Rattle.mm_host.specs.SessionBlame.{IsRefusalNamed, is_platform_fault, is_read_fault, is_store_fault, is_write_fault};
 ghost use Rattle.mm_host.specs.SessionLines.{SparesLines};
+ghost use Rattle.mm_host.specs.SessionStanding.{session_standing};
 ghost use Rattle.mm_host.specs.SessionWrites.{SessionWrites};
 ghost use Rattle.mm_host.specs.Sessions.{IsSession, most_lines, AsksAndTells, BytesBeginWith, ServesInput, ServesNext, TurnSends};
 
@@ -49,9 +51,11 @@ pub fn session<M: Module, P: Platform, T: Store, S: Source, K: Sink>(
     input: &mut S,
     out: &mut K,
 ) -> Result<(), SessionFault>
-    ensures sessions { IsSession variant (M.meaning «module».now) (P.standing platform.old)
-        (P.standing platform.new) (T.kept store.old) (T.kept store.new) (S.left input.old)
-        (S.left input.new) (K.received out.old) (K.received out.new) result }
+    ensures sessions { IsSession variant (M.meaning «module».now)
+        (session_standing (P.standing platform.old) (T.kept store.old) (S.left input.old)
+        (K.received out.old))
+        (session_standing (P.standing platform.new) (T.kept store.new) (S.left input.new)
+        (K.received out.new)) result }
     ensures platform { IsBlamed (is_platform_fault result) (P.standing platform.old).faults
         (P.standing platform.new).faults }
     ensures store { IsBlamed (is_store_fault result) (T.kept store.old).faults
@@ -60,15 +64,21 @@ pub fn session<M: Module, P: Platform, T: Store, S: Source, K: Sink>(
     ensures wrote { IsBlamed (is_write_fault result) (K.faults out.old) (K.faults out.new) }
     ensures named { IsRefusalNamed result }
     ensures lines { SparesLines (S.left input.old) result }
-    ensures continues { SessionContinues variant (M.meaning «module».now) (P.standing platform.old)
-        (P.standing platform.new) (T.kept store.old) (T.kept store.new) (S.left input.old)
-        (S.left input.new) (K.received out.old) (K.received out.new) result }
-    ensures once { SessionRunsOnce variant (M.meaning «module».now) (P.standing platform.old)
-        (P.standing platform.new) (T.kept store.old) (T.kept store.new) (S.left input.old)
-        (S.left input.new) (K.received out.old) (K.received out.new) result }
-    ensures writes { SessionWrites variant (M.meaning «module».now) (P.standing platform.old)
-        (P.standing platform.new) (T.kept store.old) (T.kept store.new) (S.left input.old)
-        (S.left input.new) (K.received out.old) (K.received out.new) result }
+    ensures continues { SessionContinues variant (M.meaning «module».now)
+        (session_standing (P.standing platform.old) (T.kept store.old) (S.left input.old)
+        (K.received out.old))
+        (session_standing (P.standing platform.new) (T.kept store.new) (S.left input.new)
+        (K.received out.new)) result }
+    ensures once { SessionRunsOnce variant (M.meaning «module».now)
+        (session_standing (P.standing platform.old) (T.kept store.old) (S.left input.old)
+        (K.received out.old))
+        (session_standing (P.standing platform.new) (T.kept store.new) (S.left input.new)
+        (K.received out.new)) result }
+    ensures writes { SessionWrites variant (M.meaning «module».now)
+        (session_standing (P.standing platform.old) (T.kept store.old) (S.left input.old)
+        (K.received out.old))
+        (session_standing (P.standing platform.new) (T.kept store.new) (S.left input.new)
+        (K.received out.new)) result }
 {
     let caller = Caller {
         alloc,
@@ -87,8 +97,10 @@ fn session_by_steps<M: Module, P: Platform, T: Store, S: Source, K: Sink>(
     out: &mut K,
 ) -> Result<(), SessionFault>
     ensures sessions { IsSession caller.now.variant (M.meaning caller.now.«module».now)
-        (P.standing platform.old) (P.standing platform.new) (T.kept store.old) (T.kept store.new)
-        (S.left input.old) (S.left input.new) (K.received out.old) (K.received out.new) result }
+        (session_standing (P.standing platform.old) (T.kept store.old) (S.left input.old)
+        (K.received out.old))
+        (session_standing (P.standing platform.new) (T.kept store.new) (S.left input.new)
+        (K.received out.new)) result }
     ensures read { IsBlamed (is_read_fault result) (S.faults input.old) (S.faults input.new) }
     ensures wrote { IsBlamed (is_write_fault result) (K.faults out.old) (K.faults out.new) }
 {
@@ -112,10 +124,11 @@ fn serve_lines<M: Module, P: Platform, T: Store, S: Source, K: Sink>(
 ) -> Result<(), SessionFault>
     requires nothing { reader ≡ [] }
     requires sized { IsSized first }
-    ensures serves { ServesInput caller.now.variant (M.meaning caller.now.«module».now) 1
-        (record { platform = P.standing platform.old; store = T.kept store.old; last = first })
-        (P.standing platform.new) (T.kept store.new) (S.left input.old) (S.left input.new) []
-        (K.received out.old) (K.received out.new) result }
+    ensures serves { ServesInput caller.now.variant (M.meaning caller.now.«module».now) 1 first
+        (session_standing (P.standing platform.old) (T.kept store.old) (S.left input.old)
+        (K.received out.old))
+        (session_standing (P.standing platform.new) (T.kept store.new) (S.left input.new)
+        (K.received out.new)) [] result }
     ensures read { IsBlamed (is_read_fault result) (S.faults input.old) (S.faults input.new) }
     ensures wrote { IsBlamed (is_write_fault result) (K.faults out.old) (K.faults out.new) }
 {
@@ -153,13 +166,11 @@ fn serve_next<M: Module, P: Platform, T: Store, S: Source, K: Sink>(
     requires number { turn.now.number ≤ most_lines + 1 }
     requires sized { IsSized turn.now.last }
     ensures turns { ServesNext caller.now.variant (M.meaning caller.now.«module».now)
-        turn.now.number (record {
-          platform = P.standing platform.old;
-          store = T.kept store.old;
-          last = turn.now.last;
-        })
-        (P.standing platform.new) (T.kept store.new) (S.left input.old) (S.left input.new)
-        reader.old reader.new (K.received out.old) (K.received out.new) result }
+        turn.now.number turn.now.last
+        (session_standing (P.standing platform.old) (T.kept store.old) (S.left input.old)
+        (K.received out.old))
+        (session_standing (P.standing platform.new) (T.kept store.new) (S.left input.new)
+        (K.received out.new)) reader.old reader.new result }
     ensures sized { IfOk result (λ next. IfSome next IsSized) }
     ensures read { IsBlamed (is_read_fault result) (S.faults input.old) (S.faults input.new) }
     ensures wrote { IsBlamed (is_write_fault result) (K.faults out.old) (K.faults out.new) }
@@ -189,12 +200,11 @@ fn serve_line<M: Module, P: Platform, T: Store, K: Sink>(
     ensures turns { (left : Option (List ℕ)) (bytes held : List ℕ) →
         turn.now.number ≤ most_lines + 1 → BytesBeginWith bytes line.now held →
         TurnSends caller.now.variant (M.meaning caller.now.«module».now) turn.now.number (record {
-          platform = P.standing platform.old;
-          store = T.kept store.old;
+          host = host_standing (P.standing platform.old) (T.kept store.old);
           last = turn.now.last;
         })
-        (P.standing platform.new) (T.kept store.new) left bytes held (K.received out.old)
-        (K.received out.new) result }
+        (host_standing (P.standing platform.new) (T.kept store.new)) left bytes held
+        (K.received out.old) (K.received out.new) result }
     ensures sized { IfOk result (λ next. IfSome next IsSized) }
     ensures unread { is_read_fault result ≡ false }
     ensures wrote { IsBlamed (is_write_fault result) (K.faults out.old) (K.faults out.new) }
@@ -220,9 +230,12 @@ fn ask_and_tell<M: Module, P: Platform, T: Store, K: Sink>(
     requires sized { IsSized last.now }
     requires line { IsLineFront longest_request line.now }
     ensures asks { AsksAndTells caller.now.variant (M.meaning caller.now.«module».now)
-        (record { platform = P.standing platform.old; store = T.kept store.old; last = last.now })
-        (P.standing platform.new) (T.kept store.new) (K.received out.old) (K.received out.new)
-        line.now result }
+        (record {
+          host = host_standing (P.standing platform.old) (T.kept store.old);
+          last = last.now;
+        })
+        (host_standing (P.standing platform.new) (T.kept store.new)) (K.received out.old)
+        (K.received out.new) line.now result }
     ensures sized { IfOk result IsSized }
     ensures wrote { IsBlamed (is_write_fault result) (K.faults out.old) (K.faults out.new) }
 {

@@ -84,10 +84,11 @@ pub use Rattle.mm_recovery.specs.FirstStart.{InstanceBegins, BlamesDevice, first
 pub use Rattle.mm_recovery.specs.FirstStart.{ShowsValues, TellsUse}
 pub use Rattle.mm_recovery.specs.CellWrites.{CallWrites, is_open_after, IsNewAt, IsNewOf, LeavesFlag, AnswerLeavesFlag, new_requests_by}
 pub use Rattle.mm_recovery.specs.CellWrites.{new_requests_at, openings, RequestWrites, TellsFlag, CellIsWrittenByOpening, CellIsWrittenFor}
+pub use Rattle.mm_recovery.specs.HostStanding.{HostStanding, host_standing}
 pub use Rattle.mm_recovery.specs.Faults.{refusal_fault, store_fault_as}
 pub use Rattle.mm_recovery.specs.SlotFit.{first_offer, FitsBy, FitsHistory, IsSnapshotAt, IsAwaited, offer_slot}
 pub use Rattle.mm_recovery.specs.Init.{GoesAfterLooking, GoesAfterAllPuts, GoesAfterTaking, Devices, first_puts, InitGoes, instance_from}
-pub use Rattle.mm_recovery.specs.Init.{LooksAtCell, SlotPut, PutsAll, SetsUp, TakesBytes, result_of_write}
+pub use Rattle.mm_recovery.specs.Init.{host_among, LooksAtCell, SlotPut, PutsAll, SetsUp, TakesBytes, result_of_write}
 pub use Rattle.mm_recovery.specs.NextRequest.{HostGoesAfterRecord, AsksNextRequest}
 pub use Rattle.mm_recovery.specs.Recovery.{AnswersAt, AsksIdly, CanRecover, ResumeComesTo, IsAskedFor, IsGrown, IsRefusedAs}
 pub use Rattle.mm_recovery.specs.Recovery.{RequestMayBeCommitted, HostRecovers, RecoversTo}

@@ -4,7 +4,7 @@ use Rattle.mm_recovery.proofs.Below.{Standing, Meaning, Answer, Refusal, Long, C
 use Rattle.mm_recovery.proofs.Below.{StoreStanding, PendingRecord, HostFault, Resumed, store_fault_as, refusal_fault, HostGoesAfterRecord}
 use Rattle.mm_recovery.proofs.Below.{AsksNextRequest, HostGoesAfterTwo, result_of_start, result_of_keep, HostGoesAfterAsk}
 use Rattle.mm_recovery.proofs.Below.{HostGoesAfterOffer, HostGoesAfterFinding, HostResumes, IsCall, CallWrites, CellIsWrittenFor}
-use Rattle.mm_recovery.proofs.Below.{new_requests_by, IsNewOf, RequestWrites, new_requests_at}
+use Rattle.mm_recovery.proofs.Below.{new_requests_by, IsNewOf, RequestWrites, new_requests_at, HostStanding, host_standing}
 use Rattle.mm_recovery.specs.Blame.{BlamesHostFault, IsNamed}
 use Rattle.mm_recovery.proofs.CellWriting.{AnsweredWrites, LeadsOver, leads_answer, leads_rest, rests}
 use Rattle.mm_model.specs.declared.refusal.Refusal.TheVariants as refusal
@@ -17,8 +17,8 @@ by_refusal P memory other refusal.Memory = memory
 by_refusal P memory other why = other why (λ e. cc)
 
 -- whose fault it is, and that a refusal is named
-pub record Told (result : Result Resumed HostFault) (before after : Standing) (old new : StoreStanding) : Type 0 where
-  pub blamed : BlamesHostFault result before after old new
+pub record Told (result : Result Resumed HostFault) (old new : HostStanding) : Type 0 where
+  pub blamed : BlamesHostFault result old new
   pub named : IsNamed result
 
 -- what a recovery or a line came to, with its new requests
@@ -41,10 +41,11 @@ two_counted two old middle new result c g = grind (arith, c, g)
 
 module _ (variant : Variant) (meaning : Meaning) (before after : Standing) where
   record Exit (old new : StoreStanding) (result : Result Resumed HostFault) : Type 0 where
-    told : Told result before after old new
+    told : Told result (host_standing before old) (host_standing after new)
     came : CameWrites variant result before after
 
-  exit_of : {old new : StoreStanding} {result : Result Resumed HostFault} → BlamesHostFault result before after old new → IsNamed result
+  exit_of : {old new : StoreStanding} {result : Result Resumed HostFault}
+      → BlamesHostFault result (host_standing before old) (host_standing after new) → IsNamed result
       → (requests : ℕ) → IsNewOf result requests → CellIsWrittenFor variant requests before after
       → LeadsBy variant result requests before after
       → Exit old new result
@@ -63,15 +64,18 @@ module _ (variant : Variant) (meaning : Meaning) (before after : Standing) where
   -- an exit where the store failed, and nothing was asked
   failed_exit : (T : Type 0) (why : StoreFault) (old middle new : StoreStanding) (result : Result Resumed HostFault)
       → CountsFailures {T = T} old.faults middle.faults (Err why)
-      → (after ≡ before) × (new ≡ middle) × (result ≡ Err (store_fault_as why)) → Exit old new result
-  failed_exit T why old middle new result c g = grind (arith, stored_exit, rests, c, g)
+      → (host_standing after new ≡ host_standing before middle) × (result ≡ Err (store_fault_as why)) → Exit old new result
+  failed_exit T why old middle new result c g =
+      let s : after ≡ before = ap (λ (h : HostStanding). h.standing) g.0 in
+      let k : new ≡ middle = ap (λ (h : HostStanding). h.kept) g.0 in grind (arith, stored_exit, rests, c, s, k, g.1)
 
   started_exit : (zero : Result (List ℕ) StoreFault) (old new : StoreStanding) → after ≡ before → CountsFailures old.faults new.faults zero
       → Exit old new (result_of_start zero)
   started_exit (Ok first) old new s c =
       exit_of (ap (λ (x : Standing). x.faults) s, c) (record { remembered = λ e. absurd (cc); short = λ e. absurd (cc) }) 0 refl
       (rests variant before after s) (leads_rest variant before after s)
-  started_exit (Err why) old new s c = failed_exit (List ℕ) why old new new (Err (store_fault_as why)) c (s, refl, refl)
+  started_exit (Err why) old new s c =
+      failed_exit (List ℕ) why old new new (Err (store_fault_as why)) c (ap (λ (x : Standing). host_standing x new) s, refl)
 
   -- a call, and the answer's snapshot
   refused_exit : (why : Refusal) (old new : StoreStanding) → CountsHandedFault (fault_of why) before.faults after.faults → why ≢ Long
@@ -99,45 +103,60 @@ module _ (variant : Variant) (meaning : Meaning) (before after : Standing) where
   -- what waited
   offered_exit : (offer : Result (List ℕ) StoreFault) (old middle new : StoreStanding) (p : PendingRecord)
       (result : Result Resumed HostFault)
-      → CountsFailures old.faults middle.faults offer → HostGoesAfterOffer variant meaning before after offer middle new p result
+      → CountsFailures old.faults middle.faults offer
+      → HostGoesAfterOffer variant meaning offer (host_standing before middle) (host_standing after new) p result
       → Exit old new result
   offered_exit (Err why) old middle new p result c g = failed_exit (List ℕ) why old middle new result c g
   offered_exit (Ok offer) old middle new p result c g = asked_exit offer p.request g.asked old middle new result c g.asks g.goes
 
   found_exit : (waiting : Result (Option PendingRecord) StoreFault) (old middle new : StoreStanding) (result : Result Resumed HostFault)
-      → CountsFailures old.faults middle.faults waiting → HostGoesAfterFinding variant meaning before after waiting middle new result
+      → CountsFailures old.faults middle.faults waiting
+      → HostGoesAfterFinding variant meaning waiting (host_standing before middle) (host_standing after new) result
       → Exit old new result
   found_exit (Err why) old middle new result c g = failed_exit (Option PendingRecord) why old middle new result c g
   found_exit (Ok None) old middle new result c g = rw g.1.gives (started_exit g.1.zero old new g.0 (rw (sym c) g.1.reads.counted))
   found_exit (Ok (Some p)) old middle new result c g =
       offered_exit g.offer old g.middle new p result (rw (sym c) g.reads.counted) g.goes
 
-  resumes_exit : (old new : StoreStanding) (result : Result Resumed HostFault) → HostResumes variant meaning before after old new result
-      → Exit old new result
+  resumes_exit : (old new : StoreStanding) (result : Result Resumed HostFault)
+      → HostResumes variant meaning (host_standing before old) (host_standing after new) result → Exit old new result
   resumes_exit old new result r =
       found_exit r.waiting old r.middle new result
       (two_counted r.finds.two old r.finds.middle r.middle r.waiting r.finds.reads.counted r.finds.goes) r.goes
 
-  pub resumes_told : (old new : StoreStanding) (result : Result Resumed HostFault) → HostResumes variant meaning before after old new result
-      → Told result before after old new
-  resumes_told old new result r = (resumes_exit old new result r).told
-
-  pub resumes_came : (old new : StoreStanding) (result : Result Resumed HostFault) → HostResumes variant meaning before after old new result
-      → CameWrites variant result before after
-  resumes_came old new result r = (resumes_exit old new result r).came
-
   -- one more request
-  module _ (old new : StoreStanding) (last : Resumed) (request : List ℕ) (came : Result Resumed HostFault) where
-    recorded_exit : (recorded : Result Unit StoreFault) (middle : StoreStanding) → CountsFailures old.faults middle.faults recorded
-        → HostGoesAfterRecord variant meaning before after recorded middle new last request came → Exit old new came
-    recorded_exit (Ok it) middle c g = asked_exit _ request g.asked old middle new came c g.asks g.goes
-    recorded_exit (Err why) middle c g = failed_exit Unit why old middle new came c g
+  recorded_exit : (old new : StoreStanding) (last : Resumed) (request : List ℕ) (came : Result Resumed HostFault)
+      (recorded : Result Unit StoreFault) (middle : StoreStanding) → CountsFailures old.faults middle.faults recorded
+      → HostGoesAfterRecord variant meaning recorded (host_standing before middle) (host_standing after new) last request came
+      → Exit old new came
+  recorded_exit old new last request came (Ok it) middle c g = asked_exit _ request g.asked old middle new came c g.asks g.goes
+  recorded_exit old new last request came (Err why) middle c g = failed_exit Unit why old middle new came c g
 
-    pub next_told : AsksNextRequest variant meaning before after old new last request came → Told came before after old new
-    next_told a = (recorded_exit a.recorded a.middle a.records.counted a.goes).told
+module _ (variant : Variant) (meaning : Meaning) (old new : HostStanding) where
+  resumes_out : (result : Result Resumed HostFault) → HostResumes variant meaning old new result
+      → Exit variant meaning old.standing new.standing old.kept new.kept result
+  resumes_out result r = resumes_exit variant meaning old.standing new.standing old.kept new.kept result r
 
-    pub next_came : AsksNextRequest variant meaning before after old new last request came → CameWrites variant came before after
-    next_came a = (recorded_exit a.recorded a.middle a.records.counted a.goes).came
+  pub resumes_told : (result : Result Resumed HostFault) → HostResumes variant meaning old new result → Told result old new
+  resumes_told result r = (resumes_out result r).told
+
+  pub resumes_came : (result : Result Resumed HostFault) → HostResumes variant meaning old new result
+      → CameWrites variant result old.standing new.standing
+  resumes_came result r = (resumes_out result r).came
+
+  module _ (last : Resumed) (request : List ℕ) (came : Result Resumed HostFault) where
+    next_out : AsksNextRequest variant meaning old new last request came
+        → Exit variant meaning old.standing new.standing old.kept new.kept came
+    next_out a =
+        recorded_exit variant meaning old.standing new.standing old.kept new.kept last request came a.recorded a.middle a.records.counted
+        a.goes
+
+    pub next_told : AsksNextRequest variant meaning old new last request came → Told came old new
+    next_told a = (next_out a).told
+
+    pub next_came : AsksNextRequest variant meaning old new last request came
+        → CameWrites variant came old.standing new.standing
+    next_came a = (next_out a).came
 
 -- answered calls
 pub answered_writes : (variant : Variant) (it : Resumed) (before after : Standing) → CameWrites variant (Ok it) before after

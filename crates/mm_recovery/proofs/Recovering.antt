@@ -8,7 +8,7 @@ use Rattle.mm_recovery.proofs.Below.{HostFault, Resumed, Start, store_fault_as, 
 use Rattle.mm_recovery.proofs.Below.{HostGoesAfterAsk, HostGoesAfterOffer, HostGoesAfterFinding, HostResumes, IsCall, offer_slot}
 use Rattle.mm_recovery.proofs.Below.{IsSnapshotAt, FitsBy, IsAskedFor, AnswersAt, CanRecover, IsGrown, AsksIdly, ResumeComesTo}
 use Rattle.mm_recovery.proofs.Below.{RequestMayBeCommitted, HostRecovers, RecoversTo, one_reading, HostGoesAfterTwo, HostGoesAfterThree}
-use Rattle.mm_recovery.proofs.Below.{FitsHistory, IsWithin}
+use Rattle.mm_recovery.proofs.Below.{FitsHistory, IsWithin, HostStanding, host_standing}
 use Rattle.mm_recovery.specs.LastAnswer.{position_at, snapshot_at}
 use Rattle.mm_recovery.specs.declared.resuming.Resumed.TheVariants.{Answered}
 use Rattle.mm_recovery.proofs.Slots.{IsElsewhere, elsewhere_same, elsewhere_put, seen_put, holds_issued}
@@ -85,7 +85,8 @@ abbrev pub Recovered : (More : History → Type 0) (all others : List (List ℕ)
     (slots : Slots) (waiting : Option PendingRecord) (standing : Standing) (kept : StoreStanding) (result : Result Resumed HostFault)
     → Type 0
 Recovered More all others asked i y slots waiting standing kept result =
-    (r : RecoversTo all others asked i y slots waiting standing kept result) × IfOk result (λ (resumed : Resumed). More r.after)
+    (r : RecoversTo all others asked i y slots waiting (host_standing standing kept) result)
+    × IfOk result (λ (resumed : Resumed). More r.after)
 
 -- A call for the request that waits leads on, whatever it gives, to what this result allows.
 abbrev pub LeadsOn : (More : History → Type 0) (all others : List (List ℕ)) (asked : List Batch) (variant : Variant) (i : Instance)
@@ -197,8 +198,8 @@ pub record Enters (all others : List (List ℕ)) (asked : List Batch) (i : Insta
   pub fits : FitsHistory i slots y
   pub within : IsWithin all others asked i y
 
-abbrev entered : {all others : List (List ℕ)} {asked : List Batch} {i : Instance} {y : History} {slots : Slots} {standing : Standing}
-    {kept : StoreStanding} → CanRecover all others asked i y slots standing kept → Enters all others asked i y slots standing kept
+abbrev entered : {all others : List (List ℕ)} {asked : List Batch} {i : Instance} {y : History} {slots : Slots} {at : HostStanding}
+    → CanRecover all others asked i y slots at → Enters all others asked i y slots at.standing at.kept
 entered can = record { honest = can.honest; told = can.told; stands = can.stands; fits = can.fits; within = can.within }
 
 -- it leads on from slots that fit
@@ -220,8 +221,8 @@ module _ (all others : List (List ℕ)) (asked : List Batch) (i : Instance) (y :
   offered_at p e = offered_by i y slots p (waits_at p e) (fits_at p e)
 
 -- what an honest store's slots ask of the call for what waits
-module _ (all others : List (List ℕ)) (asked : List Batch) (i : Instance) (y : History) (slots : Slots) (before : Standing)
-    (old : StoreStanding) (can : CanRecover all others asked i y slots before old) where
+module _ (all others : List (List ℕ)) (asked : List Batch) (i : Instance) (y : History) (slots : Slots) (at : HostStanding)
+    (can : CanRecover all others asked i y slots at) where
   pub asked_at : (p : PendingRecord) → can.fits.waiting ≡ Some p
       → AreAsked all others asked i y (slot_front slots (offer_slot p)) (One p.request)
   asked_at p e =
@@ -232,7 +233,7 @@ module _ (all others : List (List ℕ)) (asked : List Batch) (i : Instance) (y :
         within = can.within;
         is_asked = a.0;
         genuine = genuine_by i y (slot_front slots (offer_slot p)) (p.position - 1)
-            (fits_at all others asked i y slots before old (entered can) p e).1;
+            (fits_at all others asked i y slots at.standing at.kept (entered can) p e).1;
         offered = a.1;
       }
 
@@ -241,12 +242,12 @@ abbrev pub MadeOf : Result (List ℕ) StoreFault → Type 0
 MadeOf (Ok offer) = Unit {0}
 MadeOf (Err why) = ⊥
 
-abbrev pub IsMade : (variant : Variant) (meaning : Meaning) (before after : Standing) (waiting : Result (Option PendingRecord) StoreFault)
-    (old new : StoreStanding) (result : Result Resumed HostFault) → HostGoesAfterFinding variant meaning before after waiting old new result
+abbrev pub IsMade : (variant : Variant) (meaning : Meaning) (waiting : Result (Option PendingRecord) StoreFault)
+    (middle new : HostStanding) (result : Result Resumed HostFault) → HostGoesAfterFinding variant meaning waiting middle new result
     → Type 0
-IsMade variant meaning before after (Ok (Some p)) old new result g = MadeOf g.offer
-IsMade variant meaning before after (Ok None) old new result g = ⊥
-IsMade variant meaning before after (Err why) old new result g = ⊥
+IsMade variant meaning (Ok (Some p)) middle new result g = MadeOf g.offer
+IsMade variant meaning (Ok None) middle new result g = ⊥
+IsMade variant meaning (Err why) middle new result g = ⊥
 
 module _ (More : History → Type 0) (variant : Variant) (all others : List (List ℕ)) (asked : List Batch) (i : Instance)
     (lawful : IsLawful i.meaning) (y : History) (slots : Slots) (before after : Standing) (first : StoreStanding)
@@ -287,14 +288,15 @@ module _ (More : History → Type 0) (variant : Variant) (all others : List (Lis
 
   -- where the store failed before anything was asked
   failed_exit : (why : StoreFault) (middle new : StoreStanding) (result : Result Resumed HostFault) → middle.slots ≡ Some slots
-      → middle.is_honest ≡ true → (after ≡ before) × (new ≡ middle) × (result ≡ Err (store_fault_as why)) → Came new result
+      → middle.is_honest ≡ true → (host_standing after new ≡ host_standing before middle) × (result ≡ Err (store_fault_as why))
+      → Came new result
   failed_exit why middle new result t h g =
-      rw (g.1, g.2) (still_exit why middle g.0 t h)
+      rw (ap (λ (k : HostStanding). k.kept) g.0, g.1) (still_exit why middle (ap (λ (k : HostStanding). k.standing) g.0) t h)
 
   offer_exit : (offer : Result (List ℕ) StoreFault) (old middle new : StoreStanding) (p : PendingRecord) (result : Result Resumed HostFault)
       → (MadeOf offer → Made) → (Made → LeadsOn More all others asked variant i y slots can.fits.waiting before after result)
       → can.fits.waiting ≡ Some p → old.slots ≡ Some slots → old.is_honest ≡ true → ReadsSlot (offer_slot p) old middle offer
-      → HostGoesAfterOffer variant i.meaning before after offer middle new p result → Came new result
+      → HostGoesAfterOffer variant i.meaning offer (host_standing before middle) (host_standing after new) p result → Came new result
   offer_exit (Err why) old middle new p result made leads e t h r g = failed_exit why middle new result (r.slots ∙ t) (r.honest ∙ h) g
   offer_exit (Ok offer) old middle new p result made leads e t h r g =
       let l = leads (made tt) p g.asked e (refusal_told g.asked middle new result g.goes)
@@ -317,8 +319,8 @@ module _ (More : History → Type 0) (variant : Variant) (all others : List (Lis
 
   found_exit : (waiting : Result (Option PendingRecord) StoreFault) (middle new : StoreStanding) (result : Result Resumed HostFault)
       → (can.fits.waiting ≡ None → after ≡ before → More y) → Saw slots first middle waiting
-      → (g : HostGoesAfterFinding variant i.meaning before after waiting middle new result)
-      → (IsMade variant i.meaning before after waiting middle new result g → Made)
+      → (g : HostGoesAfterFinding variant i.meaning waiting (host_standing before middle) (host_standing after new) result)
+      → (IsMade variant i.meaning waiting (host_standing before middle) (host_standing after new) result g → Made)
       → (Made → LeadsOn More all others asked variant i y slots can.fits.waiting before after result) → Came new result
   found_exit (Err why) middle new result m s g made leads = failed_exit why middle new result s.told (s.honest ∙ can.honest) g
   found_exit (Ok None) middle new result m s g made leads =
@@ -332,13 +334,14 @@ pub recovers_by : (More : History → Type 0) (variant : Variant) (all others : 
     → IsLawful i.meaning → (y : History) (slots : Slots) (before after : Standing) (first : StoreStanding)
     (can : Enters all others asked i y slots before first) (new : StoreStanding) (result : Result Resumed HostFault)
     → (can.fits.waiting ≡ None → after ≡ before → More y)
-    → (r : HostResumes variant i.meaning before after first new result)
-    → (IsMade variant i.meaning before after r.waiting r.middle new result r.goes
+    → (r : HostResumes variant i.meaning (host_standing before first) (host_standing after new) result)
+    → (IsMade variant i.meaning r.waiting (host_standing before r.middle) (host_standing after new) result r.goes
     → LeadsOn More all others asked variant i y slots can.fits.waiting before after result)
     → Recovered More all others asked i y slots can.fits.waiting after new result
 recovers_by More variant all others asked i lawful y slots before after first can new result m r leads =
     found_exit More variant all others asked i lawful y slots before after first can
-    (IsMade variant i.meaning before after r.waiting r.middle new result r.goes) r.waiting r.middle new result m
+    (IsMade variant i.meaning r.waiting (host_standing before r.middle) (host_standing after new) result r.goes) r.waiting r.middle new
+    result m
     (saw_two slots r.finds.two first r.finds.middle r.middle r.waiting can.told r.finds.reads r.finds.goes) r.goes (λ x. x) leads
 
 -- Nothing more is asked to be known.
@@ -346,19 +349,23 @@ abbrev pub NoMore : History → Type 0
 NoMore after = Unit {0}
 
 pub recovers : (variant : Variant) (meaning : Meaning) → IsLawful meaning
-    → (before after : Standing) (old new : StoreStanding) (result : Result Resumed HostFault)
-    → HostResumes variant meaning before after old new result → HostRecovers variant meaning before after old new result
-recovers Basic meaning lawful before after old new result r = λ key y slots all others asked can.
+    → (old new : HostStanding) (result : Result Resumed HostFault)
+    → HostResumes variant meaning old new result → HostRecovers variant meaning old new result
+recovers Basic meaning lawful old new result r = λ key y slots all others asked can.
     let i : Instance = basic_instance meaning key in
-    (recovers_by NoMore Basic all others asked i lawful y slots before after old (entered can) new result (λ n e. tt) r
-    (λ made p call e told c. left_by all others asked i y slots before old (entered can) NoMore after p (batch_result_of call) e
-    (basic_met meaning lawful key all others asked y before after (slot_front slots (offer_slot p)) p (batch_result_of call)
+    (recovers_by NoMore Basic all others asked i lawful y slots old.standing new.standing old.kept (entered can) new.kept result
+    (λ n e. tt) r
+    (λ made p call e told c. left_by all others asked i y slots old.standing old.kept (entered can) NoMore new.standing p
+    (batch_result_of call) e
+    (basic_met meaning lawful key all others asked y old.standing new.standing (slot_front slots (offer_slot p)) p (batch_result_of call)
     c.goes can.stands
-    (asked_at all others asked i y slots before old can p e)) tt)).0
-recovers Opt meaning lawful before after old new result r = λ key barrier y slots all others asked items more can known ends shown_so.
+    (asked_at all others asked i y slots old can p e)) tt)).0
+recovers Opt meaning lawful old new result r = λ key barrier y slots all others asked items more can known ends shown_so.
     let i : Instance = opt_instance meaning key barrier in
-    (recovers_by NoMore Opt all others asked i lawful y slots before after old (entered can) new result (λ n e. tt) r
-    (λ made p call e told c. left_by all others asked i y slots before old (entered can) NoMore after p (batch_result_of call) e
-    (opt_met meaning lawful key barrier all others asked y before after (slot_front slots (offer_slot p)) p (batch_result_of call) c.goes
-    can.stands (asked_at all others asked i y slots before old can p e) items more known ends
+    (recovers_by NoMore Opt all others asked i lawful y slots old.standing new.standing old.kept (entered can) new.kept result
+    (λ n e. tt) r
+    (λ made p call e told c. left_by all others asked i y slots old.standing old.kept (entered can) NoMore new.standing p
+    (batch_result_of call) e
+    (opt_met meaning lawful key barrier all others asked y old.standing new.standing (slot_front slots (offer_slot p)) p
+    (batch_result_of call) c.goes can.stands (asked_at all others asked i y slots old can p e) items more known ends
     (λ busy. shown_so (λ k. busy (subst (λ (w : Option PendingRecord). AsksIdly i y slots w) e k)))) tt)).0

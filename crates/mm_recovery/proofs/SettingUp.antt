@@ -10,6 +10,7 @@ use Rattle.mm_recovery.proofs.Below.{PutsAll, result_of_write, GoesAfterAllPuts,
 use Rattle.mm_recovery.proofs.Below.{first_history_on, ShowsValues, InstanceBegins, InitLeaves, TellsUse, BlamesDevice, take-nil, take_all}
 use Rattle.mm_recovery.proofs.Below.{Contains, start_message, Batch, basic_instance, opt_instance, IsSound, IsWithin, ReadsPendingRecord}
 use Rattle.mm_recovery.proofs.Below.{longest_slot, slot_front, reads_none-short, longest_slot-is, IsWaiting, first_slots, IsFirstStore}
+use Rattle.mm_recovery.proofs.Below.{HostStanding, host_among, host_standing}
 use Rattle.std.proofs.lemmas.List.{length-take}
 use Rattle.std.specs.List.{fold}
 use Rattle.std.specs.Result.{result_err}
@@ -226,10 +227,11 @@ module _ (variant : Variant) (meaning : Meaning) (lawful : IsLawful meaning) (be
         rw g.1 (store_exit after why (rw g.0 f) source puts.counted)
     puts_exit (Ok it) result puts g = rw g.gives (write_exit g.written g.goes.is_made puts g.goes.cell g.goes.ends)
 
-    set_up_exit : (result : Result Unit InitFault) → SetsUp I middle after.platform before.store after.store result → Comes after result
+    set_up_exit : (result : Result Unit InitFault) → SetsUp I (host_standing middle before.store) (host_among after) result
+        → Comes after result
     set_up_exit result (inl none) =
-        rw none.2 (store_exit after fault.Memory (rw none.0 f) source
-        (ap (λ (k : StoreStanding). k.faults) none.1))
+        rw none.1 (store_exit after fault.Memory (rw (ap (λ (h : HostStanding). h.standing) none.0) f) source
+        (ap (λ (h : HostStanding). h.kept.faults) none.0))
     set_up_exit result (inr both) = puts_exit both.stored result (are_put _ _ _ _ both.puts) both.goes
 
   -- the exits of the source

@@ -8,7 +8,8 @@ use Rattle.mm_recovery.specs.declared.fault.HostFault.TheVariants.{Store, Refuse
 
 -- The store's count of faults rose exactly where Store is told, and the platform's exactly where a
 -- device's fault is.
-abbrev pub BlamesHostFault : {T : Type 0} → Result T HostFault → HostStanding → HostStanding → Type 0
+abbrev pub BlamesHostFault : {T : Type 0} → Result T HostFault → HostStanding → HostStanding
+    → Type 0
 BlamesHostFault (Err Store) old new =
     (new.standing.faults ≡ old.standing.faults) × CountRose old.kept.faults new.kept.faults
 BlamesHostFault (Err (Refused why)) old new =

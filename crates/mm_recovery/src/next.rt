@@ -7,6 +7,7 @@ ghost use Rattle.mm_store.specs.Calls.{WritesSlot};
 ghost use Rattle.mm_store.specs.PendingRecord.{pending_spelling};
 ghost use Rattle.mm_recovery.specs.Blame.{BlamesHostFault, IsNamed};
 ghost use Rattle.mm_recovery.specs.CellWrites.{RequestWrites};
+ghost use Rattle.mm_recovery.specs.HostStanding.{host_standing};
 ghost use Rattle.mm_recovery.specs.LastAnswer.{IsSized};
 ghost use Rattle.mm_recovery.specs.NextRequest.{AsksNextRequest};
 
@@ -34,10 +35,12 @@ pub fn ask_next<M: Module, P: Platform, T: Store>(
     requires sized { IsSized last.now }
     requires line { IsLineFront longest_request request.now }
     ensures asks { AsksNextRequest caller.now.variant (M.meaning caller.now.«module».now)
-        (P.standing platform.old) (P.standing platform.new) (T.kept store.old) (T.kept store.new)
+        (host_standing (P.standing platform.old) (T.kept store.old))
+        (host_standing (P.standing platform.new) (T.kept store.new))
         last.now request.now result }
-    ensures faults { BlamesHostFault result (P.standing platform.old) (P.standing platform.new)
-        (T.kept store.old) (T.kept store.new) }
+    ensures faults { BlamesHostFault result
+        (host_standing (P.standing platform.old) (T.kept store.old))
+        (host_standing (P.standing platform.new) (T.kept store.new)) }
     ensures named { IsNamed result }
     ensures sized { IfOk result IsSized }
     ensures writes { RequestWrites caller.now.variant (P.standing platform.old)
@@ -58,7 +61,8 @@ fn ask_next_inner<M: Module, P: Platform, T: Store>(
     requires sized { IsSized last.now }
     requires line { IsLineFront longest_request request.now }
     ensures asks { AsksNextRequest caller.now.variant (M.meaning caller.now.«module».now)
-        (P.standing platform.old) (P.standing platform.new) (T.kept store.old) (T.kept store.new)
+        (host_standing (P.standing platform.old) (T.kept store.old))
+        (host_standing (P.standing platform.new) (T.kept store.new))
         last.now request.now result }
     ensures sized { IfOk result IsSized }
 {

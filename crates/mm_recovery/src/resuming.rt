@@ -8,6 +8,7 @@ ghost use Rattle.mm_recovery.specs.WaitingRequest.{IsAskable};
 ghost use Rattle.mm_recovery.specs.Blame.{BlamesHostFault, IsNamed};
 ghost use Rattle.mm_recovery.specs.Recovery.{HostRecovers};
 ghost use Rattle.mm_recovery.specs.Resumption.{StartsFromSlot, RepeatsPendingRecord, AsksAndKeepsAnswer, KeepsAnswer, HostResumes};
+ghost use Rattle.mm_recovery.specs.HostStanding.{host_standing};
 ghost use Rattle.mm_recovery.specs.LastAnswer.{IsSized};
 ghost use Rattle.mm_recovery.specs.CellWrites.{RequestWrites};
 
@@ -67,14 +68,17 @@ pub fn resume<M: Module, P: Platform, T: Store>(
     platform: &mut P,
     store: &mut T,
 ) -> Result<Resumed, HostFault>
-    ensures resumes { HostResumes variant (M.meaning «module».now) (P.standing platform.old)
-        (P.standing platform.new) (T.kept store.old) (T.kept store.new) result }
-    ensures faults { BlamesHostFault result (P.standing platform.old) (P.standing platform.new)
-        (T.kept store.old) (T.kept store.new) }
+    ensures resumes { HostResumes variant (M.meaning «module».now)
+        (host_standing (P.standing platform.old) (T.kept store.old))
+        (host_standing (P.standing platform.new) (T.kept store.new)) result }
+    ensures faults { BlamesHostFault result
+        (host_standing (P.standing platform.old) (T.kept store.old))
+        (host_standing (P.standing platform.new) (T.kept store.new)) }
     ensures named { IsNamed result }
     ensures sized { IfOk result IsSized }
-    ensures recovers { HostRecovers variant (M.meaning «module».now) (P.standing platform.old)
-        (P.standing platform.new) (T.kept store.old) (T.kept store.new) result }
+    ensures recovers { HostRecovers variant (M.meaning «module».now)
+        (host_standing (P.standing platform.old) (T.kept store.old))
+        (host_standing (P.standing platform.new) (T.kept store.new)) result }
     ensures writes { RequestWrites variant (P.standing platform.old) (P.standing platform.new)
         result }
 {
@@ -93,7 +97,8 @@ fn resume_by_steps<M: Module, P: Platform, T: Store>(
     store: &mut T,
 ) -> Result<Resumed, HostFault>
     ensures { HostResumes caller.now.variant (M.meaning caller.now.«module».now)
-        (P.standing platform.old) (P.standing platform.new) (T.kept store.old) (T.kept store.new)
+        (host_standing (P.standing platform.old) (T.kept store.old))
+        (host_standing (P.standing platform.new) (T.kept store.new))
         result }
 {
     match find_waiting(caller.alloc, store) {
@@ -122,7 +127,8 @@ fn repeat<M: Module, P: Platform, T: Store>(
 ) -> Result<Resumed, HostFault>
     requires { IsAskable waiting.now }
     ensures { RepeatsPendingRecord caller.now.variant (M.meaning caller.now.«module».now)
-        (P.standing platform.old) (P.standing platform.new) (T.kept store.old) (T.kept store.new)
+        (host_standing (P.standing platform.old) (T.kept store.old))
+        (host_standing (P.standing platform.new) (T.kept store.new))
         waiting.now result }
 {
     let slot = ((waiting.position - 1) % 2) as u8;
@@ -148,7 +154,8 @@ pub fn ask_and_keep<M: Module, P: Platform, T: Store>(
 ) -> Result<Resumed, HostFault>
     requires { is_long (One request.now) ≡ false }
     ensures asks { AsksAndKeepsAnswer caller.now.variant (M.meaning caller.now.«module».now)
-        (P.standing platform.old) (P.standing platform.new) (T.kept store.old) (T.kept store.new)
+        (host_standing (P.standing platform.old) (T.kept store.old))
+        (host_standing (P.standing platform.new) (T.kept store.new))
         offer.now request.now result }
 {
     match ask(caller, platform, offer, request) {

@@ -8,6 +8,7 @@ ghost use Rattle.mm_model.specs.History.{first_history};
 ghost use Rattle.mm_model.specs.Standing.{cell_of, issued_bytes};
 ghost use Rattle.mm_store.specs.declared.store.TheConstants.{LONGEST_SLOT};
 ghost use Rattle.mm_recovery.specs.FirstStart.{InitLeaves, TellsUse, BlamesDevice};
+ghost use Rattle.mm_recovery.specs.HostStanding.{host_standing};
 ghost use Rattle.mm_recovery.specs.Init.{devices, LooksAtCell, TakesBytes, taken_bytes, instance_from, PutsAll, first_puts, SetsUp, SetsUpBoth, TakesAndSetsUp, InitGoes};
 
 use crate::init_fault::InitFault;
@@ -150,7 +151,8 @@ fn set_up<M: Module, P: Platform, T: Store>(
 ) -> Result<(), InitFault>
     ensures { SetsUp (instance_from caller.now.variant (M.meaning caller.now.«module».now)
         secrets.now)
-        (P.standing platform.old) (P.standing platform.new) (T.kept store.old) (T.kept store.new)
+        (host_standing (P.standing platform.old) (T.kept store.old))
+        (host_standing (P.standing platform.new) (T.kept store.new))
         result }
 {
     match provision(caller, secrets) {
@@ -183,8 +185,9 @@ fn set_up_both<P: Platform, T: Store>(
     made: &Provisioned,
 ) -> Result<(), InitFault>
     requires { length made.now.snapshot ≤ LONGEST_SLOT }
-    ensures { SetsUpBoth made.now.cell made.now.snapshot (P.standing platform.old)
-        (P.standing platform.new) (T.kept store.old) (T.kept store.new) result }
+    ensures { SetsUpBoth made.now.cell made.now.snapshot
+        (host_standing (P.standing platform.old) (T.kept store.old))
+        (host_standing (P.standing platform.new) (T.kept store.new)) result }
 {
     match set_up_store(store, made.snapshot.as_slice()) {
         Err(fault) => Err(InitFault::from(fault)),

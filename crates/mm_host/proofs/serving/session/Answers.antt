@@ -15,7 +15,7 @@ returns-clause-named g c = (session_counted c.session_by_steps.ensures.sessions)
 
 pub returns-clause-continues : goal.returns-clause-continues
 returns-clause-continues g c =
-    session_continues c.args.variant (g.M.Module.meaning c.args.module.now) (g.met.M.Module.is_lawful c.args.module.now) _ _ _ _ _ _ _ _
+    session_continues c.args.variant (g.M.Module.meaning c.args.module.now) (g.met.M.Module.is_lawful c.args.module.now) _ _
     c.session_by_steps.result
 
 pub returns-clause-lines : goal.returns-clause-lines
@@ -26,5 +26,5 @@ returns-clause-writes g c = session_writes c.session_by_steps.ensures.sessions
 
 pub returns-clause-once : goal.returns-clause-once
 returns-clause-once g c =
-    session_runs_once c.args.variant (g.M.Module.meaning c.args.module.now) (g.met.M.Module.is_lawful c.args.module.now) _ _ _ _ _ _ _ _
+    session_runs_once c.args.variant (g.M.Module.meaning c.args.module.now) (g.met.M.Module.is_lawful c.args.module.now) _ _
     c.session_by_steps.result

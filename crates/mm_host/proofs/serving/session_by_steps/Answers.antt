@@ -5,7 +5,7 @@ use Rattle.mm_host.proofs.serving.session_by_steps.Goals as goal
 pub returns-in_err-reader-clause-sessions : goal.returns-in_err-reader-clause-sessions
 returns-in_err-reader-clause-sessions g c =
     let p = err_from_is_err_and c.from_residual.result c.from_residual.ensures.1 in
-    rw (p.1, p.2) (lacks_memory c.args.caller.now.variant (g.M.Module.meaning c.args.caller.now.module.now) _ _ _ _)
+    rw (p.1, p.2) (lacks_memory c.args.caller.now.variant (g.M.Module.meaning c.args.caller.now.module.now) _)
 
 pub returns-in-Err-clause-sessions : goal.returns-in-Err-clause-sessions
 returns-in-Err-clause-sessions g c =
