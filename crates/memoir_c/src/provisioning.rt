@@ -9,6 +9,7 @@ ghost use Rattle.memoir_c.specs.FirstInstance.{IsMeant, IsUnmade, ProvisionsInst
 
 use crate::asking::{Instance, parts};
 use crate::said::ReturnStatus;
+use mm_ask::Secrets;
 use mm_base::{CELL_LENGTH, Memory};
 use mm_call::Provisioned as Made;
 use mm_digest::Variant;
@@ -76,7 +77,11 @@ fn first(alloc: Global, variant: Variant, module: &AnyModule, keys: &Keys) -> Re
         (instance_by variant (meaning_of «module».now) keys.now.key
         keys.now.barrier))) }
 {
-    mm_ask::provision(alloc, variant, module, &keys.key, &keys.barrier)
+    let secrets = Secrets {
+        key: keys.key,
+        barrier: keys.barrier,
+    };
+    mm_ask::provision(alloc, variant, module, &secrets)
 }
 
 fn put(made: &Made, first: &mut ProvisionReply, room: &mut [u8]) -> ReturnStatus

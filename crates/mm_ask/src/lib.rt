@@ -4,7 +4,9 @@
 mod ask;
 mod caller;
 mod provisioning;
+mod secrets;
 
 pub use ask::Ask;
 pub use caller::Caller;
 pub use provisioning::provision;
+pub use secrets::Secrets;

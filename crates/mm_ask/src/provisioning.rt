@@ -6,27 +6,29 @@ ghost use Rattle.mm_model.specs.History.{first_history};
 ghost use Rattle.mm_model.specs.Standing.{cell_of, issued_bytes};
 ghost use Rattle.mm_call.specs.Standing.{instance_by};
 
+use crate::secrets::Secrets;
 use mm_base::Memory;
 use mm_call::Provisioned;
 use mm_digest::Variant;
 use mm_module::Module;
 use std::alloc::Global;
 
-/// The first cell and snapshot of a module under a key and a barrier. Basic ignores the barrier.
+/// The first cell and snapshot of a module under these secrets.
 pub fn provision<M: Module>(
     alloc: Global,
     variant: Variant,
     module: &M,
-    key: &[u8; 32],
-    barrier: &[u8; 32],
+    secrets: &Secrets,
 ) -> Result<Provisioned, Memory>
     ensures cell { IfOk result (λ made. made.cell ≡ cell_spelling (cell_of
-        (instance_by variant (M.meaning «module».now) key.now barrier.now) first_history)) }
+        (instance_by variant (M.meaning «module».now) secrets.now.key secrets.now.barrier)
+        first_history)) }
     ensures snapshot { IfOk result (λ made. made.snapshot ≡ issued_bytes
-        (instance_by variant (M.meaning «module».now) key.now barrier.now) first_history) }
+        (instance_by variant (M.meaning «module».now) secrets.now.key secrets.now.barrier)
+        first_history) }
 {
     match variant {
-        Variant::Basic => mm_basic::provision(alloc, module, key, barrier),
-        Variant::Opt => mm_opt::provision(alloc, module, key, barrier),
+        Variant::Basic => mm_basic::provision(alloc, module, &secrets.key, &secrets.barrier),
+        Variant::Opt => mm_opt::provision(alloc, module, &secrets.key, &secrets.barrier),
     }
 }

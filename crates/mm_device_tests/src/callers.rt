@@ -1,6 +1,6 @@
 //! The callers over the counter and a platform in memory.
 
-use mm_ask::provision;
+use mm_ask::{Secrets, provision};
 use mm_base::Memory;
 use mm_call::Provisioned;
 use mm_callers::closing::ask_close_repeat;
@@ -116,7 +116,11 @@ fn provisioned(alloc: Global, name: &str) -> Result<Provisioned, Memory> {
     } else {
         Variant::Opt
     };
-    provision(alloc, variant, &Counter, &[7; 32], &[9; 32])
+    let secrets = Secrets {
+        key: [7; 32],
+        barrier: [9; 32],
+    };
+    provision(alloc, variant, &Counter, &secrets)
 }
 
 fn tried(alloc: Global, name: &str) -> Result<bool, Memory> {

@@ -12,7 +12,7 @@ ghost use Rattle.mm_recovery.specs.HostStanding.{host_standing};
 ghost use Rattle.mm_recovery.specs.Init.{devices, LooksAtCell, TakesBytes, taken_bytes, instance_from, PutsAll, first_puts, SetsUp, SetsUpBoth, TakesAndSetsUp, InitGoes};
 
 use crate::init_fault::InitFault;
-use mm_ask::Caller;
+use mm_ask::{Caller, Secrets};
 use mm_base::{CELL_LENGTH, Failed, Memory, Source};
 use mm_call::Provisioned;
 use mm_digest::Variant;
@@ -175,7 +175,8 @@ fn provision<M: Module>(caller: &Caller<M>, secrets: &[u8; 64]) -> Result<Provis
     let (front, back) = secrets.split_at(32);
     key.copy_from_slice(front);
     barrier.copy_from_slice(back);
-    mm_ask::provision(caller.alloc, caller.variant, caller.module, &key, &barrier)
+    let secrets = Secrets { key, barrier };
+    mm_ask::provision(caller.alloc, caller.variant, caller.module, &secrets)
 }
 
 // Sets the store up, and then writes the cell.

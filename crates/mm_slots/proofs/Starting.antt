@@ -13,6 +13,14 @@ length-rising : (n : ℕ) → length (rising_bytes_from n) ≡ 32
 unfolding rising_bytes_from
 length-rising n = length-range_with_len n 32
 
+-- a seat that was provisioned with the key and barrier of a slot
+pub first_by : (header : Header) (slot : Parts) (key barrier : List ℕ) → key ≡ rising_bytes_from slot.number
+    → barrier ≡ rising_bytes_from (128 + slot.number) → IsFirst header key barrier slot.seat
+    → IsFirst header (rising_bytes_from slot.number) (rising_bytes_from (128 + slot.number)) slot.seat
+first_by header slot key barrier k b is =
+    subst (λ (x : List ℕ). IsFirst header (rising_bytes_from slot.number) x slot.seat) b
+    (subst (λ (x : List ℕ). IsFirst header x barrier slot.seat) k is)
+
 -- a slot over a platform that was provisioned with its key and barrier
 module _ (header : Header) (slot : Parts)
     (f : IsFirst header (rising_bytes_from slot.number) (rising_bytes_from (128 + slot.number)) slot.seat)

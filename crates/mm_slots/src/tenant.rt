@@ -1,8 +1,12 @@
 //! A module in one slot of a platform.
 
+ghost use Rattle.std.specs.Prelude.{◌≡◌, ◌<◌, ◌+◌};
+ghost use Rattle.mm_outcome.specs.WorldState.{rising_bytes_from};
+
 use crate::event::{CallBreak, SlotAction};
 use crate::parts::Parts;
 use crate::said::SlotReply;
+use mm_ask::Secrets;
 use mm_base::Memory;
 use mm_digest::zero;
 use mm_outcome::rising;
@@ -16,6 +20,18 @@ use std::marker::Model;
 #[derive(Drop)]
 pub struct Tenant {
     parts: Parts,
+}
+
+// The secrets of the slot with this number.
+fn secrets_of(number: u8) -> Secrets
+    requires { number < 16 }
+    ensures key { result.key ≡ rising_bytes_from number }
+    ensures barrier { result.barrier ≡ rising_bytes_from (128 + number) }
+{
+    Secrets {
+        key: rising(number),
+        barrier: rising(128 + number),
+    }
 }
 
 impl Model for Tenant {
@@ -44,9 +60,7 @@ impl Tenant {
         requires { number < 16 }
         ensures { IfOk result (λ slot. slot ≡ first_row number header.now) }
     {
-        let key = rising(number);
-        let barrier = rising(128 + number);
-        match Seat::first(alloc, *header, &key, &barrier) {
+        match Seat::first(alloc, *header, &secrets_of(number)) {
             Err(memory) => Err(memory),
             Ok(seat) => Ok(Tenant {
                 parts: Parts {

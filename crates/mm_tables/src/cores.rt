@@ -3,7 +3,7 @@
 use crate::notes::TableNotes;
 use crate::offers::{BARRIER, KEY, batch_of, cell_of, offer_of};
 use crate::ways::{ask_in_parts, ask_in_turns, ask_many, ask_one, close_in_turns};
-use mm_ask::provision;
+use mm_ask::{Secrets, provision};
 use mm_base::{Bytes, CELL_LENGTH, Memory, put_decimal, read_decimal};
 use mm_digest::{Digest, Variant};
 use mm_model::{Answer, BatchAnswer, Refusal};
@@ -159,7 +159,11 @@ fn put_closed(
 
 // Another platform, and its first snapshot.
 fn begin(host: &mut Host) -> Result<(), Memory> {
-    let made = provision(host.alloc, host.variant, &Counter, &KEY, &BARRIER)?;
+    let secrets = Secrets {
+        key: KEY,
+        barrier: BARRIER,
+    };
+    let made = provision(host.alloc, host.variant, &Counter, &secrets)?;
     host.platform = MemPlatform::new(host.alloc, &made.cell);
     host.snapshots.clear();
     Ok(host.snapshots.push(made.snapshot)?)

@@ -8,9 +8,8 @@ ghost use Rattle.mm_modules.specs.Modules.{meaning_of};
 use mm_base::{CELL_LENGTH, Memory};
 use mm_digest::{Digest, start};
 use mm_module::Module;
-use mm_outcome::{world_barrier, world_key};
 use mm_schedule::{Event, Header, Reply};
-use mm_world::{Seat, owned_view};
+use mm_world::{Seat, owned_view, world_secrets};
 use std::alloc::Global;
 
 /// One side of a transfer. The cell of its seat tells whether the module is there, is awaited
@@ -52,7 +51,7 @@ impl Side {
         ensures { IfOk result
             (IsNew header.now First (first_both_by_digests (pair_of header.now)).first) }
     {
-        match Seat::first(alloc, *header, &world_key(), &world_barrier()) {
+        match Seat::first(alloc, *header, &world_secrets()) {
             Err(memory) => Err(memory),
             Ok(seat) => Ok(Side {
                 seat,

@@ -2,6 +2,7 @@
 #![tactic(auto)]
 
 mod call;
+mod keys;
 mod parts;
 mod planning;
 mod seat;
@@ -9,6 +10,7 @@ mod views;
 mod world;
 
 pub use call::{CallReport, call_by_offer, planned_checkpoint, settle, takes_effect};
+pub use keys::world_secrets;
 pub use parts::listed;
 pub use planning::{CallTeller, planned, settled};
 pub use seat::Seat;

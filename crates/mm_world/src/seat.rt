@@ -7,7 +7,7 @@ ghost use Rattle.mm_world.specs.Lengths.{within_64};
 use crate::call::{CallReport, call_by_offer, planned_checkpoint};
 use crate::parts::length_if;
 use crate::views::{EventView, OfferView};
-use mm_ask::{Caller, provision};
+use mm_ask::{Caller, Secrets, provision};
 use mm_base::{Bytes, CELL_LENGTH, Memory};
 use mm_call::{KeptKey, Provisioned};
 use mm_digest::Digest;
@@ -54,17 +54,12 @@ impl Seat {
         }
     }
 
-    /// A seat that is provisioned for the header's module with this key and barrier, and has issued
-    /// its first snapshot. Basic ignores the barrier.
-    pub fn first(
-        alloc: Global,
-        header: Header,
-        key: &[u8; 32],
-        barrier: &[u8; 32],
-    ) -> Result<Seat, Memory>
-        ensures { IfOk result (IsFirst header key.now barrier.now) }
+    /// A seat that is provisioned for the header's module with these secrets, and has issued its
+    /// first snapshot.
+    pub fn first(alloc: Global, header: Header, secrets: &Secrets) -> Result<Seat, Memory>
+        ensures { IfOk result (IsFirst header secrets.now.key secrets.now.barrier) }
     {
-        match provision(alloc, header.variant, &header.module, key, barrier) {
+        match provision(alloc, header.variant, &header.module, secrets) {
             Err(memory) => Err(memory),
             Ok(made) => Seat::over(alloc, header, made),
         }

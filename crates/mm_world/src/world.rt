@@ -1,9 +1,9 @@
 //! A world: a seat that goes on event by event, from its first snapshot on.
 
+use crate::keys::world_secrets;
 use crate::seat::Seat;
 use crate::views::{EventView, line_view, owned_view};
 use mm_base::Memory;
-use mm_outcome::{world_barrier, world_key};
 use mm_platform::MemPlatform;
 use mm_schedule::{Event, EventText, Header, Meddles, Reply};
 use std::alloc::Global;
@@ -44,7 +44,7 @@ impl World {
     pub fn new(alloc: Global, header: &Header) -> Result<World, Memory>
         ensures { IfOk result (λ world. world ≡ first_world_state header.now) }
     {
-        match Seat::first(alloc, *header, &world_key(), &world_barrier()) {
+        match Seat::first(alloc, *header, &world_secrets()) {
             Err(memory) => Err(memory),
             Ok(seat) => Ok(World { seat }),
         }
