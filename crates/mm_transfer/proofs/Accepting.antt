@@ -7,7 +7,7 @@ use Rattle.mm_transfer.proofs.Below.{sealed_snapshot_of, digest_of, Role, Effect
 use Rattle.mm_transfer.proofs.Below.{instance_on, BothSides, digest_mover, DenialCause, FoundMove, Accept, acceptance_on, ticket_by}
 use Rattle.mm_transfer.proofs.Below.{ticket_in, move_steps, effect_of, sides_after_issue, effect_reply, found_acceptance, IssuedTickets}
 use Rattle.mm_transfer.proofs.Below.{MoveReply, CodeSide, TellsEntry, both_with, outcome_of_command, FitsIssuedTickets, CommandDone}
-use Rattle.mm_transfer.proofs.Below.{CommandLacks, has_moved, link_of, role_in, at_in, FitsSide, move_reply_of, cell_of_role}
+use Rattle.mm_transfer.proofs.Below.{command_reach, CommandLacks, has_moved, link_of, role_in, at_in, FitsSide, move_reply_of, cell_of_role}
 use Rattle.mm_transfer.proofs.Below.{digests_after_move, GivesEntry, GivesEntryBy, FitsLive, MatchesRole, FitsCell}
 use Rattle.mm_move.specs.declared.accepting.Accepted.{Accepted}
 use Rattle.mm_transfer.specs.declared.reply.MoveReply.TheVariants as reply
@@ -93,9 +93,9 @@ pub accepted_done : (pair : Pair) (which : SideName) (offer : Offer) (stop : Sto
     → old.seat.platform.cell ≡ Some cell → SameSide old mid → TellsEntry live between.away stop came mid new result
     → FitsSide pair which old
     → FitsIssuedTickets between
-    → MatchResult result (CommandDone pair which old new between between
-    (outcome_of_command pair which old between meddles stop (Accept offer)))
-    (λ _. CommandLacks pair which meddles stop old new between between)
+    → MatchResult result (CommandDone pair which (command_reach old between) (command_reach new between)
+    (outcome_of_command pair which (command_reach old between) meddles stop (Accept offer)))
+    (λ _. CommandLacks pair which meddles stop (command_reach old between) (command_reach new between))
 accepted_done pair which offer stop meddles old mid new between live cell came result named lives holds s entered fits counted =
     let i = instance_on pair which in
     let role = role_in old.seat.platform.cell in
@@ -172,7 +172,8 @@ pub accepted_unissued : (pair : Pair) (which : SideName) (offer : Offer) (stop :
     (between : IssuedTickets) → (offered_bytes between.tickets.items offer ≡ None) × (new.seat.platform ≡ old.seat.platform)
     → SameSide old new
     → FitsSide pair which old → FitsIssuedTickets between
-    → CommandDone pair which old new between between (outcome_of_command pair which old between meddles stop (Accept offer)) reply.NoTicket
+    → CommandDone pair which (command_reach old between) (command_reach new between)
+    (outcome_of_command pair which (command_reach old between) meddles stop (Accept offer)) reply.NoTicket
 accepted_unissued pair which offer stop meddles old new between none s fits counted =
     unissued_done pair which stop meddles (Accept offer) reply.NoTicket old new between between fits counted none.1 s
     (record { tickets = refl; kept = refl; away = refl }) refl

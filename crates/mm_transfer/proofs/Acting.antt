@@ -6,7 +6,7 @@ use Rattle.mm_transfer.proofs.Below.{digest_mover, Moves, BothEvent, sides_after
 use Rattle.mm_transfer.proofs.Below.{move_end_outcome, move_outcome, move_steps, outcome_if_found, MoveCommand, Accept, FoundMove}
 use Rattle.mm_transfer.proofs.Below.{DenialCause, Effect, Invites, IssuedTickets, MoveReply, CodeSide, Inside, both_with}
 use Rattle.mm_transfer.proofs.Below.{outcome_of_command, FitsIssuedTickets, CommandDone, CommandLacks, CommandGoes, act_of, command_of}
-use Rattle.mm_transfer.proofs.Below.{side_event_of, which_of, side_in, within_64, pair_of, move_reply_of, IsSayable}
+use Rattle.mm_transfer.proofs.Below.{command_reach, side_event_of, which_of, side_in, within_64, pair_of, move_reply_of, IsSayable}
 use Rattle.mm_schedule.specs.declared.event.Meddles.{Meddles}
 use Rattle.mm_sides.specs.Folds.{BothAct}
 use Rattle.mm_transfer.specs.declared.event.SideAct.{SideAct as CodeAct}
@@ -15,7 +15,7 @@ use Rattle.mm_transfer.specs.declared.event.Command.{Command as CodeCommand}
 use Rattle.mm_transfer.specs.declared.event.SideEvent.{SideEvent}
 use Rattle.mm_transfer.specs.declared.event.SideChoice.{SideChoice as CodeWhich}
 use Rattle.mm_transfer.specs.declared.event.SideChoice.TheVariants as which
-use Rattle.mm_transfer.specs.ActOutcome.{outcome_of_act, AreWithin, ActDone, ActLacks, ActGoes}
+use Rattle.mm_transfer.specs.ActOutcome.{act_reach, outcome_of_act, AreWithin, ActDone, ActLacks, ActGoes}
 use Rattle.mm_transfer.specs.Sides.{TransferSides, transfer_sides_in, outcome_in}
 use Rattle.mm_transfer.specs.MemoryWant.{BothEventLacksMemory}
 
@@ -52,9 +52,11 @@ move_sayable pair i both meddles stop command = found_sayable pair i both meddle
 
 done_acts : (pair : Pair) (which : SideName) (meddles : List Meddle) (stop : Stop) (command : MoveCommand) (old new : CodeSide)
     (was now : IssuedTickets)
-    (committed : ℕ) (said : MoveReply) → AreWithin old was committed
-    → CommandDone pair which old new was now (outcome_of_command pair which old was meddles stop command) said
-    → ActDone pair which old new was now committed committed (outcome_of_act pair which old was committed (Moves meddles stop command)) said
+    (committed : ℕ) (said : MoveReply) → AreWithin (act_reach old was committed)
+    → CommandDone pair which (command_reach old was) (command_reach new now)
+    (outcome_of_command pair which (command_reach old was) meddles stop command) said
+    → ActDone pair which (act_reach old was committed) (act_reach new now committed)
+    (outcome_of_act pair which (act_reach old was committed) (Moves meddles stop command)) said
 done_acts pair which meddles stop command old new was now committed said w d =
     let counts = d.counts committed w.side w.away in
     record {
@@ -72,9 +74,9 @@ done_acts pair which meddles stop command old new was now committed said w d =
     }
 
 lacks_acts : (pair : Pair) (which : SideName) (meddles : List Meddle) (stop : Stop) (command : MoveCommand) (old new : CodeSide)
-    (was now : IssuedTickets) (committed : ℕ) → FitsIssuedTickets was → AreWithin old was committed
-    → CommandLacks pair which meddles stop old new was now
-    → ActLacks pair which (Moves meddles stop command) old new was now committed committed
+    (was now : IssuedTickets) (committed : ℕ) → FitsIssuedTickets was → AreWithin (act_reach old was committed)
+    → CommandLacks pair which meddles stop (command_reach old was) (command_reach new now)
+    → ActLacks pair which (Moves meddles stop command) (act_reach old was committed) (act_reach new now committed)
 lacks_acts pair which meddles stop command old new was now committed f w l =
     let same = l.committed in
     let away = l.away in
@@ -92,9 +94,9 @@ lacks_acts pair which meddles stop command old new was now committed f w l =
     }
 
 command_acts : (pair : Pair) (which : SideName) (meddles : List Meddle) (stop : Stop) (command : MoveCommand) (old new : CodeSide)
-    (was now : IssuedTickets) (committed : ℕ) (result : Result MoveReply Memory) → CommandGoes pair which meddles stop command old
-    new was now result
-    → ActGoes pair which (Moves meddles stop command) old new was now committed committed result
+    (was now : IssuedTickets) (committed : ℕ) (result : Result MoveReply Memory) → CommandGoes pair which meddles stop command
+    (command_reach old was) (command_reach new now) result
+    → ActGoes pair which (Moves meddles stop command) (act_reach old was committed) (act_reach new now committed) result
 command_acts pair which meddles stop command old new was now committed (Ok said) c =
     λ f b w few. done_acts pair which meddles stop command old new was now committed said w (c f b)
 command_acts pair which meddles stop command old new was now committed (Err fault) c =
@@ -103,13 +105,15 @@ command_acts pair which meddles stop command old new was now committed (Err faul
 pub moves_acts : (pair : Pair) (which : SideName) (act : CodeAct) (meddles : Meddles) (listed : List Meddle) (stop : Stop)
     (command : CodeCommand) (old new : CodeSide) (was now : IssuedTickets) (committed : ℕ) (result : Result MoveReply Memory)
     → act ≡ code.Moves meddles stop command
-    → listed ≡ meddles_of meddles → CommandGoes pair which listed stop (command_of command) old new was now result
-    → ActGoes pair which (act_of act) old new was now committed committed result
+    → listed ≡ meddles_of meddles
+    → CommandGoes pair which listed stop (command_of command) (command_reach old was) (command_reach new now) result
+    → ActGoes pair which (act_of act) (act_reach old was committed) (act_reach new now committed) result
 moves_acts pair which act meddles listed stop command old new was now committed result is lists c =
     let done = command_acts pair which listed stop (command_of command) old new was now committed result c in
-    let listing = subst (λ (m : List Meddle).
-    ActGoes pair which (Moves m stop (command_of command)) old new was now committed committed result) lists done in
-    subst (λ (a : CodeAct). ActGoes pair which (act_of a) old new was now committed committed result) (sym is) listing
+    let before = act_reach old was committed in
+    let after = act_reach new now committed in
+    let listing = subst (λ (m : List Meddle). ActGoes pair which (Moves m stop (command_of command)) before after result) lists done in
+    subst (λ (a : CodeAct). ActGoes pair which (act_of a) before after result) (sym is) listing
 
 -- An event has come to what it comes to on both sides, and was answered so.
 pub record Comes (held : TransferSides) (event : BothEvent) (new : BothSides Digests ℕ) (result : Result MoveReply Memory) : Type 0 where
@@ -120,9 +124,9 @@ pub record Comes (held : TransferSides) (event : BothEvent) (new : BothSides Dig
 first_comes : (header : Header) (first first' second : CodeSide) (between between' : IssuedTickets)
     (committed committed' : ℕ) (act : BothAct)
     (result : Result MoveReply Memory) → MatchResult result
-    (ActDone (pair_of header) First first first' between between' committed committed'
-    (outcome_of_act (pair_of header) First first between committed act))
-    (λ fault. ActLacks (pair_of header) First act first first' between between' committed committed')
+    (ActDone (pair_of header) First (act_reach first between committed) (act_reach first' between' committed')
+    (outcome_of_act (pair_of header) First (act_reach first between committed) act))
+    (λ fault. ActLacks (pair_of header) First act (act_reach first between committed) (act_reach first' between' committed'))
     → Comes (transfer_sides_in header first second between committed) (record { which = First; act = act })
     (both_with first' between' (side_in second) committed') result
 first_comes header first first' second between between' committed committed' act (Ok said) d =
@@ -145,9 +149,9 @@ first_comes header first first' second between between' committed committed' act
 second_comes : (header : Header) (first second second' : CodeSide) (between between' : IssuedTickets)
     (committed committed' : ℕ) (act : BothAct)
     (result : Result MoveReply Memory) → MatchResult result
-    (ActDone (pair_of header) Second second second' between between' committed committed'
-    (outcome_of_act (pair_of header) Second second between committed act))
-    (λ fault. ActLacks (pair_of header) Second act second second' between between' committed committed')
+    (ActDone (pair_of header) Second (act_reach second between committed) (act_reach second' between' committed')
+    (outcome_of_act (pair_of header) Second (act_reach second between committed) act))
+    (λ fault. ActLacks (pair_of header) Second act (act_reach second between committed) (act_reach second' between' committed'))
     → Comes (transfer_sides_in header first second between committed) (record { which = Second; act = act })
     (both_with first between' (side_in second') committed') result
 second_comes header first second second' between between' committed committed' act (Ok said) d = record {
@@ -176,13 +180,15 @@ pub event_first : (old : Inside) (held : TransferSides) (event : SideEvent) (new
     (committed : ℕ) (result came : Result MoveReply Memory) → transfer_sides_in old.header old.first old.second old.between old.committed
     ≡ held
     → held.both.committed < 2 ^ 63 → event.which ≡ which.First → result ≡ came → new ≡ both_with here between (side_in old.second) committed
-    → ActGoes (pair_of old.first.seat.header) First (act_of event.act) old.first here old.between between old.committed committed came
+    → ActGoes (pair_of old.first.seat.header) First (act_of event.act) (act_reach old.first old.between old.committed)
+    (act_reach here between committed) came
     → Comes held (side_event_of event) new result
 event_first old held event new here between committed result came view few is came_is now acts =
     let act = act_of event.act in
-    let here_acts = subst (λ (h : Header). ActGoes (pair_of h) First act old.first here old.between between old.committed committed came)
+    let here_acts = subst (λ (h : Header). ActGoes (pair_of h) First act (act_reach old.first old.between old.committed)
+    (act_reach here between committed) came)
     old.first_headed acts in
-    let within : AreWithin old.first old.between old.committed = record { side = old.first_within; away = old.away_within } in
+    let within : AreWithin (act_reach old.first old.between old.committed) = record { side = old.first_within; away = old.away_within } in
     let room = subst (λ (h : TransferSides). h.both.committed < 2 ^ 63) (sym view) few in
     let comes = first_comes old.header old.first here old.second old.between between old.committed committed act came
     (here_acts old.first_fits old.between_fits within room) in
@@ -197,13 +203,15 @@ pub event_second : (old : Inside) (held : TransferSides) (event : SideEvent) (ne
     (committed : ℕ) (result came : Result MoveReply Memory) → transfer_sides_in old.header old.first old.second old.between old.committed
     ≡ held
     → held.both.committed < 2 ^ 63 → event.which ≡ which.Second → result ≡ came → new ≡ both_with old.first between (side_in here) committed
-    → ActGoes (pair_of old.second.seat.header) Second (act_of event.act) old.second here old.between between old.committed committed came
+    → ActGoes (pair_of old.second.seat.header) Second (act_of event.act) (act_reach old.second old.between old.committed)
+    (act_reach here between committed) came
     → Comes held (side_event_of event) new result
 event_second old held event new here between committed result came view few is came_is now acts =
     let act = act_of event.act in
-    let here_acts = subst (λ (h : Header). ActGoes (pair_of h) Second act old.second here old.between between old.committed committed came)
+    let here_acts = subst (λ (h : Header). ActGoes (pair_of h) Second act (act_reach old.second old.between old.committed)
+    (act_reach here between committed) came)
     old.second_headed acts in
-    let within : AreWithin old.second old.between old.committed = record { side = old.second_within; away = old.away_within } in
+    let within : AreWithin (act_reach old.second old.between old.committed) = record { side = old.second_within; away = old.away_within } in
     let room = subst (λ (h : TransferSides). h.both.committed < 2 ^ 63) (sym view) few in
     let comes = second_comes old.header old.first old.second here old.between between old.committed committed act came
     (here_acts old.second_fits old.between_fits within room) in

@@ -5,7 +5,7 @@ use Rattle.mm_transfer.proofs.Below.{Meddle, Stop, Standing, Instance, Digests, 
 use Rattle.mm_transfer.proofs.Below.{ReadyMove, MoveRefusal, Role, Effect, SideName, Pair, instance_on, SideState, BothSides, digest_mover}
 use Rattle.mm_transfer.proofs.Below.{DenialCause, FoundMove, MoveCommand, Denied, move_steps, effect_if, effect_of, state_after_steps}
 use Rattle.mm_transfer.proofs.Below.{sides_after_effect_if, found_command, outcome_if_found, move_end_outcome, role_after, IssuedTickets}
-use Rattle.mm_transfer.proofs.Below.{MoveReply, CodeSide, TellsRefusalAs, TriesMove, both_with, outcome_of_command, FitsIssuedTickets}
+use Rattle.mm_transfer.proofs.Below.{MoveReply, CodeSide, TellsRefusalAs, TriesMove, both_with, command_reach, outcome_of_command, FitsIssuedTickets}
 use Rattle.mm_transfer.proofs.Below.{CommandDone, CommandLacks, has_moved, role_in, at_in, within_64, FitsSide, MovesByPlan, has_effect_at}
 use Rattle.mm_transfer.proofs.Below.{move_reply_of, refusal_of}
 use Rattle.mm_model.specs.declared.refusal.Refusal.TheVariants as core
@@ -170,8 +170,9 @@ pub move_done : {A : Type 0} (gives : FoundMove → A → Type 0) (pair : Pair) 
     → ((it : FoundMove) → Knows gives role d it → KeepsFor (role_after it.effect) new.digest.bytes (at_then was.away d (Some it.effect)))
     → ((other : SideState Digests) (committed : ℕ) → found_command digest_mover pair i (both_with old was other committed) command
     ≡ Some found)
-    → MatchResult result (CommandDone pair which old new was now (outcome_of_command pair which old was meddles stop command))
-    (λ _. CommandLacks pair which meddles stop old new was now))
+    → MatchResult result (CommandDone pair which (command_reach old was) (command_reach new now)
+    (outcome_of_command pair which (command_reach old was) meddles stop command))
+    (λ _. CommandLacks pair which meddles stop (command_reach old was) (command_reach new now)))
 move_done gives pair which stop meddles command found old new was now came result fits c t keeps next finds =
     let i = instance_on pair which in
     let role = role_in old.seat.platform.cell in

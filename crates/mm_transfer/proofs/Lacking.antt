@@ -2,7 +2,7 @@
 use Rattle.mm_transfer.proofs.Below.{◌≡◌, ℕ, List, length, None, Some, Result, Ok, Err, IsErr, inl, inr, refl, sym, ap, ◌∙◌, subst, arith}
 use Rattle.mm_transfer.proofs.Below.{MatchResult, sum_by, Memory, Meddle, Stop, Standing, Instance, Digests, register_reading, course_of}
 use Rattle.mm_transfer.proofs.Below.{IsQuiet, MoveRefusal, SideName, Pair, instance_on, SideState, digest_mover, MoveCommand, found_command}
-use Rattle.mm_transfer.proofs.Below.{outcome_if_found, unissued_reply, IssuedTickets, MoveReply, CodeSide, both_with, outcome_of_command}
+use Rattle.mm_transfer.proofs.Below.{outcome_if_found, unissued_reply, IssuedTickets, MoveReply, CodeSide, both_with, command_reach, outcome_of_command}
 use Rattle.mm_transfer.proofs.Below.{FitsIssuedTickets, CommandDone, CommandLacks, role_in, at_by, at_in, side_in, Reads, [], ◌∷◌, ◌⊎◌}
 use Rattle.mm_transfer.proofs.Below.{moves_seen, state_after_moves, digest_level, within_64, FitsSide, WantsMemory, move_reply_of}
 use Rattle.mm_transfer.proofs.SideStands.{KeepsFor, same_keeps, side_stays}
@@ -27,7 +27,7 @@ lacks_side : (pair : Pair) (which : SideName) (stop : Stop) (meddles : List Medd
     → new.seat.platform.cell ≡ old.seat.platform.cell → register_reading new.seat.platform ≡ Some value → IsQuiet new.seat.platform
     → new.seat.committed ≡ old.seat.committed → KeepsFor (role_in old.seat.platform.cell) new.digest.bytes (at_in old)
     → new.seat.issued.items ≡ old.seat.issued.items → now.tickets.items ≡ was.tickets.items → now.kept ≡ was.kept → now.away ≡ was.away
-    → CommandLacks pair which meddles stop old new was now
+    → CommandLacks pair which meddles stop (command_reach old was) (command_reach new now)
 lacks_side pair which stop meddles old new was now value reached fits cell register quiet position keeps issued tickets counted away =
     let i = instance_on pair which in
     let d = at_in old in
@@ -58,12 +58,12 @@ pub lacks_done : {A : Type 0} (pair : Pair) (which : SideName) (stop : Stop) (me
     → new.seat.platform ≡ to
     → new.seat.committed ≡ old.seat.committed → KeepsFor (role_in old.seat.platform.cell) new.digest.bytes (at_in old)
     → new.seat.issued.items ≡ old.seat.issued.items → now.tickets.items ≡ was.tickets.items → now.kept ≡ was.kept → now.away ≡ was.away
-    → CommandLacks pair which meddles stop old new was now
+    → CommandLacks pair which meddles stop (command_reach old was) (command_reach new now)
 lacks_done pair which stop meddles old new was now from to came fits w cell platform position keeps issued tickets counted away =
     elim w.register [ inl e ↦ reads _ (inl refl) e | inr e ↦ reads _ (inr refl) e ]
   where
     reads : (value : List ℕ) → IsReached (instance_on pair which) (at_in old) meddles stop value → register_reading to ≡ Some value
-        → CommandLacks pair which meddles stop old new was now
+        → CommandLacks pair which meddles stop (command_reach old was) (command_reach new now)
     reads value reached e = lacks_side pair which stop meddles old new was now value reached fits
         (ap (λ (s : Standing). s.cell) platform ∙ w.cell ∙ cell)
         (ap register_reading platform ∙ e) (subst IsQuiet (sym platform) w.quiet) position keeps issued tickets counted away
@@ -82,7 +82,7 @@ pub record SameBetween (was now : IssuedTickets) : Type 0 where
 
 pub still_lacks : (pair : Pair) (which : SideName) (stop : Stop) (meddles : List Meddle) (old new : CodeSide) (was now : IssuedTickets)
     → FitsSide pair which old → new.seat.platform ≡ old.seat.platform → SameSide old new → SameBetween was now
-    → CommandLacks pair which meddles stop old new was now
+    → CommandLacks pair which meddles stop (command_reach old was) (command_reach new now)
 still_lacks pair which stop meddles old new was now fits platform s b =
     lacks_side pair which stop meddles old new was now (at_in old).register (inl refl) fits (ap (λ (x : Standing). x.cell) platform)
     (ap register_reading platform ∙ fits.stands.register) (subst IsQuiet (sym platform) fits.quiet) s.committed
@@ -95,7 +95,8 @@ pub unissued_done : (pair : Pair) (which : SideName) (stop : Stop) (meddles : Li
     → SameSide old new → SameBetween was now → said ≡ move_reply_of (unissued_reply command)
     → ((other : SideState Digests) (committed : ℕ) → found_command digest_mover pair (instance_on pair which)
     (both_with old was other committed) command ≡ None)
-    → CommandDone pair which old new was now (outcome_of_command pair which old was meddles stop command) said
+    → CommandDone pair which (command_reach old was) (command_reach new now)
+    (outcome_of_command pair which (command_reach old was) meddles stop command) said
 unissued_done pair which stop meddles command said old new was now fits counted platform s b says none =
     let i = instance_on pair which in
     let same : side_in new ≡ side_in old = λ j. record {

@@ -6,7 +6,7 @@ use Rattle.mm_transfer.proofs.Below.{MoveRefusal, moved_cell_of, waiting_for, in
 use Rattle.mm_transfer.proofs.Below.{Leaves, is_live, SideName, Pair, key_of, instance_on, BothSides, digest_mover, FoundMove, DenialCause}
 use Rattle.mm_transfer.proofs.Below.{Invite, Retire, invitation_on, retirement_on, move_steps, effect_of, sides_after_issue, effect_reply}
 use Rattle.mm_transfer.proofs.Below.{found_retirement, role_after, IssuedTickets, MoveReply, CodeSide, TellsInvitation, KeepsDigest}
-use Rattle.mm_transfer.proofs.Below.{TellsRetirement, both_with, outcome_of_command, FitsIssuedTickets, CommandDone, CommandLacks}
+use Rattle.mm_transfer.proofs.Below.{TellsRetirement, both_with, command_reach, outcome_of_command, FitsIssuedTickets, CommandDone, CommandLacks}
 use Rattle.mm_transfer.proofs.Below.{has_moved, link_of, role_in, at_in, FitsSide, MovesByPlan, move_reply_of, cell_of_role, GivesInvited}
 use Rattle.mm_transfer.proofs.Below.{GivesInvitedBy, GivesTicket, GivesTicketBy, FitsLive, Instance, within_64, false, kept_more}
 use Rattle.mm_world.specs.declared.seat.Seat.{Seat}
@@ -69,9 +69,9 @@ pub invited_done : (pair : Pair) (which : SideName) (nonce : List ℕ) (stop : S
     (waiting_for (link_of pair) (instance_on pair which).variant (instance_on pair which).meaning.id nonce (instance_on pair which).key)
     (moved_cell_of bytes)) stop meddles mid.seat.platform new.seat.platform came → SameSide mid new → TellsInvitation stop came result
     → FitsSide pair which old → FitsIssuedTickets between
-    → MatchResult result (CommandDone pair which old new between between
-    (outcome_of_command pair which old between meddles stop (Invite nonce)))
-    (λ _. CommandLacks pair which meddles stop old new between between)
+    → MatchResult result (CommandDone pair which (command_reach old between) (command_reach new between)
+    (outcome_of_command pair which (command_reach old between) meddles stop (Invite nonce)))
+    (λ _. CommandLacks pair which meddles stop (command_reach old between) (command_reach new between))
 invited_done pair which nonce stop meddles old mid new between came result size k planned s says fits counted =
     let i = instance_on pair which in
     let role = role_in old.seat.platform.cell in
@@ -166,8 +166,9 @@ pub retired_done : (pair : Pair) (which : SideName) (nonce : List ℕ) (offer : 
     → old.seat.platform.cell ≡ Some cell → SameSide old new → SameBetween was mid → TellsRetirement live old.seat.committed stop
     came mid now result
     → FitsSide pair which old → FitsIssuedTickets was
-    → MatchResult result (CommandDone pair which old new was now (outcome_of_command pair which old was meddles stop (Retire nonce offer)))
-    (λ _. CommandLacks pair which meddles stop old new was now)
+    → MatchResult result (CommandDone pair which (command_reach old was) (command_reach new now)
+    (outcome_of_command pair which (command_reach old was) meddles stop (Retire nonce offer)))
+    (λ _. CommandLacks pair which meddles stop (command_reach old was) (command_reach new now))
 retired_done pair which nonce offer stop meddles old new was mid now live cell came result size named lives holds s b left fits counted =
     let i = instance_on pair which in
     let role = role_in old.seat.platform.cell in
@@ -238,7 +239,8 @@ pub retired_unissued : (pair : Pair) (which : SideName) (nonce : List ℕ) (offe
     (old new : CodeSide) (was now : IssuedTickets) → (offered_bytes old.seat.issued.items offer ≡ None)
     × (new.seat.platform ≡ old.seat.platform)
     → SameSide old new → SameBetween was now → FitsSide pair which old → FitsIssuedTickets was
-    → CommandDone pair which old new was now (outcome_of_command pair which old was meddles stop (Retire nonce offer)) reply.NoSnapshot
+    → CommandDone pair which (command_reach old was) (command_reach new now)
+    (outcome_of_command pair which (command_reach old was) meddles stop (Retire nonce offer)) reply.NoSnapshot
 retired_unissued pair which nonce offer stop meddles old new was now none s b fits counted =
     unissued_done pair which stop meddles (Retire nonce offer) reply.NoSnapshot old new was now fits counted none.1 s b refl
     (λ other committed. ap (found_retirement digest_mover (instance_on pair which) (both_with old was other committed).first nonce) none.0)

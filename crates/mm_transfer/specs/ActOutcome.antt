@@ -10,52 +10,61 @@ use Rattle.mm_transfer.specs.OneSide.{side_in, FitsSide}
 use Rattle.mm_transfer.specs.Replies.{move_reply_of, IsSayable}
 use Rattle.mm_transfer.specs.MemoryWant.{ActWants}
 
+-- What happens on a side reaches this: the side, what passes between both, and how many requests
+-- were committed, on either side.
+pub record ActReach : Type 0 where
+  pub here : CodeSide
+  pub between : IssuedTickets
+  pub committed : ℕ
+
+abbrev pub act_reach : CodeSide → IssuedTickets → ℕ → ActReach
+act_reach here between committed =
+    record { here = here; between = between; committed = committed }
+
 -- what happens on a side comes to this, whatever the other is
-abbrev pub outcome_of_act : Pair → SideName → CodeSide → IssuedTickets → ℕ → BothAct
-    → SideState Digests
+abbrev pub outcome_of_act : Pair → SideName → ActReach → BothAct → SideState Digests
     → BothOutcome Digests ℕ
-outcome_of_act pair which here between committed act other =
-    outcome_here digest_mover pair (instance_on pair which) (both_with here between other committed)
-    act
+outcome_of_act pair which old act other =
+    outcome_here digest_mover pair (instance_on pair which)
+    (both_with old.here old.between other old.committed) act
 
 -- no count is greater than that of the requests committed, on either side
-pub record AreWithin (here : CodeSide) (between : IssuedTickets) (committed : ℕ) : Type 0 where
-  pub side : here.seat.committed ≤ committed
-  pub away : between.away ≤ committed
+pub record AreWithin (reach : ActReach) : Type 0 where
+  pub side : reach.here.seat.committed ≤ reach.committed
+  pub away : reach.between.away ≤ reach.committed
 
 -- A side with what passes between both, and with how many requests were committed, has come to this
 -- outcome, and answers so. No more came than one event may bring.
-pub record ActDone (pair : Pair) (which : SideName) (old new : CodeSide) (was now : IssuedTickets)
-    (before after : ℕ)
+pub record ActDone (pair : Pair) (which : SideName) (old new : ActReach)
     (o : SideState Digests → BothOutcome Digests ℕ) (said : MoveReply) : Type 0 where
-  pub fits : FitsSide pair which new
-  pub between : FitsIssuedTickets now
-  pub within : AreWithin new now after
-  pub both : (other : SideState Digests) → both_with new now other after ≡ (o other).both
+  pub fits : FitsSide pair which new.here
+  pub between : FitsIssuedTickets new.between
+  pub within : AreWithin new
+  pub both : (other : SideState Digests)
+      → both_with new.here new.between other new.committed ≡ (o other).both
   pub says : (other : SideState Digests) → said ≡ move_reply_of (o other).reply
   pub sayable : IsSayable said
-  pub rises : before ≤ after
-  pub few : after ≤ before + most_members
-  pub issued : length new.seat.issued.items ≤ length old.seat.issued.items + 1
-  pub tickets : length now.tickets.items ≤ length was.tickets.items + 1
+  pub rises : old.committed ≤ new.committed
+  pub few : new.committed ≤ old.committed + most_members
+  pub issued : length new.here.seat.issued.items ≤ length old.here.seat.issued.items + 1
+  pub tickets : length new.between.tickets.items ≤ length old.between.tickets.items + 1
 
 -- Memory was wanting for what happened on the side, and nothing beside it has changed.
-pub record ActLacks (pair : Pair) (which : SideName) (act : BothAct) (old new : CodeSide)
-    (was now : IssuedTickets) (before after : ℕ) : Type 0 where
-  pub fits : FitsSide pair which new
-  pub between : FitsIssuedTickets now
-  pub within : AreWithin new now after
-  pub side : ActWants (instance_on pair which) act (side_in old) (side_in new)
-  pub away : now.away ≡ was.away
-  pub tickets : now.tickets.items ≡ was.tickets.items
-  pub same : after ≡ before
+pub record ActLacks (pair : Pair) (which : SideName) (act : BothAct) (old new : ActReach) : Type 0
+  where
+    pub fits : FitsSide pair which new.here
+    pub between : FitsIssuedTickets new.between
+    pub within : AreWithin new
+    pub side : ActWants (instance_on pair which) act (side_in old.here) (side_in new.here)
+    pub away : new.between.away ≡ old.between.away
+    pub tickets : new.between.tickets.items ≡ old.between.tickets.items
+    pub same : new.committed ≡ old.committed
 
 -- something happened on a side
-abbrev pub ActGoes : Pair → SideName → BothAct → CodeSide → CodeSide → IssuedTickets → IssuedTickets
-    → ℕ → ℕ
-    → Result MoveReply Memory → Type 0
-ActGoes pair which act old new was now before after result =
-    FitsSide pair which old → FitsIssuedTickets was → AreWithin old was before → before < 2 ^ 63
-    → MatchResult result
-    (ActDone pair which old new was now before after (outcome_of_act pair which old was before act))
-    (λ _. ActLacks pair which act old new was now before after)
+abbrev pub ActGoes : Pair → SideName → BothAct → ActReach → ActReach → Result MoveReply Memory
+    → Type 0
+ActGoes pair which act old new result =
+    FitsSide pair which old.here → FitsIssuedTickets old.between → AreWithin old
+    → old.committed < 2 ^ 63
+    → MatchResult result (ActDone pair which old new (outcome_of_act pair which old act))
+    (λ _. ActLacks pair which act old new)

@@ -120,13 +120,20 @@ both_with here between other committed = record {
   committed = committed;
 }
 
+-- What a command on a side reaches: the side, and what passes between both.
+pub record CommandReach : Type 0 where
+  pub here : CodeSide
+  pub between : IssuedTickets
+
+abbrev pub command_reach : CodeSide → IssuedTickets → CommandReach
+command_reach here between = record { here = here; between = between }
+
 -- what a command on this side comes to, whatever the other is
-abbrev pub outcome_of_command : Pair → SideName → CodeSide → IssuedTickets → List Meddle → Stop
-    → MoveCommand
+abbrev pub outcome_of_command : Pair → SideName → CommandReach → List Meddle → Stop → MoveCommand
     → SideState Digests → ℕ → BothOutcome Digests ℕ
-outcome_of_command pair which here between meddles stop command other committed =
-    move_outcome digest_mover pair (instance_on pair which) (both_with here between other committed)
-    meddles stop command
+outcome_of_command pair which old meddles stop command other committed =
+    move_outcome digest_mover pair (instance_on pair which)
+    (both_with old.here old.between other committed) meddles stop command
 
 -- the bytes of the tickets are counted
 abbrev pub FitsIssuedTickets : IssuedTickets → Type 0
@@ -134,39 +141,35 @@ FitsIssuedTickets between = between.kept ≡ within_64 (sum_by length between.ti
 
 -- A side with what passes between both has come to this outcome, and answers so. At most one
 -- snapshot and one ticket came, and no count is greater than the greater of both was.
-pub record CommandDone (pair : Pair) (which : SideName) (old new : CodeSide)
-    (was now : IssuedTickets)
-    (o : SideState Digests → ℕ → BothOutcome Digests ℕ)
-    (said : MoveReply) : Type 0 where
-  pub fits : FitsSide pair which new
-  pub between : FitsIssuedTickets now
+pub record CommandDone (pair : Pair) (which : SideName) (old new : CommandReach)
+    (o : SideState Digests → ℕ → BothOutcome Digests ℕ) (said : MoveReply) : Type 0 where
+  pub fits : FitsSide pair which new.here
+  pub between : FitsIssuedTickets new.between
   pub both : (other : SideState Digests) (committed : ℕ)
-      → both_with new now other committed ≡ (o other committed).both
+      → both_with new.here new.between other committed ≡ (o other committed).both
   pub says : (other : SideState Digests) (committed : ℕ)
       → said ≡ move_reply_of (o other committed).reply
-  pub issued : length new.seat.issued.items ≤ length old.seat.issued.items + 1
-  pub tickets : length now.tickets.items ≤ length was.tickets.items + 1
-  pub counts : (most : ℕ) → old.seat.committed ≤ most → was.away ≤ most
-      → (new.seat.committed ≤ most) × (now.away ≤ most)
+  pub issued : length new.here.seat.issued.items ≤ length old.here.seat.issued.items + 1
+  pub tickets : length new.between.tickets.items ≤ length old.between.tickets.items + 1
+  pub counts : (most : ℕ) → old.here.seat.committed ≤ most → old.between.away ≤ most
+      → (new.here.seat.committed ≤ most) × (new.between.away ≤ most)
 
 -- Memory was wanting: nothing has changed, but that the first step may have been made.
 pub record CommandLacks (pair : Pair) (which : SideName) (meddles : List Meddle) (stop : Stop)
-    (old new : CodeSide) (was now : IssuedTickets) : Type 0 where
-  pub fits : FitsSide pair which new
-  pub side : MayHaveRead (instance_on pair which) (Reads ∷ []) meddles stop (side_in old)
-      (side_in new)
-  pub committed : new.seat.committed ≡ old.seat.committed
-  pub tickets : now.tickets.items ≡ was.tickets.items
-  pub kept : now.kept ≡ was.kept
-  pub away : now.away ≡ was.away
+    (old new : CommandReach) : Type 0 where
+  pub fits : FitsSide pair which new.here
+  pub side : MayHaveRead (instance_on pair which) (Reads ∷ []) meddles stop (side_in old.here)
+      (side_in new.here)
+  pub committed : new.here.seat.committed ≡ old.here.seat.committed
+  pub tickets : new.between.tickets.items ≡ old.between.tickets.items
+  pub kept : new.between.kept ≡ old.between.kept
+  pub away : new.between.away ≡ old.between.away
 
 -- a command on a side
-abbrev pub CommandGoes : Pair → SideName → List Meddle → Stop → MoveCommand → CodeSide → CodeSide
-    → IssuedTickets
-    → IssuedTickets → Result MoveReply Memory → Type 0
-CommandGoes pair which meddles stop command old new was now result =
-    FitsSide pair which old → FitsIssuedTickets was
+abbrev pub CommandGoes : Pair → SideName → List Meddle → Stop → MoveCommand → CommandReach
+    → CommandReach → Result MoveReply Memory → Type 0
+CommandGoes pair which meddles stop command old new result =
+    FitsSide pair which old.here → FitsIssuedTickets old.between
     → MatchResult result
-    (CommandDone pair which old new was now
-    (outcome_of_command pair which old was meddles stop command))
-    (λ _. CommandLacks pair which meddles stop old new was now)
+    (CommandDone pair which old new (outcome_of_command pair which old meddles stop command))
+    (λ _. CommandLacks pair which meddles stop old new)

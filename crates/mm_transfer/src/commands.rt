@@ -12,7 +12,7 @@ ghost use Rattle.mm_sides.specs.BothSides as both;
 ghost use Rattle.mm_sides.specs.Moves.{Invite, Retire, Accept};
 ghost use Rattle.mm_sides.specs.Roles.{is_live};
 ghost use Rattle.mm_transfer.specs.declared.between.IssuedTickets.{IssuedTickets};
-ghost use Rattle.mm_transfer.specs.SideCommands.{TellsInvitation, TellsEntry, KeepsDigest, TriesMove, CommandGoes};
+ghost use Rattle.mm_transfer.specs.SideCommands.{TellsInvitation, TellsEntry, KeepsDigest, TriesMove, command_reach, CommandGoes};
 ghost use Rattle.mm_transfer.specs.Events.{which_of, command_of};
 ghost use Rattle.mm_transfer.specs.OneSide.{link_of, role_in, digest_by};
 ghost use Rattle.mm_transfer.specs.Pairs.{pair_of};
@@ -104,8 +104,8 @@ fn invite(
 ) -> Result<MoveReply, Memory>
     ensures made { (between : IssuedTickets)
         → CommandGoes (pair_of here.old.seat.header) (which_of which)
-        course.now.meddles.now course.now.stop (Invite nonce.now) here.old here.new between between
-        result }
+        course.now.meddles.now course.now.stop (Invite nonce.now) (command_reach here.old between)
+        (command_reach here.new between) result }
     ensures headed { here.new.seat.header ≡ here.old.seat.header }
 {
     keep_digest(here);
@@ -160,8 +160,8 @@ fn retire(
 ) -> Result<MoveReply, Memory>
     requires { vec_len between.old.tickets < 2 ^ 32 }
     ensures made { (which : both.SideName) → CommandGoes (pair_of here.old.seat.header) which
-        course.now.meddles.now course.now.stop (Retire nonce.now offer.now) here.old here.new
-        between.old between.new result }
+        course.now.meddles.now course.now.stop (Retire nonce.now offer.now)
+        (command_reach here.old between.old) (command_reach here.new between.new) result }
     ensures headed { here.new.seat.header ≡ here.old.seat.header }
 {
     between.tickets.reserve(1)?;
@@ -248,8 +248,8 @@ fn accept(
     course: &CallPlan<'_>,
 ) -> Result<MoveReply, Memory>
     ensures made { (which : both.SideName) → CommandGoes (pair_of here.old.seat.header) which
-        course.now.meddles.now course.now.stop (Accept offer.now) here.old here.new
-        between.now between.now result }
+        course.now.meddles.now course.now.stop (Accept offer.now)
+        (command_reach here.old between.now) (command_reach here.new between.now) result }
     ensures headed { here.new.seat.header ≡ here.old.seat.header }
 {
     here.seat.issued.reserve(1)?;
@@ -283,8 +283,8 @@ pub fn command(
 ) -> Result<MoveReply, Memory>
     requires { vec_len between.old.tickets < 2 ^ 32 }
     ensures made { CommandGoes (pair_of here.old.seat.header) (which_of which)
-        course.now.meddles.now
-        course.now.stop (command_of command.now) here.old here.new between.old between.new result }
+        course.now.meddles.now course.now.stop (command_of command.now)
+        (command_reach here.old between.old) (command_reach here.new between.new) result }
     ensures headed { here.new.seat.header ≡ here.old.seat.header }
 {
     match command {

@@ -6,7 +6,7 @@ ghost use Rattle.mm_sides.specs.BothSides.{First, Second};
 ghost use Rattle.mm_sides.specs.BothSides as both;
 ghost use Rattle.mm_sides.specs.Folds as folds;
 ghost use Rattle.mm_transfer.specs.declared.between.IssuedTickets.{IssuedTickets};
-ghost use Rattle.mm_transfer.specs.ActOutcome.{ActGoes};
+ghost use Rattle.mm_transfer.specs.ActOutcome.{act_reach, ActGoes};
 ghost use Rattle.mm_transfer.specs.SideCommands.{FitsIssuedTickets};
 ghost use Rattle.mm_transfer.specs.Events.{act_of, which_of};
 ghost use Rattle.mm_transfer.specs.OneSide.{FitsSide};
@@ -60,7 +60,8 @@ fn play(here: &mut Side, committed: &mut u64, event: &Event) -> Result<MoveReply
     requires { here.old.seat.committed < 2 ^ 63 }
     ensures acts { (which : both.SideName) (between : IssuedTickets)
         → ActGoes (pair_of here.old.seat.header) which (folds.Plain (event_of event.now))
-        here.old here.new between between committed.old committed.new result }
+        (act_reach here.old between committed.old) (act_reach here.new between committed.new)
+        result }
     ensures headed { here.new.seat.header ≡ here.old.seat.header }
 {
     let before = here.seat.committed;
@@ -85,7 +86,8 @@ fn act(
     requires position { here.old.seat.committed < 2 ^ 63 }
     requires tickets { vec_len between.old.tickets < 2 ^ 32 }
     ensures acts { ActGoes (pair_of here.old.seat.header) (which_of which) (act_of act.now)
-        here.old here.new between.old between.new committed.old committed.new result }
+        (act_reach here.old between.old committed.old)
+        (act_reach here.new between.new committed.new) result }
     ensures headed { here.new.seat.header ≡ here.old.seat.header }
 {
     match act {
