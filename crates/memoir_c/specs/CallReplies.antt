@@ -32,30 +32,39 @@ reply_with_answer answer old = record old {
 abbrev pub reply_with_step : Step → Reply → Reply
 reply_with_step step old = record old { next = step }
 
+-- What a call writes to: the reply, and the room.
+pub record ReplyRoom : Type 0 where
+  pub reply : Reply
+  pub room : List ℕ
+
+abbrev pub reply_room : Reply → List ℕ → ReplyRoom
+reply_room reply room = record { reply = reply; room = room }
+
 -- What a call leaves: the reply and the room before and behind it, and what it says.
 pub record ReplyState : Type 0 where
-  pub old : Reply
-  pub new : Reply
-  pub before : List ℕ
-  pub after : List ℕ
+  pub old : ReplyRoom
+  pub new : ReplyRoom
   pub says : ReturnStatus
+
+abbrev pub reply_state : ReplyRoom → ReplyRoom → ReturnStatus → ReplyState
+reply_state old new says = record { old = old; new = new; says = says }
 
 -- it says this, and writes nothing
 pub record SaysOnly (said : ReturnStatus) (left : ReplyState) : Type 0 where
   pub says : left.says ≡ said
-  pub reply : left.new ≡ left.old
-  pub room : left.after ≡ left.before
+  pub reply : left.new.reply ≡ left.old.reply
+  pub room : left.new.room ≡ left.old.room
 
 -- it tells an answer; or there is too little room
 pub record AnswersInRoom (answer : Answer) (left : ReplyState) : Type 0 where
   pub says : left.says ≡ said.Done
-  pub reply : left.new ≡ reply_with_answer answer left.old
-  pub room : left.after ≡ bytes_of answer ++ drop (length (bytes_of answer)) left.before
-  pub fits : length (bytes_of answer) ≤ length left.before
+  pub reply : left.new.reply ≡ reply_with_answer answer left.old.reply
+  pub room : left.new.room ≡ bytes_of answer ++ drop (length (bytes_of answer)) left.old.room
+  pub fits : length (bytes_of answer) ≤ length left.old.room
 
 pub record HasNoRoom (answer : Answer) (left : ReplyState) : Type 0 where
   pub says : SaysOnly said.NoRoom left
-  pub short : length left.before < length (bytes_of answer)
+  pub short : length left.old.room < length (bytes_of answer)
 
 abbrev pub TellsAnswer : Answer → ReplyState → Type 0
 TellsAnswer answer left = AnswersInRoom answer left ⊎ HasNoRoom answer left
@@ -63,8 +72,8 @@ TellsAnswer answer left = AnswersInRoom answer left ⊎ HasNoRoom answer left
 -- it tells the step that is to be made
 pub record TellsNextStep (step : Step) (left : ReplyState) : Type 0 where
   pub says : left.says ≡ said.Next
-  pub reply : left.new ≡ reply_with_step step left.old
-  pub room : left.after ≡ left.before
+  pub reply : left.new.reply ≡ reply_with_step step left.old.reply
+  pub room : left.new.room ≡ left.old.room
 
 -- what it tells of a call that came to this, or of what was passed that is no call
 abbrev pub TellsCallOutcome : Result (StepsOutcome (Result Answer Refusal)) ReturnStatus

@@ -14,13 +14,12 @@ use Rattle.mm_told.specs.ToldAskPromise.{ToldAskPromise}
 use Rattle.mm_told.specs.ToldCheckpointPromise.{ToldCheckpointPromise}
 use Rattle.mm_told.specs.HostLaws.{worn_host}
 use Rattle.memoir_c.specs.declared.asking.Instance.{Instance}
-use Rattle.memoir_c.specs.declared.asking.Reply.{Reply}
 use Rattle.memoir_c.specs.declared.made.Step.{Step}
 use Rattle.memoir_c.specs.declared.said.ReturnStatus.{ReturnStatus}
 use Rattle.memoir_c.specs.declared.said.ReturnStatus.TheVariants as said
 use Rattle.memoir_c.specs.Numbers.{number_of}
 use Rattle.memoir_c.specs.Steps.{AreSteps, HasNoStep}
-use Rattle.memoir_c.specs.CallReplies.{TellsCallOutcome, TellsClosing}
+use Rattle.memoir_c.specs.CallReplies.{ReplyRoom, reply_state, TellsCallOutcome, TellsClosing}
 
 -- no variant has this number, or no module this id
 abbrev pub IsNoInstance : Instance → ReturnStatus → Type 0
@@ -59,14 +58,12 @@ CallGives instance steps offer request (Err why) =
 
 -- What a call tells is what it comes to.
 pub record IsTold (instance : Instance) (steps : List Step) (offer request : List ℕ)
-    (old new : Reply) (before after : List ℕ) (number : ℕ) : Type 0 where
+    (old new : ReplyRoom) (number : ℕ) : Type 0 where
   pub asked : Result (StepsOutcome (Result Answer Refusal)) ReturnStatus
   pub comes : CallGives instance steps offer request asked
   pub says : ReturnStatus
   pub number_is : number ≡ number_of says
-  pub tells :
-      TellsCallOutcome asked
-      (record { old = old; new = new; before = before; after = after; says = says })
+  pub tells : TellsCallOutcome asked (reply_state old new says)
 
 -- The same of a checkpoint.
 pub record IsClosing (steps : List Step)

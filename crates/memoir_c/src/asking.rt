@@ -5,7 +5,7 @@ ghost use Rattle.mm_told.specs.ToldAskPromise.{ToldAskPromise};
 ghost use Rattle.mm_told.specs.HostLaws.{worn_host};
 ghost use Rattle.memoir_c.specs.Calls.{AreParts, CallGives, IsTold};
 ghost use Rattle.memoir_c.specs.KeptTexts.{IsKept};
-ghost use Rattle.memoir_c.specs.CallReplies.{TellsCallOutcome, TellsAnswer};
+ghost use Rattle.memoir_c.specs.CallReplies.{reply_room, reply_state, TellsCallOutcome, TellsAnswer};
 
 use crate::keeping::{Kept, keep, key_kept};
 use crate::made::{MOST_STEPS, Step, next, put_made};
@@ -52,8 +52,8 @@ pub extern "C" fn memoir_ask(
     reply: &mut Reply,
     room: &mut [u8],
 ) -> u32
-    ensures told { IsTold instance.now steps.now offer.now request.now reply.old reply.new
-        room.old room.new result }
+    ensures told { IsTold instance.now steps.now offer.now request.now
+        (reply_room reply.old room.old) (reply_room reply.new room.new) result }
     ensures unwritten { result ≢ 0 → room.new ≡ room.old }
     ensures unsaid { result ≢ 0 → result ≢ 16 → reply.new ≡ reply.old }
 {
@@ -82,8 +82,8 @@ pub extern "C" fn memoir_ask_keeping(
 ) -> u32
     requires { IsKept kept.old memory.old }
     ensures kept { IsKept kept.new memory.new }
-    ensures told { IsTold instance.now steps.now offer.now request.now reply.old reply.new
-        room.old room.new result }
+    ensures told { IsTold instance.now steps.now offer.now request.now
+        (reply_room reply.old room.old) (reply_room reply.new room.new) result }
     ensures unwritten { result ≢ 0 → room.new ≡ room.old }
     ensures unsaid { result ≢ 0 → result ≢ 16 → reply.new ≡ reply.old }
 {
@@ -153,13 +153,8 @@ fn tell(
     reply: &mut Reply,
     room: &mut [u8],
 ) -> ReturnStatus
-    ensures tells { TellsCallOutcome asked (record {
-      old = reply.old;
-      new = reply.new;
-      before = room.old;
-      after = room.new;
-      says = result;
-    }) }
+    ensures tells { TellsCallOutcome asked (reply_state (reply_room reply.old room.old)
+        (reply_room reply.new room.new) result) }
     ensures unwritten { result ≢ ReturnStatus.Done → room.new ≡ room.old }
     ensures unsaid { result ≢ ReturnStatus.Done → result ≢ ReturnStatus.Next
         → reply.new ≡ reply.old }
@@ -179,13 +174,8 @@ fn tell(
 
 // Writes an answer: its output, and its snapshot behind that.
 fn put_answer(answer: &Answer, reply: &mut Reply, room: &mut [u8]) -> ReturnStatus
-    ensures tells { TellsAnswer answer.now (record {
-      old = reply.old;
-      new = reply.new;
-      before = room.old;
-      after = room.new;
-      says = result;
-    }) }
+    ensures tells { TellsAnswer answer.now (reply_state (reply_room reply.old room.old)
+        (reply_room reply.new room.new) result) }
     ensures unwritten { result ≢ ReturnStatus.Done → room.new ≡ room.old }
     ensures unsaid { result ≢ ReturnStatus.Done → reply.new ≡ reply.old }
 {
