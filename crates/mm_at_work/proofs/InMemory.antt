@@ -1,7 +1,7 @@
 -- What is asked of devices in memory, which tell what they hold, is what is asked of any.
 use Rattle.mm_at_work.proofs.Below.{◌≡◌, List, ℕ, Result, Ok, Err, Option, Some, length, OnOk, refl, ap, ◌∙◌, Variant, Basic, Opt, Meaning}
 use Rattle.mm_at_work.proofs.Below.{Batch, Instance, History, InstanceBegins, InitLeaves, CanRecover, HostRecovers, CachedDevice, Sheets}
-use Rattle.mm_at_work.proofs.Below.{Slots, TornMemory, whole_bytes, TwoCell, first_devices, store_in_pages, two_cells, StartsInMemory}
+use Rattle.mm_at_work.proofs.Below.{Slots, TornMemory, whole_bytes, TwoCell, first_devices, two_cells, StartsInMemory}
 use Rattle.std.specs.Option.{option_map}
 use Rattle.mm_base.specs.Streams.{Supply}
 use Rattle.mm_recovery.specs.declared.fault.HostFault.{HostFault}
