@@ -1,21 +1,19 @@
 -- What is asked of devices in memory, which tell what they hold, is what is asked of any.
 use Rattle.mm_at_work.proofs.Below.{◌≡◌, List, ℕ, Result, Ok, Err, Option, Some, length, OnOk, refl, ap, ◌∙◌, Variant, Basic, Opt, Meaning}
 use Rattle.mm_at_work.proofs.Below.{Batch, Instance, History, InstanceBegins, InitLeaves, CanRecover, HostRecovers, CachedDevice, Sheets}
-use Rattle.mm_at_work.proofs.Below.{Slots, TornMemory, whole_bytes, TwoCell, first_devices, store_in_pages, two_cells, StartsInMemory}
+use Rattle.mm_at_work.proofs.Below.{Slots, TornMemory, whole_bytes, TwoCell, first_devices, two_cells, StartsInMemory}
 use Rattle.std.specs.Option.{option_map}
 use Rattle.mm_base.specs.Streams.{Supply}
-use Rattle.mm_recovery.specs.HostStanding.{host_standing}
 use Rattle.mm_recovery.specs.declared.fault.HostFault.{HostFault}
 use Rattle.mm_recovery.specs.declared.init_fault.InitFault.{InitFault}
 use Rattle.mm_recovery.specs.declared.resuming.Resumed.{Resumed}
 use Rattle.mm_store.specs.UnsyncedSlots.{UnsyncedSlots}
 use Rattle.mm_twocell.specs.Pairs.{picked_cell}
+use Rattle.mm_at_work.specs.Devices.{MemoryHost, host_by}
 use Rattle.mm_at_work.specs.MemoryRecovery.{CanRecoverInMemory, RecoversInMemory}
 
-can_recover : {all others : List (List ℕ)} {asked : List Batch} {i : Instance} {y : History} {it : TwoCell TornMemory}
-    {store : CachedDevice Sheets} →
-    CanRecoverInMemory all others asked i y it store
-    → CanRecover all others asked i y store.device.slots (host_standing (two_cells it) (store_in_pages store))
+can_recover : {all others : List (List ℕ)} {asked : List Batch} {i : Instance} {y : History} {it : MemoryHost}
+    → CanRecoverInMemory all others asked i y it → CanRecover all others asked i y it.pages.device.slots (host_by it)
 can_recover can = record {
   honest = refl;
   told = refl;
@@ -27,16 +25,13 @@ can_recover can = record {
   is_asked = can.is_asked;
 }
 
-pub recovers_in_memory : (variant : Variant) (meaning : Meaning) (before after : TwoCell TornMemory) (old new : CachedDevice Sheets)
-    (result : Result Resumed HostFault) →
-    HostRecovers variant meaning (host_standing (two_cells before) (store_in_pages old))
-    (host_standing (two_cells after) (store_in_pages new)) result →
-    RecoversInMemory variant meaning before after old new result
+pub recovers_in_memory : (variant : Variant) (meaning : Meaning) (old new : MemoryHost) (result : Result Resumed HostFault)
+    → HostRecovers variant meaning (host_by old) (host_by new) result → RecoversInMemory variant meaning old new result
 unfolding can_recover
-recovers_in_memory Basic meaning before after old new result recovers = λ key y all others asked can.
-    recovers key y old.device.slots all others asked (can_recover can)
-recovers_in_memory Opt meaning before after old new result recovers = λ key barrier y all others asked items more can.
-    recovers key barrier y old.device.slots all others asked items more (can_recover can)
+recovers_in_memory Basic meaning old new result recovers = λ key y all others asked can.
+    recovers key y old.pages.device.slots all others asked (can_recover can)
+recovers_in_memory Opt meaning old new result recovers = λ key barrier y all others asked items more can.
+    recovers key barrier y old.pages.device.slots all others asked items more (can_recover can)
 
 -- a memory of 209 bytes is told whole
 told_whole : (bytes : List ℕ) → length bytes ≡ 209 → whole_bytes (Some bytes) ≡ Some bytes

@@ -18,8 +18,6 @@ use Rattle.mm_life.specs.DeviceDeeds.{CyclesLead}
 use Rattle.mm_life.specs.Stages.{Does, IsLife, LifeStage, ProgramStanding, program_standing, session_stage}
 use Rattle.mm_module.specs.Meaning.{Meaning}
 use Rattle.mm_modules.specs.Modules.{meaning_of}
-use Rattle.mm_opt.specs.declared.segment.CheckpointRefusal.{CheckpointRefusal}
-use Rattle.mm_opt.specs.declared.segment.Checkpointed.{Checkpointed}
 use Rattle.mm_platform.specs.Standing.{Standing}
 use Rattle.mm_schedule.specs.declared.header.Header.{Header}
 use Rattle.mm_digest.specs.declared.variant.Variant.{Variant}

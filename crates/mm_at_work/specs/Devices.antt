@@ -5,6 +5,7 @@ use Rattle.std.specs.Option.{option_map}
 use Rattle.mm_base.specs.Streams.{Supply}
 use Rattle.mm_host.specs.SessionStanding.{SessionStanding, session_standing}
 use Rattle.mm_life.specs.Stages.{ProgramStanding, program_standing}
+use Rattle.mm_recovery.specs.HostStanding.{HostStanding, host_standing}
 use Rattle.mm_recovery.specs.Init.{Devices}
 use Rattle.mm_pages.specs.CachedDevice.{CachedDevice}
 use Rattle.mm_pages.specs.Sheets.{Sheets}
@@ -38,6 +39,18 @@ store_in_pages store = record {
   faults = store.device.faults;
   unsynced = Some store.device.unsynced;
 }
+
+-- the devices of a host in memory: its platform and its pages
+pub record MemoryHost : Type 0 where
+  pub platform : TwoCell TornMemory
+  pub pages : CachedDevice Sheets
+
+abbrev pub memory_host : TwoCell TornMemory → CachedDevice Sheets → MemoryHost
+memory_host platform pages = record { platform = platform; pages = pages }
+
+-- what these tell
+abbrev pub host_by : MemoryHost → HostStanding
+host_by it = host_standing (two_cells it.platform) (store_in_pages it.pages)
 
 -- what the objects of a session tell in memory, and of these what a program's own ones do
 abbrev pub session_in_memory : TwoCell TornMemory → CachedDevice Sheets

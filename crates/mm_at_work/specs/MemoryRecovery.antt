@@ -15,47 +15,38 @@ use Rattle.mm_call.specs.Premises.{AreShown}
 use Rattle.mm_call.specs.ShownItems.{standing_items}
 use Rattle.mm_recovery.specs.declared.fault.HostFault.{HostFault}
 use Rattle.mm_recovery.specs.declared.resuming.Resumed.{Resumed}
-use Rattle.mm_recovery.specs.HostStanding.{host_standing}
 use Rattle.mm_recovery.specs.SlotFit.{FitsHistory}
 use Rattle.mm_recovery.specs.Recovery.{AsksIdly, IsAskedFor, RecoversTo}
-use Rattle.mm_pages.specs.CachedDevice.{CachedDevice}
-use Rattle.mm_pages.specs.Sheets.{Sheets}
-use Rattle.mm_twocell.specs.TornMemory.{TornMemory}
-use Rattle.mm_twocell.specs.declared.pair.TwoCell.{TwoCell}
-use Rattle.mm_at_work.specs.Devices.{store_in_pages, two_cells}
+use Rattle.mm_at_work.specs.Devices.{MemoryHost, host_by, two_cells}
 
 -- What is asked: the picked cell, and in Opt the register, stand for the history; the pages fit it;
 -- and no two messages of it and of the request that waits share a digest. Nothing is asked of the
 -- devices themselves.
 pub record CanRecoverInMemory (all others : List (List ℕ)) (asked : List Batch) (i : Instance)
-    (y : History) (it : TwoCell TornMemory)
-    (store : CachedDevice Sheets) : Type 0 where
-  pub stands : StandsFor i (two_cells it) y
-  pub fits : FitsHistory i store.device.slots y
+    (y : History) (it : MemoryHost) : Type 0 where
+  pub stands : StandsFor i (two_cells it.platform) y
+  pub fits : FitsHistory i it.pages.device.slots y
   pub clear : IsClear all
   pub apart : AreNoGuards i.barrier others asked
   pub within : IsWithin all others asked i y
-  pub is_asked : IsAskedFor all asked i store.device.slots fits.waiting
+  pub is_asked : IsAskedFor all asked i it.pages.device.slots fits.waiting
 
 -- From every history, under every key, and in Opt under every barrier, where what others did is
 -- known by the register's items, unless it asks idly.
-abbrev pub RecoversInMemory : Variant → Meaning → TwoCell TornMemory → TwoCell TornMemory
-    → CachedDevice Sheets
-    → CachedDevice Sheets → Result Resumed HostFault
-    → Type 0
-RecoversInMemory Basic meaning before after old new result =
+abbrev pub RecoversInMemory : Variant → Meaning → (old new : MemoryHost)
+    → Result Resumed HostFault → Type 0
+RecoversInMemory Basic meaning old new result =
     (key : List ℕ) (y : History) (all others : List (List ℕ)) (asked : List Batch)
-    (can : CanRecoverInMemory all others asked (basic_instance meaning key) y before old) →
-    RecoversTo all others asked (basic_instance meaning key) y old.device.slots can.fits.waiting
-    (host_standing (two_cells after) (store_in_pages new)) result
-RecoversInMemory Opt meaning before after old new result =
+    (can : CanRecoverInMemory all others asked (basic_instance meaning key) y old) →
+    RecoversTo all others asked (basic_instance meaning key) y old.pages.device.slots
+    can.fits.waiting (host_by new) result
+RecoversInMemory Opt meaning old new result =
     (key barrier : List ℕ) (y : History) (all others : List (List ℕ)) (asked : List Batch)
     (items more : List Item)
-    (can : CanRecoverInMemory all others asked (opt_instance meaning key barrier) y before old) →
-    (two_cells before).items ≡ Some items
-    → (two_cells after).items ≡ Some (standing_items y.is_open items ++ more) →
-    ((AsksIdly (opt_instance meaning key barrier) y old.device.slots can.fits.waiting → ⊥)
+    (can : CanRecoverInMemory all others asked (opt_instance meaning key barrier) y old) →
+    (two_cells old.platform).items ≡ Some items
+    → (two_cells new.platform).items ≡ Some (standing_items y.is_open items ++ more) →
+    ((AsksIdly (opt_instance meaning key barrier) y old.pages.device.slots can.fits.waiting → ⊥)
     → AreShown all others (opt_instance meaning key barrier) y more) →
-    RecoversTo all others asked (opt_instance meaning key barrier) y
-    old.device.slots can.fits.waiting
-    (host_standing (two_cells after) (store_in_pages new)) result
+    RecoversTo all others asked (opt_instance meaning key barrier) y old.pages.device.slots
+    can.fits.waiting (host_by new) result

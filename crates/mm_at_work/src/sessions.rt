@@ -6,7 +6,7 @@ ghost use Rattle.mm_host.specs.HonestStore.{SessionContinues};
 ghost use Rattle.mm_recovery.specs.FirstStart.{InitLeaves};
 ghost use Rattle.mm_host.specs.Sessions.{IsSession};
 ghost use Rattle.mm_host.specs.SessionWrites.{SessionWrites};
-ghost use Rattle.mm_at_work.specs.Devices.{first_devices, memory_session, session_in_memory, two_cells};
+ghost use Rattle.mm_at_work.specs.Devices.{first_devices, memory_host, memory_session, session_in_memory, two_cells};
 ghost use Rattle.mm_at_work.specs.FirstSession.{BeginsAndServes};
 ghost use Rattle.mm_at_work.specs.OldCopy.{ServesCopy};
 ghost use Rattle.mm_at_work.specs.MemoryRecovery.{RecoversInMemory};
@@ -63,8 +63,8 @@ pub fn go_on<M: Module>(
     platform: &mut TwoCell<MemRaw>,
     store: &mut PageStore<MemPages>,
 ) -> Result<Resumed, HostFault>
-    ensures { RecoversInMemory variant (M.meaning «module».now) platform.old platform.new store.old
-        store.new result }
+    ensures { RecoversInMemory variant (M.meaning «module».now)
+        (memory_host platform.old store.old) (memory_host platform.new store.new) result }
 {
     resume(alloc, variant, module, platform, store)
 }
