@@ -5,6 +5,7 @@ use Rattle.mm_base.specs.declared.fault.WriteFault as write
 use Rattle.mm_base.specs.declared.replay_fault.ReplayFault.TheVariants as fault
 use Rattle.mm_play.proofs.Above.{bare, IsSilent, lacked_events, stopped_events}
 use Rattle.mm_play.specs.Headline.{EventPlayer, TellsEvents}
+use Rattle.mm_play.specs.StreamStanding.{stream_standing}
 use Rattle.mm_app.specs.Headline.{TellsByStatus}
 
 -- the answer without its report ends so too, and its stop line is written where something stopped it
@@ -24,7 +25,8 @@ silent (Err fault.TooMuch) = tt
 module _ {G H E S : Type 0} (p : EventPlayer G H E S) (All Less : H → List E → (List E → S) → Type 0)
     (less : (header : H) (events : List E) (shown : List E → S) → All header events shown → Less header events shown) where
   pub told_by : {T : Type 0} {left left' received middle received' : Option (List ℕ)} {answer : Result T ReplayFault}
-      {wrote : Result (Unit {0}) write.WriteFault} {status : Status} → TellsEvents p All left left' received middle [] answer
+      {wrote : Result (Unit {0}) write.WriteFault} {status : Status} → TellsEvents p All (stream_standing left received)
+          (stream_standing left' middle) [] answer
       → status ≡ status_of answer → SinkSends middle received' (stop_line status) wrote
       → TellsByStatus p Less left left' received received' status
   told_by {answer = answer} {status = status} tells ends sends = (

@@ -2,6 +2,7 @@
 use Rattle.std.specs.Prelude.{◌≡◌, ℕ, List, Option, Result}
 use Rattle.mm_base.specs.declared.replay_fault.ReplayFault.{ReplayFault}
 use Rattle.mm_play.specs.Headline.{EventPlayer, TellsEvents}
+use Rattle.mm_play.specs.StreamStanding.{stream_standing}
 use Rattle.mm_replay.specs.Headline.{AreOneRun, replay_player}
 use Rattle.mm_app.specs.Status.{status_of, stop_line}
 use Rattle.mm_app.specs.declared.status.Status.{Status}
@@ -13,7 +14,8 @@ abbrev pub TellsByStatus : {G H E S : Type 0} → EventPlayer G H E S
     → Status → Type 0
 TellsByStatus p Holds left left' received received' status =
     (ended : Result (Unit {0}) ReplayFault) × (status ≡ status_of ended)
-    × TellsEvents p Holds left left' received received' (stop_line status) ended
+    × TellsEvents p Holds (stream_standing left received) (stream_standing left' received')
+    (stop_line status) ended
 
 -- The headline of a replay: what is told of a schedule is one run of the module on one list of
 -- requests.

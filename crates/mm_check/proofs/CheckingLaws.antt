@@ -17,6 +17,7 @@ use Rattle.mm_play.specs.Play.{PlayOutcome, play_outcome, stopped_outcome, refus
 use Rattle.mm_play.specs.Play.{outcome_then, outcome_of_lines}
 use Rattle.std.specs.Io.KnownBytes.{Appends}
 use Rattle.mm_play.specs.PlaysInput.{HoldsOfWhole, AnswerFits, PlaysInput, IsBlamed, is_write_fault}
+use Rattle.mm_play.specs.StreamStanding.{stream_standing}
 use Rattle.mm_check.specs.CheckStage.{answer_to_recorded_line}
 use Rattle.mm_check.specs.Checks.{IsChecked, AreTested, check_of_lines, check_of_input, JudgeSettles, JudgePromise, ChecksRunBy, ChecksRun}
 use Rattle.mm_check.specs.CheckStageLaws.{compared, headed_by, reads}
@@ -174,7 +175,8 @@ not_written result fault h is same =
 
 module _ {first next : CheckStage} {left left' received received' : Option (List ℕ)} {result : Result (Unit {0}) ReplayFault}
     (begins : first ≡ AtHeader)
-    (played : PlaysInput (check_answer header_at) check_closing first next left left' received received' result) where
+    (played : PlaysInput (check_answer header_at) check_closing first next (stream_standing left received)
+        (stream_standing left' received') result) where
   pub judged_ok : (it : Verdicts) (done : Unit {0}) → result ≡ Ok done → StageConcludes next it → JudgePromise left left' (Ok it)
   judged_ok it done is c =
       let p = plays_ok begins played done is it in

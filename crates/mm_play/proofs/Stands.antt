@@ -8,6 +8,7 @@ use Rattle.mm_play.proofs.Below.{WriteFault, LineRefusal, PlayOutcome, play_outc
 use Rattle.mm_play.proofs.Below.{outcome_of_rest, outcome_of_input, IsFrontOf, HoldsOfWhole, AnswerFits, PlaysInput, TurnPlays, PlaysNext}
 use Rattle.mm_play.proofs.Runs.{run-more, outcome_of_rest-joined}
 use Rattle.mm_play.proofs.Turning.{front_after}
+use Rattle.mm_play.specs.StreamStanding.{stream_standing}
 
 -- These lines were answered; some bytes are held, and some replies are pending.
 pub record Stands {P : Type 0} (answer : P → List ℕ → Result (List ℕ × P) LineRefusal) (first player : P) (number : ℕ)
@@ -126,7 +127,7 @@ module _ {P : Type 0} {answer : P → List ℕ → Result (List ℕ × P) LineRe
   plays_with : (came : Result (Unit {0}) ReplayFault)
       → AnswerFits (outcome_of_lines answer 1 first) (outcome_of_input answer closing first) next left'' (s.taken ++ t.taken)
       (s.sent ++ t.sent) came
-      → PlaysInput answer closing first next left left'' received received'' came
+      → PlaysInput answer closing first next (stream_standing left received) (stream_standing left'' received'') came
   plays_with came settled = record {
     taken = s.taken ++ t.taken;
     sent = s.sent ++ t.sent;
@@ -137,7 +138,7 @@ module _ {P : Type 0} {answer : P → List ℕ → Result (List ℕ × P) LineRe
 
   -- The turn stopped the run.
   pub plays_stopped : (fault : ReplayFault) → result ≡ Err fault
-      → PlaysInput {T = Unit {0}} answer closing first next left left'' received received'' (Err fault)
+      → PlaysInput {T = Unit {0}} answer closing first next (stream_standing left received) (stream_standing left'' received'') (Err fault)
   plays_stopped fault is =
       plays_with (Err fault)
       (subst (λ (b : List ℕ). AnswerFits {T = Unit {0}} (outcome_of_lines answer 1 first) (outcome_of_input answer closing first) next
@@ -145,7 +146,7 @@ module _ {P : Type 0} {answer : P → List ℕ → Result (List ℕ × P) LineRe
       (s.sent ++ b) (Err fault)) (all_sent (rw is at t.is_sent)) (settled_by (t.sent ++ pending') fault (went_by (Err fault) is)))
 
   -- The input ended.
-  pub plays_ended : result ≡ Ok false → PlaysInput {T = Unit {0}} answer closing first next left left'' received received'' (Ok tt)
+  pub plays_ended : result ≡ Ok false → PlaysInput {T = Unit {0}} answer closing first next (stream_standing left received) (stream_standing left'' received'') (Ok tt)
   plays_ended is =
       let w = went_by (Ok false) is in
       let said : t.sent ≡ pending ++ w.1 = sym (all_sent (rw is at t.is_sent)) ∙ w.3 in
@@ -160,7 +161,7 @@ module _ {P : Type 0} {answer : P → List ℕ → Result (List ℕ × P) LineRe
 
 -- Nothing was taken, for want of memory.
 pub plays_nothing : {P : Type 0} (answer : P → List ℕ → Result (List ℕ × P) LineRefusal) (closing : P → Option (List ℕ)) (first : P)
-    (left received : Option (List ℕ)) → PlaysInput {T = Unit {0}} answer closing first first left left received received (Err Memory)
+    (left received : Option (List ℕ)) → PlaysInput {T = Unit {0}} answer closing first first (stream_standing left received) (stream_standing left received) (Err Memory)
 plays_nothing answer closing first left received = record {
   taken = [];
   sent = [];

@@ -10,14 +10,16 @@ use Rattle.mm_play.specs.StageShows.{StageShows}
 use Rattle.mm_play.specs.Stage.{EventStage, EventSteps, HeadStage, LineStage, AtHeading, line_answer, closing_lines}
 use Rattle.mm_play.proofs.Headlines.{tells}
 use Rattle.mm_play.proofs.Telling.{plays_ok, plays_err}
+use Rattle.mm_play.specs.StreamStanding.{stream_standing}
 
 -- A play of lines by a stage that shows what the player of events does.
 module _ {G H E S R T : Type 0} (p : EventPlayer G H E S) (heads : HeadStage G R) (s : EventStage R) (steps : EventSteps E R)
     (begun : H → R) (shown : H → List E → S) (shows : StageShows p heads s steps begun shown) (Holds : H → List E → (List E → S) → Type 0)
     (holds : (header : H) (events : List E) → Holds header events (shown header)) (reports : LineStage G R → T → Type 0) where
   told_events : {next : LineStage G R} {left left' received received' : Option (List ℕ)} {result : Result T ReplayFault}
-      → PlaysInput (line_answer heads s) (closing_lines heads s) (AtHeading p.start) next left left' received received' result
-      → TellsEvents p Holds left left' received received' [] result
+      → PlaysInput (line_answer heads s) (closing_lines heads s) (AtHeading p.start) next
+          (stream_standing left received) (stream_standing left' received') result
+      → TellsEvents p Holds (stream_standing left received) (stream_standing left' received') [] result
   told_events {next = next} {left' = left'} {result = result} played =
       let it = tells p heads s steps begun shown shows Holds holds next left' played.taken played.sent result played.settled in
       record {
@@ -34,18 +36,21 @@ module _ {G H E S R T : Type 0} (p : EventPlayer G H E S) (heads : HeadStage G R
 
   module _ {player next : LineStage G R} {left left' received received' : Option (List ℕ)} {result : Result (Unit {0}) ReplayFault}
       (begins : player ≡ AtHeading p.start)
-      (played : PlaysInput (line_answer heads s) (closing_lines heads s) player next left left' received received' result) where
+      (played : PlaysInput (line_answer heads s) (closing_lines heads s) player next (stream_standing left received)
+          (stream_standing left' received') result) where
     pub events_ok : (done : Unit {0}) → result ≡ Ok done → (report : T) → reports next report
-        → PlaysEvents p Holds heads s reports left left' received received' (Ok report)
+        → PlaysEvents p Holds heads s reports (stream_standing left received) (stream_standing left' received') (Ok report)
     events_ok done is report reported =
         let plays = plays_ok begins played done is report in
         record { next = next; plays = plays; tells = told_events plays; reported = reported }
 
     pub events_err : (fault : ReplayFault) → result ≡ Err fault
-        → (let said : Result T ReplayFault = Err fault in PlaysEvents p Holds heads s reports left left' received received' said)
+        → (let said : Result T ReplayFault = Err fault in PlaysEvents p Holds heads s reports
+            (stream_standing left received) (stream_standing left' received') said)
     events_err fault is =
         let plays : (let said : Result T ReplayFault = Err fault in
-        PlaysInput (line_answer heads s) (closing_lines heads s) (AtHeading p.start) next left left' received received' said) =
+        PlaysInput (line_answer heads s) (closing_lines heads s) (AtHeading p.start) next
+            (stream_standing left received) (stream_standing left' received') said) =
         plays_err begins played fault is in
         record { next = next; plays = plays; tells = told_events plays; reported = tt }
 
@@ -121,8 +126,8 @@ module _ {G H E S : Type 0} (p : EventPlayer G H E S) (All Less : H → List E �
   -- A play, and then its stop line or a front of it.
   pub stopped_events : {T : Type 0} {left left' received middle received' : Option (List ℕ)} {result : Result T ReplayFault}
       {stop : List ℕ} {wrote : Result (Unit {0}) write.WriteFault} → IsSilent result stop
-      → TellsEvents p All left left' received middle [] result → SinkSends middle received' stop wrote
-      → TellsEvents p Less left left' received received' stop (bare result)
+      → TellsEvents p All (stream_standing left received) (stream_standing left' middle) [] result → SinkSends middle received' stop wrote
+      → TellsEvents p Less (stream_standing left received) (stream_standing left' received') stop (bare result)
   stopped_events {left' = left'} {received = received} {middle = middle} {received' = received'} {result = result} {stop = stop} silent t
       sends =
       let front : IsFrontOf sends.sent stop = (sends.unsent, sym sends.parts) in
@@ -155,7 +160,8 @@ module _ {G H E S : Type 0} (p : EventPlayer G H E S) (All Less : H → List E �
 pub lacked_events : {G H E S : Type 0} (p : EventPlayer G H E S) (Holds : H → List E → (List E → S) → Type 0)
     {left received received' : Option (List ℕ)} {stop : List ℕ} {wrote : Result (Unit {0}) write.WriteFault}
     → SinkSends received received' stop wrote
-    → (let said : Result (Unit {0}) ReplayFault = Err Memory in TellsEvents p Holds left left received received' stop said)
+    → (let said : Result (Unit {0}) ReplayFault = Err Memory in TellsEvents p Holds (stream_standing left received)
+        (stream_standing left received') stop said)
 lacked_events p Holds {left = left} sends = record {
   taken = [];
   sent = sends.sent;

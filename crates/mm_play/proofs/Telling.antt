@@ -8,6 +8,7 @@ use Rattle.mm_play.proofs.Below.{AnswersWholeInput, RefusesMuch, TellsOutput, St
 use Rattle.mm_play.proofs.Below.{PlaysInput}
 use Rattle.mm_play.proofs.Halting.{comes, comes_so, ComesTo, HaltsAt, TailStops}
 use Rattle.mm_play.proofs.Runs.{not_ok}
+use Rattle.mm_play.specs.StreamStanding.{stream_standing}
 
 -- it holds of the whole input, and so does what follows from it
 pub for_whole : (left : Option (List ℕ)) (taken : List ℕ) (A B : List ℕ → Type 0) → ((input : List ℕ) → A input → B input)
@@ -106,11 +107,12 @@ settles_err A B lines whole next left taken sent _ s = s
 -- A play from the first stage, with the answer that its caller makes of the play's.
 module _ {P R : Type 0} {answer : P → List ℕ → Result (List ℕ × P) LineRefusal} {closing : P → Option (List ℕ)} {first player next : P}
     {left left' received received' : Option (List ℕ)} {result : Result (Unit {0}) ReplayFault} where
-  as_said : player ≡ first → PlaysInput answer closing player next left left' received received' result → (said : Result R ReplayFault)
+  as_said : player ≡ first → PlaysInput answer closing player next (stream_standing left received)
+      (stream_standing left' received') result → (said : Result R ReplayFault)
       → ((taken sent : List ℕ) → AnswerFits (outcome_of_lines answer 1 first) (outcome_of_input answer closing first) next left'
       taken sent result
       → AnswerFits (outcome_of_lines answer 1 first) (outcome_of_input answer closing first) next left' taken sent said)
-      → PlaysInput answer closing first next left left' received received' said
+      → PlaysInput answer closing first next (stream_standing left received) (stream_standing left' received') said
   as_said begins played said settles =
       let p = rw begins at played in
       record {
@@ -122,16 +124,20 @@ module _ {P R : Type 0} {answer : P → List ℕ → Result (List ℕ × P) Line
       }
 
   -- with the report that the caller makes of the last stage
-  pub plays_ok : player ≡ first → PlaysInput answer closing player next left left' received received' result → (done : Unit {0})
+  pub plays_ok : player ≡ first → PlaysInput answer closing player next (stream_standing left received)
+      (stream_standing left' received') result → (done : Unit {0})
       → result ≡ Ok done → (report : R)
-      → (let said : Result R ReplayFault = Ok report in PlaysInput answer closing first next left left' received received' said)
+      → (let said : Result R ReplayFault = Ok report in PlaysInput answer closing first next
+          (stream_standing left received) (stream_standing left' received') said)
   plays_ok begins played done is report =
       as_said begins played (Ok report) (λ taken sent settled. rw is at settled)
 
   -- or with the play's fault
-  pub plays_err : player ≡ first → PlaysInput answer closing player next left left' received received' result → (fault : ReplayFault)
+  pub plays_err : player ≡ first → PlaysInput answer closing player next (stream_standing left received)
+      (stream_standing left' received') result → (fault : ReplayFault)
       → result ≡ Err fault
-      → (let said : Result R ReplayFault = Err fault in PlaysInput answer closing first next left left' received received' said)
+      → (let said : Result R ReplayFault = Err fault in PlaysInput answer closing first next
+          (stream_standing left received) (stream_standing left' received') said)
   plays_err begins played fault is =
       as_said begins played (Err fault)
       (λ taken sent settled. settles_err (Unit {0}) R (outcome_of_lines answer 1 first) (outcome_of_input answer closing first) next
@@ -166,7 +172,7 @@ completed lines whole next left left' taken sent (Err fault) c s bytes end is ra
 -- An input that is answered to its end is not refused.
 pub unrefused : {P T : Type 0} {answer : P → List ℕ → Result (List ℕ × P) LineRefusal} {closing : P → Option (List ℕ)} {first next : P}
     {left left' received received' : Option (List ℕ)} {result : Result T ReplayFault}
-    → PlaysInput answer closing first next left left' received received' result
+    → PlaysInput answer closing first next (stream_standing left received) (stream_standing left' received') result
     → (bytes : List ℕ) (end : P) → left ≡ Some bytes → (outcome_of_input answer closing first bytes).outcome ≡ Ok end → IsUnrefused result
 unrefused {answer = answer} {closing = closing} {first = first} {next = next} {left = left} {left' = left'} {result = result} p =
     completed (outcome_of_lines answer 1 first) (outcome_of_input answer closing first) next left left' p.taken p.sent result

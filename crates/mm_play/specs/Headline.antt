@@ -10,6 +10,7 @@ use Rattle.mm_base.specs.declared.replay_fault.ReplayFault.TheVariants.{Memory, 
 use Rattle.mm_play.specs.HeadingStep.{HeadingStep, More, Begins}
 use Rattle.mm_play.specs.KeptBytes.{most_kept_bytes}
 use Rattle.mm_play.specs.Fronts.{IsFrontOf}
+use Rattle.mm_play.specs.StreamStanding.{StreamStanding}
 
 -- A player of events, as its lines are read: those of a heading, from its start on, until they name
 -- a header, and then an event in each. And what is shown of events: the text that answers them,
@@ -101,21 +102,21 @@ pub record AreAnswered {G H E S : Type 0} (p : EventPlayer G H E S)
 -- too long. They are some of a heading that isn't whole, or a heading and events; and by the end it
 -- says what is left, and what went out.
 pub record TellsEvents {G H E S T : Type 0} (p : EventPlayer G H E S)
-    (Holds : H → List E → (List E → S) → Type 0) (left left' received received' : Option (List ℕ))
-    (stop : List ℕ) (result : Result T ReplayFault) : Type 0 where
+    (Holds : H → List E → (List E → S) → Type 0) (old new : StreamStanding) (stop : List ℕ)
+    (result : Result T ReplayFault) : Type 0 where
   pub taken : List ℕ
   pub sent : List ℕ
-  pub consumed : Consumes left left' taken
-  pub appended : Appends received received' sent
+  pub consumed : Consumes old.left new.left taken
+  pub appended : Appends old.received new.received sent
   pub done : List (List ℕ)
   pub behind : List ℕ
   pub split : taken ≡ joined_lines done ++ behind
   pub short : AllByRecursion (λ line. IsUnbroken line × (length line ≤ longest_line)) done
   pub continues : ((at : G) × HeadingLeads p.head p.start done (More at)
-      × IsLeft left' behind (length done) (λ line. p.head at line ≡ None) (λ line. ⊥) result
+      × IsLeft new.left behind (length done) (λ line. p.head at line ≡ None) (λ line. ⊥) result
       × TextWentOut behind [] None stop sent result)
       ⊎ ((it : AreAnswered p Holds done)
-      × IsLeft left' behind (length done) (λ line. p.event_in it.header line ≡ None)
+      × IsLeft new.left behind (length done) (λ line. p.event_in it.header line ≡ None)
       (λ line. IsOver it.others (p.kept (it.shown it.events)) line) result
       × TextWentOut behind (p.text it.events (it.shown it.events))
       (Some (p.last (it.shown it.events))) stop sent result)

@@ -9,6 +9,7 @@ use Rattle.mm_base.specs.declared.replay_fault.ReplayFault.TheVariants.{Memory, 
 use Rattle.mm_play.specs.declared.player.LineRefusal.{LineRefusal}
 use Rattle.mm_play.specs.Play.{PlayOutcome, play_outcome, outcome_of_lines, outcome_of_input}
 use Rattle.mm_play.specs.Fronts.{IsFrontOf}
+use Rattle.mm_play.specs.StreamStanding.{StreamStanding}
 
 -- It holds of the whole input, of which these bytes were taken: whatever follows them, or nothing,
 -- where the source is at its end.
@@ -67,11 +68,10 @@ IsUnrefused _ = Unit {0}
 -- A call took these bytes of the input and wrote those, and its answer fits.
 pub record PlaysInput {P T : Type 0} (answer : P → List ℕ → Result (List ℕ × P) LineRefusal)
     (closing : P → Option (List ℕ)) (player next : P)
-    (left left' received received' : Option (List ℕ)) (result : Result T ReplayFault) : Type 0 where
+    (old new : StreamStanding) (result : Result T ReplayFault) : Type 0 where
   pub taken : List ℕ
   pub sent : List ℕ
-  pub consumed : Consumes left left' taken
-  pub appended : Appends received received' sent
+  pub consumed : Consumes old.left new.left taken
+  pub appended : Appends old.received new.received sent
   pub settled : AnswerFits (outcome_of_lines answer 1 player)
-      (outcome_of_input answer closing player) next left' taken sent
-      result
+      (outcome_of_input answer closing player) next new.left taken sent result

@@ -8,6 +8,7 @@ ghost use Rattle.mm_base.specs.Streams.{SinkSends};
 ghost use Rattle.mm_base.specs.Limits.{longest_line};
 ghost use Rattle.mm_play.specs.LineTurn.{TurnAdvances, PlayerAnswers, EndsInput, SendsDue, SendsAndAnswers, PlaysNext};
 ghost use Rattle.mm_play.specs.PlaysInput.{PlaysInput, IsBlamed, is_read_fault, is_write_fault};
+ghost use Rattle.mm_play.specs.StreamStanding.{stream_standing};
 
 use crate::player::{LineRefusal, Player, ReplyFault};
 use mm_base::{
@@ -180,8 +181,9 @@ pub fn play<P: Player, S: Source, K: Sink>(
     input: &mut S,
     out: &mut K,
 ) -> Result<(), ReplayFault>
-    ensures plays { PlaysInput P.answer P.closing player.old player.new (S.left input.old)
-        (S.left input.new) (K.received out.old) (K.received out.new) result }
+    ensures plays { PlaysInput P.answer P.closing player.old player.new
+        (stream_standing (S.left input.old) (K.received out.old))
+        (stream_standing (S.left input.new) (K.received out.new)) result }
     ensures read { IsBlamed (is_read_fault result) (S.faults input.old) (S.faults input.new) }
     ensures wrote { IsBlamed (is_write_fault result) (K.faults out.old) (K.faults out.new) }
 {

@@ -8,6 +8,7 @@ use Rattle.mm_play.specs.declared.player.ReplyFault.TheVariants as fault
 use Rattle.mm_play.specs.PlaysInput.{PlaysInput}
 use Rattle.mm_play.specs.Fronts.{GivesReply}
 use Rattle.mm_play.specs.TellsOutput.{AnswersAllLines, AnswersWholeInput}
+use Rattle.mm_play.specs.StreamStanding.{stream_standing}
 use Rattle.mm_receipt.specs.declared.report.ReceiptReport.{ReceiptReport}
 use Rattle.mm_receipt.specs.Reports.{AnswersHonestly, ChecksReceipts, ChecksHonestly, EndsHonestly}
 use Rattle.mm_receipt.proofs.HonestLaws.{honest}
@@ -28,7 +29,7 @@ takes-second it old asked line new next (Err (fault.Refused why)) is then t = se
 
 pub checks-err : (key : List ℕ) {first next : CheckState} {left left' received received' : Option (List ℕ)}
     {result : Result (Unit {0}) ReplayFault} → first ≡ first_check key
-    → PlaysInput receipts_answer receipts_closing first next left left' received received' result
+    → PlaysInput receipts_answer receipts_closing first next (stream_standing left received) (stream_standing left' received') result
     → (fault : ReplayFault) → result ≡ Err fault → ChecksReceipts key left left' received received' (Err fault)
 checks-err key {next = next} begins played fault is = record { next = next; plays = plays_err begins played fault is; reported = tt }
 

@@ -3,6 +3,7 @@ use Rattle.std.specs.Prelude.{◌≡◌, ℕ, List, ◌++◌, Option, Result}
 use Rattle.mm_base.specs.declared.replay_fault.ReplayFault.{ReplayFault}
 use Rattle.mm_play.specs.PlaysInput.{PlaysInput}
 use Rattle.mm_play.specs.TellsOutput.{AnswersAllLines, IsReported, RefusesMuch, TellsOutput}
+use Rattle.mm_play.specs.StreamStanding.{stream_standing}
 use Rattle.mm_receipt.specs.ReceiptCheck.{CheckState, first_check, last_line, receipts_answer, receipts_closing}
 use Rattle.mm_receipt.specs.HonestCheck.{IsHonestFor}
 use Rattle.mm_receipt.specs.declared.report.ReceiptReport.{ReceiptReport}
@@ -15,8 +16,8 @@ CountsLast it report = (report.good ≡ it.tally.good) × (report.pairs ≡ it.t
 pub record ChecksReceipts (key : List ℕ) (left left' received received' : Option (List ℕ))
     (result : Result ReceiptReport ReplayFault) : Type 0 where
   pub next : CheckState
-  pub plays : PlaysInput receipts_answer receipts_closing (first_check key) next left left' received
-      received' result
+  pub plays : PlaysInput receipts_answer receipts_closing (first_check key) next
+      (stream_standing left received) (stream_standing left' received') result
   pub reported : IsReported CountsLast next result
 
 -- These lines were answered with this text; and honestly, where no receipt is forged.

@@ -3,6 +3,7 @@ use Rattle.std.specs.Prelude.{◌≡◌, ℕ, List, length, Option, Result}
 use Rattle.mm_base.specs.declared.replay_fault.ReplayFault.{ReplayFault}
 use Rattle.mm_play.specs.PlaysEvents.{PlaysEvents}
 use Rattle.mm_play.specs.Stage.{AtHeading, InEvents}
+use Rattle.mm_play.specs.StreamStanding.{stream_standing}
 use Rattle.mm_replay.specs.Headline.{IsByDigests, replay_player}
 use Rattle.mm_replay.specs.Schedule.{ReplayStage, replay_heads, replay_stage}
 use Rattle.mm_replay.specs.declared.report.Report.{Report}
@@ -19,6 +20,5 @@ abbrev pub ReplaysSchedule : (left left' received received' : Option (List ℕ))
     → Result Report ReplayFault
     → Type 0
 ReplaysSchedule left left' received received' result =
-    PlaysEvents replay_player IsByDigests replay_heads replay_stage ReportsReplay left left'
-    received received'
-    result
+    PlaysEvents replay_player IsByDigests replay_heads replay_stage ReportsReplay
+    (stream_standing left received) (stream_standing left' received') result

@@ -4,6 +4,7 @@ use Rattle.std.specs.List.{sum_by}
 use Rattle.mm_base.specs.declared.replay_fault.ReplayFault.{ReplayFault}
 use Rattle.mm_play.specs.PlaysEvents.{PlaysEvents}
 use Rattle.mm_play.specs.Stage.{AtHeading, InEvents}
+use Rattle.mm_play.specs.StreamStanding.{stream_standing}
 use Rattle.mm_slots.specs.declared.report.SlotReport.{SlotReport}
 use Rattle.mm_slots.specs.Headline.{AreSlotRuns, slots_player}
 use Rattle.mm_slots.specs.Stage.{SlotsStage, slots_heads, slots_stage}
@@ -27,6 +28,5 @@ ReportsSlots (InEvents r) report =
 abbrev pub PlaysSlots : (left left' received received' : Option (List ℕ))
     → Result SlotReport ReplayFault → Type 0
 PlaysSlots left left' received received' result =
-    PlaysEvents slots_player AreSlotRuns slots_heads slots_stage ReportsSlots left left'
-    received received'
-    result
+    PlaysEvents slots_player AreSlotRuns slots_heads slots_stage ReportsSlots
+    (stream_standing left received) (stream_standing left' received') result

@@ -2,6 +2,7 @@
 use Rattle.std.specs.Prelude.{◌≡◌, ℕ, List, [], ◌∷◌, length, Option, Result}
 use Rattle.mm_play.specs.PlaysEvents.{PlaysEvents}
 use Rattle.mm_play.specs.Stage.{AtHeading, InEvents}
+use Rattle.mm_play.specs.StreamStanding.{stream_standing}
 use Rattle.mm_transfer.specs.Below.{ReplayFault}
 use Rattle.mm_transfer.specs.declared.report.TransferReport.{TransferReport}
 use Rattle.mm_transfer.specs.Headline.{AreOneTransfer, transfer_player}
@@ -22,5 +23,4 @@ abbrev pub PlaysTransfer : (left left' received received' : Option (List ℕ))
     → Result TransferReport ReplayFault → Type 0
 PlaysTransfer left left' received received' result =
     PlaysEvents transfer_player AreOneTransfer transfer_heads transfer_stage ReportsTransfer
-    left left' received
-    received' result
+    (stream_standing left received) (stream_standing left' received') result
