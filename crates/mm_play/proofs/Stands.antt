@@ -146,7 +146,8 @@ module _ {P : Type 0} {answer : P → List ℕ → Result (List ℕ × P) LineRe
       (s.sent ++ b) (Err fault)) (all_sent (rw is at t.is_sent)) (settled_by (t.sent ++ pending') fault (went_by (Err fault) is)))
 
   -- The input ended.
-  pub plays_ended : result ≡ Ok false → PlaysInput {T = Unit {0}} answer closing first next (stream_standing left received) (stream_standing left'' received'') (Ok tt)
+  pub plays_ended : result ≡ Ok false → PlaysInput {T = Unit {0}} answer closing first next
+      (stream_standing left received) (stream_standing left'' received'') (Ok tt)
   plays_ended is =
       let w = went_by (Ok false) is in
       let said : t.sent ≡ pending ++ w.1 = sym (all_sent (rw is at t.is_sent)) ∙ w.3 in
@@ -161,7 +162,8 @@ module _ {P : Type 0} {answer : P → List ℕ → Result (List ℕ × P) LineRe
 
 -- Nothing was taken, for want of memory.
 pub plays_nothing : {P : Type 0} (answer : P → List ℕ → Result (List ℕ × P) LineRefusal) (closing : P → Option (List ℕ)) (first : P)
-    (left received : Option (List ℕ)) → PlaysInput {T = Unit {0}} answer closing first first (stream_standing left received) (stream_standing left received) (Err Memory)
+    (left received : Option (List ℕ)) → PlaysInput {T = Unit {0}} answer closing first first
+    (stream_standing left received) (stream_standing left received) (Err Memory)
 plays_nothing answer closing first left received = record {
   taken = [];
   sent = [];

@@ -18,7 +18,7 @@ module _ {G H E S R T : Type 0} (p : EventPlayer G H E S) (heads : HeadStage G R
     (holds : (header : H) (events : List E) → Holds header events (shown header)) (reports : LineStage G R → T → Type 0) where
   told_events : {next : LineStage G R} {left left' received received' : Option (List ℕ)} {result : Result T ReplayFault}
       → PlaysInput (line_answer heads s) (closing_lines heads s) (AtHeading p.start) next
-          (stream_standing left received) (stream_standing left' received') result
+      (stream_standing left received) (stream_standing left' received') result
       → TellsEvents p Holds (stream_standing left received) (stream_standing left' received') [] result
   told_events {next = next} {left' = left'} {result = result} played =
       let it = tells p heads s steps begun shown shows Holds holds next left' played.taken played.sent result played.settled in
@@ -37,7 +37,7 @@ module _ {G H E S R T : Type 0} (p : EventPlayer G H E S) (heads : HeadStage G R
   module _ {player next : LineStage G R} {left left' received received' : Option (List ℕ)} {result : Result (Unit {0}) ReplayFault}
       (begins : player ≡ AtHeading p.start)
       (played : PlaysInput (line_answer heads s) (closing_lines heads s) player next (stream_standing left received)
-          (stream_standing left' received') result) where
+      (stream_standing left' received') result) where
     pub events_ok : (done : Unit {0}) → result ≡ Ok done → (report : T) → reports next report
         → PlaysEvents p Holds heads s reports (stream_standing left received) (stream_standing left' received') (Ok report)
     events_ok done is report reported =
@@ -46,11 +46,11 @@ module _ {G H E S R T : Type 0} (p : EventPlayer G H E S) (heads : HeadStage G R
 
     pub events_err : (fault : ReplayFault) → result ≡ Err fault
         → (let said : Result T ReplayFault = Err fault in PlaysEvents p Holds heads s reports
-            (stream_standing left received) (stream_standing left' received') said)
+        (stream_standing left received) (stream_standing left' received') said)
     events_err fault is =
         let plays : (let said : Result T ReplayFault = Err fault in
         PlaysInput (line_answer heads s) (closing_lines heads s) (AtHeading p.start) next
-            (stream_standing left received) (stream_standing left' received') said) =
+        (stream_standing left received) (stream_standing left' received') said) =
         plays_err begins played fault is in
         record { next = next; plays = plays; tells = told_events plays; reported = tt }
 
@@ -161,7 +161,7 @@ pub lacked_events : {G H E S : Type 0} (p : EventPlayer G H E S) (Holds : H → 
     {left received received' : Option (List ℕ)} {stop : List ℕ} {wrote : Result (Unit {0}) write.WriteFault}
     → SinkSends received received' stop wrote
     → (let said : Result (Unit {0}) ReplayFault = Err Memory in TellsEvents p Holds (stream_standing left received)
-        (stream_standing left received') stop said)
+    (stream_standing left received') stop said)
 lacked_events p Holds {left = left} sends = record {
   taken = [];
   sent = sends.sent;

@@ -128,7 +128,7 @@ module _ {P R : Type 0} {answer : P → List ℕ → Result (List ℕ × P) Line
       (stream_standing left' received') result → (done : Unit {0})
       → result ≡ Ok done → (report : R)
       → (let said : Result R ReplayFault = Ok report in PlaysInput answer closing first next
-          (stream_standing left received) (stream_standing left' received') said)
+      (stream_standing left received) (stream_standing left' received') said)
   plays_ok begins played done is report =
       as_said begins played (Ok report) (λ taken sent settled. rw is at settled)
 
@@ -137,7 +137,7 @@ module _ {P R : Type 0} {answer : P → List ℕ → Result (List ℕ × P) Line
       (stream_standing left' received') result → (fault : ReplayFault)
       → result ≡ Err fault
       → (let said : Result R ReplayFault = Err fault in PlaysInput answer closing first next
-          (stream_standing left received) (stream_standing left' received') said)
+      (stream_standing left received) (stream_standing left' received') said)
   plays_err begins played fault is =
       as_said begins played (Err fault)
       (λ taken sent settled. settles_err (Unit {0}) R (outcome_of_lines answer 1 first) (outcome_of_input answer closing first) next
