@@ -172,7 +172,8 @@ module _ (variant : Variant) (meaning : Meaning) (before after : Standing) (offe
 module _ {variant : Variant} {meaning : Meaning} {old new : SessionStanding} {result : Result Unit SessionFault}
     (s : IsSession variant meaning old new result) where
   -- a session that began so
-  module _ (offer : List ℕ) (waiting : Option PendingRecord) (begun_by : Begun variant meaning old.standing s.middle.standing offer waiting s.begun)
+  module _ (offer : List ℕ) (waiting : Option PendingRecord)
+      (begun_by : Begun variant meaning old.standing s.middle.standing offer waiting s.begun)
     where
       pub first_by : (first : Resumed) → s.begun ≡ Ok first → FirstCalls variant meaning old.standing s.middle.standing offer waiting first
       first_by first e =

@@ -55,8 +55,8 @@ continue_over : (variant : Variant) (meaning : Meaning) → IsLawful meaning →
     → (result : Result Unit SessionFault) → ContinuesFrom variant meaning entry old new result
 continue_over Basic meaning lawful entry old new values cell looked result =
     λ s key y slots all others asked requests may f among.
-    continues_to (basic_laws meaning lawful key all others asked new.standing may.clear may.apart) s y y slots may.fits.waiting may.told may.honest
-    may.fits.is_waiting may.fits.fits requests (record {
+    continues_to (basic_laws meaning lawful key all others asked new.standing may.clear may.apart) s y y slots may.fits.waiting may.told
+    may.honest may.fits.is_waiting may.fits.fits requests (record {
       stands = record { spells = may.stands.spells; cell = cell ∙ may.stands.cell; register = tt };
       within = may.within;
       genuine = (starts_by may).genuine;
@@ -66,9 +66,9 @@ continue_over Opt meaning lawful entry old new values cell looked result =
     λ s key barrier y slots all others asked requests items more may f among known ends shown_so.
     let e = enter_by meaning lawful entry old new values cell looked s key barrier y slots all others asked requests items more
     (starts_by may) known ends y.is_open refl shown_so in
-    continues_to (opt_laws meaning lawful key barrier all others asked new.standing may.clear may.apart) s (history_with_values y values) y slots
-    may.fits.waiting may.told may.honest may.fits.is_waiting (fits_looked meaning key barrier y values slots may.fits.waiting may.fits.fits)
-    requests e.0 e.1 f among (powered_looked values y)
+    continues_to (opt_laws meaning lawful key barrier all others asked new.standing may.clear may.apart) s (history_with_values y values) y
+    slots may.fits.waiting may.told may.honest may.fits.is_waiting
+    (fits_looked meaning key barrier y values slots may.fits.waiting may.fits.fits) requests e.0 e.1 f among (powered_looked values y)
 
 -- behind a reading of the cell, whether that failed or not
 pub continues_from : (variant : Variant) (meaning : Meaning) → IsLawful meaning

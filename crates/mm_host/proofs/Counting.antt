@@ -201,8 +201,8 @@ module _ {variant : Variant} {meaning : Meaning} {old new : SessionStanding} {re
       let first = answered_writes variant g.first old.standing s.middle.standing (rw g.begins at
       (resumes_came variant meaning (host_of old) s.middle s.begun s.resumes)) in
       let c = served_counts variant meaning from l.at l.calls l.serves in
-      let told_writes = both_writes variant (new_requests_at g.first) (new_lines l.calls) old.standing s.middle.standing l.at.host.standing first
-      c.wrote in
+      let told_writes = both_writes variant (new_requests_at g.first) (new_lines l.calls) old.standing s.middle.standing
+      l.at.host.standing first c.wrote in
       let e = ends_counted variant meaning from (host_of new) new.left s.taken g.replies result l in
       let none : 0 + e.in_hand ≡ e.in_hand = omega arith in
       record {

@@ -182,8 +182,8 @@ module _ {all others : List (List ℕ)} {asked : List Batch} {i : Instance} {fin
     recovered : (room : position < last_position) (More : History → Type 0) (after : Standing) (middle new : StoreStanding)
         (came : Result Resumed HostFault) (it : Unit {0})
         → WritesSlot slot (pending_spelling next) at.host.kept middle (Ok it)
-        → (g : HostGoesAfterRecord i.variant i.meaning (Ok it) (host_standing at.host.standing middle) (host_standing after new) at.last line
-        came)
+        → (g : HostGoesAfterRecord i.variant i.meaning (Ok it) (host_standing at.host.standing middle) (host_standing after new)
+        at.last line came)
         → (o : Met all others asked i y after offer next (batch_result_of g.asked)) × More o.after
         → (r : RecoversTo all others asked i y (put (pending_spelling next)) (Some next) (host_standing after new) came)
         × IfOk came (λ (resumed : Resumed). More r.after)

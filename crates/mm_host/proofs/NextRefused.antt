@@ -294,7 +294,8 @@ module _ {variant : Variant} {meaning : Meaning} {old new : SessionStanding} {re
     abbrev JudgedBehind : List ServedCall → Type 0
     JudgedBehind told = Judged variant meaning key barrier new.standing there ends_at why (offer_after first told) request
 
-    at_once_ends : (stops : SessionStopsAtOnce s.begun s.taken s.sent result) → Begun variant meaning old.standing new.standing first waiting s.begun
+    at_once_ends : (stops : SessionStopsAtOnce s.begun s.taken s.sent result)
+        → Begun variant meaning old.standing new.standing first waiting s.begun
         → IsNext waiting input [] request → JudgedBehind [] → EndsFor why stops.fault
     at_once_ends stops (failed same f e) n judged = told_store why s.begun f e s.sent stops.fault stops.says
     at_once_ends stops (starts same none e) n judged =
@@ -303,8 +304,8 @@ module _ {variant : Variant} {meaning : Meaning} {old new : SessionStanding} {re
         let asked : request ∷ [] ≡ p.request ∷ n.lines = n.asked ∙ ap (λ (x : Option PendingRecord). requests_with x n.lines) some in
         let is : request ≡ p.request = cc in
         tried_ends variant meaning key barrier new.standing there ends_at why old.standing first p.request
-        (subst (λ (x : List ℕ). Judged variant meaning key barrier new.standing there ends_at why first x) is judged) s.begun (asks call c t) d
-        starts_at s.sent stops.fault stops.says
+        (subst (λ (x : List ℕ). Judged variant meaning key barrier new.standing there ends_at why first x) is judged) s.begun
+        (asks call c t) d starts_at s.sent stops.fault stops.says
 
     lines_ends : (g : SessionGoesOn variant meaning s.begun s.middle (host_of new) new.left s.taken s.sent result)
         → IsNext waiting input (first_served_call waiting g.first ++ g.lines.calls) request
@@ -321,9 +322,8 @@ module _ {variant : Variant} {meaning : Meaning} {old new : SessionStanding} {re
         let next : lines_of (l.more ++ read.rest) ≡ request ∷ n.first.0 = append_cancel_left (served_lines l.calls) _ _ all in
         let calls = f.calls l.calls l.at.host.standing
         (served_calls variant meaning _ l.at l.calls l.serves) in
-        let there_at = calls_leave variant meaning key barrier first old.standing l.at.host.standing (first_served_call waiting g.first ++ l.calls)
-        calls d
-        starts_at in
+        let there_at = calls_leave variant meaning key barrier first old.standing l.at.host.standing
+        (first_served_call waiting g.first ++ l.calls) calls d starts_at in
         let offer_is : offer_after first (first_served_call waiting g.first ++ l.calls) ≡ snapshot_at l.at.last =
         f.offers l.calls ∙ last_offer variant meaning _ l.at l.calls l.serves in
         next_ends why result l read request n.first.0 next n.short

@@ -35,7 +35,8 @@ module _ {variant : Variant} {meaning : Meaning} {old new : SessionStanding} {re
     {all others : List (List ℕ)} {asked : List Batch} {i : Instance} (y : History) (requests : List (List ℕ))
     (among : AreAmong (served_calls_in waiting s.goes) (IsInHand waiting s.goes) requests)
     (room : total_of y.batches + length requests ≤ last_position)
-    (c : ContinuesTo all others asked i y waiting new.standing new.kept (served_calls_in waiting s.goes) (IsInHand waiting s.goes) result) where
+    (c : ContinuesTo all others asked i y waiting new.standing new.kept (served_calls_in waiting s.goes) (IsInHand waiting s.goes)
+    result) where
   -- the requests at the end are those that were told, with none in hand
   few : result ≡ Err (Host (host.Refused Full)) → length c.runs.requests ≡ last_position
   few full = elim c.runs.committed [

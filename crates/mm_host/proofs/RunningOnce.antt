@@ -357,8 +357,8 @@ run_over : (variant : Variant) (meaning : Meaning) → IsLawful meaning → (ent
     → (result : Result Unit SessionFault) → RunsOnceFrom variant meaning entry old new result
 run_over Basic meaning lawful entry old new values cell looked result =
     λ s key y slots all others asked requests may f.
-    runs_once (basic_laws meaning lawful key all others asked new.standing may.clear may.apart) s y y slots may.waiting may.told may.is_waiting
-    requests (record {
+    runs_once (basic_laws meaning lawful key all others asked new.standing may.clear may.apart) s y y slots may.waiting may.told
+    may.is_waiting requests (record {
       stands = record { spells = may.stands.spells; cell = cell ∙ may.stands.cell; register = tt };
       within = may.within;
       genuine = may.genuine;

@@ -112,10 +112,12 @@ module _ {all others : List (List ℕ)} {asked : List Batch} {i : Instance} (y :
   rests_at : {final : Standing} (at : SessionPlace) (new : StoreStanding) (sent : List ℕ) (result : Result Unit SessionFault)
       (s : IsSettledAt all others asked i at) → CallsRunOver i.meaning (requests_of y.batches) told (requests_of s.after.batches)
       → AreToldOnce (total_of y.batches) first told
-      → (life_of i.variant y ≢ LostLife → life_of i.variant s.after ≢ LostLife) → IsAtRest at (host_standing final new) sent → IsByInput result
+      → (life_of i.variant y ≢ LostLife → life_of i.variant s.after ≢ LostLife)
+      → IsAtRest at (host_standing final new) sent → IsByInput result
       → ContinuesTo all others asked i y first final new told hand result
   rests_at at new sent result s run once powered e by =
-      rw (ap (λ (h : HostStanding). h.standing) e.still, ap (λ (h : HostStanding). h.kept) e.still) (ends_at at.host.kept result (came_by s.waiting (Ok at.last) s.came) (λ clash. absurd (cc)) run once (inl refl)
+      rw (ap (λ (h : HostStanding). h.standing) e.still, ap (λ (h : HostStanding). h.kept) e.still)
+      (ends_at at.host.kept result (came_by s.waiting (Ok at.last) s.came) (λ clash. absurd (cc)) run once (inl refl)
       (rest_refuses result i.variant s.after by) powered)
 
   -- what came ends it
@@ -151,8 +153,8 @@ module _ {all others : List (List ℕ)} {asked : List Batch} {i : Instance} {fin
       rw h (record { settled = s; then_is = z; ready = ready; run = refl; once = tt; powered = λ p. p })
   lines_come z from to (c ∷ calls) rest s ready h reaches =
       let next : SessionPlace = record { host = h.host; last = Answered c.answer } in
-      let b = line_goes laws from c.line s h.within z (served_lines calls ++ rest) ready h.asks.recorded h.host.standing h.asks.middle h.host.kept
-      c.answer
+      let b = line_goes laws from c.line s h.within z (served_lines calls ++ rest) ready h.asks.recorded h.host.standing h.asks.middle
+      h.host.kept c.answer
       (calls_reach laws c.answer.snapshot h.host.standing to.host.standing calls
       (served_calls i.variant i.meaning next to calls h.rest) reaches)
       h.asks.records h.asks.goes in
@@ -259,22 +261,22 @@ module _ {all others : List (List ℕ)} {asked : List Batch} {i : Instance} {fin
         (r : RecoversTo all others asked i y slots waiting s.middle (Ok first))
         × IsBetween laws (waiting_then laws z slots waiting) s.middle.standing (offer_then laws z slots waiting) lines r.after
     recovers_between first lines reaches is all_lines =
-        recovered_by (IsBetween laws (waiting_then laws z slots waiting) s.middle.standing (offer_then laws z slots waiting) lines) s.middle.standing
-        (Ok first)
+        recovered_by (IsBetween laws (waiting_then laws z slots waiting) s.middle.standing (offer_then laws z slots waiting) lines)
+        s.middle.standing (Ok first)
         (λ n e.
         let rests : May laws y s.middle.standing (slot_front slots 0) lines =
         subst (λ (x : Standing). May laws y x (slot_front slots 0) lines) (sym e)
         (subst (λ (rs : List (List ℕ)). May laws y before (slot_front slots 0) rs)
         (all_lines ∙ ap (λ (v : Option PendingRecord). requests_with v lines) n)
         (subst (λ (v : Option PendingRecord). May laws y before (first_offer slots v) requests) n may)) in
-        subst (λ (v : Option PendingRecord). IsBetween laws (waiting_then laws z slots v) s.middle.standing (offer_then laws z slots v) lines y)
-        (sym n)
+        subst (λ (v : Option PendingRecord).
+        IsBetween laws (waiting_then laws z slots v) s.middle.standing (offer_then laws z slots v) lines y) (sym n)
         (rests, here.same))
         (rw is at s.resumes)
         (λ made p call e c told.
         let a = asks_first p lines e (all_lines ∙ ap (λ (v : Option PendingRecord). requests_with v lines) e) in
-        let b = between_told laws y z before s.middle.standing (slot_front slots (offer_slot p)) p call first lines a.first_here a.first_follow
-        a.first_may reaches c told in
+        let b = between_told laws y z before s.middle.standing (slot_front slots (offer_slot p)) p call first lines a.first_here
+        a.first_follow a.first_may reaches c told in
         subst (λ (v : Option PendingRecord).
         (o : Met all others asked i y s.middle.standing (slot_front slots (offer_slot p)) p (batch_result_of call))
         × IsBetween laws (waiting_then laws z slots v) s.middle.standing (offer_then laws z slots v) lines o.after) (sym e) b)
@@ -291,15 +293,15 @@ module _ {all others : List (List ℕ)} {asked : List Batch} {i : Instance} {fin
         (λ (request : List ℕ). (p : PendingRecord) × (waiting ≡ Some p) × (p.request ≡ request)) result
     at_once same e r =
         let hand : List ℕ → Type 0 = λ request. (p : PendingRecord) × (waiting ≡ Some p) × (p.request ≡ request) in
-        rw e.stops (rw same (stops_with y waiting [] hand y waiting s.middle.kept s.begun s.sent e.fault refl (none_told waiting fits) (λ p. p)
-        (came_by waiting s.begun r)
+        rw e.stops (rw same (stops_with y waiting [] hand y waiting s.middle.kept s.begun s.sent e.fault refl (none_told waiting fits)
+        (λ p. p) (came_by waiting s.begun r)
         (λ p w. (p, w, refl)) e.says))
 
     -- the lines
     serves_on : (g : SessionGoesOn i.variant i.meaning s.begun s.middle (host_standing final new) left' s.taken s.sent result)
         → (rest : List (List ℕ)) → served_lines (first_served_call waiting g.first ++ g.lines.calls) ++ rest ≡ requests
-        → IsLineAsked i.variant i.meaning (length g.lines.calls + 1) g.lines.at (host_standing final new) left' g.lines.more g.lines.last rest result
-        g.lines.ends
+        → IsLineAsked i.variant i.meaning (length g.lines.calls + 1) g.lines.at (host_standing final new) left' g.lines.more g.lines.last
+        rest result g.lines.ends
         → ContinuesTo all others asked i y waiting final new (first_served_call waiting g.first ++ g.lines.calls) (InHand g.lines) result
     serves_on g rest served asks_line =
         let l = g.lines in

@@ -15,6 +15,6 @@ abbrev pub session_standing : Standing → StoreStanding
 session_standing standing kept left received =
     record { standing = standing; kept = kept; left = left; received = received }
 
--- its host's
+-- of these, what its host's devices tell
 abbrev pub host_of : SessionStanding → HostStanding
 host_of at = record { standing = at.standing; kept = at.kept }

@@ -59,6 +59,7 @@ pub record SessionPlace : Type 0 where
   pub host : HostStanding
   pub last : Resumed
 
+-- where it stands behind what it came to last
 abbrev pub place_of : SessionStanding → Resumed → SessionPlace
 place_of at last = record { host = host_of at; last = last }
 
@@ -189,7 +190,8 @@ module _ (variant : Variant) (meaning : Meaning) where
       pub appended : Appends received received' sent
       pub went : TurnGoes left bytes held sent result
 
-  -- Some bytes are held before a turn from where the host last stood, and some after it.
+  -- A turn behind what the last one came to: it takes what it needs of the input behind the bytes
+  -- that are held, and leaves some held.
   pub record ServesNext (number : ℕ) (last : Resumed) (old new : SessionStanding)
       (held held' : List ℕ) (result : Result (Option Resumed) SessionFault) : Type 0 where
     pub taken : List ℕ
@@ -243,7 +245,8 @@ module _ (variant : Variant) (meaning : Meaning) where
 
   -- A session: it goes on after a stop, and then answers each line of its input before it reads the
   -- next. These bytes were taken of the input, and those written.
-  pub record IsSession (old new : SessionStanding) (result : Result Unit SessionFault) : Type 0 where
+  pub record IsSession (old new : SessionStanding)
+      (result : Result Unit SessionFault) : Type 0 where
     pub taken : List ℕ
     pub sent : List ℕ
     pub consumed : Consumes old.left new.left taken
