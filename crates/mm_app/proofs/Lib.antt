@@ -6,6 +6,7 @@ mod Ending
 mod Headlines
 mod Sending
 mod Stopping
+mod NoUsage
 mod Theorems
 mod RunningOnce
 mod Holding
