@@ -1,6 +1,7 @@
 //! A file of the current directory that stays open.
 
-use crate::disk::{Identity, OpenedFile, open_or_make, open_there};
+use crate::disk::{Identity, OpenedFile, Seen, open_or_make, open_there};
+use crate::name::Name;
 use crate::reason::Reason;
 use std::fs;
 use std::os::unix::fs::FileExt;
@@ -10,23 +11,18 @@ use std::rt::Files;
 /// it, and kept again behind that: so it is closed where something failed, and what follows opens
 /// it anew. Where it is looked at, and others gave the name to another file, that one is opened.
 #[derive(Drop)]
-pub struct KeptFile<'a, R: Files> {
-    files: &'a R,
-    name: &'static str,
+pub struct KeptFile<R: Files> {
+    name: Name,
     opened: Option<OpenedFile<R::File>>,
 }
 
-impl<'a, R: Files> KeptFile<'a, R>
+impl<R: Files> KeptFile<R>
 where
     R::File: FileExt,
 {
     /// The file of this name, which isn't opened yet.
-    pub fn new(files: &'a R, name: &'static str) -> KeptFile<'a, R> {
-        KeptFile {
-            files,
-            name,
-            opened: None,
-        }
+    pub fn new(name: Name) -> KeptFile<R> {
+        KeptFile { name, opened: None }
     }
 
     /// Which file is open.
@@ -38,26 +34,25 @@ where
     }
 
     /// Takes the file, looked at. None where it is absent.
-    pub fn look(&mut self) -> Result<Option<OpenedFile<R::File>>, Reason> {
-        match self.take_named() {
-            Some(opened) => Ok(Some(opened)),
-            None => open_there(self.files, self.name),
-        }
+    pub fn look(&mut self, files: &R) -> Result<Option<OpenedFile<R::File>>, Reason> {
+        self.look_again(files);
+        self.take(files)
     }
 
     /// Takes the file, looked at. Where it is absent an empty one is made.
-    pub fn look_or_make(&mut self) -> Result<OpenedFile<R::File>, Reason> {
-        match self.take_named() {
+    pub fn look_or_make(&mut self, files: &R) -> Result<OpenedFile<R::File>, Reason> {
+        self.look_again(files);
+        match self.opened.take() {
             Some(opened) => Ok(opened),
-            None => open_or_make(self.files, self.name),
+            None => open_or_make(files, self.name),
         }
     }
 
     /// Takes the file as it is open, or else looked at. None where it is absent.
-    pub fn take(&mut self) -> Result<Option<OpenedFile<R::File>>, Reason> {
+    pub fn take(&mut self, files: &R) -> Result<Option<OpenedFile<R::File>>, Reason> {
         match self.opened.take() {
             Some(opened) => Ok(Some(opened)),
-            None => open_there(self.files, self.name),
+            None => open_there(files, self.name),
         }
     }
 
@@ -66,21 +61,62 @@ where
         self.opened = Some(opened);
     }
 
+    /// Keeps a file open where what was done to it succeeded, and closes it otherwise.
+    pub fn keep_after<T>(
+        &mut self,
+        opened: OpenedFile<R::File>,
+        outcome: Result<T, Reason>,
+    ) -> Result<T, Reason> {
+        self.keep(opened);
+        if outcome.is_err() {
+            self.close();
+        }
+        outcome
+    }
+
     /// Closes the file.
     pub fn close(&mut self) {
         self.opened = None;
     }
 
-    // Takes the file that is open, with the size that it has now, if it is still the one of the
-    // name.
-    fn take_named(&mut self) -> Option<OpenedFile<R::File>> {
-        let mut opened = self.opened.take()?;
-        match fs::metadata(self.files, self.name) {
-            Ok(there) if Identity::of(&there) == opened.identity => {
-                opened.size = there.len();
-                Some(opened)
-            }
-            _ => None,
+    /// Opens the file, and lets its bytes be on the disk. Nothing is done where it is absent.
+    pub fn open_synced(&mut self, files: &R) -> Result<(), Reason> {
+        match self.take(files)? {
+            Some(opened) => self.keep_synced(opened),
+            None => Ok(()),
         }
+    }
+
+    // Lets a file's bytes be on the disk, and keeps it open.
+    fn keep_synced(&mut self, mut opened: OpenedFile<R::File>) -> Result<(), Reason> {
+        let outcome = opened.sync();
+        self.keep_after(opened, outcome)
+    }
+
+    /// Takes it that the name of the file that is open is on the disk.
+    pub fn set_listed(&mut self) {
+        if let Some(opened) = &mut self.opened {
+            opened.is_listed = true;
+        }
+    }
+
+    // Gives the file that is open the size that it has now, if it is still the one of the name, and
+    // closes it otherwise.
+    fn look_again(&mut self, files: &R) {
+        let Some(opened) = &mut self.opened else {
+            return;
+        };
+        match size_named(files, self.name, opened.identity) {
+            Some(size) => opened.size = size,
+            None => self.opened = None,
+        }
+    }
+}
+
+// The size that the file of a name has, if it is this one.
+fn size_named<R: Files>(files: &R, name: Name, identity: Identity) -> Option<u64> {
+    match fs::metadata(files, name.text()) {
+        Ok(there) => Seen::of(&there).size_of(identity),
+        Err(_) => None,
     }
 }

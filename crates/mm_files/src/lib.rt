@@ -8,6 +8,7 @@ mod disk;
 mod folder;
 mod kept;
 mod lock;
+mod name;
 mod pages;
 mod place;
 mod platform;
@@ -17,6 +18,7 @@ mod source;
 mod streams;
 
 pub use lock::Lock;
+pub use name::Name;
 pub use pages::FilePages;
 pub use platform::FilePlatform;
 pub use reason::Reason;

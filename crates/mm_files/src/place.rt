@@ -1,7 +1,8 @@
 //! Where the file of a slot itself stands, behind links, and whether it is one of its own.
 
-use crate::disk::{Identity, OpenedFile, make};
-use crate::reason::{HERE, Reason, named};
+use crate::disk::{Identity, OpenedFile, make, none_where_absent};
+use crate::name::Name;
+use crate::reason::{Reason, named};
 use mm_base::Memory;
 use std::alloc::Global;
 use std::fs::{self, OpenFile};
@@ -13,22 +14,22 @@ use std::rt::Files;
 /// How many links are followed.
 const MOST_LINKS: u32 = 40;
 
-/// The names of the program's files in the current directory. Each has a file of its own.
-const NAMES: [&str; 7] = [
-    "nv",
-    "register",
-    "register.new",
-    "slot0",
-    "slot1",
-    "slot2",
-    "slot3",
+/// The program's files in the current directory that have a file of their own each.
+const NAMES: [Name; 7] = [
+    Name::Nv,
+    Name::Register,
+    Name::NewRegister,
+    Name::Slot0,
+    Name::Slot1,
+    Name::Slot2,
+    Name::Slot3,
 ];
 
 /// Where the file of a slot stands: the path to which the links of its name led when the program
 /// began, whether a file was there or not.
 #[derive(Drop)]
 pub struct FilePlace {
-    name: &'static str,
+    pub name: Name,
     path: PathBuf,
     // Why the links couldn't be followed.
     failed: Option<Reason>,
@@ -36,20 +37,27 @@ pub struct FilePlace {
 
 impl FilePlace {
     /// That of this name.
-    pub fn of<R: Files>(alloc: Global, files: &R, name: &'static str) -> Result<FilePlace, Memory> {
-        match path_behind(alloc, files, name) {
+    pub fn of<R: Files>(alloc: Global, files: &R, name: Name) -> Result<FilePlace, Memory> {
+        match path_behind(alloc, files, name.text()) {
             Ok(path) => Ok(FilePlace {
                 name,
                 path,
                 failed: None,
             }),
-            Err(error) if error.kind() == ErrorKind::OutOfMemory => Err(Memory),
-            Err(error) => Ok(FilePlace {
-                name,
-                path: PathBuf::new(alloc),
-                failed: Some(Reason::System { name, error }),
-            }),
+            Err(error) => FilePlace::unknown(alloc, name, error),
         }
+    }
+
+    // That of this name, whose links couldn't be followed.
+    fn unknown(alloc: Global, name: Name, error: io::Error) -> Result<FilePlace, Memory> {
+        if error.kind() == ErrorKind::OutOfMemory {
+            return Err(Memory);
+        }
+        Ok(FilePlace {
+            name,
+            path: PathBuf::new(alloc),
+            failed: Some(Reason::System { name, error }),
+        })
     }
 
     // An error where it isn't known.
@@ -72,14 +80,27 @@ impl FilePlace {
     /// a link leads there the link's name is, too.
     pub fn sync_name<R: Files>(&self, files: &R) -> Result<(), Reason> {
         self.known()?;
-        let name = self.name;
-        if let Err(error) = sync_folder(files, self.folder()) {
-            return Err(Reason::Folder { name, error });
+        self.sync_own(files)?;
+        self.sync_link(files)
+    }
+
+    // Lets the name of the file itself be on the disk.
+    fn sync_own<R: Files>(&self, files: &R) -> Result<(), Reason> {
+        match sync_folder(files, self.folder()) {
+            Ok(()) => Ok(()),
+            Err(error) => Err(Reason::Folder {
+                name: self.name,
+                error,
+            }),
         }
-        if self.path.as_str() != name {
-            return named(HERE, sync_folder(files, "."));
+    }
+
+    // Lets the name of the link that leads there be on the disk, where there is one.
+    fn sync_link<R: Files>(&self, files: &R) -> Result<(), Reason> {
+        if self.path.as_str() == self.name.text() {
+            return Ok(());
         }
-        Ok(())
+        named(Name::Here, sync_folder(files, "."))
     }
 
     /// Makes the file, which is absent. An error where the place is that of another of the
@@ -89,20 +110,27 @@ impl FilePlace {
         R::File: FileExt,
     {
         self.known()?;
+        self.refuse_taken(files)?;
+        make(files, self.name, self.path.as_str())
+    }
+
+    // An error where the place is that of another of the program's files.
+    fn refuse_taken<R: Files>(&self, files: &R) -> Result<(), Reason> {
+        let Some(other) = self.other_name() else {
+            return Ok(());
+        };
         let name = self.name;
-        if let Some(other) = self.other_name()
-            && named(name, is_current(files, self.folder()))?
-        {
+        if named(name, is_current(files, self.folder()))? {
             return Err(Reason::Same { name, other });
         }
-        make(files, name, self.path.as_str())
+        Ok(())
     }
 
     // Which of the other files has the name that the path ends in.
-    fn other_name(&self) -> Option<&'static str> {
+    fn other_name(&self) -> Option<Name> {
         let last = self.path.file_name()?;
         for other in NAMES {
-            if other != self.name && other == last {
+            if other != self.name && other.text() == last {
                 return Some(other);
             }
         }
@@ -138,9 +166,16 @@ pub fn sync_folder<R: Files>(files: &R, path: &str) -> io::Result<()> {
 
 // Whether a folder is the current directory.
 fn is_current<R: Files>(files: &R, path: &str) -> io::Result<bool> {
-    let folder = fs::metadata(files, path)?;
-    let current = fs::metadata(files, ".")?;
-    Ok(Identity::of(&folder) == Identity::of(&current))
+    let folder = identity_at(files, path)?;
+    Ok(folder == identity_at(files, ".")?)
+}
+
+// Which file or folder a path leads to.
+fn identity_at<R: Files>(files: &R, path: &str) -> io::Result<Identity> {
+    match fs::metadata(files, path) {
+        Ok(there) => Ok(Identity::of(&there)),
+        Err(error) => Err(error),
+    }
 }
 
 /// A slot's file. An error where it is another of the program's files, by its name.
@@ -149,19 +184,33 @@ where
     R::File: FileExt,
 {
     for other in NAMES {
-        if other != opened.name && is_at(files, other, opened.identity)? {
-            let name = opened.name;
-            return Err(Reason::Same { name, other });
-        }
+        refuse_at(files, opened.name, opened.identity, other)?;
+    }
+    Ok(())
+}
+
+// An error where another of these names leads to the file of a name.
+fn refuse_at<R: Files>(
+    files: &R,
+    name: Name,
+    identity: Identity,
+    other: Name,
+) -> Result<(), Reason> {
+    if other != name && is_at(files, other, identity)? {
+        return Err(Reason::Same { name, other });
     }
     Ok(())
 }
 
 // Whether a name leads to this file.
-fn is_at<R: Files>(files: &R, name: &'static str, identity: Identity) -> Result<bool, Reason> {
-    match fs::metadata(files, name) {
-        Ok(there) => Ok(Identity::of(&there) == identity),
-        Err(error) if error.kind() == ErrorKind::NotFound => Ok(false),
-        Err(error) => Err(Reason::System { name, error }),
+fn is_at<R: Files>(files: &R, name: Name, identity: Identity) -> Result<bool, Reason> {
+    Ok(identity_of(files, name)? == Some(identity))
+}
+
+// Which file or folder a name leads to. None where it is absent.
+fn identity_of<R: Files>(files: &R, name: Name) -> Result<Option<Identity>, Reason> {
+    match identity_at(files, name.text()) {
+        Ok(there) => Ok(Some(there)),
+        Err(error) => none_where_absent(name, error),
     }
 }

@@ -3,6 +3,7 @@
 ghost use Rattle.std.specs.Prelude.{◌≡◌, ◌≤◌, None, IfOk, length};
 
 use crate::counting::counted;
+use crate::name::Name;
 use crate::reason::{Reason, named};
 use mm_base::{Failed, Source};
 use std::fs;
@@ -14,7 +15,7 @@ use std::rt::Files;
 #[derive(Drop)]
 pub struct FileSource<'a, R: Files> {
     files: &'a R,
-    name: &'static str,
+    name: Name,
     file: Option<R::File>,
     faults: u64,
     last: Option<Reason>,
@@ -23,7 +24,7 @@ pub struct FileSource<'a, R: Files> {
 impl<'a, R: Files> FileSource<'a, R> {
     /// A source over the file of this name, which is opened at the first call. Where there is none,
     /// or a FIFO or a folder is in its place, that call fails.
-    pub fn new(files: &'a R, name: &'static str) -> FileSource<'a, R>
+    pub fn new(files: &'a R, name: Name) -> FileSource<'a, R>
         ensures faults { result.faults ≡ 0 }
         ensures reason { result.last ≡ None }
     {
@@ -46,12 +47,8 @@ impl<'a, R: Files> FileSource<'a, R> {
     // Opens the file, which may be one that can't be written. A FIFO isn't opened, since that would
     // wait.
     fn open(&self) -> Result<R::File, Reason> {
-        let name = self.name;
-        let there = named(name, fs::metadata(self.files, name))?;
-        if there.file_type().is_fifo() {
-            return Err(Reason::NoFile { name });
-        }
-        named(name, fs::open(self.files, name))
+        refuse_fifo(self.files, self.name)?;
+        named(self.name, fs::open(self.files, self.name.text()))
     }
 
     // Reads the next bytes.
@@ -59,14 +56,34 @@ impl<'a, R: Files> FileSource<'a, R> {
         ensures within { IfOk result (λ count. count ≤ length buf.new) }
         ensures faults { self.new.faults ≡ self.old.faults }
     {
-        if let Some(file) = &mut self.file {
-            return named(self.name, file.read(buf));
+        match &mut self.file {
+            Some(file) => named(self.name, file.read(buf)),
+            None => self.read_first(buf),
         }
-        let mut file = self.open()?;
-        let count = named(self.name, file.read(buf))?;
-        self.file = Some(file);
-        Ok(count)
     }
+
+    // Opens the file and reads its first bytes. It stays open where that succeeds.
+    fn read_first(&mut self, buf: &mut [u8]) -> Result<usize, Reason>
+        ensures within { IfOk result (λ count. count ≤ length buf.new) }
+        ensures faults { self.new.faults ≡ self.old.faults }
+    {
+        let mut file = self.open()?;
+        let outcome = named(self.name, file.read(buf));
+        self.file = Some(file);
+        if outcome.is_err() {
+            self.file = None;
+        }
+        outcome
+    }
+}
+
+// An error where a FIFO has the name.
+fn refuse_fifo<R: Files>(files: &R, name: Name) -> Result<(), Reason> {
+    let there = named(name, fs::metadata(files, name.text()))?;
+    if there.file_type().is_fifo() {
+        return Err(Reason::NoFile { name });
+    }
+    Ok(())
 }
 
 impl<R: Files> Source for FileSource<'_, R> {

@@ -2,14 +2,10 @@
 
 ghost use Rattle.std.specs.Prelude.{◌≡◌, None};
 
+use crate::name::Name;
 use crate::reason::Reason;
 use mm_base::{Failed, Sink, Source};
 use std::io::{self, ErrorKind, Read, Write};
-
-/// What the reader and the writer are called.
-const INPUT: &str = "standard input";
-
-const OUTPUT: &str = "standard output";
 
 /// A source over a reader.
 #[derive(Drop)]
@@ -51,7 +47,10 @@ impl<R: Read> Source for StdSource<R> {
             Ok(count) => Ok(count),
             Err(error) => {
                 self.faults = self.faults.saturating_add(1);
-                self.last = Some(Reason::System { name: INPUT, error });
+                self.last = Some(Reason::System {
+                    name: Name::Input,
+                    error,
+                });
                 Err(Failed)
             }
         }
@@ -112,7 +111,7 @@ fn unwritten(outcome: io::Result<usize>) -> Reason {
         Err(error) => error,
     };
     Reason::System {
-        name: OUTPUT,
+        name: Name::Output,
         error,
     }
 }
