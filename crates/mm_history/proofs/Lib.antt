@@ -4,3 +4,4 @@ mod TakenLaws
 mod NameLaws
 mod KnownLaws
 mod PlaceLaws
+mod MessageLaws

@@ -16,6 +16,7 @@ use Rattle.std.specs.List.{AllByRecursion}
 use Rattle.std.proofs.Math.Seq.{drop-append_seam}
 use Rattle.mm_history.proofs.Below.{suc, own_values, map, map-append, take-append-drop}
 use Rattle.std.proofs.lemmas.Bool.{and_left, and_right, ne_eqb, le-ltb}
+use Rattle.std.proofs.lemmas.List.{nil_from_length}
 use Rattle.mm_history.proofs.TakenLaws.{segments_left, taken}
 
 -- all from a place on
@@ -95,14 +96,13 @@ module _ (id : ℕ) (barrier : List ℕ) (y : History) (named : List KeptBatch) 
     same = refl;
   }
 
--- at a segment where the place isn't
+-- at a segment: the place is there, or the walk goes on
 module _ {A : Type 0} {id : ℕ} {barrier : List ℕ} {y : History} {a e : List ℕ} {here : SegmentStart} {entries later size : ℕ}
     {shut ends tested : Bool} (named : List KeptBatch) (closed : List (Vec KeptEntry A)) (k : ℕ) (segment : Vec KeptEntry A)
     (l : k < length closed) (is : segment ≡ get_or closed k segment)
     (w : Walked id barrier y named a e closed k here entries later) (sized : size ≡ length segment.items)
     (clear : shut ≡ is_empty y.current) (ended : ends ≡ ((later - 1 == 0) && shut))
-    (test : tested ≡ is_here here.is_clean barrier here.anchor.bytes entries (kept_batches named) size ends a e)
-    (not_here : tested ≡ false) where
+    (test : tested ≡ is_here here.is_clean barrier here.anchor.bytes entries (kept_batches named) size ends a e) where
   abbrev before : List (List RegisterEntry)
   before = kept_segments (take k closed)
 
@@ -129,20 +129,26 @@ module _ {A : Type 0} {id : ℕ} {barrier : List ℕ} {y : History} {a e : List 
       test ∙ (λ j. is_here (x.here_is j).is_clean barrier (x.here_is j).anchor.bytes (x.entries_is j) (kept_batches named)
       (sizes j) (last j) a e)
 
-  on_then : some_place id barrier y (kept_batches named) a e (before ++ items ∷ []) rest
-      ≡ some_place id barrier y (kept_batches named) a e [] (kept_segments closed)
-  on_then = let x = cut in rw (sym here_by ∙ not_here) at x.same
+  pub walk_here : tested ≡ true → kept_segments closed ≡ y.closed → true ≡ some_place id barrier y (kept_batches named) a e [] y.closed
+  walk_here found all =
+      let x = cut in
+      let is_some : true ≡ some_place id barrier y (kept_batches named) a e [] (kept_segments closed) = rw (sym here_by ∙ found) at x.same in
+      is_some ∙ ap (some_place id barrier y (kept_batches named) a e []) all
 
-  pub walk_past : {last : List ℕ} {r : Bool} → length named - entries < size → kept_segments closed ≡ y.closed
+  on_then : tested ≡ false → some_place id barrier y (kept_batches named) a e (before ++ items ∷ []) rest
+      ≡ some_place id barrier y (kept_batches named) a e [] (kept_segments closed)
+  on_then not_here = let x = cut in rw (sym here_by ∙ not_here) at x.same
+
+  pub walk_past : {last : List ℕ} {r : Bool} → tested ≡ false → length named - entries < size → kept_segments closed ≡ y.closed
       → last ≡ anchor_at id barrier (kept_segments closed) → r ≡ is_inside_at barrier last y (kept_batches named) a e
       → r ≡ some_place id barrier y (kept_batches named) a e [] y.closed
-  walk_past {last} {r} over all reads inside =
+  walk_past {last} {r} not_here over all reads inside =
       let x = cut in
       let more : length (items_of_all (before ++ items ∷ [])) ≡ length (items_of_all before) + length items =
       ap length (joined-push before items) ∙ length-append (items_of_all before) items in
       inside ∙ ap (λ (l : List ℕ). is_inside_at barrier l y (kept_batches named) a e) (reads ∙ ap (anchor_at id barrier) all)
       ∙ past id barrier y (kept_batches named) a e (before ++ items ∷ []) rest
-      (omega (arith, over, sizes, x.entries_is, x.fits, more, length-map named kept_batch)) ∙ on_then
+      (omega (arith, over, sizes, x.entries_is, x.fits, more, length-map named kept_batch)) ∙ on_then not_here
       ∙ ap (some_place id barrier y (kept_batches named) a e []) all
 
   -- the segments, cut here
@@ -152,14 +158,14 @@ module _ {A : Type 0} {id : ℕ} {barrier : List ℕ} {y : History} {a e : List 
       ap (map f) (sym (take-append-drop k closed)) ∙ map-append f (take k closed) (drop k closed)
       ∙ ap (λ (s : List (List RegisterEntry)). before ++ s) (segments_left closed k segment l is)
 
-  pub walk_on : (stages : List SegmentStart) {lent : List KeptEntry} {next : SegmentStart} {count : ℕ} → size ≤ length named - entries
+  pub walk_on : tested ≡ false → (stages : List SegmentStart) {lent : List KeptEntry} {next : SegmentStart} {count : ℕ} → size ≤ length named - entries
       → lent ≡ segment.items → kept_segments closed ≡ y.closed → AllByRecursion (IsStage id barrier y.closed) stages
       → count ≡ length closed - (later - 1)
       → ((n : ℕ) (front back : List (List RegisterEntry)) → here ≡ stage_at n barrier front → count ≡ length front + 1
       → AllByRecursion (IsStage n barrier (front ++ kept_entries lent ∷ back)) stages
       → next ≡ stage_at n barrier (front ++ kept_entries lent ∷ []))
       → Walked id barrier y named a e closed (k + 1) next (entries + size) (later - 1)
-  walk_on stages {lent = lent} {next = next} {count = count} room items_are all are counted behind =
+  walk_on not_here stages {lent = lent} {next = next} {count = count} room items_are all are counted behind =
       let x = cut in
       let f : Vec KeptEntry A → List RegisterEntry = λ v. kept_entries v.items in
       let joins : items_of_all (before ++ items ∷ []) ≡ items_of_all before ++ items = joined-push before items in
@@ -176,8 +182,26 @@ module _ {A : Type 0} {id : ℕ} {barrier : List ℕ} {y : History} {a e : List 
         entries_is = omega (arith, x.entries_is, sizes, ap length joins, length-append (items_of_all before) items);
         fits = omega (arith, room, x.fits, length-map named kept_batch);
         left = omega (arith, x.left);
-        same = on_then;
+        same = on_then not_here;
       })
+
+-- behind all segments the place is at the last anchor
+pub walk_at : {A : Type 0} {id : ℕ} {barrier : List ℕ} {y : History} {a e : List ℕ} {here : SegmentStart} {entries later : ℕ} {tested : Bool}
+    (named : List KeptBatch) (closed : List (Vec KeptEntry A)) (k : ℕ) → length closed ≤ k
+    → Walked id barrier y named a e closed k here entries later
+    → tested ≡ is_at here.is_clean here.anchor.bytes entries (kept_batches named) a e → tested ≡ true → kept_segments closed ≡ y.closed
+    → true ≡ some_place id barrier y (kept_batches named) a e [] y.closed
+walk_at {A} {id} {barrier} {y} {a} {e} {here} {entries} {later} named closed k over w test found all =
+    let none : drop k closed ≡ [] = nil_from_length (drop k closed) (omega (arith, over, length-drop k closed)) in
+    let before = kept_segments (take k closed) in
+    let x : Reached id barrier y (kept_batches named) a e before [] (kept_segments closed) here entries later =
+    subst (λ (s : List (Vec KeptEntry A)). Reached id barrier y (kept_batches named) a e before (kept_segments s) (kept_segments closed) here
+    entries later) none w in
+    let at_is : is_at (not (has_value (items_of_all before))) (anchor_at id barrier before) (length (items_of_all before))
+    (kept_batches named) a e ≡ true =
+    sym (test ∙ (λ j. is_at (x.here_is j).is_clean (x.here_is j).anchor.bytes (x.entries_is j) (kept_batches named) a e)) ∙ found in
+    let is_some : true ≡ some_place id barrier y (kept_batches named) a e [] (kept_segments closed) = rw at_is at x.same in
+    is_some ∙ ap (some_place id barrier y (kept_batches named) a e []) all
 
 -- The whole test, by what was found.
 

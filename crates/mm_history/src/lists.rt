@@ -1,6 +1,7 @@
 //! A history as lists.
 
-ghost use Rattle.std.specs.Prelude.{◌≡◌, ◌<◌, vec_len, vec_capacity};
+ghost use Rattle.std.specs.Prelude.{◌≡◌, ◌<◌, IfOk, OnOk, vec_len, vec_capacity};
+ghost use Rattle.mm_module.specs.Batches.{batch_of};
 ghost use Rattle.mm_model.specs.History.{entries_with_last_batch};
 ghost use Rattle.mm_model.specs.KeptHistory.{kept_batch, kept_entries};
 
@@ -36,6 +37,37 @@ impl Model for HistoryLists {
       is_open = s.is_open;
       items = kept_entries s.items.items;
     } };
+}
+
+// Three copies of a batch.
+fn copies_of(alloc: Global, batch: &Batch<'_>) -> Result<(KeptBatch, KeptBatch, KeptBatch), Memory>
+    ensures { IfOk result (λ copies. (kept_batch copies.0 ≡ batch_of batch.now)
+        × (kept_batch copies.1 ≡ batch_of batch.now)
+        × (kept_batch copies.2 ≡ batch_of batch.now)) }
+{
+    let first = KeptBatch::copy_of(alloc, batch)?;
+    let second = KeptBatch::copy_of(alloc, batch)?;
+    let third = KeptBatch::copy_of(alloc, batch)?;
+    Ok((first, second, third))
+}
+
+// Room for one more in each list.
+fn reserve_one(
+    batches: &mut Vec<KeptBatch>,
+    current: &mut Vec<KeptBatch>,
+    items: &mut Vec<KeptEntry>,
+) -> Result<(), Memory>
+    ensures batches { batches.new.items ≡ batches.old.items }
+    ensures current { current.new.items ≡ current.old.items }
+    ensures items { items.new.items ≡ items.old.items }
+    ensures room { OnOk result ((vec_len batches.new < vec_capacity batches.new)
+        × (vec_len current.new < vec_capacity current.new)
+        × (vec_len items.new < vec_capacity items.new)) }
+{
+    batches.reserve(1)?;
+    current.reserve(1)?;
+    items.reserve(1)?;
+    Ok(())
 }
 
 // The batch's own entry comes in place of the last one.
@@ -91,12 +123,8 @@ impl HistoryLists {
             (self.new ≡ history_after_commit Opt true self.old (batch_of batch.entry)) }
         ensures err { OnErr result (self.new ≡ self.old) }
     {
-        self.batches.reserve(1)?;
-        self.current.reserve(1)?;
-        self.items.reserve(1)?;
-        let kept = KeptBatch::copy_of(self.alloc, &batch)?;
-        let current = KeptBatch::copy_of(self.alloc, &batch)?;
-        let own = KeptBatch::copy_of(self.alloc, &batch)?;
+        reserve_one(&mut self.batches, &mut self.current, &mut self.items)?;
+        let (kept, current, own) = copies_of(self.alloc, &batch)?;
         self.batches.push_reserved(kept);
         self.current.push_reserved(current);
         self.items.push_reserved(KeptEntry::Own(own));
@@ -109,12 +137,8 @@ impl HistoryLists {
             (self.new ≡ history_after_commit Opt false self.old (batch_of batch.entry)) }
         ensures err { OnErr result (self.new ≡ self.old) }
     {
-        self.batches.reserve(1)?;
-        self.current.reserve(1)?;
-        self.items.reserve(1)?;
-        let kept = KeptBatch::copy_of(self.alloc, &batch)?;
-        let current = KeptBatch::copy_of(self.alloc, &batch)?;
-        let own = KeptBatch::copy_of(self.alloc, &batch)?;
+        reserve_one(&mut self.batches, &mut self.current, &mut self.items)?;
+        let (kept, current, own) = copies_of(self.alloc, &batch)?;
         self.batches.push_reserved(kept);
         self.current.clear();
         self.current.push_reserved(current);

@@ -1,6 +1,6 @@
 //! The messages of what is asked.
 
-ghost use Rattle.std.specs.Prelude.{◌≡◌, ◌∷◌, ◌++◌, IfOk, OnOk};
+ghost use Rattle.std.specs.Prelude.{◌≡◌, ℕ, List, [], ◌∷◌, ◌++◌, IfOk, OnOk};
 ghost use Rattle.std.specs.Str.{bytes_eq};
 ghost use Rattle.mm_digest.specs.Messages.{zero_bytes, anchored_message, extended_message, extended_digest_of};
 ghost use Rattle.mm_module.specs.Batches.{batch_of};
@@ -63,6 +63,15 @@ fn guard_message(alloc: Global, barrier: &[u8; 32], batch: Batch<'_>) -> Result<
     }
 }
 
+// Lists a message, if there was memory for it.
+fn list_one(message: Result<Bytes, Memory>, messages: &mut Vec<Bytes>) -> Result<(), Memory>
+    ensures { (text : List ℕ) → IfOk message (λ bytes. bytes ≡ text)
+        → OnOk result (messages.new.items ≡ messages.old.items ++ text ∷ []) }
+{
+    messages.push(message?)?;
+    Ok(())
+}
+
 // Lists the messages of one form of an offered place, at which the guard may come next.
 fn list_form(
     alloc: Global,
@@ -75,11 +84,8 @@ fn list_form(
         ++ form_messages anchor.now.bytes extension.now.bytes value.now.bytes) }
 {
     let next = extended(extension, value);
-    let first = joined(alloc, &extension.bytes, &value.bytes)?;
-    messages.push(first)?;
-    let second = anchored_message(alloc, anchor, &next)?;
-    messages.push(second)?;
-    Ok(())
+    list_one(joined(alloc, &extension.bytes, &value.bytes), messages)?;
+    list_one(anchored_message(alloc, anchor, &next), messages)
 }
 
 // Lists the messages of both forms of an offered place of Opt.
@@ -97,8 +103,7 @@ fn list_point(
     if extension.bytes == zero().bytes {
         return Ok(());
     }
-    let closed = anchored_message(alloc, anchor, extension)?;
-    messages.push(closed)?;
+    list_one(anchored_message(alloc, anchor, extension), messages)?;
     list_form(
         alloc,
         &anchored(anchor, extension),
@@ -120,14 +125,9 @@ pub fn list_place(
         ++ messages_at_place barrier.now place.now (batch_of batch.entry)) }
 {
     match place {
-        Place::Basic(summary) => {
-            let message = link_message(alloc, summary, batch)?;
-            messages.push(message)?;
-            Ok(())
-        }
+        Place::Basic(summary) => list_one(link_message(alloc, summary, batch), messages),
         Place::Opt { anchor, extension } => {
-            let message = guard_message(alloc, barrier, batch)?;
-            messages.push(message)?;
+            list_one(guard_message(alloc, barrier, batch), messages)?;
             list_point(alloc, anchor, extension, &guard(barrier, batch), messages)
         }
     }
