@@ -61,7 +61,7 @@ pub use Rattle.mm_slots.specs.HeldParts.{SlotGoesOn, HasRegister, instance_in, C
 pub use Rattle.mm_world.specs.Lengths.{within_64}
 pub use Rattle.mm_slots.specs.Laws.{SlotIsOneRun, SlotsAreAlone, SlotsRun}
 pub use Rattle.mm_slots.specs.WholeSlots.{ReportsSlots}
-pub use Rattle.mm_slots.specs.Rows.{RowActs, SlotActsAt, CanCount, IsCounted, IsInside, IsWithin, KeepsAll, RowLacksMemory, loss_of_one}
+pub use Rattle.mm_slots.specs.Rows.{RowActs, SlotActsAt, CanCount, IsCounted, IsInside, IsWithin, KeepsAll, RowLacksMemory}
 pub use Rattle.mm_slots.specs.Rows.{meetings_at, losses_of_others, EventTells, rows_after_meetings}
 pub use Rattle.mm_world.specs.Seat.{extended_standing, IsFirst, SeatStaysOn}
 pub use Rattle.mm_slots.specs.Tenant.{turn_by_action, turn_in_flight, Acts, Asks, first_flight, begin_turn, SlotCall, Closes, event_by}

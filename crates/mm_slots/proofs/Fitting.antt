@@ -7,7 +7,7 @@ use Rattle.mm_slots.proofs.Below.{printable, CallReport, CallComesTo, digest_in,
 use Rattle.mm_slots.proofs.Below.{counting, CodeFlight, SlotReply, Replied, Parts, IsSayable, Tenant, tenant_instance, outcome_in}
 use Rattle.mm_slots.proofs.Below.{event_turn, digests_in, slot_in, flight_in, instance_in, FitsFlight, PartsFit, SlotComesTo}
 use Rattle.mm_slots.proofs.Below.{parts_with_flight, HasRegister, within_64, CallEndsIn, next_plan, Bool, true, cond, option_map_or, Meddle}
-use Rattle.mm_slots.proofs.Below.{Quiet, Plan, quiet_plan, digests_after, plan_by, is_nothing, Going, Flight, SlotTurn, turn_saying}
+use Rattle.mm_slots.proofs.Below.{Quiet, Plan, quiet_plan, plan_by, is_nothing, Going, Flight, SlotTurn, turn_saying}
 use Rattle.mm_slots.proofs.Below.{tenant_with_flight, event_so_far, step_turn, call_in, FitsCall, SlotGoesOn}
 use Rattle.mm_modules.specs.ModulesLaws.{any_is_lawful}
 use Rattle.mm_slots.proofs.Below.{flight_takes_in, meddled, plan_with_meddle, option_map, One}

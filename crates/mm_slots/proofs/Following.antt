@@ -1,18 +1,11 @@
--- All slots lose their power, and what an event leaves of them.
-use Rattle.mm_slots.proofs.Below.{◌≡◌, ◌∙◌, ◌≤◌, ◌<◌, ◌==◌, ℕ, Bool, true, false, cond, List, [], ◌∷◌, ◌++◌, length, get_or, Option, refl}
-use Rattle.mm_slots.proofs.Below.{sym, ap, arith, option_map_or, slice_get-get_or, ne_eqb, if◌then◌else◌, SlotAction, Power, At, SlotReply}
-use Rattle.mm_slots.proofs.Below.{Meeting, Acts, Loses, Row, rows_after_event, is_cut, is_cut_for_all, event_meetings, SlotActsAt}
+-- The other slots lose their power where a call is cut, and what an event leaves of them.
+use Rattle.mm_slots.proofs.Below.{◌≡◌, ◌∙◌, ◌<◌, ◌==◌, ℕ, Bool, true, false, cond, List, [], ◌∷◌, ◌++◌, length, get_or, Option, refl}
+use Rattle.mm_slots.proofs.Below.{sym, ap, option_map_or, slice_get-get_or, if◌then◌else◌, SlotAction, At, SlotReply}
+use Rattle.mm_slots.proofs.Below.{Meeting, Acts, Loses, Row, is_cut, is_cut_for_all, event_meetings, SlotActsAt}
 use Rattle.mm_slots.proofs.Below.{EventTells, losses_of_others, meetings_at, rows_after_meetings}
 use Rattle.mm_slots.proofs.Rowing.{touched_more, touched_none, touched_same}
 
--- where no slot has the number, all lose their power
-all_lose : (but k : ℕ) → (k ≡ but → ⊥) → losses_of_others but k ≡ Loses ∷ []
-all_lose but k other = rw (ne_eqb k but other) refl
-
-pub power_follows : (n : ℕ) (rows rows' : List Row) → length rows ≤ n → rows' ≡ rows_after_meetings (losses_of_others n) rows
-    → rows' ≡ rows_after_event rows Power
-power_follows n rows rows' past l = l
-    ∙ touched_same (losses_of_others n) (λ k. event_meetings k rows Power) rows (λ k few. all_lose n k (λ e. omega (arith, e, few, past)))
+-- where it is a cut the others lose their power
 
 pub uncut_loses : (but : ℕ) (cuts : Bool) (rows : List Row) → cuts ≡ false
     → rows ≡ rows_after_meetings (λ k. if cuts then losses_of_others but k else []) rows

@@ -3,7 +3,7 @@ use Rattle.mm_slots.proofs.Below.{◌≡◌, ◌∙◌, ◌+◌, ◌≤◌, ◌<
 use Rattle.mm_slots.proofs.Below.{slice_set, Option, refl, sym, ap, append-nil, arith, eq-eqb, ne_eqb, eqb-true, nat_tests, if◌then◌else◌}
 use Rattle.mm_slots.proofs.Below.{option_map_or, slice_get-get_or, SlotAction, SlotReply, SlotTurn, Meeting, Acts, Loses, turn_by_action}
 use Rattle.mm_slots.proofs.Below.{Row, instance_of, row_after, items_by_place, OneRowLacksMemory, RowActs, RowLacksMemory, SlotActsAt}
-use Rattle.mm_slots.proofs.Below.{rows_after_meetings, meetings_at, losses_of_others, loss_of_one, Result, Ok, Err, IfOk, OnErr}
+use Rattle.mm_slots.proofs.Below.{rows_after_meetings, meetings_at, losses_of_others, Result, Ok, Err, IfOk, OnErr}
 use Rattle.std.specs.Prelude.{nat_lt}
 use Rattle.mm_slots.proofs.Alone.{folded_more}
 
@@ -95,58 +95,66 @@ lacks_at number what rows row d few l = record {
   now = ap (slice_set rows number) l.same;
 }
 
--- all slots but one lose their power, one after another
+-- slots meet something one after another
 
-none_lost : (but number k : ℕ) (here : Bool) → (number == but) ≡ true → (k == number) ≡ here → cond here (losses_of_others but number) []
-    ≡ []
-none_lost but number k true same own = rw same refl
-none_lost but number k false same own = refl
+-- one slot meets its part
+abbrev pub meetings_of_one : (ℕ → List Meeting) → ℕ → ℕ → List Meeting
+meetings_of_one mets number k = if k == number then mets number else []
 
-pub loses_none : (number but : ℕ) (rows : List Row) → number ≡ but → rows ≡ rows_after_meetings (loss_of_one number but) rows
-loses_none number but rows same = touched_none rows
-    ∙ touched_same (λ _. []) (loss_of_one number but) rows
-    (λ k few. sym (none_lost but number k (k == number) (eq-eqb number but same) refl))
+none_met : (mets : ℕ → List Meeting) (number k : ℕ) (here : Bool) → mets number ≡ [] → (k == number) ≡ here
+    → cond here (mets number) [] ≡ []
+none_met mets number k true none own = none
+none_met mets number k false none own = refl
+
+pub loses_none : (number but : ℕ) (rows : List Row) → number ≡ but
+    → rows ≡ rows_after_meetings (meetings_of_one (losses_of_others but) number) rows
+loses_none number but rows same =
+    let none : losses_of_others but number ≡ [] = rw (eq-eqb number but same) refl in
+    touched_none rows
+    ∙ touched_same (λ _. []) (meetings_of_one (losses_of_others but) number) rows
+    (λ k few. sym (none_met (losses_of_others but) number k (k == number) none refl))
 
 pub loses_one : (number but : ℕ) (rows rows' : List Row) → (number ≡ but → ⊥) → rows' ≡ rows_after_meetings (meetings_at number Loses) rows
-    → rows' ≡ rows_after_meetings (loss_of_one number but) rows
+    → rows' ≡ rows_after_meetings (meetings_of_one (losses_of_others but) number) rows
 loses_one number but rows rows' other is =
     let all : losses_of_others but number ≡ Loses ∷ [] = rw (ne_eqb number but other) refl in
     is ∙ ap (λ (ms : List Meeting). rows_after_meetings (λ k. cond (k == number) ms []) rows) (sym all)
 
--- so many have lost it
-abbrev pub LostBelow : (but below : ℕ) → List Row → List Row → Type 0
-LostBelow but below old new = new ≡ rows_after_meetings (λ k. if nat_lt k below then losses_of_others but k else []) old
+-- so many have met theirs
+abbrev pub AreMetBelow : (mets : ℕ → List Meeting) (below : ℕ) → List Row → List Row → Type 0
+AreMetBelow mets below old new = new ≡ rows_after_meetings (λ k. if nat_lt k below then mets k else []) old
 
-one_more : (but below k : ℕ) (less here : Bool) → nat_lt k below ≡ less → (k == below) ≡ here
-    → cond less (losses_of_others but k) [] ++ cond here (losses_of_others but below) []
-    ≡ (if nat_lt k (below + 1) then losses_of_others but k else [])
-one_more but below k true true l h = let e : k ≡ below = eqb-true k below h in absurd (grind (arith, nat_tests))
-one_more but below k true false l h =
-    let more : nat_lt k (below + 1) ≡ true = grind (arith, nat_tests) in rw more (append-nil (losses_of_others but k))
-one_more but below k false true l h =
+one_more : (mets : ℕ → List Meeting) (below k : ℕ) (less here : Bool) → nat_lt k below ≡ less → (k == below) ≡ here
+    → cond less (mets k) [] ++ cond here (mets below) [] ≡ (if nat_lt k (below + 1) then mets k else [])
+one_more mets below k true true l h = let e : k ≡ below = eqb-true k below h in absurd (grind (arith, nat_tests))
+one_more mets below k true false l h =
+    let more : nat_lt k (below + 1) ≡ true = grind (arith, nat_tests) in rw more (append-nil (mets k))
+one_more mets below k false true l h =
     let e : k ≡ below = eqb-true k below h in
     let more : nat_lt k (below + 1) ≡ true = grind (arith, nat_tests) in
-    rw more (ap (losses_of_others but) (sym e))
-one_more but below k false false l h =
+    rw more (ap mets (sym e))
+one_more mets below k false false l h =
     let more : nat_lt k (below + 1) ≡ false = grind (arith, nat_tests) in rw more refl
 
-pub lost_more : (but below : ℕ) (first rows rows' : List Row) → LostBelow but below first rows
-    → rows' ≡ rows_after_meetings (loss_of_one below but) rows → LostBelow but (below + 1) first rows'
-lost_more but below first rows rows' b l =
-    let f : ℕ → List Meeting = λ k. if nat_lt k below then losses_of_others but k else [] in
-    l ∙ ap (rows_after_meetings (loss_of_one below but)) b ∙ touched_more f (loss_of_one below but) first
-    ∙ touched_same (λ k. f k ++ loss_of_one below but k) (λ k. if nat_lt k (below + 1) then losses_of_others but k else []) first
-    (λ k few. one_more but below k (nat_lt k below) (k == below) refl refl)
+pub met_more : (mets : ℕ → List Meeting) (below number : ℕ) (first rows rows' : List Row) → number ≡ below
+    → AreMetBelow mets below first rows → rows' ≡ rows_after_meetings (meetings_of_one mets number) rows
+    → AreMetBelow mets (below + 1) first rows'
+met_more mets below number first rows rows' same b l =
+    let f : ℕ → List Meeting = λ k. if nat_lt k below then mets k else [] in
+    let g : ℕ → List Meeting = meetings_of_one mets below in
+    l ∙ ap (λ (n : ℕ). rows_after_meetings (meetings_of_one mets n) rows) same ∙ ap (rows_after_meetings g) b ∙ touched_more f g first
+    ∙ touched_same (λ k. f k ++ g k) (λ k. if nat_lt k (below + 1) then mets k else []) first
+    (λ k few. one_more mets below k (nat_lt k below) (k == below) refl refl)
 
-pub lost_first : (but : ℕ) (rows : List Row) → LostBelow but 0 rows rows
-lost_first but rows = touched_none rows
-    ∙ touched_same (λ _. []) (λ k. if nat_lt k 0 then losses_of_others but k else []) rows
+pub met_first : (mets : ℕ → List Meeting) (rows : List Row) → AreMetBelow mets 0 rows rows
+met_first mets rows = touched_none rows
+    ∙ touched_same (λ _. []) (λ k. if nat_lt k 0 then mets k else []) rows
     (λ k few. let none : nat_lt k 0 ≡ false = grind (arith, nat_tests) in rw none refl)
 
-pub lost_all : (but : ℕ) (first rows : List Row) (n : ℕ) → length first ≤ n → LostBelow but n first rows
-    → rows ≡ rows_after_meetings (losses_of_others but) first
-lost_all but first rows n size b =
-    b ∙ touched_same (λ k. if nat_lt k n then losses_of_others but k else []) (losses_of_others but) first
+pub met_all : (mets : ℕ → List Meeting) (first rows : List Row) (n : ℕ) → length first ≤ n → AreMetBelow mets n first rows
+    → rows ≡ rows_after_meetings mets first
+met_all mets first rows n size b =
+    b ∙ touched_same (λ k. if nat_lt k n then mets k else []) mets first
     (λ k few. let less : nat_lt k n ≡ true = grind (arith, nat_tests) in rw less refl)
 
 -- what holds of an answer leads on

@@ -29,13 +29,9 @@ rows_after_meetings mets rows = items_by_place (λ number row. row_after row (me
 abbrev pub meetings_at : ℕ → Meeting → ℕ → List Meeting
 meetings_at number met other = if other == number then met ∷ [] else []
 
--- one slot loses its power, but for the one with this number
+-- all slots lose their power but the one with this number
 abbrev pub losses_of_others : ℕ → ℕ → List Meeting
 losses_of_others but number = if number == but then [] else Loses ∷ []
-
--- the slot with this number loses its power, if it isn't that one
-abbrev pub loss_of_one : (number but : ℕ) → ℕ → List Meeting
-loss_of_one number but k = if k == number then losses_of_others but number else []
 
 -- Something happened in the slot with this number, and in no other, and this was said.
 pub record SlotActsAt (number : ℕ) (what : SlotAction) (old new : List Row)

@@ -1,5 +1,6 @@
 //! The events of slots.
 
+use crate::slot_number::SlotNumber;
 use mm_base::Bytes;
 use mm_digest::Digest;
 use mm_schedule::Offer;
@@ -36,5 +37,8 @@ pub enum SlotEvent {
     /// Power is lost and returns, for all slots.
     Power,
     /// Something happens in the slot with this number.
-    At { slot: u8, action: SlotAction },
+    At {
+        slot: SlotNumber,
+        action: SlotAction,
+    },
 }

@@ -3,6 +3,7 @@
 ghost use Rattle.std.specs.Prelude.{◌≡◌, ◌<◌, ◌≤◌, ◌++◌, ◌∷◌, [], IfOk, OnOk, length};
 ghost use Rattle.mm_slots.specs.Table.{first_row, first_rows};
 
+use crate::slot_number::SlotNumber;
 use crate::tenant::Tenant;
 use mm_base::Memory;
 use mm_schedule::Header;
@@ -11,7 +12,7 @@ use std::alloc::Global;
 // Adds the slot with this number.
 fn add_slot(
     alloc: Global,
-    number: u8,
+    number: SlotNumber,
     header: &Header,
     slots: &mut Vec<Tenant>,
 ) -> Result<(), Memory>
@@ -30,8 +31,8 @@ pub fn first_slots(alloc: Global, headers: &[Header]) -> Result<Vec<Tenant>, Mem
     ensures { IfOk result (λ slots. slots.items ≡ first_rows headers.now) }
 {
     let mut slots = Vec::new(alloc);
-    for number in 0..headers.len() {
-        add_slot(alloc, number as u8, &headers[number], &mut slots)?;
+    for place in 0..headers.len() {
+        add_slot(alloc, SlotNumber::at(place), &headers[place], &mut slots)?;
     }
     Ok(slots)
 }

@@ -6,6 +6,7 @@ ghost use Rattle.mm_slots.specs.Tenant.{stop_at};
 use crate::event::{CallBreak, SlotAction};
 use crate::flight::Flight;
 use crate::said::SlotReply;
+use crate::slot_number::SlotNumber;
 use mm_base::Memory;
 use mm_digest::Digest;
 use mm_platform::Stop;
@@ -15,7 +16,7 @@ use std::alloc::Global;
 /// The number of a slot, the seat in it, and the call in flight.
 #[derive(Drop)]
 pub struct Parts {
-    pub number: u8,
+    pub number: SlotNumber,
     pub seat: Seat,
     /// The register's value before the call in flight, or now where there is none.
     pub register: Digest,

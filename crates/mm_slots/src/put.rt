@@ -5,6 +5,7 @@ ghost use Rattle.mm_slots.specs.Answers.{slot_reply_text, answer_text, slot_end_
 ghost use Rattle.mm_slots.specs.Table.{PowerLost, Says};
 
 use crate::said::SlotReply;
+use crate::slot_number::SlotNumber;
 use mm_base::{Bytes, Memory, put_decimal};
 use mm_replay::put_reply;
 
@@ -31,11 +32,11 @@ fn put_going(step: u64, into: &mut Bytes) -> Result<(), Memory>
 }
 
 /// Puts the number of a slot and a space, and what is said for it, at the end.
-pub fn put_answer(slot: u8, said: &SlotReply, into: &mut Bytes) -> Result<(), Memory>
+pub fn put_answer(slot: SlotNumber, said: &SlotReply, into: &mut Bytes) -> Result<(), Memory>
     requires { IsSayable said.now }
     ensures { OnOk result (into.new ≡ into.old ++ answer_text (Says slot said.now)) }
 {
-    put_decimal(into, u64::from(slot))?;
+    slot.put(into)?;
     into.push(b' ')?;
     put_said(said, into)
 }
@@ -49,11 +50,16 @@ pub fn put_power(into: &mut Bytes) -> Result<(), Memory>
 
 /// Puts the line `end I N K` at the end: in slot I so many requests were committed, and so many
 /// snapshots issued.
-pub fn put_slot_end(slot: u8, committed: u64, issued: u32, into: &mut Bytes) -> Result<(), Memory>
+pub fn put_slot_end(
+    slot: SlotNumber,
+    committed: u64,
+    issued: u32,
+    into: &mut Bytes,
+) -> Result<(), Memory>
     ensures { OnOk result (into.new ≡ into.old ++ slot_end_line slot committed issued) }
 {
     into.append(b"end ")?;
-    put_decimal(into, u64::from(slot))?;
+    slot.put(into)?;
     into.push(b' ')?;
     put_decimal(into, committed)?;
     into.push(b' ')?;

@@ -6,6 +6,7 @@ ghost use Rattle.mm_slots.specs.Grammar.{action_at, begin_action_at, break_at, e
 ghost use Rattle.mm_slots.specs.Texts as texts;
 
 use crate::event::{CallBreak, SlotAction, SlotEvent};
+use crate::slot_number::SlotNumber;
 use mm_base::{Bytes, Memory};
 use mm_digest::Digest;
 use mm_schedule::{
@@ -147,6 +148,7 @@ fn owned(alloc: Global, event: SlotEventText<'_>) -> Result<SlotEvent, Memory>
         SlotEventText::Power => Ok(SlotEvent::Power),
         SlotEventText::At { slot, action } => {
             let action = owned_action(alloc, action)?;
+            let slot = SlotNumber::at(usize::from(slot));
             Ok(SlotEvent::At { slot, action })
         }
     }

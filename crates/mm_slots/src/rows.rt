@@ -4,13 +4,14 @@ ghost use Rattle.std.specs.Prelude.{◌≡◌, ◌<◌, IfOk, OnErr, OnOk, lengt
 ghost use Rattle.std.specs.List.{All};
 ghost use Rattle.mm_slots.specs.declared.event.SlotEvent.TheVariants.{Power, At};
 ghost use Rattle.mm_slots.specs.Answers.{answers_text};
-ghost use Rattle.mm_slots.specs.Rows.{SlotActsAt, CanCount, IsInside, EventTells, meetings_at, loss_of_one, losses_of_others, rows_after_meetings};
+ghost use Rattle.mm_slots.specs.Rows.{SlotActsAt, CanCount, IsInside, EventTells, meetings_at, losses_of_others, rows_after_meetings};
 ghost use Rattle.mm_slots.specs.Tenant.{Loses};
 ghost use Rattle.mm_slots.specs.Table.{RowsLackMemory, OneRowLacksMemory, rows_after_event, answers_to};
 
 use crate::event::{SlotAction, SlotEvent};
 use crate::put::{put_answer, put_power};
 use crate::said::SlotReply;
+use crate::slot_number::SlotNumber;
 use crate::tenant::Tenant;
 use mm_base::{Bytes, Memory};
 use std::alloc::Global;
@@ -19,7 +20,7 @@ use std::alloc::Global;
 fn act_at(
     alloc: Global,
     slots: &mut [Tenant],
-    number: usize,
+    number: SlotNumber,
     action: SlotAction,
 ) -> Result<SlotReply, Memory>
     requires inside { number < length slots.old }
@@ -27,45 +28,38 @@ fn act_at(
     ensures ok { IfOk result (SlotActsAt number action slots.old slots.new) }
     ensures err { OnErr result (OneRowLacksMemory number action slots.old slots.new) }
 {
-    let slot = &mut slots[number];
+    let slot = &mut slots[number.place()];
     slot.act(alloc, action)
 }
 
 // The slot with this number loses its power. Its call in flight is over, and has changed nothing.
-fn lose_at(slots: &mut [Tenant], number: usize)
+fn lose_at(slots: &mut [Tenant], number: SlotNumber)
     requires { number < length slots.old }
     ensures { slots.new ≡ rows_after_meetings (meetings_at number Loses) slots.old }
 {
-    let slot = &mut slots[number];
+    let slot = &mut slots[number.place()];
     slot.lose_power();
 }
 
-// The slot with this number loses its power, if it isn't that one.
-fn lose_unless(slots: &mut [Tenant], number: usize, but: usize)
-    requires { number < length slots.old }
-    ensures { slots.new ≡ rows_after_meetings (loss_of_one number but) slots.old }
-{
-    if number != but {
-        lose_at(slots, number);
-    }
-}
-
-// All slots lose their power but the one with this number, if there is one.
-fn lose_all(slots: &mut [Tenant], but: usize)
+// All slots lose their power but the one with this number.
+fn lose_others(slots: &mut [Tenant], but: SlotNumber)
     ensures { slots.new ≡ rows_after_meetings (losses_of_others but) slots.old }
 {
-    for number in 0..slots.len() {
-        lose_unless(slots, number, but);
+    for place in 0..slots.len() {
+        let number = SlotNumber::at(place);
+        if number != but {
+            lose_at(slots, number);
+        }
     }
 }
 
 // Where a call was cut, all slots lose their power but the one with this number.
-fn lose_if(slots: &mut [Tenant], but: usize, is_cut: bool)
+fn lose_if(slots: &mut [Tenant], but: SlotNumber, is_cut: bool)
     ensures { slots.new ≡ rows_after_meetings (λ k. if is_cut then losses_of_others but k else [])
         slots.old }
 {
     if is_cut {
-        lose_all(slots, but);
+        lose_others(slots, but);
     }
 }
 
@@ -73,8 +67,9 @@ fn lose_if(slots: &mut [Tenant], but: usize, is_cut: bool)
 pub fn lose_power(slots: &mut [Tenant])
     ensures { slots.new ≡ rows_after_event slots.old Power }
 {
-    let none = slots.len();
-    lose_all(slots, none);
+    for place in 0..slots.len() {
+        lose_at(slots, SlotNumber::at(place));
+    }
 }
 
 /// Lets something happen in the slot with this number; where that cuts a call, all other slots lose
@@ -82,7 +77,7 @@ pub fn lose_power(slots: &mut [Tenant])
 pub fn act(
     alloc: Global,
     slots: &mut [Tenant],
-    number: usize,
+    number: SlotNumber,
     action: SlotAction,
 ) -> Result<SlotReply, Memory>
     requires inside { number < length slots.old }
@@ -90,7 +85,7 @@ pub fn act(
     ensures ok { IfOk result (EventTells number action slots.old slots.new) }
     ensures err { OnErr result (OneRowLacksMemory number action slots.old slots.new) }
 {
-    let is_cut = slots[number].is_cut(&action);
+    let is_cut = slots[number.place()].is_cut(&action);
     match act_at(alloc, slots, number, action) {
         Err(memory) => Err(memory),
         Ok(said) => {
@@ -130,7 +125,7 @@ fn follow_power(alloc: Global, slots: &mut [Tenant]) -> Result<Bytes, Memory>
 fn follow_action(
     alloc: Global,
     slots: &mut [Tenant],
-    slot: u8,
+    slot: SlotNumber,
     action: SlotAction,
 ) -> Result<Bytes, Memory>
     requires inside { slot < length slots.old }
@@ -140,7 +135,7 @@ fn follow_action(
         ≡ answers_text (answers_to slots.old (At slot action))) }
     ensures wants { OnErr result (RowsLackMemory (At slot action) slots.old slots.new) }
 {
-    match act(alloc, slots, usize::from(slot), action) {
+    match act(alloc, slots, slot, action) {
         Err(memory) => Err(memory),
         Ok(said) => {
             let mut text = Bytes::new(alloc);

@@ -6,6 +6,7 @@ ghost use Rattle.mm_outcome.specs.WorldState.{rising_bytes_from};
 use crate::event::{CallBreak, SlotAction};
 use crate::parts::Parts;
 use crate::said::SlotReply;
+use crate::slot_number::SlotNumber;
 use mm_ask::Secrets;
 use mm_base::Memory;
 use mm_digest::zero;
@@ -23,14 +24,15 @@ pub struct Tenant {
 }
 
 // The secrets of the slot with this number.
-fn secrets_of(number: u8) -> Secrets
+fn secrets_of(number: SlotNumber) -> Secrets
     requires { number < 16 }
     ensures key { result.key ≡ rising_bytes_from number }
     ensures barrier { result.barrier ≡ rising_bytes_from (128 + number) }
 {
+    let first = number.place() as u8;
     Secrets {
-        key: rising(number),
-        barrier: rising(128 + number),
+        key: rising(first),
+        barrier: rising(128 + first),
     }
 }
 
@@ -56,7 +58,7 @@ impl Tenant {
 
     /// The slot with this number at first, for the header's module. Its key is that of no other
     /// slot.
-    pub fn first(alloc: Global, number: u8, header: &Header) -> Result<Tenant, Memory>
+    pub fn first(alloc: Global, number: SlotNumber, header: &Header) -> Result<Tenant, Memory>
         requires { number < 16 }
         ensures { IfOk result (λ slot. slot ≡ first_row number header.now) }
     {

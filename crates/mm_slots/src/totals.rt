@@ -9,6 +9,7 @@ ghost use Rattle.mm_world.specs.Lengths.{within_64};
 ghost use Rattle.mm_slots.specs.Stage.{kept_bytes_in};
 
 use crate::put::put_slot_end;
+use crate::slot_number::SlotNumber;
 use crate::tenant::Tenant;
 use mm_base::{Bytes, Memory};
 
@@ -51,14 +52,14 @@ pub fn put_ends(slots: &[Tenant], into: &mut Bytes) -> Result<(), Memory>
     requires counted { All IsCounted slots.now }
     ensures { OnOk result (into.new ≡ into.old ++ end_lines 0 slots.now) }
 {
-    for number in 0..slots.len() {
-        put_end_of(number as u8, &slots[number], into)?;
+    for place in 0..slots.len() {
+        put_end_of(SlotNumber::at(place), &slots[place], into)?;
     }
     Ok(())
 }
 
 // Puts the last line of the slot with this number at the end.
-fn put_end_of(number: u8, slot: &Tenant, into: &mut Bytes) -> Result<(), Memory>
+fn put_end_of(number: SlotNumber, slot: &Tenant, into: &mut Bytes) -> Result<(), Memory>
     requires { length slot.now.slot.issued < 2 ^ 32 }
     ensures { OnOk result (into.new ≡ into.old
         ++ slot_end_line number slot.now.slot.digests.count (length slot.now.slot.issued)) }
