@@ -26,7 +26,7 @@ module _ {G H E S : Type 0} (p : EventPlayer G H E S) (All Less : H → List E �
     (less : (header : H) (events : List E) (shown : List E → S) → All header events shown → Less header events shown) where
   pub told_by : {T : Type 0} {left left' received middle received' : Option (List ℕ)} {answer : Result T ReplayFault}
       {wrote : Result (Unit {0}) write.WriteFault} {status : Status} → TellsEvents p All (stream_standing left received)
-          (stream_standing left' middle) [] answer
+      (stream_standing left' middle) [] answer
       → status ≡ status_of answer → SinkSends middle received' (stop_line status) wrote
       → TellsByStatus p Less left left' received received' status
   told_by {answer = answer} {status = status} tells ends sends = (

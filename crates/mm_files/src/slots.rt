@@ -269,7 +269,8 @@ where
     }
 }
 
-// Writes a page to a file, up to its last byte that isn't zero, and over all that the file has of it.
+// Writes a page to a file, up to its last byte that isn't zero, and over all that the file has of
+// it.
 fn write_page<F: OpenFile + FileExt + Drop>(
     opened: &mut OpenedFile<F>,
     page: u16,
