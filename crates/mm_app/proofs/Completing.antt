@@ -5,9 +5,9 @@ use Rattle.mm_app.proofs.Below.{GoesAfterAllPuts, GoesAfterTaking, Devices, Sets
 use Rattle.mm_app.proofs.Below.{SessionFault, InitFault, Instance, Refusal, meaning_of, module_of_id, any_is_found, AnyModule}
 use Rattle.mm_app.proofs.Below.{ClosesSegment, EndsClosing, EndsLooking, FindsClosing, FindsSegment, LooksAtSegment, WeighsRegister}
 use Rattle.mm_app.proofs.Below.{closing_by, result_of_closing_write, segment_by, segment_in, Checkpointed, CheckpointRefusal, StepFault}
-use Rattle.mm_app.proofs.Below.{Standing, Header, StoreStanding, CommandLine, Init, Run, Checkpoint, Power, Gen, Help, checkpoint_line}
+use Rattle.mm_app.proofs.Below.{Standing, Header, CommandLine, Init, Run, Checkpoint, Power, Gen, Help, checkpoint_line}
 use Rattle.mm_app.proofs.Below.{CommandDoes, DoesOrLacks, IsDoneOrFailed, CanClose, CanBeDone, ContinuesIfFound, Held, ShowsPower, Outside}
-use Rattle.mm_app.proofs.Below.{power_line, FindsInstance, SeesInstance, ServesAndStops, ServesIfFound, found_header, found_instance}
+use Rattle.mm_app.proofs.Below.{power_line, FindsInstance, SeesInstance, ServesIfFound, found_header, found_instance}
 use Rattle.mm_app.proofs.Below.{session_status, init_line, TellsLines, status_by, Status}
 use Rattle.std.specs.Str.{bytes_eq}
 use Rattle.std.proofs.lemmas.Slice.Eq.{bytes_eq-Decides}

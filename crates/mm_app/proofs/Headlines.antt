@@ -1,5 +1,5 @@
 -- What is out of a command that plays events, drawn from its play and its stop line.
-use Rattle.mm_app.proofs.Below.{◌≡◌, ◌∙◌, ℕ, List, [], Option, Result, Ok, Err, refl, sym, ap, subst, SinkSends, ReplayFault, status_of}
+use Rattle.mm_app.proofs.Below.{◌≡◌, ◌∙◌, ℕ, List, [], Option, Result, Ok, Err, refl, sym, subst, SinkSends, ReplayFault, status_of}
 use Rattle.mm_app.proofs.Below.{stop_line, Memory, Outside, EndsAtOnce, Status}
 use Rattle.mm_base.specs.declared.fault.WriteFault as write
 use Rattle.mm_base.specs.declared.replay_fault.ReplayFault.TheVariants as fault

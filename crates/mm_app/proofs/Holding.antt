@@ -1,6 +1,6 @@
 -- What a status tells of what a device held: of each command, and of the words that spell it.
-use Rattle.mm_app.proofs.Below.{◌≡◌, ◌∙◌, ℕ, Bool, true, false, List, length, Option, Result, Ok, Err, refl, sym, ap, subst, inl, inr, ◌⊎◌}
-use Rattle.mm_app.proofs.Below.{◌<◌, arith, CommandLine, Init, Run, ReplayFault, DoesOrLacks, Outside, EndsAtOnce, Status, Memory, Usage}
+use Rattle.mm_app.proofs.Below.{◌≡◌, ◌∙◌, ℕ, Bool, true, false, List, length, Option, Result, Ok, Err, refl, sym, ap, subst, inl, inr}
+use Rattle.mm_app.proofs.Below.{arith, CommandLine, Run, ReplayFault, Outside, Status}
 use Rattle.mm_app.proofs.Below.{status_by, status_of, TellsLines, Refusal, one_command}
 use Rattle.std.specs.Prelude.{◌≢◌, Some}
 use Rattle.mm_base.specs.declared.fault.WriteFault as write
@@ -17,7 +17,7 @@ use Rattle.mm_app.specs.Commands.{SpellNone, SpellSome}
 use Rattle.mm_app.specs.StatusFacts.{CantRead, EndsByFault, FindsBasic, HasLostPower, IsExactlyWhere, MayBeLost, NeedsInstance}
 use Rattle.mm_app.specs.StatusFacts.{RefusesNext, RunsShort, StartsOne}
 use Rattle.mm_app.specs.Status.{words_status}
-use Rattle.mm_app.specs.declared.status.Status.TheVariants.{Done, Blank, Already, Cell, Lost, Refused, Short, Kind}
+use Rattle.mm_app.specs.declared.status.Status.TheVariants.{Blank, Already, Cell, Lost, Refused, Short, Kind}
 
 -- a status that tells of what a device held
 abbrev pub tells_held : Status → Bool

@@ -1,6 +1,6 @@
 -- What each command tells of what a device held.
 use Rattle.mm_app.proofs.Below.{◌≡◌, refl, subst, inl, inr, CommandLine, Init, Run, Checkpoint, Power, Replay, Check, Gen, Bulk, Slots}
-use Rattle.mm_app.proofs.Below.{Receipts, Transfer, Help, CommandDoes, DoesOrLacks, Outside, Status, Option, Bool, false, ap, Result, Err}
+use Rattle.mm_app.proofs.Below.{Receipts, Transfer, Help, CommandDoes, DoesOrLacks, Outside, Status, Option, false, ap, Result, Err}
 use Rattle.mm_app.proofs.Below.{Ok, bulk_lines, power_line, Summary, BulkFault, StepFault, TellsLines, ℕ, List, arith, ReplayFault}
 use Rattle.mm_app.proofs.Below.{status_of}
 use Rattle.mm_app.specs.StatusFacts.{EndsByFault}

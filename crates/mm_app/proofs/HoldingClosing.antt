@@ -1,10 +1,10 @@
 -- What `checkpoint` tells of what the cell and the register held.
-use Rattle.mm_app.proofs.Below.{◌≡◌, ◌∙◌, ℕ, Bool, true, false, List, Option, None, Some, Result, Ok, Err, refl, sym, ap, subst, inl, inr}
-use Rattle.mm_app.proofs.Below.{◌⊎◌, arith, Held, CellFault, Checkpoint, Checkpointed, CheckpointRefusal, ClosesSegment, closing_by}
-use Rattle.mm_app.proofs.Below.{result_of_closing_write, EndsClosing, EndsLooking, FindsClosing, FindsSegment, LooksAtSegment, segment_by}
+use Rattle.mm_app.proofs.Below.{◌≡◌, ◌∙◌, ℕ, Bool, true, false, List, Option, Some, Result, Ok, Err, refl, sym, ap, subst, inl, inr}
+use Rattle.mm_app.proofs.Below.{◌⊎◌, arith, Held, CellFault, Checkpoint, Checkpointed, CheckpointRefusal, closing_by}
+use Rattle.mm_app.proofs.Below.{result_of_closing_write, EndsClosing, EndsLooking, FindsClosing, LooksAtSegment, segment_by}
 use Rattle.mm_app.proofs.Below.{segment_in, WeighsRegister, checkpoint_line, CommandDoes, Outside, Standing, Status, StepFault, TellsLines}
 use Rattle.mm_app.proofs.Below.{Variant}
-use Rattle.std.specs.Prelude.{◌≢◌, ◌++◌, map}
+use Rattle.std.specs.Prelude.{◌++◌, map}
 use Rattle.std.proofs.Common.{get_or}
 use Rattle.std.specs.Option.{option_map}
 use Rattle.std.specs.Str.{bytes_eq}

@@ -1,6 +1,6 @@
 -- What `init` tells of what the cell and the source of entropy held.
 use Rattle.mm_app.proofs.Below.{◌≡◌, ◌∙◌, ◌+◌, ◌≤◌, ◌<◌, ℕ, Bool, true, false, List, length, Option, None, Some, Result, Ok, Err, refl, sym}
-use Rattle.mm_app.proofs.Below.{ap, subst, inl, inr, ◌⊎◌, arith, length-append, append-nil, Consumes, IsAtEnd, Variant, TellsUse}
+use Rattle.mm_app.proofs.Below.{ap, subst, inl, inr, arith, length-append, Consumes, IsAtEnd, Variant}
 use Rattle.mm_app.proofs.Below.{GoesAfterLooking, GoesAfterTaking, Devices, TakesBytes, instance_from, InitFault, Header, Init}
 use Rattle.mm_app.proofs.Below.{CommandDoes, Outside, init_line, [], Status, StepFault, TellsLines, meaning_of}
 use Rattle.std.specs.Prelude.{◌≢◌}
@@ -11,10 +11,10 @@ use Rattle.mm_recovery.specs.Init.{host_among}
 use Rattle.mm_recovery.specs.declared.init_fault.InitFault.TheVariants as init
 use Rattle.mm_seal.specs.Cell.{blank_cell}
 use Rattle.mm_app.specs.Outside.{devices_of}
-use Rattle.mm_app.specs.StatusFacts.{EndsByFault, IsExactlyWhere, RunsShort, StartsOne}
+use Rattle.mm_app.specs.StatusFacts.{EndsByFault, IsExactlyWhere}
 use Rattle.mm_app.specs.declared.status.Status.TheVariants.{Already, Blank, Cell, Kind, Lost, Refused, Short, Memory, PlatformFault}
 use Rattle.mm_app.specs.declared.status.Status.TheVariants.{ReadFault, StoreFault}
-use Rattle.mm_app.proofs.Completing.{Shorts, set_whole}
+use Rattle.mm_app.proofs.Completing.{set_whole}
 use Rattle.mm_app.proofs.Holding.{by_fault_where, exactly_here, held_told, Holding, none_offered, nowhere, tells_held}
 
 -- the statuses that a first start is told by, but for Done

@@ -2,7 +2,7 @@
 use Rattle.mm_app.proofs.Below.{◌≡◌, ◌∙◌, ℕ, List, Option, None, Some, Result, Ok, Err, refl, sym, ap, subst, inl, inr, ◌⊎◌, next_count}
 use Rattle.mm_app.proofs.Below.{arith, CountsFaults, CountRose, ReplayFault, BulkFault, Summary, SessionFault, Checkpointed}
 use Rattle.mm_app.proofs.Below.{CheckpointRefusal, StepFault, Standing, Header, CommandLine, Init, Run, Checkpoint, Power, Gen, Bulk, Help}
-use Rattle.mm_app.proofs.Below.{BlamesOutput, bulk_lines, checkpoint_line, CommandDoes, DoesOrLacks, StoreStanding, Outside, power_line}
+use Rattle.mm_app.proofs.Below.{BlamesOutput, bulk_lines, checkpoint_line, CommandDoes, DoesOrLacks, Outside, power_line}
 use Rattle.mm_app.proofs.Below.{ServesIfFound, FindsInstance, session_status, init_line, status_of, EndsAtOnce, GivesText, TellsStop}
 use Rattle.mm_app.proofs.Below.{StopsAs, TellsLines, status_by, Status, Memory, WriteFault}
 use Rattle.mm_base.specs.declared.fault.WriteFault as write

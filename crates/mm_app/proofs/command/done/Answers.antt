@@ -19,59 +19,73 @@ done_as command is old new status e d = inl (subst (λ (it : CommandLine). Comma
 
 pub returns-in-Replay-clause-does : goal.returns-in-Replay-clause-does
 returns-in-Replay-clause-does g c =
-    done_as _ Replay _ _ _ c.in-Replay.is (c.replay_and_stop.ensures.replays (told g (goal.at.returns-in-Replay-clause-does g c).Start))
+    let old = told g (goal.at.returns-in-Replay-clause-does g c).Start in
+    done_as _ Replay _ _ _ c.in-Replay.is (c.replay_and_stop.ensures.replays old)
 
 pub returns-in-Replay-clause-usage : goal.returns-in-Replay-clause-usage
-returns-in-Replay-clause-usage g c = no_usage Replay _ _ _ (c.replay_and_stop.ensures.replays
-    (told g (goal.at.returns-in-Replay-clause-usage g c).Start))
+returns-in-Replay-clause-usage g c =
+    let old = told g (goal.at.returns-in-Replay-clause-usage g c).Start in
+    no_usage Replay _ _ _ (c.replay_and_stop.ensures.replays old)
 
 pub returns-in-Check-clause-does : goal.returns-in-Check-clause-does
 returns-in-Check-clause-does g c =
-    done_as _ Check _ _ _ c.in-Check.is (c.check_run.ensures.checks (told g (goal.at.returns-in-Check-clause-does g c).Start))
+    let old = told g (goal.at.returns-in-Check-clause-does g c).Start in
+    done_as _ Check _ _ _ c.in-Check.is (c.check_run.ensures.checks old)
 
 pub returns-in-Check-clause-usage : goal.returns-in-Check-clause-usage
-returns-in-Check-clause-usage g c = no_usage Check _ _ _ (c.check_run.ensures.checks
-    (told g (goal.at.returns-in-Check-clause-usage g c).Start))
+returns-in-Check-clause-usage g c =
+    let old = told g (goal.at.returns-in-Check-clause-usage g c).Start in
+    no_usage Check _ _ _ (c.check_run.ensures.checks old)
 
 pub returns-in-Slots-clause-does : goal.returns-in-Slots-clause-does
 returns-in-Slots-clause-does g c =
-    done_as _ Slots _ _ _ c.in-Slots.is (c.play_slots.ensures.plays (told g (goal.at.returns-in-Slots-clause-does g c).Start))
+    let old = told g (goal.at.returns-in-Slots-clause-does g c).Start in
+    done_as _ Slots _ _ _ c.in-Slots.is (c.play_slots.ensures.plays old)
 
 pub returns-in-Slots-clause-usage : goal.returns-in-Slots-clause-usage
-returns-in-Slots-clause-usage g c = no_usage Slots _ _ _ (c.play_slots.ensures.plays
-    (told g (goal.at.returns-in-Slots-clause-usage g c).Start))
+returns-in-Slots-clause-usage g c =
+    let old = told g (goal.at.returns-in-Slots-clause-usage g c).Start in
+    no_usage Slots _ _ _ (c.play_slots.ensures.plays old)
 
 pub returns-in-Receipts-clause-does : goal.returns-in-Receipts-clause-does
 returns-in-Receipts-clause-does g c =
-    done_as _ (Receipts c.in-Receipts.key) _ _ _ c.in-Receipts.is (c.check_receipts.ensures.checks
-    (told g (goal.at.returns-in-Receipts-clause-does g c).Start))
+    let old = told g (goal.at.returns-in-Receipts-clause-does g c).Start in
+    done_as _ (Receipts c.in-Receipts.key) _ _ _ c.in-Receipts.is (c.check_receipts.ensures.checks old)
 
 pub returns-in-Receipts-clause-usage : goal.returns-in-Receipts-clause-usage
-returns-in-Receipts-clause-usage g c = no_usage (Receipts c.in-Receipts.key) _ _ _ (c.check_receipts.ensures.checks
-    (told g (goal.at.returns-in-Receipts-clause-usage g c).Start))
+returns-in-Receipts-clause-usage g c =
+    let old = told g (goal.at.returns-in-Receipts-clause-usage g c).Start in
+    no_usage (Receipts c.in-Receipts.key) _ _ _ (c.check_receipts.ensures.checks old)
 
 pub returns-in-Transfer-clause-does : goal.returns-in-Transfer-clause-does
 returns-in-Transfer-clause-does g c =
-    done_as _ Transfer _ _ _ c.in-Transfer.is (c.play_transfer.ensures.plays (told g (goal.at.returns-in-Transfer-clause-does g c).Start))
+    let old = told g (goal.at.returns-in-Transfer-clause-does g c).Start in
+    done_as _ Transfer _ _ _ c.in-Transfer.is (c.play_transfer.ensures.plays old)
 
 pub returns-in-Transfer-clause-usage : goal.returns-in-Transfer-clause-usage
-returns-in-Transfer-clause-usage g c = no_usage Transfer _ _ _ (c.play_transfer.ensures.plays
-    (told g (goal.at.returns-in-Transfer-clause-usage g c).Start))
+returns-in-Transfer-clause-usage g c =
+    let old = told g (goal.at.returns-in-Transfer-clause-usage g c).Start in
+    no_usage Transfer _ _ _ (c.play_transfer.ensures.plays old)
 
 pub returns-in-Checkpoint-clause-does : goal.returns-in-Checkpoint-clause-does
 returns-in-Checkpoint-clause-does g c =
-    done_as _ Checkpoint _ _ _ c.in-Checkpoint.is (c.close_segment.ensures (told g (goal.at.returns-in-Checkpoint-clause-does g c).Start))
+    let old = told g (goal.at.returns-in-Checkpoint-clause-does g c).Start in
+    done_as _ Checkpoint _ _ _ c.in-Checkpoint.is (c.close_segment.ensures old)
 
 pub returns-in-Checkpoint-clause-usage : goal.returns-in-Checkpoint-clause-usage
-returns-in-Checkpoint-clause-usage g c = no_usage Checkpoint _ _ _ (c.close_segment.ensures
-    (told g (goal.at.returns-in-Checkpoint-clause-usage g c).Start))
+returns-in-Checkpoint-clause-usage g c =
+    let old = told g (goal.at.returns-in-Checkpoint-clause-usage g c).Start in
+    no_usage Checkpoint _ _ _ (c.close_segment.ensures old)
 
 pub returns-in-Power-clause-does : goal.returns-in-Power-clause-does
 returns-in-Power-clause-does g c =
-    done_as _ Power _ _ _ c.in-Power.is (c.lose_power.ensures (told g (goal.at.returns-in-Power-clause-does g c).Start))
+    let old = told g (goal.at.returns-in-Power-clause-does g c).Start in
+    done_as _ Power _ _ _ c.in-Power.is (c.lose_power.ensures old)
 
 pub returns-in-Power-clause-usage : goal.returns-in-Power-clause-usage
-returns-in-Power-clause-usage g c = no_usage Power _ _ _ (c.lose_power.ensures (told g (goal.at.returns-in-Power-clause-usage g c).Start))
+returns-in-Power-clause-usage g c =
+    let old = told g (goal.at.returns-in-Power-clause-usage g c).Start in
+    no_usage Power _ _ _ (c.lose_power.ensures old)
 
 pub returns-in-Bulk-clause-does : goal.returns-in-Bulk-clause-does
 returns-in-Bulk-clause-does g c =

@@ -1,5 +1,5 @@
 use Rattle.mm_app.proofs.Below.{◌≡◌, ◌∙◌, ℕ, List, Option, ap, map, refl, subst, inr, Result, Err, CommandLine, Replay, Slots, Transfer}
-use Rattle.mm_app.proofs.Below.{one_command, BlamesSource, DoesOrLacks, Outside, outside, Status, Usage, Memory, StopsAs}
+use Rattle.mm_app.proofs.Below.{one_command, BlamesSource, DoesOrLacks, Outside, outside, Status, Memory, StopsAs}
 use Rattle.mm_words.specs.declared.fault.WordsFault.{WordsFault}
 use Rattle.mm_words.specs.declared.fault.WordsFault.TheVariants as words
 use Rattle.mm_app.specs.Status.{words_status}
