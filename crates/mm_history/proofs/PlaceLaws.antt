@@ -132,7 +132,8 @@ module _ {A : Type 0} {id : ℕ} {barrier : List ℕ} {y : History} {a e : List 
   pub walk_here : tested ≡ true → kept_segments closed ≡ y.closed → true ≡ some_place id barrier y (kept_batches named) a e [] y.closed
   walk_here found all =
       let x = cut in
-      let is_some : true ≡ some_place id barrier y (kept_batches named) a e [] (kept_segments closed) = rw (sym here_by ∙ found) at x.same in
+      let is_some : true ≡ some_place id barrier y (kept_batches named) a e [] (kept_segments closed) =
+      rw (sym here_by ∙ found) at x.same in
       is_some ∙ ap (some_place id barrier y (kept_batches named) a e []) all
 
   on_then : tested ≡ false → some_place id barrier y (kept_batches named) a e (before ++ items ∷ []) rest
@@ -158,7 +159,8 @@ module _ {A : Type 0} {id : ℕ} {barrier : List ℕ} {y : History} {a e : List 
       ap (map f) (sym (take-append-drop k closed)) ∙ map-append f (take k closed) (drop k closed)
       ∙ ap (λ (s : List (List RegisterEntry)). before ++ s) (segments_left closed k segment l is)
 
-  pub walk_on : tested ≡ false → (stages : List SegmentStart) {lent : List KeptEntry} {next : SegmentStart} {count : ℕ} → size ≤ length named - entries
+  pub walk_on : tested ≡ false → (stages : List SegmentStart) {lent : List KeptEntry} {next : SegmentStart} {count : ℕ}
+      → size ≤ length named - entries
       → lent ≡ segment.items → kept_segments closed ≡ y.closed → AllByRecursion (IsStage id barrier y.closed) stages
       → count ≡ length closed - (later - 1)
       → ((n : ℕ) (front back : List (List RegisterEntry)) → here ≡ stage_at n barrier front → count ≡ length front + 1
@@ -186,8 +188,8 @@ module _ {A : Type 0} {id : ℕ} {barrier : List ℕ} {y : History} {a e : List 
       })
 
 -- behind all segments the place is at the last anchor
-pub walk_at : {A : Type 0} {id : ℕ} {barrier : List ℕ} {y : History} {a e : List ℕ} {here : SegmentStart} {entries later : ℕ} {tested : Bool}
-    (named : List KeptBatch) (closed : List (Vec KeptEntry A)) (k : ℕ) → length closed ≤ k
+pub walk_at : {A : Type 0} {id : ℕ} {barrier : List ℕ} {y : History} {a e : List ℕ} {here : SegmentStart} {entries later : ℕ}
+    {tested : Bool} (named : List KeptBatch) (closed : List (Vec KeptEntry A)) (k : ℕ) → length closed ≤ k
     → Walked id barrier y named a e closed k here entries later
     → tested ≡ is_at here.is_clean here.anchor.bytes entries (kept_batches named) a e → tested ≡ true → kept_segments closed ≡ y.closed
     → true ≡ some_place id barrier y (kept_batches named) a e [] y.closed
@@ -195,8 +197,8 @@ walk_at {A} {id} {barrier} {y} {a} {e} {here} {entries} {later} named closed k o
     let none : drop k closed ≡ [] = nil_from_length (drop k closed) (omega (arith, over, length-drop k closed)) in
     let before = kept_segments (take k closed) in
     let x : Reached id barrier y (kept_batches named) a e before [] (kept_segments closed) here entries later =
-    subst (λ (s : List (Vec KeptEntry A)). Reached id barrier y (kept_batches named) a e before (kept_segments s) (kept_segments closed) here
-    entries later) none w in
+    subst (λ (s : List (Vec KeptEntry A)). Reached id barrier y (kept_batches named) a e before (kept_segments s) (kept_segments closed)
+    here entries later) none w in
     let at_is : is_at (not (has_value (items_of_all before))) (anchor_at id barrier before) (length (items_of_all before))
     (kept_batches named) a e ≡ true =
     sym (test ∙ (λ j. is_at (x.here_is j).is_clean (x.here_is j).anchor.bytes (x.entries_is j) (kept_batches named) a e)) ∙ found in
