@@ -10,7 +10,9 @@ use Rattle.mm_module.specs.Meaning.{Meaning}
 use Rattle.mm_seal.specs.Parts.{parts_of}
 use Rattle.mm_move.specs.declared.accepting.Accepted.{Accepted}
 use Rattle.mm_move.specs.declared.cell.MovedCell.TheVariants.{Live, Waiting as Waits, Retired as Left}
+use Rattle.mm_move.specs.declared.inviting.Invited.{Invited}
 use Rattle.mm_move.specs.declared.link.Link.{Link}
+use Rattle.mm_move.specs.Orders.{invitation_in, is_same_waiting}
 
 -- both branches of a refusal
 no_fault_if : {A : Type 0} (P : Result A MoveRefusal → Type 0) (test : Bool) (refused rest : Result A MoveRefusal) → P refused → P rest
@@ -20,6 +22,12 @@ no_fault_if P false refused rest h k = k
 
 abbrev Lacks : (A : Type 0) → Result A MoveRefusal → Type 0
 Lacks A r = move_fault_in r ≡ None
+
+pub invites_no_fault : (next : WaitingCell) (read : Result MovedCell CellFault) → move_fault_in (invitation_in next read) ≡ None
+invites_no_fault next (Ok (Waits cell)) = no_fault_if (Lacks (ReadyMove Invited)) (not (is_same_waiting cell next)) _ _ refl refl
+invites_no_fault next (Ok _) = refl
+invites_no_fault next (Err Blank) = refl
+invites_no_fault next (Err _) = refl
 
 offer_no_fault : (meaning : Meaning) (key : List ℕ) (parts : Result Snapshot PartsFault) → move_fault_in (offer_by meaning key parts) ≡ None
 offer_no_fault meaning key (Ok offered) =
