@@ -189,7 +189,8 @@ module _ {A : Type 0} {id : ℕ} {barrier : List ℕ} {y : History} {a e : List 
 
 -- behind all segments the place is at the last anchor
 pub walk_at : {A : Type 0} {id : ℕ} {barrier : List ℕ} {y : History} {a e : List ℕ} {here : SegmentStart} {entries later : ℕ}
-    {tested : Bool} (named : List KeptBatch) (closed : List (Vec KeptEntry A)) (k : ℕ) → length closed ≤ k
+    {tested : Bool}
+    (named : List KeptBatch) (closed : List (Vec KeptEntry A)) (k : ℕ) → length closed ≤ k
     → Walked id barrier y named a e closed k here entries later
     → tested ≡ is_at here.is_clean here.anchor.bytes entries (kept_batches named) a e → tested ≡ true → kept_segments closed ≡ y.closed
     → true ≡ some_place id barrier y (kept_batches named) a e [] y.closed
@@ -198,7 +199,8 @@ walk_at {A} {id} {barrier} {y} {a} {e} {here} {entries} {later} named closed k o
     let before = kept_segments (take k closed) in
     let x : Reached id barrier y (kept_batches named) a e before [] (kept_segments closed) here entries later =
     subst (λ (s : List (Vec KeptEntry A)). Reached id barrier y (kept_batches named) a e before (kept_segments s) (kept_segments closed)
-    here entries later) none w in
+    here
+    entries later) none w in
     let at_is : is_at (not (has_value (items_of_all before))) (anchor_at id barrier before) (length (items_of_all before))
     (kept_batches named) a e ≡ true =
     sym (test ∙ (λ j. is_at (x.here_is j).is_clean (x.here_is j).anchor.bytes (x.entries_is j) (kept_batches named) a e)) ∙ found in
